@@ -1,6 +1,21 @@
-//! What every crate of the workbench speaks of: bundles, sets of trades, sides, steps and kinds of faults.
+//! What every crate of the workbench speaks of: bundles and sets of trades, sides, counted steps, costs of arcs, the
+//! kinds of faults, and the definitions of a firm, its net count and the exchange property (in `specs/`).
 #![tactic(auto)]
 
+mod bundle;
+mod costs;
+mod fault;
+mod laws;
 mod memory;
+mod number;
+mod side;
+mod steps;
 
+pub use bundle::Bundle;
+pub use costs::Costs;
+pub use fault::FaultKind;
+pub use laws::bundles_are_sets;
 pub use memory::OutOfMemory;
+pub use number::scaled;
+pub use side::Side;
+pub use steps::{Asked, Steps};

@@ -1,0 +1,133 @@
+-- What every proof about sets stands on. Only this file looks at binary digits.
+use Rattle.std.proofs.Common.{◌≡◌, ◌≢◌, ℕ, zero, suc, ◌+◌, ◌-◌, ◌*◌, ◌/◌, ◌%◌, ◌^◌, ◌<◌, ◌≤◌, min, max, Bool, true, false, not, ◌&&◌, ◌||◌, eqb, nat_lt, ltb, cond, ◌==◌, bit_and, bit_or, refl, sym, ap, ◌∙◌, subst, arith, ◌⊎◌, inl, inr, if◌then◌else◌}
+use Rattle.std.specs.Prelude.{bit_xor, nat_eq}
+use Rattle.std.specs.Int.{bit_at}
+use Rattle.std.proofs.lemmas.Nat.Bits.{bit_at-zero, bit_at_and, bit_at_or, bit_at_xor, bit_at-pow_same, bit_at-pow_other, bit_at-lt, same_from_bits, bit_at_above}
+use Rattle.std.proofs.lemmas.Nat.{or_lt, xor_lt, and_le_l, and_le_r, pow_below}
+use Rattle.std.proofs.lemmas.Bool.{cases_eq, cases_lt, cases_Bool, eqb-true, eqb-false, eq-eqb, ne_eqb, true_from_ne_false, false_from_ne_true, lt-ltb, le-ltb, ltb-true, ltb-false, false≢true, true≢false}
+use Rattle.tn_base.specs.Sets.{has, toggle, union, meet, minus, size_below, size, set_of}
+
+-- a binary digit is 0 or 1
+pub digit : (x k : ℕ) → (bit_at x k ≡ 0) ⊎ (bit_at x k ≡ 1)
+digit x k = let h = bit_at-lt x k in elim (cases_eq (bit_at x k) 0) [ inl e ↦ inl e | inr e ↦ inr (omega (arith, h, e)) ]
+
+pub has_from_one : (x k : ℕ) → bit_at x k ≡ 1 → has x k ≡ true
+unfolding has
+has_from_one x k e = ap (λ (d : ℕ). d == 1) e
+
+pub has_from_zero : (x k : ℕ) → bit_at x k ≡ 0 → has x k ≡ false
+unfolding has
+has_from_zero x k e = ap (λ (d : ℕ). d == 1) e
+
+-- the same members, digit by digit
+digit_from_has : (x y k : ℕ) → has x k ≡ has y k → bit_at x k ≡ bit_at y k
+digit_from_has x y k e =
+    elim (digit x k) [
+      | inl p ↦ elim (digit y k) [ inl q ↦ p ∙ sym q | inr q ↦ elim (false≢true (sym (has_from_zero x k p) ∙ e ∙ has_from_one y k q)) [ ] ]
+      | inr p ↦ elim (digit y k) [ inl q ↦ elim (false≢true (sym (has_from_zero y k q) ∙ sym e ∙ has_from_one x k p)) [ ] | inr q ↦ p ∙ sym q ]
+    ]
+
+-- sets with the same members are equal
+pub same_set : (x y : ℕ) → ((k : ℕ) → has x k ≡ has y k) → x ≡ y
+same_set x y h = same_from_bits x y (λ k. digit_from_has x y k (h k))
+
+pub has-zero : (k : ℕ) → has 0 k ≡ false
+has-zero k = has_from_zero 0 k (bit_at-zero k)
+
+pub has-union : (x y k : ℕ) → has (union x y) k ≡ (has x k || has y k)
+unfolding has union
+has-union x y k =
+    ap (λ (d : ℕ). d == 1) (bit_at_or x y k) ∙
+    elim (digit x k) [
+      | inl p ↦ elim (digit y k) [ inl q ↦ rw (p, q) refl | inr q ↦ rw (p, q) refl ]
+      | inr p ↦ elim (digit y k) [ inl q ↦ rw (p, q) refl | inr q ↦ rw (p, q) refl ]
+    ]
+
+pub has-meet : (x y k : ℕ) → has (meet x y) k ≡ (has x k && has y k)
+unfolding has meet
+has-meet x y k =
+    ap (λ (d : ℕ). d == 1) (bit_at_and x y k) ∙
+    elim (digit x k) [
+      | inl p ↦ elim (digit y k) [ inl q ↦ rw (p, q) refl | inr q ↦ rw (p, q) refl ]
+      | inr p ↦ elim (digit y k) [ inl q ↦ rw (p, q) refl | inr q ↦ rw (p, q) refl ]
+    ]
+
+pub has-minus : (x y k : ℕ) → has (minus x y) k ≡ (has x k && not (has y k))
+unfolding has minus
+has-minus x y k =
+    ap (λ (d : ℕ). d == 1) (bit_at_and x (bit_xor x y) k ∙ ap (min (bit_at x k)) (bit_at_xor x y k)) ∙
+    elim (digit x k) [
+      | inl p ↦ elim (digit y k) [ inl q ↦ rw (p, q) refl | inr q ↦ rw (p, q) refl ]
+      | inr p ↦ elim (digit y k) [ inl q ↦ rw (p, q) refl | inr q ↦ rw (p, q) refl ]
+    ]
+
+pub has-toggle_same : (x k : ℕ) → has (toggle x k) k ≡ not (has x k)
+unfolding has toggle
+has-toggle_same x k =
+    ap (λ (d : ℕ). d == 1) (bit_at_xor x (2 ^ k) k ∙ ap (λ (d : ℕ). (bit_at x k + d) % 2) (bit_at-pow_same k)) ∙
+    elim (digit x k) [ inl p ↦ rw p refl | inr p ↦ rw p refl ]
+
+pub has-toggle_other : (x k i : ℕ) → i ≢ k → has (toggle x k) i ≡ has x i
+unfolding has toggle
+has-toggle_other x k i different =
+    ap (λ (d : ℕ). d == 1) (bit_at_xor x (2 ^ k) i ∙ ap (λ (d : ℕ). (bit_at x i + d) % 2) (bit_at-pow_other k i different)) ∙
+    elim (digit x i) [ inl p ↦ rw p refl | inr p ↦ rw p refl ]
+
+-- a set of numbers below n has nothing from n on
+pub has_above : (x n k : ℕ) → x < 2 ^ n → n ≤ k → has x k ≡ false
+has_above x n k below above = has_from_zero x k (bit_at_above x n k below above)
+
+-- a member of a set of numbers below n is below n
+pub has_below : (x n k : ℕ) → x < 2 ^ n → has x k ≡ true → k < n
+has_below x n k below e =
+    elim (cases_lt k n) [ inl h ↦ h | inr h ↦ elim (false≢true (sym (has_above x n k below h) ∙ e)) [ ] ]
+
+-- sets of numbers below n with the same members below n are equal
+pub same_below : (x y n : ℕ) → x < 2 ^ n → y < 2 ^ n → ((k : ℕ) → k < n → has x k ≡ has y k) → x ≡ y
+same_below x y n x_below y_below same =
+    same_set x y (λ k. elim (cases_lt k n) [ inl h ↦ same k h | inr h ↦ has_above x n k x_below h ∙ sym (has_above y n k y_below h) ])
+
+pub union_within : (x y n : ℕ) → x < 2 ^ n → y < 2 ^ n → union x y < 2 ^ n
+unfolding union
+union_within x y n p q = or_lt n x y p q
+
+pub meet_within : (x y n : ℕ) → x < 2 ^ n → meet x y < 2 ^ n
+unfolding meet
+meet_within x y n p = let h = and_le_l x y in omega (arith, p, h)
+
+pub minus_within : (x y n : ℕ) → x < 2 ^ n → minus x y < 2 ^ n
+unfolding minus
+minus_within x y n p = let h = and_le_l x (bit_xor x y) in omega (arith, p, h)
+
+pub toggle_within : (x k n : ℕ) → x < 2 ^ n → k < n → toggle x k < 2 ^ n
+unfolding toggle
+toggle_within x k n below k_below = xor_lt n x (2 ^ k) below (pow_below k n k_below)
+
+pub toggle-toggle : (x k : ℕ) → toggle (toggle x k) k ≡ x
+toggle-toggle x k = same_set _ _ (λ i.
+    elim (cases_eq i k) [
+      | inl e ↦ subst (λ (j : ℕ). has (toggle (toggle x k) k) j ≡ has x j) (sym e) (has-toggle_same (toggle x k) k ∙ ap not (has-toggle_same x k) ∙ not_not (has x k))
+      | inr d ↦ has-toggle_other (toggle x k) k i d ∙ has-toggle_other x k i d
+    ])
+  where
+    not_not : (b : Bool) → not (not b) ≡ b
+    not_not true = refl
+    not_not false = refl
+
+-- the order of toggles doesn't matter
+pub toggle_comm : (x i j : ℕ) → toggle (toggle x i) j ≡ toggle (toggle x j) i
+toggle_comm x i j = elim (cases_eq i j) [
+  | inl e ↦ subst (λ (k : ℕ). toggle (toggle x i) k ≡ toggle (toggle x k) i) e refl
+  | inr d ↦ same_set _ _ (λ k. at_place x i j k d)
+]
+  where
+    at_place : (x i j k : ℕ) → i ≢ j → has (toggle (toggle x i) j) k ≡ has (toggle (toggle x j) i) k
+    at_place x i j k d = elim (cases_eq k i) [
+      | inl e ↦ rw e (has-toggle_other (toggle x i) j i d ∙ has-toggle_same x i
+          ∙ ap not (sym (has-toggle_other x j i d)) ∙ sym (has-toggle_same (toggle x j) i))
+      | inr p ↦ elim (cases_eq k j) [
+        | inl e ↦ rw e (has-toggle_same (toggle x i) j ∙ ap not (has-toggle_other x i j (λ q. d (sym q)))
+            ∙ sym (has-toggle_same x j) ∙ sym (has-toggle_other (toggle x j) i j (λ q. d (sym q))))
+        | inr q ↦ has-toggle_other (toggle x i) j k q ∙ has-toggle_other x i k p ∙ sym (has-toggle_other x j k q) ∙ sym (has-toggle_other (toggle x j) i k p)
+      ]
+    ]
