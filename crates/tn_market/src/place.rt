@@ -1,0 +1,26 @@
+/// The name of a member of a document.
+#[derive(Clone, Copy, Debug, PartialEq, Eq)]
+pub enum Word {
+    Version,
+    Firms,
+    Trades,
+    Arrangement,
+    Name,
+    Seller,
+    Buyer,
+    Kind,
+    Rows,
+    On,
+    Prices,
+}
+
+/// A step on the way from the top of a document to a value in it.
+#[derive(Clone, Copy, Debug, PartialEq, Eq)]
+pub enum PlaceStep {
+    /// To the member of an object with this name.
+    Word(Word),
+    /// To an item of a list, counted from 0.
+    Index(u32),
+    /// To what belongs to the trade with this number.
+    Trade(u32),
+}

@@ -1,0 +1,56 @@
+use crate::lists::{Place, Trades};
+use tn_base::FaultKind;
+
+/// Two bundles and a position, or none, at which the exchange property fails, in trade numbers.
+#[derive(Debug, Drop)]
+pub struct Shown {
+    /// The trades of the first bundle, ascending.
+    pub x: Trades,
+    /// The trades of the second bundle, ascending.
+    pub y: Trades,
+    /// The trade that can't be exchanged, or none where the net count can't be.
+    pub at: Option<u32>,
+}
+
+/// The first fault of a document.
+#[derive(Debug, Drop)]
+pub struct Fault {
+    /// What is wrong.
+    pub kind: FaultKind,
+    /// Where, from the top of the document.
+    pub place: Place,
+    /// The failing triple, exactly where the kind is ExchangeFails.
+    pub shown: Option<Shown>,
+}
+
+/// An answer of the program. Firms and trades stand in it by their numbers.
+#[derive(Debug, Drop)]
+pub enum Said {
+    /// The words are no command.
+    Usage,
+    /// The input could not be read.
+    ReadFault,
+    /// Memory ran out.
+    NoMemory,
+    /// The document has a fault.
+    Fault(Fault),
+    /// The arrangement is an equilibrium.
+    Equilibrium {
+        /// The sum of the firms' worths.
+        surplus: i128,
+    },
+    /// The firm's bundle is possible and not best.
+    Better {
+        /// The first firm that fails.
+        firm: u32,
+        /// A best bundle of the firm, as ascending trade numbers.
+        bundle: Trades,
+        /// What the firm's utility gains by it.
+        gain: i128,
+    },
+    /// The firm's bundle is impossible.
+    Impossible {
+        /// The first firm that fails.
+        firm: u32,
+    },
+}
