@@ -1,0 +1,3 @@
+pub mod Keys
+pub mod Short
+pub mod DealLemmas
