@@ -7,10 +7,12 @@ use Rattle.std.proofs.Common.{pow-add}
 use Rattle.std.proofs.Math.Seq.{take-length}
 use Rattle.std.proofs.lemmas.List.{get_or-set_same, get_or-set_other, get_or_past, length-set}
 use Rattle.std.proofs.lemmas.List.Sums.{sum_by-cons, sum_by_more}
-use Rattle.std.proofs.lemmas.Bool.{cases_eq, cases_lt}
+use Rattle.std.proofs.lemmas.Bool.{cases_eq, cases_lt, cases_Bool, eq-eqb, ne_eqb}
 use Rattle.std.proofs.lemmas.Nat.{pow_pos, mul-add-lt, ones_cat, ones-le}
 use Rattle.tn_base.specs.Sets.{has, toggle, union, meet, minus, size, size_below}
-use Rattle.tn_base.specs.Limbs.{joined, AreLimbs}
+use Rattle.std.specs.Prelude.{nat_eq}
+use Rattle.std.specs.Cmp.Lexicographic.{pointwise, same_text, other_text}
+use Rattle.tn_base.specs.Limbs.{joined, AreLimbs, limbs_of, limbs_of-joined}
 use Rattle.tn_base.proofs.SetLemmas.{same_set, has-zero, has-union, has-meet, has-minus, has-toggle_same, has-toggle_other, has-low, has-high, union_within, meet_within, minus_within, toggle_within}
 use Rattle.tn_base.proofs.SizeLemmas.{ones_is, size_at}
 
@@ -249,3 +251,15 @@ toggle_done count limbs t fine inside =
           (subst (λ (z : ℕ). z < 2 ^ 64) (sym here) (toggle_within (get_or limbs (t / 64) 0) (t % 64) 64 (fine.words (t / 64)) (omega arith)))
       | inr d ↦ subst (λ (z : ℕ). z < 2 ^ 64) (sym (there k d)) (fine.words k)
     ]
+
+-- words are equal exactly where the numbers are
+pub same_words : (count : ℕ) (xs ys : List ℕ) → AreLimbs count xs → AreLimbs count ys → pointwise nat_eq xs ys ≡ nat_eq (joined xs) (joined ys)
+same_words count xs ys x_fine y_fine = elim (cases_Bool (pointwise nat_eq xs ys)) [
+  | inl e ↦ e ∙ sym (eq-eqb (joined xs) (joined ys) (ap joined (same_text xs ys (sym e))))
+  | inr e ↦ e ∙ sym (ne_eqb (joined xs) (joined ys) (λ same. other_text xs ys (sym e) (words_from same)))
+]
+  where
+    words_from : joined xs ≡ joined ys → xs ≡ ys
+    words_from same =
+        sym (limbs_of-joined count xs x_fine.counted x_fine.words) ∙ ap (limbs_of count) same
+          ∙ limbs_of-joined count ys y_fine.counted y_fine.words
