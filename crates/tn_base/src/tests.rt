@@ -1,4 +1,5 @@
 use super::*;
+use std::process::Abort;
 
 /// The set of these trades.
 fn set_of(rt: &impl Abort, trades: &[u8]) -> TradeSet<2> {
@@ -16,7 +17,11 @@ fn trade_sets_cross_words(rt: HostRuntime) {
     let trades = [0, 63, 64, 127];
     let set = set_of(&rt, &trades);
     for trade in 0..128 {
-        assert_eq!(rt; set.has(u32::from(trade)), trades.contains(&trade), "at {trade}");
+        assert_eq!(rt;
+            set.has(u32::from(trade)),
+            trades.contains(&trade),
+            "at {trade}"
+        );
     }
     assert_eq!(rt; set.count(), 4);
 }
