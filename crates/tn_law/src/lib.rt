@@ -1,0 +1,7 @@
+//! The laws of discrete convex analysis that the workbench rests on, over every firm that meets exchange. Each law is
+//! the contract of a function with an empty body: calling it proves nothing more, and costs nothing.
+#![tactic(auto)]
+
+mod places;
+
+pub use places::{bundles_have_places, exchange_over_places, null_is_net_count};
