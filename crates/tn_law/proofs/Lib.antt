@@ -1,3 +1,4 @@
 pub mod SumLemmas
 pub mod PlaceLemmas
 pub mod ExchangeLemmas
+pub mod KeepLemmas

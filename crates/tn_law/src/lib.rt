@@ -2,6 +2,8 @@
 //! the contract of a function with an empty body: calling it proves nothing more, and costs nothing.
 #![tactic(auto)]
 
+mod kept;
 mod places;
 
+pub use kept::{exchange_among, exchange_of_priced_firms};
 pub use places::{bundles_have_places, exchange_over_places, null_is_net_count};
