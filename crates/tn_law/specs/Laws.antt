@@ -1,8 +1,9 @@
 -- The laws, each as one statement over all firms.
-use Rattle.std.specs.Prelude.{◌≡◌, ℕ, ◌<◌, ℤ, pos, ◌<ℤ◌, ◌≤ℤ◌, ◌↔◌, ◌^◌}
-use Rattle.tn_base.specs.Firm.{Firm, net, HasOwnBundles, plus_sum, among}
+use Rattle.std.specs.Prelude.{◌≡◌, ℕ, ◌<◌, ℤ, pos, ◌<ℤ◌, ◌≤ℤ◌, ◌↔◌, ◌^◌, Option, Some}
+use Rattle.tn_base.specs.Firm.{Firm, net, HasOwnBundles, plus_sum, among, utility, IsBest}
 use Rattle.tn_base.specs.Exchange.{MeetsExchange}
 use Rattle.tn_law.specs.Places.{level, move, ArePlaces, ExchangesOverPlaces}
+use Rattle.tn_law.specs.Local.{IsLocallyBest, IsUnimproved}
 
 -- bundles, whatever the count of trades and the purchases among them, have places, levels and moves
 abbrev pub BundlesHavePlaces : Type 0
@@ -26,3 +27,15 @@ ExchangeOfPricedFirms = (firm : Firm) (scale : ℤ) (c : ℕ → ℤ) → pos 0 
 abbrev pub ExchangeAmong : Type 0
 ExchangeAmong = (firm : Firm) (allowed : ℕ) → HasOwnBundles firm → MeetsExchange firm
     → HasOwnBundles (among allowed firm) × MeetsExchange (among allowed firm)
+
+-- where a firm meets exchange, a possible bundle that no single toggle and no pair of toggles improves is best
+abbrev pub LocallyBestIsBest : Type 0
+LocallyBestIsBest = (firm : Firm) → HasOwnBundles firm → MeetsExchange firm
+    → (x : ℕ) (value : ℤ) → firm.worth x ≡ Some value → IsLocallyBest firm.count firm.worth x value → IsBest firm.worth x value
+
+-- where a firm meets exchange, at every scale of at least 0 and at all prices a possible bundle is best exactly where
+-- no single toggle and no pair of one raising and one lowering toggle has more utility
+abbrev pub LocalIsGlobal : Type 0
+LocalIsGlobal = (firm : Firm) → HasOwnBundles firm → MeetsExchange firm → (scale : ℤ) (prices : ℕ → ℤ) → pos 0 ≤ℤ scale
+    → (x : ℕ) (value : ℤ) → utility scale prices firm x ≡ Some value
+    → IsBest (utility scale prices firm) x value ↔ IsUnimproved firm.count firm.buys (utility scale prices firm) x value

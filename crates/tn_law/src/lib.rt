@@ -3,7 +3,9 @@
 #![tactic(auto)]
 
 mod kept;
+mod local;
 mod places;
 
 pub use kept::{exchange_among, exchange_of_priced_firms};
+pub use local::{local_is_global, locally_best_is_best};
 pub use places::{bundles_have_places, exchange_over_places, null_is_net_count};
