@@ -1,5 +1,5 @@
 -- How far one bundle is from another: by how much its levels are above the other's.
-use Rattle.std.proofs.Common.{◌≡◌, ◌≢◌, ℕ, zero, suc, ◌+◌, ◌-◌, ◌<◌, ◌≤◌, refl, sym, ap, ◌∙◌, subst, arith, ◌⊎◌, inl, inr}
+use Rattle.std.proofs.Common.{◌≡◌, ◌≢◌, ℕ, zero, suc, ◌+◌, ◌-◌, ◌<◌, ◌≤◌, sym, ◌∙◌, subst, arith, ◌⊎◌, inl, inr}
 use Rattle.std.proofs.lemmas.Bool.{cases_eq, cases_lt}
 use Rattle.tn_law.specs.Places.{sum_to, one_at, CanRise, CanFall, ArePlaces}
 use Rattle.tn_law.proofs.SumLemmas.{one_at-same, one_at-other, sum_to-tight, sum_to-one}

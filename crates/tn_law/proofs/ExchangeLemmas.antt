@@ -1,15 +1,15 @@
 -- The two halves of the exchange property and the one statement over places.
-use Rattle.std.proofs.Common.{◌≡◌, ◌≢◌, ℕ, zero, suc, ◌+◌, ◌-◌, ◌^◌, ◌<◌, ◌≤◌, Bool, true, false, not, ◌&&◌, ◌||◌, refl, sym, ap, ◌∙◌, subst, arith, ◌⊎◌, ◌↔◌, inl, inr, if◌then◌else◌, cond, ℤ, pos, ◌+ℤ◌, ◌-ℤ◌}
-use Rattle.std.specs.Prelude.{◌<ℤ◌, Option, Some}
-use Rattle.std.proofs.lemmas.Bool.{cases_eq, cases_lt, cases_Bool}
+use Rattle.std.proofs.Common.{◌≡◌, ℕ, zero, suc, ◌+◌, ◌-◌, ◌^◌, ◌<◌, Bool, true, false, not, ◌&&◌, ◌||◌, refl, sym, ap, ◌∙◌, subst, arith, ◌↔◌, inl, inr, if◌then◌else◌, ℤ, pos, ◌+ℤ◌}
+use Rattle.std.specs.Prelude.{◌<ℤ◌, Some}
+use Rattle.std.proofs.lemmas.Bool.{cases_lt}
 use Rattle.std.proofs.lemmas.Int.{ints}
-use Rattle.tn_base.specs.Sets.{has, toggle, meet, minus, union, size, size_below}
-use Rattle.tn_base.specs.Firm.{Firm, net, up, down, HasOwnBundles}
-use Rattle.tn_base.specs.Exchange.{AreEnough, SwapsDown, MovesAlone, Exchanges, MeetsExchange}
+use Rattle.tn_base.specs.Sets.{has, meet, minus, size_below}
+use Rattle.tn_base.specs.Firm.{Firm, net, up, HasOwnBundles}
+use Rattle.tn_base.specs.Exchange.{AreEnough, SwapsDown, Exchanges, MeetsExchange}
 use Rattle.tn_base.proofs.SetLemmas.{has-meet, has-minus, has-union, has_below, meet_within, minus_within}
 use Rattle.tn_base.proofs.SizeLemmas.{size_at}
 use Rattle.tn_law.specs.Places.{trade_level, null_level, level, move, SwapsAt, ExchangesOverPlaces}
-use Rattle.tn_law.proofs.PlaceLemmas.{level-trade, level-null, move-both, move-to_null, move-from_null, trade_level-le}
+use Rattle.tn_law.proofs.PlaceLemmas.{level-trade, level-null, move-both, move-to_null, move-from_null}
 
 -- null's level counts the purchases that are missing and the sales that are there
 null_level-size : (n buys x : ℕ) → null_level n buys x + size_below n (meet x buys) ≡ size_below n buys + size_below n (minus x buys)

@@ -1,17 +1,17 @@
 -- What keeps exchange: a multiple with a sum over the bundle, and a limit on the positions.
-use Rattle.std.proofs.Common.{◌≡◌, ◌≢◌, ℕ, ◌+◌, ◌-◌, ◌^◌, ◌<◌, ◌≤◌, Bool, true, false, not, ◌&&◌, ◌||◌, refl, sym, ap, ◌∙◌, subst, arith, ◌⊎◌, inl, inr, if◌then◌else◌, cond, ℤ, pos, ◌+ℤ◌, ◌-ℤ◌, ◌==◌}
+use Rattle.std.proofs.Common.{◌≡◌, ◌≢◌, ℕ, ◌<◌, Bool, true, false, not, refl, sym, ap, ◌∙◌, subst, arith, inl, inr, if◌then◌else◌, cond, ℤ, pos, ◌+ℤ◌, ◌-ℤ◌, ◌==◌}
 use Rattle.std.specs.Prelude.{◌≤ℤ◌, ◌*ℤ◌, negsuc, Option, Some, None, option_map}
 use Rattle.std.proofs.Math.IntN.{pos-*ℤ-pos}
 use Rattle.std.proofs.lemmas.Bool.{cases_eq, cases_lt, cases_Bool, eq-eqb, eqb-true}
-use Rattle.std.proofs.lemmas.Option.{same_Some, none-some, cond_some}
+use Rattle.std.proofs.lemmas.Option.{same_Some, none-some}
 use Rattle.std.proofs.lemmas.Int.{ints}
 use Rattle.tn_base.specs.Sets.{has, toggle, minus, sum_over}
 use Rattle.tn_base.specs.Firm.{Firm, HasOwnBundles, plus_sum, among}
-use Rattle.tn_base.specs.Exchange.{AreEnough, MeetsExchange}
-use Rattle.tn_base.proofs.SetLemmas.{has-toggle_same, has-toggle_other, minus-zero_from, has_from_minus-zero}
+use Rattle.tn_base.specs.Exchange.{MeetsExchange}
+use Rattle.tn_base.proofs.SetLemmas.{has-toggle_other, minus-zero_from, has_from_minus-zero}
 use Rattle.tn_base.proofs.SumLemmas.{sum_over-toggle_in, sum_over-toggle_out, times-plus}
-use Rattle.tn_law.specs.Places.{trade_level, level, toggle_at, move, SwapsAt, ExchangesOverPlaces}
-use Rattle.tn_law.proofs.PlaceLemmas.{level-trade, toggle_at-trade, toggle_at-null, places}
+use Rattle.tn_law.specs.Places.{trade_level, level, toggle_at, move, ExchangesOverPlaces}
+use Rattle.tn_law.proofs.PlaceLemmas.{level-trade, toggle_at-trade, toggle_at-null}
 use Rattle.tn_law.proofs.ExchangeLemmas.{exchange_to_places, exchange_from_places}
 
 -- a trade of different levels in two bundles is a member of just one of them

@@ -4,3 +4,4 @@ pub mod ExchangeLemmas
 pub mod KeepLemmas
 pub mod DistanceLemmas
 pub mod LocalLemmas
+pub mod AdditiveLemmas

@@ -1,14 +1,14 @@
 -- Local to global: a bundle that no move at two places improves is best.
-use Rattle.std.proofs.Common.{◌≡◌, ◌≢◌, ℕ, zero, suc, ◌+◌, ◌-◌, ◌^◌, ◌<◌, ◌≤◌, Bool, true, false, refl, sym, ap, ◌∙◌, subst, arith, ◌⊎◌, ◌↔◌, inl, inr, if◌then◌else◌, ℤ, pos, ◌+ℤ◌}
+use Rattle.std.proofs.Common.{◌≡◌, ◌≢◌, ℕ, zero, suc, ◌^◌, ◌<◌, ◌≤◌, Bool, true, false, refl, sym, ap, ◌∙◌, subst, arith, ◌↔◌, inl, inr, if◌then◌else◌, ℤ, pos}
 use Rattle.std.specs.Prelude.{◌≤ℤ◌, Option, Some}
-use Rattle.std.proofs.lemmas.Bool.{cases_eq, cases_lt, cases_Bool}
+use Rattle.std.proofs.lemmas.Bool.{cases_lt}
 use Rattle.std.proofs.lemmas.Option.{same_Some}
 use Rattle.std.proofs.lemmas.Int.{ints}
 use Rattle.tn_base.specs.Sets.{has, toggle}
 use Rattle.tn_base.specs.Firm.{Firm, HasOwnBundles, IsBest, utility, payments, plus_sum}
 use Rattle.tn_base.specs.Exchange.{MeetsExchange}
 use Rattle.tn_base.proofs.SetLemmas.{same_below}
-use Rattle.tn_law.specs.Places.{trade_level, level, move, CanRise, CanFall, SwapsAt, ExchangesOverPlaces}
+use Rattle.tn_law.specs.Places.{trade_level, level, move, CanRise, CanFall, ExchangesOverPlaces}
 use Rattle.tn_law.specs.Local.{IsLocallyBest, IsUnimproved}
 use Rattle.tn_law.proofs.PlaceLemmas.{level-trade, move-both, move-to_null, move-from_null, places}
 use Rattle.tn_law.proofs.ExchangeLemmas.{exchange_to_places}

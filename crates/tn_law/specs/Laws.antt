@@ -1,9 +1,10 @@
 -- The laws, each as one statement over all firms.
-use Rattle.std.specs.Prelude.{◌≡◌, ℕ, ◌<◌, ℤ, pos, ◌<ℤ◌, ◌≤ℤ◌, ◌↔◌, ◌^◌, Option, Some}
+use Rattle.std.specs.Prelude.{◌≡◌, ℕ, ◌<◌, ℤ, pos, ◌<ℤ◌, ◌≤ℤ◌, ◌↔◌, ◌^◌, Some}
 use Rattle.tn_base.specs.Firm.{Firm, net, HasOwnBundles, plus_sum, among, utility, IsBest}
 use Rattle.tn_base.specs.Exchange.{MeetsExchange}
 use Rattle.tn_law.specs.Places.{level, move, ArePlaces, ExchangesOverPlaces}
 use Rattle.tn_law.specs.Local.{IsLocallyBest, IsUnimproved}
+use Rattle.tn_law.specs.Additive.{additive}
 
 -- bundles, whatever the count of trades and the purchases among them, have places, levels and moves
 abbrev pub BundlesHavePlaces : Type 0
@@ -39,3 +40,7 @@ abbrev pub LocalIsGlobal : Type 0
 LocalIsGlobal = (firm : Firm) → HasOwnBundles firm → MeetsExchange firm → (scale : ℤ) (prices : ℕ → ℤ) → pos 0 ≤ℤ scale
     → (x : ℕ) (value : ℤ) → utility scale prices firm x ≡ Some value
     → IsBest (utility scale prices firm) x value ↔ IsUnimproved firm.count firm.buys (utility scale prices firm) x value
+
+-- a firm to which its trades are independent of each other meets exchange
+abbrev pub ExchangeOfAdditiveFirms : Type 0
+ExchangeOfAdditiveFirms = (count buys : ℕ) (c : ℕ → ℤ) → HasOwnBundles (additive count buys c) × MeetsExchange (additive count buys c)

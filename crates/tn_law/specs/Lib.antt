@@ -1,3 +1,4 @@
 pub mod Places
+pub mod Additive
 pub mod Local
 pub mod Laws

@@ -1,7 +1,7 @@
 -- Places: a firm with n own trades has the places 0 to n. A place below n is a trade's position, and the place n is
 -- called null: it stands for the net count. Every place has a level, and the levels of a bundle always sum to n.
 -- With null the two halves of the exchange property are one statement.
-use Rattle.std.specs.Prelude.{◌≡◌, ◌≢◌, ℕ, zero, suc, ◌+◌, ◌-◌, ◌<◌, ◌≤◌, ltb, ◌==◌, ℤ, ◌+ℤ◌, if◌then◌else◌, Option, Some}
+use Rattle.std.specs.Prelude.{◌≡◌, ◌≢◌, ℕ, zero, suc, ◌+◌, ◌-◌, ◌<◌, ◌≤◌, ltb, ◌==◌, ℤ, ◌+ℤ◌, if◌then◌else◌, Some}
 use Rattle.tn_base.specs.Sets.{has, toggle}
 use Rattle.tn_base.specs.Firm.{Firm}
 use Rattle.tn_base.specs.Exchange.{AreEnough}
