@@ -5,3 +5,7 @@ pub mod KeepLemmas
 pub mod DistanceLemmas
 pub mod LocalLemmas
 pub mod AdditiveLemmas
+pub mod NestedFamilies
+pub mod NestedCounts
+pub mod NestedLemmas
+pub mod ConcaveLemmas

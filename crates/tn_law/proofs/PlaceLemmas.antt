@@ -226,3 +226,16 @@ places n buys = record {
   small = λ x k below. subst (λ (l : ℕ). l ≤ 1) (sym (level-trade n buys x k below)) (trade_level-le buys x k);
   total = λ x. level-total n buys x;
 }
+
+-- a place of the up side can be raised in y and lowered in x
+pub up_moves : (n buys x y i : ℕ) → level n buys y i < level n buys x i → CanRise n (level n buys y) i × CanFall n (level n buys x) i
+up_moves n buys x y i up = (
+  λ p. let small = (places n buys).small x i p in omega (arith, small, up),
+  λ p. let small = (places n buys).small x i p in omega (arith, small, up),
+)
+
+-- a place of the up side is none of the down side
+pub up_apart_down : (n buys x y i j : ℕ) → level n buys y i < level n buys x i → level n buys x j < level n buys y j → i ≢ j
+up_apart_down n buys x y i j up down = λ e.
+    let other : level n buys x i < level n buys y i = subst (λ (k : ℕ). level n buys x k < level n buys y k) (sym e) down in
+    omega (arith, up, other)

@@ -1,10 +1,11 @@
 -- The laws, each as one statement over all firms.
-use Rattle.std.specs.Prelude.{◌≡◌, ℕ, ◌<◌, ℤ, pos, ◌<ℤ◌, ◌≤ℤ◌, ◌↔◌, ◌^◌, Some}
+use Rattle.std.specs.Prelude.{◌≡◌, ℕ, ◌<◌, ℤ, pos, ◌<ℤ◌, ◌≤ℤ◌, ◌↔◌, ◌^◌, Some, List}
 use Rattle.tn_base.specs.Firm.{Firm, net, HasOwnBundles, plus_sum, among, utility, IsBest}
 use Rattle.tn_base.specs.Exchange.{MeetsExchange}
 use Rattle.tn_law.specs.Places.{level, move, ArePlaces, ExchangesOverPlaces}
 use Rattle.tn_law.specs.Local.{IsLocallyBest, IsUnimproved}
 use Rattle.tn_law.specs.Additive.{additive}
+use Rattle.tn_law.specs.Nested.{CountTerm, nested_sum, AreNested, IsConcave, IsConcaveList, listed_from}
 
 -- bundles, whatever the count of trades and the purchases among them, have places, levels and moves
 abbrev pub BundlesHavePlaces : Type 0
@@ -44,3 +45,13 @@ LocalIsGlobal = (firm : Firm) → HasOwnBundles firm → MeetsExchange firm → 
 -- a firm to which its trades are independent of each other meets exchange
 abbrev pub ExchangeOfAdditiveFirms : Type 0
 ExchangeOfAdditiveFirms = (count buys : ℕ) (c : ℕ → ℤ) → HasOwnBundles (additive count buys c) × MeetsExchange (additive count buys c)
+
+-- a firm whose worth is the sum of an amount for each of its trades, and of concave functions of the net counts within
+-- sets of which no two cross, meets exchange
+abbrev pub ExchangeOfNestedSums : Type 0
+ExchangeOfNestedSums = (count buys : ℕ) (amounts : ℕ → ℤ) (terms : List CountTerm) → AreNested count terms
+    → HasOwnBundles (nested_sum count buys amounts terms) × MeetsExchange (nested_sum count buys amounts terms)
+
+-- a list of numbers of which none is below the middle of its neighbours is a concave function, wherever it begins
+abbrev pub ListedNumbersAreConcave : Type 0
+ListedNumbersAreConcave = (low : ℤ) (numbers : List ℤ) → IsConcaveList numbers → IsConcave (listed_from low numbers)
