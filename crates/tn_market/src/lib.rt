@@ -2,12 +2,14 @@
 //! in `specs/`.
 #![tactic(auto)]
 
+mod arrangement;
 mod contract;
 mod ends;
 mod lists;
 mod place;
 mod said;
 
+pub use arrangement::Arrangement;
 pub use contract::{Contract, Outcome};
 pub use ends::Ends;
 pub use lists::{Amounts, Contracts, Listed, Nodes, Numbers, Place, Prices, Trades};
