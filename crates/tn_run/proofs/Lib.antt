@@ -1,3 +1,4 @@
 pub mod Keys
 pub mod Short
 pub mod DealLemmas
+pub mod VerdictLemmas

@@ -1,5 +1,5 @@
 -- A deal as a network: two table firms and one trade.
-use Rattle.std.specs.Prelude.{◌≡◌, ℕ, ◌*◌, ◌^◌, ℤ, pos, neg_ℤ, ◌-ℤ◌, ◌<ℤ◌, List, [], ◌∷◌, ◌++◌, Bool, true, false, not, Option, Some, None, if◌then◌else◌}
+use Rattle.std.specs.Prelude.{◌≡◌, ℕ, ◌*◌, ◌^◌, ◌<◌, All, ℤ, pos, neg_ℤ, ◌-ℤ◌, ◌<ℤ◌, List, [], ◌∷◌, ◌++◌, Bool, true, false, not, Option, Some, None, if◌then◌else◌}
 use Rattle.tn_base.specs.Arcs.{IsAtMost}
 use Rattle.tn_base.specs.Firm.{Firm, utility, IsBest}
 use Rattle.tn_base.specs.Table.{table_firm}
@@ -7,6 +7,8 @@ use Rattle.tn_base.specs.declared.side.Side.{Side}
 use Rattle.tn_base.specs.declared.side.Side.TheVariants.{Buy, Sell}
 use Rattle.tn_market.specs.declared.ends.Ends.{Ends}
 use Rattle.tn_market.specs.declared.said.Said.{Said}
+use Rattle.tn_market.specs.declared.said.Said.TheVariants as said
+use Rattle.tn_market.specs.declared.said.Said.TheVariants.{Equilibrium, Better}
 use Rattle.tn_market.specs.Verdict.{Judges}
 use Rattle.tn_run.specs.declared.document.Rows.{Rows}
 use Rattle.tn_run.specs.declared.document.Terms.{Terms}
@@ -44,8 +46,15 @@ side_of false = Buy
 abbrev pub firm_with : Side → Rows → Firm
 firm_with side rows = table_firm (side ∷ []) (listed rows)
 
+-- the two firms
+abbrev pub first_of : Terms → Firm
+first_of terms = firm_with (side_of terms.first_sells) terms.first_rows
+
+abbrev pub second_of : Terms → Firm
+second_of terms = firm_with (side_of (not terms.first_sells)) terms.second_rows
+
 abbrev pub firms_of : Terms → List Firm
-firms_of terms = firm_with (side_of terms.first_sells) terms.first_rows ∷ firm_with (side_of (not terms.first_sells)) terms.second_rows ∷ []
+firms_of terms = first_of terms ∷ second_of terms ∷ []
 
 abbrev pub trades_of : Terms → List Ends
 trades_of terms = record {
@@ -90,3 +99,10 @@ abbrev pub IsSmallFare : Fare → Type 0
 IsSmallFare (Best worth) = IsAtMost worth (10 ^ 9)
 IsSmallFare Impossible = Unit {0}
 IsSmallFare (Worse gain) = IsAtMost gain (4 * 10 ^ 14)
+
+-- the firms and trades of an answer are those of a deal, and its numbers are small enough for it
+abbrev pub IsSmallAnswer : Said → Type 0
+IsSmallAnswer (Equilibrium surplus) = IsAtMost surplus (2 * 10 ^ 9)
+IsSmallAnswer (said.Impossible firm) = firm < 2
+IsSmallAnswer (Better firm bundle gain) = (firm < 2) × All (λ t. t < 1) bundle × IsAtMost gain (4 * 10 ^ 14)
+IsSmallAnswer _ = Unit {0}

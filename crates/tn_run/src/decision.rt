@@ -2,7 +2,7 @@
 
 ghost use Rattle.std.specs.Prelude.{◌≡◌, ℕ, ◌^◌, ◌*◌, pos, ◌≤ℤ◌, List, [], ◌∷◌, if◌then◌else◌, IfSome, IfOk};
 ghost use Rattle.tn_base.specs.Arcs.{IsAtMost};
-ghost use Rattle.tn_run.specs.Deal.{HasSmallRows, Fares, IsAnswer, IsSmallFare, HasSmallNumbers, side_of, bundle_number, firm_with, payment, utility_with};
+ghost use Rattle.tn_run.specs.Deal.{HasSmallRows, Fares, IsAnswer, IsSmallAnswer, IsSmallFare, HasSmallNumbers, first_of, second_of, side_of, bundle_number, firm_with, payment, utility_with};
 
 use crate::document::{Rows, Terms};
 use std::alloc::Global;
@@ -106,17 +106,43 @@ fn side_of(sells: bool) -> Side
     if sells { Side::Sell } else { Side::Buy }
 }
 
-/// The answer about the arrangement: the first firm whose bundle is impossible or not best, or the surplus.
-pub fn judge(alloc: Global, terms: Terms) -> Result<Said, OutOfMemory>
+/// How the first firm fares.
+fn first_fare(terms: Terms) -> Fare
     requires { HasSmallNumbers terms }
-    ensures { IfOk result (IsAnswer terms) }
+    ensures fares { Fares (first_of terms) terms.price terms.on result }
+    ensures small { IsSmallFare result }
 {
-    let first = Stand {
-        side: side_of(terms.first_sells),
+    let side = side_of(terms.first_sells);
+    let stand = Stand {
+        side,
         rows: terms.first_rows,
         price: terms.price,
     };
-    let first_worth = match fare_of(first, terms.on) {
+    fare_of(stand, terms.on)
+}
+
+/// How the second firm fares.
+fn second_fare(terms: Terms) -> Fare
+    requires { HasSmallNumbers terms }
+    ensures fares { Fares (second_of terms) terms.price terms.on result }
+    ensures small { IsSmallFare result }
+{
+    let side = side_of(!terms.first_sells);
+    let stand = Stand {
+        side,
+        rows: terms.second_rows,
+        price: terms.price,
+    };
+    fare_of(stand, terms.on)
+}
+
+/// The answer about the arrangement: the first firm whose bundle is impossible or not best, or the surplus.
+pub fn judge(alloc: Global, terms: Terms) -> Result<Said, OutOfMemory>
+    requires { HasSmallNumbers terms }
+    ensures answer { IfOk result (IsAnswer terms) }
+    ensures small { IfOk result IsSmallAnswer }
+{
+    let first_worth = match first_fare(terms) {
         Fare::Best(worth) => worth,
         Fare::Impossible => return Ok(Said::Impossible { firm: 0 }),
         Fare::Worse(gain) => {
@@ -128,20 +154,18 @@ pub fn judge(alloc: Global, terms: Terms) -> Result<Said, OutOfMemory>
             });
         }
     };
-    let second = Stand {
-        side: side_of(!terms.first_sells),
-        rows: terms.second_rows,
-        price: terms.price,
-    };
-    match fare_of(second, terms.on) {
+    match second_fare(terms) {
         Fare::Best(worth) => Ok(Said::Equilibrium {
             surplus: first_worth + worth,
         }),
         Fare::Impossible => Ok(Said::Impossible { firm: 1 }),
-        Fare::Worse(gain) => Ok(Said::Better {
-            firm: 1,
-            bundle: bundle_of(alloc, !terms.on)?,
-            gain,
-        }),
+        Fare::Worse(gain) => {
+            let bundle = bundle_of(alloc, !terms.on)?;
+            Ok(Said::Better {
+                firm: 1,
+                bundle,
+                gain,
+            })
+        }
     }
 }
