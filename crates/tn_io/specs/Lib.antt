@@ -1,0 +1,4 @@
+-- What reading and writing mean.
+pub mod Counts
+pub mod Source
+pub mod Sink
