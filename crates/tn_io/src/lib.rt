@@ -1,11 +1,14 @@
+//! Where bytes come from and go to: sources that are read, sinks that are written, and their ends in memory and in std.
 #![tactic(auto)]
 
 mod reading;
 mod sink;
 mod source;
+mod steady;
 mod writing;
 
 pub use reading::{ReadStop, read_all};
 pub use sink::{Sink, WriteFailed};
 pub use source::{ReadFailed, Source};
+pub use steady::{SteadySink, SteadySource};
 pub use writing::write_all;

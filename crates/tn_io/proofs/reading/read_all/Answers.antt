@@ -1,4 +1,4 @@
-use Rattle.std.proofs.Common.{arith, length, ◌≤◌, ◌≡◌, take, ℕ, ◌+◌, length-take}
+use Rattle.std.proofs.Common.{arith, length-take}
 use Rattle.tn_io.proofs.Taken.{TakesFirst-more, TakesAtMost-more}
 use Rattle.tn_io.proofs.reading.read_all.Goals as goal
 
