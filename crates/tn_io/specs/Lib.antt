@@ -3,3 +3,4 @@ pub mod Counts
 pub mod Source
 pub mod Sink
 pub mod Ends
+pub mod StdEnds

@@ -1,5 +1,5 @@
 //! Ends in memory that never fail.
-ghost use Rattle.std.specs.Prelude.{◌≡◌, ◌≤◌, ◌<◌, [], length, min, take, drop, Ok, Some, None, IfOk, OnErr, MatchOption, option_map};
+ghost use Rattle.std.specs.Prelude.{◌≡◌, ◌≤◌, ◌<◌, ◌+◌, ◌++◌, [], vec_len, vec_capacity, length, min, take, drop, Ok, Some, None, IfOk, OnErr, MatchOption, option_map};
 ghost use Rattle.std.specs.Io.{ReadsAtMost, WritesAtMost};
 ghost use Rattle.std.specs.Io.KnownBytes.{ReadConsumes};
 ghost use Rattle.tn_io.specs.Counts.{Rose};
@@ -75,6 +75,16 @@ impl Source for SteadySource {
     }
 }
 
+/// Appends bytes where their room was taken before. It takes no memory.
+pub(crate) fn store(bytes: &mut Vec<u8>, piece: &[u8])
+    requires { vec_len bytes.old + length piece.now ≤ vec_capacity bytes.old }
+    ensures items { bytes.new.items ≡ bytes.old.items ++ piece.now }
+    ensures capacity { vec_capacity bytes.old ≤ vec_capacity bytes.new }
+{
+    let stored = bytes.extend_from_slice(piece);
+    prove!(stored.is_ok());
+}
+
 /// Room in memory that takes any bytes, at most a chunk at a call. Writing never fails.
 ///
 /// It tells the bytes written while they fit its room; past that it drops what it takes, and tells nothing.
@@ -141,9 +151,9 @@ impl Sink for SteadySink {
             ≡ record self.old { told = told_within self.old.room self.old.told (take count piece.now) }) }
     {
         let count = self.chunk.min(piece.len());
-        let fits = count <= self.room - self.bytes.len();
-        // The room was taken at the start, so what fits is stored.
-        if !fits || self.bytes.extend_from_slice(&piece[..count]).is_err() {
+        if count <= self.room - self.bytes.len() {
+            store(&mut self.bytes, &piece[..count]);
+        } else {
             self.is_past = true;
         }
         Ok(count)
