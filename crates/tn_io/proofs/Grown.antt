@@ -1,5 +1,5 @@
 -- What several writes added together.
-use Rattle.std.proofs.Common.{◌≡◌, ℕ, ◌+◌, List, ◌++◌, take, drop, None, Some, refl, sym, ap, subst, ◌∙◌, append_assoc, append-nil, [], ◌-◌, ◌≤◌, length, arith, length-drop}
+use Rattle.std.proofs.Common.{◌≡◌, ℕ, ◌+◌, List, ◌++◌, take, drop, None, Some, sym, ap, subst, ◌∙◌, append_assoc, append-nil, [], ◌-◌, ◌≤◌, length, arith, length-drop}
 use Rattle.std.proofs.Math.Seq.{take-add, take_all}
 use Rattle.std.specs.Prelude.{Option}
 use Rattle.tn_io.specs.Sink.{Grows}

@@ -1,5 +1,5 @@
 -- What several reads took together.
-use Rattle.std.proofs.Common.{◌≡◌, ℕ, ◌+◌, ◌≤◌, List, [], ◌++◌, length, take, drop, None, Some, refl, sym, ap, subst, ◌∙◌, arith, length-append}
+use Rattle.std.proofs.Common.{◌≡◌, ℕ, ◌+◌, ◌≤◌, List, ◌++◌, length, take, drop, None, Some, refl, sym, ap, subst, ◌∙◌, arith, length-append}
 use Rattle.std.proofs.Math.Seq.{drop-append_seam, length-take-le}
 use Rattle.std.specs.Prelude.{Option}
 use Rattle.std.specs.Io.KnownBytes.{Consumes}
@@ -10,9 +10,10 @@ use Rattle.tn_io.specs.Source.{TakesFirst, TakesAtMost}
 pub Consumes-TakesFirst : (a b : Option (List ℕ)) (bytes : List ℕ) → Consumes a b bytes → TakesFirst a b (length bytes)
 Consumes-TakesFirst None b bytes p = tt
 Consumes-TakesFirst (Some xs) None bytes p = absurd p
-Consumes-TakesFirst (Some xs) (Some ys) bytes p =
-    (subst (λ l. length bytes ≤ length l) (sym p) (omega (arith, length-append bytes ys)),
-     sym (drop-append_seam bytes ys) ∙ ap (drop (length bytes)) (sym p))
+Consumes-TakesFirst (Some xs) (Some ys) bytes p = (
+  subst (λ l. length bytes ≤ length l) (sym p) (omega (arith, length-append bytes ys)),
+  sym (drop-append_seam bytes ys) ∙ ap (drop (length bytes)) (sym p),
+)
 
 -- the bytes of earlier reads, and then the first n of what the last one gave
 pub TakesFirst-more : (a b c : Option (List ℕ)) (bytes piece : List ℕ) (n total : ℕ) → Consumes a b bytes → Consumes b c (take n piece)

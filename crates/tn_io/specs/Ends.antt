@@ -1,6 +1,5 @@
 -- What the ends in memory hold: what contracts see of each.
-use Rattle.std.specs.Prelude.{ℕ, ◌+◌, ◌≤◌, List, ◌++◌, length, take, drop, min, Option, None, Some, if◌then◌else◌, nat_le}
-use Rattle.tn_io.specs.Counts.{next_count}
+use Rattle.std.specs.Prelude.{ℕ, List, ◌++◌, length, take, drop, min, Option, None, Some, if◌then◌else◌, nat_le}
 
 -- a source without failures: the bytes not yet taken, and how many a call gives at most
 pub record Supply : Type 0 where

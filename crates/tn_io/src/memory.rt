@@ -28,22 +28,26 @@ impl Model for MemorySource {
     ghost Value = { FailingSupply };
 
     ghost view = { λ a. record {
-        unread = a.steady.unread;
-        chunk = a.steady.chunk;
-        fails = a.fails.items;
-        calls = a.calls;
-        faults = a.faults
+      unread = a.steady.unread;
+      chunk = a.steady.chunk;
+      fails = a.fails.items;
+      calls = a.calls;
+      faults = a.faults;
     } };
-
-    ghost invariant = { λ _. Unit {0} };
 }
 
 impl MemorySource {
-    /// A source of these bytes that gives at most `chunk` of them at a call. The calls whose numbers, from 1, stand in
-    /// `fails` fail.
+    /// A source of these bytes that gives at most `chunk` of them at a call. The calls whose
+    /// numbers, from 1, stand in `fails` fail.
     pub fn new(bytes: Vec<u8>, chunk: usize, fails: Vec<u64>) -> MemorySource
         requires { 1 ≤ chunk }
-        ensures { result ≡ record { unread = bytes.items; chunk = chunk; fails = fails.items; calls = 0; faults = 0 } }
+        ensures { result ≡ record {
+          unread = bytes.items;
+          chunk = chunk;
+          fails = fails.items;
+          calls = 0;
+          faults = 0;
+        } }
     {
         MemorySource {
             steady: SteadySource::new(bytes, chunk),
@@ -67,13 +71,18 @@ impl Source for MemorySource {
 
         // Exactly the listed calls fail, and a failed call is counted and changes nothing else.
         ensures listed { IsErr result ↔ Contains self.old.fails (next_count self.old.calls) }
-        ensures counted { OnErr result (self.new
-            ≡ record self.old { calls = next_count self.old.calls; faults = next_count self.old.faults }) }
+        ensures counted { OnErr result (self.new ≡ record self.old {
+          calls = next_count self.old.calls;
+          faults = next_count self.old.faults;
+        }) }
 
-        ensures count { IfOk result (λ count. count ≡ moved_count self.old.chunk self.old.unread (length into.old)) }
+        ensures count { IfOk result (λ count. count
+            ≡ moved_count self.old.chunk self.old.unread (length into.old)) }
         ensures given { IfOk result (λ count. into.new ≡ filled into.old self.old.unread count) }
-        ensures rest { IfOk result (λ count. self.new
-            ≡ record self.old { unread = drop count self.old.unread; calls = next_count self.old.calls }) }
+        ensures rest { IfOk result (λ count. self.new ≡ record self.old {
+          unread = drop count self.old.unread;
+          calls = next_count self.old.calls;
+        }) }
     {
         self.calls = self.calls.saturating_add(1);
         if self.fails.contains(&self.calls) {
@@ -84,7 +93,8 @@ impl Source for MemorySource {
     }
 }
 
-/// Room in memory for bytes, taken at most a chunk at a call. Listed calls fail, and those that find no room.
+/// Room in memory for bytes, taken at most a chunk at a call. Listed calls fail, and those that
+/// find no room.
 #[derive(Drop)]
 pub struct MemorySink {
     bytes: Vec<u8>,
@@ -102,24 +112,36 @@ impl Model for MemorySink {
     ghost Value = { FailingStock };
 
     ghost view = { λ a. record {
-        taken = a.bytes.items;
-        room = a.room;
-        chunk = a.chunk;
-        fails = a.fails.items;
-        calls = a.calls;
-        faults = a.faults
+      taken = a.bytes.items;
+      room = a.room;
+      chunk = a.chunk;
+      fails = a.fails.items;
+      calls = a.calls;
+      faults = a.faults;
     } };
 
-    ghost invariant = { λ a. (length a.bytes.items ≤ a.room) × (a.room ≤ vec_capacity a.bytes) × (1 ≤ a.chunk) };
+    ghost invariant = { λ a.
+        (length a.bytes.items ≤ a.room) × (a.room ≤ vec_capacity a.bytes) × (1 ≤ a.chunk) };
 }
 
 impl MemorySink {
-    /// A sink with nothing written, that has `room` and takes at most `chunk` bytes at a call. The calls whose numbers,
-    /// from 1, stand in `fails` fail.
-    pub fn new(alloc: Global, room: usize, chunk: usize, fails: Vec<u64>) -> Result<MemorySink, OutOfMemory>
+    /// A sink with nothing written, that has room for `room` bytes and takes at most `chunk` of
+    /// them at a call. The calls whose numbers, from 1, stand in `fails` fail.
+    pub fn new(
+        alloc: Global,
+        room: usize,
+        chunk: usize,
+        fails: Vec<u64>,
+    ) -> Result<MemorySink, OutOfMemory>
         requires { 1 ≤ chunk }
-        ensures { IfOk result (λ sink. sink
-            ≡ record { taken = []; room = room; chunk = chunk; fails = fails.items; calls = 0; faults = 0 }) }
+        ensures { IfOk result (λ sink. sink ≡ record {
+          taken = [];
+          room = room;
+          chunk = chunk;
+          fails = fails.items;
+          calls = 0;
+          faults = 0;
+        }) }
     {
         Ok(MemorySink {
             bytes: Vec::with_capacity(alloc, room)?,
@@ -131,9 +153,10 @@ impl MemorySink {
         })
     }
 
-    /// Whether the present call, which is counted already, has to fail: it is listed, or no room is left.
+    /// Whether the present call, which is counted already, has to fail.
     fn is_refused(&self) -> bool
-        ensures { IsTrue result ↔ (Contains self.now.fails self.now.calls ⊎ (length self.now.taken ≡ self.now.room)) }
+        ensures { IsTrue result
+            ↔ (Contains self.now.fails self.now.calls ⊎ (length self.now.taken ≡ self.now.room)) }
     {
         self.bytes.len() == self.room || self.fails.contains(&self.calls)
     }
@@ -159,15 +182,20 @@ impl Sink for MemorySink {
         ensures later { self.old.faults ≤ self.new.faults }
 
         // A piece that isn't empty fails at exactly the listed calls, and where no room is left.
-        ensures refused { 0 < length piece.now → (IsErr result
-            ↔ (Contains self.old.fails (next_count self.old.calls) ⊎ (length self.old.taken ≡ self.old.room))) }
-        ensures counted { OnErr result (self.new
-            ≡ record self.old { calls = next_count self.old.calls; faults = next_count self.old.faults }) }
+        ensures refused { 0 < length piece.now → (IsErr result ↔
+            (Contains self.old.fails (next_count self.old.calls)
+            ⊎ (length self.old.taken ≡ self.old.room))) }
+        ensures counted { OnErr result (self.new ≡ record self.old {
+          calls = next_count self.old.calls;
+          faults = next_count self.old.faults;
+        }) }
 
         ensures count { IfOk result (λ count. count
             ≡ moved_count self.old.chunk piece.now (self.old.room - length self.old.taken)) }
-        ensures stored { IfOk result (λ count. self.new
-            ≡ record self.old { taken = self.old.taken ++ take count piece.now; calls = next_count self.old.calls }) }
+        ensures stored { IfOk result (λ count. self.new ≡ record self.old {
+          taken = self.old.taken ++ take count piece.now;
+          calls = next_count self.old.calls;
+        }) }
     {
         self.calls = self.calls.saturating_add(1);
         if piece.is_empty() {
@@ -177,7 +205,9 @@ impl Sink for MemorySink {
             self.faults = self.faults.saturating_add(1);
             return Err(WriteFailed);
         }
-        let count = self.chunk.min(piece.len().min(self.room - self.bytes.len()));
+        let count = self
+            .chunk
+            .min(piece.len().min(self.room - self.bytes.len()));
         store(&mut self.bytes, &piece[..count]);
         Ok(count)
     }

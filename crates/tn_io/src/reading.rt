@@ -45,8 +45,9 @@ const PIECE: usize = 4096;
 
 /// Reads to the end of input, at most `limit` bytes.
 ///
-/// `Failed` comes only where the source's count of faults rose in this call, and `TooLong` exactly where `limit + 1`
-/// bytes were taken; more are never taken. After a refusal a source that tells its bytes has lost the taken ones alone.
+/// `Failed` comes only where the source's count of faults rose in this call, and `TooLong` exactly
+/// where `limit + 1` bytes were taken; more are never taken. After a refusal a source that tells its
+/// bytes has lost the taken ones alone.
 pub fn read_all<S: Source>(alloc: Global, source: &mut S, limit: usize) -> Result<Vec<u8>, ReadStop>
     requires { limit < 2 ^ 31 }
 
@@ -57,11 +58,14 @@ pub fn read_all<S: Source>(alloc: Global, source: &mut S, limit: usize) -> Resul
     ensures whole { IfOk result (λ bytes. IfSome (S.left source.old) (λ all. bytes.items ≡ all)) }
 
     // Too long is told exactly where one byte more than the limit was taken.
-    ensures too_long { IsErrOf result ReadStop.TooLong → TakesFirst (S.left source.old) (S.left source.new) (limit + 1) }
-    ensures no_more { result ≢ Err ReadStop.TooLong → TakesAtMost (S.left source.old) (S.left source.new) limit }
+    ensures too_long { IsErrOf result ReadStop.TooLong
+        → TakesFirst (S.left source.old) (S.left source.new) (limit + 1) }
+    ensures no_more { result ≢ Err ReadStop.TooLong
+        → TakesAtMost (S.left source.old) (S.left source.new) limit }
 
     // A failure has its cause in the source.
-    ensures failed { IsErrOf result ReadStop.Failed → Rose (S.faults source.old) (S.faults source.new) }
+    ensures failed { IsErrOf result ReadStop.Failed
+        → Rose (S.faults source.old) (S.faults source.new) }
     ensures later { S.faults source.old ≤ S.faults source.new }
 {
     let mut bytes = Vec::new(alloc);

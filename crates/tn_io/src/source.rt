@@ -18,7 +18,8 @@ pub trait Source {
 
     /// Moves the next bytes to the front of `into`, and answers how many they are.
     ///
-    /// `Ok(0)` is the end of input, unless `into` is empty. `ReadFailed` comes only where `faults` rose in this call.
+    /// `Ok(0)` is the end of input, unless `into` is empty. `ReadFailed` comes only where `faults`
+    /// rose in this call.
     fn read(&mut self, into: &mut [u8]) -> Result<usize, ReadFailed>
         ensures bound { ReadsAtMost result into.new }
         ensures bytes { ReadConsumes (left self.old) (left self.new) result into.new }

@@ -9,7 +9,8 @@ use crate::sink::{Sink, WriteFailed};
 use crate::source::{ReadFailed, Source};
 use std::io::{Read, Write};
 
-/// Reads from a reader of std. It tells the bytes that are left where the reader tells them; standard input doesn't.
+/// Reads from a reader of std. It tells the bytes that are left where the reader tells them;
+/// standard input doesn't.
 #[derive(Drop)]
 pub struct StdSource<R> {
     inner: R,
@@ -34,7 +35,8 @@ impl<R: Read> Source for StdSource<R> {
     /// One read of std. Any error of it, an interruption too, is a failure.
     fn read(&mut self, into: &mut [u8]) -> Result<usize, ReadFailed>
         ensures bound { ReadsAtMost result into.new }
-        ensures bytes { ReadConsumes (R.remaining (reader_of self.old)) (R.remaining (reader_of self.new)) result into.new }
+        ensures bytes { ReadConsumes
+            (R.remaining (reader_of self.old)) (R.remaining (reader_of self.new)) result into.new }
         ensures failed { OnErr result (Rose (read_faults self.old) (read_faults self.new)) }
         ensures later { read_faults self.old ≤ read_faults self.new }
         ensures counted { OnErr result (read_faults self.new ≡ next_count (read_faults self.old)) }
@@ -76,8 +78,9 @@ impl<W: Write> Sink for StdSink<W> {
     fn write(&mut self, piece: &[u8]) -> Result<usize, WriteFailed>
         ensures bound { WritesAtMost result piece.now }
         ensures progress { IfOk result (λ count. 0 < length piece.now → 0 < count) }
-        ensures passed_on { IfOk result (λ count.
-            Appends (W.contents (writer_of self.old)) (W.contents (writer_of self.new)) (take count piece.now)) }
+        ensures passed_on { IfOk result (λ count. Appends
+            (W.contents (writer_of self.old)) (W.contents (writer_of self.new))
+            (take count piece.now)) }
         ensures empty { piece.now ≡ [] → result ≡ Ok 0 }
         ensures failed { OnErr result (Rose (write_faults self.old) (write_faults self.new)) }
         ensures later { write_faults self.old ≤ write_faults self.new }

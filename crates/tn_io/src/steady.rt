@@ -67,9 +67,11 @@ impl Source for SteadySource {
     fn read(&mut self, into: &mut [u8]) -> Result<usize, ReadFailed>
         ensures bound { ReadsAtMost result into.new }
         ensures bytes { ReadConsumes (Some self.old.unread) (Some self.new.unread) result into.new }
-        ensures count { result ≡ Ok (moved_count self.old.chunk self.old.unread (length into.old)) }
+        ensures count { result
+            ≡ Ok (moved_count self.old.chunk self.old.unread (length into.old)) }
         ensures given { IfOk result (λ count. into.new ≡ filled into.old self.old.unread count) }
-        ensures rest { IfOk result (λ count. self.new ≡ record self.old { unread = drop count self.old.unread }) }
+        ensures rest { IfOk result (λ count. self.new
+            ≡ record self.old { unread = drop count self.old.unread }) }
     {
         Ok(self.give(into))
     }
@@ -87,7 +89,8 @@ pub(crate) fn store(bytes: &mut Vec<u8>, piece: &[u8])
 
 /// Room in memory that takes any bytes, at most a chunk at a call. Writing never fails.
 ///
-/// It tells the bytes written while they fit its room; past that it drops what it takes, and tells nothing.
+/// It tells the bytes written while they fit its room; past that it drops what it takes, and tells
+/// nothing.
 #[derive(Drop)]
 pub struct SteadySink {
     bytes: Vec<u8>,
@@ -103,19 +106,22 @@ impl Model for SteadySink {
     ghost Value = { Stock };
 
     ghost view = { λ a. record {
-        told = (if a.is_past then None else Some a.bytes.items);
-        room = a.room;
-        chunk = a.chunk
+      told = (if a.is_past then None else Some a.bytes.items);
+      room = a.room;
+      chunk = a.chunk;
     } };
 
-    ghost invariant = { λ a. (length a.bytes.items ≤ a.room) × (a.room ≤ vec_capacity a.bytes) × (1 ≤ a.chunk) };
+    ghost invariant = { λ a.
+        (length a.bytes.items ≤ a.room) × (a.room ≤ vec_capacity a.bytes) × (1 ≤ a.chunk) };
 }
 
 impl SteadySink {
-    /// A sink with nothing written, that tells up to `room` bytes and takes at most `chunk` of them at a call.
+    /// A sink with nothing written, that tells up to `room` bytes and takes at most `chunk` of them
+    /// at a call.
     pub fn with_room(alloc: Global, room: usize, chunk: usize) -> Result<SteadySink, OutOfMemory>
         requires { 1 ≤ chunk }
-        ensures { IfOk result (λ sink. sink ≡ record { told = Some []; room = room; chunk = chunk }) }
+        ensures { IfOk result (λ sink. sink
+            ≡ record { told = Some []; room = room; chunk = chunk }) }
     {
         Ok(SteadySink {
             bytes: Vec::with_capacity(alloc, room)?,
@@ -145,16 +151,18 @@ impl Sink for SteadySink {
     fn write(&mut self, piece: &[u8]) -> Result<usize, WriteFailed>
         ensures bound { WritesAtMost result piece.now }
         ensures progress { IfOk result (λ count. 0 < length piece.now → 0 < count) }
-        ensures bytes { IfOk result (λ count. Grows self.old.told self.new.told (take count piece.now)) }
+        ensures bytes { IfOk result (λ count.
+            Grows self.old.told self.new.told (take count piece.now)) }
         ensures count { result ≡ Ok (min self.old.chunk (length piece.now)) }
-        ensures told { IfOk result (λ count. self.new
-            ≡ record self.old { told = told_within self.old.room self.old.told (take count piece.now) }) }
+        ensures told { IfOk result (λ count. self.new ≡ record self.old {
+          told = told_within self.old.room self.old.told (take count piece.now);
+        }) }
     {
         let count = self.chunk.min(piece.len());
-        if count <= self.room - self.bytes.len() {
-            store(&mut self.bytes, &piece[..count]);
-        } else {
+        if self.is_past || count > self.room - self.bytes.len() {
             self.is_past = true;
+        } else {
+            store(&mut self.bytes, &piece[..count]);
         }
         Ok(count)
     }

@@ -7,7 +7,8 @@ use crate::sink::{Sink, WriteFailed};
 
 /// Writes all the bytes, in order. It takes no memory.
 ///
-/// `WriteFailed` comes only where the sink's count of faults rose in this call; a prefix of the bytes was written then.
+/// `WriteFailed` comes only where the sink's count of faults rose in this call; a prefix of the
+/// bytes was written then.
 pub fn write_all<K: Sink>(sink: &mut K, bytes: &[u8]) -> Result<(), WriteFailed>
     ensures whole { OnOk result (Grows (K.written sink.old) (K.written sink.new) bytes.now) }
     ensures prefix { OnErr result (GrowsByPrefix (K.written sink.old) (K.written sink.new) bytes.now) }

@@ -6,7 +6,7 @@ abbrev pub invariant-loop-bytes : goal.invariant-loop-bytes
 invariant-loop-bytes g l = record {
   within : length l.bytes.items ≤ l.limit;
   taken : Consumes (g.S.Source.left l.initial.source) (g.S.Source.left l.source) l.bytes.items;
-  later : g.S.Source.faults l.initial.source ≤ g.S.Source.faults l.source
+  later : g.S.Source.faults l.initial.source ≤ g.S.Source.faults l.source;
 }
 
 -- how many bytes may still be taken
