@@ -8,6 +8,8 @@ mod sink;
 mod source;
 mod standard;
 mod steady;
+#[cfg(test)]
+mod tests;
 mod writing;
 
 pub use memory::{MemorySink, MemorySource};

@@ -100,3 +100,90 @@ impl<W: Write> Sink for StdSink<W> {
         Err(WriteFailed)
     }
 }
+
+#[cfg(test)]
+mod tests {
+    use super::*;
+    use crate::reading::read_all;
+    use crate::writing::write_all;
+    use std::io;
+    use std::test::Fail;
+
+    /// Moves up to four bytes at a call. The second call fails.
+    #[derive(Drop)]
+    struct Faltering<T> {
+        inner: T,
+        calls: u8,
+    }
+
+    impl<R: Read> Read for Faltering<R> {
+        fn read(&mut self, into: &mut [u8]) -> io::Result<usize> {
+            self.calls = self.calls.saturating_add(1);
+            if self.calls == 2 {
+                return Err(io::ErrorKind::Interrupted.into());
+            }
+            let count = into.len().min(4);
+            self.inner.read(&mut into[..count])
+        }
+    }
+
+    impl<W: Write> Write for Faltering<W> {
+        fn write(&mut self, piece: &[u8]) -> io::Result<usize> {
+            self.calls = self.calls.saturating_add(1);
+            if self.calls == 2 {
+                return Err(io::ErrorKind::Interrupted.into());
+            }
+            self.inner.write(&piece[..piece.len().min(4)])
+        }
+
+        fn flush(&mut self) -> io::Result<()> {
+            self.inner.flush()
+        }
+    }
+
+    #[test]
+    fn reads_and_counts_a_failure(rt: HostRuntime) -> Result<(), Fail> {
+        let mut whole = StdSource::new(&b"steel and lumber"[..]);
+        let bytes = read_all(rt.alloc(), &mut whole, 16)?;
+        assert_eq!(rt; bytes.as_slice(), &b"steel and lumber"[..]);
+        assert_eq!(rt; whole.faults, 0);
+
+        let inner = &b"steel"[..];
+        let mut source = StdSource::new(Faltering { inner, calls: 0 });
+        let mut into = [0; 8];
+        assert_eq!(rt; source.read(&mut into), Ok(4));
+        assert_eq!(rt; source.read(&mut into), Err(ReadFailed));
+        assert_eq!(rt; source.faults, 1);
+        assert_eq!(rt; source.read(&mut into), Ok(1));
+        assert_eq!(rt; source.read(&mut into), Ok(0));
+        assert_eq!(rt; source.faults, 1);
+        Ok(())
+    }
+
+    #[test]
+    fn writes_and_counts_a_failure(rt: HostRuntime) -> Result<(), Fail> {
+        let mut whole = StdSink::new(Vec::new(rt.alloc()));
+        assert_eq!(rt; write_all(&mut whole, b"steel and lumber"), Ok(()));
+        assert_eq!(rt; whole.inner.as_slice(), &b"steel and lumber"[..]);
+        assert_eq!(rt; whole.faults, 0);
+
+        let inner = Vec::new(rt.alloc());
+        let mut sink = StdSink::new(Faltering { inner, calls: 0 });
+        assert_eq!(rt; write_all(&mut sink, b"steel"), Err(WriteFailed));
+        assert_eq!(rt; sink.faults, 1);
+        assert_eq!(rt; sink.inner.inner.as_slice(), &b"stee"[..]);
+        assert_eq!(rt; sink.write(b"l"), Ok(1));
+        assert_eq!(rt; sink.faults, 1);
+        Ok(())
+    }
+
+    #[test]
+    fn counts_a_write_of_nothing(rt: HostRuntime) {
+        let mut room = [0u8; 2];
+        let mut sink = StdSink::new(&mut room[..]);
+        assert_eq!(rt; sink.write(b"steel"), Ok(2));
+        assert_eq!(rt; sink.write(b"eel"), Err(WriteFailed));
+        assert_eq!(rt; sink.write(b""), Ok(0));
+        assert_eq!(rt; sink.faults, 1);
+    }
+}
