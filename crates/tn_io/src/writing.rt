@@ -17,7 +17,8 @@ pub fn write_all<K: Sink>(sink: &mut K, bytes: &[u8]) -> Result<(), WriteFailed>
 {
     let mut done = 0;
     while done < bytes.len() {
-        done += sink.write(&bytes[done..])?;
+        let count = sink.write(&bytes[done..])?;
+        done += count;
     }
     Ok(())
 }

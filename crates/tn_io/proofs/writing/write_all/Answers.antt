@@ -4,7 +4,7 @@ use Rattle.tn_io.proofs.writing.write_all.Goals as goal
 
 pub loop-done-preserved : goal.loop-done-preserved
 loop-done-preserved g c = record {
-  within = slice-within c.args.bytes.now _ _ c.loop-done.invariant.within c.in_ok-done.ensures.bound;
-  grown = Grows-slice _ _ _ c.args.bytes.now _ _ c.loop-done.invariant.grown c.in_ok-done.ensures.bytes;
+  within = slice-within c.args.bytes.now _ _ c.loop-done.invariant.within c.in_ok-count.ensures.bound;
+  grown = Grows-slice _ _ _ c.args.bytes.now _ _ c.loop-done.invariant.grown c.in_ok-count.ensures.bytes;
   later = omega arith;
 }
