@@ -2,12 +2,12 @@
 use Rattle.std.specs.Prelude.{ℕ, List, ◌++◌, length, take, drop, min, Option, None, Some, if◌then◌else◌, nat_le}
 
 -- a source without failures: the bytes not yet taken, and how many a call gives at most
-pub record Supply : Type 0 where
+pub record SourceState : Type 0 where
   pub unread : List ℕ
   pub chunk : ℕ
 
 -- a source that fails at the listed calls: how many were made, and how many of them failed
-pub record FailingSupply : Type 0 where
+pub record FailingSourceState : Type 0 where
   pub unread : List ℕ
   pub chunk : ℕ
   pub fails : List ℕ
@@ -15,14 +15,14 @@ pub record FailingSupply : Type 0 where
   pub faults : ℕ
 
 -- a sink that never fails: the bytes told while they fit the room
-pub record Stock : Type 0 where
+pub record SinkState : Type 0 where
   pub told : Option (List ℕ)
   pub room : ℕ
   pub chunk : ℕ
 
 -- a sink that fails at the listed calls and where no room is left
-pub record FailingStock : Type 0 where
-  pub taken : List ℕ
+pub record FailingSinkState : Type 0 where
+  pub stored : List ℕ
   pub room : ℕ
   pub chunk : ℕ
   pub fails : List ℕ

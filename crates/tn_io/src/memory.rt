@@ -23,9 +23,9 @@ pub struct MemorySource {
 }
 
 impl Model for MemorySource {
-    ghost use Rattle.tn_io.specs.Ends.{FailingSupply};
+    ghost use Rattle.tn_io.specs.Ends.{FailingSourceState};
 
-    ghost Value = { FailingSupply };
+    ghost Value = { FailingSourceState };
 
     ghost view = { λ a. record {
       unread = a.steady.unread;
@@ -107,12 +107,12 @@ pub struct MemorySink {
 
 impl Model for MemorySink {
     ghost use Rattle.std.specs.Prelude.{◌≤◌, length, vec_capacity};
-    ghost use Rattle.tn_io.specs.Ends.{FailingStock};
+    ghost use Rattle.tn_io.specs.Ends.{FailingSinkState};
 
-    ghost Value = { FailingStock };
+    ghost Value = { FailingSinkState };
 
     ghost view = { λ a. record {
-      taken = a.bytes.items;
+      stored = a.bytes.items;
       room = a.room;
       chunk = a.chunk;
       fails = a.fails.items;
@@ -135,7 +135,7 @@ impl MemorySink {
     ) -> Result<MemorySink, OutOfMemory>
         requires { 1 ≤ chunk }
         ensures { IfOk result (λ sink. sink ≡ record {
-          taken = [];
+          stored = [];
           room = room;
           chunk = chunk;
           fails = fails.items;
@@ -156,21 +156,21 @@ impl MemorySink {
     /// Whether the present call, which is counted already, has to fail.
     fn is_refused(&self) -> bool
         ensures { IsTrue result
-            ↔ (Contains self.now.fails self.now.calls ⊎ (length self.now.taken ≡ self.now.room)) }
+            ↔ (Contains self.now.fails self.now.calls ⊎ (length self.now.stored ≡ self.now.room)) }
     {
         self.bytes.len() == self.room || self.fails.contains(&self.calls)
     }
 
     /// The bytes written.
     pub fn written(&self) -> &[u8]
-        ensures { result.now ≡ self.now.taken }
+        ensures { result.now ≡ self.now.stored }
     {
         &self.bytes
     }
 }
 
 impl Sink for MemorySink {
-    ghost written = { λ a. Some a.taken };
+    ghost written = { λ a. Some a.stored };
 
     ghost faults = { λ a. a.faults };
 
@@ -184,16 +184,16 @@ impl Sink for MemorySink {
         // A piece that isn't empty fails at exactly the listed calls, and where no room is left.
         ensures refused { 0 < length piece.now → (IsErr result ↔
             (Contains self.old.fails (next_count self.old.calls)
-            ⊎ (length self.old.taken ≡ self.old.room))) }
+            ⊎ (length self.old.stored ≡ self.old.room))) }
         ensures counted { OnErr result (self.new ≡ record self.old {
           calls = next_count self.old.calls;
           faults = next_count self.old.faults;
         }) }
 
         ensures count { IfOk result (λ count. count
-            ≡ moved_count self.old.chunk piece.now (self.old.room - length self.old.taken)) }
-        ensures stored { IfOk result (λ count. self.new ≡ record self.old {
-          taken = self.old.taken ++ take count piece.now;
+            ≡ moved_count self.old.chunk piece.now (self.old.room - length self.old.stored)) }
+        ensures grown { IfOk result (λ count. self.new ≡ record self.old {
+          stored = self.old.stored ++ take count piece.now;
           calls = next_count self.old.calls;
         }) }
     {
@@ -205,9 +205,8 @@ impl Sink for MemorySink {
             self.faults = self.faults.saturating_add(1);
             return Err(WriteFailed);
         }
-        let count = self
-            .chunk
-            .min(piece.len().min(self.room - self.bytes.len()));
+        let space = self.room - self.bytes.len();
+        let count = self.chunk.min(piece.len()).min(space);
         store(&mut self.bytes, &piece[..count]);
         Ok(count)
     }

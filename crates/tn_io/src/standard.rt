@@ -109,11 +109,22 @@ mod tests {
     use std::io;
     use std::test::Fail;
 
-    /// Moves up to four bytes at a call. The second call fails.
+    /// Moves up to four bytes at a call. The second call fails, and so does the second flush.
     #[derive(Drop)]
     struct Faltering<T> {
         inner: T,
         calls: u8,
+        flushes: u8,
+    }
+
+    impl<T> Faltering<T> {
+        fn over(inner: T) -> Faltering<T> {
+            Faltering {
+                inner,
+                calls: 0,
+                flushes: 0,
+            }
+        }
     }
 
     impl<R: Read> Read for Faltering<R> {
@@ -137,6 +148,10 @@ mod tests {
         }
 
         fn flush(&mut self) -> io::Result<()> {
+            self.flushes = self.flushes.saturating_add(1);
+            if self.flushes == 2 {
+                return Err(io::ErrorKind::Other.into());
+            }
             self.inner.flush()
         }
     }
@@ -148,8 +163,7 @@ mod tests {
         assert_eq!(rt; bytes.as_slice(), &b"steel and lumber"[..]);
         assert_eq!(rt; whole.faults, 0);
 
-        let inner = &b"steel"[..];
-        let mut source = StdSource::new(Faltering { inner, calls: 0 });
+        let mut source = StdSource::new(Faltering::over(&b"steel"[..]));
         let mut into = [0; 8];
         assert_eq!(rt; source.read(&mut into), Ok(4));
         assert_eq!(rt; source.read(&mut into), Err(ReadFailed));
@@ -167,13 +181,14 @@ mod tests {
         assert_eq!(rt; whole.inner.as_slice(), &b"steel and lumber"[..]);
         assert_eq!(rt; whole.faults, 0);
 
-        let inner = Vec::new(rt.alloc());
-        let mut sink = StdSink::new(Faltering { inner, calls: 0 });
+        let mut sink = StdSink::new(Faltering::over(Vec::new(rt.alloc())));
         assert_eq!(rt; write_all(&mut sink, b"steel"), Err(WriteFailed));
         assert_eq!(rt; sink.faults, 1);
         assert_eq!(rt; sink.inner.inner.as_slice(), &b"stee"[..]);
-        assert_eq!(rt; sink.write(b"l"), Ok(1));
-        assert_eq!(rt; sink.faults, 1);
+        assert_eq!(rt; sink.write(b"l"), Err(WriteFailed), "a flush fails");
+        assert_eq!(rt; sink.faults, 2);
+        assert_eq!(rt; sink.write(b"s"), Ok(1));
+        assert_eq!(rt; sink.faults, 2);
         Ok(())
     }
 

@@ -22,9 +22,9 @@ pub struct SteadySource {
 
 impl Model for SteadySource {
     ghost use Rattle.std.specs.Prelude.{◌≤◌, drop, length};
-    ghost use Rattle.tn_io.specs.Ends.{Supply};
+    ghost use Rattle.tn_io.specs.Ends.{SourceState};
 
-    ghost Value = { Supply };
+    ghost Value = { SourceState };
 
     ghost view = { λ a. record { unread = drop a.taken a.bytes.items; chunk = a.chunk } };
 
@@ -52,7 +52,7 @@ impl SteadySource {
         ensures rest { self.new ≡ record self.old { unread = drop result self.old.unread } }
     {
         let rest = &self.bytes[self.taken..];
-        let count = self.chunk.min(rest.len().min(into.len()));
+        let count = self.chunk.min(rest.len()).min(into.len());
         into[..count].copy_from_slice(&rest[..count]);
         self.taken += count;
         count
@@ -101,9 +101,9 @@ pub struct SteadySink {
 
 impl Model for SteadySink {
     ghost use Rattle.std.specs.Prelude.{◌≤◌, length, Some, None, if◌then◌else◌, vec_capacity};
-    ghost use Rattle.tn_io.specs.Ends.{Stock};
+    ghost use Rattle.tn_io.specs.Ends.{SinkState};
 
-    ghost Value = { Stock };
+    ghost Value = { SinkState };
 
     ghost view = { λ a. record {
       told = (if a.is_past then None else Some a.bytes.items);

@@ -69,7 +69,10 @@ fn writes_whole_or_a_prefix(rt: HostRuntime) -> Result<(), Fail> {
 
     let fails = [2u64].to_vec(rt.alloc())?;
     let mut failing = MemorySink::new(rt.alloc(), 20, 8, fails)?;
-    assert_eq!(rt; write_all(&mut failing, b"steel and lumber"), Err(WriteFailed));
+    assert_eq!(rt;
+        write_all(&mut failing, b"steel and lumber"),
+        Err(WriteFailed)
+    );
     assert_eq!(rt; failing.written(), &b"steel an"[..]);
     Ok(())
 }
