@@ -1,1 +1,4 @@
 pub mod Names
+pub mod Words
+pub mod Sayable
+pub mod AnswerText

@@ -4,5 +4,9 @@
 
 mod name_list;
 mod names;
+mod text;
+mod values;
+mod words;
 
 pub use names::Names;
+pub use text::{answer_text, no_memory_text, read_fault_text, usage_text};
