@@ -1,3 +1,4 @@
 pub mod NameLemmas
 pub mod FloatLemmas
 pub mod MapLemmas
+pub mod LawLemmas

@@ -4,6 +4,7 @@ use Rattle.serde_json.specs.Data.{Data, null, number, string, array, object, uns
 use Rattle.serde_json.specs.Find.{of_integer}
 use Rattle.serde_json.specs.View.{items_of}
 use Rattle.serde_json.specs.Written.{compact_text}
+use Rattle.tn_base.specs.declared.fault.FaultKind.{FaultKind}
 use Rattle.tn_base.specs.Faults.{fault_number}
 use Rattle.tn_market.specs.declared.place.PlaceStep.{PlaceStep}
 use Rattle.tn_market.specs.declared.place.PlaceStep.TheVariants.{Word, Index, Trade}
@@ -41,14 +42,14 @@ place_data trades place = array (items_of (map (step_data trades) place))
 abbrev pub answer : List ℕ → Members → Data
 answer kind members = object (member (codes "answer") (string kind) members)
 
--- the members of every fault, with those that follow
-abbrev pub fault_members : List (List ℕ) → Fault → Members → Members
-fault_members trades fault rest = member (codes "fault") (number (unsigned (fault_number fault.kind))) (member (codes "name") (string (kind_name fault.kind)) (member (codes "place") (place_data trades fault.place) rest))
+-- the members of every fault at a place, with those that follow
+abbrev pub fault_members : FaultKind → Data → Members → Members
+fault_members kind place rest = member (codes "fault") (number (unsigned (fault_number kind))) (member (codes "name") (string (kind_name kind)) (member (codes "place") place rest))
 
 -- a failing triple stands around them
 abbrev pub fault_data : List (List ℕ) → Fault → Option Shown → Data
-fault_data trades fault None = answer (codes "fault") (fault_members trades fault no_members)
-fault_data trades fault (Some shown) = answer (codes "fault") (member (codes "at") (option_data trades shown.at) (fault_members trades fault (member (codes "x") (names_data trades shown.x) (member (codes "y") (names_data trades shown.y) no_members))))
+fault_data trades fault None = answer (codes "fault") (fault_members fault.kind (place_data trades fault.place) no_members)
+fault_data trades fault (Some shown) = answer (codes "fault") (member (codes "at") (option_data trades shown.at) (fault_members fault.kind (place_data trades fault.place) (member (codes "x") (names_data trades shown.x) (member (codes "y") (names_data trades shown.y) no_members))))
 
 -- an answer as JSON
 abbrev pub answer_data : NameLists → Said → Data

@@ -2,3 +2,4 @@ pub mod Names
 pub mod Words
 pub mod Sayable
 pub mod AnswerText
+pub mod Laws

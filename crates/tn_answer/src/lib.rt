@@ -2,11 +2,13 @@
 //! `specs/`.
 #![tactic(auto)]
 
+mod laws;
 mod name_list;
 mod names;
 mod text;
 mod values;
 mod words;
 
+pub use laws::some_answers_need_no_names;
 pub use names::Names;
 pub use text::{answer_text, no_memory_text, read_fault_text, usage_text};

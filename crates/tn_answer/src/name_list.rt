@@ -1,4 +1,4 @@
-ghost use Rattle.std.specs.Prelude.{◌≡◌, ◌<◌, ◌++◌, [], ◌∷◌, Some, not, length, slice_get, if◌then◌else◌, ◌↔◌, IsSome, IfSome, IsTrue, IfOk, OnErr};
+ghost use Rattle.std.specs.Prelude.{◌≡◌, ◌<◌, ◌++◌, [], ◌∷◌, true, false, Some, not, length, slice_get, if◌then◌else◌, ◌↔◌, IsSome, IfSome, IsTrue, IfOk, OnOk, OnErr};
 ghost use Rattle.tn_answer.specs.Names.{IsNameList, has_name, is_name, number_of, MAX_NAMES};
 
 use indexmap::IndexSet;
@@ -61,14 +61,33 @@ impl NameList {
         requires named { IsTrue (is_name name.now) }
         requires room { length self.old < MAX_NAMES }
         ensures added { IfOk result (λ added. added ≡ not (has_name self.old name.now)) }
-        ensures last { IfOk result (λ added. self.new ≡ (if added then self.old ++ name.now ∷ [] else self.old)) }
+        ensures last { IfOk result
+            (λ added. self.new ≡ (if added then self.old ++ name.now ∷ [] else self.old)) }
+        ensures known { has_name self.old name.now ≡ true → result ≡ Ok false }
         ensures err { OnErr result (self.new ≡ self.old) }
     {
-        if self.names.contains(name) {
+        if self.has(name) {
             return Ok(false);
         }
+        self.push(name)?;
+        Ok(true)
+    }
+
+    fn has(&self, name: &str) -> bool
+        ensures { result ≡ has_name self.now name.now }
+    {
+        self.names.contains(name)
+    }
+
+    fn push(&mut self, name: &str) -> Result<(), OutOfMemory>
+        requires named { IsTrue (is_name name.now) }
+        requires room { length self.old < MAX_NAMES }
+        requires new { has_name self.old name.now ≡ false }
+        ensures last { OnOk result (self.new ≡ self.old ++ name.now ∷ []) }
+        ensures err { OnErr result (self.new ≡ self.old) }
+    {
         let owned = String::from_str(self.alloc, name)?;
         self.names.insert(owned)?;
-        Ok(true)
+        Ok(())
     }
 }

@@ -1,4 +1,4 @@
-ghost use Rattle.std.specs.Prelude.{◌≡◌, ◌<◌, ◌++◌, [], ◌∷◌, Some, not, length, slice_get, if◌then◌else◌, ◌↔◌, IsSome, IfSome, IsTrue, IfOk, OnErr};
+ghost use Rattle.std.specs.Prelude.{◌≡◌, ◌<◌, ◌++◌, [], ◌∷◌, true, false, Some, not, length, slice_get, if◌then◌else◌, ◌↔◌, IsSome, IfSome, IsTrue, IfOk, OnErr};
 ghost use Rattle.tn_answer.specs.Names.{IsNameList, has_name, is_name, number_of, no_names, with_firm, with_trade, MAX_NAMES};
 
 use crate::name_list::NameList;
@@ -72,6 +72,8 @@ impl Names {
         ensures added { IfOk result (λ added. added ≡ not (has_name self.old.firms name.now)) }
         ensures last { IfOk result
             (λ added. self.new ≡ (if added then with_firm self.old name.now else self.old)) }
+        // Only a new name can want memory.
+        ensures known { has_name self.old.firms name.now ≡ true → result ≡ Ok false }
         ensures err { OnErr result (self.new ≡ self.old) }
     {
         self.firms.add(name)
@@ -84,6 +86,8 @@ impl Names {
         ensures added { IfOk result (λ added. added ≡ not (has_name self.old.trades name.now)) }
         ensures last { IfOk result
             (λ added. self.new ≡ (if added then with_trade self.old name.now else self.old)) }
+        // Only a new name can want memory.
+        ensures known { has_name self.old.trades name.now ≡ true → result ≡ Ok false }
         ensures err { OnErr result (self.new ≡ self.old) }
     {
         self.trades.add(name)

@@ -1,6 +1,6 @@
 use Rattle.std.proofs.Common.{◌≡◌, ap, map, ◌∙◌, arith}
 use Rattle.serde_json.specs.Data.{array}
-use Rattle.serde_json.specs.declared.value.Value.{the_lemmas}
+use Rattle.serde_json.proofs.Views.{view-Array}
 use Rattle.serde_json.specs.View.{view, items_of}
 use Rattle.tn_answer.specs.AnswerText.{name_data}
 use Rattle.tn_answer.proofs.MapLemmas.{map-push, map-whole}
@@ -14,4 +14,4 @@ loop-k-preserved c =
 pub returns : goal.returns
 returns c =
     let items = map-whole view (name_data c.args.names.now.trades) c.loop-k.values.items c.args.trades.now c.loop-k.k c.loop-k.invariant (omega arith) in
-    simp the_lemmas (ap (λ ds. array (items_of ds)) items)
+    view-Array c.loop-k.values ∙ ap (λ ds. array (items_of ds)) items
