@@ -3,3 +3,4 @@
 
 mod document;
 mod decision;
+mod command;
