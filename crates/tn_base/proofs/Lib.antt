@@ -3,3 +3,4 @@ pub mod SizeLemmas
 pub mod SumLemmas
 pub mod FirmLemmas
 pub mod TableLemmas
+pub mod LimbLemmas

@@ -1,9 +1,9 @@
 -- What every proof about sets stands on. Only this file looks at binary digits.
-use Rattle.std.proofs.Common.{◌≡◌, ◌≢◌, ℕ, zero, suc, ◌+◌, ◌*◌, ◌/◌, ◌%◌, ◌^◌, ◌<◌, ◌≤◌, min, Bool, true, false, not, ◌&&◌, ◌||◌, nat_lt, ◌==◌, refl, sym, ap, ◌∙◌, subst, arith, ◌⊎◌, inl, inr, if◌then◌else◌, lit<}
+use Rattle.std.proofs.Common.{◌≡◌, ◌≢◌, ℕ, zero, suc, ◌+◌, ◌-◌, ◌*◌, ◌/◌, ◌%◌, ◌^◌, ◌<◌, ◌≤◌, min, Bool, true, false, not, ◌&&◌, ◌||◌, nat_lt, ◌==◌, refl, sym, ap, ◌∙◌, subst, arith, ◌⊎◌, inl, inr, if◌then◌else◌, lit<}
 use Rattle.std.specs.Prelude.{bit_xor, ◌↔◌}
 use Rattle.std.proofs.Math.Nat.{pow-suc}
 use Rattle.std.specs.Int.{bit_at}
-use Rattle.std.proofs.lemmas.Nat.Bits.{bit_at-zero, bit_at_and, bit_at_or, bit_at_xor, bit_at-pow_same, bit_at-pow_other, bit_at-lt, same_from_bits, bit_at_above, bit_at_lowest, bit_at-suc}
+use Rattle.std.proofs.lemmas.Nat.Bits.{bit_at-zero, bit_at_and, bit_at_or, bit_at_xor, bit_at-pow_same, bit_at-pow_other, bit_at-lt, same_from_bits, bit_at_above, bit_at_lowest, bit_at-suc, bit_at_cat_low, bit_at_cat_high}
 use Rattle.std.proofs.lemmas.Nat.{or_lt, xor_lt, and_le_l, pow_below}
 use Rattle.std.proofs.lemmas.Bool.{cases_eq, cases_lt, lt-ltb, le-ltb, false≢true, true≢false}
 use Rattle.tn_base.specs.Sets.{has, toggle, union, meet, minus, set_of}
@@ -230,3 +230,15 @@ unfolding has
 has-double_one x k =
     let half : (1 + 2 * x) / 2 ≡ x = omega arith in
     ap (λ (d : ℕ). d == 1) (bit_at-suc (1 + 2 * x) k ∙ ap (λ (y : ℕ). bit_at y k) half)
+
+-- the lowest n digits of two numbers one after the other
+pub has-low : (high n low k : ℕ) → k < n → has (high * 2 ^ n + low) k ≡ has low k
+unfolding has
+has-low high n low k below = ap (λ (d : ℕ). d == 1) (bit_at_cat_low high n low k below)
+
+-- the digits above them
+pub has-high : (high n low k : ℕ) → low < 2 ^ n → has (high * 2 ^ n + low) (n + k) ≡ has high k
+unfolding has
+has-high high n low k below =
+    let e : n + k - n ≡ k = omega arith in
+    ap (λ (d : ℕ). d == 1) (bit_at_cat_high high n low (n + k) below (omega arith) ∙ ap (λ (i : ℕ). bit_at high i) e)

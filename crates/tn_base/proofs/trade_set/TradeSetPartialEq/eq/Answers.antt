@@ -1,0 +1,8 @@
+use Rattle.std.proofs.Common.{◌∙◌, ap₂}
+use Rattle.std.specs.Prelude.{nat_eq}
+use Rattle.tn_base.proofs.LimbLemmas.{same_words}
+use Rattle.tn_base.proofs.trade_set.TradeSetPartialEq.eq.Goals as goal
+
+pub returns : goal.returns
+returns g c =
+    c.eq.ensures ∙ same_words g.row.W _ _ c.self.invariant c.other.invariant ∙ ap₂ nat_eq c.self.view_is c.other.view_is
