@@ -25,6 +25,7 @@ down_from_up n buys x y i i_within i_up = elim (above_or_none (level n buys y) (
       absurd (omega (arith, same, i_up))
 ]
 
+-- toggled at a place, a bundle of own positions stays one
 toggle_at-within : (n x i : ℕ) → x < 2 ^ n → toggle_at n x i < 2 ^ n
 toggle_at-within n x i below = elim (cases_lt i n) [
   | inl p ↦ subst (λ (y : ℕ). y < 2 ^ n) (sym (toggle_at-trade n x i p)) (toggle_within x i n below p)
@@ -40,11 +41,13 @@ move-within n x i j below = toggle_at-within n (toggle_at n x i) j (toggle_at-wi
 additive_worth : (count buys : ℕ) (c : ℕ → ℤ) (x : ℕ) → x < 2 ^ count → (additive count buys c).worth x ≡ Some (sum_over c count x)
 additive_worth count buys c x below = ap (λ b. cond b (Some (sum_over c count x)) None) (lt-ltb x (2 ^ count) below)
 
+-- and no other bundle has one
 additive_within : (count buys : ℕ) (c : ℕ → ℤ) (x : ℕ) (a : ℤ) → (additive count buys c).worth x ≡ Some a → (x < 2 ^ count) × (sum_over c count x ≡ a)
 additive_within count buys c x a x_is =
     let parts = cond_some (nat_lt x (2 ^ count)) (sum_over c count x) a x_is in
     (ltb-true x (2 ^ count) parts.0, parts.1)
 
+-- a partner is any place of the down side: the sums stay together the same
 exchange-additive : (count buys : ℕ) (c : ℕ → ℤ) → ExchangesOverPlaces (additive count buys c)
 exchange-additive count buys c x y a b x_is y_is i i_within i_up =
     let first = additive_within count buys c x a x_is in

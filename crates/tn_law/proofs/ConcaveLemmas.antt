@@ -1,10 +1,9 @@
 -- Lists of numbers without a positive second difference are concave functions.
-use Rattle.std.proofs.Common.{◌≡◌, ℕ, zero, suc, ◌+◌, ◌-◌, ◌<◌, ◌≤◌, refl, sym, ap, ◌∙◌, subst, arith, ◌⊎◌, inl, inr, ℤ, pos, ◌+ℤ◌, ◌-ℤ◌, List, length, get_or}
-use Rattle.std.specs.Prelude.{◌≤ℤ◌, ◌<ℤ◌, ◌*ℤ◌, negsuc, Option, Some, None, slice_get}
-use Rattle.std.proofs.lemmas.Bool.{cases_lt}
+use Rattle.std.proofs.Common.{◌≡◌, ℕ, zero, suc, ◌+◌, ◌-◌, ◌<◌, refl, ap, ◌∙◌, arith, ℤ, pos, ◌+ℤ◌, ◌-ℤ◌, List, length, get_or}
+use Rattle.std.specs.Prelude.{◌≤ℤ◌, ◌*ℤ◌, negsuc, Some}
 use Rattle.std.proofs.lemmas.Option.{none-some, slice_get_within, slice_get-get_or, get_or_from_slice_get}
 use Rattle.std.proofs.lemmas.Int.{ints}
-use Rattle.tn_law.specs.Nested.{AreEnoughAt, IsConcave, at_place, listed_from, IsConcaveList}
+use Rattle.tn_law.specs.Nested.{IsConcave, at_place, listed_from, IsConcaveList}
 
 -- the difference at a later place is no greater
 falling : (g : ℕ → ℤ) (n : ℕ) → ((k : ℕ) → k + 2 < n → (g k +ℤ g (k + 2)) ≤ℤ (pos 2 *ℤ g (k + 1))) → (p d : ℕ) → p + d + 1 < n
@@ -24,6 +23,7 @@ from_place : (numbers : List ℤ) (z u : ℤ) → at_place numbers z ≡ Some u 
 from_place numbers (pos k) u is = (k, refl, slice_get_within numbers k u is, get_or_from_slice_get numbers k u (pos 0) is)
 from_place numbers (negsuc k) u is = absurd (none-some u is)
 
+-- a place within the list has its number
 to_place : (numbers : List ℤ) (z : ℤ) (k : ℕ) → z ≡ pos k → k < length numbers → at_place numbers z ≡ Some (get_or numbers k (pos 0))
 to_place numbers z k e inside = ap (at_place numbers) e ∙ slice_get-get_or numbers k (pos 0) inside
 

@@ -1,4 +1,5 @@
--- How far one bundle is from another: by how much its levels are above the other's.
+-- The up and the down side of two bundles by their levels, and how far one is from the other: by how much its levels
+-- are above the other's.
 use Rattle.std.proofs.Common.{◌≡◌, ◌≢◌, ℕ, zero, suc, ◌+◌, ◌-◌, ◌<◌, ◌≤◌, sym, ◌∙◌, subst, arith, ◌⊎◌, inl, inr}
 use Rattle.std.proofs.lemmas.Bool.{cases_eq, cases_lt}
 use Rattle.tn_law.specs.Places.{sum_to, one_at, CanRise, CanFall, ArePlaces}
@@ -20,6 +21,20 @@ above_or_none f g (suc n) = elim (above_or_none f g n) [
       | inl e ↦ subst (λ (k : ℕ). f k ≤ g k) (sym e) here
       | inr d ↦ before (omega (arith, h, d))
     ]
+
+-- a place of the up side can be raised in y and lowered in x
+pub up_moves : (n : ℕ) (level_of : ℕ → ℕ → ℕ) (moved : ℕ → ℕ → ℕ → ℕ) → ArePlaces n level_of moved → (x y i : ℕ)
+    → level_of y i < level_of x i → CanRise n (level_of y) i × CanFall n (level_of x) i
+up_moves n level_of moved are x y i up = (
+  λ p. let small = are.small x i p in omega (arith, small, up),
+  λ p. let small = are.small x i p in omega (arith, small, up),
+)
+
+-- a place of the up side is none of the down side
+pub up_apart_down : (f g : ℕ → ℕ) (i j : ℕ) → g i < f i → f j < g j → i ≢ j
+up_apart_down f g i j up down = λ e.
+    let other : f i < g i = subst (λ (k : ℕ). f k < g k) (sym e) down in
+    omega (arith, up, other)
 
 -- by how much the levels of the n trades and of null are above the other's, together
 unfoldable pub gap : ℕ → (ℕ → ℕ) → (ℕ → ℕ) → ℕ
@@ -43,20 +58,12 @@ gap-nearer n level_of moved are x y i j i_within j_within i_up j_down =
     sum_to-one (λ k. level_of x k - level_of y k) (λ k. level_of x k - level_of (moved y i j) k) i (suc n) (omega (arith, i_within)) at
   where
     apart : i ≢ j
-    apart = λ e. clash (subst (λ (k : ℕ). level_of x k < level_of y k) (sym e) j_down)
-      where
-        clash : level_of x i < level_of y i → ⊥
-        clash h = omega (arith, h, i_up)
-
-    can_rise : CanRise n (level_of y) i
-    can_rise = λ p. let small = are.small x i p in omega (arith, small, i_up)
-
-    can_fall : CanFall n (level_of y) j
-    can_fall = λ p. let small = are.small y j p in omega (arith, small, j_down)
+    apart = up_apart_down (level_of x) (level_of y) i j i_up j_down
 
     at : (k : ℕ) → k < suc n → level_of x k - level_of y k ≡ (level_of x k - level_of (moved y i j) k) + one_at i k
     at k h =
-        let changed = are.levels y i j k i_within j_within apart can_rise can_fall (omega (arith, h)) in
+        let changed = are.levels y i j k i_within j_within apart
+        (up_moves n level_of moved are x y i i_up).0 (up_moves n level_of moved are y x j j_down).1 (omega (arith, h)) in
         elim (cases_eq k i) [
           | inl e ↦
               let above : level_of y k < level_of x k = subst (λ (m : ℕ). level_of y m < level_of x m) (sym e) i_up in

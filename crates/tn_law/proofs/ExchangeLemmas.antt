@@ -1,13 +1,13 @@
 -- The two halves of the exchange property and the one statement over places.
-use Rattle.std.proofs.Common.{◌≡◌, ℕ, zero, suc, ◌+◌, ◌-◌, ◌^◌, ◌<◌, Bool, true, false, not, ◌&&◌, ◌||◌, refl, sym, ap, ◌∙◌, subst, arith, ◌↔◌, inl, inr, if◌then◌else◌, ℤ, pos, ◌+ℤ◌}
+use Rattle.std.proofs.Common.{◌≡◌, ℕ, zero, suc, ◌+◌, ◌-◌, ◌^◌, ◌<◌, Bool, true, false, not, ◌&&◌, refl, sym, ap, ◌∙◌, subst, arith, ◌↔◌, inl, inr, if◌then◌else◌, ℤ, pos, ◌+ℤ◌}
 use Rattle.std.specs.Prelude.{◌<ℤ◌, Some}
 use Rattle.std.proofs.lemmas.Bool.{cases_lt}
 use Rattle.std.proofs.lemmas.Int.{ints}
 use Rattle.tn_base.specs.Sets.{has, meet, minus, size_below}
 use Rattle.tn_base.specs.Firm.{Firm, net, up, HasOwnBundles}
 use Rattle.tn_base.specs.Exchange.{AreEnough, SwapsDown, Exchanges, MeetsExchange}
-use Rattle.tn_base.proofs.SetLemmas.{has-meet, has-minus, has-union, has_below, meet_within, minus_within}
-use Rattle.tn_base.proofs.SizeLemmas.{size_at}
+use Rattle.tn_base.proofs.SetLemmas.{has-meet, has-minus, has_below}
+use Rattle.tn_base.proofs.FirmLemmas.{has-up, net_at}
 use Rattle.tn_law.specs.Places.{trade_level, null_level, level, move, SwapsAt, ExchangesOverPlaces}
 use Rattle.tn_law.proofs.PlaceLemmas.{level-trade, level-null, move-both, move-to_null, move-from_null}
 
@@ -29,12 +29,7 @@ null_level-size (suc n) buys x =
 
 -- so the net count and null's level sum to the count of the purchases
 pub net-null_level : (n buys x : ℕ) → x < 2 ^ n → net buys x +ℤ pos (null_level n buys x) ≡ pos (size_below n buys)
-unfolding net
-net-null_level n buys x below =
-    let sizes = null_level-size n buys x in
-    let inside = size_at n (meet x buys) (meet_within x buys n below) in
-    let outside = size_at n (minus x buys) (minus_within x buys n below) in
-    omega (arith, ints, sizes, inside, outside)
+net-null_level n buys x below = omega (arith, ints, null_level-size n buys x, net_at n buys x below)
 
 -- the net count is smaller exactly where null's level is greater
 pub null_is_net_count : (n buys x y : ℕ) → x < 2 ^ n → y < 2 ^ n → (net buys x <ℤ net buys y) ↔ (level n buys y n < level n buys x n)
@@ -45,17 +40,12 @@ null_is_net_count n buys x y x_below y_below =
     let q = level-null n buys y in
     (λ h. omega (arith, ints, first, second, p, q, h), λ h. omega (arith, ints, first, second, p, q, h))
 
-has-up : (buys x y k : ℕ) → has (up buys x y) k ≡ (((has x k && not (has y k)) && has buys k) || ((has y k && not (has x k)) && not (has buys k)))
-unfolding up
-has-up buys x y k =
-    has-union (meet (minus x y) buys) (minus (minus y x) buys) k ∙ rw (has-meet (minus x y) buys k, has-minus (minus y x) buys k, has-minus x y k, has-minus y x k) refl
-
 -- a trade is on the up side exactly where it has the greater level in x
 pub up_is_level : (buys x y k : ℕ) → (has (up buys x y) k ≡ true) ↔ (trade_level buys y k < trade_level buys x k)
 unfolding trade_level
 up_is_level buys x y k = rw (has-up buys x y k) (by (has buys k) (has x k) (has y k))
   where
-    by : (b h g : Bool) → ((((h && not g) && b) || ((g && not h) && not b)) ≡ true)
+    by : (b h g : Bool) → ((if b then h && not g else g && not h) ≡ true)
         ↔ ((if b then (if g then 1 else 0) else (if g then 0 else 1)) < (if b then (if h then 1 else 0) else (if h then 0 else 1)))
     by true true true = (λ e. absurd (cc), λ h. absurd (omega (arith, h)))
     by true true false = (λ e. omega arith, λ h. refl)
@@ -75,12 +65,13 @@ up_to_level n buys x y k x_below y_below e =
     let h = (up_is_level buys x y k).0 e in
     (own, omega (arith, p, q, h))
   where
-    within : (h g b : Bool) → (h ≡ true → k < n) → (g ≡ true → k < n) → (((h && not g) && b) || ((g && not h) && not b)) ≡ true → k < n
+    within : (h g b : Bool) → (h ≡ true → k < n) → (g ≡ true → k < n) → (if b then h && not g else g && not h) ≡ true → k < n
     within true g b p q e = p refl
     within false true b p q e = q refl
     within false false true p q e = cc
     within false false false p q e = cc
 
+-- a trade whose place is on the up side is on the up side
 level_to_up : (n buys x y k : ℕ) → k < n → level n buys y k < level n buys x k → has (up buys x y) k ≡ true
 level_to_up n buys x y k own h =
     let p = level-trade n buys x k own in

@@ -12,6 +12,7 @@ use Rattle.tn_base.proofs.SetLemmas.{has-toggle_other, minus-zero_from, has_from
 use Rattle.tn_base.proofs.SumLemmas.{sum_over-toggle_in, sum_over-toggle_out, times-plus}
 use Rattle.tn_law.specs.Places.{trade_level, level, toggle_at, move, ExchangesOverPlaces}
 use Rattle.tn_law.proofs.PlaceLemmas.{level-trade, toggle_at-trade, toggle_at-null}
+use Rattle.tn_law.proofs.DistanceLemmas.{up_apart_down}
 use Rattle.tn_law.proofs.ExchangeLemmas.{exchange_to_places, exchange_from_places}
 
 -- a trade of different levels in two bundles is a member of just one of them
@@ -65,14 +66,11 @@ pub sum_over-move : (c : ℕ → ℤ) (n buys x y i j : ℕ) → level n buys y 
     → sum_over c n (move n x i j) +ℤ sum_over c n (move n y i j) ≡ sum_over c n x +ℤ sum_over c n y
 unfolding move
 sum_over-move c n buys x y i j i_up j_down =
-    let apart : j ≢ i = λ e. clash (subst (λ (k : ℕ). level n buys x k < level n buys y k) e j_down) in
+    let apart : j ≢ i = λ e. up_apart_down (level n buys x) (level n buys y) i j i_up j_down (sym e) in
     let first = sum_over-toggle_at c n x y i (λ p. has_differs n buys x y i p (λ e. omega (arith, i_up, e))) in
     let second = sum_over-toggle_at c n (toggle_at n x i) (toggle_at n y i) j (λ p.
     has-toggle_at n x i j apart ∙ has_differs n buys x y j p (λ e. omega (arith, j_down, e)) ∙ ap not (sym (has-toggle_at n y i j apart))) in
     second ∙ first
-  where
-    clash : level n buys x i < level n buys y i → ⊥
-    clash h = omega (arith, h, i_up)
 
 -- numbers of at least 0 have a product of at least 0
 times-from_zero : (a b : ℤ) → pos 0 ≤ℤ a → pos 0 ≤ℤ b → pos 0 ≤ℤ (a *ℤ b)
@@ -117,6 +115,7 @@ exchange-plus_sum scale c firm from_zero over x y a b x_is y_is i i_within i_up 
       };
     }
 
+-- and has only own bundles
 own-plus_sum : (scale : ℤ) (c : ℕ → ℤ) (firm : Firm) → HasOwnBundles firm → HasOwnBundles (plus_sum scale c firm)
 own-plus_sum scale c firm own x a x_is = let first = option_map-some _ (firm.worth x) a x_is in own x first.0 first.1
 
@@ -145,6 +144,7 @@ within-toggle_at A n x y i differs x_within y_within k member = elim (cases_lt i
   | inr p ↦ x_within k (sym (ap (λ (z : ℕ). has z k) (toggle_at-null n x i p)) ∙ member)
 ]
 
+-- two bundles within a set that swap two places stay within the set
 within-move : (allowed n buys x y i j : ℕ) → level n buys x i ≢ level n buys y i → level n buys x j ≢ level n buys y j → j ≢ i
     → minus x allowed ≡ 0 → minus y allowed ≡ 0 → minus (move n x i j) allowed ≡ 0
 unfolding move
@@ -170,7 +170,8 @@ exchange-among allowed firm over x y a b x_is y_is i i_within i_up =
     let first = among_within allowed firm x a x_is in
     let second = among_within allowed firm y b y_is in
     let swap = over x y a b first.1 second.1 i i_within i_up in
-    let apart : swap.at ≢ i = λ e. clash swap.at swap.is_down e in
+    let apart : swap.at ≢ i = λ e.
+    up_apart_down (level firm.count firm.buys x) (level firm.count firm.buys y) i swap.at i_up swap.is_down (sym e) in
     let x_differs : level firm.count firm.buys x swap.at ≢ level firm.count firm.buys y swap.at = differ _ _ swap.is_down in
     let y_differs : level firm.count firm.buys y i ≢ level firm.count firm.buys x i = differ _ _ i_up in
     record {
@@ -191,22 +192,18 @@ exchange-among allowed firm over x y a b x_is y_is i i_within i_up =
     differ : (l m : ℕ) → l < m → l ≢ m
     differ l m h = λ e. omega (arith, h, e)
 
-    clash : (j : ℕ) → level firm.count firm.buys x j < level firm.count firm.buys y j → j ≡ i → ⊥
-    clash j h e =
-        let h' : level firm.count firm.buys x i < level firm.count firm.buys y i =
-        subst (λ (k : ℕ). level firm.count firm.buys x k < level firm.count firm.buys y k) e h in
-        omega (arith, h', i_up)
-
+-- and has only own bundles
 own-among : (allowed : ℕ) (firm : Firm) → HasOwnBundles firm → HasOwnBundles (among allowed firm)
 own-among allowed firm own x a x_is = own x a (among_within allowed firm x a x_is).1
 
--- both laws in the two halves of exchange
+-- a firm with a multiple of its worths, and a sum over the bundle, meets exchange
 pub meets-plus_sum : (firm : Firm) (scale : ℤ) (c : ℕ → ℤ) → pos 0 ≤ℤ scale → HasOwnBundles firm → MeetsExchange firm
     → HasOwnBundles (plus_sum scale c firm) × MeetsExchange (plus_sum scale c firm)
 meets-plus_sum firm scale c from_zero own meets =
     let owns = own-plus_sum scale c firm own in
     (owns, exchange_from_places (plus_sum scale c firm) owns (exchange-plus_sum scale c firm from_zero (exchange_to_places firm own meets)))
 
+-- a firm with a limit on its positions meets exchange
 pub meets-among : (firm : Firm) (allowed : ℕ) → HasOwnBundles firm → MeetsExchange firm
     → HasOwnBundles (among allowed firm) × MeetsExchange (among allowed firm)
 meets-among firm allowed own meets =

@@ -13,7 +13,7 @@ use Rattle.tn_law.specs.Local.{IsLocallyBest, IsUnimproved}
 use Rattle.tn_law.proofs.PlaceLemmas.{level-trade, move-both, move-to_null, move-from_null, places}
 use Rattle.tn_law.proofs.ExchangeLemmas.{exchange_to_places}
 use Rattle.tn_law.proofs.KeepLemmas.{meets-plus_sum}
-use Rattle.tn_law.proofs.DistanceLemmas.{above_or_none, gap, levels_same, gap-nearer}
+use Rattle.tn_law.proofs.DistanceLemmas.{above_or_none, up_moves, up_apart_down, gap, levels_same, gap-nearer}
 
 -- no move that raises one place and lowers another has more
 abbrev pub IsUnmoved : Firm → ℕ → ℤ → Type 0
@@ -52,9 +52,11 @@ no_more_within firm own over x value x_is unmoved (suc d) y other y_is near =
           let i_within : found.0 ≤ firm.count = (let p = found.1 in omega (arith, p)) in
           let swap = over x y value other x_is y_is found.0 i_within found.2 in
           let are = places firm.count firm.buys in
+          let up = up_moves firm.count (level firm.count firm.buys) (move firm.count) are x y found.0 found.2 in
+          let down = up_moves firm.count (level firm.count firm.buys) (move firm.count) are y x swap.at swap.is_down in
+          let apart = up_apart_down (level firm.count firm.buys x) (level firm.count firm.buys y) found.0 swap.at found.2 swap.is_down in
           let first_most : swap.enough.first ≤ℤ value =
-          unmoved swap.at found.0 swap.enough.first swap.is_place i_within (apart found.0 swap.at found.2 swap.is_down)
-          (λ p. low found.0 swap.at swap.is_down p) (λ p. high found.0 found.2 p)
+          unmoved swap.at found.0 swap.enough.first swap.is_place i_within (λ e. apart (sym e)) down.0 up.1
           (ap firm.worth (are.order x swap.at found.0) ∙ swap.enough.first_is) in
           let nearer = gap-nearer firm.count (level firm.count firm.buys) (move firm.count) are x y found.0 swap.at i_within swap.is_place found.2 swap.is_down in
           let second_most : swap.enough.second ≤ℤ value =
@@ -68,18 +70,6 @@ no_more_within firm own over x value x_is unmoved (suc d) y other y_is near =
           let equal : other ≡ value = same_Some other value (sym y_is ∙ ap firm.worth (sym e) ∙ x_is) in
           omega (arith, ints, equal)
     ]
-  where
-    apart : (i j : ℕ) → level firm.count firm.buys y i < level firm.count firm.buys x i → level firm.count firm.buys x j < level firm.count firm.buys y j → j ≢ i
-    apart i j up down = λ e.
-        let down' : level firm.count firm.buys x i < level firm.count firm.buys y i =
-        subst (λ (k : ℕ). level firm.count firm.buys x k < level firm.count firm.buys y k) e down in
-        omega (arith, up, down')
-
-    low : (i j : ℕ) → level firm.count firm.buys x j < level firm.count firm.buys y j → j < firm.count → level firm.count firm.buys x j ≡ 0
-    low i j down p = let small = (places firm.count firm.buys).small y j p in omega (arith, small, down)
-
-    high : (i : ℕ) → level firm.count firm.buys y i < level firm.count firm.buys x i → i < firm.count → level firm.count firm.buys x i ≡ 1
-    high i up p = let small = (places firm.count firm.buys).small x i p in omega (arith, small, up)
 
 -- a possible bundle that no move improves is best
 pub best_from_unmoved : (firm : Firm) → HasOwnBundles firm → ExchangesOverPlaces firm → (x : ℕ) (value : ℤ) → firm.worth x ≡ Some value

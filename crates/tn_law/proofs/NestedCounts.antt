@@ -1,14 +1,13 @@
 -- The net count of a bundle within a set, by levels: so toggles at two places move it by at most 1.
-use Rattle.std.proofs.Common.{◌≡◌, ◌≢◌, ℕ, zero, suc, ◌+◌, ◌-◌, ◌^◌, ◌<◌, ◌≤◌, Bool, true, false, not, ◌&&◌, refl, sym, ap, ◌∙◌, subst, arith, ◌⊎◌, inl, inr, if◌then◌else◌, cond, ℤ, pos, ◌+ℤ◌, ◌-ℤ◌}
-use Rattle.std.specs.Prelude.{◌≤ℤ◌, ◌<ℤ◌}
-use Rattle.std.proofs.lemmas.Bool.{cases_eq, cases_lt, cases_Bool}
+use Rattle.std.proofs.Common.{◌≡◌, ◌≢◌, ℕ, zero, suc, ◌+◌, ◌^◌, ◌<◌, ◌≤◌, Bool, true, false, not, ◌&&◌, refl, ap, ◌∙◌, subst, arith, inl, inr, if◌then◌else◌, ℤ, pos, ◌+ℤ◌, ◌-ℤ◌}
+use Rattle.std.proofs.lemmas.Bool.{cases_eq}
 use Rattle.std.proofs.lemmas.Int.{ints}
 use Rattle.tn_base.specs.Sets.{has, meet, minus, size_below, sum_over}
 use Rattle.tn_base.specs.Firm.{net}
 use Rattle.tn_base.proofs.SetLemmas.{has-meet, has-minus, meet_within}
 use Rattle.tn_base.proofs.SumLemmas.{sum_over-same_terms, sum_over-above, sum_over-plus}
 use Rattle.tn_base.proofs.FirmLemmas.{net_at}
-use Rattle.tn_law.specs.Places.{trade_level, level, move, one_at, CanRise, CanFall, ArePlaces}
+use Rattle.tn_law.specs.Places.{trade_level, level, move, one_at, CanRise, CanFall}
 use Rattle.tn_law.proofs.SumLemmas.{one_at-same, one_at-other}
 use Rattle.tn_law.proofs.PlaceLemmas.{level-trade, places}
 use Rattle.tn_law.proofs.AdditiveLemmas.{move-within}

@@ -1,16 +1,18 @@
 -- Families of nested sets. Numbers stand at the places below m, and a set has the sum of the numbers at its members.
 -- Where the number at i is above 0, and a set with all others has a sum of at most 0, some place has a number below
 -- 0, and is parted from i only by sets whose sums allow it.
-use Rattle.std.proofs.Common.{◌≡◌, ◌≢◌, ℕ, zero, suc, ◌+◌, ◌-◌, ◌<◌, ◌≤◌, Bool, true, false, not, ◌&&◌, refl, sym, ap, ◌∙◌, subst, arith, ◌⊎◌, inl, inr, if◌then◌else◌, cond, ℤ, pos, ◌+ℤ◌, ◌-ℤ◌, List, [], ◌∷◌}
+use Rattle.std.proofs.Common.{◌≡◌, ℕ, zero, suc, ◌<◌, Bool, true, false, not, ◌&&◌, refl, sym, ap, ◌∙◌, subst, arith, ◌⊎◌, inl, inr, if◌then◌else◌, cond, ℤ, pos, ◌-ℤ◌, List, [], ◌∷◌}
 use Rattle.std.specs.Prelude.{◌≤ℤ◌, ◌<ℤ◌}
-use Rattle.std.proofs.lemmas.Bool.{cases_eq, cases_lt, cases_Bool, false≢true, true≢false}
+use Rattle.std.proofs.lemmas.Bool.{cases_eq, cases_Bool, false≢true, true≢false}
 use Rattle.std.proofs.lemmas.Int.{ints, by_lt_z}
 use Rattle.tn_base.specs.Sets.{has, minus, sum_over}
 use Rattle.tn_base.proofs.SetLemmas.{has-minus}
 
+-- each member of a is one of b
 abbrev pub Within : ℕ → ℕ → Type 0
 Within a b = (k : ℕ) → has a k ≡ true → has b k ≡ true
 
+-- no member of a is one of b
 abbrev pub Apart : ℕ → ℕ → Type 0
 Apart a b = (k : ℕ) → has a k ≡ true → has b k ≡ true → ⊥
 
@@ -18,6 +20,7 @@ Apart a b = (k : ℕ) → has a k ≡ true → has b k ≡ true → ⊥
 abbrev pub Nest : ℕ → ℕ → Type 0
 Nest a b = Apart a b ⊎ (Within a b ⊎ Within b a)
 
+-- a is one of the list
 abbrev pub In : ℕ → List ℕ → Type 0
 In a [] = ⊥
 In a (b ∷ bs) = (a ≡ b) ⊎ In a bs
@@ -26,9 +29,11 @@ In a (b ∷ bs) = (a ≡ b) ⊎ In a bs
 abbrev IsTaken : (ℕ → ℤ) → ℕ → ℕ → ℕ → Type 0
 IsTaken d m i q = (has q i ≡ false) × (pos 0 ≤ℤ sum_over d m q)
 
+-- one number is below the other or not
 pub cases_ltℤ : (a b : ℤ) → (a <ℤ b) ⊎ (b ≤ℤ a)
 cases_ltℤ a b = by_lt_z a b inl inr
 
+-- a set is taken or not
 taken_or_not : (d : ℕ → ℤ) (m i q : ℕ) → IsTaken d m i q ⊎ (IsTaken d m i q → ⊥)
 taken_or_not d m i q = elim (cases_Bool (has q i)) [
   | inl e ↦ inr (λ taken. true≢false (sym e ∙ taken.0))
@@ -113,6 +118,7 @@ cleared-inside d m i sets w v within rest = record {
   apart = rest.apart;
 }
 
+-- a member of what is left is one of w and none of p
 has_minus_parts : (w p k : ℕ) → has (minus w p) k ≡ true → (has w k ≡ true) × (has p k ≡ false)
 has_minus_parts w p k e = by (has w k) (has p k) (sym (has-minus w p k) ∙ e)
   where
@@ -121,6 +127,7 @@ has_minus_parts w p k e = by (has w k) (has p k) (sym (has-minus w p k) ∙ e)
     by true false h = (refl, refl)
     by false c h = absurd (false≢true h)
 
+-- and the other way round
 has_minus_from : (w p k : ℕ) → has w k ≡ true → has p k ≡ false → has (minus w p) k ≡ true
 has_minus_from w p k member absent = has-minus w p k ∙ rw (member, absent) refl
 
@@ -176,6 +183,7 @@ record Framed (d : ℕ → ℤ) (m i : ℕ) (all sets : List ℕ) (u : ℕ) : Ty
   least : (q : ℕ) → In q sets → has q i ≡ true → sum_over d m q ≤ℤ pos 0 → Within set q
   nested : (q : ℕ) → In q all → Nest q set
 
+-- one set more, which holds the framed set if its sum is at most 0
 framed-more : (d : ℕ → ℤ) (m i : ℕ) (all : List ℕ) (p : ℕ) (sets : List ℕ) (u v : ℕ) → Within v u → (rest : Framed d m i all sets v)
     → (has p i ≡ true → sum_over d m p ≤ℤ pos 0 → Within rest.set p) → Framed d m i all (p ∷ sets) u
 framed-more d m i all p sets u v within rest here = record {

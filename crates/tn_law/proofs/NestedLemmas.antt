@@ -1,20 +1,21 @@
 -- Sums of concave functions of net counts over nested sets meet exchange.
-use Rattle.std.proofs.Common.{◌≡◌, ◌≢◌, ℕ, zero, suc, ◌+◌, ◌-◌, ◌^◌, ◌<◌, ◌≤◌, nat_lt, Bool, true, false, not, ◌&&◌, refl, sym, ap, ◌∙◌, subst, arith, ◌⊎◌, inl, inr, if◌then◌else◌, cond, ℤ, pos, ◌+ℤ◌, ◌-ℤ◌, List, [], ◌∷◌}
+use Rattle.std.proofs.Common.{◌≡◌, ℕ, zero, suc, ◌^◌, ◌<◌, ◌≤◌, nat_lt, Bool, true, false, refl, sym, ap, ◌∙◌, subst, arith, inl, inr, if◌then◌else◌, cond, ℤ, pos, ◌+ℤ◌, List, [], ◌∷◌}
 use Rattle.std.specs.Prelude.{◌≤ℤ◌, ◌<ℤ◌, Option, Some, None, slice_get}
-use Rattle.std.proofs.lemmas.Bool.{cases_eq, cases_lt, cases_order, cases_Bool, lt-ltb, ltb-true, true≢false, false≢true, and_from}
-use Rattle.std.proofs.lemmas.Option.{same_Some, none-some, cond_some}
+use Rattle.std.proofs.lemmas.Bool.{cases_eq, cases_order, cases_Bool, lt-ltb, ltb-true, true≢false, and_from}
+use Rattle.std.proofs.lemmas.Option.{same_Some, none-some}
 use Rattle.std.proofs.lemmas.Int.{ints}
 use Rattle.tn_base.specs.Sets.{has, meet, minus, set_of, sum_over}
-use Rattle.tn_base.specs.Firm.{Firm, net, HasOwnBundles}
+use Rattle.tn_base.specs.Firm.{net, HasOwnBundles}
 use Rattle.tn_base.specs.Exchange.{MeetsExchange}
 use Rattle.tn_base.proofs.SetLemmas.{has-meet, has-zero, has_from_minus-zero, has_below, has-set_of}
-use Rattle.tn_law.specs.Places.{level, move, sum_to, SwapsAt, ExchangesOverPlaces}
+use Rattle.tn_law.specs.Places.{level, move, sum_to, ExchangesOverPlaces}
 use Rattle.tn_law.specs.Nested.{CountTerm, both, count_sum, nested_sum, AreEnoughAt, IsConcave, Cross, AreNested}
-use Rattle.tn_law.proofs.PlaceLemmas.{places, up_moves, up_apart_down}
+use Rattle.tn_law.proofs.PlaceLemmas.{places}
+use Rattle.tn_law.proofs.DistanceLemmas.{up_moves, up_apart_down}
 use Rattle.tn_law.proofs.ExchangeLemmas.{exchange_from_places}
 use Rattle.tn_law.proofs.KeepLemmas.{sum_over-move}
 use Rattle.tn_law.proofs.AdditiveLemmas.{move-within}
-use Rattle.tn_law.proofs.NestedFamilies.{Within, Apart, Nest, In, Partner, partner}
+use Rattle.tn_law.proofs.NestedFamilies.{Nest, In, Partner, partner}
 use Rattle.tn_law.proofs.NestedCounts.{member_count, sum_over-difference, excess, excess-net, net-move}
 
 -- the sets of a list of terms
@@ -22,11 +23,13 @@ abbrev sets_of : List CountTerm → List ℕ
 sets_of [] = []
 sets_of (term ∷ terms) = term.members ∷ sets_of terms
 
+-- each term's set is one of them
 in_sets : (terms : List CountTerm) (i : ℕ) (term : CountTerm) → slice_get terms i ≡ Some term → In term.members (sets_of terms)
 in_sets [] i term is = absurd (none-some term is)
 in_sets (first ∷ terms) zero term is = inl (ap (λ (t : CountTerm). t.members) (sym (same_Some first term is)))
 in_sets (first ∷ terms) (suc i) term is = inr (in_sets terms i term is)
 
+-- and each of them is a term's set
 from_sets : (terms : List CountTerm) (q : ℕ) → In q (sets_of terms) → (i : ℕ) × (term : CountTerm) × (slice_get terms i ≡ Some term) × (q ≡ term.members)
 from_sets [] q q_in = absurd q_in
 from_sets (first ∷ terms) q q_in = elim q_in [
@@ -47,6 +50,7 @@ nest_from s t uncrossed = elim (cases_eq (meet s t) 0) [
   ]
 ]
 
+-- in either order
 nest_turned : (s t : ℕ) → Nest s t → Nest t s
 nest_turned s t nest = elim nest [
   | inl apart ↦ inl (λ k h g. apart k g h)
@@ -76,6 +80,7 @@ both-some None p w e = absurd (none-some w e)
 both-some (Some a) None w e = absurd (none-some w e)
 both-some (Some a) (Some b) w e = (a, b, refl, refl, same_Some (a +ℤ b) w e)
 
+-- two numbers that are there sum up
 both_from : (o p : Option ℤ) (a b : ℤ) → o ≡ Some a → p ≡ Some b → both o p ≡ Some (a +ℤ b)
 both_from o p a b o_is p_is = rw (o_is, p_is) refl
 
@@ -161,10 +166,11 @@ sums_enough buys (term ∷ terms) x y x' y' each u v x_is y_is =
           omega (arith, ints, p, q, a, b);
     }
 
--- all places sum to nothing
+-- the set of all places
 all_places : ℕ → ℕ
 all_places n = set_of (λ k. true) (suc n)
 
+-- each place is one
 has-all_places : (n k : ℕ) → k ≤ n → has (all_places n) k ≡ true
 unfolding all_places
 has-all_places n k within = has-set_of (λ i. true) (suc n) k ∙ and_from (nat_lt k (suc n)) true (lt-ltb k (suc n) (omega (arith, within))) refl
@@ -216,9 +222,9 @@ term_enough count buys terms are x y i x_below y_below i_within i_up pair down k
     let own = are.own k term term_is in
     let q_in = in_sets terms k term term_is in
     let at_within : pair.at ≤ count = (let p = pair.is_place in omega (arith, p)) in
-    let apart = up_apart_down count buys x y i pair.at i_up down in
-    let up = up_moves count buys x y i i_up in
-    let low = up_moves count buys y x pair.at down in
+    let apart = up_apart_down (level count buys x) (level count buys y) i pair.at i_up down in
+    let up = up_moves count (level count buys) (move count) (places count buys) x y i i_up in
+    let low = up_moves count (level count buys) (move count) (places count buys) y x pair.at down in
     let difference = excess-net count buys x y term.members x_below y_below own in
     enough_closer term.number_at (are.concave k term term_is)
     (net buys (meet x term.members)) (net buys (meet y term.members))
@@ -243,6 +249,7 @@ nested_within count buys amounts terms x a x_is = elim (cases_Bool (nat_lt x (2 
       (parts.1, ltb-true x (2 ^ count) e, parts.3, omega (arith, ints, amount, total))
 ]
 
+-- and where the numbers are there, the bundle is possible
 nested_worth : (count buys : ℕ) (amounts : ℕ → ℤ) (terms : List CountTerm) (x : ℕ) (u : ℤ) → x < 2 ^ count → count_sum buys terms x ≡ Some u
     → (nested_sum count buys amounts terms).worth x ≡ Some (sum_over amounts count x +ℤ u)
 nested_worth count buys amounts terms x u below u_is =

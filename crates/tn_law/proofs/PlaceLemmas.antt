@@ -6,18 +6,22 @@ use Rattle.tn_base.proofs.SetLemmas.{has-toggle_same, has-toggle_other, toggle-t
 use Rattle.tn_law.specs.Places.{trade_level, null_level, level, toggle_at, move, sum_to, one_at, CanRise, CanFall, ArePlaces}
 use Rattle.tn_law.proofs.SumLemmas.{one_at-same, one_at-other, sum_to-same}
 
+-- the level at a trade
 pub level-trade : (n buys x k : ℕ) → k < n → level n buys x k ≡ trade_level buys x k
 unfolding level
 level-trade n buys x k below = ap (λ b. cond b (trade_level buys x k) (null_level n buys x)) (lt-ltb k n below)
 
+-- the level at null
 pub level-null : (n buys x : ℕ) → level n buys x n ≡ null_level n buys x
 unfolding level
 level-null n buys x = ap (λ b. cond b (trade_level buys x n) (null_level n buys x)) (le-ltb n n (omega arith))
 
+-- at a trade the trade is toggled
 pub toggle_at-trade : (n x k : ℕ) → k < n → toggle_at n x k ≡ toggle x k
 unfolding toggle_at
 toggle_at-trade n x k below = ap (λ b. cond b (toggle x k) x) (lt-ltb k n below)
 
+-- at null nothing is
 pub toggle_at-null : (n x k : ℕ) → n ≤ k → toggle_at n x k ≡ x
 unfolding toggle_at
 toggle_at-null n x k above = ap (λ b. cond b (toggle x k) x) (le-ltb k n above)
@@ -88,6 +92,7 @@ null_level-total (suc n) buys x =
     let small = trade_level-le buys x n in
     omega (arith, before, small)
 
+-- and so do the levels of the places
 level-total : (n buys x : ℕ) → sum_to (level n buys x) n + level n buys x n ≡ n
 level-total n buys x =
     let trades : sum_to (level n buys x) n ≡ sum_to (trade_level buys x) n =
@@ -96,7 +101,7 @@ level-total n buys x =
     let all = null_level-total n buys x in
     omega (arith, trades, null, all)
 
--- where a trade is raised, and nothing else is toggled, null falls
+-- where a trade is raised, its level rises by one, and no other trade's changes
 rise-trade : (n buys x i k : ℕ) → i < n → trade_level buys x i ≡ 0 → trade_level buys (toggle x i) k ≡ trade_level buys x k + one_at i k
 rise-trade n buys x i k below low = elim (cases_eq k i) [
   | inl e ↦
@@ -109,13 +114,14 @@ rise-trade n buys x i k below low = elim (cases_eq k i) [
       omega (arith, none, other)
 ]
 
+-- where a trade is raised, null falls by one
 rise-null : (n buys x i : ℕ) → i < n → trade_level buys x i ≡ 0 → null_level n buys (toggle x i) + 1 ≡ null_level n buys x
 rise-null n buys x i below low =
     let turned = trade_level-toggle_same buys x i in
     let kept = null_level-toggle n buys x i below in
     omega (arith, turned, kept, low)
 
--- where a trade is lowered, and nothing else is toggled, null rises
+-- where a trade is lowered, its level falls by one, and no other trade's changes
 fall-trade : (n buys x j k : ℕ) → j < n → trade_level buys x j ≡ 1 → trade_level buys (toggle x j) k + one_at j k ≡ trade_level buys x k
 fall-trade n buys x j k below high = elim (cases_eq k j) [
   | inl e ↦
@@ -128,30 +134,36 @@ fall-trade n buys x j k below high = elim (cases_eq k j) [
       omega (arith, none, other)
 ]
 
+-- where a trade is lowered, null rises by one
 fall-null : (n buys x j : ℕ) → j < n → trade_level buys x j ≡ 1 → null_level n buys (toggle x j) ≡ null_level n buys x + 1
 fall-null n buys x j below high =
     let turned = trade_level-toggle_same buys x j in
     let kept = null_level-toggle n buys x j below in
     omega (arith, turned, kept, high)
 
+-- a move at two trades toggles both
 pub move-both : (n x i j : ℕ) → i < n → j < n → move n x i j ≡ toggle (toggle x i) j
 unfolding move
 move-both n x i j p q = toggle_at-trade n (toggle_at n x i) j q ∙ ap (λ (y : ℕ). toggle y j) (toggle_at-trade n x i p)
 
+-- a move from a trade to null toggles the trade alone
 pub move-to_null : (n x i : ℕ) → i < n → move n x i n ≡ toggle x i
 unfolding move
 move-to_null n x i p = toggle_at-null n (toggle_at n x i) n (omega arith) ∙ toggle_at-trade n x i p
 
+-- and so does one from null to a trade
 pub move-from_null : (n x j : ℕ) → j < n → move n x n j ≡ toggle x j
 unfolding move
 move-from_null n x j q = toggle_at-trade n (toggle_at n x n) j q ∙ ap (λ (y : ℕ). toggle y j) (toggle_at-null n x n (omega arith))
 
+-- toggled twice at a place, a bundle is as before
 toggle_at-twice : (n x i : ℕ) → toggle_at n (toggle_at n x i) i ≡ x
 toggle_at-twice n x i = elim (cases_lt i n) [
   | inl p ↦ toggle_at-trade n (toggle_at n x i) i p ∙ ap (λ (y : ℕ). toggle y i) (toggle_at-trade n x i p) ∙ toggle-toggle x i
   | inr p ↦ toggle_at-null n (toggle_at n x i) i p ∙ toggle_at-null n x i p
 ]
 
+-- the order of two toggles doesn't matter
 toggle_at-order : (n x i j : ℕ) → toggle_at n (toggle_at n x i) j ≡ toggle_at n (toggle_at n x j) i
 toggle_at-order n x i j = elim (cases_lt i n) [
   | inl p ↦ elim (cases_lt j n) [
@@ -177,6 +189,7 @@ level-moved n buys x moved i j trades null k within = elim (cases_eq k n) [
       omega (arith, new, old, here)
 ]
 
+-- what a move does to the level of a place
 move-level : (n buys x i j k : ℕ) → i ≤ n → j ≤ n → i ≢ j → CanRise n (level n buys x) i → CanFall n (level n buys x) j → k ≤ n
     → level n buys (move n x i j) k + one_at j k ≡ level n buys x k + one_at i k
 move-level n buys x i j k i_within j_within different rise fall k_within = elim (cases_lt i n) [
@@ -226,16 +239,3 @@ places n buys = record {
   small = λ x k below. subst (λ (l : ℕ). l ≤ 1) (sym (level-trade n buys x k below)) (trade_level-le buys x k);
   total = λ x. level-total n buys x;
 }
-
--- a place of the up side can be raised in y and lowered in x
-pub up_moves : (n buys x y i : ℕ) → level n buys y i < level n buys x i → CanRise n (level n buys y) i × CanFall n (level n buys x) i
-up_moves n buys x y i up = (
-  λ p. let small = (places n buys).small x i p in omega (arith, small, up),
-  λ p. let small = (places n buys).small x i p in omega (arith, small, up),
-)
-
--- a place of the up side is none of the down side
-pub up_apart_down : (n buys x y i j : ℕ) → level n buys y i < level n buys x i → level n buys x j < level n buys y j → i ≢ j
-up_apart_down n buys x y i j up down = λ e.
-    let other : level n buys x i < level n buys y i = subst (λ (k : ℕ). level n buys x k < level n buys y k) (sym e) down in
-    omega (arith, up, other)

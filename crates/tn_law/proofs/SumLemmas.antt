@@ -3,10 +3,12 @@ use Rattle.std.proofs.Common.{◌≡◌, ◌≢◌, ℕ, zero, suc, ◌+◌, ◌
 use Rattle.std.proofs.lemmas.Bool.{cases_eq, eq-eqb, ne_eqb}
 use Rattle.tn_law.specs.Places.{sum_to, one_at}
 
+-- at i it is 1
 pub one_at-same : (i : ℕ) → one_at i i ≡ 1
 unfolding one_at
 one_at-same i = ap (λ b. cond b 1 0) (eq-eqb i i refl)
 
+-- elsewhere it is 0
 pub one_at-other : (i k : ℕ) → i ≢ k → one_at i k ≡ 0
 unfolding one_at
 one_at-other i k different = ap (λ b. cond b 1 0) (ne_eqb i k different)
