@@ -2,3 +2,4 @@ pub mod Keys
 pub mod Short
 pub mod DealLemmas
 pub mod VerdictLemmas
+pub mod JsonLemmas

@@ -1,5 +1,7 @@
 -- A deal as a network: two table firms and one trade.
-use Rattle.std.specs.Prelude.{◌≡◌, ℕ, ◌*◌, ◌^◌, ◌<◌, All, ℤ, pos, neg_ℤ, ◌-ℤ◌, ◌<ℤ◌, List, [], ◌∷◌, ◌++◌, Bool, true, false, not, Option, Some, None, if◌then◌else◌}
+use Rattle.std.specs.Prelude.{◌≡◌, ℕ, ◌*◌, ◌^◌, ◌<◌, All, ℤ, pos, neg_ℤ, ◌-ℤ◌, ◌<ℤ◌, List, [], ◌∷◌, ◌++◌, Bool, true, false, not, Option, Some, None, IsTrue, if◌then◌else◌}
+use Rattle.std.specs.Str.{bytes_eq}
+use Rattle.tn_answer.specs.Names.{is_name}
 use Rattle.tn_base.specs.Arcs.{IsAtMost}
 use Rattle.tn_base.specs.Firm.{Firm, utility, IsBest}
 use Rattle.tn_base.specs.Table.{table_firm}
@@ -24,6 +26,13 @@ pub record HasSmallNumbers (terms : Terms) : Type 0 where
   pub first : HasSmallRows terms.first_rows
   pub second : HasSmallRows terms.second_rows
   pub price : IsAtMost terms.price (10 ^ 14)
+
+-- names of two firms, which differ, and of a trade
+pub record AreDealNames (first second trade : List ℕ) : Type 0 where
+  pub first_named : IsTrue (is_name first)
+  pub second_named : IsTrue (is_name second)
+  pub trade_named : IsTrue (is_name trade)
+  pub apart : bytes_eq second first ≡ false
 
 -- the bundle of the trade, or the empty one
 abbrev pub bundle_number : Bool → ℕ

@@ -6,6 +6,7 @@ use Rattle.std.specs.Str.{bytes_eq}
 use mathlib.Core.Bool.{beq}
 use Rattle.serde_json.specs.Data.{Data, Items, no_items, item, Members, no_members, member}
 use Rattle.serde_json.specs.Find.{get, as_str, as_array, as_object, as_number, as_i64, as_u64}
+use Rattle.tn_answer.specs.Names.{is_name}
 use Rattle.tn_run.specs.declared.document.ObjectKind.{ObjectKind}
 use Rattle.tn_run.specs.declared.document.ObjectKind.TheVariants.{Top, Firm, Trade, Arrangement}
 use Rattle.tn_run.specs.declared.document.Rows.{Rows}
@@ -59,13 +60,6 @@ whole_of limit d = do
   n ← as_number d
   z ← as_i64 n
   holds (nat_le (unsigned_abs z) limit) z
-
--- a letter, a digit, or one of _ - .
-unfoldable pub is_name_byte : ℕ → Bool
-is_name_byte b = (nat_le 97 b && nat_le b 122) || (nat_le 65 b && nat_le b 90) || (nat_le 48 b && nat_le b 57) || (b == 95) || (b == 45) || (b == 46)
-
-unfoldable pub is_name : List ℕ → Bool
-is_name text = nat_le 1 (length text) && nat_le (length text) 32 && list_all is_name_byte text
 
 abbrev pub name_at : Data → Option (List ℕ)
 name_at d = do
@@ -160,7 +154,7 @@ unfoldable pub names_of : Data → Data → Option (List ℕ × List ℕ)
 names_of d e = do
   first ← name_at d
   second ← name_at e
-  holds (not (bytes_eq first second)) (first, second)
+  holds (not (bytes_eq second first)) (first, second)
 
 -- the number of the document's version
 unfoldable pub version_of : Data → Option ℕ

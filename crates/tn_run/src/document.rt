@@ -1,13 +1,16 @@
 //! Reads the documents that are taken so far: two table firms, one trade between them, and an arrangement.
 
-ghost use Rattle.std.specs.Prelude.{◌≡◌, ◌^◌, ℕ, map, option_map, Some, IfSome, string_bytes};
+ghost use Rattle.std.specs.Prelude.{◌≡◌, ◌^◌, ℕ, false, map, option_map, Some, IfSome, IsTrue, string_bytes};
 ghost use Rattle.std.specs.List.{list_all};
+ghost use Rattle.std.specs.Str.{bytes_eq};
+ghost use Rattle.tn_answer.specs.Names.{is_name};
 ghost use Rattle.serde_json.specs.View.{view, items_view, members_view};
-ghost use Rattle.tn_run.specs.Document.{allows, allows_all, is_object, text_at, items_at, one_of, two_of, whole_of, is_name_byte, is_name, name_at, bundle_of, row_of, rows_of, firm_of, trade_of, price_of, arrangement_of, names_of, version_of, with_row, reading_of};
+ghost use Rattle.tn_run.specs.Document.{allows, allows_all, is_object, text_at, items_at, one_of, two_of, whole_of, name_at, bundle_of, row_of, rows_of, firm_of, trade_of, price_of, arrangement_of, names_of, version_of, with_row, reading_of};
 ghost use Rattle.tn_base.specs.Arcs.{IsAtMost};
-ghost use Rattle.tn_run.specs.Deal.{HasSmallRows, HasSmallNumbers};
+ghost use Rattle.tn_run.specs.Deal.{HasSmallRows, HasSmallNumbers, AreDealNames};
 
 use serde_json::{Map, Value};
+use tn_answer::is_name;
 
 /// The largest amount of a row.
 const AMOUNT_LIMIT: u64 = 1_000_000_000;
@@ -143,33 +146,9 @@ fn whole(value: &Value, limit: u64) -> Option<i128>
     }
 }
 
-#[tactic(auto, unfolding(crate::specs::Document::is_name_byte))]
-fn is_name_byte(b: u8) -> bool
-    ensures { result ≡ is_name_byte b }
-{
-    (b >= b'a' && b <= b'z')
-        || (b >= b'A' && b <= b'Z')
-        || (b >= b'0' && b <= b'9')
-        || b == b'_'
-        || b == b'-'
-        || b == b'.'
-}
-
-fn are_name_bytes(bytes: &[u8]) -> bool
-    ensures { result ≡ list_all is_name_byte bytes.now }
-{
-    bytes.iter().all(|b| is_name_byte(*b))
-}
-
-#[tactic(auto, unfolding(crate::specs::Document::is_name))]
-fn is_name(text: &str) -> bool
-    ensures { result ≡ is_name text.now }
-{
-    text.len() >= 1 && text.len() <= 32 && are_name_bytes(text.as_bytes())
-}
-
 fn name(value: &Value) -> Option<&str>
-    ensures { option_map (λ s. s.now) result ≡ name_at (view value.now) }
+    ensures name { option_map (λ s. s.now) result ≡ name_at (view value.now) }
+    ensures named { IfSome result (λ s. IsTrue (is_name s.now)) }
 {
     let text = text(value, "name")?;
     if is_name(text) { Some(text) } else { None }
@@ -264,7 +243,8 @@ fn firm(trade: &str, value: &Value) -> Option<Rows>
 /// The trade's name, and whether the first firm sells it.
 #[tactic(auto, unfolding(crate::specs::Document::trade_of))]
 fn trade_between<'a>(first: &str, second: &str, value: &'a Value) -> Option<(&'a str, bool)>
-    ensures { option_map (λ p. (p.0.now, p.1)) result ≡ trade_of first.now second.now (view value.now) }
+    ensures trade { option_map (λ p. (p.0.now, p.1)) result ≡ trade_of first.now second.now (view value.now) }
+    ensures named { IfSome result (λ p. IsTrue (is_name p.0.now)) }
 {
     if !is_object(ObjectKind::Trade, value) {
         return None;
@@ -310,11 +290,13 @@ fn arrangement(trade: &str, value: &Value) -> Option<(bool, i128)>
 /// The names of two firms, which differ.
 #[tactic(auto, unfolding(crate::specs::Document::names_of))]
 fn names<'a>(one: &'a Value, two: &'a Value) -> Option<(&'a str, &'a str)>
-    ensures { option_map (λ p. (p.0.now, p.1.now)) result ≡ names_of (view one.now) (view two.now) }
+    ensures names { option_map (λ p. (p.0.now, p.1.now)) result ≡ names_of (view one.now) (view two.now) }
+    ensures named { IfSome result (λ p. IsTrue (is_name p.0.now) × IsTrue (is_name p.1.now)) }
+    ensures apart { IfSome result (λ p. bytes_eq p.1.now p.0.now ≡ false) }
 {
     let first = name(one)?;
     let second = name(two)?;
-    if first == second {
+    if second == first {
         return None;
     }
     Some((first, second))
@@ -333,6 +315,7 @@ fn version(value: &Value) -> Option<u64>
 pub fn read_deal(value: &Value) -> Option<Deal<'_>>
     ensures reading { option_map (λ d. record { first = d.first.now; second = d.second.now; trade = d.trade.now; terms = d.terms }) result ≡ reading_of (view value.now) }
     ensures small { IfSome result (λ d. HasSmallNumbers d.terms) }
+    ensures named { IfSome result (λ d. AreDealNames d.first.now d.second.now d.trade.now) }
 {
     if !is_object(ObjectKind::Top, value) {
         return None;

@@ -1,6 +1,10 @@
-//! The top call.
+//! The top call: the words of the program, what it reads, what it answers and what it writes.
 #![tactic(auto)]
 
-mod document;
-mod decision;
+mod answer;
 mod command;
+mod decision;
+mod document;
+mod top;
+
+pub use top::{Run, run_market};
