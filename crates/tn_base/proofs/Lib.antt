@@ -1,2 +1,6 @@
 pub mod SetLemmas
 pub mod SizeLemmas
+pub mod SumLemmas
+pub mod FirmLemmas
+pub mod TableLemmas
+pub mod LimbLemmas

@@ -1,11 +1,12 @@
 -- What every proof about sets stands on. Only this file looks at binary digits.
-use Rattle.std.proofs.Common.{◌≡◌, ◌≢◌, ℕ, zero, suc, ◌+◌, ◌-◌, ◌*◌, ◌/◌, ◌%◌, ◌^◌, ◌<◌, ◌≤◌, min, max, Bool, true, false, not, ◌&&◌, ◌||◌, eqb, nat_lt, ltb, cond, ◌==◌, bit_and, bit_or, refl, sym, ap, ◌∙◌, subst, arith, ◌⊎◌, inl, inr, if◌then◌else◌}
-use Rattle.std.specs.Prelude.{bit_xor, nat_eq}
+use Rattle.std.proofs.Common.{◌≡◌, ◌≢◌, ℕ, zero, suc, ◌+◌, ◌-◌, ◌*◌, ◌/◌, ◌%◌, ◌^◌, ◌<◌, ◌≤◌, min, Bool, true, false, not, ◌&&◌, ◌||◌, nat_lt, ◌==◌, refl, sym, ap, ◌∙◌, subst, arith, ◌⊎◌, inl, inr, if◌then◌else◌, lit<}
+use Rattle.std.specs.Prelude.{bit_xor, ◌↔◌}
+use Rattle.std.proofs.Math.Nat.{pow-suc}
 use Rattle.std.specs.Int.{bit_at}
-use Rattle.std.proofs.lemmas.Nat.Bits.{bit_at-zero, bit_at_and, bit_at_or, bit_at_xor, bit_at-pow_same, bit_at-pow_other, bit_at-lt, same_from_bits, bit_at_above}
-use Rattle.std.proofs.lemmas.Nat.{or_lt, xor_lt, and_le_l, and_le_r, pow_below}
-use Rattle.std.proofs.lemmas.Bool.{cases_eq, cases_lt, cases_Bool, eqb-true, eqb-false, eq-eqb, ne_eqb, true_from_ne_false, false_from_ne_true, lt-ltb, le-ltb, ltb-true, ltb-false, false≢true, true≢false}
-use Rattle.tn_base.specs.Sets.{has, toggle, union, meet, minus, size_below, size, set_of}
+use Rattle.std.proofs.lemmas.Nat.Bits.{bit_at-zero, bit_at_and, bit_at_or, bit_at_xor, bit_at-pow_same, bit_at-pow_other, bit_at-lt, same_from_bits, bit_at_above, bit_at_lowest, bit_at-suc, bit_at_cat_low, bit_at_cat_high}
+use Rattle.std.proofs.lemmas.Nat.{or_lt, xor_lt, and_le_l, pow_below}
+use Rattle.std.proofs.lemmas.Bool.{cases_eq, cases_lt, lt-ltb, le-ltb, false≢true, true≢false}
+use Rattle.tn_base.specs.Sets.{has, toggle, union, meet, minus, set_of}
 
 -- a binary digit is 0 or 1
 pub digit : (x k : ℕ) → (bit_at x k ≡ 0) ⊎ (bit_at x k ≡ 1)
@@ -131,3 +132,113 @@ toggle_comm x i j = elim (cases_eq i j) [
         | inr q ↦ has-toggle_other (toggle x i) j k q ∙ has-toggle_other x i k p ∙ sym (has-toggle_other x j k q) ∙ sym (has-toggle_other (toggle x j) i k p)
       ]
     ]
+
+-- adding a number far away doesn't change whether k is below the end
+lt_next : (k n : ℕ) → k ≢ n → nat_lt k (suc n) ≡ nat_lt k n
+lt_next k n different = elim (cases_lt k n) [
+  | inl h ↦ lt-ltb k (suc n) (omega (arith, h)) ∙ sym (lt-ltb k n h)
+  | inr h ↦ le-ltb k (suc n) (omega (arith, h, different)) ∙ sym (le-ltb k n h)
+]
+
+-- a set of numbers below n is below 2 ^ n
+pub set_of_within : (test : ℕ → Bool) (n : ℕ) → set_of test n < 2 ^ n
+unfolding set_of
+set_of_within test zero = lit< tt
+set_of_within test (suc n) =
+    let rest = set_of_within test n in
+    let step = pow-suc 2 n in
+    let more : set_of test n < 2 ^ suc n = omega (arith, rest, step) in
+    elim (test n) as (λ b. (if b then toggle (set_of test n) n else set_of test n) < 2 ^ suc n) [
+      | true ↦ toggle_within (set_of test n) n (suc n) more (omega arith)
+      | false ↦ more
+    ]
+
+-- the members are the numbers below n that pass the test
+pub has-set_of : (test : ℕ → Bool) (n k : ℕ) → has (set_of test n) k ≡ (nat_lt k n && test k)
+unfolding set_of
+has-set_of test zero k = has-zero k ∙ sym (ap (λ b. b && test k) (le-ltb k 0 (omega arith)))
+has-set_of test (suc n) k =
+    let absent : has (set_of test n) n ≡ false = has_above (set_of test n) n n (set_of_within test n) (omega arith) in
+    let last : has (set_of test (suc n)) n ≡ test n =
+    elim (test n) as (λ b. has (if b then toggle (set_of test n) n else set_of test n) n ≡ b) [
+      | true ↦ has-toggle_same (set_of test n) n ∙ ap not absent
+      | false ↦ absent
+    ] in
+    elim (cases_eq k n) [
+      | inl e ↦ subst (λ (j : ℕ). has (set_of test (suc n)) j ≡ (nat_lt j (suc n) && test j)) (sym e)
+          (last ∙ sym (ap (λ b. b && test n) (lt-ltb n (suc n) (omega arith))))
+      | inr d ↦
+          let kept : has (set_of test (suc n)) k ≡ has (set_of test n) k =
+          elim (test n) as (λ b. has (if b then toggle (set_of test n) n else set_of test n) k ≡ has (set_of test n) k) [
+            | true ↦ has-toggle_other (set_of test n) n k d
+            | false ↦ refl
+          ] in
+          kept ∙ has-set_of test n k ∙ ap (λ b. b && test k) (sym (lt_next k n d))
+    ]
+
+-- a set with no member from n on is below 2 ^ n
+pub within_from : (x n : ℕ) → ((k : ℕ) → n ≤ k → has x k ≡ false) → x < 2 ^ n
+within_from x n none =
+    let same : x ≡ set_of (has x) n = same_set x (set_of (has x) n) (λ k. at_place k ∙ sym (has-set_of (has x) n k)) in
+    let h = set_of_within (has x) n in
+    omega (arith, same, h)
+  where
+    at_place : (k : ℕ) → has x k ≡ (nat_lt k n && has x k)
+    at_place k = elim (cases_lt k n) [
+      | inl h ↦ sym (ap (λ b. b && has x k) (lt-ltb k n h))
+      | inr h ↦ none k h ∙ sym (ap (λ b. b && has x k) (le-ltb k n h))
+    ]
+
+-- where all of x is allowed, nothing is left without what is allowed
+pub minus-zero_from : (x allowed : ℕ) → ((k : ℕ) → has x k ≡ true → has allowed k ≡ true) → minus x allowed ≡ 0
+minus-zero_from x allowed inside = same_set _ _ (λ k. has-minus x allowed k ∙ gone (has x k) (has allowed k) (inside k) ∙ sym (has-zero k))
+  where
+    gone : (a b : Bool) → (a ≡ true → b ≡ true) → (a && not b) ≡ false
+    gone true b h = ap not (h refl)
+    gone false b h = refl
+
+-- where nothing is left without what is allowed, all of x is allowed
+pub has_from_minus-zero : (x allowed k : ℕ) → minus x allowed ≡ 0 → has x k ≡ true → has allowed k ≡ true
+has_from_minus-zero x allowed k e h =
+    kept (has x k) (has allowed k) (sym (has-minus x allowed k) ∙ ap (λ (y : ℕ). has y k) e ∙ has-zero k) h
+  where
+    kept : (a b : Bool) → (a && not b) ≡ false → a ≡ true → b ≡ true
+    kept true true p q = refl
+    kept true false p q = elim (true≢false p) [ ]
+    kept false b p q = elim (false≢true q) [ ]
+
+-- nothing is left without what is allowed exactly where all of x is allowed
+pub minus-zero : (x allowed : ℕ) → (minus x allowed ≡ 0) ↔ ((k : ℕ) → has x k ≡ true → has allowed k ≡ true)
+minus-zero x allowed = ((λ e k. has_from_minus-zero x allowed k e), minus-zero_from x allowed)
+
+-- the lowest digit of an even number
+pub has-double_lowest : (x : ℕ) → has (2 * x) 0 ≡ false
+has-double_lowest x = has_from_zero (2 * x) 0 (bit_at_lowest (2 * x) ∙ omega arith)
+
+-- the lowest digit of an odd number
+pub has-double_one_lowest : (x : ℕ) → has (1 + 2 * x) 0 ≡ true
+has-double_one_lowest x = has_from_one (1 + 2 * x) 0 (bit_at_lowest (1 + 2 * x) ∙ omega arith)
+
+-- the higher digits of an even number
+pub has-double : (x k : ℕ) → has (2 * x) (suc k) ≡ has x k
+unfolding has
+has-double x k = let half : 2 * x / 2 ≡ x = omega arith in ap (λ (d : ℕ). d == 1) (bit_at-suc (2 * x) k ∙ ap (λ (y : ℕ). bit_at y k) half)
+
+-- the higher digits of an odd number
+pub has-double_one : (x k : ℕ) → has (1 + 2 * x) (suc k) ≡ has x k
+unfolding has
+has-double_one x k =
+    let half : (1 + 2 * x) / 2 ≡ x = omega arith in
+    ap (λ (d : ℕ). d == 1) (bit_at-suc (1 + 2 * x) k ∙ ap (λ (y : ℕ). bit_at y k) half)
+
+-- the lowest n digits of two numbers one after the other
+pub has-low : (high n low k : ℕ) → k < n → has (high * 2 ^ n + low) k ≡ has low k
+unfolding has
+has-low high n low k below = ap (λ (d : ℕ). d == 1) (bit_at_cat_low high n low k below)
+
+-- the digits above them
+pub has-high : (high n low k : ℕ) → low < 2 ^ n → has (high * 2 ^ n + low) (n + k) ≡ has high k
+unfolding has
+has-high high n low k below =
+    let e : n + k - n ≡ k = omega arith in
+    ap (λ (d : ℕ). d == 1) (bit_at_cat_high high n low (n + k) below (omega arith) ∙ ap (λ (i : ℕ). bit_at high i) e)

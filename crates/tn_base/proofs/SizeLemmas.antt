@@ -1,13 +1,13 @@
 -- How many members a set has.
-use Rattle.std.proofs.Common.{◌≡◌, ◌≢◌, ℕ, zero, suc, ◌+◌, ◌-◌, ◌*◌, ◌/◌, ◌%◌, ◌^◌, ◌<◌, ◌≤◌, Bool, true, false, not, ◌&&◌, eqb, ◌==◌, cond, refl, sym, ap, ◌∙◌, subst, arith, ◌⊎◌, inl, inr, if◌then◌else◌, lit<}
+use Rattle.std.proofs.Common.{◌≡◌, ℕ, zero, suc, ◌+◌, ◌-◌, ◌*◌, ◌/◌, ◌%◌, ◌^◌, ◌<◌, ◌≤◌, Bool, true, false, not, ◌==◌, cond, refl, sym, ap, ◌∙◌, subst, arith, inl, inr, if◌then◌else◌, lit<}
 use Rattle.std.specs.Int.{bit_at}
 use Rattle.std.specs.Int.Count.{ones}
 use Rattle.std.proofs.lemmas.Nat.{ones_cat, ones-le, div-add-mod', pow_pos}
-use Rattle.std.proofs.lemmas.Nat.Bits.{bit_at_cat_low, bit_at_cat_high, bit_at-lt}
+use Rattle.std.proofs.lemmas.Nat.Bits.{bit_at_cat_low}
 use Rattle.std.proofs.Math.Nat.{mod-lt, div-lt_iff_lt-mul, mod-eq_of_lt, pow-suc}
-use Rattle.std.proofs.lemmas.Bool.{cases_eq, cases_lt, ltb-true, lt-ltb}
-use Rattle.tn_base.specs.Sets.{has, toggle, union, meet, minus, size_below, size, set_of}
-use Rattle.tn_base.proofs.SetLemmas.{has_above, digit, has_from_one, has_from_zero, has-toggle_same, has-toggle_other}
+use Rattle.std.proofs.lemmas.Bool.{cases_eq, cases_lt}
+use Rattle.tn_base.specs.Sets.{has, toggle, size_below, size}
+use Rattle.tn_base.proofs.SetLemmas.{has_above, digit, has_from_one, has_from_zero, has-toggle_same, has-toggle_other, toggle-toggle, toggle_within}
 
 -- sets with the same members below n have as many there
 pub size_below-same : (x y n : ℕ) → ((k : ℕ) → k < n → has x k ≡ has y k) → size_below n x ≡ size_below n y
@@ -66,7 +66,8 @@ ones_is (suc n) x below =
     let rest : ones (x % 2 ^ n) ≡ size_below n x = ones_is n (x % 2 ^ n) low ∙ lower in
     parts ∙ omega (arith, top, rest)
 
-lt_two_pow : (m : ℕ) → m < 2 ^ m
+-- a set is below 2 to the power of its own number
+pub lt_two_pow : (m : ℕ) → m < 2 ^ m
 lt_two_pow zero = lit< tt
 lt_two_pow (suc m) = let h = lt_two_pow m in let e = pow-suc 2 m in omega (arith, h, e)
 
@@ -80,3 +81,57 @@ size_at n x below = elim (cases_lt n x) [
 
 pub size_le : (n x : ℕ) → x < 2 ^ n → size x ≤ n
 size_le n x below = let e : ones x ≡ size x = ones_is n x below ∙ sym (size_at n x below) in let h = ones-le n x below in omega (arith, e, h)
+
+-- what is toggled at n or above doesn't count
+pub size_below-toggle_above : (n x i : ℕ) → n ≤ i → size_below n (toggle x i) ≡ size_below n x
+size_below-toggle_above n x i above = size_below-same (toggle x i) x n (λ k h. has-toggle_other x i k (omega (arith, h, above)))
+
+-- one, if it counts
+abbrev one_if : Bool → ℕ
+one_if b = if b then 1 else 0
+
+-- one more member after one is moved in
+pub size_below-toggle_in : (n x i : ℕ) → i < n → has x i ≡ false → size_below n (toggle x i) ≡ size_below n x + 1
+unfolding size_below
+size_below-toggle_in zero x i below absent = absurd (omega (arith, below))
+size_below-toggle_in (suc n) x i below absent =
+    elim (cases_eq i n) [
+      | inl e ↦
+          let rest : size_below n (toggle x i) ≡ size_below n x = size_below-toggle_above n x i (omega (arith, e)) in
+          let new : one_if (has (toggle x i) n) ≡ 1 =
+          subst (λ (k : ℕ). one_if (has (toggle x i) k) ≡ 1) e (ap one_if (has-toggle_same x i ∙ ap not absent)) in
+          let old : one_if (has x n) ≡ 0 = subst (λ (k : ℕ). one_if (has x k) ≡ 0) e (ap one_if absent) in
+          omega (arith, rest, new, old)
+      | inr d ↦
+          let rest : size_below n (toggle x i) ≡ size_below n x + 1 = size_below-toggle_in n x i (omega (arith, below, d)) absent in
+          let here : one_if (has (toggle x i) n) ≡ one_if (has x n) = ap one_if (has-toggle_other x i n (λ e. d (sym e))) in
+          omega (arith, rest, here)
+    ]
+
+-- one member less after one is moved out
+pub size_below-toggle_out : (n x i : ℕ) → i < n → has x i ≡ true → size_below n x ≡ size_below n (toggle x i) + 1
+size_below-toggle_out n x i below present =
+    ap (size_below n) (sym (toggle-toggle x i)) ∙ size_below-toggle_in n (toggle x i) i below (has-toggle_same x i ∙ ap not present)
+
+-- a set and a number have a bound that serves both
+within_both : (x i : ℕ) → x < 2 ^ (x + suc i)
+within_both x i =
+    let h = lt_two_pow (x + suc i) in omega (arith, h)
+
+-- one more member after one is moved in
+pub size-toggle_in : (x i : ℕ) → has x i ≡ false → size (toggle x i) ≡ size x + 1
+size-toggle_in x i absent =
+    let below : x < 2 ^ (x + suc i) = within_both x i in
+    let inside : i < x + suc i = omega arith in
+    let step = size_below-toggle_in (x + suc i) x i inside absent in
+    size_at (x + suc i) (toggle x i) (toggle_within x i (x + suc i) below inside) ∙ step ∙
+    ap (λ (m : ℕ). m + 1) (sym (size_at (x + suc i) x below))
+
+-- one member less after one is moved out
+pub size-toggle_out : (x i : ℕ) → has x i ≡ true → size x ≡ size (toggle x i) + 1
+size-toggle_out x i present = ap size (sym (toggle-toggle x i)) ∙ size-toggle_in (toggle x i) i (has-toggle_same x i ∙ ap not present)
+
+-- the empty set has no member
+pub size-zero : size 0 ≡ 0
+unfolding size size_below
+size-zero = refl

@@ -1,5 +1,5 @@
 -- A graph by the costs of its arcs.
-use Rattle.std.specs.Prelude.{◌≡◌, ℕ, ◌^◌, ◌<◌, ℤ, pos, neg_ℤ, ◌≤ℤ◌, Option, Some}
+use Rattle.std.specs.Prelude.{◌≡◌, ℕ, ◌<◌, ℤ, pos, neg_ℤ, ◌≤ℤ◌, Option, Some}
 
 -- a number is at most this far from 0
 pub record IsAtMost (z : ℤ) (limit : ℕ) : Type 0 where

@@ -6,3 +6,4 @@ pub mod Faults
 pub mod Arcs
 pub mod Ticks
 pub mod SetLaws
+pub mod Limbs

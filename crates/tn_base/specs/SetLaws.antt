@@ -1,5 +1,5 @@
 -- That the operations on numbers are those of sets.
-use Rattle.std.specs.Prelude.{◌≡◌, ◌≢◌, ℕ, ◌^◌, ◌<◌, Bool, false, not, ◌&&◌, ◌||◌}
+use Rattle.std.specs.Prelude.{◌≡◌, ◌≢◌, ℕ, ◌^◌, ◌<◌, false, not, ◌&&◌, ◌||◌}
 use Rattle.tn_base.specs.Sets.{has, toggle, union, meet, minus, size, size_below}
 
 pub record AreSets : Type 0 where

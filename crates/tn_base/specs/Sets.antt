@@ -1,6 +1,6 @@
 -- Sets of small numbers. A set is one number whose binary digits are its members, so a set is at the same
 -- time its own number in the order of bundles, and no definition knows how wide a machine word is.
-use Rattle.std.specs.Prelude.{◌≡◌, ℕ, zero, suc, ◌+◌, ◌^◌, Bool, ◌==◌, bit_and, bit_or, bit_xor, if◌then◌else◌}
+use Rattle.std.specs.Prelude.{ℕ, zero, suc, ◌+◌, ◌^◌, Bool, ◌==◌, bit_and, bit_or, bit_xor, if◌then◌else◌}
 use Rattle.std.specs.Int.{bit_at}
 use Rattle.std.specs.Prelude.{ℤ, pos, ◌+ℤ◌}
 

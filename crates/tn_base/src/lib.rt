@@ -10,6 +10,7 @@ mod memory;
 mod number;
 mod side;
 mod steps;
+mod trade_set;
 
 pub use bundle::Bundle;
 pub use costs::Costs;
@@ -19,3 +20,4 @@ pub use memory::OutOfMemory;
 pub use number::scaled;
 pub use side::Side;
 pub use steps::{Asked, Steps};
+pub use trade_set::TradeSet;

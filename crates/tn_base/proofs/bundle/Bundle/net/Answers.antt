@@ -1,6 +1,6 @@
-use Rattle.std.proofs.Common.{◌≡◌, ℕ, sym, ap, ◌∙◌, arith, pos, ◌-ℤ◌}
+use Rattle.std.proofs.Common.{ap, ◌∙◌, arith}
 use Rattle.std.proofs.lemmas.Int.{ints}
-use Rattle.tn_base.specs.Sets.{size, meet, minus}
+use Rattle.tn_base.specs.Sets.{size}
 use Rattle.tn_base.specs.Firm.{net}
 use Rattle.tn_base.proofs.bundle.Bundle.net.Goals as goal
 

@@ -1,0 +1,5 @@
+use Rattle.tn_base.proofs.LimbLemmas.{joined-zeros}
+use Rattle.tn_base.proofs.trade_set.TradeSet.empty.Goals as goal
+
+pub returns : goal.returns
+returns g c = joined-zeros g.row.W

@@ -1,0 +1,106 @@
+ghost use Rattle.std.specs.Prelude.{◌≡◌, ℕ, ◌*◌, ◌^◌, ◌<◌, ◌≤◌};
+ghost use Rattle.tn_base.specs.Sets.{has, toggle, union, meet, minus, size};
+
+use std::marker::Model;
+
+/// A set of trade numbers below `64 * W`. Contracts see the number whose binary digits are its members.
+#[derive(Clone, Copy, Debug, PartialEq, Eq)]
+pub struct TradeSet<const W: usize> {
+    limbs: [u64; W],
+}
+
+impl<const W: usize> Model for TradeSet<W> {
+    ghost use Rattle.std.specs.Prelude.{ℕ};
+    ghost use Rattle.tn_base.specs.Limbs.{AreLimbs, joined, limbs_of, limbs_of-joined};
+
+    ghost Value = { ℕ };
+
+    ghost view = { λ set. joined set.limbs };
+
+    ghost invariant = { λ set. AreLimbs W set.limbs };
+
+    ghost inverse = { λ x. record { limbs = limbs_of W x } };
+
+    ghost inverse_ok = { λ set fine i. record { limbs = limbs_of-joined W set.limbs fine.counted fine.words i } };
+}
+
+impl<const W: usize> TradeSet<W> {
+    /// The set of no trade.
+    pub fn empty() -> TradeSet<W>
+        requires { W ≤ 16 }
+        ensures { result ≡ 0 }
+    {
+        TradeSet { limbs: [0; W] }
+    }
+
+    /// Whether trade `t` is a member.
+    pub fn has(&self, t: u32) -> bool
+        requires width { W ≤ 16 }
+        requires inside { t < 64 * W }
+        ensures { result ≡ has self.now t }
+    {
+        (self.limbs[(t / 64) as usize] >> (t % 64)) & 1 == 1
+    }
+
+    /// Moves trade `t` in or out.
+    pub fn toggle(&mut self, t: u32)
+        requires width { W ≤ 16 }
+        requires inside { t < 64 * W }
+        ensures toggled { self.new ≡ toggle self.old t }
+        ensures within { self.new < 2 ^ (64 * W) }
+    {
+        self.limbs[(t / 64) as usize] ^= 1 << (t % 64);
+    }
+
+    /// How many trades are members.
+    pub fn count(&self) -> u32
+        requires { W ≤ 16 }
+        ensures members { result ≡ size self.now }
+        ensures few { result ≤ 64 * W }
+    {
+        let mut count = 0;
+        for limb in &self.limbs {
+            count += limb.count_ones();
+        }
+        count
+    }
+
+    /// The trades in either set.
+    pub fn union(&self, other: &TradeSet<W>) -> TradeSet<W>
+        requires { W ≤ 16 }
+        ensures members { result ≡ union self.now other.now }
+        ensures within { result < 2 ^ (64 * W) }
+    {
+        let mut limbs = self.limbs;
+        for (k, limb) in limbs.iter_mut().enumerate() {
+            *limb |= other.limbs[k];
+        }
+        TradeSet { limbs }
+    }
+
+    /// The trades in both sets.
+    pub fn meet(&self, other: &TradeSet<W>) -> TradeSet<W>
+        requires { W ≤ 16 }
+        ensures members { result ≡ meet self.now other.now }
+        ensures within { result < 2 ^ (64 * W) }
+    {
+        let mut limbs = self.limbs;
+        for (k, limb) in limbs.iter_mut().enumerate() {
+            *limb &= other.limbs[k];
+        }
+        TradeSet { limbs }
+    }
+
+    /// The trades that aren't in the other set.
+    pub fn minus(&self, other: &TradeSet<W>) -> TradeSet<W>
+        requires { W ≤ 16 }
+        ensures members { result ≡ minus self.now other.now }
+        ensures within { result < 2 ^ (64 * W) }
+    {
+        let mut limbs = self.limbs;
+        for (k, limb) in limbs.iter_mut().enumerate() {
+            *limb &= *limb ^ other.limbs[k];
+        }
+        TradeSet { limbs }
+    }
+}
