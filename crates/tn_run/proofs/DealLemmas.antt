@@ -27,7 +27,7 @@ some_inj a b e = (cc)
 
 -- the utility of a possible bundle
 pub utility_is : (side : Side) (rows : Rows) (on : Bool) (price worth : ℤ) → (firm_with side rows).worth (bundle_number on) ≡ Some worth
-  → utility_with (firm_with side rows) price (bundle_number on) ≡ Some (worth +ℤ payment side on price)
+    → utility_with (firm_with side rows) price (bundle_number on) ≡ Some (worth +ℤ payment side on price)
 utility_is side rows on price worth e =
     ap (option_map (λ a. pos 1 *ℤ a +ℤ sum_over (payments (firm_with side rows).buys (λ k. price)) (firm_with side rows).count (bundle_number on))) e
     ∙ ap Some (let s = sum_is side rows on price in let m = one_times worth in omega (arith, ints, s, m))
@@ -72,17 +72,19 @@ no_utility side rows price y b none e = some_is_not_none (worth_from side rows p
 
 -- the better of the two bundles is best
 pub best_of_two : (side : Side) (rows : Rows) (price : ℤ) (on : Bool) (value : ℤ)
-  → utility_with (firm_with side rows) price (bundle_number on) ≡ Some value
-  → ((other : ℤ) → utility_with (firm_with side rows) price (bundle_number (not on)) ≡ Some other → other ≤ℤ value)
-  → IsBest (utility_with (firm_with side rows) price) (bundle_number on) value
+    → utility_with (firm_with side rows) price (bundle_number on) ≡ Some value
+    → ((other : ℤ) → utility_with (firm_with side rows) price (bundle_number (not on)) ≡ Some other → other ≤ℤ value)
+    → IsBest (utility_with (firm_with side rows) price) (bundle_number on) value
 best_of_two side rows price on value is beats = record { is = is; most = λ y b e. at_bundle on is beats y b e (two_bundles rows y (worth_from side rows price y b e).0 (worth_from side rows price y b e).1) }
   where
     o : ℕ → Option ℤ
     o = utility_with (firm_with side rows) price
+
     same : (x : ℕ) (a b : ℤ) → o x ≡ Some a → o x ≡ Some b → b ≤ℤ a
     same x a b p q = let e : a ≡ b = some_inj a b (sym p ∙ q) in subst (λ (z : ℤ). z ≤ℤ a) e (≤ℤ-refl a)
+
     at_bundle : (on : Bool) → o (bundle_number on) ≡ Some value → ((other : ℤ) → o (bundle_number (not on)) ≡ Some other → other ≤ℤ value)
-      → (y : ℕ) (b : ℤ) → o y ≡ Some b → (y ≡ 0) ⊎ (y ≡ 1) → b ≤ℤ value
+        → (y : ℕ) (b : ℤ) → o y ≡ Some b → (y ≡ 0) ⊎ (y ≡ 1) → b ≤ℤ value
     at_bundle true p beats y b e (inl z) = beats b (ap o (sym z) ∙ e)
     at_bundle true p beats y b e (inr z) = same 1 value b p (ap o (sym z) ∙ e)
     at_bundle false p beats y b e (inl z) = same 0 value b p (ap o (sym z) ∙ e)
@@ -90,29 +92,29 @@ best_of_two side rows price on value is beats = record { is = is; most = λ y b 
 
 -- the one possible bundle is best
 pub best_alone : (side : Side) (rows : Rows) (price : ℤ) (on : Bool) (worth value : ℤ)
-  → (firm_with side rows).worth (bundle_number on) ≡ Some worth
-  → utility_with (firm_with side rows) price (bundle_number on) ≡ Some value
-  → (firm_with side rows).worth (bundle_number (not on)) ≡ None
-  → Fares (firm_with side rows) price on (Best worth)
+    → (firm_with side rows).worth (bundle_number on) ≡ Some worth
+    → utility_with (firm_with side rows) price (bundle_number on) ≡ Some value
+    → (firm_with side rows).worth (bundle_number (not on)) ≡ None
+    → Fares (firm_with side rows) price on (Best worth)
 best_alone side rows price on worth value worth_is value_is none =
     (worth_is, (value, best_of_two side rows price on value value_is (λ other e. absurd (no_utility side rows price (bundle_number (not on)) other none e))))
 
 -- a bundle with no less than the other is best
 pub best_of_both : (side : Side) (rows : Rows) (price : ℤ) (on : Bool) (worth value other : ℤ)
-  → (firm_with side rows).worth (bundle_number on) ≡ Some worth
-  → utility_with (firm_with side rows) price (bundle_number on) ≡ Some value
-  → utility_with (firm_with side rows) price (bundle_number (not on)) ≡ Some other
-  → other ≤ℤ value
-  → Fares (firm_with side rows) price on (Best worth)
+    → (firm_with side rows).worth (bundle_number on) ≡ Some worth
+    → utility_with (firm_with side rows) price (bundle_number on) ≡ Some value
+    → utility_with (firm_with side rows) price (bundle_number (not on)) ≡ Some other
+    → other ≤ℤ value
+    → Fares (firm_with side rows) price on (Best worth)
 best_of_both side rows price on worth value other worth_is value_is other_is le =
     (worth_is, (value, best_of_two side rows price on value value_is (λ b e. subst (λ (z : ℤ). z ≤ℤ value) (some_inj other b (sym other_is ∙ e)) le)))
 
 -- a bundle with more than the own one is best
 pub worse_than_other : (side : Side) (rows : Rows) (price : ℤ) (on : Bool) (own other gain : ℤ)
-  → utility_with (firm_with side rows) price (bundle_number on) ≡ Some own
-  → utility_with (firm_with side rows) price (bundle_number (not on)) ≡ Some other
-  → gain ≡ other -ℤ own → own <ℤ other
-  → Fares (firm_with side rows) price on (Worse gain)
+    → utility_with (firm_with side rows) price (bundle_number on) ≡ Some own
+    → utility_with (firm_with side rows) price (bundle_number (not on)) ≡ Some other
+    → gain ≡ other -ℤ own → own <ℤ other
+    → Fares (firm_with side rows) price on (Worse gain)
 worse_than_other side rows price on own other gain own_is other_is gain_is less = record {
   own = own;
   own_is = own_is;

@@ -15,5 +15,6 @@ json_of-utf8 bytes h = cond-true (is_utf8 bytes) (read bytes) None (is_utf8-from
 pub json_of-none : (bytes : List ℕ) → (IsUtf8 bytes → read bytes ≡ None) → json_of bytes ≡ None
 unfolding json_of
 json_of-none bytes h = elim (cases_Bool (is_utf8 bytes)) [
-      inl e ↦ cond-true (is_utf8 bytes) (read bytes) None e ∙ h (IsUtf8-from_is_utf8 bytes e)
-    | inr e ↦ cond-false (is_utf8 bytes) (read bytes) None e ]
+  | inl e ↦ cond-true (is_utf8 bytes) (read bytes) None e ∙ h (IsUtf8-from_is_utf8 bytes e)
+  | inr e ↦ cond-false (is_utf8 bytes) (read bytes) None e
+]

@@ -77,7 +77,7 @@ first_before_second terms worth fares zero firm less e = subst (λ (f : Firm). H
 first_before_second terms worth fares (suc g) firm less e = absurd (omega (arith, less))
 
 pub impossible_first : (terms : Terms) → Fares (first_of terms) terms.price terms.on fare.Impossible
-  → IsFirstImpossible (firms_of terms) (trades_of terms) (pos 1) (bundle_number terms.on) (λ t. terms.price) 0
+    → IsFirstImpossible (firms_of terms) (trades_of terms) (pos 1) (bundle_number terms.on) (λ t. terms.price) 0
 impossible_first terms fares = record {
   before = none_before_first terms;
   firm = first_of terms;
@@ -86,7 +86,7 @@ impossible_first terms fares = record {
 }
 
 pub impossible_second : (terms : Terms) (worth : ℤ) → Fares (first_of terms) terms.price terms.on (fare.Best worth) → Fares (second_of terms) terms.price terms.on fare.Impossible
-  → IsFirstImpossible (firms_of terms) (trades_of terms) (pos 1) (bundle_number terms.on) (λ t. terms.price) 1
+    → IsFirstImpossible (firms_of terms) (trades_of terms) (pos 1) (bundle_number terms.on) (λ t. terms.price) 1
 impossible_second terms worth first fares = record {
   before = first_before_second terms worth first;
   firm = second_of terms;
@@ -95,44 +95,53 @@ impossible_second terms worth first fares = record {
 }
 
 pub better_first : (terms : Terms) (bundle : List ℕ) (gain : ℤ) → Fares (first_of terms) terms.price terms.on (fare.Worse gain)
-  → bundle ≡ (if not terms.on then 0 ∷ [] else [])
-  → Judges (firms_of terms) (trades_of terms) (pos 1) (bundle_number terms.on) (λ t. terms.price) (Better 0 bundle gain)
-better_first terms bundle gain fares bundle_is = (bundle_number (not terms.on), record {
-  before = none_before_first terms;
-  firm = first_of terms;
-  is = refl;
-  own_value = fares.own;
-  own_is = ap (utility_with (first_of terms) terms.price) (part-first terms) ∙ fares.own_is;
-  best_value = fares.best;
-  best = fares.is_best;
-  gain_is = fares.gain_is;
-  gains = fares.gains;
-}, bundle_is ∙ sym (trades_at_first terms.first_sells (not terms.on)))
+    → bundle ≡ (if not terms.on then 0 ∷ [] else [])
+    → Judges (firms_of terms) (trades_of terms) (pos 1) (bundle_number terms.on) (λ t. terms.price) (Better 0 bundle gain)
+better_first terms bundle gain fares bundle_is = (
+  bundle_number (not terms.on),
+  record {
+    before = none_before_first terms;
+    firm = first_of terms;
+    is = refl;
+    own_value = fares.own;
+    own_is = ap (utility_with (first_of terms) terms.price) (part-first terms) ∙ fares.own_is;
+    best_value = fares.best;
+    best = fares.is_best;
+    gain_is = fares.gain_is;
+    gains = fares.gains;
+  },
+  bundle_is ∙ sym (trades_at_first terms.first_sells (not terms.on)),
+)
 
 pub better_second : (terms : Terms) (worth : ℤ) (bundle : List ℕ) (gain : ℤ) → Fares (first_of terms) terms.price terms.on (fare.Best worth)
-  → Fares (second_of terms) terms.price terms.on (fare.Worse gain)
-  → bundle ≡ (if not terms.on then 0 ∷ [] else [])
-  → Judges (firms_of terms) (trades_of terms) (pos 1) (bundle_number terms.on) (λ t. terms.price) (Better 1 bundle gain)
-better_second terms worth bundle gain first fares bundle_is = (bundle_number (not terms.on), record {
-  before = first_before_second terms worth first;
-  firm = second_of terms;
-  is = refl;
-  own_value = fares.own;
-  own_is = ap (utility_with (second_of terms) terms.price) (part-second terms) ∙ fares.own_is;
-  best_value = fares.best;
-  best = fares.is_best;
-  gain_is = fares.gain_is;
-  gains = fares.gains;
-}, bundle_is ∙ sym (trades_at_second terms.first_sells (not terms.on)))
+    → Fares (second_of terms) terms.price terms.on (fare.Worse gain)
+    → bundle ≡ (if not terms.on then 0 ∷ [] else [])
+    → Judges (firms_of terms) (trades_of terms) (pos 1) (bundle_number terms.on) (λ t. terms.price) (Better 1 bundle gain)
+better_second terms worth bundle gain first fares bundle_is = (
+  bundle_number (not terms.on),
+  record {
+    before = first_before_second terms worth first;
+    firm = second_of terms;
+    is = refl;
+    own_value = fares.own;
+    own_is = ap (utility_with (second_of terms) terms.price) (part-second terms) ∙ fares.own_is;
+    best_value = fares.best;
+    best = fares.is_best;
+    gain_is = fares.gain_is;
+    gains = fares.gains;
+  },
+  bundle_is ∙ sym (trades_at_second terms.first_sells (not terms.on)),
+)
 
 pub both_best : (terms : Terms) (a b surplus : ℤ) → Fares (first_of terms) terms.price terms.on (fare.Best a) → Fares (second_of terms) terms.price terms.on (fare.Best b)
-  → surplus ≡ a +ℤ b
-  → Judges (firms_of terms) (trades_of terms) (pos 1) (bundle_number terms.on) (λ t. terms.price) (Equilibrium surplus)
-both_best terms a b surplus first second surplus_is =
-    (both (λ f firm. HasBest (trades_of terms) (pos 1) (bundle_number terms.on) (λ t. terms.price) f firm) (first_of terms) (second_of terms) (best_first terms a first) (best_second terms b second),
-     adds (ap (first_of terms).worth (part-first terms) ∙ first.0) (ap (second_of terms).worth (part-second terms) ∙ second.0) ∙ ap Some (omega (arith, ints, surplus_is)))
+    → surplus ≡ a +ℤ b
+    → Judges (firms_of terms) (trades_of terms) (pos 1) (bundle_number terms.on) (λ t. terms.price) (Equilibrium surplus)
+both_best terms a b surplus first second surplus_is = (
+  both (λ f firm. HasBest (trades_of terms) (pos 1) (bundle_number terms.on) (λ t. terms.price) f firm) (first_of terms) (second_of terms) (best_first terms a first) (best_second terms b second),
+  adds (ap (first_of terms).worth (part-first terms) ∙ first.0) (ap (second_of terms).worth (part-second terms) ∙ second.0) ∙ ap Some (omega (arith, ints, surplus_is)),
+)
   where
     adds : (first_of terms).worth (part (trades_of terms) 0 (first_of terms).count (bundle_number terms.on)) ≡ Some a
-      → (second_of terms).worth (part (trades_of terms) 1 (second_of terms).count (bundle_number terms.on)) ≡ Some b
-      → surplus_of (firms_of terms) (trades_of terms) (bundle_number terms.on) ≡ Some (a +ℤ (b +ℤ pos 0))
+        → (second_of terms).worth (part (trades_of terms) 1 (second_of terms).count (bundle_number terms.on)) ≡ Some b
+        → surplus_of (firms_of terms) (trades_of terms) (bundle_number terms.on) ≡ Some (a +ℤ (b +ℤ pos 0))
     adds p q = rw (p, q) refl

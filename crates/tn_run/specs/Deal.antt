@@ -70,9 +70,8 @@ trades_of terms = record {
   seller = if terms.first_sells then 0 else 1;
   buyer = if terms.first_sells then 1 else 0;
   at_seller = 0;
-  at_buyer = 0
+  at_buyer = 0;
 } ∷ []
-
 
 -- the defined answer about the arrangement
 abbrev pub IsAnswer : Terms → Said → Type 0

@@ -120,7 +120,7 @@ trade_of first second d = do
   seller ← text_at (codes "seller") d
   buyer ← text_at (codes "buyer") d
   if bytes_eq seller first && bytes_eq buyer second then Some (name, true)
-    else (if bytes_eq seller second && bytes_eq buyer first then Some (name, false) else None)
+      else (if bytes_eq seller second && bytes_eq buyer first then Some (name, false) else None)
 
 -- the one price
 unfoldable pub price_of : List ℕ → Items → Option ℤ

@@ -5,6 +5,8 @@ mod answer;
 mod command;
 mod decision;
 mod document;
+#[cfg(test)]
+mod tests;
 mod top;
 
-pub use top::{Run, run_market};
+pub use top::{Run, run_market, run_steadily};

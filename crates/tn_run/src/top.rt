@@ -1,6 +1,6 @@
 //! The top call: words, reading, the answer, writing.
 
-ghost use Rattle.std.specs.Prelude.{◌≡◌, ◌⊎◌, None, Some, map, string_bytes};
+ghost use Rattle.std.specs.Prelude.{◌≡◌, ◌≢◌, ◌⊎◌, None, Some, map, string_bytes};
 ghost use Rattle.tn_answer.specs.AnswerText.{answer_line};
 ghost use Rattle.tn_answer.specs.Names.{NameLists, no_names};
 ghost use Rattle.tn_answer.specs.Sayable.{IsSayable};
@@ -15,7 +15,7 @@ use crate::command::{Command, command_of};
 use std::alloc::Global;
 use tn_answer::{Names, answer_text, no_memory_text, read_fault_text, usage_text};
 use tn_base::OutOfMemory;
-use tn_io::{Sink, Source, WriteFailed, write_all};
+use tn_io::{Sink, Source, SteadySink, SteadySource, WriteFailed, write_all};
 use tn_market::Said;
 
 /// What a run has come to: its exit status, and the answer whose text was written. Where the status is 4 a prefix of
@@ -96,15 +96,33 @@ fn run_with<S: Source, K: Sink>(
 }
 
 /// Runs the program on its words: reads the source, answers, and writes the answer's text to the sink.
-pub fn run_market<S: Source, K: Sink>(alloc: Global, words: &[String], source: &mut S, sink: &mut K) -> Run
+pub fn run_market<S: Source, K: Sink>(
+    alloc: Global,
+    words: &[String],
+    source: &mut S,
+    sink: &mut K,
+) -> Run
     // Words that are no command: the source is as at entry.
     ensures usage { command_of (map string_bytes words.now) ≡ None → (result.said ≡ Said.Usage) × (source.new ≡ source.old) }
     // Words that are a command: what the source gave is answered. What was written is the answer's text, or a prefix.
     ensures answer { (names : NameLists)
         × ((command : Command) → command_of (map string_bytes words.now) ≡ Some command
-            → MayBeSaid (S.left source.old) (S.left source.new) (S.faults source.old) (S.faults source.new) names result.said)
+        → MayBeSaid (S.left source.old) (S.left source.new) (S.faults source.old) (S.faults source.new) names result.said)
         × IsWritten (K.written sink.old) (K.written sink.new) (K.faults sink.old) (K.faults sink.new) names result.said result.status }
 {
     let mut names = Names::empty(alloc);
     run_with(alloc, words, source, sink, &mut names)
+}
+
+/// The run over ends in memory that never fail: it ends by neither a failed read nor a failed write.
+pub fn run_steadily(
+    alloc: Global,
+    words: &[String],
+    source: &mut SteadySource,
+    sink: &mut SteadySink,
+) -> Run
+    ensures read { result.status ≢ 3 }
+    ensures written { result.status ≢ 4 }
+{
+    run_market(alloc, words, source, sink)
 }

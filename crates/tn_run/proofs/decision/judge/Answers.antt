@@ -17,7 +17,7 @@ returns-in-Worse-clause-answer c =
 pub returns-in-Best-second_fare-clause-answer : goal.returns-in-Best-second_fare-clause-answer
 returns-in-Best-second_fare-clause-answer c =
     both_best c.args.terms c.in-Best.worth c.in-Best-second_fare.worth _ c.in-Best.ensures.fares c.in-Best-second_fare.ensures.fares
-      (omega (arith, ints, c.in-Best.ensures.small, c.in-Best-second_fare.ensures.small))
+    (omega (arith, ints, c.in-Best.ensures.small, c.in-Best-second_fare.ensures.small))
 
 pub returns-in-Impossible-second_fare-clause-answer : goal.returns-in-Impossible-second_fare-clause-answer
 returns-in-Impossible-second_fare-clause-answer c = impossible_second c.args.terms c.in-Best.worth c.in-Best.ensures.fares c.in-Impossible-second_fare.ensures.fares
