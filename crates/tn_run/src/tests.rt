@@ -60,17 +60,20 @@ fn answers_each_document(rt: HostRuntime) -> Result<(), Fail> {
     Ok(())
 }
 
+/// The deal followed by blanks up to this length.
+fn padded_deal(alloc: Global, length: usize) -> Result<Vec<u8>, Fail> {
+    let mut document = DEAL.to_vec(alloc)?;
+    document.resize(length, b' ')?;
+    Ok(document)
+}
+
 #[test]
 fn takes_a_document_up_to_the_limit(rt: HostRuntime) -> Result<(), Fail> {
     for (length, status, text) in [(4_194_304, 0, EQUILIBRIUM), (4_194_305, 1, TOO_LONG)] {
-        let mut document = DEAL.to_vec(rt.alloc())?;
-        document.resize(length, b' ')?;
-        let words = words_of(rt.alloc(), &["check"])?;
-        let mut source = SteadySource::new(document, 65_536);
-        let mut sink = SteadySink::with_room(rt.alloc(), 4096, 64)?;
-        let run = run_steadily(rt.alloc(), &words, &mut source, &mut sink);
-        assert_eq!(rt; run.status, status);
-        assert_eq!(rt; sink.written(), Some(text.as_bytes()));
+        let document = padded_deal(rt.alloc(), length)?;
+        let (found, written) = run_on(rt.alloc(), &["check"], document)?;
+        assert_eq!(rt; found, status);
+        assert_eq!(rt; written.as_slice(), text.as_bytes());
     }
     Ok(())
 }
