@@ -41,7 +41,7 @@ module _ (names : List (List ℕ)) where
   fault_has_no_float fault None = neither _ _ (place_has_no_float fault.place) refl
   fault_has_no_float fault (Some shown) =
       neither _ _ (option_has_no_float shown.at)
-        (neither _ _ (place_has_no_float fault.place) (neither _ _ (names_have_no_float shown.x) (neither _ _ (names_have_no_float shown.y) refl)))
+      (neither _ _ (place_has_no_float fault.place) (neither _ _ (names_have_no_float shown.x) (neither _ _ (names_have_no_float shown.y) refl)))
 
 pub answer_has_no_float : (names : NameLists) (said : Said) → has_float (answer_data names said) ≡ false
 answer_has_no_float names Usage = refl

@@ -44,9 +44,9 @@ same_fault trades others fault (Some shown) place e =
     let parts = both (are_none shown.x && are_none shown.y) (is_none shown.at) e in
     let lists = both (are_none shown.x) (are_none shown.y) parts.0 in
     λ j. answer (codes "fault")
-      (member (codes "at") (same_option trades others shown.at parts.1 j)
-        (fault_members fault.kind (array (items_of (same_steps trades others fault.place place j)))
-          (member (codes "x") (same_names trades others shown.x lists.0 j) (member (codes "y") (same_names trades others shown.y lists.1 j) no_members))))
+    (member (codes "at") (same_option trades others shown.at parts.1 j)
+    (fault_members fault.kind (array (items_of (same_steps trades others fault.place place j)))
+    (member (codes "x") (same_names trades others shown.x lists.0 j) (member (codes "y") (same_names trades others shown.y lists.1 j) no_members))))
 
 same_data : (said : Said) (names others : NameLists) → names_nothing said ≡ true → answer_data names said ≡ answer_data others said
 same_data Usage names others e = refl

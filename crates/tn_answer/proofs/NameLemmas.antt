@@ -61,9 +61,10 @@ module _ (names : List (List ℕ)) (name : List ℕ) (kept : IsNameList names) (
 
   once_more : (j k : ℕ) (x : List ℕ) → slice_get (names ++ name ∷ []) j ≡ Some x → slice_get (names ++ name ∷ []) k ≡ Some x → j ≡ k
   once_more j k x at_j at_k =
-      elim (push_cases names name x j at_j)
-        [ inl g ↦ elim (push_cases names name x k at_k) [ inl h ↦ kept.once j k x g h | inr h ↦ absurd (absent j x g h.1) ]
-        | inr g ↦ elim (push_cases names name x k at_k) [ inl h ↦ absurd (absent k x h g.1) | inr h ↦ g.0 ∙ sym h.0 ] ]
+      elim (push_cases names name x j at_j) [
+        | inl g ↦ elim (push_cases names name x k at_k) [ inl h ↦ kept.once j k x g h | inr h ↦ absurd (absent j x g h.1) ]
+        | inr g ↦ elim (push_cases names name x k at_k) [ inl h ↦ absurd (absent k x h g.1) | inr h ↦ g.0 ∙ sym h.0 ]
+      ]
 
   -- the list with a new name last
   pub IsNameList-push : is_name name ≡ true → length names < MAX_NAMES → IsNameList (names ++ name ∷ [])

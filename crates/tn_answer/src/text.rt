@@ -10,11 +10,7 @@ use tn_base::OutOfMemory;
 use tn_market::Said;
 
 /// The text of an answer over some names, with its line end.
-#[tactic(
-    auto,
-    using(crate::proofs::FloatLemmas::answer_has_no_float),
-    unfolding(crate::specs::AnswerText::answer_line)
-)]
+#[tactic(auto, using(crate::proofs::FloatLemmas::answer_has_no_float), unfolding(crate::specs::AnswerText::answer_line))]
 pub fn answer_text(alloc: Global, names: &Names, said: &Said) -> Result<Vec<u8>, OutOfMemory>
     requires { IsSayable names.now said.now }
     ensures { IfOk result (λ text. text.items ≡ answer_line names.now said.now) }
@@ -25,13 +21,7 @@ pub fn answer_text(alloc: Global, names: &Names, said: &Said) -> Result<Vec<u8>,
 }
 
 /// The text of the answer that the words are no command.
-#[tactic(
-    auto,
-    unfolding(
-        crate::specs::AnswerText::answer_line,
-        serde_json::proofs::OnLiterals::serde_json_on_literals
-    )
-)]
+#[tactic(auto, unfolding(crate::specs::AnswerText::answer_line, serde_json::proofs::OnLiterals::serde_json_on_literals))]
 pub fn usage_text() -> &'static [u8]
     ensures { (names : NameLists) → result.now ≡ answer_line names Said.Usage }
 {
@@ -39,13 +29,7 @@ pub fn usage_text() -> &'static [u8]
 }
 
 /// The text of the answer that the input could not be read.
-#[tactic(
-    auto,
-    unfolding(
-        crate::specs::AnswerText::answer_line,
-        serde_json::proofs::OnLiterals::serde_json_on_literals
-    )
-)]
+#[tactic(auto, unfolding(crate::specs::AnswerText::answer_line, serde_json::proofs::OnLiterals::serde_json_on_literals))]
 pub fn read_fault_text() -> &'static [u8]
     ensures { (names : NameLists) → result.now ≡ answer_line names Said.ReadFault }
 {
@@ -53,13 +37,7 @@ pub fn read_fault_text() -> &'static [u8]
 }
 
 /// The text of the answer that memory ran out.
-#[tactic(
-    auto,
-    unfolding(
-        crate::specs::AnswerText::answer_line,
-        serde_json::proofs::OnLiterals::serde_json_on_literals
-    )
-)]
+#[tactic(auto, unfolding(crate::specs::AnswerText::answer_line, serde_json::proofs::OnLiterals::serde_json_on_literals))]
 pub fn no_memory_text() -> &'static [u8]
     ensures { (names : NameLists) → result.now ≡ answer_line names Said.NoMemory }
 {

@@ -6,7 +6,7 @@ pub invariant_of-self-2 : goal.invariant_of-self-2
 invariant_of-self-2 c =
     let new = rw (← c.self.view_is) at c.requires.new in
     rw (c.in_ok-insert.ensures.keys, map-insert_name c.self.inside.names.keys c.in_ok-owned.owned c.args.name.now c.in_ok-owned.ensures.ok new)
-      (IsNameList-push _ _ c.self.invariant new c.requires.named (rw c.self.view_is c.requires.room))
+    (IsNameList-push _ _ c.self.invariant new c.requires.named (rw c.self.view_is c.requires.room))
 
 pub returns-clause-last : goal.returns-clause-last
 returns-clause-last c =
