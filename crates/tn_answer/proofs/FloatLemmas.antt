@@ -1,15 +1,14 @@
 -- No answer has a float, so its text is the compact one.
-use Rattle.std.proofs.Common.{◌≡◌, ℕ, ℤ, pos, negsuc, Bool, false, ◌||◌, List, [], ◌∷◌, map, Option, None, Some, refl, ap, ◌∙◌}
+use Rattle.std.proofs.Common.{◌≡◌, ℕ, ℤ, pos, negsuc, Bool, false, ◌||◌, List, [], ◌∷◌, Option, None, Some, refl, ap, ◌∙◌}
 use Rattle.serde_json.specs.Find.{is_float, of_integer}
-use Rattle.serde_json.specs.View.{items_of}
-use Rattle.serde_json.specs.Written.{has_float, items_have_float}
+use Rattle.serde_json.specs.Written.{has_float}
 use Rattle.tn_market.specs.declared.place.PlaceStep.{PlaceStep}
 use Rattle.tn_market.specs.declared.place.PlaceStep.TheVariants.{Word, Index, Trade}
 use Rattle.tn_market.specs.declared.said.Fault.{Fault}
 use Rattle.tn_market.specs.declared.said.Shown.{Shown}
 use Rattle.tn_market.specs.declared.said.Said.{Said}
 use Rattle.tn_market.specs.declared.said.Said.TheVariants.{Usage, ReadFault, NoMemory, Fault as FaultIs, Equilibrium, Better, Impossible}
-use Rattle.tn_answer.specs.AnswerText.{name_data, names_data, option_data, step_data, place_data, fault_data, answer_data}
+use Rattle.tn_answer.specs.AnswerText.{names_data, option_data, step_data, place_data, fault_data, answer_data}
 use Rattle.tn_answer.specs.Names.{NameLists}
 
 neither : (a b : Bool) → a ≡ false → b ≡ false → (a || b) ≡ false

@@ -1,7 +1,7 @@
 -- Where an answer names no firm and no trade, names don't matter.
-use Rattle.std.proofs.Common.{◌≡◌, ℕ, Bool, true, false, ◌&&◌, List, [], ◌∷◌, ◌++◌, map, codes, Option, None, Some, is_none, refl, ap, ap₂, ◌∙◌, true≢false, sym, arith}
+use Rattle.std.proofs.Common.{◌≡◌, ℕ, Bool, true, false, ◌&&◌, List, [], ◌∷◌, ◌++◌, map, codes, Option, None, Some, is_none, refl, ap, true≢false, sym}
 use Rattle.std.specs.List.{list_all}
-use Rattle.serde_json.specs.Data.{Data, array, member, no_members}
+use Rattle.serde_json.specs.Data.{array, member, no_members}
 use Rattle.serde_json.specs.View.{items_of}
 use Rattle.serde_json.specs.Written.{compact_text}
 use Rattle.tn_market.specs.declared.place.PlaceStep.{PlaceStep}
@@ -11,7 +11,7 @@ use Rattle.tn_market.specs.declared.said.Shown.{Shown}
 use Rattle.tn_market.specs.declared.said.Said.{Said}
 use Rattle.tn_market.specs.declared.said.Said.TheVariants.{Usage, ReadFault, NoMemory, Fault as FaultIs, Equilibrium, Better, Impossible}
 use Rattle.tn_answer.specs.Names.{NameLists}
-use Rattle.tn_answer.specs.AnswerText.{names_data, option_data, step_data, place_data, answer, fault_members, fault_data, answer_data, answer_line}
+use Rattle.tn_answer.specs.AnswerText.{names_data, option_data, step_data, answer, fault_members, fault_data, answer_data, answer_line}
 use Rattle.tn_answer.specs.Laws.{are_none, names_no_trade_at, names_no_trade_in, names_nothing}
 
 both : (a b : Bool) → (a && b) ≡ true → (a ≡ true) × (b ≡ true)
