@@ -1,16 +1,17 @@
 -- Sets as machine words: what an operation on the words is on the set.
-use Rattle.std.proofs.Common.{◌≡◌, ◌≢◌, ℕ, zero, suc, ◌+◌, ◌-◌, ◌*◌, ◌/◌, ◌%◌, ◌^◌, ◌<◌, ◌≤◌, Bool, true, false, not, ◌&&◌, ◌||◌, bit_and, bit_or, refl, sym, ap, ◌∙◌, subst, arith, ◌⊎◌, inl, inr, lit<, List, [], ◌∷◌, length, get_or, set, take, replicate}
-use Rattle.std.specs.Prelude.{bit_xor}
+use Rattle.std.proofs.Common.{◌≡◌, ◌≢◌, ℕ, zero, suc, ◌+◌, ◌*◌, ◌/◌, ◌%◌, ◌^◌, ◌<◌, ◌≤◌, not, ◌&&◌, ◌||◌, refl, sym, ap, ◌∙◌, subst, arith, inl, inr, List, [], ◌∷◌, length, get_or, set, take, replicate}
 use Rattle.std.specs.Int.Count.{ones}
 use Rattle.std.specs.List.{sum_by}
 use Rattle.std.proofs.Common.{pow-add}
 use Rattle.std.proofs.Math.Seq.{take-length}
 use Rattle.std.proofs.lemmas.List.{get_or-set_same, get_or-set_other, get_or_past, length-set}
 use Rattle.std.proofs.lemmas.List.Sums.{sum_by-cons, sum_by_more}
-use Rattle.std.proofs.lemmas.Bool.{cases_eq, cases_lt}
+use Rattle.std.proofs.lemmas.Bool.{cases_eq, cases_lt, cases_Bool, eq-eqb, ne_eqb}
 use Rattle.std.proofs.lemmas.Nat.{pow_pos, mul-add-lt, ones_cat, ones-le}
-use Rattle.tn_base.specs.Sets.{has, toggle, union, meet, minus, size, size_below}
-use Rattle.tn_base.specs.Limbs.{joined, AreLimbs}
+use Rattle.tn_base.specs.Sets.{has, toggle, union, meet, minus, size}
+use Rattle.std.specs.Prelude.{nat_eq}
+use Rattle.std.specs.Cmp.Lexicographic.{pointwise, same_text, other_text}
+use Rattle.tn_base.specs.Limbs.{joined, AreLimbs, limbs_of, limbs_of-joined}
 use Rattle.tn_base.proofs.SetLemmas.{same_set, has-zero, has-union, has-meet, has-minus, has-toggle_same, has-toggle_other, has-low, has-high, union_within, meet_within, minus_within, toggle_within}
 use Rattle.tn_base.proofs.SizeLemmas.{ones_is, size_at}
 
@@ -35,7 +36,7 @@ has-joined (limb ∷ limbs) zero r words low =
 has-joined (limb ∷ limbs) (suc q) r words low =
     let e : suc q * 64 + r ≡ 64 + (q * 64 + r) = omega arith in
     ap (has (joined (limb ∷ limbs))) e ∙ has-high (joined limbs) 64 limb (q * 64 + r) (words 0)
-      ∙ has-joined limbs q r (λ k. words (suc k)) low
+    ∙ has-joined limbs q r (λ k. words (suc k)) low
 
 -- the same at a position
 pub has-limb : (limbs : List ℕ) (t : ℕ) → ((k : ℕ) → get_or limbs k 0 < 2 ^ 64) → has (joined limbs) t ≡ has (get_or limbs (t / 64) 0) (t % 64)
@@ -54,27 +55,27 @@ pub joined-union : (xs ys zs : List ℕ) → ((k : ℕ) → get_or xs k 0 < 2 ^ 
     → ((k : ℕ) → get_or zs k 0 ≡ union (get_or xs k 0) (get_or ys k 0)) → joined zs ≡ union (joined xs) (joined ys)
 joined-union xs ys zs x_words y_words same = same_set _ _ (λ t.
     has-limb zs t (λ k. subst (λ (z : ℕ). z < 2 ^ 64) (sym (same k)) (union_within (get_or xs k 0) (get_or ys k 0) 64 (x_words k) (y_words k)))
-      ∙ ap (λ (z : ℕ). has z (t % 64)) (same (t / 64)) ∙ has-union (get_or xs (t / 64) 0) (get_or ys (t / 64) 0) (t % 64)
-      ∙ ap (λ b. b || has (get_or ys (t / 64) 0) (t % 64)) (sym (has-limb xs t x_words))
-      ∙ ap (λ b. has (joined xs) t || b) (sym (has-limb ys t y_words)) ∙ sym (has-union (joined xs) (joined ys) t))
+    ∙ ap (λ (z : ℕ). has z (t % 64)) (same (t / 64)) ∙ has-union (get_or xs (t / 64) 0) (get_or ys (t / 64) 0) (t % 64)
+    ∙ ap (λ b. b || has (get_or ys (t / 64) 0) (t % 64)) (sym (has-limb xs t x_words))
+    ∙ ap (λ b. has (joined xs) t || b) (sym (has-limb ys t y_words)) ∙ sym (has-union (joined xs) (joined ys) t))
 
 -- word by word the members of both
 pub joined-meet : (xs ys zs : List ℕ) → ((k : ℕ) → get_or xs k 0 < 2 ^ 64) → ((k : ℕ) → get_or ys k 0 < 2 ^ 64)
     → ((k : ℕ) → get_or zs k 0 ≡ meet (get_or xs k 0) (get_or ys k 0)) → joined zs ≡ meet (joined xs) (joined ys)
 joined-meet xs ys zs x_words y_words same = same_set _ _ (λ t.
     has-limb zs t (λ k. subst (λ (z : ℕ). z < 2 ^ 64) (sym (same k)) (meet_within (get_or xs k 0) (get_or ys k 0) 64 (x_words k)))
-      ∙ ap (λ (z : ℕ). has z (t % 64)) (same (t / 64)) ∙ has-meet (get_or xs (t / 64) 0) (get_or ys (t / 64) 0) (t % 64)
-      ∙ ap (λ b. b && has (get_or ys (t / 64) 0) (t % 64)) (sym (has-limb xs t x_words))
-      ∙ ap (λ b. has (joined xs) t && b) (sym (has-limb ys t y_words)) ∙ sym (has-meet (joined xs) (joined ys) t))
+    ∙ ap (λ (z : ℕ). has z (t % 64)) (same (t / 64)) ∙ has-meet (get_or xs (t / 64) 0) (get_or ys (t / 64) 0) (t % 64)
+    ∙ ap (λ b. b && has (get_or ys (t / 64) 0) (t % 64)) (sym (has-limb xs t x_words))
+    ∙ ap (λ b. has (joined xs) t && b) (sym (has-limb ys t y_words)) ∙ sym (has-meet (joined xs) (joined ys) t))
 
 -- word by word the members of the first that are not in the second
 pub joined-minus : (xs ys zs : List ℕ) → ((k : ℕ) → get_or xs k 0 < 2 ^ 64) → ((k : ℕ) → get_or ys k 0 < 2 ^ 64)
     → ((k : ℕ) → get_or zs k 0 ≡ minus (get_or xs k 0) (get_or ys k 0)) → joined zs ≡ minus (joined xs) (joined ys)
 joined-minus xs ys zs x_words y_words same = same_set _ _ (λ t.
     has-limb zs t (λ k. subst (λ (z : ℕ). z < 2 ^ 64) (sym (same k)) (minus_within (get_or xs k 0) (get_or ys k 0) 64 (x_words k)))
-      ∙ ap (λ (z : ℕ). has z (t % 64)) (same (t / 64)) ∙ has-minus (get_or xs (t / 64) 0) (get_or ys (t / 64) 0) (t % 64)
-      ∙ ap (λ b. b && not (has (get_or ys (t / 64) 0) (t % 64))) (sym (has-limb xs t x_words))
-      ∙ ap (λ b. has (joined xs) t && not b) (sym (has-limb ys t y_words)) ∙ sym (has-minus (joined xs) (joined ys) t))
+    ∙ ap (λ (z : ℕ). has z (t % 64)) (same (t / 64)) ∙ has-minus (get_or xs (t / 64) 0) (get_or ys (t / 64) 0) (t % 64)
+    ∙ ap (λ b. b && not (has (get_or ys (t / 64) 0) (t % 64))) (sym (has-limb xs t x_words))
+    ∙ ap (λ b. has (joined xs) t && not b) (sym (has-limb ys t y_words)) ∙ sym (has-minus (joined xs) (joined ys) t))
 
 -- two numbers of one word differ within it
 same_place : (t i : ℕ) → t / 64 ≡ i / 64 → t % 64 ≡ i % 64 → t ≡ i
@@ -92,18 +93,20 @@ joined-toggle xs zs i words here there = same_set _ _ (λ t. has-limb zs t z_wor
           (subst (λ (z : ℕ). z < 2 ^ 64) (sym here) (toggle_within (get_or xs (i / 64) 0) (i % 64) 64 (words (i / 64)) (omega arith)))
       | inr d ↦ subst (λ (z : ℕ). z < 2 ^ 64) (sym (there k d)) (words k)
     ]
+
     kept : (t : ℕ) → t ≢ i → has (get_or zs (t / 64) 0) (t % 64) ≡ has (get_or xs (t / 64) 0) (t % 64)
     kept t d = elim (cases_eq (t / 64) (i / 64)) [
       | inl e ↦ subst (λ (q : ℕ). has (get_or zs q 0) (t % 64) ≡ has (get_or xs q 0) (t % 64)) (sym e)
           (ap (λ (z : ℕ). has z (t % 64)) here
-            ∙ has-toggle_other (get_or xs (i / 64) 0) (i % 64) (t % 64) (λ r. d (same_place t i e r)))
+          ∙ has-toggle_other (get_or xs (i / 64) 0) (i % 64) (t % 64) (λ r. d (same_place t i e r)))
       | inr p ↦ ap (λ (z : ℕ). has z (t % 64)) (there (t / 64) p)
     ]
+
     at_place : (t : ℕ) → has (get_or zs (t / 64) 0) (t % 64) ≡ has (toggle (joined xs) i) t
     at_place t = elim (cases_eq t i) [
       | inl e ↦ subst (λ (j : ℕ). has (get_or zs (j / 64) 0) (j % 64) ≡ has (toggle (joined xs) i) j) (sym e)
           (ap (λ (z : ℕ). has z (i % 64)) here ∙ has-toggle_same (get_or xs (i / 64) 0) (i % 64)
-            ∙ ap not (sym (has-limb xs i words)) ∙ sym (has-toggle_same (joined xs) i))
+          ∙ ap not (sym (has-limb xs i words)) ∙ sym (has-toggle_same (joined xs) i))
       | inr d ↦ kept t d ∙ sym (has-limb xs t words) ∙ sym (has-toggle_other (joined xs) i t d)
     ]
 
@@ -148,8 +151,10 @@ one_done work xs ys zs k before inside = record {
   where
     new : ℕ
     new = work (get_or zs k 0) (get_or ys k 0)
+
     here : get_or (set zs k new) k 0 ≡ work (get_or xs k 0) (get_or ys k 0)
     here = get_or-set_same zs k new 0 (omega (arith, before.counted, inside)) ∙ ap (λ (x : ℕ). work x (get_or ys k 0)) (before.above k (omega arith))
+
     below : (j : ℕ) → j < k + 1 → get_or (set zs k new) j 0 ≡ work (get_or xs j 0) (get_or ys j 0)
     below j h = elim (cases_eq j k) [
       | inl e ↦ subst (λ (i : ℕ). get_or (set zs k new) i 0 ≡ work (get_or xs i 0) (get_or ys i 0)) (sym e) here
@@ -206,7 +211,7 @@ pub union_done : (count : ℕ) (xs ys zs : List ℕ) (k : ℕ) → AreLimbs coun
 unfolding union
 union_done count xs ys zs k x_fine y_fine done all =
     let same : (j : ℕ) → get_or zs j 0 ≡ union (get_or xs j 0) (get_or ys j 0) =
-      all_done union xs ys zs k done refl (omega (arith, x_fine.counted, all)) (omega (arith, y_fine.counted, all)) in
+    all_done union xs ys zs k done refl (omega (arith, x_fine.counted, all)) (omega (arith, y_fine.counted, all)) in
     (limbs_done union (λ x y. union_within x y 64) count xs ys zs x_fine y_fine done.counted same, joined-union xs ys zs x_fine.words y_fine.words same)
 
 -- once all words are met, they make the intersection
@@ -215,7 +220,7 @@ pub meet_done : (count : ℕ) (xs ys zs : List ℕ) (k : ℕ) → AreLimbs count
 unfolding meet
 meet_done count xs ys zs k x_fine y_fine done all =
     let same : (j : ℕ) → get_or zs j 0 ≡ meet (get_or xs j 0) (get_or ys j 0) =
-      all_done meet xs ys zs k done refl (omega (arith, x_fine.counted, all)) (omega (arith, y_fine.counted, all)) in
+    all_done meet xs ys zs k done refl (omega (arith, x_fine.counted, all)) (omega (arith, y_fine.counted, all)) in
     (limbs_done meet (λ x y x_fits y_fits. meet_within x y 64 x_fits) count xs ys zs x_fine y_fine done.counted same, joined-meet xs ys zs x_fine.words y_fine.words same)
 
 -- once all words are without the other's, they make the difference
@@ -224,7 +229,7 @@ pub minus_done : (count : ℕ) (xs ys zs : List ℕ) (k : ℕ) → AreLimbs coun
 unfolding minus
 minus_done count xs ys zs k x_fine y_fine done all =
     let same : (j : ℕ) → get_or zs j 0 ≡ minus (get_or xs j 0) (get_or ys j 0) =
-      all_done minus xs ys zs k done refl (omega (arith, x_fine.counted, all)) (omega (arith, y_fine.counted, all)) in
+    all_done minus xs ys zs k done refl (omega (arith, x_fine.counted, all)) (omega (arith, y_fine.counted, all)) in
     (limbs_done minus (λ x y x_fits y_fits. minus_within x y 64 x_fits) count xs ys zs x_fine y_fine done.counted same, joined-minus xs ys zs x_fine.words y_fine.words same)
 
 -- the words with t moved in or out
@@ -239,13 +244,28 @@ toggle_done count limbs t fine inside =
   where
     new : ℕ
     new = toggle (get_or limbs (t / 64) 0) (t % 64)
+
     here : get_or (set limbs (t / 64) new) (t / 64) 0 ≡ new
     here = get_or-set_same limbs (t / 64) new 0 (omega (arith, fine.counted, inside))
+
     there : (k : ℕ) → k ≢ t / 64 → get_or (set limbs (t / 64) new) k 0 ≡ get_or limbs k 0
     there k d = get_or-set_other limbs (t / 64) k new 0 d
+
     words : (k : ℕ) → get_or (set limbs (t / 64) new) k 0 < 2 ^ 64
     words k = elim (cases_eq k (t / 64)) [
       | inl e ↦ subst (λ (j : ℕ). get_or (set limbs (t / 64) new) j 0 < 2 ^ 64) (sym e)
           (subst (λ (z : ℕ). z < 2 ^ 64) (sym here) (toggle_within (get_or limbs (t / 64) 0) (t % 64) 64 (fine.words (t / 64)) (omega arith)))
       | inr d ↦ subst (λ (z : ℕ). z < 2 ^ 64) (sym (there k d)) (fine.words k)
     ]
+
+-- words are equal exactly where the numbers are
+pub same_words : (count : ℕ) (xs ys : List ℕ) → AreLimbs count xs → AreLimbs count ys → pointwise nat_eq xs ys ≡ nat_eq (joined xs) (joined ys)
+same_words count xs ys x_fine y_fine = elim (cases_Bool (pointwise nat_eq xs ys)) [
+  | inl e ↦ e ∙ sym (eq-eqb (joined xs) (joined ys) (ap joined (same_text xs ys (sym e))))
+  | inr e ↦ e ∙ sym (ne_eqb (joined xs) (joined ys) (λ same. other_text xs ys (sym e) (words_from same)))
+]
+  where
+    words_from : joined xs ≡ joined ys → xs ≡ ys
+    words_from same =
+        sym (limbs_of-joined count xs x_fine.counted x_fine.words) ∙ ap (limbs_of count) same
+        ∙ limbs_of-joined count ys y_fine.counted y_fine.words

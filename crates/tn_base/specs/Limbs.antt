@@ -26,5 +26,5 @@ limbs_of-joined zero (limb ∷ limbs) counted words = absurd (omega (arith, coun
 limbs_of-joined (suc count) [] counted words = absurd (omega (arith, counted))
 limbs_of-joined (suc count) (limb ∷ limbs) counted words =
     ap₂ ◌∷◌ (mod_low (joined limbs) 64 limb (words 0))
-      (ap (limbs_of count) (shr_high (joined limbs) 64 limb (words 0))
-        ∙ limbs_of-joined count limbs (omega (arith, counted)) (λ k. words (suc k)))
+    (ap (limbs_of count) (shr_high (joined limbs) 64 limb (words 0))
+    ∙ limbs_of-joined count limbs (omega (arith, counted)) (λ k. words (suc k)))

@@ -10,6 +10,8 @@ mod memory;
 mod number;
 mod side;
 mod steps;
+#[cfg(test)]
+mod tests;
 mod trade_set;
 
 pub use bundle::Bundle;

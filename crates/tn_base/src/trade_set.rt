@@ -1,10 +1,12 @@
-ghost use Rattle.std.specs.Prelude.{◌≡◌, ℕ, ◌*◌, ◌^◌, ◌<◌, ◌≤◌};
+ghost use Rattle.std.specs.Prelude.{◌≡◌, ℕ, ◌*◌, ◌^◌, ◌<◌, ◌≤◌, nat_eq};
+ghost use Rattle.std.specs.Cmp.{partial_equiv_from_equiv};
+ghost use Rattle.std.proofs.lemmas.Cmp.{nat_eq_equiv};
 ghost use Rattle.tn_base.specs.Sets.{has, toggle, union, meet, minus, size};
 
 use std::marker::Model;
 
 /// A set of trade numbers below `64 * W`. Contracts see the number whose binary digits are its members.
-#[derive(Clone, Copy, Debug, PartialEq, Eq)]
+#[derive(Clone, Copy, Debug)]
 pub struct TradeSet<const W: usize> {
     limbs: [u64; W],
 }
@@ -22,6 +24,21 @@ impl<const W: usize> Model for TradeSet<W> {
     ghost inverse = { λ x. record { limbs = limbs_of W x } };
 
     ghost inverse_ok = { λ set fine i. record { limbs = limbs_of-joined W set.limbs fine.counted fine.words i } };
+}
+
+// By hand, since a derived comparison would be known as one of lists of words, and not as one of sets.
+impl<const W: usize> PartialEq for TradeSet<W> {
+    ghost eq = { nat_eq };
+
+    ghost laws = { partial_equiv_from_equiv nat_eq_equiv };
+
+    fn eq(&self, other: &TradeSet<W>) -> bool {
+        self.limbs == other.limbs
+    }
+}
+
+impl<const W: usize> Eq for TradeSet<W> {
+    ghost laws = { nat_eq_equiv };
 }
 
 impl<const W: usize> TradeSet<W> {

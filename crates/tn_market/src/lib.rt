@@ -1,15 +1,25 @@
-//! Trading networks, their outcomes and the answers about them. What a network, an equilibrium and a verdict are stands
-//! in `specs/`.
+//! Trading networks, their outcomes and the answers about them, and the firms that code may ask. What a network, an
+//! equilibrium and a verdict are stands in `specs/`.
 #![tactic(auto)]
 
+mod arrangement;
 mod contract;
 mod ends;
 mod lists;
+mod market;
+mod oracle;
 mod place;
+mod room;
 mod said;
+mod valuation;
 
+pub use arrangement::Arrangement;
 pub use contract::{Contract, Outcome};
 pub use ends::Ends;
 pub use lists::{Amounts, Contracts, Listed, Nodes, Numbers, Place, Prices, Trades};
+pub use market::Market;
+pub use oracle::Oracle;
 pub use place::{PlaceStep, Word};
+pub use room::Room;
 pub use said::{Fault, Said, Shown};
+pub use valuation::Valuation;

@@ -1,4 +1,4 @@
-use Rattle.std.proofs.Common.{◌≡◌, ℕ, ◌+◌, ◌*◌, ◌^◌, ◌<◌, ◌≤◌, length, ap, ◌∙◌, arith}
+use Rattle.std.proofs.Common.{◌≡◌, length, ap, ◌∙◌, arith}
 use Rattle.tn_base.specs.Sets.{size}
 use Rattle.tn_base.proofs.LimbLemmas.{none_counted, one_counted, all_counted, size-joined}
 use Rattle.std.proofs.lemmas.Nat.{ones-le}
@@ -10,7 +10,7 @@ loop-limb-init g c = none_counted c.self.inside.limbs
 pub loop-limb-preserved : goal.loop-limb-preserved
 loop-limb-preserved g c =
     one_counted c.self.inside.limbs c.loop-limb.limb-index c.loop-limb.count c.self.invariant.words
-      (omega (arith, c.self.told, c.loop-limb-test.true)) c.loop-limb.invariant
+    (omega (arith, c.self.told, c.loop-limb-test.true)) c.loop-limb.invariant
 
 pub overflow_add-count : goal.overflow_add-count
 overflow_add-count g c =
@@ -20,9 +20,9 @@ overflow_add-count g c =
 pub returns-clause-members : goal.returns-clause-members
 returns-clause-members g c =
     let all : c.loop-limb.limb-index ≡ length c.self.inside.limbs =
-      omega (arith, c.self.told, c.loop-limb-test.false, c.loop-limb.auto.limb-index-end) in
+    omega (arith, c.self.told, c.loop-limb-test.false, c.loop-limb.auto.limb-index-end) in
     all_counted c.self.inside.limbs c.loop-limb.limb-index c.loop-limb.count c.loop-limb.invariant all
-      ∙ size-joined g.row.W c.self.inside.limbs c.self.invariant ∙ ap size c.self.view_is
+    ∙ size-joined g.row.W c.self.inside.limbs c.self.invariant ∙ ap size c.self.view_is
 
 pub returns-clause-few : goal.returns-clause-few
 returns-clause-few g c = omega (arith, c.loop-limb.invariant.few, c.loop-limb-test.false, c.loop-limb.auto.limb-index-end)

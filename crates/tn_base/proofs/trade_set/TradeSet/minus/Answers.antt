@@ -1,4 +1,4 @@
-use Rattle.std.proofs.Common.{◌≡◌, ℕ, ◌*◌, ◌<◌, ◌∙◌, ap₂, arith}
+use Rattle.std.proofs.Common.{◌∙◌, ap₂, arith}
 use Rattle.tn_base.specs.Sets.{minus}
 use Rattle.tn_base.proofs.LimbLemmas.{one_done, minus_done, joined_within}
 use Rattle.tn_base.proofs.trade_set.TradeSet.minus.Goals as goal
@@ -7,7 +7,7 @@ pub loop-k-preserved : goal.loop-k-preserved
 unfolding minus
 loop-k-preserved g c =
     one_done minus c.self.inside.limbs c.other.inside.limbs c.loop-k.limb-items c.loop-k.k c.loop-k.invariant
-      (omega (arith, c.self.told, c.loop-k-test.true))
+    (omega (arith, c.self.told, c.loop-k-test.true))
 
 pub invariant_of-result : goal.invariant_of-result
 invariant_of-result g c =
@@ -16,7 +16,7 @@ invariant_of-result g c =
 pub returns-clause-members : goal.returns-clause-members
 returns-clause-members g c =
     (minus_done g.row.W _ _ _ _ c.self.invariant c.other.invariant c.loop-k.invariant c.loop-k-test.false).1
-      ∙ ap₂ minus c.self.view_is c.other.view_is
+    ∙ ap₂ minus c.self.view_is c.other.view_is
 
 pub returns-clause-within : goal.returns-clause-within
 returns-clause-within g c =

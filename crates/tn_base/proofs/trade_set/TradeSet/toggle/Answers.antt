@@ -20,7 +20,7 @@ pub returns-clause-toggled : goal.returns-clause-toggled
 returns-clause-toggled g c =
     let limbs = c.self.inside.limbs in
     ap joined (written limbs c.args.t) ∙ (toggle_done g.row.W limbs c.args.t c.self.invariant c.requires.inside).1
-      ∙ ap (λ (x : ℕ). toggle x c.args.t) c.self.view_is
+    ∙ ap (λ (x : ℕ). toggle x c.args.t) c.self.view_is
 
 pub returns-clause-within : goal.returns-clause-within
 returns-clause-within g c =

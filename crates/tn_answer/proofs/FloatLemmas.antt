@@ -1,0 +1,52 @@
+-- No answer has a float, so its text is the compact one.
+use Rattle.std.proofs.Common.{◌≡◌, ℕ, ℤ, pos, negsuc, Bool, false, ◌||◌, List, [], ◌∷◌, Option, None, Some, refl, ap, ◌∙◌}
+use Rattle.serde_json.specs.Find.{is_float, of_integer}
+use Rattle.serde_json.specs.Written.{has_float}
+use Rattle.tn_market.specs.declared.place.PlaceStep.{PlaceStep}
+use Rattle.tn_market.specs.declared.place.PlaceStep.TheVariants.{Word, Index, Trade}
+use Rattle.tn_market.specs.declared.said.Fault.{Fault}
+use Rattle.tn_market.specs.declared.said.Shown.{Shown}
+use Rattle.tn_market.specs.declared.said.Said.{Said}
+use Rattle.tn_market.specs.declared.said.Said.TheVariants.{Usage, ReadFault, NoMemory, Fault as FaultIs, Equilibrium, Better, Impossible}
+use Rattle.tn_answer.specs.AnswerText.{names_data, option_data, step_data, place_data, fault_data, answer_data}
+use Rattle.tn_answer.specs.Names.{NameLists}
+
+neither : (a b : Bool) → a ≡ false → b ≡ false → (a || b) ≡ false
+neither a b e f = ap (λ c. c || b) e ∙ f
+
+integer_is_no_float : (z : ℤ) → is_float (of_integer z) ≡ false
+integer_is_no_float (pos n) = refl
+integer_is_no_float (negsuc n) = refl
+
+module _ (names : List (List ℕ)) where
+  names_have_no_float : (ks : List ℕ) → has_float (names_data names ks) ≡ false
+  names_have_no_float [] = refl
+  names_have_no_float (k ∷ ks) = names_have_no_float ks
+
+  option_has_no_float : (o : Option ℕ) → has_float (option_data names o) ≡ false
+  option_has_no_float None = refl
+  option_has_no_float (Some k) = refl
+
+  step_has_no_float : (step : PlaceStep) → has_float (step_data names step) ≡ false
+  step_has_no_float (Word word) = refl
+  step_has_no_float (Index k) = refl
+  step_has_no_float (Trade t) = refl
+
+  place_has_no_float : (place : List PlaceStep) → has_float (place_data names place) ≡ false
+  place_has_no_float [] = refl
+  place_has_no_float (step ∷ place) = neither _ _ (step_has_no_float step) (place_has_no_float place)
+
+  fault_has_no_float : (fault : Fault) (shown : Option Shown) → has_float (fault_data names fault shown) ≡ false
+  fault_has_no_float fault None = neither _ _ (place_has_no_float fault.place) refl
+  fault_has_no_float fault (Some shown) =
+      neither _ _ (option_has_no_float shown.at)
+      (neither _ _ (place_has_no_float fault.place) (neither _ _ (names_have_no_float shown.x) (neither _ _ (names_have_no_float shown.y) refl)))
+
+pub answer_has_no_float : (names : NameLists) (said : Said) → has_float (answer_data names said) ≡ false
+answer_has_no_float names Usage = refl
+answer_has_no_float names ReadFault = refl
+answer_has_no_float names NoMemory = refl
+answer_has_no_float names (FaultIs fault) = fault_has_no_float names.trades fault fault.shown
+answer_has_no_float names (Equilibrium surplus) = neither _ _ (integer_is_no_float surplus) refl
+answer_has_no_float names (Better firm bundle gain) = neither _ _ (names_have_no_float names.trades bundle) (neither _ _ (integer_is_no_float gain) refl)
+answer_has_no_float names (Impossible firm) = refl

@@ -1,0 +1,64 @@
+-- Where an answer names no firm and no trade, names don't matter.
+use Rattle.std.proofs.Common.{◌≡◌, ℕ, Bool, true, false, ◌&&◌, List, [], ◌∷◌, ◌++◌, map, codes, Option, None, Some, is_none, refl, ap, true≢false, sym}
+use Rattle.std.specs.List.{list_all}
+use Rattle.serde_json.specs.Data.{array, member, no_members}
+use Rattle.serde_json.specs.View.{items_of}
+use Rattle.serde_json.specs.Written.{compact_text}
+use Rattle.tn_market.specs.declared.place.PlaceStep.{PlaceStep}
+use Rattle.tn_market.specs.declared.place.PlaceStep.TheVariants.{Word, Index, Trade}
+use Rattle.tn_market.specs.declared.said.Fault.{Fault}
+use Rattle.tn_market.specs.declared.said.Shown.{Shown}
+use Rattle.tn_market.specs.declared.said.Said.{Said}
+use Rattle.tn_market.specs.declared.said.Said.TheVariants.{Usage, ReadFault, NoMemory, Fault as FaultIs, Equilibrium, Better, Impossible}
+use Rattle.tn_answer.specs.Names.{NameLists}
+use Rattle.tn_answer.specs.AnswerText.{names_data, option_data, step_data, answer, fault_members, fault_data, answer_data, answer_line}
+use Rattle.tn_answer.specs.Laws.{are_none, names_no_trade_at, names_no_trade_in, names_nothing}
+
+both : (a b : Bool) → (a && b) ≡ true → (a ≡ true) × (b ≡ true)
+both true b e = (refl, e)
+both false b e = absurd (true≢false (sym e))
+
+same_names : (trades others : List (List ℕ)) (ks : List ℕ) → are_none ks ≡ true → names_data trades ks ≡ names_data others ks
+same_names trades others [] e = refl
+same_names trades others (k ∷ ks) e = absurd (true≢false (sym e))
+
+same_option : (trades others : List (List ℕ)) (o : Option ℕ) → is_none o ≡ true → option_data trades o ≡ option_data others o
+same_option trades others None e = refl
+same_option trades others (Some k) e = absurd (true≢false (sym e))
+
+same_step : (trades others : List (List ℕ)) (step : PlaceStep) → names_no_trade_at step ≡ true → step_data trades step ≡ step_data others step
+same_step trades others (Word word) e = refl
+same_step trades others (Index k) e = refl
+same_step trades others (Trade t) e = absurd (true≢false (sym e))
+
+same_steps : (trades others : List (List ℕ)) (place : List PlaceStep) → list_all names_no_trade_at place ≡ true → map (step_data trades) place ≡ map (step_data others) place
+same_steps trades others [] e = refl
+same_steps trades others (step ∷ place) e =
+    let parts = both (names_no_trade_at step) (list_all names_no_trade_at place) e in
+    λ j. same_step trades others step parts.0 j ∷ same_steps trades others place parts.1 j
+
+same_fault : (trades others : List (List ℕ)) (fault : Fault) (shown : Option Shown) → list_all names_no_trade_at fault.place ≡ true → names_no_trade_in shown ≡ true
+    → fault_data trades fault shown ≡ fault_data others fault shown
+same_fault trades others fault None place e = λ j. answer (codes "fault") (fault_members fault.kind (array (items_of (same_steps trades others fault.place place j))) no_members)
+same_fault trades others fault (Some shown) place e =
+    let parts = both (are_none shown.x && are_none shown.y) (is_none shown.at) e in
+    let lists = both (are_none shown.x) (are_none shown.y) parts.0 in
+    λ j. answer (codes "fault")
+    (member (codes "at") (same_option trades others shown.at parts.1 j)
+    (fault_members fault.kind (array (items_of (same_steps trades others fault.place place j)))
+    (member (codes "x") (same_names trades others shown.x lists.0 j) (member (codes "y") (same_names trades others shown.y lists.1 j) no_members))))
+
+same_data : (said : Said) (names others : NameLists) → names_nothing said ≡ true → answer_data names said ≡ answer_data others said
+same_data Usage names others e = refl
+same_data ReadFault names others e = refl
+same_data NoMemory names others e = refl
+same_data (FaultIs fault) names others e =
+    let parts = both (list_all names_no_trade_at fault.place) (names_no_trade_in fault.shown) e in
+    same_fault names.trades others.trades fault fault.shown parts.0 parts.1
+same_data (Equilibrium surplus) names others e = refl
+same_data (Better firm bundle gain) names others e = absurd (true≢false (sym e))
+same_data (Impossible firm) names others e = absurd (true≢false (sym e))
+
+pub same_line : (said : Said) (names others : NameLists) → names_nothing said ≡ true → answer_line names said ≡ answer_line others said
+unfolding answer_line
+same_line said names others e = ap (λ d. compact_text d ++ 10 ∷ []) (same_data said names others e)

@@ -1,0 +1,4 @@
+pub mod NameLemmas
+pub mod FloatLemmas
+pub mod MapLemmas
+pub mod LawLemmas

@@ -1,0 +1,5 @@
+use Rattle.tn_answer.proofs.LawLemmas.{same_line}
+use Rattle.tn_answer.proofs.laws.some_answers_need_no_names.Goals as goal
+
+pub returns : goal.returns
+returns c = same_line

@@ -1,0 +1,33 @@
+-- What holds of every answer's text.
+use Rattle.std.specs.Prelude.{◌≡◌, ℕ, Bool, true, false, ◌&&◌, List, [], ◌∷◌, Option, None, Some, is_none}
+use Rattle.std.specs.List.{list_all}
+use Rattle.tn_market.specs.declared.place.PlaceStep.{PlaceStep}
+use Rattle.tn_market.specs.declared.place.PlaceStep.TheVariants.{Trade}
+use Rattle.tn_market.specs.declared.said.Shown.{Shown}
+use Rattle.tn_market.specs.declared.said.Said.{Said}
+use Rattle.tn_market.specs.declared.said.Said.TheVariants.{Fault as FaultIs, Better, Impossible}
+use Rattle.tn_answer.specs.Names.{NameLists}
+use Rattle.tn_answer.specs.AnswerText.{answer_line}
+
+abbrev pub names_no_trade_at : PlaceStep → Bool
+names_no_trade_at (Trade t) = false
+names_no_trade_at _ = true
+
+abbrev pub are_none : List ℕ → Bool
+are_none [] = true
+are_none (k ∷ ks) = false
+
+abbrev pub names_no_trade_in : Option Shown → Bool
+names_no_trade_in None = true
+names_no_trade_in (Some shown) = are_none shown.x && are_none shown.y && is_none shown.at
+
+-- whether an answer names no firm and no trade
+abbrev pub names_nothing : Said → Bool
+names_nothing (FaultIs fault) = list_all names_no_trade_at fault.place && names_no_trade_in fault.shown
+names_nothing (Better firm bundle gain) = false
+names_nothing (Impossible firm) = false
+names_nothing _ = true
+
+-- the text of such an answer is the same over any names
+abbrev pub NeedsNoNames : Type 0
+NeedsNoNames = (said : Said) (names others : NameLists) → names_nothing said ≡ true → answer_line names said ≡ answer_line others said

@@ -1,0 +1,5 @@
+pub mod Names
+pub mod Words
+pub mod Sayable
+pub mod AnswerText
+pub mod Laws

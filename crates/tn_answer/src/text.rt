@@ -1,0 +1,45 @@
+ghost use Rattle.std.specs.Prelude.{◌≡◌, IfOk};
+ghost use Rattle.tn_answer.specs.AnswerText.{answer_line};
+ghost use Rattle.tn_answer.specs.Names.{NameLists};
+ghost use Rattle.tn_answer.specs.Sayable.{IsSayable};
+
+use crate::names::Names;
+use crate::values::answer_value;
+use std::alloc::Global;
+use tn_base::OutOfMemory;
+use tn_market::Said;
+
+/// The text of an answer over some names, with its line end.
+#[tactic(auto, using(crate::proofs::FloatLemmas::answer_has_no_float), unfolding(crate::specs::AnswerText::answer_line))]
+pub fn answer_text(alloc: Global, names: &Names, said: &Said) -> Result<Vec<u8>, OutOfMemory>
+    requires { IsSayable names.now said.now }
+    ensures { IfOk result (λ text. text.items ≡ answer_line names.now said.now) }
+{
+    let mut text = answer_value(alloc, names, said)?.to_vec(alloc)?;
+    text.push(b'\n')?;
+    Ok(text)
+}
+
+/// The text of the answer that the words are no command.
+#[tactic(auto, unfolding(crate::specs::AnswerText::answer_line, serde_json::proofs::OnLiterals::serde_json_on_literals))]
+pub fn usage_text() -> &'static [u8]
+    ensures { (names : NameLists) → result.now ≡ answer_line names Said.Usage }
+{
+    b"{\"answer\":\"usage\"}\n"
+}
+
+/// The text of the answer that the input could not be read.
+#[tactic(auto, unfolding(crate::specs::AnswerText::answer_line, serde_json::proofs::OnLiterals::serde_json_on_literals))]
+pub fn read_fault_text() -> &'static [u8]
+    ensures { (names : NameLists) → result.now ≡ answer_line names Said.ReadFault }
+{
+    b"{\"answer\":\"read_fault\"}\n"
+}
+
+/// The text of the answer that memory ran out.
+#[tactic(auto, unfolding(crate::specs::AnswerText::answer_line, serde_json::proofs::OnLiterals::serde_json_on_literals))]
+pub fn no_memory_text() -> &'static [u8]
+    ensures { (names : NameLists) → result.now ≡ answer_line names Said.NoMemory }
+{
+    b"{\"answer\":\"no_memory\"}\n"
+}

@@ -1,0 +1,161 @@
+// Answers as JSON values. An object has its members in byte order, whatever order they are put in.
+ghost use Rattle.std.specs.Prelude.{◌≡◌, IfOk, IfSome, All, FitsSigned};
+ghost use Rattle.std.specs.Int.{w64};
+ghost use Rattle.serde_json.specs.View.{view};
+ghost use Rattle.tn_answer.specs.AnswerText.{answer_data, fault_data, name_data, names_data, option_data, place_data, step_data};
+ghost use Rattle.tn_answer.specs.Sayable.{IsNamed, IsNamedStep, IsNamedTriple, IsSayable, IsSayableFault};
+
+use crate::names::Names;
+use crate::words::{kind_name, word_text};
+use serde_json::{Value, json};
+use std::alloc::{AllocError, Global};
+use tn_market::{Fault, Place, PlaceStep, Said, Shown, Trades};
+
+pub(crate) fn answer_value(alloc: Global, names: &Names, said: &Said) -> Result<Value, AllocError>
+    requires { IsSayable names.now said.now }
+    ensures { IfOk result (λ value. view value ≡ answer_data names.now said.now) }
+{
+    match said {
+        Said::Usage => json!(in alloc; {"answer": "usage"}),
+        Said::ReadFault => json!(in alloc; {"answer": "read_fault"}),
+        Said::NoMemory => json!(in alloc; {"answer": "no_memory"}),
+        Said::Fault(fault) => fault_value(alloc, names, fault),
+        Said::Equilibrium { surplus } => equilibrium_value(alloc, names, *surplus),
+        Said::Better { firm, bundle, gain } => better_value(alloc, names, *firm, bundle, *gain),
+        Said::Impossible { firm } => impossible_value(alloc, names, *firm),
+    }
+}
+
+fn fault_value(alloc: Global, names: &Names, fault: &Fault) -> Result<Value, AllocError>
+    requires { IsSayableFault names.now.trades fault.now }
+    ensures { IfOk result (λ value. view value ≡ fault_data names.now.trades fault.now fault.now.shown) }
+{
+    match &fault.shown {
+        None => plain_fault_value(alloc, names, fault),
+        Some(shown) => shown_fault_value(alloc, names, fault, shown),
+    }
+}
+
+fn plain_fault_value(alloc: Global, names: &Names, fault: &Fault) -> Result<Value, AllocError>
+    requires { All (IsNamedStep names.now.trades) fault.now.place }
+    ensures { IfOk result (λ value. view value ≡ fault_data names.now.trades fault.now None) }
+{
+    let place = place_value(alloc, names, &fault.place)?;
+    json!(in alloc; {
+        "answer": "fault",
+        "fault": fault.kind.number(),
+        "name": kind_name(fault.kind),
+        "place": place,
+    })
+}
+
+fn shown_fault_value(
+    alloc: Global,
+    names: &Names,
+    fault: &Fault,
+    shown: &Shown,
+) -> Result<Value, AllocError>
+    requires place { All (IsNamedStep names.now.trades) fault.now.place }
+    requires triple { IsNamedTriple names.now.trades shown.now }
+    ensures { IfOk result
+        (λ value. view value ≡ fault_data names.now.trades fault.now (Some shown.now)) }
+{
+    let at = option_value(alloc, names, shown.at)?;
+    let place = place_value(alloc, names, &fault.place)?;
+    let x = trades_value(alloc, names, &shown.x)?;
+    let y = trades_value(alloc, names, &shown.y)?;
+    json!(in alloc; {
+        "answer": "fault",
+        "at": at,
+        "fault": fault.kind.number(),
+        "name": kind_name(fault.kind),
+        "place": place,
+        "x": x,
+        "y": y,
+    })
+}
+
+fn equilibrium_value(alloc: Global, names: &Names, surplus: i128) -> Result<Value, AllocError>
+    requires { FitsSigned w64 surplus }
+    ensures { IfOk result
+        (λ value. view value ≡ answer_data names.now (Said.Equilibrium surplus)) }
+{
+    json!(in alloc; {"answer": "equilibrium", "surplus": surplus as i64})
+}
+
+fn better_value(
+    alloc: Global,
+    names: &Names,
+    firm: u32,
+    bundle: &Trades,
+    gain: i128,
+) -> Result<Value, AllocError>
+    requires { IsSayable names.now (Said.Better firm bundle.now gain) }
+    ensures { IfOk result
+        (λ value. view value ≡ answer_data names.now (Said.Better firm bundle.now gain)) }
+{
+    let bundle = trades_value(alloc, names, bundle)?;
+    json!(in alloc; {
+        "answer": "better",
+        "bundle": bundle,
+        "firm": names.firm(firm),
+        "gain": gain as i64,
+    })
+}
+
+fn impossible_value(alloc: Global, names: &Names, firm: u32) -> Result<Value, AllocError>
+    requires { IsNamed names.now.firms firm }
+    ensures { IfOk result (λ value. view value ≡ answer_data names.now (Said.Impossible firm)) }
+{
+    json!(in alloc; {"answer": "impossible", "firm": names.firm(firm)})
+}
+
+fn trade_value(alloc: Global, names: &Names, trade: u32) -> Result<Value, AllocError>
+    requires { IsNamed names.now.trades trade }
+    ensures { IfOk result (λ value. view value ≡ name_data names.now.trades trade) }
+{
+    Value::try_from_str(alloc, names.trade(trade))
+}
+
+fn option_value(alloc: Global, names: &Names, trade: Option<u32>) -> Result<Value, AllocError>
+    requires { IfSome trade (IsNamed names.now.trades) }
+    ensures { IfOk result (λ value. view value ≡ option_data names.now.trades trade) }
+{
+    match trade {
+        None => Ok(Value::Null),
+        Some(trade) => trade_value(alloc, names, trade),
+    }
+}
+
+fn trades_value(alloc: Global, names: &Names, trades: &Trades) -> Result<Value, AllocError>
+    requires { All (IsNamed names.now.trades) trades.now }
+    ensures { IfOk result (λ value. view value ≡ names_data names.now.trades trades.now) }
+{
+    let mut values = Vec::new(alloc);
+    for k in 0..trades.len() {
+        values.push(trade_value(alloc, names, trades.at(k))?)?;
+    }
+    Ok(Value::Array(values))
+}
+
+fn step_value(alloc: Global, names: &Names, step: PlaceStep) -> Result<Value, AllocError>
+    requires { IsNamedStep names.now.trades step }
+    ensures { IfOk result (λ value. view value ≡ step_data names.now.trades step) }
+{
+    match step {
+        PlaceStep::Word(word) => Value::try_from_str(alloc, word_text(word)),
+        PlaceStep::Index(k) => Ok(Value::from(k)),
+        PlaceStep::Trade(trade) => trade_value(alloc, names, trade),
+    }
+}
+
+fn place_value(alloc: Global, names: &Names, place: &Place) -> Result<Value, AllocError>
+    requires { All (IsNamedStep names.now.trades) place.now }
+    ensures { IfOk result (λ value. view value ≡ place_data names.now.trades place.now) }
+{
+    let mut values = Vec::new(alloc);
+    for k in 0..place.len() {
+        values.push(step_value(alloc, names, place.at(k))?)?;
+    }
+    Ok(Value::Array(values))
+}

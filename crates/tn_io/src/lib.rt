@@ -1,0 +1,21 @@
+//! Where bytes come from and go to: sources that are read, sinks that are written, and their ends
+//! in memory and in std.
+#![tactic(auto)]
+
+mod memory;
+mod reading;
+mod sink;
+mod source;
+mod standard;
+mod steady;
+#[cfg(test)]
+mod tests;
+mod writing;
+
+pub use memory::{MemorySink, MemorySource};
+pub use reading::{ReadStop, read_all};
+pub use sink::{Sink, WriteFailed};
+pub use source::{ReadFailed, Source};
+pub use standard::{StdSink, StdSource};
+pub use steady::{SteadySink, SteadySource};
+pub use writing::write_all;

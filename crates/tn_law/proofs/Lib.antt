@@ -1,0 +1,11 @@
+pub mod SumLemmas
+pub mod PlaceLemmas
+pub mod ExchangeLemmas
+pub mod KeepLemmas
+pub mod DistanceLemmas
+pub mod LocalLemmas
+pub mod AdditiveLemmas
+pub mod NestedFamilies
+pub mod NestedCounts
+pub mod NestedLemmas
+pub mod ConcaveLemmas

@@ -1,0 +1,5 @@
+use Rattle.tn_law.proofs.AdditiveLemmas.{meets-additive}
+use Rattle.tn_law.proofs.additive.exchange_of_additive_firms.Goals as goal
+
+pub returns : goal.returns
+returns c = meets-additive

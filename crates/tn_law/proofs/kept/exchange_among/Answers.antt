@@ -1,0 +1,5 @@
+use Rattle.tn_law.proofs.KeepLemmas.{meets-among}
+use Rattle.tn_law.proofs.kept.exchange_among.Goals as goal
+
+pub returns : goal.returns
+returns c = meets-among

@@ -1,0 +1,5 @@
+use Rattle.tn_law.proofs.NestedLemmas.{meets-nested}
+use Rattle.tn_law.proofs.nested.exchange_of_nested_sums.Goals as goal
+
+pub returns : goal.returns
+returns c = meets-nested

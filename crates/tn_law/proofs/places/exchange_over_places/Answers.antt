@@ -1,0 +1,5 @@
+use Rattle.tn_law.proofs.ExchangeLemmas.{exchange_to_places, exchange_from_places}
+use Rattle.tn_law.proofs.places.exchange_over_places.Goals as goal
+
+pub returns : goal.returns
+returns c = λ firm own. (exchange_to_places firm own, exchange_from_places firm own)

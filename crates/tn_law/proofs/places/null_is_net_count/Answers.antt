@@ -1,0 +1,5 @@
+use Rattle.tn_law.proofs.ExchangeLemmas.{null_is_net_count}
+use Rattle.tn_law.proofs.places.null_is_net_count.Goals as goal
+
+pub returns : goal.returns
+returns c = null_is_net_count

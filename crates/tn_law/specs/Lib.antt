@@ -1,0 +1,5 @@
+pub mod Places
+pub mod Additive
+pub mod Local
+pub mod Nested
+pub mod Laws

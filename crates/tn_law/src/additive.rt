@@ -1,0 +1,6 @@
+ghost use Rattle.tn_law.specs.Laws.{ExchangeOfAdditiveFirms};
+
+/// A firm to which its trades are independent of each other meets exchange, whatever it buys and sells.
+pub fn exchange_of_additive_firms()
+    ensures { ExchangeOfAdditiveFirms }
+{}

@@ -1,0 +1,15 @@
+//! The laws of discrete convex analysis that the workbench rests on, over every firm that meets exchange. Each law is
+//! the contract of a function with an empty body: calling it proves nothing more, and costs nothing.
+#![tactic(auto)]
+
+mod additive;
+mod kept;
+mod local;
+mod nested;
+mod places;
+
+pub use additive::exchange_of_additive_firms;
+pub use kept::{exchange_among, exchange_of_priced_firms};
+pub use local::{local_is_global, locally_best_is_best};
+pub use nested::{exchange_of_nested_sums, listed_numbers_are_concave};
+pub use places::{bundles_have_places, exchange_over_places, null_is_net_count};

@@ -1,0 +1,5 @@
+pub mod Keys
+pub mod Short
+pub mod DealLemmas
+pub mod VerdictLemmas
+pub mod JsonLemmas
