@@ -1,5 +1,5 @@
 -- Which answers can be written over some names: their firms and trades have names, and their numbers fit 64 bits.
-use Rattle.std.specs.Prelude.{◌≡◌, ℕ, ◌<◌, ◌↔◌, List, length, All, IsSome, IfSome, ℤ, FitsSigned}
+use Rattle.std.specs.Prelude.{◌≡◌, ℕ, ◌<◌, ◌↔◌, List, length, All, Option, IsSome, IfSome, ℤ, FitsSigned}
 use Rattle.std.specs.Int.{w64}
 use Rattle.tn_base.specs.declared.fault.FaultKind.TheVariants.{ExchangeFails}
 use Rattle.tn_market.specs.declared.place.PlaceStep.{PlaceStep}
