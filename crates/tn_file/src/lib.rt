@@ -1,0 +1,7 @@
+//! Reads a document. The rules that a document keeps, and the order in which they are tested, stand in `specs/`.
+#![tactic(auto)]
+
+mod fault;
+mod names;
+mod shapes;
+mod steps;
