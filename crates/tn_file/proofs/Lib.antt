@@ -1,2 +1,3 @@
 pub mod ShapeLemmas
 pub mod EachLemmas
+pub mod EndsLemmas

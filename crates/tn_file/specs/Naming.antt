@@ -1,6 +1,6 @@
 -- The names of firms and of trades, and the two ends of each trade.
-use Rattle.std.specs.Prelude.{◌≡◌, ℕ, ◌+◌, ◌++◌, [], ◌∷◌, List, length, codes, Bool, not, ◌==◌, nat_le, if◌then◌else◌, Option, Some, None, Result, Ok}
-use Rattle.std.specs.List.{flat_map}
+use Rattle.std.specs.Prelude.{◌≡◌, ◌≢◌, ℕ, ◌+◌, ◌<◌, ◌++◌, [], ◌∷◌, List, length, take, slice_get, codes, Bool, not, ◌==◌, nat_le, if◌then◌else◌, Option, Some, None, Result, Ok}
+use Rattle.std.specs.List.{filter_map}
 use Rattle.serde_json.specs.Data.{Data, Items}
 use Rattle.serde_json.specs.Find.{get}
 use Rattle.tn_base.specs.declared.side.Side.{Side}
@@ -41,12 +41,12 @@ trade_name names trade = do
   Ok (with_trade names name)
 
 -- the side on which a firm stands in a trade, if it has a part in it
-abbrev pub side_in : ℕ → Ends → List Side
-side_in f trade = if trade.seller == f then Sell ∷ [] else (if trade.buyer == f then Buy ∷ [] else [])
+abbrev pub side_in : ℕ → Ends → Option Side
+side_in f trade = if trade.seller == f then Some Sell else (if trade.buyer == f then Some Buy else None)
 
 -- the sides on which a firm stands in its own trades, which have their positions in this order
 unfoldable pub sides_of : List Ends → ℕ → List Side
-sides_of trades f = flat_map (side_in f) trades
+sides_of trades f = filter_map (side_in f) trades
 
 -- the firm that a member names
 unfoldable pub firm_at : List (List ℕ) → List PlaceStep → Option Data → Result ℕ Fault
@@ -73,3 +73,15 @@ one_trade listed trade = do
   names ← beside listed.names (trade_name listed.names trade)
   ends ← beside names (ends_at names.firms listed.ends (length listed.ends) trade)
   Ok (record { names = names; ends = listed.ends ++ ends ∷ [] })
+
+-- a trade after others has two different firms, and its positions count the trades of these firms before it
+pub record ComesNext (firms : ℕ) (before : List Ends) (trade : Ends) : Type 0 where
+  pub seller : trade.seller < firms
+  pub buyer : trade.buyer < firms
+  pub apart : trade.seller ≢ trade.buyer
+  pub at_seller : trade.at_seller ≡ length (sides_of before trade.seller)
+  pub at_buyer : trade.at_buyer ≡ length (sides_of before trade.buyer)
+
+-- so does each trade of a list
+abbrev pub AreInOrder : ℕ → List Ends → Type 0
+AreInOrder firms trades = (t : ℕ) (trade : Ends) → slice_get trades t ≡ Some trade → ComesNext firms (take t trades) trade

@@ -5,3 +5,4 @@ mod fault;
 mod names;
 mod shapes;
 mod steps;
+mod trades;
