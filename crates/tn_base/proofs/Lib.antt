@@ -4,3 +4,4 @@ pub mod SumLemmas
 pub mod FirmLemmas
 pub mod TableLemmas
 pub mod LimbLemmas
+pub mod ExchangeLemmas

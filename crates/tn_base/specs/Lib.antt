@@ -6,4 +6,5 @@ pub mod Faults
 pub mod Arcs
 pub mod Ticks
 pub mod SetLaws
+pub mod ExchangeLaw
 pub mod Limbs

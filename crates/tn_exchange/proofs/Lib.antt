@@ -1,0 +1,3 @@
+pub mod RowLemmas
+pub mod BuysLemmas
+pub mod TestLemmas

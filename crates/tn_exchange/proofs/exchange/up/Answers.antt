@@ -1,0 +1,6 @@
+use Rattle.tn_base.specs.Firm.{up}
+use Rattle.tn_exchange.proofs.exchange.up.Goals as goal
+
+pub returns : goal.returns
+unfolding up
+returns c = cc

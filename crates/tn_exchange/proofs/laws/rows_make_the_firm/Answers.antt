@@ -1,0 +1,5 @@
+use Rattle.tn_exchange.proofs.RowLemmas.{rows_make_the_firm}
+use Rattle.tn_exchange.proofs.laws.rows_make_the_firm.Goals as goal
+
+pub returns : goal.returns
+returns c = record { same = rows_make_the_firm }

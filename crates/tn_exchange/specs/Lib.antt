@@ -1,0 +1,4 @@
+pub mod Rows
+pub mod TestOrder
+pub mod Verdicts
+pub mod RowsLaw

@@ -1,0 +1,17 @@
+use tn_base::Bundle;
+
+/// Whether a table meets exchange.
+#[derive(Clone, Copy, Debug, PartialEq, Eq)]
+pub enum Verdict {
+    /// No triple fails.
+    Holds,
+    /// The first failing triple, in test order.
+    Fails {
+        /// The first bundle.
+        x: Bundle,
+        /// The second bundle.
+        y: Bundle,
+        /// The position that can't be exchanged, or none where the net count can't be.
+        at: Option<u32>,
+    },
+}
