@@ -2,10 +2,12 @@
 use Rattle.std.proofs.Common.{◌≡◌, ◌≢◌, ℕ, zero, suc, ◌+◌, ◌<◌, ◌≤◌, Bool, true, false, List, [], ◌∷◌, ◌++◌, length, take, get_or, slice_get, Option, Some, None, is_some, ◌⊎◌, inl, inr, refl, sym, ap, subst, ◌∙◌, add-one, arith, length-append}
 use Rattle.std.specs.Prelude.{nat_eq, cond}
 use Rattle.std.specs.List.{filter_map, cons_option}
-use Rattle.std.proofs.lemmas.Option.{none-some, same_Some}
-use Rattle.std.proofs.lemmas.Bool.{cases_eq}
+use Rattle.std.proofs.lemmas.Option.{none-some, same_Some, slice_get_within}
+use Rattle.std.proofs.lemmas.Bool.{eqb-true}
 use Rattle.tn_base.specs.declared.side.Side.{Side}
+use Rattle.tn_base.specs.declared.side.Side.TheVariants.{Buy, Sell}
 use Rattle.tn_market.specs.declared.ends.Ends.{Ends}
+use Rattle.tn_file.specs.Tables.{position_in}
 use Rattle.tn_file.specs.Naming.{side_in, sides_of, ComesNext, AreInOrder}
 
 -- what stands in a list once an item is last
@@ -79,3 +81,38 @@ count-other f es k d h is = by_side (side_in f (get_or es k d)) refl is
     by_side : (side : Option Side) → side_in f (get_or es k d) ≡ side → is_some side ≡ false → length (sides_of (take (k + 1) es) f) ≡ length (sides_of (take k es) f)
     by_side None e there = ap length (sides_of-other f es k d h e)
     by_side (Some s) e there = absurd cc
+
+-- a firm stands in a trade on the side that its own trades have at the trade's position
+pub own_side : (f : ℕ) (es : List Ends) (t : ℕ) (e : Ends) (side : Side) → slice_get es t ≡ Some e → side_in f e ≡ Some side
+    → slice_get (sides_of es f) (length (sides_of (take t es) f)) ≡ Some side
+unfolding sides_of
+own_side f [] t e side is at = absurd (none-some _ is)
+own_side f (x ∷ es) zero e side is at = ap (λ (s : Option Side). slice_get (cons_option s (sides_of es f)) 0) (ap (side_in f) (same_Some _ _ is) ∙ at)
+own_side f (x ∷ es) (suc t) e side is at = after (side_in f x)
+  where
+    after : (first : Option Side) → slice_get (cons_option first (sides_of es f)) (length (cons_option first (sides_of (take t es) f))) ≡ Some side
+    after None = own_side f es t e side is at
+    after (Some s) = own_side f es t e side is at
+
+-- the position of an own trade, and its side
+module _ (firms f : ℕ) (es : List Ends) (t : ℕ) (e : Ends) (order : AreInOrder firms es) (is : slice_get es t ≡ Some e) where
+  by_tests : (sells buys : Bool) (k : ℕ) → nat_eq e.seller f ≡ sells → nat_eq e.buyer f ≡ buys
+      → cond sells (Some e.at_seller) (cond buys (Some e.at_buyer) None) ≡ Some k
+      → (side : Side) × (cond sells (Some Sell) (cond buys (Some Buy) None) ≡ Some side) × (k ≡ length (sides_of (take t es) f))
+  by_tests true buys k seller buyer at = (Sell, refl, same_Some _ _ (sym at) ∙ (order t e is).at_seller ∙ ap (λ (g : ℕ). length (sides_of (take t es) g)) (eqb-true e.seller f seller))
+  by_tests false true k seller buyer at = (Buy, refl, same_Some _ _ (sym at) ∙ (order t e is).at_buyer ∙ ap (λ (g : ℕ). length (sides_of (take t es) g)) (eqb-true e.buyer f buyer))
+  by_tests false false k seller buyer at = absurd (none-some _ at)
+
+  pub own_position : (k : ℕ) → position_in f e ≡ Some k → (side : Side) × (side_in f e ≡ Some side) × (k ≡ length (sides_of (take t es) f))
+  own_position k at = by_tests (nat_eq e.seller f) (nat_eq e.buyer f) k refl refl at
+
+  -- the side of the own trade at that position
+  pub side_at_position : (k : ℕ) → position_in f e ≡ Some k → (side : Side) × (side_in f e ≡ Some side) × (slice_get (sides_of es f) k ≡ Some side)
+  side_at_position k at =
+      let own = own_position k at in
+      (own.0, own.1, ap (slice_get (sides_of es f)) own.2 ∙ own_side f es t e own.0 is own.1)
+
+  pub position_within : (k : ℕ) → position_in f e ≡ Some k → k < length (sides_of es f)
+  position_within k at =
+      let own = side_at_position k at in
+      slice_get_within (sides_of es f) k own.0 own.2

@@ -3,6 +3,7 @@
 
 mod fault;
 mod names;
+mod references;
 mod shapes;
 mod steps;
 mod trades;

@@ -1,4 +1,4 @@
-ghost use Rattle.std.specs.Prelude.{◌≡◌, ◌≤◌, length, map, option_map, string_bytes, is_some, Err, Some, true, IfOk};
+ghost use Rattle.std.specs.Prelude.{◌≡◌, ◌≤◌, length, map, option_map, string_bytes, is_some, Err, Some, true, IfOk, OnOk, IsTrue};
 ghost use Rattle.std.specs.List.{list_all};
 ghost use Rattle.serde_json.specs.View.{view, items_view, members_view};
 ghost use Rattle.tn_base.specs.Arcs.{IsAtMost};
@@ -43,7 +43,8 @@ pub(crate) fn check(
     kind: FaultKind,
     place: &[PlaceStep],
 ) -> Result<(), ReadError>
-    ensures { Gives (λ _. tt) result (holds kind place.now met) }
+    ensures gives { Gives (λ _. tt) result (holds kind place.now met) }
+    ensures met { OnOk result (IsTrue met) }
 {
     if !met {
         return Err(fault(alloc, kind, place));
@@ -58,7 +59,8 @@ pub(crate) fn found(
     kind: FaultKind,
     place: &[PlaceStep],
 ) -> Result<u32, ReadError>
-    ensures { Gives (λ n. n) result (wanted kind place.now number) }
+    ensures gives { Gives (λ n. n) result (wanted kind place.now number) }
+    ensures found { IfOk result (λ n. number ≡ Some n) }
 {
     match number {
         Some(number) => Ok(number),
