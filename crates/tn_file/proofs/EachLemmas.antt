@@ -47,3 +47,8 @@ pub each_fails_beside : {A : Type 0} (step : A → Data → Result A Stop) (name
     → each step found (items_view (drop k vs)) ≡ total → FailsBeside names e total
 each_fails_beside step names OutOfMemory vs k d found total h fails so_far = tt
 each_fails_beside step names (FaultIs f) vs k d found total h fails so_far = each_stops_at step vs k d found (record { fault = f; names = names }) total h fails so_far
+
+-- what stops reading stops what follows too
+pub fails_then : {A B : Type 0} (e : ReadError) (r : Result A Fault) (f : A → Result B Fault) → Fails e r → Fails e (r >>= f)
+fails_then OutOfMemory r f h = tt
+fails_then (FaultIs fault) r f h = ap (λ r. r >>= f) h

@@ -1,12 +1,13 @@
 -- The trades of a list in their order, and the sides on which a firm stands in them.
 use Rattle.std.proofs.Common.{◌≡◌, ◌≢◌, ℕ, zero, suc, ◌+◌, ◌<◌, ◌≤◌, Bool, true, false, List, [], ◌∷◌, ◌++◌, length, take, get_or, slice_get, Option, Some, None, is_some, ◌⊎◌, inl, inr, refl, sym, ap, subst, ◌∙◌, add-one, arith, length-append}
-use Rattle.std.specs.Prelude.{nat_eq, cond}
+use Rattle.std.specs.Prelude.{nat_eq, cond, IfOk, Result, Ok, Err}
 use Rattle.std.specs.List.{filter_map, cons_option}
 use Rattle.std.proofs.lemmas.Option.{none-some, same_Some, slice_get_within}
 use Rattle.std.proofs.lemmas.Bool.{eqb-true}
 use Rattle.tn_base.specs.declared.side.Side.{Side}
 use Rattle.tn_base.specs.declared.side.Side.TheVariants.{Buy, Sell}
 use Rattle.tn_market.specs.declared.ends.Ends.{Ends}
+use Rattle.tn_file.specs.declared.fault.ReadError.{ReadError}
 use Rattle.tn_file.specs.Tables.{position_in}
 use Rattle.tn_file.specs.Naming.{side_in, sides_of, ComesNext, AreInOrder}
 
@@ -88,11 +89,12 @@ pub own_side : (f : ℕ) (es : List Ends) (t : ℕ) (e : Ends) (side : Side) →
 unfolding sides_of
 own_side f [] t e side is at = absurd (none-some _ is)
 own_side f (x ∷ es) zero e side is at = ap (λ (s : Option Side). slice_get (cons_option s (sides_of es f)) 0) (ap (side_in f) (same_Some _ _ is) ∙ at)
-own_side f (x ∷ es) (suc t) e side is at = after (side_in f x)
+own_side f (x ∷ es) (suc t) e side is at = after (side_in f x) (own_side f es t e side is at)
   where
-    after : (first : Option Side) → slice_get (cons_option first (sides_of es f)) (length (cons_option first (sides_of (take t es) f))) ≡ Some side
-    after None = own_side f es t e side is at
-    after (Some s) = own_side f es t e side is at
+    after : (first : Option Side) → slice_get (sides_of es f) (length (sides_of (take t es) f)) ≡ Some side
+        → slice_get (cons_option first (sides_of es f)) (length (cons_option first (sides_of (take t es) f))) ≡ Some side
+    after None is = is
+    after (Some s) is = is
 
 -- the position of an own trade, and its side
 module _ (firms f : ℕ) (es : List Ends) (t : ℕ) (e : Ends) (order : AreInOrder firms es) (is : slice_get es t ≡ Some e) where
@@ -116,3 +118,7 @@ module _ (firms f : ℕ) (es : List Ends) (t : ℕ) (e : Ends) (order : AreInOrd
   position_within k at =
       let own = side_at_position k at in
       slice_get_within (sides_of es f) k own.0 own.2
+
+pub found_within : (r : Result ℕ ReadError) (position : Option ℕ) (n : ℕ) → IfOk r (λ k. position ≡ Some k) → ((k : ℕ) → position ≡ Some k → k < n) → IfOk r (λ k. k < n)
+found_within (Ok k) position n found within = within k found
+found_within (Err e) position n found within = tt

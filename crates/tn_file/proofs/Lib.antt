@@ -1,3 +1,4 @@
 pub mod ShapeLemmas
 pub mod EachLemmas
 pub mod EndsLemmas
+pub mod RowLemmas

@@ -1,5 +1,5 @@
 -- The tables of the firms.
-use Rattle.std.specs.Prelude.{◌≡◌, ℕ, ◌+◌, ◌^◌, ◌≤◌, ◌++◌, [], ◌∷◌, ℤ, List, length, slice_get, codes, Bool, true, false, not, ◌==◌, nat_le, if◌then◌else◌, Option, Some, None, is_none, option_and_then, Result, Ok}
+use Rattle.std.specs.Prelude.{◌≡◌, ℕ, suc, ◌+◌, ◌^◌, ◌≤◌, ◌++◌, [], ◌∷◌, ℤ, List, length, slice_get, codes, Bool, true, false, not, ◌==◌, nat_le, if◌then◌else◌, Option, Some, None, is_none, option_and_then, Result, Ok}
 use Rattle.std.specs.Str.{bytes_eq}
 use Rattle.serde_json.specs.Data.{Data, Items}
 use Rattle.serde_json.specs.Find.{get}
@@ -78,17 +78,28 @@ one_row listed f rows row = do
   new ← holds SameBundle (row_place f rows.count) (is_none (row_at rows.table.rows next.0))
   Ok (record { count = rows.count + 1; table = with_row rows.table next.0 next.1 })
 
--- the table of a firm
+-- the rows of firm f
+unfoldable pub rows_of : Listed → ℕ → Items → Result TableRows Fault
+rows_of listed f items = do
+  rows ← each (one_row listed f) (record { count = 0; table = without_rows (sides_of listed.ends f) }) items
+  Ok rows.table
+
+-- the table of firm f, which has at most 10 own trades
 unfoldable pub table_of : Listed → ℕ → Data → Result TableRows Fault
 table_of listed f firm = do
   object ← object_of Table (firm_place f) (Some firm)
   few ← holds Limit (firm_place f) (nat_le (length (sides_of listed.ends f)) 10)
   items ← list_at (firm_place f ++ Word RowsWord ∷ []) (get (codes "rows") firm)
-  rows ← each (one_row listed f) (record { count = 0; table = without_rows (sides_of listed.ends f) }) items
-  Ok rows.table
+  rows_of listed f items
 
 -- a firm's kind is a text, and one of those that are known
 unfoldable pub kind_of : ℕ → Data → Result (Unit {0}) Fault
 kind_of f firm = do
   kind ← text_at (firm_place f ++ Word Kind ∷ []) (get (codes "kind") firm)
   holds Shape (firm_place f ++ Word Kind ∷ []) (bytes_eq kind (codes "table"))
+
+-- how many bundles have a row
+abbrev pub filled : List (Option ℤ) → ℕ
+filled [] = 0
+filled (None ∷ rows) = filled rows
+filled (Some amount ∷ rows) = suc (filled rows)

@@ -4,6 +4,7 @@
 mod fault;
 mod names;
 mod references;
+mod rows;
 mod shapes;
 mod steps;
 mod trades;

@@ -11,7 +11,7 @@ use crate::steps::{BUYER, SELLER, TRADES};
 use serde_json::Value;
 use std::alloc::Global;
 use tn_answer::Names;
-use tn_base::{FaultKind, Side};
+use tn_base::{FaultKind, OutOfMemory, Side};
 use tn_market::{Ends, PlaceStep};
 
 /// Reads the trades, and puts their names to the names.
@@ -124,4 +124,17 @@ pub(crate) fn side_in(trade: &Ends, f: u32) -> Option<Side>
     } else {
         None
     }
+}
+
+/// The sides on which a firm stands in its own trades, by position.
+pub(crate) fn sides_of(alloc: Global, trades: &[Ends], f: u32) -> Result<Vec<Side>, OutOfMemory>
+    ensures { IfOk result (λ sides. sides.items ≡ sides_of trades.now f) }
+{
+    let mut sides = Vec::new(alloc);
+    for trade in trades {
+        if let Some(side) = side_in(trade, f) {
+            sides.push(side)?;
+        }
+    }
+    Ok(sides)
 }
