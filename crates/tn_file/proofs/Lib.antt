@@ -2,3 +2,4 @@ pub mod ShapeLemmas
 pub mod EachLemmas
 pub mod EndsLemmas
 pub mod RowLemmas
+pub mod FailureLemmas

@@ -1,4 +1,5 @@
 pub mod Reading
 pub mod Shapes
 pub mod Naming
+pub mod FirstFailure
 pub mod Tables
