@@ -3,3 +3,4 @@ pub mod Shapes
 pub mod Naming
 pub mod FirstFailure
 pub mod Tables
+pub mod Firms
