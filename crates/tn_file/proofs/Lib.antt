@@ -3,3 +3,4 @@ pub mod EachLemmas
 pub mod EndsLemmas
 pub mod RowLemmas
 pub mod FailureLemmas
+pub mod FirmLemmas
