@@ -4,3 +4,4 @@ pub mod EndsLemmas
 pub mod RowLemmas
 pub mod FailureLemmas
 pub mod FirmLemmas
+pub mod PriceLemmas

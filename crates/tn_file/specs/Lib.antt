@@ -4,3 +4,7 @@ pub mod Naming
 pub mod FirstFailure
 pub mod Tables
 pub mod Firms
+pub mod Arranged
+pub mod Json
+pub mod Document
+pub mod Extra

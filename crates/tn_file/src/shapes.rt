@@ -2,6 +2,7 @@ ghost use Rattle.std.specs.Prelude.{◌≡◌, ◌≤◌, length, map, option_ma
 ghost use Rattle.std.specs.List.{list_all};
 ghost use Rattle.serde_json.specs.View.{view, items_view, members_view};
 ghost use Rattle.tn_base.specs.Arcs.{IsAtMost};
+ghost use Rattle.tn_base.specs.declared.fault.FaultKind.TheVariants.{Shape};
 ghost use Rattle.tn_answer.specs.Names.{is_name};
 ghost use Rattle.tn_file.specs.Reading.{Gives, fault, holds, wanted, IsFaultAt};
 ghost use Rattle.tn_file.specs.Shapes.{allows, allows_all, few_at, list_at, name_at, number_at, object_at, object_of, text_at, two_at, two_of};
@@ -231,4 +232,18 @@ pub(crate) fn name<'a>(
     let name = text(alloc, value, place)?;
     check(alloc, is_name(name), FaultKind::BadName, place)?;
     Ok(name)
+}
+
+/// A value that is there.
+pub(crate) fn present<'a>(
+    alloc: Global,
+    value: Option<&'a Value>,
+    place: &[PlaceStep],
+) -> Result<&'a Value, ReadError>
+    ensures { Gives (λ v. view v.now) result (wanted Shape place.now (option_map (λ v. view v.now) value.entry)) }
+{
+    match value {
+        Some(value) => Ok(value),
+        None => Err(fault(alloc, FaultKind::Shape, place)),
+    }
 }
