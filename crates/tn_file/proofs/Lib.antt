@@ -5,3 +5,4 @@ pub mod RowLemmas
 pub mod FailureLemmas
 pub mod FirmLemmas
 pub mod PriceLemmas
+pub mod JsonLemmas

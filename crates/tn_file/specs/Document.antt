@@ -55,6 +55,11 @@ extra_of Arrangement trades top = do
   Ok (arrangement arranged)
 extra_of _ trades top = Ok nothing
 
+-- firms as they are listed, and the ends of the trades in file order
+pub record NetData : Type 0 where
+  pub firms : List TableRows
+  pub ends : List Ends
+
 -- what a document stands for
 pub record DocumentData : Type 0 where
   pub names : NameLists

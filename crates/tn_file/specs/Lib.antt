@@ -8,3 +8,4 @@ pub mod Arranged
 pub mod Json
 pub mod Document
 pub mod Extra
+pub mod Refusal

@@ -2,6 +2,7 @@
 #![tactic(auto)]
 
 mod arrangement;
+mod document;
 mod extra;
 mod failures;
 mod fault;
@@ -9,11 +10,14 @@ mod firms;
 mod names;
 mod need;
 mod network;
+mod read;
 mod references;
 mod rows;
 mod shapes;
 mod steps;
 mod trades;
 
+pub use document::{DocRefusal, Document, Loaded, RawNet};
 pub use extra::Extra;
 pub use need::Need;
+pub use read::read_doc;

@@ -24,6 +24,7 @@ pub(crate) fn read_firm_names(
     ensures gives { GivesBeside names.new (λ _. names.new) result
         (each one_firm_name names.old (items_view firms.now)) }
     ensures count { OnOk result (length names.new.firms ≡ length firms.now) }
+    ensures trades { OnOk result (names.new.trades ≡ names.old.trades) }
 {
     for firm in firms {
         read_firm_name(alloc, names, firm)?;
@@ -38,6 +39,7 @@ fn read_firm_name(alloc: Global, names: &mut Names, firm: &Value) -> Result<(), 
     ensures gives { GivesBeside names.new (λ _. names.new) result
         (one_firm_name names.old (view firm.now)) }
     ensures count { OnOk result (length names.new.firms ≡ length names.old.firms + 1) }
+    ensures trades { OnOk result (names.new.trades ≡ names.old.trades) }
 {
     let f = PlaceStep::Index(names.firms());
     object(alloc, firm, &[FIRMS, f])?;

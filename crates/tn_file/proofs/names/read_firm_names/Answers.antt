@@ -14,6 +14,7 @@ returns-in_err-read_firm_name-clause-gives c =
 pub loop-firm-preserved : goal.loop-firm-preserved
 loop-firm-preserved c = record {
   count = omega (arith, c.in_ok-read_firm_name.ensures.count, c.loop-firm.invariant.count);
+  trades = c.in_ok-read_firm_name.ensures.trades ∙ c.loop-firm.invariant.trades;
   rest = each_goes_on one_firm_name c.args.firms.now c.loop-firm.firm-index c.firm-item.result _ _ _ c.loop-firm-test.true (rw (← c.firm-item.is) c.in_ok-read_firm_name.ensures.gives) c.loop-firm.invariant.rest;
 }
 
