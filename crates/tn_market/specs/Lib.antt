@@ -5,4 +5,5 @@ pub mod Valued
 pub mod Best
 pub mod Accepted
 pub mod Traded
+pub mod Ascent
 pub mod Lawful
