@@ -3,7 +3,7 @@ ghost use Rattle.tn_table.specs.Tables.{firm_of, table_laws};
 
 use crate::table::Table;
 use tn_base::{Asked, Bundle, Side, Steps};
-use tn_market::Valuation;
+use tn_market::{Oracle, Room, Valuation, best_by_ascent};
 
 /// The size that no worth of a firm is above.
 const BOUND: i128 = 100_000_000_000;
@@ -47,4 +47,17 @@ impl Valuation for Table {
     ghost within = { λ table. (table_laws table).within };
 
     ghost small_limit = { λ table. (table_laws table).small_limit };
+}
+
+impl Oracle for Table {
+    fn best(
+        &self,
+        need: Bundle,
+        free: Bundle,
+        scale: i128,
+        prices: &[i128],
+        _room: &mut Room,
+    ) -> Option<(Bundle, i128)> {
+        best_by_ascent(self, need, free, scale, prices, &mut Steps::new(Asked))
+    }
 }
