@@ -7,3 +7,4 @@ pub mod Accepted
 pub mod Traded
 pub mod Ascent
 pub mod Stall
+pub mod Lawful
