@@ -7,7 +7,7 @@ use Rattle.tn_market.specs.declared.place.PlaceStep.TheVariants.{Trade}
 use Rattle.tn_market.specs.declared.said.Fault.{Fault}
 use Rattle.tn_market.specs.declared.said.Shown.{Shown}
 use Rattle.tn_market.specs.declared.said.Said.{Said}
-use Rattle.tn_market.specs.declared.said.Said.TheVariants.{Fault as FaultIs, Equilibrium, Better, Impossible}
+use Rattle.tn_market.specs.declared.said.Said.TheVariants.{Fault as FaultIs, Equilibrium, Better, Impossible, ExchangeFails as FailsIs}
 use Rattle.tn_answer.specs.Names.{NameLists}
 
 abbrev pub IsNamed : List (List ℕ) → ℕ → Type 0
@@ -34,9 +34,16 @@ pub record IsSayableBetter (names : NameLists) (firm : ℕ) (bundle : List ℕ) 
   pub bundle_named : All (IsNamed names.trades) bundle
   pub gain_fits : FitsSigned w64 gain
 
+pub record IsSayableFailure (names : NameLists) (firm : ℕ) (x y : List ℕ) (at : Option ℕ) : Type 0 where
+  pub firm_named : IsNamed names.firms firm
+  pub x_named : All (IsNamed names.trades) x
+  pub y_named : All (IsNamed names.trades) y
+  pub at_named : IfSome at (IsNamed names.trades)
+
 abbrev pub IsSayable : NameLists → Said → Type 0
 IsSayable names (FaultIs fault) = IsSayableFault names.trades fault
 IsSayable names (Equilibrium surplus) = FitsSigned w64 surplus
 IsSayable names (Better firm bundle gain) = IsSayableBetter names firm bundle gain
 IsSayable names (Impossible firm) = IsNamed names.firms firm
+IsSayable names (FailsIs firm x y at) = IsSayableFailure names firm x y at
 IsSayable names _ = Unit {0}

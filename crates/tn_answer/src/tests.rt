@@ -121,6 +121,34 @@ fn writes_a_better_bundle(rt: HostRuntime) -> Result<(), Fail> {
 }
 
 #[test]
+fn writes_a_failing_firm(rt: HostRuntime) -> Result<(), Fail> {
+    let names = two_of_each(rt.alloc())?;
+    assert!(rt; names.firms() == 2);
+    assert_line(
+        &rt,
+        rt.alloc(),
+        &names,
+        &Said::Accepted,
+        r#"{"answer":"accepted"}"#,
+    )?;
+    let none = Trades::from_vec(Vec::new(rt.alloc()));
+    let also_none = Trades::from_vec(Vec::new(rt.alloc()));
+    let fails = Said::ExchangeFails {
+        firm: 1,
+        x: none,
+        y: also_none,
+        at: None,
+    };
+    assert_line(
+        &rt,
+        rt.alloc(),
+        &names,
+        &fails,
+        r#"{"answer":"exchange_fails","at":null,"firm":"B","x":[],"y":[]}"#,
+    )
+}
+
+#[test]
 fn writes_constant_texts(rt: HostRuntime) {
     assert!(rt; is_line(usage_text(), r#"{"answer":"usage"}"#));
     assert!(rt; is_line(read_fault_text(), r#"{"answer":"read_fault"}"#));

@@ -23,6 +23,10 @@ pub(crate) fn answer_value(alloc: Global, names: &Names, said: &Said) -> Result<
         Said::Equilibrium { surplus } => equilibrium_value(alloc, names, *surplus),
         Said::Better { firm, bundle, gain } => better_value(alloc, names, *firm, bundle, *gain),
         Said::Impossible { firm } => impossible_value(alloc, names, *firm),
+        Said::Accepted => json!(in alloc; {"answer": "accepted"}),
+        Said::ExchangeFails { firm, x, y, at } => {
+            exchange_fails_value(alloc, names, *firm, x, y, *at)
+        }
     }
 }
 
@@ -108,6 +112,30 @@ fn impossible_value(alloc: Global, names: &Names, firm: u32) -> Result<Value, Al
     ensures { IfOk result (λ value. view value ≡ answer_data names.now (Said.Impossible firm)) }
 {
     json!(in alloc; {"answer": "impossible", "firm": names.firm(firm)})
+}
+
+fn exchange_fails_value(
+    alloc: Global,
+    names: &Names,
+    firm: u32,
+    x: &Trades,
+    y: &Trades,
+    at: Option<u32>,
+) -> Result<Value, AllocError>
+    requires { IsSayable names.now (Said.ExchangeFails firm x.now y.now at) }
+    ensures { IfOk result
+        (λ value. view value ≡ answer_data names.now (Said.ExchangeFails firm x.now y.now at)) }
+{
+    let at = option_value(alloc, names, at)?;
+    let x = trades_value(alloc, names, x)?;
+    let y = trades_value(alloc, names, y)?;
+    json!(in alloc; {
+        "answer": "exchange_fails",
+        "at": at,
+        "firm": names.firm(firm),
+        "x": x,
+        "y": y,
+    })
 }
 
 fn trade_value(alloc: Global, names: &Names, trade: u32) -> Result<Value, AllocError>

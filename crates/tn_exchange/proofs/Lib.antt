@@ -1,3 +1,4 @@
 pub mod RowLemmas
 pub mod BuysLemmas
 pub mod TestLemmas
+pub mod DecisionLemmas

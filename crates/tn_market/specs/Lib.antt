@@ -6,4 +6,5 @@ pub mod Best
 pub mod Accepted
 pub mod Traded
 pub mod Ascent
+pub mod Stall
 pub mod Lawful

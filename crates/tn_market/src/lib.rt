@@ -14,6 +14,8 @@ mod oracle;
 mod place;
 mod room;
 mod said;
+#[cfg(test)]
+mod tests;
 mod valuation;
 
 pub use arrangement::Arrangement;

@@ -1,7 +1,7 @@
 -- What a whole run comes to.
 use Rattle.std.specs.Prelude.{◌≡◌, ◌≢◌, ℕ, ◌⊎◌, List, length, Option, Some, None}
 use Rattle.tn_market.specs.declared.said.Said.{Said}
-use Rattle.tn_market.specs.declared.said.Said.TheVariants.{Usage, ReadFault, NoMemory, Fault, Equilibrium, Better, Impossible}
+use Rattle.tn_market.specs.declared.said.Said.TheVariants.{Usage, ReadFault, NoMemory, Fault, Equilibrium, Better, Impossible, Accepted, ExchangeFails}
 use Rattle.tn_io.specs.Counts.{Rose}
 use Rattle.tn_io.specs.Sink.{Grows, GrowsByPrefix}
 use Rattle.tn_answer.specs.Names.{NameLists}
@@ -16,6 +16,8 @@ status_of ReadFault = 3
 status_of NoMemory = 5
 status_of (Better firm bundle gain) = 6
 status_of (Impossible firm) = 6
+status_of Accepted = 0
+status_of (ExchangeFails firm x y at) = 6
 
 -- the text of the answer was written whole
 pub record IsWrittenWhole (old new : Option (List ℕ)) (names : NameLists) (said : Said) (status : ℕ) : Type 0 where

@@ -31,12 +31,12 @@ fn status_of(said: &Said) -> u8
     ensures { result ≡ status_of said.now }
 {
     match said {
-        Said::Equilibrium { .. } => 0,
+        Said::Equilibrium { .. } | Said::Accepted => 0,
         Said::Fault(_) => 1,
         Said::Usage => 2,
         Said::ReadFault => 3,
         Said::NoMemory => 5,
-        Said::Better { .. } | Said::Impossible { .. } => 6,
+        Said::Better { .. } | Said::Impossible { .. } | Said::ExchangeFails { .. } => 6,
     }
 }
 

@@ -1,0 +1,11 @@
+use Rattle.std.proofs.Common.{◌≡◌, length, drop}
+use Rattle.serde_json.specs.View.{items_view}
+use Rattle.tn_file.specs.Reading.{each}
+use Rattle.tn_file.specs.Arranged.{Priced, one_price}
+use Rattle.tn_file.proofs.arrangement.read_entries.Given as goal
+
+abbrev pub invariant-loop-entry : goal.invariant-loop-entry
+invariant-loop-entry l = record {
+  places : length l.prices ≡ length l.names.trades;
+  rest : each (one_price l.names.trades) (record { named = l.named; prices = l.prices }) (items_view (drop l.entry-index l.entries)) ≡ each (one_price l.names.trades) (record { named = 0; prices = l.fn.prices }) (items_view l.entries);
+}

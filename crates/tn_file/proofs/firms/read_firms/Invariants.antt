@@ -1,0 +1,12 @@
+use Rattle.std.proofs.Common.{◌≡◌, length, drop, []}
+use Rattle.serde_json.specs.View.{items_view}
+use Rattle.tn_file.specs.Reading.{each}
+use Rattle.tn_file.specs.Naming.{Listed}
+use Rattle.tn_file.specs.Firms.{one_firm}
+use Rattle.tn_file.proofs.firms.read_firms.Given as goal
+
+abbrev pub invariant-loop-firm : goal.invariant-loop-firm
+invariant-loop-firm l = record {
+  count : length l.tables.items ≡ l.firm-index;
+  rest : each (one_firm l.tested (record { names = l.names; ends = l.ends })) l.tables.items (items_view (drop l.firm-index l.firms)) ≡ each (one_firm l.tested (record { names = l.names; ends = l.ends })) [] (items_view l.firms);
+}

@@ -1,0 +1,8 @@
+-- What an extra part stands for.
+use Rattle.tn_file.specs.declared.extra.Extra.{Extra}
+use Rattle.tn_file.specs.declared.extra.Extra.TheVariants.{None, Arrangement}
+use Rattle.tn_file.specs.Document.{ExtraData, nothing, arrangement}
+
+abbrev pub extra_view : Extra → ExtraData
+extra_view None = nothing
+extra_view (Arrangement part) = arrangement (record { on = part.on; prices = part.prices })

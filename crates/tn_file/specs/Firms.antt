@@ -1,0 +1,43 @@
+-- The firms: each has a kind and the members of its kind, and meets the exchange property where it is tested.
+use Rattle.std.specs.Prelude.{◌≡◌, ℕ, ◌++◌, [], ◌∷◌, List, length, Bool, true, false, if◌then◌else◌, Option, Some, None, option_map, Result, Ok, Err}
+use Rattle.serde_json.specs.Data.{Data}
+use Rattle.tn_base.specs.declared.fault.FaultKind.TheVariants.{ExchangeFails}
+use Rattle.tn_exchange.specs.Rows.{TableRows}
+use Rattle.tn_exchange.specs.TestOrder.{Triple}
+use Rattle.tn_market.specs.declared.ends.Ends.{Ends}
+use Rattle.tn_market.specs.declared.said.Fault.{Fault}
+use Rattle.tn_market.specs.declared.said.Shown.{Shown}
+use Rattle.tn_market.specs.Network.{own, trades_of}
+use Rattle.tn_file.specs.Reading.{◌>>=◌, each}
+use Rattle.tn_file.specs.Naming.{Listed}
+use Rattle.tn_file.specs.Tables.{firm_place, kind_of, table_of}
+use Rattle.tn_file.specs.FirstFailure.{first_failure}
+
+-- a triple of firm f, which has so many own trades, in trade numbers
+abbrev pub shown_of : List Ends → ℕ → ℕ → Triple → Shown
+shown_of trades f count t = record { x = trades_of trades f count t.x; y = trades_of trades f count t.y; at = option_map (own trades f) t.at }
+
+abbrev pub failure_of : List Ends → ℕ → ℕ → Triple → Fault
+failure_of trades f count t = record { kind = ExchangeFails; place = firm_place f; shown = Some (shown_of trades f count t) }
+
+abbrev pub unless_failing : List Ends → ℕ → ℕ → Option Triple → Result (Unit {0}) Fault
+unless_failing trades f count None = Ok tt
+unless_failing trades f count (Some t) = Err (failure_of trades f count t)
+
+-- the table of firm f meets exchange
+unfoldable pub exchange_of : List Ends → ℕ → TableRows → Result (Unit {0}) Fault
+exchange_of trades f table = unless_failing trades f (length table.sides) (first_failure table)
+
+-- firm f
+unfoldable pub firm_of : Bool → Listed → ℕ → Data → Result TableRows Fault
+firm_of tested listed f firm = do
+  kind ← kind_of f firm
+  table ← table_of listed f firm
+  met ← if tested then exchange_of listed.ends f table else Ok tt
+  Ok table
+
+-- one more firm; its number is the count of those before it
+unfoldable pub one_firm : Bool → Listed → List TableRows → Data → Result (List TableRows) Fault
+one_firm tested listed tables firm = do
+  table ← firm_of tested listed (length tables) firm
+  Ok (tables ++ table ∷ [])

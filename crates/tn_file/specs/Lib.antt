@@ -1,0 +1,11 @@
+pub mod Reading
+pub mod Shapes
+pub mod Naming
+pub mod FirstFailure
+pub mod Tables
+pub mod Firms
+pub mod Arranged
+pub mod Json
+pub mod Document
+pub mod Extra
+pub mod Refusal

@@ -1,0 +1,68 @@
+-- Reading in order, up to the first fault.
+use Rattle.std.specs.Prelude.{◌≡◌, List, Bool, true, false, Option, Some, None, Result, Ok, Err}
+use Rattle.tn_base.specs.declared.fault.FaultKind.{FaultKind}
+use Rattle.tn_market.specs.declared.place.PlaceStep.{PlaceStep}
+use Rattle.tn_market.specs.declared.said.Fault.{Fault}
+use Rattle.tn_answer.specs.Names.{NameLists}
+use Rattle.tn_file.specs.declared.fault.ReadError.{ReadError}
+use Rattle.tn_file.specs.declared.fault.ReadError.TheVariants.{Fault as FaultIs, OutOfMemory}
+use Rattle.serde_json.specs.Data.{Data, Items, no_items, item}
+
+-- where reading stops: a fault, and the names that were read until then
+pub record Stop : Type 0 where
+  pub fault : Fault
+  pub names : NameLists
+
+infixl 10 ◌>>=◌
+abbrev pub ◌>>=◌ : {A B E : Type 0} → Result A E → (A → Result B E) → Result B E
+(Ok x) >>= f = f x
+(Err e) >>= f = Err e
+
+-- reading that stops beside these names
+abbrev pub beside : {A : Type 0} → NameLists → Result A Fault → Result A Stop
+beside names (Ok x) = Ok x
+beside names (Err fault) = Err (record { fault = fault; names = names })
+
+-- a fault without a failing triple
+abbrev pub fault : FaultKind → List PlaceStep → Fault
+fault kind place = record { kind = kind; place = place; shown = None }
+
+-- what is there, and otherwise a fault
+abbrev pub wanted : {A : Type 0} → FaultKind → List PlaceStep → Option A → Result A Fault
+wanted kind place (Some x) = Ok x
+wanted kind place None = Err (fault kind place)
+
+-- what is said of a fault that was made: it is this one, unless memory ran out
+abbrev pub IsFaultAt : FaultKind → List PlaceStep → ReadError → Type 0
+IsFaultAt kind place OutOfMemory = Unit {0}
+IsFaultAt kind place (FaultIs f) = f ≡ fault kind place
+
+-- a fault where the test fails
+abbrev pub holds : FaultKind → List PlaceStep → Bool → Result (Unit {0}) Fault
+holds kind place true = Ok tt
+holds kind place false = Err (fault kind place)
+
+-- the items of a list one after the other, each beside what the earlier ones gave
+unfoldable pub each : {A E : Type 0} → (A → Data → Result A E) → A → Items → Result A E
+each step found no_items = Ok found
+each step found (item d ds) = do
+  next ← step found d
+  each step next ds
+
+-- What a function returned, seen by view, is what reading gives, unless memory ran out.
+abbrev pub Fails : {Y : Type 0} → ReadError → Result Y Fault → Type 0
+Fails OutOfMemory read = Unit {0}
+Fails (FaultIs f) read = read ≡ Err f
+
+abbrev pub Gives : {X Y : Type 0} → (X → Y) → Result X ReadError → Result Y Fault → Type 0
+Gives view (Ok x) read = read ≡ Ok (view x)
+Gives view (Err e) read = Fails e read
+
+-- The same of reading that tells the names beside a fault, which are those that the function left.
+abbrev pub FailsBeside : {Y : Type 0} → NameLists → ReadError → Result Y Stop → Type 0
+FailsBeside names OutOfMemory read = Unit {0}
+FailsBeside names (FaultIs f) read = read ≡ Err (record { fault = f; names = names })
+
+abbrev pub GivesBeside : {X Y : Type 0} → NameLists → (X → Y) → Result X ReadError → Result Y Stop → Type 0
+GivesBeside names view (Ok x) read = read ≡ Ok (view x)
+GivesBeside names view (Err e) read = FailsBeside names e read

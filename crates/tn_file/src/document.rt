@@ -1,0 +1,76 @@
+use crate::extra::Extra;
+use std::marker::Model;
+use tn_answer::Names;
+use tn_exchange::RawTable;
+use tn_market::{Ends, Fault};
+
+/// A document that is read.
+#[derive(Drop)]
+pub struct Document {
+    /// The names of the firms and of the trades.
+    pub names: Names,
+    /// The firms and the ends of the trades.
+    pub firms: Loaded,
+    /// The part that is needed beside the network.
+    pub extra: Extra,
+}
+
+/// The network of a document.
+#[derive(Debug, Drop)]
+pub enum Loaded {
+    /// Firms as they are listed.
+    Raw(RawNet),
+}
+
+/// Firms as they are listed, and the two ends of each trade.
+#[derive(Debug, Drop)]
+pub struct RawNet {
+    firms: Vec<RawTable>,
+    ends: Vec<Ends>,
+}
+
+impl Model for RawNet {
+    ghost use Rattle.tn_file.specs.Document.{NetData};
+
+    ghost Value = { NetData };
+
+    ghost view = { λ net. record { firms = net.firms.items; ends = net.ends.items } };
+}
+
+impl RawNet {
+    ghost use Rattle.std.specs.Prelude.{◌≡◌};
+
+    pub(crate) fn new(firms: Vec<RawTable>, ends: Vec<Ends>) -> RawNet
+        ensures { result ≡ record { firms = firms.items; ends = ends.items } }
+    {
+        RawNet { firms, ends }
+    }
+
+    /// The firms.
+    pub fn firms(&self) -> &[RawTable]
+        ensures { result.now ≡ self.now.firms }
+    {
+        &self.firms
+    }
+
+    /// The ends of the trades, in file order.
+    pub fn ends(&self) -> &[Ends]
+        ensures { result.now ≡ self.now.ends }
+    {
+        &self.ends
+    }
+}
+
+/// Why no document is read.
+#[derive(Drop)]
+pub enum DocRefusal {
+    /// It has a fault.
+    Fault {
+        /// The first fault.
+        fault: Fault,
+        /// The names that were read until then.
+        names: Names,
+    },
+    /// Memory ran out.
+    OutOfMemory,
+}

@@ -1,0 +1,42 @@
+ghost use Rattle.std.specs.Prelude.{◌≡◌, ◌≤◌, length};
+ghost use Rattle.serde_json.specs.View.{view};
+ghost use Rattle.tn_file.specs.Document.{extra_of};
+ghost use Rattle.tn_file.specs.Extra.{extra_view};
+ghost use Rattle.tn_file.specs.Reading.{Gives};
+
+use crate::arrangement::read_arrangement;
+use crate::fault::ReadError;
+use crate::need::Need;
+use serde_json::Value;
+use std::alloc::Global;
+use tn_answer::Names;
+use tn_market::Arrangement;
+
+/// What is read beside the network.
+#[derive(Debug, Drop)]
+pub enum Extra {
+    /// Nothing.
+    None,
+    /// The arrangement.
+    Arrangement(Arrangement<2>),
+}
+
+/// The part that is needed beside the network.
+#[tactic(auto, unfolding(crate::specs::Document::extra_of))]
+pub(crate) fn read_extra(
+    alloc: Global,
+    need: Need,
+    names: &Names,
+    top: &Value,
+) -> Result<Extra, ReadError>
+    requires { length names.now.trades ≤ 128 }
+    ensures { Gives extra_view result (extra_of need names.now.trades (view top.now)) }
+{
+    match need {
+        Need::Market | Need::Raw => Ok(Extra::None),
+        Need::Arrangement => {
+            let arrangement = read_arrangement(alloc, names, top)?;
+            Ok(Extra::Arrangement(arrangement))
+        }
+    }
+}

@@ -1,0 +1,23 @@
+//! Reads a document. The rules that a document keeps, and the order in which they are tested, stand in `specs/`.
+#![tactic(auto)]
+
+mod arrangement;
+mod document;
+mod extra;
+mod failures;
+mod fault;
+mod firms;
+mod names;
+mod need;
+mod network;
+mod read;
+mod references;
+mod rows;
+mod shapes;
+mod steps;
+mod trades;
+
+pub use document::{DocRefusal, Document, Loaded, RawNet};
+pub use extra::Extra;
+pub use need::Need;
+pub use read::read_doc;

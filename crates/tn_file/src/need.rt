@@ -1,0 +1,10 @@
+/// What a command reads of a document.
+#[derive(Clone, Copy, Debug, PartialEq, Eq)]
+pub enum Need {
+    /// The network, in which each firm is to meet the exchange property.
+    Market,
+    /// The network, whether its firms meet the exchange property or not.
+    Raw,
+    /// The network, as for a market, and the arrangement.
+    Arrangement,
+}

@@ -1,0 +1,64 @@
+ghost use Rattle.std.specs.Prelude.{◌≡◌, []};
+ghost use Rattle.serde_json.specs.View.{view};
+ghost use Rattle.tn_base.specs.declared.fault.FaultKind.TheVariants.{NotJson};
+ghost use Rattle.tn_answer.specs.Names.{no_names};
+ghost use Rattle.tn_file.specs.Document.{DocumentData, reading_of};
+ghost use Rattle.tn_file.specs.Extra.{extra_view};
+ghost use Rattle.tn_file.specs.Json.{json_of};
+ghost use Rattle.tn_file.specs.Reading.{Gives, GivesBeside, wanted};
+ghost use Rattle.tn_file.specs.Refusal.{Reads};
+
+use crate::document::{DocRefusal, Document, Loaded, RawNet};
+use crate::fault::ReadError;
+use crate::need::Need;
+use crate::network::{Parts, read_document};
+use crate::shapes::fault;
+use serde_json::Value;
+use std::alloc::Global;
+use tn_answer::Names;
+use tn_base::FaultKind;
+
+/// Reads a document from its bytes: what they stand for, or the first fault.
+pub fn read_doc(alloc: Global, need: Need, bytes: &[u8]) -> Result<Document, DocRefusal>
+    ensures exact { Reads result (reading_of need bytes.now) }
+{
+    let mut names = Names::empty(alloc);
+    match read_parts(alloc, need, &mut names, bytes) {
+        Ok(Parts { firms, ends, extra }) => Ok(Document {
+            names,
+            firms: Loaded::Raw(RawNet::new(firms, ends)),
+            extra,
+        }),
+        Err(ReadError::Fault(fault)) => Err(DocRefusal::Fault { fault, names }),
+        Err(ReadError::OutOfMemory) => Err(DocRefusal::OutOfMemory),
+    }
+}
+
+/// Reads a document from its bytes, and puts its names to the names.
+#[tactic(auto, unfolding(crate::specs::Document::reading_of))]
+fn read_parts(
+    alloc: Global,
+    need: Need,
+    names: &mut Names,
+    bytes: &[u8],
+) -> Result<Parts, ReadError>
+    requires { names.old ≡ no_names }
+    ensures { GivesBeside names.new
+        (λ p. record { names = names.new; firms = p.firms.items; ends = p.ends.items; extra = extra_view p.extra })
+        result (reading_of need bytes.now) }
+{
+    let top = value_of(alloc, bytes)?;
+    read_document(alloc, need, names, &top)
+}
+
+/// The JSON value of bytes.
+#[tactic(auto, unfolding(crate::specs::Json::json_of))]
+fn value_of(alloc: Global, bytes: &[u8]) -> Result<Value, ReadError>
+    ensures { Gives view result (wanted NotJson [] (json_of bytes.now)) }
+{
+    match Value::from_slice(alloc, bytes) {
+        Ok(value) => Ok(value),
+        Err(error) if error.is_memory() => Err(ReadError::OutOfMemory),
+        Err(_) => Err(fault(alloc, FaultKind::NotJson, &[])),
+    }
+}
