@@ -129,7 +129,7 @@ over_all-placed a b s zero v (first ∷ firms) firm at is below =
     let inside : b < first.count = subst (λ (x : Firm). b < x.count) (sym same) below in
     let here : s ≡ a = omega (arith, at) in
     let one : sum_to (placed_at a b v s) first.count ≡ v =
-      subst (λ (f : ℕ). sum_to (placed_at a b v f) first.count ≡ v) (sym here) (sum_to-placed a b first.count v inside) in
+    subst (λ (f : ℕ). sum_to (placed_at a b v f) first.count ≡ v) (sym here) (sum_to-placed a b first.count v inside) in
     let rest = over_all-before a b (s + 1) v firms (omega (arith, here)) in
     omega (arith, ints, one, rest)
 over_all-placed a b s (suc i) v (first ∷ firms) firm at is below =

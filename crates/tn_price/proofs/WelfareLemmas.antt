@@ -89,12 +89,12 @@ moved-here on prices t trade f k bought sided stands =
 moved_at : (on : ℕ) (prices : ℕ → ℤ) (f k : ℕ) (bought : Bool) (s : ℕ) (trades : List Ends) → own trades f k < length trades
     → ((t : ℕ) (trade : Ends) → slice_get trades t ≡ Some trade → IsSided bought f k trade)
     → ((t u : ℕ) (one other : Ends) → slice_get trades t ≡ Some one → slice_get trades u ≡ Some other
-        → stands_at one f k ≡ true → stands_at other f k ≡ true → t ≡ u)
+    → stands_at one f k ≡ true → stands_at other f k ≡ true → t ≡ u)
     → sum_list (λ t trade. moved on prices t trade f k) s trades
-        ≡ (if bought then neg_ℤ (price_in on prices (s + own trades f k)) else price_in on prices (s + own trades f k))
+    ≡ (if bought then neg_ℤ (price_in on prices (s + own trades f k)) else price_in on prices (s + own trades f k))
 moved_at on prices f k bought s [] inside sided once = absurd (omega (arith, inside))
 moved_at on prices f k bought s (trade ∷ trades) inside sided once = by_case (stands_at trade f k) refl
-  (λ below. moved_at on prices f k bought (s + 1) trades below (λ t other is. sided (suc t) other is)
+    (λ below. moved_at on prices f k bought (s + 1) trades below (λ t other is. sided (suc t) other is)
     (λ t u one other one_is other_is a b. let e = once (suc t) (suc u) one other one_is other_is a b in omega (arith, e)))
   where
     paid : ℕ → ℤ
@@ -102,20 +102,20 @@ moved_at on prices f k bought s (trade ∷ trades) inside sided once = by_case (
 
     by_case : (b : Bool) → stands_at trade f k ≡ b
         → (own trades f k < length trades → sum_list (λ t trade. moved on prices t trade f k) (s + 1) trades
-            ≡ (if bought then neg_ℤ (price_in on prices (s + 1 + own trades f k)) else price_in on prices (s + 1 + own trades f k)))
+        ≡ (if bought then neg_ℤ (price_in on prices (s + 1 + own trades f k)) else price_in on prices (s + 1 + own trades f k)))
         → moved on prices s trade f k +ℤ sum_list (λ t trade. moved on prices t trade f k) (s + 1) trades
-            ≡ (if bought then neg_ℤ (price_in on prices (s + own (trade ∷ trades) f k)) else price_in on prices (s + own (trade ∷ trades) f k))
+        ≡ (if bought then neg_ℤ (price_in on prices (s + own (trade ∷ trades) f k)) else price_in on prices (s + own (trade ∷ trades) f k))
     by_case true e rest =
         let at : own (trade ∷ trades) f k ≡ 0 = ap (λ (b : Bool). if b then 0 else own trades f k + 1) e in
         let first = moved-here on prices s trade f k bought (sided 0 trade refl) e in
         let others = sum_list-none (λ t trade. moved on prices t trade f k) (s + 1) trades (all_from _ (s + 1) trades (λ i t other t_is is.
-          moved-away on prices t other f k (elim (cases_Bool (stands_at other f k)) [
-            | inr away ↦ away
-            | inl here ↦ let same = once 0 (suc i) trade other refl is e here in absurd (omega (arith, same))
-          ]))) in
+        moved-away on prices t other f k (elim (cases_Bool (stands_at other f k)) [
+          | inr away ↦ away
+          | inl here ↦ let same = once 0 (suc i) trade other refl is e here in absurd (omega (arith, same))
+        ]))) in
         let here : s ≡ s + own (trade ∷ trades) f k = omega (arith, at) in
         subst (λ (t : ℕ). moved on prices s trade f k +ℤ sum_list (λ t trade. moved on prices t trade f k) (s + 1) trades
-            ≡ (if bought then neg_ℤ (price_in on prices t) else price_in on prices t)) here (alone _ _ _ first others)
+        ≡ (if bought then neg_ℤ (price_in on prices t) else price_in on prices t)) here (alone _ _ _ first others)
       where
         alone : (first others whole : ℤ) → first ≡ whole → others ≡ pos 0 → first +ℤ others ≡ whole
         alone first others whole a b = omega (arith, ints, a, b)
@@ -125,7 +125,7 @@ moved_at on prices f k bought s (trade ∷ trades) inside sided once = by_case (
         let others = rest (omega (arith, inside, at)) in
         let there : s + 1 + own trades f k ≡ s + own (trade ∷ trades) f k = omega (arith, at) in
         subst (λ (t : ℕ). moved on prices s trade f k +ℤ sum_list (λ t trade. moved on prices t trade f k) (s + 1) trades
-            ≡ (if bought then neg_ℤ (price_in on prices t) else price_in on prices t)) there (nothing _ _ _ first others)
+        ≡ (if bought then neg_ℤ (price_in on prices t) else price_in on prices t)) there (nothing _ _ _ first others)
       where
         nothing : (first others whole : ℤ) → first ≡ pos 0 → others ≡ whole → first +ℤ others ≡ whole
         nothing first others whole a b = omega (arith, ints, a, b)
@@ -177,9 +177,9 @@ paid_is firms trades network on prices f firm is =
     sum_over-sum_to _ _ _ ∙ sum_to-same _ _ firm.count (λ k below.
     let x = part trades f firm.count on in
     let member : has x k ≡ has on (own trades f k) =
-      has-set_of (λ j. has on (own trades f j)) firm.count k ∙ ap (λ (b : Bool). b && has on (own trades f k)) (lt-ltb k firm.count below) in
+    has-set_of (λ j. has on (own trades f j)) firm.count k ∙ ap (λ (b : Bool). b && has on (own trades f k)) (lt-ltb k firm.count below) in
     let at = moved_at on prices f k (has firm.buys k) 0 trades (network.whole f k firm is below) (network_sided firms trades network f k firm is)
-      (λ t u one other one_is other_is a b. network.once f k t u one other one_is other_is a b) in
+    (λ t u one other one_is other_is a b. network.once f k t u one other one_is other_is a b) in
     let t : 0 + own trades f k ≡ own trades f k = omega arith in
     ap (λ (b : Bool). if b then payments firm.buys (prices_at trades prices f) k else pos 0) member
     ∙ by_case (has firm.buys k) (has on (own trades f k)) (prices (own trades f k))
@@ -199,8 +199,8 @@ pub paid_cancels : (firms : List Firm) (trades : List Ends) → IsNetwork firms 
 paid_cancels firms trades network on prices =
     sum_list-same (paid trades prices on) (λ f firm. sum_to (λ k. sum_list (λ t trade. moved on prices t trade f k) 0 trades) firm.count) 0 firms
     (all_from _ 0 firms (λ i f firm at is.
-      let same : i ≡ f = omega (arith, at) in
-      paid_is firms trades network on prices f firm (ap (slice_get firms) (sym same) ∙ is)))
+    let same : i ≡ f = omega (arith, at) in
+    paid_is firms trades network on prices f firm (ap (slice_get firms) (sym same) ∙ is)))
     ∙ all_cancel firms on prices 0 trades (all_from _ 0 trades (λ i t trade at is. network_placed firms trades network i trade is))
 
 -- ---- the greatest surplus
@@ -240,13 +240,13 @@ with_firm trades scale on prices s firm firms best rest =
           (firm.worth (part trades s firm.count other_on)) other is (λ worth worth_is sum_is.
           let more = option_map-some (λ z. worth +ℤ z) (surplus_from trades other_on (s + 1) firms) other sum_is in
           let here = best.1.most (part trades s firm.count other_on) (scale *ℤ worth +ℤ paid trades prices other_on s firm)
-            (ap (option_map (λ a. scale *ℤ a +ℤ paid trades prices other_on s firm)) worth_is) in
+          (ap (option_map (λ a. scale *ℤ a +ℤ paid trades prices other_on s firm)) worth_is) in
           let there = rest.most other_on more.0 more.1 in
           let left : scale *ℤ other ≡ scale *ℤ worth +ℤ scale *ℤ more.0 = ap (λ (z : ℤ). scale *ℤ z) (sym more.2) ∙ times-plus scale worth more.0 in
           let right = times-plus scale mine.0 rest.surplus in
           add (scale *ℤ worth) (paid trades prices other_on s firm) (scale *ℤ more.0) (sum_list (paid trades prices other_on) (s + 1) firms)
-            (scale *ℤ rest.surplus) (sum_list (paid trades prices on) (s + 1) firms) (scale *ℤ other) (scale *ℤ (mine.0 +ℤ rest.surplus)) (scale *ℤ mine.0)
-            (paid trades prices on s firm) best.0 here there left right mine.2);
+          (scale *ℤ rest.surplus) (sum_list (paid trades prices on) (s + 1) firms) (scale *ℤ other) (scale *ℤ (mine.0 +ℤ rest.surplus)) (scale *ℤ mine.0)
+          (paid trades prices on s firm) best.0 here there left right mine.2);
     }
   where
     add : (a b c d e f g h w x value : ℤ) → (a +ℤ b) ≤ℤ value → (c +ℤ d) ≤ℤ (e +ℤ f) → g ≡ a +ℤ c → h ≡ w +ℤ e → w +ℤ x ≡ value
@@ -263,10 +263,10 @@ all_most trades scale on prices s (firm ∷ firms) best =
 le_from_times : (scale a b : ℤ) → pos 1 ≤ℤ scale → (scale *ℤ a) ≤ℤ (scale *ℤ b) → a ≤ℤ b
 le_from_times scale a b from_one below = by_lt_z {P = a ≤ℤ b} b a
     (λ less.
-      let step = times-le scale (b +ℤ pos 1) a (omega (arith, ints, from_one)) (omega (arith, ints, less)) in
-      let parts = times-plus scale b (pos 1) in
-      let one : scale *ℤ pos 1 ≡ scale = omega (arith, ints) in
-      absurd (against (scale *ℤ (b +ℤ pos 1)) (scale *ℤ a) (scale *ℤ pos 1) (scale *ℤ b) step parts one below from_one))
+    let step = times-le scale (b +ℤ pos 1) a (omega (arith, ints, from_one)) (omega (arith, ints, less)) in
+    let parts = times-plus scale b (pos 1) in
+    let one : scale *ℤ pos 1 ≡ scale = omega (arith, ints) in
+    absurd (against (scale *ℤ (b +ℤ pos 1)) (scale *ℤ a) (scale *ℤ pos 1) (scale *ℤ b) step parts one below from_one))
     (λ most. most)
   where
     against : (x y z w : ℤ) → x ≤ℤ y → x ≡ w +ℤ z → z ≡ scale → y ≤ℤ w → pos 1 ≤ℤ scale → ⊥
@@ -276,17 +276,19 @@ pub equilibrium_is_efficient : (firms : List Firm) (trades : List Ends) (scale :
     → pos 1 ≤ℤ scale → IsEquilibrium firms trades scale on prices → IsEfficient firms trades on
 equilibrium_is_efficient firms trades scale on prices network from_one best =
     let most = all_most trades scale on prices 0 firms (all_from _ 0 firms (λ i f firm at is.
-      let same : i ≡ f = omega (arith, at) in
-      best f firm (ap (slice_get firms) (sym same) ∙ is))) in
-    (most.surplus, record {
-      is = most.is;
-      most = λ other_on other is.
-          let step = most.most other_on other is in
-          let mine = paid_cancels firms trades network on prices in
-          let others = paid_cancels firms trades network other_on prices in
-          le_from_times scale other most.surplus from_one
-          (without (scale *ℤ other) (sum_list (paid trades prices other_on) 0 firms) (scale *ℤ most.surplus) (sum_list (paid trades prices on) 0 firms) step mine others);
-    })
+    let same : i ≡ f = omega (arith, at) in
+    best f firm (ap (slice_get firms) (sym same) ∙ is))) in (
+      most.surplus,
+      record {
+        is = most.is;
+        most = λ other_on other is.
+            let step = most.most other_on other is in
+            let mine = paid_cancels firms trades network on prices in
+            let others = paid_cancels firms trades network other_on prices in
+            le_from_times scale other most.surplus from_one
+            (without (scale *ℤ other) (sum_list (paid trades prices other_on) 0 firms) (scale *ℤ most.surplus) (sum_list (paid trades prices on) 0 firms) step mine others);
+      },
+    )
   where
     without : (a b c d : ℤ) → (a +ℤ b) ≤ℤ (c +ℤ d) → d ≡ pos 0 → b ≡ pos 0 → a ≤ℤ c
     without a b c d step mine others = omega (arith, ints, step, mine, others)

@@ -64,12 +64,7 @@ fn all_positions(n: u32) -> Bundle
 }
 
 /// A best bundle with its utility. There is one, since the empty bundle is possible.
-fn greatest<V: Oracle>(
-    firm: &V,
-    scale: i128,
-    prices: &[i128],
-    room: &mut Room,
-) -> (Bundle, i128)
+fn greatest<V: Oracle>(firm: &V, scale: i128, prices: &[i128], room: &mut Room) -> (Bundle, i128)
     requires priced { length prices.now ≡ (V.firm firm.now).count }
     requires small_prices { All (λ p. IsAtMost p (10 ^ 18)) prices.now }
     requires from_one { pos 1 ≤ℤ scale }
@@ -80,7 +75,8 @@ fn greatest<V: Oracle>(
     ensures small { IsAtMost result.1 (10 ^ 20) }
 {
     let all = all_positions(firm.trades());
-    firm.best(Bundle::empty(), all, scale, prices, room).unwrap()
+    firm.best(Bundle::empty(), all, scale, prices, room)
+        .unwrap()
 }
 
 /// How a firm stands with its bundle at the prices of its positions.

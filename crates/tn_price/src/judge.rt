@@ -10,12 +10,7 @@ use crate::standing::Standing;
 use tn_market::{Arrangement, Market, Oracle, Prices, Room, Valuation};
 
 /// The prices of the `n` trades of firm `f`, by position.
-fn own_prices<V: Valuation>(
-    market: &Market<V>,
-    prices: &Prices,
-    f: u32,
-    n: u32,
-) -> [i128; MOST_OWN]
+fn own_prices<V: Valuation>(market: &Market<V>, prices: &Prices, f: u32, n: u32) -> [i128; MOST_OWN]
     requires firm { f < length market.now.firms }
     requires own { (v : V) → slice_get market.now.firms f ≡ Some v → n ≡ (V.firm v).count }
     requires few { n ≤ 32 }
