@@ -1,5 +1,4 @@
-ghost use Rattle.std.specs.Prelude.{◌≡◌, ℕ, List, length, IfOk};
-ghost use Rattle.tn_answer.specs.Sayable.{IsSayable, IsSayableFault};
+ghost use Rattle.tn_answer.specs.Sayable.{IsSayable};
 
 use crate::{Names, answer_text, is_name, no_memory_text, read_fault_text, usage_text};
 use std::alloc::Global;
@@ -65,7 +64,7 @@ fn assert_line(
     said: &Said,
     content: &str,
 ) -> Result<(), Fail>
-    requires { IsSayable names.now said.now }
+    requires { IsSayable said.now }
 {
     let text = answer_text(alloc, names, said)?;
     assert!(rt; is_line(&text, content));
@@ -183,8 +182,6 @@ fn writes_faults_of_the_whole_document(rt: HostRuntime) -> Result<(), Fail> {
 
 // A failure of exchange at the second firm, on two trades.
 fn exchange_fault(alloc: Global) -> Result<Fault, Fail>
-    ensures { IfOk result
-        (λ fault. (trades : List (List ℕ)) → length trades ≡ 2 → IsSayableFault trades fault) }
 {
     let place = vec![in alloc; PlaceStep::Word(Word::Firms), PlaceStep::Index(1)]?;
     let x = vec![in alloc; 0, 1]?;
