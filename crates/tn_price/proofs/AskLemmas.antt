@@ -114,7 +114,8 @@ some_greatest firm scale prices e all None abstains own none all_is gives =
 
 -- ---- sizes
 
-sum_over_small : (c : ℕ → ℤ) (n x limit : ℕ) → ((k : ℕ) → k < n → IsAtMost (c k) limit) → IsAtMost (sum_over c n x) (n * limit)
+-- a sum over a set is no larger than the count of its terms allows
+pub sum_over_small : (c : ℕ → ℤ) (n x limit : ℕ) → ((k : ℕ) → k < n → IsAtMost (c k) limit) → IsAtMost (sum_over c n x) (n * limit)
 unfolding sum_over
 sum_over_small c zero x limit small = record { low = omega (arith, ints); high = omega (arith, ints) }
 sum_over_small c (suc n) x limit small =
@@ -133,7 +134,7 @@ sum_over_small c (suc n) x limit small =
       high = omega (arith, ints, step, sum_small.high);
     }
 
-payment_small : (buys : ℕ) (prices : ℕ → ℤ) (k limit : ℕ) → IsAtMost (prices k) limit → IsAtMost (payments buys prices k) limit
+pub payment_small : (buys : ℕ) (prices : ℕ → ℤ) (k limit : ℕ) → IsAtMost (prices k) limit → IsAtMost (payments buys prices k) limit
 payment_small buys prices k limit small = by_side (has buys k)
   where
     by_side : (b : Bool) → IsAtMost (if b then neg_ℤ (prices k) else prices k) limit

@@ -2,9 +2,9 @@
 #![tactic(auto)]
 
 mod answer;
+mod checking;
 mod command;
-mod decision;
-mod document;
+mod testing;
 #[cfg(test)]
 mod tests;
 mod top;
