@@ -1,9 +1,8 @@
 -- What an oracle says when it is asked for one bundle, or among all.
-use Rattle.std.proofs.Common.{rules, ◌≡◌, ◌≢◌, ℕ, zero, suc, ◌+◌, ◌*◌, ◌^◌, ◌<◌, ◌≤◌, Bool, true, false, not, ◌&&◌, ◌||◌, if◌then◌else◌, List, length, take, replicate, Some, None, Option, option_map, IsSome, IfSome, refl, sym, ap, ap₂, ◌∙◌, subst, arith, inl, inr, ℤ, pos, ◌+ℤ◌, ◌-ℤ◌, neg_ℤ, ◌≤ℤ◌, ◌<ℤ◌, ◌*ℤ◌, nat_lt, get_or}
+use Rattle.std.proofs.Common.{rules, ◌≡◌, ℕ, zero, suc, ◌+◌, ◌*◌, ◌^◌, ◌<◌, ◌≤◌, Bool, true, false, ◌&&◌, ◌||◌, if◌then◌else◌, List, length, take, replicate, Some, None, Option, option_map, IsSome, refl, sym, ap, ap₂, ◌∙◌, subst, arith, inl, inr, ℤ, pos, ◌+ℤ◌, neg_ℤ, ◌≤ℤ◌, ◌*ℤ◌}
 use Rattle.std.specs.List.{All}
 use Rattle.std.proofs.lemmas.Int.{ints}
-use Rattle.std.proofs.lemmas.Bool.{cases_eq, cases_Bool, lt-ltb, and_parts}
-use Rattle.std.proofs.lemmas.Option.{same_Some}
+use Rattle.std.proofs.lemmas.Bool.{cases_Bool, lt-ltb}
 use Rattle.std.proofs.lemmas.List.Elements.{All-get_or, All-take, All-replicate}
 use Rattle.std.proofs.lemmas.List.{length-take, length-replicate}
 use mir.Syntax.{w128}
@@ -12,10 +11,9 @@ use Rattle.tn_base.specs.Sets.{has, meet, union, set_of, sum_over}
 use Rattle.tn_base.specs.Arcs.{IsAtMost}
 use Rattle.tn_base.specs.Firm.{Firm, payments, utility, IsBest, HasOwnBundles, MayAbstain}
 use Rattle.tn_base.proofs.SetLemmas.{same_set, has-zero, has-meet, has-union, has-set_of, has_below, union_within, set_of_within}
-use Rattle.tn_base.proofs.SumLemmas.{sum_over-same_terms}
 use Rattle.tn_law.proofs.KeepLemmas.{option_map-some}
 use Rattle.tn_market.specs.Valued.{IsWorthAtMost}
-use Rattle.tn_market.specs.Best.{IsSubset, IsBetween, IsBestBetween, GivesBest, price_at}
+use Rattle.tn_market.specs.Best.{IsBetween, IsBestBetween, GivesBest, price_at}
 use Rattle.tn_market.proofs.AscentLemmas.{scaled_small, smaller}
 use Rattle.tn_price.specs.Standings.{IsBestWorth}
 

@@ -1,17 +1,17 @@
 -- The judgement of an arrangement, firm by firm.
-use Rattle.std.proofs.Common.{◌≡◌, ◌≢◌, ℕ, zero, suc, ◌+◌, ◌*◌, ◌^◌, ◌<◌, ◌≤◌, Bool, true, false, if◌then◌else◌, List, [], ◌∷◌, ◌++◌, length, map, take, slice_get, get_or, Some, None, Option, option_map, refl, sym, ap, ap₂, ◌∙◌, subst, arith, inl, inr, ℤ, pos, ◌+ℤ◌, ◌-ℤ◌, neg_ℤ, ◌≤ℤ◌, ◌<ℤ◌, ◌*ℤ◌, add-one}
+use Rattle.std.proofs.Common.{◌≡◌, ℕ, zero, suc, ◌+◌, ◌*◌, ◌^◌, ◌<◌, ◌≤◌, if◌then◌else◌, List, [], ◌∷◌, ◌++◌, length, map, take, slice_get, Some, Option, option_map, refl, sym, ap, ◌∙◌, subst, arith, inl, inr, ℤ, pos, ◌+ℤ◌, neg_ℤ, ◌*ℤ◌, add-one}
 use Rattle.std.specs.Prelude.{option_and_then}
 use Rattle.std.specs.List.{All}
 use Rattle.std.proofs.lemmas.Int.{ints}
 use Rattle.std.proofs.lemmas.Bool.{cases_eq}
-use Rattle.std.proofs.lemmas.Option.{same_Some, option_and_then_some, slice_get-map, slice_get_within, slice_get-get_or, get_or_from_slice_get}
+use Rattle.std.proofs.lemmas.Option.{same_Some, option_and_then_some, slice_get-map, slice_get_within, get_or_from_slice_get}
 use Rattle.std.proofs.lemmas.List.{get_or-set_same, get_or-set_other, length-take-le}
 use Rattle.std.proofs.lemmas.List.Elements.{All-set, All-get_or}
 use Rattle.std.proofs.Math.ListN.{set, length-set}
 use Rattle.std.proofs.Math.Seq.{take-suc, take-length}
 use mir.Syntax.{w128}
 use mir.Val.{SFits}
-use Rattle.tn_base.specs.Sets.{has, sum_over}
+use Rattle.tn_base.specs.Sets.{has}
 use Rattle.tn_base.specs.Arcs.{IsAtMost}
 use Rattle.tn_base.specs.Firm.{Firm, payments, utility, IsBest}
 use Rattle.tn_base.proofs.SetLemmas.{set_of_within}
@@ -24,7 +24,7 @@ use Rattle.tn_market.specs.Equilibrium.{prices_at, utility_at, HasBest, IsEquili
 use Rattle.tn_market.specs.Verdict.{AreBestBefore, IsFirstImpossible, IsFirstBettered}
 use Rattle.tn_price.specs.declared.standing.Standing.{Standing}
 use Rattle.tn_price.specs.declared.standing.Standing.TheVariants.{Best, Impossible, Bettered}
-use Rattle.tn_price.specs.Standings.{IsBettered, IsBestWorth, Stands, StandsAt, AreOwnPrices}
+use Rattle.tn_price.specs.Standings.{IsBestWorth, Stands, StandsAt, AreOwnPrices}
 
 -- ---- the prices of a firm
 

@@ -1,18 +1,18 @@
 -- In the sum of the firms' utilities each price is paid once and received once, so an equilibrium has the greatest
 -- surplus.
-use Rattle.std.proofs.Common.{◌≡◌, ◌≢◌, ℕ, zero, suc, ◌+◌, ◌<◌, ◌≤◌, Bool, true, false, ◌==◌, ◌&&◌, ◌||◌, if◌then◌else◌, List, [], ◌∷◌, length, Some, None, Option, option_map, slice_get, refl, sym, ap, ap₂, ◌∙◌, subst, arith, inl, inr, ℤ, pos, ◌+ℤ◌, neg_ℤ, ◌≤ℤ◌, ◌<ℤ◌, ◌*ℤ◌, nat_lt}
+use Rattle.std.proofs.Common.{◌≡◌, ℕ, zero, suc, ◌+◌, ◌<◌, Bool, true, false, ◌==◌, ◌&&◌, ◌||◌, if◌then◌else◌, List, [], ◌∷◌, length, Some, option_map, slice_get, refl, sym, ap, ap₂, ◌∙◌, subst, arith, inl, inr, ℤ, pos, ◌+ℤ◌, neg_ℤ, ◌≤ℤ◌, ◌*ℤ◌}
 use Rattle.std.specs.Prelude.{option_and_then}
 use Rattle.std.proofs.lemmas.Int.{ints, by_lt_z}
-use Rattle.std.proofs.lemmas.Bool.{cases_eq, cases_Bool, eqb-true, and_parts, or_parts, lt-ltb}
+use Rattle.std.proofs.lemmas.Bool.{cases_Bool, eqb-true, and_parts, or_parts, lt-ltb}
 use Rattle.std.proofs.lemmas.Option.{same_Some, option_and_then_some}
-use Rattle.tn_base.specs.Sets.{has, set_of, sum_over}
-use Rattle.tn_base.specs.Firm.{Firm, payments, IsBest}
+use Rattle.tn_base.specs.Sets.{has, sum_over}
+use Rattle.tn_base.specs.Firm.{Firm, payments}
 use Rattle.tn_base.proofs.SetLemmas.{has-set_of}
 use Rattle.tn_base.proofs.SumLemmas.{times-plus}
 use Rattle.tn_law.proofs.KeepLemmas.{option_map-some, times-le}
 use Rattle.tn_market.specs.declared.ends.Ends.{Ends}
 use Rattle.tn_market.specs.Network.{own, part, stands_at, IsNetwork}
-use Rattle.tn_market.specs.Equilibrium.{prices_at, utility_at, HasBest, IsEquilibrium, surplus_from, surplus_of, IsEfficient}
+use Rattle.tn_market.specs.Equilibrium.{prices_at, HasBest, IsEquilibrium, surplus_from, IsEfficient}
 use Rattle.tn_price.proofs.SumLemmas.{sum_to, sum_to-same, AllFrom, all_from, sum_list, sum_list-same, sum_list-none, over_all, over_all-plus, over_all-zero, placed_at, over_all-placed}
 
 -- ---- what is paid for a trade

@@ -1,8 +1,7 @@
-use Rattle.std.proofs.Common.{◌≡◌, ◌∙◌, sym, subst, ap, ℕ, ℤ, ◌^◌, ◌<◌, Some, Option, true}
+use Rattle.std.proofs.Common.{◌∙◌, subst, ap, ℤ, true}
 use Rattle.std.proofs.lemmas.Int.{to_z-of_z}
 use mir.Syntax.{w128}
 use mir.Val.{SFits}
-use Rattle.tn_base.specs.Arcs.{IsAtMost}
 use Rattle.tn_base.specs.Sets.{set_of}
 use Rattle.tn_base.specs.Firm.{utility}
 use Rattle.tn_market.specs.Best.{price_at, GivesBest}

@@ -1,4 +1,4 @@
-use Rattle.std.proofs.Common.{◌≡◌, ◌∙◌, sym, subst, ap, ℤ, Option, Some, arith, ◌^◌, ◌≤ℤ◌}
+use Rattle.std.proofs.Common.{◌≡◌, sym, subst, ℤ, Option, Some, arith, ◌^◌, ◌≤ℤ◌}
 use Rattle.std.proofs.lemmas.Int.{ints, to_z-of_z}
 use mir.Syntax.{w128}
 use mir.Val.{SFits}

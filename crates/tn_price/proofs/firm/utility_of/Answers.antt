@@ -1,4 +1,4 @@
-use Rattle.std.proofs.Common.{◌≡◌, ◌∙◌, sym, subst, ap, ℕ, ℤ, ◌^◌, ◌<◌, Some, Option}
+use Rattle.std.proofs.Common.{◌∙◌, sym, subst, ap, ℕ, ℤ, ◌^◌, ◌<◌, Some}
 use Rattle.std.proofs.lemmas.Int.{to_z-of_z}
 use mir.Syntax.{w128}
 use mir.Val.{SFits}

@@ -1,5 +1,5 @@
-use Rattle.std.proofs.Common.{◌≡◌, ◌∙◌, sym, subst, ap, ℤ, ◌+ℤ◌, ◌+◌, ◌<◌, ◌≤◌, ◌^◌, arith, rules, map, length, slice_get, Some}
-use Rattle.std.proofs.lemmas.Int.{ints, to_z-of_z}
+use Rattle.std.proofs.Common.{sym, subst, ℤ, ◌+ℤ◌, ◌+◌, ◌^◌, arith, rules, map}
+use Rattle.std.proofs.lemmas.Int.{to_z-of_z}
 use Rattle.std.proofs.lemmas.List.{length-map}
 use mir.Syntax.{w128}
 use mir.Val.{SFits, to_z, of_z}
@@ -7,7 +7,7 @@ use Rattle.tn_market.specs.Best.{price_at}
 use Rattle.tn_market.specs.Verdict.{IsFirstBettered}
 use Rattle.tn_market.proofs.AscentLemmas.{smaller}
 use Rattle.tn_price.specs.Standings.{StandsAt}
-use Rattle.tn_price.specs.declared.standing.Standing.TheVariants.{Best, Impossible, Bettered}
+use Rattle.tn_price.specs.declared.standing.Standing.TheVariants.{Impossible, Bettered}
 use Rattle.tn_price.proofs.AskLemmas.{as_is}
 use Rattle.tn_price.proofs.JudgeLemmas.{AreJudged, some_item, firm_is, one_judged, all_judged, first_impossible, first_bettered, sum_fits}
 use Rattle.tn_price.proofs.judge.judge_arrangement.Goals as goal

@@ -1,4 +1,4 @@
-use Rattle.std.proofs.Common.{arith, rules, refl, ap, sym, subst, ◌∙◌, ◌≡◌, ◌^◌, pos, ℤ, ℕ, ◌+◌}
+use Rattle.std.proofs.Common.{arith, refl, sym, subst, ◌^◌, pos, ℤ, ◌+◌}
 use Rattle.std.proofs.lemmas.Int.{ints}
 use Rattle.std.proofs.lemmas.List.Elements.{All-replicate}
 use Rattle.std.proofs.Math.ListN.{set}
