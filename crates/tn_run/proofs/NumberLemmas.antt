@@ -24,19 +24,17 @@ surplus_small trades on f [] s small is = let e : pos 0 ≡ s = some_inj (pos 0)
   where
     some_inj : (a b : ℤ) → Some a ≡ Some b → a ≡ b
     some_inj a b e = (cc)
-surplus_small trades on f (firm ∷ firms) s small is = with_worth (firm.worth (part trades f firm.count on)) refl
+surplus_small trades on f (firm ∷ firms) s small is = with_worth (λ rest e. surplus_small trades on (f + 1) firms rest small.1 e) (firm.worth (part trades f firm.count on)) refl
   where
-    some_inj : (a b : ℤ) → Some a ≡ Some b → a ≡ b
-    some_inj a b e = (cc)
     none_some : (a : ℤ) → None ≡ Some a → ⊥
     none_some a e = (cc)
     sum : ℤ → Option ℤ
     sum w = option_map (λ rest. w +ℤ rest) (surplus_from trades on (f + 1) firms)
-    with_worth : (o : Option ℤ) → firm.worth (part trades f firm.count on) ≡ o → IsAtMost s (length (firm ∷ firms) * 10 ^ 11)
-    with_worth None e = absurd (none_some s (sym (ap (option_and_then sum) e) ∙ is))
-    with_worth (Some w) e =
+    with_worth : ((rest : ℤ) → surplus_from trades on (f + 1) firms ≡ Some rest → IsAtMost rest (length firms * 10 ^ 11)) → (o : Option ℤ) → firm.worth (part trades f firm.count on) ≡ o → IsAtMost s (length (firm ∷ firms) * 10 ^ 11)
+    with_worth later None e = absurd (none_some s (sym (ap (option_and_then sum) e) ∙ is))
+    with_worth later (Some w) e =
         let rest = option_map-some (λ rest. w +ℤ rest) (surplus_from trades on (f + 1) firms) s (sym (ap (option_and_then sum) e) ∙ is) in
-        let below = surplus_small trades on (f + 1) firms rest.0 small.1 rest.1 in
+        let below = later rest.0 rest.1 in
         let here = small.0 (part trades f firm.count on) w e in
         let total = rest.2 in
         record {

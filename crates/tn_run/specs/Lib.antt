@@ -1,4 +1,1 @@
-pub mod Words
-pub mod Tested
-pub mod Answer
-pub mod Run
+
