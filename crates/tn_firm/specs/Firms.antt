@@ -1,8 +1,9 @@
 -- The firm that a value of any kind is.
-use Rattle.std.specs.Prelude.{ℕ, ◌^◌}
+use Rattle.std.specs.Prelude.{◌^◌, ◌≤◌}
+use Rattle.std.proofs.Common.{arith}
 use Rattle.tn_base.specs.Firm.{Firm}
 use Rattle.tn_market.specs.Lawful.{IsLawful}
-use Rattle.tn_table.specs.Tables.{firm_of as table_firm_of, table_laws}
+use Rattle.tn_table.specs.Tables.{firm_of as table_firm_of, table_laws, table_few}
 use Rattle.tn_firm.specs.declared.value.FirmValue.{FirmValue}
 use Rattle.tn_firm.specs.declared.value.FirmValue.TheVariants.{Table}
 
@@ -12,3 +13,7 @@ firm_of (Table table) = table_firm_of table
 -- whatever its kind, it is a firm that may be asked, and no worth of it is above 10^11
 pub firm_laws : (value : FirmValue) → IsLawful (10 ^ 11) (firm_of value)
 firm_laws (Table table) = table_laws table
+
+-- a firm of any kind has at most 32 own trades, which is what the search for a best bundle asks
+pub firm_few : (value : FirmValue) → (firm_of value).count ≤ 32
+firm_few (Table table) = let few = table_few table in omega (arith, few)

@@ -2,6 +2,8 @@
 #![tactic(auto)]
 
 mod raw;
+#[cfg(test)]
+mod tests;
 mod value;
 
 pub use raw::RawFirm;

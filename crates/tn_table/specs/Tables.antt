@@ -1,5 +1,5 @@
 -- The firm that a table is, and what a refusal of a table says.
-use Rattle.std.specs.Prelude.{◌≡◌, ◌^◌, ℤ}
+use Rattle.std.specs.Prelude.{◌≡◌, ◌^◌, ◌≤◌, ℤ}
 use Rattle.std.proofs.Common.{arith}
 use Rattle.std.proofs.lemmas.Int.{ints}
 use Rattle.tn_base.specs.Arcs.{IsAtMost}
@@ -43,3 +43,7 @@ table_laws table =
       within = λ x a is. at_most_bound a (worth_is_small table.raw table.within x a is);
       small_limit = omega arith;
     }
+
+-- a table has at most 10 own trades
+pub table_few : (table : Table) → (firm_of table).count ≤ 10
+table_few table = table.within.few

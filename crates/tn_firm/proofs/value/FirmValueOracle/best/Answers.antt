@@ -10,4 +10,4 @@ pub returns : goal.returns
 returns c =
     let scale : to_z w128 (of_z w128 c.args.scale) ≡ c.args.scale = omega (arith, ints, c.requires.scaled, c.requires.small_scale) in
     subst (λ (firm : Firm). GivesBest c.args.need c.args.free (utility c.args.scale (price_at c.args.prices.now) firm) c.best.result) (sym c.table.ensures)
-      (subst (λ (z : ℤ). GivesBest c.args.need c.args.free (utility z (price_at c.args.prices.now) (table_firm_of c.table.result.now)) c.best.result) scale c.best.ensures)
+    (subst (λ (z : ℤ). GivesBest c.args.need c.args.free (utility z (price_at c.args.prices.now) (table_firm_of c.table.result.now)) c.best.result) scale c.best.ensures)
