@@ -6,3 +6,4 @@ pub mod FailureLemmas
 pub mod FirmLemmas
 pub mod PriceLemmas
 pub mod JsonLemmas
+pub mod PlainLemmas
