@@ -7,3 +7,4 @@ pub mod FirmLemmas
 pub mod PriceLemmas
 pub mod JsonLemmas
 pub mod PlainLemmas
+pub mod NetworkLemmas
