@@ -8,3 +8,4 @@ pub mod PriceLemmas
 pub mod JsonLemmas
 pub mod PlainLemmas
 pub mod NetworkLemmas
+pub mod LeadLemmas
