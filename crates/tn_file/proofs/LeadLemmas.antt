@@ -59,3 +59,6 @@ is_true_not false e = refl
 
 pub apart_from_test : (m n : ℕ) → not (nat_eq m n) ≡ true → m ≢ n
 apart_from_test m n e same = absurd (grind (arith, same, e))
+
+pub leads_as : {A E : Type 0} (Q P : A → Type 0) (r : Result A E) → ((x : A) → Q x → P x) → Leads Q r → Leads P r
+leads_as Q P r turn first = record { at = λ x e. turn x (first.at x e) }

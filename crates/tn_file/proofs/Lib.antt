@@ -9,3 +9,4 @@ pub mod JsonLemmas
 pub mod PlainLemmas
 pub mod NetworkLemmas
 pub mod LeadLemmas
+pub mod TableLeads
