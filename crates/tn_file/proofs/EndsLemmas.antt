@@ -12,7 +12,7 @@ use Rattle.tn_file.specs.Tables.{position_in}
 use Rattle.tn_file.specs.Naming.{side_in, sides_of, ComesNext, AreInOrder}
 
 -- what stands in a list once an item is last
-pub push_cases : (es : List Ends) (e x : Ends) (k : ℕ) → slice_get (es ++ e ∷ []) k ≡ Some x
+pub push_cases : {A : Type 0} (es : List A) (e x : A) (k : ℕ) → slice_get (es ++ e ∷ []) k ≡ Some x
     → (slice_get es k ≡ Some x) ⊎ ((k ≡ length es) × (e ≡ x))
 push_cases [] e x zero is = inr (refl, same_Some _ _ is)
 push_cases [] e x (suc k) is = absurd (none-some _ is)

@@ -4,6 +4,7 @@ use Rattle.std.specs.Prelude.{ℤ, pos, unsigned_abs, nat_le, nat_eq, not, is_no
 use Rattle.std.proofs.lemmas.Int.{ints}
 use Rattle.std.proofs.lemmas.Option.{none-some, same_Some, slice_get_within, option_and_then_some}
 use Rattle.serde_json.specs.Data.{Data, Items, no_items, item}
+use Rattle.serde_json.specs.Events.{items_len}
 use Rattle.tn_base.specs.Arcs.{IsAtMost}
 use Rattle.tn_base.specs.declared.fault.FaultKind.{FaultKind}
 use Rattle.tn_market.specs.declared.place.PlaceStep.{PlaceStep}
@@ -62,3 +63,16 @@ apart_from_test m n e same = absurd (grind (arith, same, e))
 
 pub leads_as : {A E : Type 0} (Q P : A → Type 0) (r : Result A E) → ((x : A) → Q x → P x) → Leads Q r → Leads P r
 leads_as Q P r turn first = record { at = λ x e. turn x (first.at x e) }
+
+-- how many items there were
+pub leads_count : {A E : Type 0} (size : A → ℕ) (step : A → Data → Result A E) → ((found : A) (d : Data) → Leads (λ next. size next ≡ size found + 1) (step found d))
+    → (found : A) (ds : Items) → Leads (λ end. size end ≡ size found + items_len ds) (each step found ds)
+unfolding each
+leads_count {A} {E} size step one found no_items = leads_ok (λ end. size end ≡ size found + 0) found (omega arith)
+leads_count {A} {E} size step one found (item d ds) =
+    leads_bind (λ next. size next ≡ size found + 1) (λ end. size end ≡ size found + suc (items_len ds)) (step found d) _ (one found d)
+    (λ next more. leads_as (λ end. size end ≡ size next + items_len ds) _ _ (λ end e. omega (arith, e, more)) (leads_count size step one next ds))
+
+-- both are said of the value
+pub leads_both : {A E : Type 0} (P Q : A → Type 0) (r : Result A E) → Leads P r → Leads Q r → Leads (λ x. P x × Q x) r
+leads_both P Q r p q = record { at = λ x e. (p.at x e, q.at x e) }

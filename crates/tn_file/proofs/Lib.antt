@@ -10,3 +10,6 @@ pub mod PlainLemmas
 pub mod NetworkLemmas
 pub mod LeadLemmas
 pub mod TableLeads
+pub mod NameLeads
+pub mod FirmLeads
+pub mod ArrangementLeads
