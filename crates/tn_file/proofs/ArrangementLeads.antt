@@ -3,8 +3,8 @@ use Rattle.std.proofs.Common.{◌≡◌, ℕ, ◌+◌, ◌^◌, ◌<◌, ◌≤�
 use Rattle.std.specs.Prelude.{ℤ, pos, not, replicate, slice_set, codes, All}
 use Rattle.std.proofs.lemmas.Int.{ints}
 use Rattle.std.proofs.lemmas.Nat.{pow_pos}
-use Rattle.std.proofs.lemmas.List.{length-replicate}
-use Rattle.std.proofs.lemmas.List.Elements.{All-set}
+use Rattle.std.proofs.lemmas.List.{length-replicate, length-set}
+use Rattle.std.proofs.lemmas.List.Elements.{All-set, All-replicate}
 use Rattle.serde_json.specs.Data.{Data, Items}
 use Rattle.serde_json.specs.Find.{get}
 use Rattle.tn_base.specs.Arcs.{IsAtMost}
@@ -54,12 +54,29 @@ module _ (trades : List (List ℕ)) where
   one_price_leads priced entry are =
       leads_bind (λ p. IsAtMost p.1 (10 ^ 14)) (λ next. ArePrices next.prices) (entry_of trades (size priced.named) priced.named entry) _ (entry_leads (size priced.named) priced.named entry) (λ next small.
         leads_ok (λ next. ArePrices next.prices) (record { named = toggle priced.named next.0; prices = slice_set priced.prices next.0 next.1 }) (record {
-          count = length_set priced.prices next.0 next.1 ∙ are.count;
-          small = All-set (λ z. IsAtMost z (10 ^ 14)) priced.prices next.0 next.1 are.small small;
+          count = length-set priced.prices next.0 next.1 ∙ are.count;
+          small = All-set (λ z. IsAtMost z (10 ^ 14)) priced.prices next.0 next.1 small are.small;
         }))
-    where
-      length_set : (xs : List ℤ) (k : ℕ) (x : ℤ) → length (slice_set xs k x) ≡ length xs
-      length_set xs k x = search rules
 
   zeros : ArePrices (replicate (length trades) (pos 0))
-  zeros = record { count = length-replicate (length trades) (pos 0); small = ? }
+  zeros = record { count = length-replicate (length trades) (pos 0); small = All-replicate (λ z. IsAtMost z (10 ^ 14)) (length trades) (pos 0) (search (arith, ints)) }
+
+  prices_lead : (entries : Items) → Leads ArePrices (prices_of trades entries)
+  unfolding prices_of
+  prices_lead entries =
+      leads_bind (λ priced. ArePrices priced.prices) ArePrices (each (one_price trades) (record { named = 0; prices = replicate (length trades) (pos 0) }) entries) _
+        (leads_each (λ priced. ArePrices priced.prices) (one_price trades) one_price_leads (record { named = 0; prices = replicate (length trades) (pos 0) }) entries zeros) (λ priced are.
+          leads_after ArePrices (unless_missing (first_without priced.named 0 (length trades))) _ (λ u. leads_ok ArePrices priced.prices are))
+
+  pub arrangement_leads : (top : Data) → Leads (IsArrangement (length trades)) (arrangement_of trades top)
+  unfolding arrangement_of
+  arrangement_leads top =
+      leads_after _ (wanted Shape (Word Arrangement ∷ []) (get (codes "arrangement") top)) _ (λ part.
+        leads_after _ (object_of ArrangementObject (Word Arrangement ∷ []) (Some part)) _ (λ object.
+          leads_after _ (list_at (Word Arrangement ∷ Word On ∷ []) (get (codes "on") part)) _ (λ references.
+            leads_bind (λ on. on < 2 ^ length trades) (IsArrangement (length trades)) (each (one_on trades) 0 references) _
+              (leads_each (λ on. on < 2 ^ length trades) (one_on trades) one_on_leads 0 references (pow_pos (length trades))) (λ on below.
+                leads_after _ (list_at (Word Arrangement ∷ Word Prices ∷ []) (get (codes "prices") part)) _ (λ entries.
+                  leads_bind ArePrices (IsArrangement (length trades)) (prices_of trades entries) _ (prices_lead entries) (λ prices are.
+                    leads_ok (IsArrangement (length trades)) (record { on = on; prices = prices }) (record { on = below; count = are.count; small = are.small })))))))
+

@@ -13,3 +13,4 @@ pub mod TableLeads
 pub mod NameLeads
 pub mod FirmLeads
 pub mod ArrangementLeads
+pub mod DocumentLeads
