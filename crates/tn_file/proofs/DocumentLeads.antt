@@ -1,5 +1,5 @@
 -- Every document that is read is a network with its names.
-use Rattle.std.proofs.Common.{◌≡◌, ℕ, suc, ◌+◌, ◌*◌, ◌^◌, ◌<◌, ◌≤◌, Bool, true, false, cond, List, [], ◌∷◌, length, map, slice_get, Option, Some, None, Result, Ok, refl, sym, ap, subst, ◌∙◌, arith}
+use Rattle.std.proofs.Common.{◌≡◌, ℕ, zero, suc, ◌+◌, ◌*◌, ◌^◌, ◌<◌, ◌≤◌, Bool, true, false, cond, List, [], ◌∷◌, length, map, slice_get, Option, Some, None, Result, Ok, refl, sym, ap, subst, ◌∙◌, arith}
 use Rattle.std.specs.Prelude.{codes, option_and_then}
 use Rattle.std.proofs.lemmas.List.{length-map}
 use Rattle.std.proofs.lemmas.Option.{none-some, same_Some}
@@ -20,17 +20,17 @@ use Rattle.tn_file.specs.declared.shapes.ObjectKind.TheVariants.{Top}
 use Rattle.tn_file.specs.Reading.{Stop, ◌>>=◌, beside, each, wanted}
 use Rattle.tn_file.specs.Json.{json_of}
 use Rattle.tn_file.specs.Shapes.{few_at, object_of}
-use Rattle.tn_file.specs.Naming.{Listed, one_firm_name, one_trade, sides_of}
+use Rattle.tn_file.specs.Naming.{Listed, AreInOrder, one_firm_name, one_trade, sides_of}
 use Rattle.tn_file.specs.Tables.{AreTrades}
 use Rattle.tn_file.specs.Firms.{one_firm}
 use Rattle.tn_file.specs.Arranged.{arrangement_of}
 use Rattle.tn_file.specs.Document.{DocumentData, ExtraData, nothing, arrangement, limit_of, version_limit, listed_of, extra_of, document_of, is_tested, reading_of}
-use Rattle.tn_file.specs.Laws.{IsDocument, IsExtra, IsArrangement}
+use Rattle.tn_file.specs.Laws.{IsDocument, IsExtra, IsArrangement, DocumentsAreNetworks}
 use Rattle.tn_file.proofs.LeadLemmas.{Leads, leads_ok, leads_bind, leads_after, leads_wanted, leads_beside, leads_as, leads_both}
 use Rattle.tn_file.proofs.NameLeads.{IsListWhileFew, AreListed, firms_lead, firms_count, trades_lead, trades_count, few_lead}
 use Rattle.tn_file.proofs.FirmLeads.{AreFirms, firms_are, firms_are_counted}
 use Rattle.tn_file.proofs.ArrangementLeads.{arrangement_leads}
-use Rattle.tn_file.proofs.NetworkLemmas.{network}
+use Rattle.tn_file.proofs.NetworkLemmas.{HaveSides, network}
 
 limit_leads : (top : Data) → Leads (λ n. n ≤ 128) (version_limit top)
 unfolding version_limit
@@ -55,7 +55,7 @@ is_listing limit names firms trades listed most few_firms kept count few_trades 
   trades = record {
     named = are.named;
     few = omega (arith, most, few_trades, trades_count);
-    order = subst (λ (n : List (List ℕ)). (t : ℕ) (trade : Ends) → slice_get listed.ends t ≡ Some trade → Rattle.tn_file.specs.Naming.ComesNext (length n) (Rattle.std.proofs.Common.take t listed.ends) trade) (sym are.firms_are) are.order;
+    order = subst (λ (n : List (List ℕ)). AreInOrder (length n) listed.ends) (sym are.firms_are) are.order;
   };
   count = ap length are.firms_are ∙ count;
   few = omega (arith, most, few_firms);
@@ -82,6 +82,50 @@ extra_leads Raw trades top = leads_ok (IsExtra (length trades)) nothing tt
 
 slice_get-map_from : {A B : Type 0} (f : A → B) (xs : List A) (k : ℕ) (y : B) → slice_get (map f xs) k ≡ Some y → (x : A) × (slice_get xs k ≡ Some x) × (f x ≡ y)
 slice_get-map_from f [] k y e = absurd (none-some _ e)
-slice_get-map_from f (x ∷ xs) Rattle.std.proofs.Common.zero y e = (x, refl, same_Some _ _ e)
+slice_get-map_from f (x ∷ xs) zero y e = (x, refl, same_Some _ _ e)
 slice_get-map_from f (x ∷ xs) (suc k) y e = slice_get-map_from f xs k y e
 
+is_document : (need : Need) (found : Listed × Items) (tables : List TableRows) (extra : ExtraData) (listing : IsListing found)
+    → AreFirms (is_tested need) found.0 listing.trades tables → length tables ≡ items_len found.1 → IsExtra (length found.0.names.trades) extra
+    → IsDocument need (record { names = found.0.names; firms = tables; ends = found.0.ends; extra = extra })
+is_document need found tables extra listing are count is_extra =
+    let named : length found.0.names.firms ≡ length tables = omega (arith, listing.count, count) in
+    let firms_count : length (map firm_of_table tables) ≡ length found.0.names.firms = length-map tables firm_of_table ∙ sym named in
+    record {
+      firm_names = listing.firm_names;
+      trade_names = listing.trade_names;
+      firms_named = named;
+      trades_named = listing.trades.named;
+      few_firms = omega (arith, count, listing.few);
+      few_trades = listing.trades.few;
+      tables = λ f table at. (are f table at).is_table;
+      network = network found.0.ends (map firm_of_table tables) (subst (λ n. AreInOrder n found.0.ends) (sym firms_count) listing.trades.order) have;
+      tested = λ is f table at. (are f table at).meets is;
+      extra = subst (λ n. IsExtra n extra) listing.trades.named is_extra;
+    }
+  where
+    have : HaveSides found.0.ends (map firm_of_table tables)
+    have f firm at =
+        let r = slice_get-map_from firm_of_table tables f firm at in
+        let sides = (are f r.0 r.1).is_table.sides in
+        ( ap (λ (x : Firm). x.count) (sym r.2) ∙ ap length sides
+        , ap (λ (x : Firm). x.buys) (sym r.2) ∙ ap buys_of sides
+        )
+
+document_leads : (need : Need) (top : Data) → Leads (IsDocument need) (document_of need top)
+unfolding document_of
+document_leads need top =
+    leads_bind IsListing (IsDocument need) (listed_of top) _ (listed_leads top) (λ found listing.
+      leads_bind (λ tables. AreFirms (is_tested need) found.0 listing.trades tables × (length tables ≡ items_len found.1)) (IsDocument need)
+        (beside found.0.names (each (one_firm (is_tested need) found.0) [] found.1)) _
+        (leads_beside _ found.0.names _ (leads_both _ _ _ (firms_are (is_tested need) found.0 listing.trades found.1) (firms_are_counted (is_tested need) found.0 listing.trades found.1))) (λ tables are.
+          leads_bind (IsExtra (length found.0.names.trades)) (IsDocument need) (beside found.0.names (extra_of need found.0.names.trades top)) _
+            (leads_beside _ found.0.names _ (extra_leads need found.0.names.trades top)) (λ extra is_extra.
+              leads_ok (IsDocument need) (record { names = found.0.names; firms = tables; ends = found.0.ends; extra = extra }) (is_document need found tables extra listing are.0 are.1 is_extra))))
+
+reading_leads : (need : Need) (bytes : List ℕ) → Leads (IsDocument need) (reading_of need bytes)
+unfolding reading_of
+reading_leads need bytes = leads_after (IsDocument need) (beside no_names (wanted NotJson [] (json_of bytes))) _ (λ top. document_leads need top)
+
+pub documents_are_networks : DocumentsAreNetworks
+documents_are_networks need bytes doc e = (reading_leads need bytes).at doc e
