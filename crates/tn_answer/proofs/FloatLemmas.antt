@@ -1,15 +1,14 @@
 -- No answer has a float, so its text is the compact one.
-use Rattle.std.proofs.Common.{◌≡◌, ℕ, ℤ, pos, negsuc, Bool, false, ◌||◌, List, [], ◌∷◌, map, Option, None, Some, refl, ap, ◌∙◌}
+use Rattle.std.proofs.Common.{◌≡◌, ℕ, ℤ, pos, negsuc, Bool, false, ◌||◌, List, [], ◌∷◌, Option, None, Some, refl, ap, ◌∙◌}
 use Rattle.serde_json.specs.Find.{is_float, of_integer}
-use Rattle.serde_json.specs.View.{items_of}
-use Rattle.serde_json.specs.Written.{has_float, items_have_float}
+use Rattle.serde_json.specs.Written.{has_float}
 use Rattle.tn_market.specs.declared.place.PlaceStep.{PlaceStep}
 use Rattle.tn_market.specs.declared.place.PlaceStep.TheVariants.{Word, Index, Trade}
 use Rattle.tn_market.specs.declared.said.Fault.{Fault}
 use Rattle.tn_market.specs.declared.said.Shown.{Shown}
 use Rattle.tn_market.specs.declared.said.Said.{Said}
-use Rattle.tn_market.specs.declared.said.Said.TheVariants.{Usage, ReadFault, NoMemory, Fault as FaultIs, Equilibrium, Better, Impossible}
-use Rattle.tn_answer.specs.AnswerText.{name_data, names_data, option_data, step_data, place_data, fault_data, answer_data}
+use Rattle.tn_market.specs.declared.said.Said.TheVariants.{Usage, ReadFault, NoMemory, Fault as FaultIs, Equilibrium, Better, Impossible, Accepted, ExchangeFails}
+use Rattle.tn_answer.specs.AnswerText.{names_data, option_data, step_data, place_data, fault_data, answer_data}
 use Rattle.tn_answer.specs.Names.{NameLists}
 
 neither : (a b : Bool) → a ≡ false → b ≡ false → (a || b) ≡ false
@@ -51,3 +50,5 @@ answer_has_no_float names (FaultIs fault) = fault_has_no_float names.trades faul
 answer_has_no_float names (Equilibrium surplus) = neither _ _ (integer_is_no_float surplus) refl
 answer_has_no_float names (Better firm bundle gain) = neither _ _ (names_have_no_float names.trades bundle) (neither _ _ (integer_is_no_float gain) refl)
 answer_has_no_float names (Impossible firm) = refl
+answer_has_no_float names Accepted = refl
+answer_has_no_float names (ExchangeFails firm x y at) = neither _ _ (option_has_no_float names.trades at) (neither _ _ (names_have_no_float names.trades x) (neither _ _ (names_have_no_float names.trades y) refl))

@@ -1,7 +1,7 @@
 -- Where an answer names no firm and no trade, names don't matter.
-use Rattle.std.proofs.Common.{◌≡◌, ℕ, Bool, true, false, ◌&&◌, List, [], ◌∷◌, ◌++◌, map, codes, Option, None, Some, is_none, refl, ap, ap₂, ◌∙◌, true≢false, sym, arith}
+use Rattle.std.proofs.Common.{◌≡◌, ℕ, Bool, true, false, ◌&&◌, List, [], ◌∷◌, ◌++◌, map, codes, Option, None, Some, is_none, refl, ap, true≢false, sym}
 use Rattle.std.specs.List.{list_all}
-use Rattle.serde_json.specs.Data.{Data, array, member, no_members}
+use Rattle.serde_json.specs.Data.{array, member, no_members}
 use Rattle.serde_json.specs.View.{items_of}
 use Rattle.serde_json.specs.Written.{compact_text}
 use Rattle.tn_market.specs.declared.place.PlaceStep.{PlaceStep}
@@ -9,9 +9,9 @@ use Rattle.tn_market.specs.declared.place.PlaceStep.TheVariants.{Word, Index, Tr
 use Rattle.tn_market.specs.declared.said.Fault.{Fault}
 use Rattle.tn_market.specs.declared.said.Shown.{Shown}
 use Rattle.tn_market.specs.declared.said.Said.{Said}
-use Rattle.tn_market.specs.declared.said.Said.TheVariants.{Usage, ReadFault, NoMemory, Fault as FaultIs, Equilibrium, Better, Impossible}
+use Rattle.tn_market.specs.declared.said.Said.TheVariants.{Usage, ReadFault, NoMemory, Fault as FaultIs, Equilibrium, Better, Impossible, Accepted, ExchangeFails}
 use Rattle.tn_answer.specs.Names.{NameLists}
-use Rattle.tn_answer.specs.AnswerText.{names_data, option_data, step_data, place_data, answer, fault_members, fault_data, answer_data, answer_line}
+use Rattle.tn_answer.specs.AnswerText.{names_data, option_data, step_data, answer, fault_members, fault_data, answer_data, answer_line}
 use Rattle.tn_answer.specs.Laws.{are_none, names_no_trade_at, names_no_trade_in, names_nothing}
 
 both : (a b : Bool) → (a && b) ≡ true → (a ≡ true) × (b ≡ true)
@@ -58,6 +58,8 @@ same_data (FaultIs fault) names others e =
 same_data (Equilibrium surplus) names others e = refl
 same_data (Better firm bundle gain) names others e = absurd (true≢false (sym e))
 same_data (Impossible firm) names others e = absurd (true≢false (sym e))
+same_data Accepted names others e = refl
+same_data (ExchangeFails firm x y at) names others e = absurd (true≢false (sym e))
 
 pub same_line : (said : Said) (names others : NameLists) → names_nothing said ≡ true → answer_line names said ≡ answer_line others said
 unfolding answer_line

@@ -1,5 +1,5 @@
 -- What is written for an answer: compact JSON, the members of an object in byte order, and one line end.
-use Rattle.std.specs.Prelude.{◌≡◌, ℕ, ℤ, List, [], ◌∷◌, ◌++◌, map, slice_get, Option, None, Some, unwrap_or, codes}
+use Rattle.std.specs.Prelude.{ℕ, ℤ, List, [], ◌∷◌, ◌++◌, map, slice_get, Option, None, Some, unwrap_or, codes}
 use Rattle.serde_json.specs.Data.{Data, null, number, string, array, object, unsigned, Members, no_members, member}
 use Rattle.serde_json.specs.Find.{of_integer}
 use Rattle.serde_json.specs.View.{items_of}
@@ -11,7 +11,7 @@ use Rattle.tn_market.specs.declared.place.PlaceStep.TheVariants.{Word, Index, Tr
 use Rattle.tn_market.specs.declared.said.Fault.{Fault}
 use Rattle.tn_market.specs.declared.said.Shown.{Shown}
 use Rattle.tn_market.specs.declared.said.Said.{Said}
-use Rattle.tn_market.specs.declared.said.Said.TheVariants.{Usage, ReadFault, NoMemory, Fault as FaultIs, Equilibrium, Better, Impossible}
+use Rattle.tn_market.specs.declared.said.Said.TheVariants.{Usage, ReadFault, NoMemory, Fault as FaultIs, Equilibrium, Better, Impossible, Accepted, ExchangeFails}
 use Rattle.tn_answer.specs.Names.{NameLists}
 use Rattle.tn_answer.specs.Words.{kind_name, word_text}
 
@@ -60,6 +60,8 @@ answer_data names (FaultIs fault) = fault_data names.trades fault fault.shown
 answer_data names (Equilibrium surplus) = answer (codes "equilibrium") (member (codes "surplus") (integer_data surplus) no_members)
 answer_data names (Better firm bundle gain) = answer (codes "better") (member (codes "bundle") (names_data names.trades bundle) (member (codes "firm") (name_data names.firms firm) (member (codes "gain") (integer_data gain) no_members)))
 answer_data names (Impossible firm) = answer (codes "impossible") (member (codes "firm") (name_data names.firms firm) no_members)
+answer_data names Accepted = answer (codes "accepted") no_members
+answer_data names (ExchangeFails firm x y at) = answer (codes "exchange_fails") (member (codes "at") (option_data names.trades at) (member (codes "firm") (name_data names.firms firm) (member (codes "x") (names_data names.trades x) (member (codes "y") (names_data names.trades y) no_members))))
 
 -- an answer as text
 unfoldable pub answer_line : NameLists → Said → List ℕ

@@ -3,10 +3,9 @@ use Rattle.std.specs.Prelude.{◌≡◌, ℕ, Bool, true, false, ◌&&◌, List,
 use Rattle.std.specs.List.{list_all}
 use Rattle.tn_market.specs.declared.place.PlaceStep.{PlaceStep}
 use Rattle.tn_market.specs.declared.place.PlaceStep.TheVariants.{Trade}
-use Rattle.tn_market.specs.declared.said.Fault.{Fault}
 use Rattle.tn_market.specs.declared.said.Shown.{Shown}
 use Rattle.tn_market.specs.declared.said.Said.{Said}
-use Rattle.tn_market.specs.declared.said.Said.TheVariants.{Fault as FaultIs, Better, Impossible}
+use Rattle.tn_market.specs.declared.said.Said.TheVariants.{Fault as FaultIs, Better, Impossible, ExchangeFails}
 use Rattle.tn_answer.specs.Names.{NameLists}
 use Rattle.tn_answer.specs.AnswerText.{answer_line}
 
@@ -27,6 +26,7 @@ abbrev pub names_nothing : Said → Bool
 names_nothing (FaultIs fault) = list_all names_no_trade_at fault.place && names_no_trade_in fault.shown
 names_nothing (Better firm bundle gain) = false
 names_nothing (Impossible firm) = false
+names_nothing (ExchangeFails firm x y at) = false
 names_nothing _ = true
 
 -- the text of such an answer is the same over any names

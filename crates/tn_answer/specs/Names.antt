@@ -1,5 +1,5 @@
 -- The names of firms and of trades, and the rule that a name keeps.
-use Rattle.std.specs.Prelude.{◌≡◌, ℕ, ◌≤◌, Bool, true, ◌==◌, ◌&&◌, ◌||◌, nat_le, List, [], ◌∷◌, ◌++◌, length, slice_get, Option, Some, position, bytes_eq, codes, slice_index}
+use Rattle.std.specs.Prelude.{◌≡◌, ℕ, ◌≤◌, Bool, true, ◌==◌, ◌&&◌, ◌||◌, nat_le, List, [], ◌∷◌, ◌++◌, length, slice_get, Option, Some, position, bytes_eq}
 use Rattle.std.specs.List.{list_all, list_any}
 
 abbrev pub MAX_NAMES : ℕ

@@ -1,3 +1,5 @@
+ghost use Rattle.tn_answer.specs.Sayable.{IsSayable};
+
 use crate::{Names, answer_text, is_name, no_memory_text, read_fault_text, usage_text};
 use std::alloc::Global;
 use std::process::Abort;
@@ -50,62 +52,157 @@ fn two_of_each(alloc: Global) -> Result<Names, Fail> {
     Ok(names)
 }
 
-#[test]
-fn writes_a_line_for_each_answer(rt: HostRuntime) -> Result<(), Fail> {
-    let alloc = rt.alloc();
-    let names = two_of_each(alloc)?;
-    assert!(rt; names.firms() == 2 && names.trades() == 2);
+// Whether a text is a line with this content, and no more.
+fn is_line(text: &[u8], content: &str) -> bool {
+    text.strip_suffix(b"\n") == Some(content.as_bytes())
+}
 
-    let text = answer_text(alloc, &names, &Said::Equilibrium { surplus: 2 })?;
-    assert!(rt; text.as_slice() == b"{\"answer\":\"equilibrium\",\"surplus\":2}\n");
-    let text = answer_text(alloc, &names, &Said::Equilibrium { surplus: -3 })?;
-    assert!(rt; text.as_slice() == b"{\"answer\":\"equilibrium\",\"surplus\":-3}\n");
-    let better = Said::Better {
-        firm: 1,
-        bundle: Trades::from_vec(Vec::new(alloc)),
-        gain: 1,
-    };
-    let text = answer_text(alloc, &names, &better)?;
-    assert!(rt;
-        text.as_slice() == b"{\"answer\":\"better\",\"bundle\":[],\"firm\":\"B\",\"gain\":1}\n"
-    );
-    let text = answer_text(alloc, &names, &Said::Impossible { firm: 0 })?;
-    assert!(rt; text.as_slice() == b"{\"answer\":\"impossible\",\"firm\":\"S\"}\n");
-    assert!(rt; usage_text() == b"{\"answer\":\"usage\"}\n");
-    assert!(rt; read_fault_text() == b"{\"answer\":\"read_fault\"}\n");
-    assert!(rt; no_memory_text() == b"{\"answer\":\"no_memory\"}\n");
+fn assert_line(
+    rt: &impl Abort,
+    alloc: Global,
+    names: &Names,
+    said: &Said,
+    content: &str,
+) -> Result<(), Fail>
+    requires { IsSayable said.now }
+{
+    let text = answer_text(alloc, names, said)?;
+    assert!(rt; is_line(&text, content));
     Ok(())
 }
 
 #[test]
-fn writes_the_place_of_a_fault(rt: HostRuntime) -> Result<(), Fail> {
-    let alloc = rt.alloc();
-    let names = two_of_each(alloc)?;
-    assert!(rt; names.firms() == 2 && names.trades() == 2);
-
-    let shape = Said::Fault(Fault {
-        kind: FaultKind::Shape,
-        place: Place::from_vec(Vec::new(alloc)),
-        shown: None,
-    });
-    let text = answer_text(alloc, &names, &shape)?;
-    assert!(rt;
-        text.as_slice() == b"{\"answer\":\"fault\",\"fault\":3,\"name\":\"Shape\",\"place\":[]}\n"
-    );
-
-    let fails = Said::Fault(Fault {
-        kind: FaultKind::ExchangeFails,
-        place: Place::from_vec(vec![in alloc; PlaceStep::Word(Word::Firms), PlaceStep::Index(1)]?),
-        shown: Some(Shown {
-            x: Trades::from_vec(vec![in alloc; 0, 1]?),
-            y: Trades::from_vec(Vec::new(alloc)),
-            at: Some(0),
-        }),
-    });
-    let text = answer_text(alloc, &names, &fails)?;
-    assert!(rt;
-        text.as_slice()
-            == b"{\"answer\":\"fault\",\"at\":\"a\",\"fault\":16,\"name\":\"ExchangeFails\",\"place\":[\"firms\",1],\"x\":[\"a\",\"b\"],\"y\":[]}\n"
-    );
+fn writes_numbers_with_their_sign(rt: HostRuntime) -> Result<(), Fail> {
+    let names = Names::empty(rt.alloc());
+    for (surplus, content) in [
+        (2i64, r#"{"answer":"equilibrium","surplus":2}"#),
+        (-3, r#"{"answer":"equilibrium","surplus":-3}"#),
+    ] {
+        let said = Said::Equilibrium {
+            surplus: i128::from(surplus),
+        };
+        assert_line(&rt, rt.alloc(), &names, &said, content)?;
+    }
     Ok(())
+}
+
+#[test]
+fn writes_a_name(rt: HostRuntime) -> Result<(), Fail> {
+    let names = two_of_each(rt.alloc())?;
+    assert!(rt; names.firms() == 2);
+    let said = Said::Impossible { firm: 0 };
+    assert_line(
+        &rt,
+        rt.alloc(),
+        &names,
+        &said,
+        r#"{"answer":"impossible","firm":"S"}"#,
+    )
+}
+
+#[test]
+fn writes_a_better_bundle(rt: HostRuntime) -> Result<(), Fail> {
+    let names = two_of_each(rt.alloc())?;
+    assert!(rt; names.firms() == 2);
+    let bundle = Trades::from_vec(Vec::new(rt.alloc()));
+    let better = Said::Better {
+        firm: 1,
+        bundle,
+        gain: 1,
+    };
+    assert_line(
+        &rt,
+        rt.alloc(),
+        &names,
+        &better,
+        r#"{"answer":"better","bundle":[],"firm":"B","gain":1}"#,
+    )
+}
+
+#[test]
+fn writes_a_failing_firm(rt: HostRuntime) -> Result<(), Fail> {
+    let names = two_of_each(rt.alloc())?;
+    assert!(rt; names.firms() == 2);
+    assert_line(
+        &rt,
+        rt.alloc(),
+        &names,
+        &Said::Accepted,
+        r#"{"answer":"accepted"}"#,
+    )?;
+    let none = Trades::from_vec(Vec::new(rt.alloc()));
+    let also_none = Trades::from_vec(Vec::new(rt.alloc()));
+    let fails = Said::ExchangeFails {
+        firm: 1,
+        x: none,
+        y: also_none,
+        at: None,
+    };
+    assert_line(
+        &rt,
+        rt.alloc(),
+        &names,
+        &fails,
+        r#"{"answer":"exchange_fails","at":null,"firm":"B","x":[],"y":[]}"#,
+    )
+}
+
+#[test]
+fn writes_constant_texts(rt: HostRuntime) {
+    assert!(rt; is_line(usage_text(), r#"{"answer":"usage"}"#));
+    assert!(rt; is_line(read_fault_text(), r#"{"answer":"read_fault"}"#));
+    assert!(rt; is_line(no_memory_text(), r#"{"answer":"no_memory"}"#));
+}
+
+#[test]
+fn writes_faults_of_the_whole_document(rt: HostRuntime) -> Result<(), Fail> {
+    let names = Names::empty(rt.alloc());
+    for (kind, content) in [
+        (
+            FaultKind::NotJson,
+            r#"{"answer":"fault","fault":1,"name":"NotJson","place":[]}"#,
+        ),
+        (
+            FaultKind::Shape,
+            r#"{"answer":"fault","fault":3,"name":"Shape","place":[]}"#,
+        ),
+    ] {
+        let place = Place::from_vec(Vec::new(rt.alloc()));
+        if kind != FaultKind::ExchangeFails {
+            let said = Said::Fault(Fault {
+                kind,
+                place,
+                shown: None,
+            });
+            assert_line(&rt, rt.alloc(), &names, &said, content)?;
+        }
+    }
+    Ok(())
+}
+
+// A failure of exchange at the second firm, on two trades.
+fn exchange_fault(alloc: Global) -> Result<Fault, Fail>
+{
+    let place = vec![in alloc; PlaceStep::Word(Word::Firms), PlaceStep::Index(1)]?;
+    let x = vec![in alloc; 0, 1]?;
+    let shown = Shown {
+        x: Trades::from_vec(x),
+        y: Trades::from_vec(Vec::new(alloc)),
+        at: Some(0),
+    };
+    Ok(Fault {
+        kind: FaultKind::ExchangeFails,
+        place: Place::from_vec(place),
+        shown: Some(shown),
+    })
+}
+
+#[test]
+fn writes_a_failing_triple(rt: HostRuntime) -> Result<(), Fail> {
+    let names = two_of_each(rt.alloc())?;
+    assert!(rt; names.trades() == 2);
+    let said = Said::Fault(exchange_fault(rt.alloc())?);
+    let content =
+        r#"{"answer":"fault","at":"a","fault":16,"name":"ExchangeFails","place":["firms",1],"x":["a","b"],"y":[]}"#;
+    assert_line(&rt, rt.alloc(), &names, &said, content)
 }

@@ -9,10 +9,10 @@ use std::alloc::Global;
 use tn_base::OutOfMemory;
 use tn_market::Said;
 
-/// The text of an answer over some names, with its line end.
+/// The text of an answer over some names, with its line end. A firm or a trade without a name has an empty one.
 #[tactic(auto, using(crate::proofs::FloatLemmas::answer_has_no_float), unfolding(crate::specs::AnswerText::answer_line))]
 pub fn answer_text(alloc: Global, names: &Names, said: &Said) -> Result<Vec<u8>, OutOfMemory>
-    requires { IsSayable names.now said.now }
+    requires { IsSayable said.now }
     ensures { IfOk result (λ text. text.items ≡ answer_line names.now said.now) }
 {
     let mut text = answer_value(alloc, names, said)?.to_vec(alloc)?;

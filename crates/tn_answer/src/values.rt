@@ -1,9 +1,9 @@
 // Answers as JSON values. An object has its members in byte order, whatever order they are put in.
-ghost use Rattle.std.specs.Prelude.{◌≡◌, IfOk, IfSome, All, FitsSigned};
+ghost use Rattle.std.specs.Prelude.{◌≡◌, [], unwrap_or, slice_get, IfOk, FitsSigned};
 ghost use Rattle.std.specs.Int.{w64};
 ghost use Rattle.serde_json.specs.View.{view};
 ghost use Rattle.tn_answer.specs.AnswerText.{answer_data, fault_data, name_data, names_data, option_data, place_data, step_data};
-ghost use Rattle.tn_answer.specs.Sayable.{IsNamed, IsNamedStep, IsNamedTriple, IsSayable, IsSayableFault};
+ghost use Rattle.tn_answer.specs.Sayable.{IsSayable};
 
 use crate::names::Names;
 use crate::words::{kind_name, word_text};
@@ -12,7 +12,7 @@ use std::alloc::{AllocError, Global};
 use tn_market::{Fault, Place, PlaceStep, Said, Shown, Trades};
 
 pub(crate) fn answer_value(alloc: Global, names: &Names, said: &Said) -> Result<Value, AllocError>
-    requires { IsSayable names.now said.now }
+    requires { IsSayable said.now }
     ensures { IfOk result (λ value. view value ≡ answer_data names.now said.now) }
 {
     match said {
@@ -23,11 +23,14 @@ pub(crate) fn answer_value(alloc: Global, names: &Names, said: &Said) -> Result<
         Said::Equilibrium { surplus } => equilibrium_value(alloc, names, *surplus),
         Said::Better { firm, bundle, gain } => better_value(alloc, names, *firm, bundle, *gain),
         Said::Impossible { firm } => impossible_value(alloc, names, *firm),
+        Said::Accepted => json!(in alloc; {"answer": "accepted"}),
+        Said::ExchangeFails { firm, x, y, at } => {
+            exchange_fails_value(alloc, names, *firm, x, y, *at)
+        }
     }
 }
 
 fn fault_value(alloc: Global, names: &Names, fault: &Fault) -> Result<Value, AllocError>
-    requires { IsSayableFault names.now.trades fault.now }
     ensures { IfOk result (λ value. view value ≡ fault_data names.now.trades fault.now fault.now.shown) }
 {
     match &fault.shown {
@@ -37,7 +40,6 @@ fn fault_value(alloc: Global, names: &Names, fault: &Fault) -> Result<Value, All
 }
 
 fn plain_fault_value(alloc: Global, names: &Names, fault: &Fault) -> Result<Value, AllocError>
-    requires { All (IsNamedStep names.now.trades) fault.now.place }
     ensures { IfOk result (λ value. view value ≡ fault_data names.now.trades fault.now None) }
 {
     let place = place_value(alloc, names, &fault.place)?;
@@ -55,8 +57,6 @@ fn shown_fault_value(
     fault: &Fault,
     shown: &Shown,
 ) -> Result<Value, AllocError>
-    requires place { All (IsNamedStep names.now.trades) fault.now.place }
-    requires triple { IsNamedTriple names.now.trades shown.now }
     ensures { IfOk result
         (λ value. view value ≡ fault_data names.now.trades fault.now (Some shown.now)) }
 {
@@ -90,7 +90,7 @@ fn better_value(
     bundle: &Trades,
     gain: i128,
 ) -> Result<Value, AllocError>
-    requires { IsSayable names.now (Said.Better firm bundle.now gain) }
+    requires { FitsSigned w64 gain }
     ensures { IfOk result
         (λ value. view value ≡ answer_data names.now (Said.Better firm bundle.now gain)) }
 {
@@ -98,27 +98,69 @@ fn better_value(
     json!(in alloc; {
         "answer": "better",
         "bundle": bundle,
-        "firm": names.firm(firm),
+        "firm": firm_name(names, firm),
         "gain": gain as i64,
     })
 }
 
 fn impossible_value(alloc: Global, names: &Names, firm: u32) -> Result<Value, AllocError>
-    requires { IsNamed names.now.firms firm }
     ensures { IfOk result (λ value. view value ≡ answer_data names.now (Said.Impossible firm)) }
 {
-    json!(in alloc; {"answer": "impossible", "firm": names.firm(firm)})
+    json!(in alloc; {"answer": "impossible", "firm": firm_name(names, firm)})
+}
+
+fn exchange_fails_value(
+    alloc: Global,
+    names: &Names,
+    firm: u32,
+    x: &Trades,
+    y: &Trades,
+    at: Option<u32>,
+) -> Result<Value, AllocError>
+    ensures { IfOk result
+        (λ value. view value ≡ answer_data names.now (Said.ExchangeFails firm x.now y.now at)) }
+{
+    let at = option_value(alloc, names, at)?;
+    let x = trades_value(alloc, names, x)?;
+    let y = trades_value(alloc, names, y)?;
+    json!(in alloc; {
+        "answer": "exchange_fails",
+        "at": at,
+        "firm": firm_name(names, firm),
+        "x": x,
+        "y": y,
+    })
+}
+
+/// The name of a firm, empty where it has none.
+fn firm_name(names: &Names, firm: u32) -> &str
+    ensures { result.now ≡ unwrap_or (slice_get names.now.firms firm) [] }
+{
+    if firm < names.firms() {
+        names.firm(firm)
+    } else {
+        ""
+    }
+}
+
+/// The name of a trade, empty where it has none.
+fn trade_name(names: &Names, trade: u32) -> &str
+    ensures { result.now ≡ unwrap_or (slice_get names.now.trades trade) [] }
+{
+    if trade < names.trades() {
+        names.trade(trade)
+    } else {
+        ""
+    }
 }
 
 fn trade_value(alloc: Global, names: &Names, trade: u32) -> Result<Value, AllocError>
-    requires { IsNamed names.now.trades trade }
     ensures { IfOk result (λ value. view value ≡ name_data names.now.trades trade) }
 {
-    Value::try_from_str(alloc, names.trade(trade))
+    Value::try_from_str(alloc, trade_name(names, trade))
 }
 
 fn option_value(alloc: Global, names: &Names, trade: Option<u32>) -> Result<Value, AllocError>
-    requires { IfSome trade (IsNamed names.now.trades) }
     ensures { IfOk result (λ value. view value ≡ option_data names.now.trades trade) }
 {
     match trade {
@@ -128,7 +170,6 @@ fn option_value(alloc: Global, names: &Names, trade: Option<u32>) -> Result<Valu
 }
 
 fn trades_value(alloc: Global, names: &Names, trades: &Trades) -> Result<Value, AllocError>
-    requires { All (IsNamed names.now.trades) trades.now }
     ensures { IfOk result (λ value. view value ≡ names_data names.now.trades trades.now) }
 {
     let mut values = Vec::new(alloc);
@@ -139,7 +180,6 @@ fn trades_value(alloc: Global, names: &Names, trades: &Trades) -> Result<Value, 
 }
 
 fn step_value(alloc: Global, names: &Names, step: PlaceStep) -> Result<Value, AllocError>
-    requires { IsNamedStep names.now.trades step }
     ensures { IfOk result (λ value. view value ≡ step_data names.now.trades step) }
 {
     match step {
@@ -150,7 +190,6 @@ fn step_value(alloc: Global, names: &Names, step: PlaceStep) -> Result<Value, Al
 }
 
 fn place_value(alloc: Global, names: &Names, place: &Place) -> Result<Value, AllocError>
-    requires { All (IsNamedStep names.now.trades) place.now }
     ensures { IfOk result (λ value. view value ≡ place_data names.now.trades place.now) }
 {
     let mut values = Vec::new(alloc);

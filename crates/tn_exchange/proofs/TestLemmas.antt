@@ -5,6 +5,7 @@ use Rattle.std.specs.Int.{w128}
 use Rattle.std.specs.Int.Signed.{le_z}
 use Rattle.std.proofs.Common.{SFits}
 use Rattle.tn_base.specs.Arcs.{IsAtMost}
+use Rattle.std.specs.Option.{ForSome}
 use Rattle.std.proofs.lemmas.Int.{ints}
 use Rattle.std.proofs.lemmas.Option.{same_Some, none-some}
 use Rattle.std.proofs.lemmas.Bool.{cases_eq, false≢true}
@@ -232,3 +233,14 @@ none_above firm own k all s above f =
 -- then no triple fails
 pub none_fails : (firm : Firm) → ((s : Triple) → 0 ≤ s.x → TripleFails firm s → ⊥) → NoneFails firm
 none_fails firm none x y at f = none (record { x = x; y = y; at = at }) (omega arith) f
+
+-- the bundles and the position of a triple that fails are own
+pub failure_is_own : (firm : Firm) → HasOwnBundles firm → (x y : ℕ) (at : Option ℕ) → Fails firm x y at
+    → (x < 2 ^ firm.count) × (y < 2 ^ firm.count) × ForSome at (λ k. k < firm.count)
+failure_is_own firm own x y at f =
+    let x_own : x < 2 ^ firm.count = own x f.first f.first_is in
+    let y_own : y < 2 ^ firm.count = own y f.second f.second_is in (
+      x_own,
+      y_own,
+      λ k is. wrong_at_own firm x y (f.first +ℤ f.second) k x_own y_own (subst (IsWrongAt firm x y (f.first +ℤ f.second)) is f.wrong),
+    )

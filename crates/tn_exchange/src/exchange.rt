@@ -12,7 +12,9 @@ use crate::table::RawTable;
 use crate::verdict::Verdict;
 use tn_base::Bundle;
 
-/// Whether a table meets exchange, and if not, the first failing triple in test order.
+/// Whether a table meets exchange, and if not, the first failing triple in test order: the first bundle by descending
+/// number, then the second by ascending number, then the position, ascending, with none as the last. It takes no
+/// memory.
 pub fn test(table: &RawTable) -> Verdict
     ensures holds { (result ≡ Verdict.Holds) ↔ NoneFails (firm_of_table table.now) }
     ensures first { IfFails result (IsFirstFailure (firm_of_table table.now)) }
@@ -31,7 +33,7 @@ pub fn test(table: &RawTable) -> Verdict
     Verdict::Holds
 }
 
-/// Whether two bundles of own positions fail exchange at an own position, or at none.
+/// Whether two bundles of own positions fail exchange at an own position, or at none. It takes no memory.
 pub fn fails_at(table: &RawTable, x: Bundle, y: Bundle, at: Option<u32>) -> bool
     requires x_own { x < 2 ^ length table.now.sides }
     requires y_own { y < 2 ^ length table.now.sides }

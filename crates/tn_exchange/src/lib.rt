@@ -6,6 +6,8 @@ mod exchange;
 mod laws;
 mod refusal;
 mod table;
+#[cfg(test)]
+mod tests;
 mod verdict;
 
 pub use exchange::{fails_at, test};

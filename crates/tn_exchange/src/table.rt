@@ -71,7 +71,7 @@ impl RawTable {
     /// How many trades are the firm's own, at most 10.
     pub fn trades(&self) -> u32
         ensures count { result ≡ length self.now.sides }
-        ensures few { result ≤ 10 }
+        ensures within { IsWithinLimits self.now }
     {
         self.sides.len() as u32
     }
@@ -96,7 +96,6 @@ impl RawTable {
         ensures members { result ≡ buys_of self.now.sides }
         ensures within { IsWithinLimits self.now }
     {
-        let _ = &self.rows;
         let mut buys = Bundle::empty();
         for k in 0..self.trades() {
             if let Side::Buy = self.side(k) {

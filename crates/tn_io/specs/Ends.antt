@@ -40,4 +40,5 @@ filled into bytes n = take n bytes ++ drop n into
 -- the told bytes with more behind them, or nothing once they are more than the room
 abbrev pub told_within : ℕ → Option (List ℕ) → List ℕ → Option (List ℕ)
 told_within room None bytes = None
-told_within room (Some xs) bytes = if nat_le (length (xs ++ bytes)) room then Some (xs ++ bytes) else None
+told_within room (Some xs) bytes =
+    if nat_le (length (xs ++ bytes)) room then Some (xs ++ bytes) else None

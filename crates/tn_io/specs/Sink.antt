@@ -9,4 +9,5 @@ Grows (Some xs) (Some ys) bytes = ys ≡ xs ++ bytes
 
 -- what is told after was told before, and grew by a prefix of these bytes
 abbrev pub GrowsByPrefix : Option (List ℕ) → Option (List ℕ) → List ℕ → Type 0
-GrowsByPrefix old new bytes = (count : ℕ) × (count ≤ length bytes) × Grows old new (take count bytes)
+GrowsByPrefix old new bytes =
+    (count : ℕ) × (count ≤ length bytes) × Grows old new (take count bytes)

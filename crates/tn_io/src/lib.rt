@@ -1,5 +1,5 @@
-//! Where bytes come from and go to: sources that are read, sinks that are written, and their ends in
-//! memory and in std.
+//! Where bytes come from and go to: sources that are read, sinks that are written, and their ends
+//! in memory and in std.
 #![tactic(auto)]
 
 mod memory;

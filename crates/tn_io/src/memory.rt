@@ -1,9 +1,8 @@
 //! Ends in memory that fail at listed calls.
-ghost use Rattle.std.specs.Prelude.{◌≡◌, ◌≢◌, ◌⊎◌, ◌↔◌, ◌-◌, ◌≤◌, ◌<◌, [], ◌++◌, Some, Ok, length, take, drop, IfOk, OnErr, IsErr, IsTrue, Contains};
+ghost use Rattle.std.specs.Prelude.{◌≡◌, ◌⊎◌, ◌↔◌, ◌-◌, ◌≤◌, ◌<◌, [], ◌++◌, Some, Ok, length, take, drop, IfOk, OnErr, IsErr, IsTrue, Contains};
 ghost use Rattle.std.specs.Io.{ReadsAtMost, WritesAtMost};
 ghost use Rattle.std.specs.Io.KnownBytes.{ReadConsumes};
 ghost use Rattle.tn_io.specs.Counts.{next_count, Rose};
-ghost use Rattle.tn_io.specs.Sink.{Grows};
 ghost use Rattle.tn_io.specs.Ends.{moved_count, filled};
 
 use crate::sink::{Sink, WriteFailed};

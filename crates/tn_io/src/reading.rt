@@ -46,14 +46,15 @@ const PIECE: usize = 4096;
 /// Reads to the end of input, at most `limit` bytes.
 ///
 /// `Failed` comes only where the source's count of faults rose in this call, and `TooLong` exactly
-/// where `limit + 1` bytes were taken; more are never taken. After a refusal a source that tells its
-/// bytes has lost the taken ones alone.
+/// where `limit + 1` bytes were taken; more are never taken. After a refusal a source that tells
+/// its bytes has lost the taken ones alone.
 pub fn read_all<S: Source>(alloc: Global, source: &mut S, limit: usize) -> Result<Vec<u8>, ReadStop>
     requires { limit < 2 ^ 31 }
 
     // The bytes are all that was left, in order, and nothing is left.
     ensures within { IfOk result (λ bytes. length bytes.items ≤ limit) }
-    ensures taken { IfOk result (λ bytes. Consumes (S.left source.old) (S.left source.new) bytes.items) }
+    ensures taken { IfOk result (λ bytes.
+        Consumes (S.left source.old) (S.left source.new) bytes.items) }
     ensures end { OnOk result (IsAtEnd (S.left source.new)) }
     ensures whole { IfOk result (λ bytes. IfSome (S.left source.old) (λ all. bytes.items ≡ all)) }
 

@@ -1,7 +1,7 @@
 //! What a source of bytes promises.
 ghost use Rattle.std.specs.Prelude.{ℕ, List, Option, ◌≤◌, OnErr};
 ghost use Rattle.std.specs.Io.{ReadsAtMost};
-ghost use Rattle.std.specs.Io.KnownBytes.{Keeps, ReadConsumes};
+ghost use Rattle.std.specs.Io.KnownBytes.{ReadConsumes};
 ghost use Rattle.tn_io.specs.Counts.{Rose};
 
 /// A read failed. It gave nothing.

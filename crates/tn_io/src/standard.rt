@@ -84,7 +84,8 @@ impl<W: Write> Sink for StdSink<W> {
         ensures empty { piece.now ≡ [] → result ≡ Ok 0 }
         ensures failed { OnErr result (Rose (write_faults self.old) (write_faults self.new)) }
         ensures later { write_faults self.old ≤ write_faults self.new }
-        ensures counted { OnErr result (write_faults self.new ≡ next_count (write_faults self.old)) }
+        ensures counted { OnErr result
+            (write_faults self.new ≡ next_count (write_faults self.old)) }
         ensures uncounted { OnOk result (write_faults self.new ≡ write_faults self.old) }
     {
         if piece.is_empty() {

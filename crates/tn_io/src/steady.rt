@@ -1,8 +1,7 @@
 //! Ends in memory that never fail.
-ghost use Rattle.std.specs.Prelude.{◌≡◌, ◌≤◌, ◌<◌, ◌+◌, ◌++◌, [], vec_len, vec_capacity, length, min, take, drop, Ok, Some, None, IfOk, OnErr, MatchOption, option_map};
+ghost use Rattle.std.specs.Prelude.{◌≡◌, ◌≤◌, ◌<◌, ◌+◌, ◌++◌, [], vec_len, vec_capacity, length, min, take, drop, Ok, Some, None, IfOk, option_map};
 ghost use Rattle.std.specs.Io.{ReadsAtMost, WritesAtMost};
 ghost use Rattle.std.specs.Io.KnownBytes.{ReadConsumes};
-ghost use Rattle.tn_io.specs.Counts.{Rose};
 ghost use Rattle.tn_io.specs.Sink.{Grows};
 ghost use Rattle.tn_io.specs.Ends.{moved_count, filled, told_within};
 

@@ -11,7 +11,8 @@ use crate::sink::{Sink, WriteFailed};
 /// bytes was written then.
 pub fn write_all<K: Sink>(sink: &mut K, bytes: &[u8]) -> Result<(), WriteFailed>
     ensures whole { OnOk result (Grows (K.written sink.old) (K.written sink.new) bytes.now) }
-    ensures prefix { OnErr result (GrowsByPrefix (K.written sink.old) (K.written sink.new) bytes.now) }
+    ensures prefix { OnErr result
+        (GrowsByPrefix (K.written sink.old) (K.written sink.new) bytes.now) }
     ensures failed { OnErr result (Rose (K.faults sink.old) (K.faults sink.new)) }
     ensures later { K.faults sink.old ≤ K.faults sink.new }
 {

@@ -1,17 +1,31 @@
-//! Trading networks, their outcomes and the answers about them. What a network, an equilibrium and a verdict are stands
-//! in `specs/`.
+//! Trading networks, their outcomes and the answers about them, and the firms that code may ask. What a network, an
+//! equilibrium and a verdict are stands in `specs/`.
 #![tactic(auto)]
 
+mod aim;
 mod arrangement;
+mod ascent;
 mod contract;
 mod ends;
+mod found;
 mod lists;
+mod market;
+mod oracle;
 mod place;
+mod room;
 mod said;
+#[cfg(test)]
+mod tests;
+mod valuation;
 
 pub use arrangement::Arrangement;
+pub use ascent::best_by_ascent;
 pub use contract::{Contract, Outcome};
 pub use ends::Ends;
 pub use lists::{Amounts, Contracts, Listed, Nodes, Numbers, Place, Prices, Trades};
+pub use market::Market;
+pub use oracle::Oracle;
 pub use place::{PlaceStep, Word};
+pub use room::Room;
 pub use said::{Fault, Said, Shown};
+pub use valuation::Valuation;

@@ -53,4 +53,17 @@ pub enum Said {
         /// The first firm that fails.
         firm: u32,
     },
+    /// Every firm meets the exchange property.
+    Accepted,
+    /// The firm doesn't meet the exchange property.
+    ExchangeFails {
+        /// The first firm that fails.
+        firm: u32,
+        /// The trades of the first bundle of its first failing triple, ascending.
+        x: Trades,
+        /// The trades of the second bundle, ascending.
+        y: Trades,
+        /// The trade that can't be exchanged, or none where the net count can't be.
+        at: Option<u32>,
+    },
 }

@@ -1,4 +1,1 @@
-pub mod Keys
-pub mod Short
-pub mod DealLemmas
-pub mod VerdictLemmas
+pub mod NumberLemmas

@@ -1,3 +1,4 @@
-pub mod Document
-pub mod Deal
 pub mod Words
+pub mod Tested
+pub mod Answer
+pub mod Run

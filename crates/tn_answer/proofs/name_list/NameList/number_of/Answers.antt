@@ -1,6 +1,6 @@
-use Rattle.std.proofs.Common.{◌≡◌, sym, ◌∙◌, rules, arith, ap, Some, true, is_some, IsTrue, subst}
+use Rattle.std.proofs.Common.{◌≡◌, ◌∙◌, arith, Some}
 use Rattle.std.proofs.lemmas.Grind.{common_steps}
-use Rattle.tn_answer.specs.Names.{has_name, number_of}
+use Rattle.tn_answer.specs.Names.{number_of}
 use Rattle.tn_answer.proofs.NameLemmas.{has_name-keys, number_of-keys, name_at_number}
 use Rattle.tn_answer.proofs.name_list.NameList.number_of.Goals as goal
 

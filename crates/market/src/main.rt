@@ -1,0 +1,23 @@
+//! The program: standard input to standard output by the top call.
+#![tactic(auto)]
+
+use std::env;
+use std::process::ExitCode;
+use tn_io::{StdSink, StdSource};
+use tn_run::run_market;
+
+/// The exit status where the system doesn't give the words.
+const NO_WORDS: u8 = 7;
+
+fn main(rt: HostRuntime) -> ExitCode {
+    let Ok(args) = env::args(&rt) else {
+        return ExitCode::from(NO_WORDS);
+    };
+    let Ok(words) = args.skip(1).collect::<Vec<String>>(rt.alloc()) else {
+        return ExitCode::from(NO_WORDS);
+    };
+    let mut source = StdSource::new(rt.stdin());
+    let mut sink = StdSink::new(rt.stdout());
+    let run = run_market(rt.alloc(), words.as_slice(), &mut source, &mut sink);
+    ExitCode::from(run.status)
+}

@@ -1,0 +1,2 @@
+pub mod Firms
+pub mod Raw

@@ -1,0 +1,4 @@
+pub mod MarketLemmas
+pub mod AscentLemmas
+pub mod BonusLemmas
+pub mod StallLemmas

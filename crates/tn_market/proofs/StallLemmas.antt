@@ -1,0 +1,93 @@
+-- Of the firm for tests.
+use Rattle.std.proofs.Common.{◌≡◌, Bool, true, false, if◌then◌else◌, ℤ, pos, negsuc, ◌+ℤ◌, arith, ap, ap₂, ◌∙◌, refl, sym, subst, ◌≢◌, ℕ, zero, suc, ◌<◌, List, [], ◌∷◌, slice_get, Some, lit<, ◌==◌, ◌&&◌, ◌⊎◌, inl, inr}
+use Rattle.std.proofs.lemmas.Int.{ints}
+use Rattle.std.proofs.lemmas.Bool.{or_cases, and_parts, eqb-true}
+use Rattle.std.proofs.lemmas.Option.{same_Some}
+use mir.Syntax.{w128}
+use mir.Val.{of_z, to_z}
+use Rattle.tn_base.specs.Sets.{has}
+use Rattle.tn_base.specs.Firm.{Firm}
+use Rattle.tn_market.specs.declared.ends.Ends.{Ends}
+use Rattle.tn_market.specs.Network.{own, stands_at, IsNetwork}
+use Rattle.tn_market.specs.Stall.{amounts_of, stall, trade_between}
+
+-- what the code computes
+pub counted_sum : (buys sells b s : Bool) (cost gain : ℤ) → b ≡ buys → s ≡ sells → cost ≡ (if b then negsuc 2 else pos 0) → gain ≡ (if s then pos 5 else pos 0)
+    → to_z w128 (of_z w128 (to_z w128 (of_z w128 cost) +ℤ to_z w128 (of_z w128 gain))) ≡ amounts_of buys sells
+counted_sum buys sells b s cost gain b_is s_is cost_is gain_is = by_case b s cost_is gain_is ∙ ap₂ amounts_of b_is s_is
+  where
+    by_case : (b s : Bool) → cost ≡ (if b then negsuc 2 else pos 0) → gain ≡ (if s then pos 5 else pos 0)
+        → to_z w128 (of_z w128 (to_z w128 (of_z w128 cost) +ℤ to_z w128 (of_z w128 gain))) ≡ amounts_of b s
+    by_case true true h i = omega (arith, ints, h, i)
+    by_case true false h i = omega (arith, ints, h, i)
+    by_case false true h i = omega (arith, ints, h, i)
+    by_case false false h i = omega (arith, ints, h, i)
+
+abbrev firms : List Firm
+firms = stall ∷ stall ∷ []
+
+abbrev trades : List Ends
+trades = trade_between 0 1 ∷ trade_between 1 0 ∷ []
+
+sold_there : (t : ℕ) (trade : Ends) → slice_get trades t ≡ Some trade
+    → (firm : Firm) × (slice_get firms trade.seller ≡ Some firm) × (trade.at_seller < firm.count) × (has firm.buys trade.at_seller ≡ false)
+unfolding has
+sold_there zero trade is = subst (λ (x : Ends). (firm : Firm) × (slice_get firms x.seller ≡ Some firm) × (x.at_seller < firm.count) × (has firm.buys x.at_seller ≡ false))
+    (same_Some _ _ is) (stall, refl, lit< tt, refl)
+sold_there (suc zero) trade is = subst (λ (x : Ends). (firm : Firm) × (slice_get firms x.seller ≡ Some firm) × (x.at_seller < firm.count) × (has firm.buys x.at_seller ≡ false))
+    (same_Some _ _ is) (stall, refl, lit< tt, refl)
+sold_there (suc (suc t)) trade is = absurd (cc is)
+
+bought_there : (t : ℕ) (trade : Ends) → slice_get trades t ≡ Some trade
+    → (firm : Firm) × (slice_get firms trade.buyer ≡ Some firm) × (trade.at_buyer < firm.count) × (has firm.buys trade.at_buyer ≡ true)
+unfolding has
+bought_there zero trade is = subst (λ (x : Ends). (firm : Firm) × (slice_get firms x.buyer ≡ Some firm) × (x.at_buyer < firm.count) × (has firm.buys x.at_buyer ≡ true))
+    (same_Some _ _ is) (stall, refl, lit< tt, refl)
+bought_there (suc zero) trade is = subst (λ (x : Ends). (firm : Firm) × (slice_get firms x.buyer ≡ Some firm) × (x.at_buyer < firm.count) × (has firm.buys x.at_buyer ≡ true))
+    (same_Some _ _ is) (stall, refl, lit< tt, refl)
+bought_there (suc (suc t)) trade is = absurd (cc is)
+
+whole : (f k : ℕ) (firm : Firm) → slice_get firms f ≡ Some firm → k < firm.count → own trades f k < 2
+whole zero zero firm is inside = lit< tt
+whole zero (suc zero) firm is inside = lit< tt
+whole (suc zero) zero firm is inside = lit< tt
+whole (suc zero) (suc zero) firm is inside = lit< tt
+whole zero (suc (suc k)) firm is inside = let two : firm.count ≡ 2 = ap (λ (x : Firm). x.count) (sym (same_Some _ _ is)) in absurd (omega (arith, inside, two))
+whole (suc zero) (suc (suc k)) firm is inside = let two : firm.count ≡ 2 = ap (λ (x : Firm). x.count) (sym (same_Some _ _ is)) in absurd (omega (arith, inside, two))
+whole (suc (suc f)) k firm is inside = absurd (cc is)
+
+-- where a trade stands, by numbers
+where_at : (trade : Ends) (f k : ℕ) → stands_at trade f k ≡ true
+    → ((trade.seller ≡ f) × (trade.at_seller ≡ k)) ⊎ ((trade.buyer ≡ f) × (trade.at_buyer ≡ k))
+where_at trade f k stands = elim (or_cases (trade.seller == f && trade.at_seller == k) (trade.buyer == f && trade.at_buyer == k) stands) [
+  | inl h ↦ let parts = and_parts (trade.seller == f) (trade.at_seller == k) h in inl (eqb-true _ _ parts.0, eqb-true _ _ parts.1)
+  | inr h ↦ let parts = and_parts (trade.buyer == f) (trade.at_buyer == k) h in inr (eqb-true _ _ parts.0, eqb-true _ _ parts.1)
+]
+
+-- the two trades stand nowhere both
+apart_at : (f k : ℕ) → stands_at (trade_between 0 1) f k ≡ true → stands_at (trade_between 1 0) f k ≡ true → ⊥
+apart_at f k one other = elim (where_at (trade_between 0 1) f k one) [
+  | inl p ↦ elim (where_at (trade_between 1 0) f k other) [ inl q ↦ absurd (omega (arith, p.0, q.0)) | inr q ↦ absurd (omega (arith, p.1, q.1)) ]
+  | inr p ↦ elim (where_at (trade_between 1 0) f k other) [ inl q ↦ absurd (omega (arith, p.1, q.1)) | inr q ↦ absurd (omega (arith, p.0, q.0)) ]
+]
+
+once_there : (f k s t : ℕ) (one other : Ends) → slice_get trades s ≡ Some one → slice_get trades t ≡ Some other
+    → stands_at one f k ≡ true → stands_at other f k ≡ true → s ≡ t
+once_there f k zero zero one other is is' here here' = refl
+once_there f k (suc zero) (suc zero) one other is is' here here' = refl
+once_there f k zero (suc zero) one other is is' here here' =
+    absurd (apart_at f k (subst (λ (x : Ends). stands_at x f k ≡ true) (sym (same_Some _ _ is)) here) (subst (λ (x : Ends). stands_at x f k ≡ true) (sym (same_Some _ _ is')) here'))
+once_there f k (suc zero) zero one other is is' here here' =
+    absurd (apart_at f k (subst (λ (x : Ends). stands_at x f k ≡ true) (sym (same_Some _ _ is')) here') (subst (λ (x : Ends). stands_at x f k ≡ true) (sym (same_Some _ _ is)) here))
+once_there f k (suc (suc s)) t one other is is' here here' = absurd (cc is)
+once_there f k zero (suc (suc t)) one other is is' here here' = absurd (cc is')
+once_there f k (suc zero) (suc (suc t)) one other is is' here here' = absurd (cc is')
+
+apart_there : (t : ℕ) (trade : Ends) → slice_get trades t ≡ Some trade → trade.seller ≢ trade.buyer
+apart_there zero trade is = λ e. absurd (let x = ap (λ (x : Ends). x.seller) (same_Some _ _ is) in let y = ap (λ (x : Ends). x.buyer) (same_Some _ _ is) in omega (arith, x, y, e))
+apart_there (suc zero) trade is = λ e. absurd (let x = ap (λ (x : Ends). x.seller) (same_Some _ _ is) in let y = ap (λ (x : Ends). x.buyer) (same_Some _ _ is) in omega (arith, x, y, e))
+apart_there (suc (suc t)) trade is = absurd (cc is)
+
+-- two stalls, of which each sells what the other buys, are a network
+pub stalls-network : IsNetwork (stall ∷ stall ∷ []) (trade_between 0 1 ∷ trade_between 1 0 ∷ [])
+stalls-network = record { apart = apart_there; sold = sold_there; bought = bought_there; whole = whole; once = once_there }

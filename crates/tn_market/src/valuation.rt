@@ -1,0 +1,66 @@
+ghost use Rattle.std.specs.Prelude.{◌≡◌, ℕ, ◌+◌, ◌^◌, ◌<◌, ◌≤◌, pos};
+ghost use Rattle.tn_base.specs.Firm.{Firm, HasOwnBundles, MayAbstain};
+ghost use Rattle.tn_market.specs.Valued.{side_at, ExchangesOne, ExchangesNet, IsWorthAtMost};
+
+use tn_base::{Bundle, Side, Steps};
+
+/// A firm that can be asked what bundles of its own trades are worth. Its trades have the positions 0, 1, 2 and so on.
+///
+/// Contracts see the firm as the definitions do: how many trades it has, which of them it buys, and the worth of each
+/// bundle. Every implementation proves the laws of a firm that meets exchange (gross substitutes and complements, as in
+/// Hatfield, Kominers, Nichifor, Ostrovsky and Westkamp, 2013).
+pub trait Valuation {
+    /// What the counter of worths asked is marked with.
+    type Mark;
+
+    /// The firm, as the definitions see it.
+    ghost firm: { Self → Firm };
+
+    /// The size that no worth is above.
+    ghost limit: { Self → ℕ };
+
+    /// How many own trades there are.
+    fn trades(&self) -> u32
+        ensures count { result ≡ (firm self.now).count }
+        ensures few { result ≤ 64 };
+
+    /// On which side of the trade at position `k` the firm stands.
+    fn side(&self, k: u32) -> Side
+        requires { k < (firm self.now).count }
+        ensures { result ≡ side_at (firm self.now).buys k };
+
+    /// The size that no worth is above.
+    fn bound(&self) -> i128
+        ensures size { result ≡ pos (limit self.now) }
+        ensures small { limit self.now ≤ 10 ^ 18 };
+
+    /// The worth of a bundle, None where it is impossible. It counts as one step and takes no memory.
+    fn value(&self, x: Bundle, steps: &mut Steps<Self::Mark>) -> Option<i128>
+        requires { x < 2 ^ (firm self.now).count }
+        ensures worth { result ≡ (firm self.now).worth x }
+        ensures asked { steps.new ≡ steps.old + 1 };
+
+    /// A firm has at most 64 own trades.
+    ghost few_trades: { (v : Self) → (firm v).count ≤ 64 };
+
+    /// It buys only own trades.
+    ghost own_purchases: { (v : Self) → (firm v).buys < 2 ^ (firm v).count };
+
+    /// Only bundles of own trades are possible.
+    ghost own_bundles: { (v : Self) → HasOwnBundles (firm v) };
+
+    /// The empty bundle is possible.
+    ghost empty_is_possible: { (v : Self) → MayAbstain (firm v) };
+
+    /// The first half of the exchange property, over all possible bundles.
+    ghost exchange_one: { (v : Self) → ExchangesOne (firm v) };
+
+    /// The second half of the exchange property, over all possible bundles.
+    ghost exchange_net: { (v : Self) → ExchangesNet (firm v) };
+
+    /// No worth is above the limit in size.
+    ghost within: { (v : Self) → IsWorthAtMost (limit v) (firm v) };
+
+    /// The limit is at most 10^18.
+    ghost small_limit: { (v : Self) → limit v ≤ 10 ^ 18 };
+}

@@ -1,0 +1,227 @@
+-- The judgement of an arrangement, firm by firm.
+use Rattle.std.proofs.Common.{◌≡◌, ℕ, zero, suc, ◌+◌, ◌*◌, ◌^◌, ◌<◌, ◌≤◌, if◌then◌else◌, List, [], ◌∷◌, ◌++◌, length, map, take, slice_get, Some, Option, option_map, refl, sym, ap, ◌∙◌, subst, arith, inl, inr, ℤ, pos, ◌+ℤ◌, neg_ℤ, ◌*ℤ◌, add-one}
+use Rattle.std.specs.Prelude.{option_and_then}
+use Rattle.std.specs.List.{All}
+use Rattle.std.proofs.lemmas.Int.{ints}
+use Rattle.std.proofs.lemmas.Bool.{cases_eq}
+use Rattle.std.proofs.lemmas.Option.{same_Some, option_and_then_some, slice_get-map, slice_get_within, get_or_from_slice_get}
+use Rattle.std.proofs.lemmas.List.{get_or-set_same, get_or-set_other, length-take-le}
+use Rattle.std.proofs.lemmas.List.Elements.{All-set, All-get_or}
+use Rattle.std.proofs.Math.ListN.{set, length-set}
+use Rattle.std.proofs.Math.Seq.{take-suc, take-length}
+use mir.Syntax.{w128}
+use mir.Val.{SFits}
+use Rattle.tn_base.specs.Sets.{has}
+use Rattle.tn_base.specs.Arcs.{IsAtMost}
+use Rattle.tn_base.specs.Firm.{Firm, payments, utility, IsBest}
+use Rattle.tn_base.proofs.SetLemmas.{set_of_within}
+use Rattle.tn_base.proofs.SumLemmas.{sum_over-same_terms}
+use Rattle.tn_law.proofs.KeepLemmas.{option_map-some}
+use Rattle.tn_market.specs.declared.ends.Ends.{Ends}
+use Rattle.tn_market.specs.Best.{price_at}
+use Rattle.tn_market.specs.Network.{own, part}
+use Rattle.tn_market.specs.Equilibrium.{prices_at, utility_at, HasBest, IsEquilibrium, surplus_from, surplus_of}
+use Rattle.tn_market.specs.Verdict.{AreBestBefore, IsFirstImpossible, IsFirstBettered}
+use Rattle.tn_price.specs.declared.standing.Standing.{Standing}
+use Rattle.tn_price.specs.declared.standing.Standing.TheVariants.{Best, Impossible, Bettered}
+use Rattle.tn_price.specs.Standings.{IsBestWorth, Stands, StandsAt, AreOwnPrices}
+
+-- ---- the prices of a firm
+
+pub none_priced : (trades : List Ends) (prices : ℕ → ℤ) (f : ℕ) (list : List ℤ) → length list ≡ 32 → All (λ p. IsAtMost p (10 ^ 18)) list
+    → AreOwnPrices trades prices f 0 list
+none_priced trades prices f list counted small = record { counted = counted; small = small; each = λ k below. absurd (omega (arith, below)) }
+
+pub one_priced : (trades : List Ends) (prices : List ℤ) (f k t : ℕ) (price : ℤ) (list : List ℤ) → AreOwnPrices trades (price_at prices) f k list → k < 32
+    → t ≡ own trades f k → slice_get prices t ≡ Some price → All (λ p. IsAtMost p (10 ^ 18)) prices
+    → AreOwnPrices trades (price_at prices) f (k + 1) (set list k price)
+one_priced trades prices f k t price list before inside at is small =
+    let wide : k < length list = omega (arith, inside, before.counted) in
+    let read : price_at prices t ≡ price = get_or_from_slice_get prices t price (pos 0) is in
+    let price_small : IsAtMost price (10 ^ 18) =
+    subst (λ (z : ℤ). IsAtMost z (10 ^ 18)) read (All-get_or (λ p. IsAtMost p (10 ^ 18)) prices t (pos 0) (slice_get_within prices t price is) small) in
+    record {
+      counted = length-set list k price ∙ before.counted;
+      small = All-set (λ z. IsAtMost z (10 ^ 18)) list k price price_small before.small;
+      each = λ i below. elim (cases_eq i k) [
+        | inl e ↦ subst (λ (n : ℕ). price_at (set list k price) n ≡ prices_at trades (price_at prices) f n) (sym e)
+            (get_or-set_same list k price (pos 0) wide ∙ sym read ∙ ap (price_at prices) at)
+        | inr d ↦ get_or-set_other list k i price (pos 0) d ∙ before.each i (omega (arith, below, d))
+      ];
+    }
+
+pub price_fits : (prices : List ℤ) (t : ℕ) (price : ℤ) → slice_get prices t ≡ Some price → All (λ p. IsAtMost p (10 ^ 18)) prices → IsAtMost price (10 ^ 20)
+price_fits prices t price is small =
+    let read : price_at prices t ≡ price = get_or_from_slice_get prices t price (pos 0) is in
+    let there = All-get_or (λ p. IsAtMost p (10 ^ 18)) prices t (pos 0) (slice_get_within prices t price is) small in
+    let low = there.low in
+    let high = there.high in
+    record { low = omega (arith, ints, read, low); high = omega (arith, ints, read, high) }
+
+-- the element of a list at its front part
+price_at-take : (n k : ℕ) (list : List ℤ) → k < n → price_at (take n list) k ≡ price_at list k
+price_at-take zero k list below = absurd (omega (arith, below))
+price_at-take (suc n) k [] below = refl
+price_at-take (suc n) zero (x ∷ list) below = refl
+price_at-take (suc n) (suc k) (x ∷ list) below = price_at-take n k list (omega (arith, below))
+
+-- ---- one firm
+
+utility-same : (firm : Firm) (scale : ℤ) (p q : ℕ → ℤ) → ((k : ℕ) → k < firm.count → p k ≡ q k) → (x : ℕ) → utility scale p firm x ≡ utility scale q firm x
+utility-same firm scale p q same x =
+    ap (λ (sum : ℤ). option_map (λ a. scale *ℤ a +ℤ sum) (firm.worth x))
+    (sum_over-same_terms (payments firm.buys p) (payments firm.buys q) x firm.count (λ k below there.
+    ap (λ (z : ℤ). if has firm.buys k then neg_ℤ z else z) (same k below)))
+
+best-same : (value_of other_of : ℕ → Option ℤ) → ((x : ℕ) → value_of x ≡ other_of x) → (x : ℕ) (value : ℤ) → IsBest value_of x value → IsBest other_of x value
+best-same value_of other_of same x value best = record { is = sym (same x) ∙ best.is; most = λ y other is. best.most y other (same y ∙ is) }
+
+stands-same : (worth value_of other_of : ℕ → Option ℤ) → ((x : ℕ) → value_of x ≡ other_of x) → (x : ℕ) (standing : Standing)
+    → Stands worth value_of x standing → Stands worth other_of x standing
+stands-same worth value_of other_of same x (Best amount) stands = record {
+  worth_is = stands.worth_is;
+  small = stands.small;
+  value = stands.value;
+  best = best-same value_of other_of same x stands.value stands.best;
+}
+stands-same worth value_of other_of same x Impossible stands = stands
+stands-same worth value_of other_of same x (Bettered y gain) stands = record {
+  own_value = stands.own_value;
+  own_is = sym (same x) ∙ stands.own_is;
+  best_value = stands.best_value;
+  best = best-same value_of other_of same y stands.best_value stands.best;
+  gain_is = stands.gain_is;
+  gains = stands.gains;
+}
+
+-- the firm in a list of firms of any type
+pub firm_is : {V : Type 0} (firm_of : V → Firm) (firms : List V) (f : ℕ) (v : V) → slice_get firms f ≡ Some v → slice_get (map firm_of firms) f ≡ Some (firm_of v)
+firm_is firm_of firms f v is = slice_get-map firm_of firms f ∙ ap (option_map firm_of) is
+
+-- how a firm stands at the prices that are listed for it is how it stands in the arrangement
+pub stands_there : {V : Type 0} (firm_of : V → Firm) (firms : List V) (trades : List Ends) (scale : ℤ) (on : ℕ) (prices : ℕ → ℤ) (f n own : ℕ) (list : List ℤ)
+    (standing : Standing) (v : V) → slice_get firms f ≡ Some v → n ≡ (firm_of v).count → own ≡ part trades f (firm_of v).count on
+    → AreOwnPrices trades prices f n list → Stands (firm_of v).worth (utility scale (price_at (take n list)) (firm_of v)) own standing
+    → StandsAt (map firm_of firms) trades scale on prices f standing
+stands_there firm_of firms trades scale on prices f n own list standing v is counted own_is listed stands = λ firm there.
+    let same : firm_of v ≡ firm = same_Some _ _ (sym (firm_is firm_of firms f v is) ∙ there) in
+    subst (λ (x : Firm). Stands x.worth (utility_at trades scale prices f x) (part trades f x.count on) standing) same
+    (stands-same (firm_of v).worth (utility scale (price_at (take n list)) (firm_of v)) (utility_at trades scale prices f (firm_of v))
+    (utility-same (firm_of v) scale (price_at (take n list)) (prices_at trades prices f)
+    (λ k below. price_at-take n k list (omega (arith, below, counted)) ∙ listed.each k (omega (arith, below, counted))))
+    (part trades f (firm_of v).count on) standing
+    (subst (λ (x : ℕ). Stands (firm_of v).worth (utility scale (price_at (take n list)) (firm_of v)) x standing) own_is stands))
+
+pub part_within : (trades : List Ends) (f n on own : ℕ) → own ≡ part trades f n on → own < 2 ^ n
+part_within trades f n on x is = subst (λ (y : ℕ). y < 2 ^ n) (sym is) (set_of_within (λ k. has on (own trades f k)) n)
+
+-- ---- all firms
+
+pub some_item : {A : Type 0} (xs : List A) (f : ℕ) → f < length xs → (x : A) × (slice_get xs f ≡ Some x)
+some_item [] f inside = absurd (omega (arith, inside))
+some_item (x ∷ xs) zero inside = (x, refl)
+some_item (x ∷ xs) (suc f) inside = some_item xs f (omega (arith, inside))
+
+-- the firms before f have best bundles, and their worths have this sum
+pub record AreJudged (firms : List Firm) (trades : List Ends) (scale : ℤ) (on : ℕ) (prices : ℕ → ℤ) (f : ℕ) (surplus : ℤ) : Type 0 where
+  pub before : AreBestBefore firms trades scale on prices f
+  pub sum : surplus_from trades on 0 (take f firms) ≡ Some surplus
+  pub small : IsAtMost surplus (f * 10 ^ 11)
+
+pub none_judged : (firms : List Firm) (trades : List Ends) (scale : ℤ) (on : ℕ) (prices : ℕ → ℤ) → AreJudged firms trades scale on prices 0 (pos 0)
+none_judged firms trades scale on prices = record {
+  before = λ g firm below is. absurd (omega (arith, below));
+  sum = refl;
+  small = record { low = omega (arith, ints); high = omega (arith, ints) };
+}
+
+surplus_from-append : (trades : List Ends) (on s : ℕ) (firms : List Firm) (firm : Firm) (f : ℕ) (a b : ℤ) → f ≡ s + length firms
+    → surplus_from trades on s firms ≡ Some a → firm.worth (part trades f firm.count on) ≡ Some b
+    → surplus_from trades on s (firms ++ firm ∷ []) ≡ Some (a +ℤ b)
+surplus_from-append trades on s [] firm f a b at sum is =
+    let here : f ≡ s = omega (arith, at) in
+    let zero_is : pos 0 ≡ a = same_Some _ _ sum in
+    ap (option_and_then (λ worth. option_map (λ more. worth +ℤ more) (Some (pos 0))))
+    (ap (λ (g : ℕ). firm.worth (part trades g firm.count on)) (sym here) ∙ is)
+    ∙ ap (λ (z : ℤ). Some z) (swap a b zero_is)
+  where
+    swap : (a b : ℤ) → pos 0 ≡ a → b +ℤ pos 0 ≡ a +ℤ b
+    swap a b e = omega (arith, ints, e)
+surplus_from-append trades on s (first ∷ firms) firm f a b at sum is =
+    option_and_then_some (λ worth. option_map (λ more. worth +ℤ more) (surplus_from trades on (s + 1) firms))
+    (first.worth (part trades s first.count on)) a sum (λ worth worth_is rest_is.
+    let more = option_map-some (λ z. worth +ℤ z) (surplus_from trades on (s + 1) firms) a rest_is in
+    let rest = surplus_from-append trades on (s + 1) firms firm f more.0 b (omega (arith, at)) more.1 is in
+    ap (option_and_then (λ w. option_map (λ z. w +ℤ z) (surplus_from trades on (s + 1) (firms ++ firm ∷ [])))) worth_is
+    ∙ ap (option_map (λ z. worth +ℤ z)) rest
+    ∙ ap (λ (z : ℤ). Some z) (regroup worth more.0 a b more.2))
+  where
+    regroup : (w r a b : ℤ) → w +ℤ r ≡ a → w +ℤ (r +ℤ b) ≡ a +ℤ b
+    regroup w r a b e = omega (arith, ints, e)
+
+-- with one more firm
+pub one_judged : (firms : List Firm) (trades : List Ends) (scale : ℤ) (on : ℕ) (prices : ℕ → ℤ) (f : ℕ) (surplus amount : ℤ) (firm : Firm)
+    → AreJudged firms trades scale on prices f surplus → slice_get firms f ≡ Some firm
+    → IsBestWorth firm.worth (utility_at trades scale prices f firm) (part trades f firm.count on) amount
+    → AreJudged firms trades scale on prices (f + 1) (surplus +ℤ amount)
+one_judged firms trades scale on prices f surplus amount firm judged is best = record {
+  before = λ g other below other_is. elim (cases_eq g f) [
+    | inl e ↦
+        let same : firm ≡ other = same_Some _ _ (sym is ∙ ap (slice_get firms) (sym e) ∙ other_is) in
+        subst (λ (x : Firm). HasBest trades scale on prices g x) same
+        (subst (λ (h : ℕ). HasBest trades scale on prices h firm) (sym e) (best.value, best.best))
+    | inr d ↦ judged.before g other (omega (arith, below, d)) other_is
+  ];
+  sum =
+      let inside = slice_get_within firms f firm is in
+      let longer : take (f + 1) firms ≡ take f firms ++ firm ∷ [] =
+      ap (λ (n : ℕ). take n firms) (add-one f) ∙ take-suc firms f firm inside
+      ∙ ap (λ (x : Firm). take f firms ++ x ∷ []) (get_or_from_slice_get firms f firm firm is) in
+      ap (surplus_from trades on 0) longer
+      ∙ surplus_from-append trades on 0 (take f firms) firm f surplus amount (omega (arith, length-take-le f firms (omega (arith, inside)))) judged.sum best.worth_is;
+  small = add _ _ judged.small best.small;
+}
+  where
+    add : (a b : ℤ) → IsAtMost a (f * 10 ^ 11) → IsAtMost b (10 ^ 11) → IsAtMost (a +ℤ b) ((f + 1) * 10 ^ 11)
+    add a b small_a small_b = record { low = omega (arith, ints, small_a.low, small_b.low); high = omega (arith, ints, small_a.high, small_b.high) }
+
+-- the end
+pub all_judged : (firms : List Firm) (trades : List Ends) (scale : ℤ) (on : ℕ) (prices : ℕ → ℤ) (f : ℕ) (surplus : ℤ) → AreJudged firms trades scale on prices f surplus
+    → length firms ≤ f → f ≤ length firms → IsEquilibrium firms trades scale on prices × (surplus_of firms trades on ≡ Some surplus)
+all_judged firms trades scale on prices f surplus judged end most =
+    let same : f ≡ length firms = omega (arith, end, most) in
+    let whole : take f firms ≡ firms = ap (λ (n : ℕ). take n firms) same ∙ take-length firms in (
+      (λ g firm is. judged.before g firm (omega (arith, end, slice_get_within firms g firm is)) is),
+      ap (surplus_from trades on 0) (sym whole) ∙ judged.sum,
+    )
+
+-- the first firm that fails
+pub first_impossible : (firms : List Firm) (trades : List Ends) (scale : ℤ) (on : ℕ) (prices : ℕ → ℤ) (f : ℕ) (firm : Firm) → AreBestBefore firms trades scale on prices f
+    → slice_get firms f ≡ Some firm → StandsAt firms trades scale on prices f Impossible → IsFirstImpossible firms trades scale on prices f
+first_impossible firms trades scale on prices f firm before is stands = record { before = before; firm = firm; is = is; impossible = stands firm is }
+
+pub first_bettered : (firms : List Firm) (trades : List Ends) (scale : ℤ) (on : ℕ) (prices : ℕ → ℤ) (f x : ℕ) (gain : ℤ) (firm : Firm)
+    → AreBestBefore firms trades scale on prices f → slice_get firms f ≡ Some firm → StandsAt firms trades scale on prices f (Bettered x gain)
+    → IsFirstBettered firms trades scale on prices f x gain
+first_bettered firms trades scale on prices f x gain firm before is stands =
+    let better = stands firm is in
+    record {
+      before = before;
+      firm = firm;
+      is = is;
+      own_value = better.own_value;
+      own_is = better.own_is;
+      best_value = better.best_value;
+      best = better.best;
+      gain_is = better.gain_is;
+      gains = better.gains;
+    }
+
+-- the sum of the worths fits
+pub sum_fits : (surplus amount : ℤ) (f n : ℕ) → IsAtMost surplus (f * 10 ^ 11) → IsAtMost amount (10 ^ 11) → f < n → n ≤ 1024 → SFits w128 (surplus +ℤ amount)
+sum_fits surplus amount f n small more below few =
+    let low = small.low in
+    let high = small.high in
+    let more_low = more.low in
+    let more_high = more.high in
+    omega (arith, ints, low, high, more_low, more_high, below, few)

@@ -1,0 +1,4 @@
+pub mod SumLemmas
+pub mod WelfareLemmas
+pub mod AskLemmas
+pub mod JudgeLemmas

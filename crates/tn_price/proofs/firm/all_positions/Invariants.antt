@@ -1,0 +1,6 @@
+use Rattle.std.proofs.Common.{◌≡◌, true}
+use Rattle.tn_base.specs.Sets.{set_of}
+use Rattle.tn_price.proofs.firm.all_positions.Given as goal
+
+abbrev pub invariant-loop-k : goal.invariant-loop-k
+invariant-loop-k l = l.all ≡ set_of (λ k. true) l.k

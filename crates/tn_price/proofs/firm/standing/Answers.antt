@@ -1,0 +1,31 @@
+use Rattle.std.proofs.Common.{◌≡◌, sym, subst, ℤ, Option, Some, arith, ◌^◌, ◌≤ℤ◌}
+use Rattle.std.proofs.lemmas.Int.{ints, to_z-of_z}
+use mir.Syntax.{w128}
+use mir.Val.{SFits}
+use Rattle.tn_base.specs.Firm.{utility, IsBest}
+use Rattle.tn_market.specs.Best.{price_at}
+use Rattle.tn_market.proofs.AscentLemmas.{smaller}
+use Rattle.tn_price.specs.Standings.{IsBestWorth}
+use Rattle.tn_price.proofs.AskLemmas.{best_worth, as_is}
+use Rattle.tn_price.proofs.firm.standing.Goals as goal
+
+pub returns : goal.returns
+returns g c =
+    let firm = g.V.Valuation.firm c.args.firm.now in
+    let value_of = utility c.args.scale (price_at c.args.prices.now) firm in
+    let fits : SFits w128 c.args.scale = c.ranges.scale in
+    let plain_scale = to_z-of_z w128 c.args.scale fits in
+    let small_worths = c.requires.small_worths in
+    let small = smaller c.worth_of.result (g.V.Valuation.limit c.args.firm.now) (10 ^ 11) small_worths
+    (g.met.V.Valuation.within c.args.firm.now c.args.own c.worth_of.result c.worth_of.ensures) in
+    let plain = as_is c.worth_of.result (smaller c.worth_of.result (10 ^ 11) (10 ^ 20) (omega arith) small) in
+    let own_is = subst (λ (scale : ℤ). ◌≡◌ {A = Option ℤ} (Some c.in-Some.value) (utility scale (price_at c.args.prices.now) firm c.args.own))
+    plain_scale c.in-Some.ensures.value in
+    let best = subst (λ (scale : ℤ). IsBest (utility scale (price_at c.args.prices.now) firm) c.greatest-bundle.result.0 c.greatest-bundle.result.1)
+    plain_scale c.greatest-bundle.ensures.best in
+    let own_small = c.in-Some.ensures.small in
+    let most_small = c.greatest-bundle.ensures.small in
+    let above : c.greatest-bundle.result.1 ≤ℤ c.in-Some.value = omega (arith, ints, c.if-value-most.false, own_small.low, own_small.high, most_small.low, most_small.high) in
+    subst (λ (z : ℤ). IsBestWorth firm.worth value_of c.args.own z) (sym plain)
+    (best_worth firm.worth value_of c.args.own c.greatest-bundle.result.0 c.worth_of.result c.in-Some.value c.greatest-bundle.result.1
+    c.worth_of.ensures small (sym own_is) best above)

@@ -1,0 +1,3 @@
+pub mod Checks
+pub mod Standings
+pub mod Laws

@@ -1,0 +1,87 @@
+ghost use Rattle.std.specs.Prelude.{◌≡◌, ℕ, ◌^◌, ◌*◌, ◌<◌, ◌≤◌, Some, pos, ◌≤ℤ◌, length, map, slice_get, All};
+ghost use Rattle.tn_base.specs.Arcs.{IsAtMost};
+ghost use Rattle.tn_market.specs.Best.{price_at};
+ghost use Rattle.tn_price.specs.Checks.{Checks};
+ghost use Rattle.tn_price.specs.Standings.{AreOwnPrices, StandsAt};
+
+use crate::check::Check;
+use crate::firm::{MOST_OWN, standing};
+use crate::standing::Standing;
+use tn_market::{Arrangement, Market, Oracle, Prices, Room, Valuation};
+
+/// The prices of the `n` trades of firm `f`, by position.
+fn own_prices<V: Valuation>(market: &Market<V>, prices: &Prices, f: u32, n: u32) -> [i128; MOST_OWN]
+    requires firm { f < length market.now.firms }
+    requires own { (v : V) → slice_get market.now.firms f ≡ Some v → n ≡ (V.firm v).count }
+    requires few { n ≤ 32 }
+    requires priced { length prices.now ≡ length market.now.trades }
+    requires small { All (λ p. IsAtMost p (10 ^ 18)) prices.now }
+    ensures { AreOwnPrices market.now.trades (price_at prices.now) f n result }
+{
+    let mut own = [0; MOST_OWN];
+    for k in 0..n {
+        own[k as usize] = prices.at(market.own(f, k) as usize);
+    }
+    own
+}
+
+/// How firm `f` stands.
+fn standing_of<V: Oracle, const W: usize>(
+    market: &Market<V>,
+    at: &Arrangement<W>,
+    over: i128,
+    f: u32,
+    room: &mut Room,
+) -> Standing
+    requires width { W ≤ 16 }
+    requires wide { length market.now.trades ≤ 64 * W }
+    requires priced { length at.now.prices ≡ length market.now.trades }
+    requires small_prices { All (λ p. IsAtMost p (10 ^ 18)) at.now.prices }
+    requires from_one { pos 1 ≤ℤ over }
+    requires small_over { over ≤ℤ pos 100000 }
+    requires firm { f < length market.now.firms }
+    requires few_own { (v : V) → slice_get market.now.firms f ≡ Some v → (V.firm v).count ≤ 32 }
+    requires small_worths { (v : V) → slice_get market.now.firms f ≡ Some v → V.limit v ≤ 10 ^ 11 }
+    ensures { StandsAt (map V.firm market.now.firms) market.now.trades over at.now.on (price_at at.now.prices) f result }
+{
+    let firm = market.firm(f);
+    let n = firm.trades();
+    let prices = own_prices(market, &at.prices, f, n);
+    let own = market.bundle_of(f, &at.on);
+    standing(firm, own, over, &prices[..n as usize], room)
+}
+
+/// Judges an arrangement at scale `over`: the first firm whose bundle is impossible or not best, or that the
+/// arrangement is an equilibrium. It takes no memory.
+pub fn judge_arrangement<V: Oracle, const W: usize>(
+    market: &Market<V>,
+    at: &Arrangement<W>,
+    over: i128,
+    room: &mut Room,
+) -> Check
+    requires width { W ≤ 16 }
+    requires wide { length market.now.trades ≤ 64 * W }
+    requires priced { length at.now.prices ≡ length market.now.trades }
+    requires small_prices { All (λ p. IsAtMost p (10 ^ 18)) at.now.prices }
+    requires from_one { pos 1 ≤ℤ over }
+    requires small_over { over ≤ℤ pos 100000 }
+    requires few_own { (f : ℕ) (v : V) → slice_get market.now.firms f ≡ Some v → (V.firm v).count ≤ 32 }
+    requires small_worths { (f : ℕ) (v : V) → slice_get market.now.firms f ≡ Some v → V.limit v ≤ 10 ^ 11 }
+    ensures { Checks (map V.firm market.now.firms) market.now.trades over at.now.on (price_at at.now.prices) result }
+{
+    let mut surplus = 0;
+    for f in 0..market.firms() {
+        match standing_of(market, at, over, f, room) {
+            Standing::Best(worth) => surplus += worth,
+            Standing::Impossible => return Check::Impossible { firm: f },
+            Standing::Bettered(bundle, gain) => {
+                return Check::Better {
+                    firm: f,
+                    bundle,
+                    gain,
+                };
+            }
+        }
+    }
+    Check::Equilibrium { surplus }
+}

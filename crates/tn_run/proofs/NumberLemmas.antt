@@ -1,0 +1,58 @@
+-- The numbers of a verdict fit an answer.
+use Rattle.std.proofs.Common.{◌≡◌, ℕ, zero, suc, ◌+◌, ◌*◌, ◌^◌, ◌<◌, ◌≤◌, ℤ, pos, ◌+ℤ◌, ◌-ℤ◌, ◌*ℤ◌, ◌≤ℤ◌, List, [], ◌∷◌, length, map, refl, sym, ap, ◌∙◌, arith, FitsSigned}
+use Rattle.std.specs.Prelude.{Option, Some, None, option_map, option_and_then, slice_get}
+use Rattle.std.specs.Int.{w64}
+use Rattle.std.proofs.lemmas.Int.{ints}
+use Rattle.tn_base.specs.Arcs.{IsAtMost}
+use Rattle.tn_base.specs.Sets.{sum_over}
+use Rattle.tn_base.specs.Firm.{Firm, payments, utility}
+use Rattle.tn_law.proofs.KeepLemmas.{option_map-some}
+use Rattle.tn_market.specs.declared.ends.Ends.{Ends}
+use Rattle.tn_market.specs.Network.{part}
+use Rattle.tn_market.specs.Equilibrium.{surplus_from, surplus_of}
+use Rattle.tn_market.specs.Valued.{IsWorthAtMost}
+use Rattle.tn_price.proofs.AskLemmas.{sum_over_small, payment_small}
+
+-- each firm of a list has worths of at most 10^11 in size
+abbrev pub AreSmallFirms : List Firm → Type 0
+AreSmallFirms [] = Unit {0}
+AreSmallFirms (firm ∷ firms) = IsWorthAtMost (10 ^ 11) firm × AreSmallFirms firms
+
+-- a surplus is at most 10^11 for each firm
+pub surplus_small : (trades : List Ends) (on f : ℕ) (firms : List Firm) (s : ℤ) → AreSmallFirms firms → surplus_from trades on f firms ≡ Some s → IsAtMost s (length firms * 10 ^ 11)
+surplus_small trades on f [] s small is = let e : pos 0 ≡ s = some_inj (pos 0) s is in record { low = omega (arith, ints, e); high = omega (arith, ints, e) }
+  where
+    some_inj : (a b : ℤ) → Some a ≡ Some b → a ≡ b
+    some_inj a b e = (cc)
+surplus_small trades on f (firm ∷ firms) s small is = with_worth (firm.worth (part trades f firm.count on)) refl
+  where
+    some_inj : (a b : ℤ) → Some a ≡ Some b → a ≡ b
+    some_inj a b e = (cc)
+    none_some : (a : ℤ) → None ≡ Some a → ⊥
+    none_some a e = (cc)
+    sum : ℤ → Option ℤ
+    sum w = option_map (λ rest. w +ℤ rest) (surplus_from trades on (f + 1) firms)
+    with_worth : (o : Option ℤ) → firm.worth (part trades f firm.count on) ≡ o → IsAtMost s (length (firm ∷ firms) * 10 ^ 11)
+    with_worth None e = absurd (none_some s (sym (ap (option_and_then sum) e) ∙ is))
+    with_worth (Some w) e =
+        let rest = option_map-some (λ rest. w +ℤ rest) (surplus_from trades on (f + 1) firms) s (sym (ap (option_and_then sum) e) ∙ is) in
+        let below = surplus_small trades on (f + 1) firms rest.0 small.1 rest.1 in
+        let here = small.0 (part trades f firm.count on) w e in
+        let total = rest.2 in
+        record {
+          low = omega (arith, ints, total, below.low, here.low);
+          high = omega (arith, ints, total, below.high, here.high);
+        }
+
+-- the utility of a bundle of at most 32 trades at prices of at most 10^14
+pub utility_small : (firm : Firm) (prices : ℕ → ℤ) (x : ℕ) (value : ℤ) → firm.count ≤ 32 → IsWorthAtMost (10 ^ 11) firm → ((k : ℕ) → IsAtMost (prices k) (10 ^ 14))
+    → utility (pos 1) prices firm x ≡ Some value → IsAtMost value (4 * 10 ^ 15)
+utility_small firm prices x value few worths small is =
+    let worth = option_map-some (λ a. pos 1 *ℤ a +ℤ sum_over (payments firm.buys prices) firm.count x) (firm.worth x) value is in
+    let amount = worths x worth.0 worth.1 in
+    let paid = sum_over_small (payments firm.buys prices) firm.count x (10 ^ 14) (λ k below. payment_small firm.buys prices k (10 ^ 14) (small k)) in
+    let total = worth.2 in
+    record {
+      low = omega (arith, ints, total, few, amount.low, paid.low);
+      high = omega (arith, ints, total, few, amount.high, paid.high);
+    }
