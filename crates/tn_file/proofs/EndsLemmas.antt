@@ -12,7 +12,7 @@ use Rattle.tn_file.specs.Tables.{position_in}
 use Rattle.tn_file.specs.Naming.{side_in, sides_of, ComesNext, AreInOrder}
 
 -- what stands in a list once an item is last
-pub push_cases : (es : List Ends) (e x : Ends) (k : ℕ) → slice_get (es ++ e ∷ []) k ≡ Some x
+pub push_cases : {A : Type 0} (es : List A) (e x : A) (k : ℕ) → slice_get (es ++ e ∷ []) k ≡ Some x
     → (slice_get es k ≡ Some x) ⊎ ((k ≡ length es) × (e ≡ x))
 push_cases [] e x zero is = inr (refl, same_Some _ _ is)
 push_cases [] e x (suc k) is = absurd (none-some _ is)
@@ -39,7 +39,7 @@ AreInOrder-push firms es e order next t trade is =
 
 -- the sides of a firm in one trade more
 module _ (f : ℕ) where
-  abbrev with_next : Option Side → List Side → List Side
+  abbrev pub with_next : Option Side → List Side → List Side
   with_next None sides = sides
   with_next (Some side) sides = sides ++ side ∷ []
 
@@ -49,7 +49,7 @@ module _ (f : ℕ) where
   front-next (Some s) None sides = refl
   front-next (Some s) (Some t) sides = refl
 
-  sides_of-next : (es : List Ends) (k : ℕ) (d : Ends) → k < length es → sides_of (take (suc k) es) f ≡ with_next (side_in f (get_or es k d)) (sides_of (take k es) f)
+  pub sides_of-next : (es : List Ends) (k : ℕ) (d : Ends) → k < length es → sides_of (take (suc k) es) f ≡ with_next (side_in f (get_or es k d)) (sides_of (take k es) f)
   unfolding sides_of
   sides_of-next [] k d h = absurd (omega (arith, h))
   sides_of-next (e ∷ es) zero d h = front-nil (side_in f e)

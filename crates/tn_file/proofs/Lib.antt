@@ -6,3 +6,11 @@ pub mod FailureLemmas
 pub mod FirmLemmas
 pub mod PriceLemmas
 pub mod JsonLemmas
+pub mod PlainLemmas
+pub mod NetworkLemmas
+pub mod LeadLemmas
+pub mod TableLeads
+pub mod NameLeads
+pub mod FirmLeads
+pub mod ArrangementLeads
+pub mod DocumentLeads

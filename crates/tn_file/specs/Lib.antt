@@ -9,3 +9,4 @@ pub mod Json
 pub mod Document
 pub mod Extra
 pub mod Refusal
+pub mod Laws

@@ -15,6 +15,8 @@ mod references;
 mod rows;
 mod shapes;
 mod steps;
+#[cfg(test)]
+mod tests;
 mod trades;
 
 pub use document::{DocRefusal, Document, Loaded, RawNet};

@@ -37,6 +37,7 @@ pub fn check(alloc: Global, market: &Market<FirmValue>, at: &Arrangement<2>) -> 
     ensures sayable { IfOk result IsSayable }
 {
     let mut room = Room::new(alloc)?;
+    let _count = market.firms();
     match judge_arrangement(market, at, 1, &mut room) {
         Check::Equilibrium { surplus } => Ok(Said::Equilibrium { surplus }),
         Check::Impossible { firm } => Ok(Said::Impossible { firm }),

@@ -1,0 +1,160 @@
+-- What the tables are that reading gives.
+use Rattle.std.proofs.Common.{◌≡◌, ◌≢◌, ℕ, zero, suc, ◌+◌, ◌^◌, ◌<◌, ◌≤◌, Bool, true, false, cond, List, [], ◌∷◌, ◌++◌, length, take, slice_get, Option, Some, None, Result, Ok, Err, refl, sym, ap, subst, ◌∙◌, arith, length-append}
+use Rattle.std.specs.Prelude.{ℤ, nat_le, nat_eq, not, is_none, option_and_then, replicate}
+use Rattle.std.proofs.lemmas.Bool.{cases_eq, eq-eqb, ne_eqb}
+use Rattle.std.proofs.lemmas.Option.{none-some, same_Some, slice_get_within, option_and_then_some}
+use Rattle.serde_json.specs.Data.{Data, Items}
+use Rattle.tn_base.specs.Arcs.{IsAtMost}
+use Rattle.tn_base.specs.Sets.{has, toggle}
+use Rattle.tn_base.specs.Table.{row_of as row_in, table_firm}
+use Rattle.tn_base.proofs.SetLemmas.{toggle_within}
+use Rattle.tn_base.specs.declared.side.Side.{Side}
+use Rattle.tn_exchange.specs.Rows.{TableRows, IsWithinLimits, firm_of_table, row_at, with_row, without_rows}
+use Rattle.tn_exchange.specs.RowsLaw.{AreApart}
+use Rattle.tn_exchange.proofs.RowLemmas.{IsMadeOf, limits_with_row, limits_without_rows, made_of_none, made_with_row, made_firm}
+use Rattle.tn_market.specs.declared.ends.Ends.{Ends}
+use Rattle.tn_market.specs.declared.place.PlaceStep.{PlaceStep}
+use Rattle.tn_market.specs.declared.said.Fault.{Fault}
+use Rattle.tn_answer.specs.Names.{number_of}
+use Rattle.tn_answer.proofs.NameLemmas.{name_at_number}
+use Rattle.tn_file.specs.Naming.{Listed, sides_of}
+use Rattle.tn_file.specs.Tables.{AreTrades, Rows, position_in, trade_at, own_position, own_reference, row_reference, row_of, one_row, rows_of, table_of}
+use Rattle.std.proofs.lemmas.Nat.{pow_pos}
+use Rattle.std.specs.Prelude.{codes}
+use Rattle.serde_json.specs.Find.{get}
+use Rattle.tn_base.specs.Sets.{size}
+use Rattle.tn_base.specs.declared.fault.FaultKind.TheVariants.{Limit, SameBundle}
+use Rattle.tn_market.specs.declared.place.PlaceStep.TheVariants.{Index, Word}
+use Rattle.tn_market.specs.declared.place.Word.TheVariants.{Rows as RowsWord}
+use Rattle.tn_file.specs.declared.shapes.ObjectKind.TheVariants.{Table as TableObject}
+use Rattle.tn_file.specs.Reading.{each, holds}
+use Rattle.tn_file.specs.Tables.{firm_place, row_place}
+use Rattle.tn_file.specs.Shapes.{list_at, two_at, number_at, object_of}
+use Rattle.tn_file.specs.Laws.{IsTableOf}
+use Rattle.tn_file.proofs.EndsLemmas.{position_within}
+use Rattle.tn_file.proofs.LeadLemmas.{Leads, leads_ok, leads_bind, leads_after, leads_each, leads_wanted, leads_holds, leads_as, small_from_test}
+
+pub number_leads : (limit : ℕ) (place : List PlaceStep) (value : Data) → Leads (λ z. IsAtMost z limit) (number_at limit place value)
+unfolding number_at
+number_leads limit place value = leads_after _ _ _ (λ z. leads_bind _ _ _ _ (leads_holds _ _ _) (λ u t. leads_ok (λ z. IsAtMost z limit) z (small_from_test z limit t)))
+
+pub trade_leads : (trades : List (List ℕ)) (place : List PlaceStep) (value : Data) → Leads (λ t. t < length trades) (trade_at trades place value)
+unfolding trade_at
+trade_leads trades place value = leads_after _ _ _ (λ name. leads_as (λ t. number_of trades name ≡ Some t) _ _ (λ t e. slice_get_within trades t name (name_at_number trades name t e)) (leads_wanted _ _ _))
+
+-- one row more, for a bundle that has none yet
+row_in-append_none : (rows : List (ℕ × ℤ)) (next : ℕ × ℤ) (x : ℕ) → row_in rows x ≡ None → next.0 ≢ x → row_in (rows ++ next ∷ []) x ≡ None
+row_in-append_none [] next x none differ = rw (ne_eqb next.0 x differ) refl
+row_in-append_none (row ∷ rows) next x none differ = by_test (nat_eq row.0 x) none (row_in-append_none rows next x)
+  where
+    by_test : (b : Bool) → cond b (Some row.1) (row_in rows x) ≡ None → (row_in rows x ≡ None → next.0 ≢ x → row_in (rows ++ next ∷ []) x ≡ None) → cond b (Some row.1) (row_in (rows ++ next ∷ []) x) ≡ None
+    by_test true none rest = absurd (cc)
+    by_test false none rest = rest none differ
+
+apart_push : (n : ℕ) (rows : List (ℕ × ℤ)) (next : ℕ × ℤ) → AreApart n rows → next.0 < 2 ^ n → row_in rows next.0 ≡ None → AreApart n (rows ++ next ∷ [])
+apart_push n [] next apart own none = (own, refl, tt)
+apart_push n (row ∷ rows) next apart own none =
+    let differ : next.0 ≢ row.0 = λ same. not_there (ap (λ b. cond b (Some row.1) (row_in rows next.0)) (sym (eq-eqb row.0 next.0 (sym same))) ∙ none) in
+    (apart.0, row_in-append_none rows next row.0 apart.1 differ, apart_push n rows next apart.2 own (rest (nat_eq row.0 next.0) none))
+  where
+    not_there : Some row.1 ≡ None → ⊥
+    not_there e = absurd (cc)
+
+    rest : (b : Bool) → cond b (Some row.1) (row_in rows next.0) ≡ None → row_in rows next.0 ≡ None
+    rest true e = absurd (cc)
+    rest false e = e
+
+module _ (listed : Listed) (trades : AreTrades listed) (f : ℕ) where
+  count : ℕ
+  count = length (sides_of listed.ends f)
+
+  position_leads : (place : List PlaceStep) (value : Data) → Leads (λ k. k < length (sides_of listed.ends f)) (own_position listed f place value)
+  unfolding own_position
+  position_leads place value = leads_after _ _ _ (λ t. leads_as (λ k. option_and_then (position_in f) (slice_get listed.ends t) ≡ Some k) _ _ (within t) (leads_wanted _ _ _))
+    where
+      within : (t k : ℕ) → option_and_then (position_in f) (slice_get listed.ends t) ≡ Some k → k < length (sides_of listed.ends f)
+      within t k e = option_and_then_some (position_in f) (slice_get listed.ends t) k e (λ trade is at. position_within (length listed.names.firms) f listed.ends t trade trades.order is k at)
+
+  reference_leads : (place : List PlaceStep) (bundle : ℕ) (value : Data) → bundle < 2 ^ length (sides_of listed.ends f) → Leads (λ b. b < 2 ^ length (sides_of listed.ends f)) (own_reference listed f place bundle value)
+  unfolding own_reference
+  reference_leads place bundle value own =
+      leads_bind (λ k. k < length (sides_of listed.ends f)) _ _ _ (position_leads place value) (λ k below.
+        leads_after _ _ _ (λ u. leads_ok (λ b. b < 2 ^ length (sides_of listed.ends f)) (toggle bundle k) (toggle_within bundle k (length (sides_of listed.ends f)) own below)))
+
+  -- a row is on own trades, and its number is small
+  pub record IsOwnRow (row : ℕ × ℤ) : Type 0 where
+    pub own : row.0 < 2 ^ length (sides_of listed.ends f)
+    pub small : IsAtMost row.1 (10 ^ 9)
+
+  row_leads : (r : ℕ) (row : Data) → 0 < 2 ^ length (sides_of listed.ends f) → Leads IsOwnRow (row_of listed f r row)
+  unfolding row_of
+  row_leads r row positive =
+      leads_after IsOwnRow (two_at (row_place f r) row) _ (λ two. leads_after IsOwnRow (list_at (row_place f r ++ Index 0 ∷ []) (Some two.0)) _ (λ references.
+        leads_bind (λ b. b < 2 ^ length (sides_of listed.ends f)) IsOwnRow (each (row_reference listed f r) 0 references) _
+          (leads_each (λ b. b < 2 ^ length (sides_of listed.ends f)) (row_reference listed f r) (λ b d own. reference_leads (row_place f r ++ Index 0 ∷ Index (size b) ∷ []) b d own) 0 references positive)
+          (λ b own. leads_bind (λ z. IsAtMost z (10 ^ 9)) IsOwnRow (number_at (10 ^ 9) (row_place f r ++ Index 1 ∷ []) two.1) _ (number_leads (10 ^ 9) (row_place f r ++ Index 1 ∷ []) two.1)
+            (λ z small. leads_ok IsOwnRow (b, z) (record { own = own; small = small })))))
+
+  -- the rows so far
+  pub record AreRows (rows : Rows) : Type 0 where
+    pub sides : rows.table.sides ≡ sides_of listed.ends f
+    pub within : IsWithinLimits rows.table
+    pub listed_rows : List (ℕ × ℤ)
+    pub apart : AreApart (length (sides_of listed.ends f)) listed_rows
+    pub made : IsMadeOf rows.table listed_rows
+
+  rows_start : length (sides_of listed.ends f) ≤ 10 → AreRows (record { count = 0; table = without_rows (sides_of listed.ends f) })
+  rows_start few = record {
+    sides = refl;
+    within = limits_without_rows (sides_of listed.ends f) few;
+    listed_rows = [];
+    apart = tt;
+    made = made_of_none (sides_of listed.ends f);
+  }
+
+  one_row_leads : (rows : Rows) (row : Data) → AreRows rows → Leads AreRows (one_row listed f rows row)
+  unfolding one_row
+  one_row_leads rows row kept =
+      let n : 2 ^ length rows.table.sides ≡ 2 ^ length (sides_of listed.ends f) = ap (λ (s : List Side). 2 ^ length s) kept.sides in
+      leads_bind IsOwnRow AreRows (row_of listed f rows.count row) _ (row_leads rows.count row (subst (λ m. 0 < m) n (pow_pos (length rows.table.sides)))) (λ next is_own.
+        leads_bind (λ _. is_none (row_at rows.table.rows next.0) ≡ true) AreRows (holds SameBundle (row_place f rows.count) (is_none (row_at rows.table.rows next.0))) _ (leads_holds SameBundle (row_place f rows.count) (is_none (row_at rows.table.rows next.0))) (λ u new.
+          leads_ok AreRows (record { count = rows.count + 1; table = with_row rows.table next.0 next.1 }) (more next is_own (none_from (row_at rows.table.rows next.0) new))))
+    where
+      none_from : (row : Option ℤ) → is_none row ≡ true → row ≡ None
+      none_from None e = refl
+      none_from (Some z) e = absurd (cc)
+
+      more : (next : ℕ × ℤ) → IsOwnRow next → row_at rows.table.rows next.0 ≡ None → AreRows (record { count = rows.count + 1; table = with_row rows.table next.0 next.1 })
+      more next is_own none =
+          let own : next.0 < 2 ^ length rows.table.sides = subst (λ (s : List Side). next.0 < 2 ^ length s) (sym kept.sides) is_own.own in
+          let absent : row_in kept.listed_rows next.0 ≡ None = sym (kept.made next.0) ∙ none in
+          record {
+            sides = kept.sides;
+            within = limits_with_row rows.table kept.within next.0 next.1 own is_own.small;
+            listed_rows = kept.listed_rows ++ next ∷ [];
+            apart = apart_push (length (sides_of listed.ends f)) kept.listed_rows next kept.apart is_own.own absent;
+            made = made_with_row rows.table kept.listed_rows next.0 next.1 (subst (λ m. next.0 < m) (sym kept.within.places) own) absent kept.made;
+          }
+
+  pub rows_lead : (items : Items) → length (sides_of listed.ends f) ≤ 10 → Leads (IsTableOf listed.ends f) (rows_of listed f items)
+  unfolding rows_of
+  rows_lead items few =
+      leads_bind AreRows (IsTableOf listed.ends f) (each (one_row listed f) (record { count = 0; table = without_rows (sides_of listed.ends f) }) items) _
+        (leads_each AreRows (one_row listed f) one_row_leads (record { count = 0; table = without_rows (sides_of listed.ends f) }) items (rows_start few))
+        (λ rows kept. leads_ok (IsTableOf listed.ends f) rows.table (record {
+          sides = kept.sides;
+          within = kept.within;
+          rows = kept.listed_rows;
+          apart = kept.apart;
+          is = made_firm rows.table kept.listed_rows kept.within.places kept.made ∙ ap (λ (s : List Side). table_firm s kept.listed_rows) kept.sides;
+        }))
+
+  pub table_leads : (firm : Data) → Leads (IsTableOf listed.ends f) (table_of listed f firm)
+  unfolding table_of
+  table_leads firm =
+      leads_after (IsTableOf listed.ends f) (object_of TableObject (firm_place f) (Some firm)) _ (λ object.
+        leads_bind (λ _. nat_le (length (sides_of listed.ends f)) 10 ≡ true) (IsTableOf listed.ends f) (holds Limit (firm_place f) (nat_le (length (sides_of listed.ends f)) 10)) _ (leads_holds Limit (firm_place f) (nat_le (length (sides_of listed.ends f)) 10)) (λ u few.
+          leads_after (IsTableOf listed.ends f) (list_at (firm_place f ++ Word RowsWord ∷ []) (get (codes "rows") firm)) _ (λ items. rows_lead items (le_from (length (sides_of listed.ends f)) few))))
+    where
+      le_from : (n : ℕ) → nat_le n 10 ≡ true → n ≤ 10
+      le_from n e = grind (arith, e)

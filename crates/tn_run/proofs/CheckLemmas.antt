@@ -1,0 +1,91 @@
+-- From the judgement of an arrangement to the answer about it.
+use Rattle.std.proofs.Common.{◌≡◌, ℕ, zero, suc, ◌+◌, ◌*◌, ◌^◌, ◌<◌, ◌≤◌, ℤ, pos, ◌+ℤ◌, ◌-ℤ◌, ◌*ℤ◌, ◌≤ℤ◌, List, [], ◌∷◌, length, get_or, map, refl, sym, ap, ◌∙◌, subst, arith, FitsSigned, ◌⊎◌, inl, inr, length-map}
+use Rattle.std.specs.Prelude.{Option, Some, None, option_map, slice_get, All}
+use Rattle.std.specs.Int.{w64}
+use Rattle.std.proofs.lemmas.Int.{ints}
+use Rattle.std.proofs.lemmas.Bool.{cases_lt}
+use Rattle.std.proofs.lemmas.Option.{slice_get-map, slice_get_within}
+use Rattle.std.proofs.lemmas.List.Elements.{All-get_or}
+use Rattle.tn_base.specs.Arcs.{IsAtMost}
+use Rattle.tn_base.specs.Firm.{Firm, IsBest}
+use Rattle.tn_firm.specs.declared.value.FirmValue.{FirmValue}
+use Rattle.tn_firm.specs.declared.value.FirmValue.TheVariants.{Table}
+use Rattle.tn_firm.specs.Firms.{firm_of, firm_laws}
+use Rattle.tn_market.specs.declared.ends.Ends.{Ends}
+use Rattle.tn_market.specs.declared.said.Said.TheVariants.{Equilibrium, Better, Impossible}
+use Rattle.tn_market.specs.Best.{price_at}
+use Rattle.tn_market.specs.Network.{own, part, trades_of}
+use Rattle.tn_market.specs.Equilibrium.{surplus_of}
+use Rattle.tn_market.specs.Verdict.{IsFirstBettered, Judges}
+use Rattle.tn_run.proofs.NumberLemmas.{AreSmallFirms, surplus_small, utility_small}
+
+-- what stands at a place of a mapped list comes from there
+from_map : {A B : Type 0} (g : A → B) (o : Option A) (y : B) → option_map g o ≡ Some y → (x : A) × (o ≡ Some x) × (g x ≡ y)
+from_map g None y e = absurd (none_some y e)
+  where
+    none_some : {B : Type 0} (y : B) → None ≡ Some y → ⊥
+    none_some y e = (cc)
+from_map g (Some x) y e = (x, refl, same_some (g x) y e)
+  where
+    same_some : {B : Type 0} (a b : B) → Some a ≡ Some b → a ≡ b
+    same_some a b e = (cc)
+
+-- the value of a firm in a list of firms
+pub value_at : (firms : List FirmValue) (f : ℕ) (firm : Firm) → slice_get (map firm_of firms) f ≡ Some firm → (value : FirmValue) × (slice_get firms f ≡ Some value) × (firm_of value ≡ firm)
+value_at firms f firm e = from_map firm_of (slice_get firms f) firm (sym (slice_get-map firm_of firms f) ∙ e)
+
+get_or-past : (xs : List ℤ) (k : ℕ) (d : ℤ) → length xs ≤ k → get_or xs k d ≡ d
+get_or-past [] k d h = refl
+get_or-past (x ∷ xs) zero d h = absurd (omega (arith, h))
+get_or-past (x ∷ xs) (suc k) d h = get_or-past xs k d (omega (arith, h))
+
+-- each price is small, and so is that of a trade that isn't there
+price_small : (prices : List ℤ) (t limit : ℕ) → All (λ p. IsAtMost p limit) prices → IsAtMost (price_at prices t) limit
+price_small prices t limit small = elim (cases_lt t (length prices)) [
+      inl h ↦ All-get_or (λ p. IsAtMost p limit) prices t (pos 0) h small
+    | inr h ↦ subst (λ (z : ℤ). IsAtMost z limit) (sym (get_or-past prices t (pos 0) h)) (record { low = omega (arith, ints); high = omega (arith, ints) }) ]
+
+few_own : (value : FirmValue) → (firm_of value).count ≤ 32
+few_own (Table table) = let few = table.within.few in omega (arith, few)
+
+pub are_small : (firms : List FirmValue) → AreSmallFirms (map firm_of firms)
+are_small [] = tt
+are_small (value ∷ firms) = ((firm_laws value).within, are_small firms)
+
+-- a surplus fits an answer
+pub surplus_fits : (firms : List FirmValue) (trades : List Ends) (on : ℕ) (s : ℤ) → length firms ≤ 1024 → surplus_of (map firm_of firms) trades on ≡ Some s → IsAtMost s (10 ^ 15)
+surplus_fits firms trades on s few is =
+    let small = surplus_small trades on 0 (map firm_of firms) s (are_small firms) is in
+    let count = length-map firm_of firms in
+    record { low = omega (arith, ints, small.low, count, few); high = omega (arith, ints, small.high, count, few) }
+
+-- a gain fits an answer
+pub gain_fits : (firms : List FirmValue) (trades : List Ends) (on : ℕ) (prices : List ℤ) (f x : ℕ) (gain : ℤ) → All (λ p. IsAtMost p (10 ^ 14)) prices
+  → IsFirstBettered (map firm_of firms) trades (pos 1) on (price_at prices) f x gain → IsAtMost gain (10 ^ 16)
+gain_fits firms trades on prices f x gain small bettered =
+    let there = value_at firms f bettered.firm bettered.is in
+    let few : bettered.firm.count ≤ 32 = subst (λ (firm : Firm). firm.count ≤ 32) there.2 (few_own there.0) in
+    let worths = subst (λ (firm : Firm). (y : ℕ) (a : ℤ) → firm.worth y ≡ Some a → IsAtMost a (10 ^ 11)) there.2 (firm_laws there.0).within in
+    let own_small = utility_small bettered.firm (λ k. price_at prices (own trades f k)) _ bettered.own_value few worths (λ k. price_small prices (own trades f k) (10 ^ 14) small) bettered.own_is in
+    let best_small = utility_small bettered.firm (λ k. price_at prices (own trades f k)) x bettered.best_value few worths (λ k. price_small prices (own trades f k) (10 ^ 14) small) bettered.best.is in
+    let e = bettered.gain_is in
+    record {
+      low = omega (arith, ints, e, own_small.low, own_small.high, best_small.low, best_small.high);
+      high = omega (arith, ints, e, own_small.low, own_small.high, best_small.low, best_small.high);
+    }
+
+-- the answer that a firm could do better
+pub answer_better : (firms : List FirmValue) (trades : List Ends) (on : ℕ) (prices : List ℤ) (f x : ℕ) (gain told : ℤ) (bundle : List ℕ)
+  → IsFirstBettered (map firm_of firms) trades (pos 1) on (price_at prices) f x gain → told ≡ gain
+  → ((value : FirmValue) → slice_get firms f ≡ Some value → bundle ≡ trades_of trades f (firm_of value).count x)
+  → Judges (map firm_of firms) trades (pos 1) on (price_at prices) (Better f bundle told)
+answer_better firms trades on prices f x gain told bundle bettered same bundle_is =
+    let there = value_at firms f bettered.firm bettered.is in
+    (x, subst (λ (z : ℤ). IsFirstBettered (map firm_of firms) trades (pos 1) on (price_at prices) f x z) (sym same) bettered,
+     bundle_is there.0 there.1 ∙ ap (λ (firm : Firm). trades_of trades f firm.count x) there.2)
+
+-- the firm that could do better is one of the firms
+pub bettered_firm : (firms : List FirmValue) (trades : List Ends) (on : ℕ) (prices : List ℤ) (f x : ℕ) (gain : ℤ)
+  → IsFirstBettered (map firm_of firms) trades (pos 1) on (price_at prices) f x gain → f < length firms
+bettered_firm firms trades on prices f x gain bettered =
+    let there = value_at firms f bettered.firm bettered.is in slice_get_within firms f there.0 there.1
