@@ -1,0 +1,4 @@
+pub mod Masked
+pub mod Faults
+pub mod Sum
+pub mod Laws
