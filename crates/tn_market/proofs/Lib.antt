@@ -1,1 +1,3 @@
 pub mod MarketLemmas
+pub mod AscentLemmas
+pub mod BonusLemmas

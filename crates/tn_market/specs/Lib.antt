@@ -5,3 +5,4 @@ pub mod Valued
 pub mod Best
 pub mod Accepted
 pub mod Traded
+pub mod Ascent

@@ -2,9 +2,12 @@
 //! equilibrium and a verdict are stands in `specs/`.
 #![tactic(auto)]
 
+mod aim;
 mod arrangement;
+mod ascent;
 mod contract;
 mod ends;
+mod found;
 mod lists;
 mod market;
 mod oracle;
@@ -14,6 +17,7 @@ mod said;
 mod valuation;
 
 pub use arrangement::Arrangement;
+pub use ascent::best_by_ascent;
 pub use contract::{Contract, Outcome};
 pub use ends::Ends;
 pub use lists::{Amounts, Contracts, Listed, Nodes, Numbers, Place, Prices, Trades};

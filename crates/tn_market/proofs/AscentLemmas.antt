@@ -1,0 +1,187 @@
+-- Steepest ascent: the values that it compares, how far a step has looked, and that what it stops at is best.
+use Rattle.std.proofs.Common.{◌≡◌, ◌≢◌, ℕ, ◌+◌, ◌*◌, ◌^◌, ◌<◌, ◌≤◌, Bool, true, false, not, ◌==◌, if◌then◌else◌, List, Option, Some, None, option_map, refl, sym, ap, ◌∙◌, subst, arith, inl, inr, ◌⊎◌, ℤ, pos, negsuc, ◌+ℤ◌, ◌*ℤ◌, ◌≤ℤ◌, add-one, IsSome}
+use Rattle.std.specs.Int.RustNames.{unsigned_abs}
+use Rattle.std.proofs.lemmas.Int.{ints, unsigned_abs-mul}
+use Rattle.std.proofs.lemmas.Nat.{mul-le}
+use Rattle.std.proofs.lemmas.Bool.{cases_eq, eq-eqb, eqb-true, cases_lt}
+use lib.Signed.{le_z}
+use mir.Syntax.{w128}
+use mir.Val.{of_z, to_z}
+use Rattle.tn_base.specs.Sets.{has, toggle, minus, sum_over}
+use Rattle.tn_base.specs.Arcs.{IsAtMost}
+use Rattle.tn_base.specs.Firm.{Firm, plus_sum, HasOwnBundles, MayAbstain, IsBest}
+use Rattle.tn_base.specs.Exchange.{MeetsExchange}
+use Rattle.tn_base.proofs.SetLemmas.{has_above, has_from_minus-zero, minus-zero_from, has-zero, within_from, toggle_comm}
+use Rattle.tn_law.proofs.KeepLemmas.{meets-plus_sum, meets-among}
+use Rattle.tn_law.proofs.LocalLemmas.{local_to_global}
+use Rattle.tn_market.specs.Best.{price_at}
+use Rattle.tn_market.specs.declared.found.Found.{Found}
+use Rattle.tn_market.specs.Ascent.{aimed, IsBesideBest, IsNearbyBest, IsValued, IsNoWorse, TriesOne, TriesBeside, TriesNearby}
+
+-- ---- sizes
+
+abs_small : (z : ℤ) (limit : ℕ) → IsAtMost z limit → unsigned_abs z ≤ limit
+abs_small (pos n) limit small = omega (arith, ints, small.high)
+abs_small (negsuc n) limit small = omega (arith, ints, small.low)
+
+small_abs : (z : ℤ) (limit : ℕ) → unsigned_abs z ≤ limit → IsAtMost z limit
+small_abs (pos n) limit below = record { low = omega (arith, ints, below); high = omega (arith, ints, below) }
+small_abs (negsuc n) limit below = record { low = omega (arith, ints, below); high = omega (arith, ints, below) }
+
+-- a product is at most the product of the sizes
+pub times_small : (a b : ℤ) (m n : ℕ) → IsAtMost a m → IsAtMost b n → IsAtMost (a *ℤ b) (m * n)
+times_small a b m n small_a small_b =
+    let size = mul-le (unsigned_abs a) (unsigned_abs b) m n (abs_small a m small_a) (abs_small b n small_b) in
+    small_abs (a *ℤ b) (m * n) (subst (λ (k : ℕ). k ≤ m * n) (sym (unsigned_abs-mul a b)) size)
+
+-- a scaled worth is at most 10^18 in size
+pub scaled_small : (scale worth : ℤ) → pos 1 ≤ℤ scale → scale ≤ℤ pos 10000000 → IsAtMost worth (10 ^ 11) → IsAtMost (scale *ℤ worth) (10 ^ 18)
+scaled_small scale worth from_one small_scale small =
+    times_small scale worth 10000000 (10 ^ 11) (record { low = omega (arith, ints, from_one); high = small_scale }) small
+
+-- what the code computes
+pub valued_is : (scale worth gain : ℤ) → IsAtMost (scale *ℤ worth) (10 ^ 18) → IsAtMost gain (32 * (2 * 10 ^ 22))
+    → to_z w128 (of_z w128 (to_z w128 (of_z w128 (scale *ℤ worth)) +ℤ gain)) ≡ scale *ℤ worth +ℤ gain
+valued_is scale worth gain product small = omega (arith, ints, product.low, product.high, small.low, small.high)
+
+-- one more term of a sum
+pub sum_over-next : (c : ℕ → ℤ) (k x : ℕ) → sum_over c (k + 1) x ≡ sum_over c k x +ℤ (if has x k then c k else pos 0)
+unfolding sum_over
+sum_over-next c k x = rw add-one refl
+
+-- ---- the values
+
+-- a bundle within allowed positions is one of the firm's
+pub allowed_within : (x allowed n : ℕ) → allowed < 2 ^ n → minus x allowed ≡ 0 → x < 2 ^ n
+allowed_within x allowed n own inside = within_from x n (λ k above. absent k above (has x k) refl)
+  where
+    absent : (k : ℕ) → n ≤ k → (b : Bool) → has x k ≡ b → has x k ≡ false
+    absent k above true e =
+        let there = has_from_minus-zero x allowed k inside e in
+        let away = has_above allowed n k own above in
+        absurd (cc (there, away))
+    absent k above false e = e
+
+pub aimed_some : (allowed : ℕ) (scale : ℤ) (gains : List ℤ) (firm : Firm) (x : ℕ) (worth : ℤ) → minus x allowed ≡ 0 → firm.worth x ≡ Some worth
+    → (aimed allowed scale gains firm).worth x ≡ Some (scale *ℤ worth +ℤ sum_over (price_at gains) firm.count x)
+aimed_some allowed scale gains firm x worth inside is =
+    ap (λ (b : Bool). if b then option_map (λ a. scale *ℤ a +ℤ sum_over (price_at gains) firm.count x) (firm.worth x) else None) (eq-eqb _ _ inside)
+    ∙ ap (option_map (λ a. scale *ℤ a +ℤ sum_over (price_at gains) firm.count x)) is
+
+-- the values of a firm that meets exchange meet exchange
+pub aimed_exchanges : (allowed : ℕ) (scale : ℤ) (gains : List ℤ) (firm : Firm) → pos 0 ≤ℤ scale → HasOwnBundles firm → MeetsExchange firm
+    → HasOwnBundles (aimed allowed scale gains firm) × MeetsExchange (aimed allowed scale gains firm)
+aimed_exchanges allowed scale gains firm from_zero own meets =
+    let priced = meets-plus_sum firm scale (price_at gains) from_zero own meets in
+    meets-among (plus_sum scale (price_at gains) firm) allowed priced.0 priced.1
+
+-- ---- the steps
+
+-- where nothing near is better, the bundle is best
+pub best_from_nearby : (firm : Firm) (x : ℕ) (value : ℤ) → HasOwnBundles firm → MeetsExchange firm → firm.worth x ≡ Some value
+    → IsNearbyBest firm.worth x firm.count value → IsBest firm.worth x value
+best_from_nearby firm x value own meets is near = local_to_global firm own meets x value is (record {
+  single = λ i other inside there. (near i inside).single other there;
+  pair = λ i j other i_inside j_inside different there.
+      elim (order i j different) [
+        | inl below ↦ (near j j_inside).pair i other below (ap firm.worth (toggle_comm x j i) ∙ there)
+        | inr above ↦ (near i i_inside).pair j other above there
+      ];
+})
+  where
+    order : (i j : ℕ) → i ≢ j → (i < j) ⊎ (j < i)
+    order i j different = elim (cases_lt i j) [ inl h ↦ inl h | inr h ↦ inr (omega (arith, h, different)) ]
+
+-- what the test on the rest of a bundle says
+pub emptied : (rest none : ℕ) (differs : Bool) → differs ≡ not (rest == none) → differs ≡ false → none ≡ 0 → rest ≡ 0
+emptied rest none differs is off zero_is = by_case (rest == none) refl
+  where
+    by_case : (b : Bool) → (rest == none) ≡ b → rest ≡ 0
+    by_case true e = eqb-true rest none e ∙ zero_is
+    by_case false e = absurd (cc (is, off, ap not e))
+
+pub not_emptied : (rest none : ℕ) (differs : Bool) → differs ≡ not (rest == none) → differs ≡ true → none ≡ 0 → rest ≢ 0
+not_emptied rest none differs is yes_is zero_is = λ e.
+    let same : (rest == none) ≡ true = eq-eqb rest none (e ∙ sym zero_is) in
+    absurd (cc (is, yes_is, ap not same))
+
+pub smaller : (z : ℤ) (small large : ℕ) → small ≤ large → IsAtMost z small → IsAtMost z large
+smaller z small large below within = record { low = omega (arith, ints, within.low, below); high = omega (arith, ints, within.high, below) }
+
+-- a step of a step
+pub no_worse-trans : (value_of : ℕ → Option ℤ) (first second third : Found) → IsNoWorse value_of first second → IsNoWorse value_of second third
+    → IsNoWorse value_of first third
+no_worse-trans value_of first second third one two = record {
+  valued = λ h. two.valued (one.valued h);
+  kept = omega (arith, ints, one.kept, two.kept);
+}
+
+-- with one more pair tried
+pub one_tried : (value_of : ℕ → Option ℤ) (from i j : ℕ) (first second third : Found) → TriesBeside value_of from i j first second
+    → TriesOne value_of (toggle (toggle from i) j) second third → TriesBeside value_of from i (j + 1) first third
+one_tried value_of from i j first second third before now = record {
+  no_worse = no_worse-trans value_of first second third before.no_worse now.no_worse;
+  tried = record {
+    single = λ other is. let h = before.tried.single other is in omega (arith, ints, h, now.no_worse.kept);
+    pair = λ k other below is. elim (cases_eq k j) [
+      | inl e ↦ now.tried other (ap (λ (n : ℕ). value_of (toggle (toggle from i) n)) (sym e) ∙ is)
+      | inr d ↦ let h = before.tried.pair k other (omega (arith, below, d)) is in omega (arith, ints, h, now.no_worse.kept)
+    ];
+  };
+}
+
+-- the single toggle tried
+pub single_tried : (value_of : ℕ → Option ℤ) (from i : ℕ) (first second : Found) → TriesOne value_of (toggle from i) first second
+    → TriesBeside value_of from i 0 first second
+single_tried value_of from i first second now = record {
+  no_worse = now.no_worse;
+  tried = record { single = now.tried; pair = λ k other below is. absurd (omega (arith, below)) };
+}
+
+-- with one more position tried
+pub position_tried : (value_of : ℕ → Option ℤ) (from i : ℕ) (first second third : Found) → TriesNearby value_of from i first second
+    → TriesBeside value_of from i i second third → TriesNearby value_of from (i + 1) first third
+position_tried value_of from i first second third before now = record {
+  no_worse = no_worse-trans value_of first second third before.no_worse now.no_worse;
+  tried = λ k below. elim (cases_eq k i) [
+    | inl e ↦ subst (λ (n : ℕ). IsBesideBest value_of from n n third.value) (sym e) now.tried
+    | inr d ↦
+        let h = before.tried k (omega (arith, below, d)) in
+        record {
+          single = λ other is. let a = h.single other is in omega (arith, ints, a, now.no_worse.kept);
+          pair = λ m other inside is. let a = h.pair m other inside is in omega (arith, ints, a, now.no_worse.kept);
+        }
+  ];
+}
+
+-- no position tried
+pub none_tried : (value_of : ℕ → Option ℤ) (from : ℕ) (found : Found) → TriesNearby value_of from 0 found found
+none_tried value_of from found = record {
+  no_worse = record { valued = λ h. h; kept = omega (arith, ints) };
+  tried = λ k below. absurd (omega (arith, below));
+}
+
+-- some value is there where the firm may have the empty bundle
+pub starts : (allowed : ℕ) (scale : ℤ) (gains : List ℤ) (firm : Firm) (bundle : ℕ) (value : Option ℤ) → MayAbstain firm → bundle ≡ 0
+    → value ≡ (aimed allowed scale gains firm).worth bundle → IsSome value
+starts allowed scale gains firm bundle value abstains empty is =
+    let inside : minus bundle allowed ≡ 0 = minus-zero_from bundle allowed (λ k there. absurd (none k there)) in
+    let worth_is : firm.worth bundle ≡ Some abstains.0 = ap firm.worth empty ∙ abstains.1 in
+    subst IsSome (sym (aimed_some allowed scale gains firm bundle abstains.0 inside worth_is) ∙ sym is) refl
+  where
+    none : (k : ℕ) → has bundle k ≡ true → ⊥
+    none k there = let away = ap (λ (x : ℕ). has x k) empty ∙ has-zero k in absurd (cc (there, away))
+
+pub le_from_test : (a b : ℤ) → le_z a b ≡ true → a ≤ℤ b
+le_from_test a b test = grind (arith, ints)
+
+-- where a step gains nothing, the bundle is best
+pub settled : (firm : Firm) (found next : Found) → HasOwnBundles firm × MeetsExchange firm → IsValued firm.worth found
+    → TriesNearby firm.worth found.bundle firm.count found next → next.value ≤ℤ found.value → IsBest firm.worth found.bundle found.value
+settled firm found next laws valued tries no_gain =
+    best_from_nearby firm found.bundle found.value laws.0 laws.1 valued (λ i below.
+    let near = tries.tried i below in
+    record {
+      single = λ other is. let h = near.single other is in omega (arith, ints, h, no_gain);
+      pair = λ k other inside is. let h = near.pair k other inside is in omega (arith, ints, h, no_gain);
+    })

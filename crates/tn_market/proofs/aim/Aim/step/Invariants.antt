@@ -1,0 +1,5 @@
+use Rattle.tn_market.specs.Ascent.{aimed, TriesNearby}
+use Rattle.tn_market.proofs.aim.Aim.step.Given as goal
+
+abbrev pub invariant-loop-i : goal.invariant-loop-i
+invariant-loop-i g l = TriesNearby (aimed l.self.allowed l.self.scale l.self.gains.now (g.V.Valuation.firm l.self.firm.now)).worth l.from.bundle l.i l.from l.best

@@ -1,0 +1,136 @@
+//! Steepest ascent: from the empty bundle on, the search takes the change of one or two positions that gains most,
+//! until none gains. For a firm that meets exchange it then stands at a best bundle (Murota, Discrete Convex Analysis,
+//! 2003, on the maximisation of M-natural concave functions).
+
+ghost use Rattle.std.specs.Prelude.{◌≡◌, ◌*◌, ◌<◌, ◌≤◌, ◌^◌, ◌≤ℤ◌, ◌+ℤ◌, ◌*ℤ◌, pos, if◌then◌else◌, IfSome, Some};
+ghost use Rattle.tn_base.specs.Arcs.{IsAtMost};
+ghost use Rattle.tn_base.specs.Sets.{has, sum_over, toggle};
+ghost use Rattle.tn_base.specs.Firm.{IsBest};
+ghost use Rattle.tn_market.specs.Ascent.{aimed, IsAim, IsValued, TriesOne, TriesBeside, TriesNearby};
+ghost use Rattle.tn_market.specs.Best.{price_at};
+
+use crate::found::Found;
+use crate::valuation::Valuation;
+use tn_base::{Bundle, Steps};
+
+/// What a search is after: bundles within `allowed`, each worth `scale` times what the firm says, and a gain for each
+/// of its positions beside it.
+#[derive(Drop)]
+pub struct Aim<'a, V: Valuation> {
+    pub firm: &'a V,
+    pub allowed: Bundle,
+    pub scale: i128,
+    pub gains: &'a [i128],
+    ghost fits: { IsAim allowed scale gains.now (V.limit firm.now) (V.firm firm.now) },
+}
+
+/// A worth counted `scale` times, with a gain beside it.
+fn valued(scale: i128, worth: i128, gain: i128) -> i128
+    requires from_one { pos 1 ≤ℤ scale }
+    requires small_scale { scale ≤ℤ pos 10000000 }
+    requires small_worth { IsAtMost worth (10 ^ 11) }
+    requires small_gain { IsAtMost gain (32 * (2 * 10 ^ 22)) }
+    ensures value { result ≡ scale *ℤ worth +ℤ gain }
+    ensures small { IsAtMost result (10 ^ 24) }
+{
+    scale * worth + gain
+}
+
+impl<V: Valuation> Aim<'_, V> {
+    /// What position `k` adds to the value of a bundle.
+    fn gain_at(&self, x: Bundle, k: u32) -> i128
+        requires { k < (V.firm self.now.firm.now).count }
+        ensures term { result ≡ (if has x k then price_at self.now.gains.now k else pos 0) }
+        ensures small { IsAtMost result (2 * 10 ^ 22) }
+    {
+        if x.has(k) { self.gains[k as usize] } else { 0 }
+    }
+
+    /// The sum of the gains of a bundle's positions.
+    #[tactic(auto, unfolding(tn_base::specs::Sets::sum_over))]
+    fn gain(&self, x: Bundle) -> i128
+        ensures sum { result ≡ sum_over (price_at self.now.gains.now) (V.firm self.now.firm.now).count x }
+        ensures small { IsAtMost result (32 * (2 * 10 ^ 22)) }
+    {
+        let mut total = 0;
+        for k in 0..self.firm.trades() {
+            total += self.gain_at(x, k);
+        }
+        total
+    }
+
+    /// The value of a bundle, None where it is impossible or not within the allowed positions.
+    fn value(&self, x: Bundle, steps: &mut Steps<V::Mark>) -> Option<i128>
+        ensures value { result ≡ (aimed self.now.allowed self.now.scale self.now.gains.now (V.firm self.now.firm.now)).worth x }
+        ensures small { IfSome result (λ value. IsAtMost value (10 ^ 24)) }
+    {
+        if x.minus(self.allowed) != Bundle::empty() {
+            return None;
+        }
+        let worth = self.firm.value(x, steps)?;
+        Some(valued(self.scale, worth, self.gain(x)))
+    }
+
+    /// The better of a bundle found so far and another one: the other only where it is possible and has more.
+    fn better(&self, best: Found, other: Bundle, steps: &mut Steps<V::Mark>) -> Found
+        ensures { TriesOne (aimed self.now.allowed self.now.scale self.now.gains.now (V.firm self.now.firm.now)).worth other best result }
+    {
+        match self.value(other, steps) {
+            Some(value) if value > best.value => Found {
+                bundle: other,
+                value,
+            },
+            _ => best,
+        }
+    }
+
+    /// The better of a bundle found so far and those with position `i` toggled, alone or with an earlier position.
+    fn best_beside(&self, best: Found, from: Bundle, i: u32, steps: &mut Steps<V::Mark>) -> Found
+        requires { i < (V.firm self.now.firm.now).count }
+        ensures { TriesBeside (aimed self.now.allowed self.now.scale self.now.gains.now (V.firm self.now.firm.now)).worth from i i best result }
+    {
+        let toggled = from.toggle(i);
+        let mut best = self.better(best, toggled, steps);
+        for j in 0..i {
+            best = self.better(best, toggled.toggle(j), steps);
+        }
+        best
+    }
+
+    /// The best of a bundle and those with one or two of its positions toggled.
+    fn step(&self, from: &Found, steps: &mut Steps<V::Mark>) -> Found
+        ensures { TriesNearby (aimed self.now.allowed self.now.scale self.now.gains.now (V.firm self.now.firm.now)).worth
+            from.now.bundle (V.firm self.now.firm.now).count from.now result }
+    {
+        let mut best = *from;
+        for i in 0..self.firm.trades() {
+            best = self.best_beside(best, from.bundle, i, steps);
+        }
+        best
+    }
+
+    /// A best bundle with its value.
+    pub fn climb(&self, steps: &mut Steps<V::Mark>) -> Found
+        ensures { IsBest (aimed self.now.allowed self.now.scale self.now.gains.now (V.firm self.now.firm.now)).worth result.bundle result.value }
+    {
+        let mut found = self.start(steps);
+        loop {
+            let next = self.step(&found, steps);
+            if next.value <= found.value {
+                return found;
+            }
+            found = next;
+        }
+    }
+
+    /// The empty bundle, which is always possible.
+    fn start(&self, steps: &mut Steps<V::Mark>) -> Found
+        ensures { IsValued (aimed self.now.allowed self.now.scale self.now.gains.now (V.firm self.now.firm.now)).worth result }
+    {
+        let bundle = Bundle::empty();
+        Found {
+            bundle,
+            value: self.value(bundle, steps).unwrap(),
+        }
+    }
+}

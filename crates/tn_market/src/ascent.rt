@@ -1,0 +1,85 @@
+//! The search for a best bundle among those that have all wanted positions and no forbidden one.
+
+ghost use Rattle.std.specs.Prelude.{◌≡◌, ◌+◌, ◌^◌, ◌*◌, ◌<◌, ◌≤◌, pos, ◌+ℤ◌, ◌≤ℤ◌, if◌then◌else◌, length, All};
+ghost use Rattle.tn_base.specs.Arcs.{IsAtMost};
+ghost use Rattle.tn_base.specs.Sets.{meet, union};
+ghost use Rattle.tn_base.specs.Firm.{utility};
+ghost use Rattle.tn_market.specs.Ascent.{AreGains, payment_of};
+ghost use Rattle.tn_market.specs.Best.{GivesBest, price_at};
+
+use crate::aim::Aim;
+use crate::valuation::Valuation;
+use tn_base::{Bundle, Side, Steps};
+
+/// What a wanted position is worth to the search: more than any two utilities are apart, which are at most 3.3 * 10^21
+/// in size. So a bundle of greatest value has all wanted positions, if any possible bundle has them.
+const BONUS: i128 = 10_000_000_000_000_000_000_000;
+
+/// How many trades of its own a firm may have that is searched.
+const MOST_TRADES: usize = 32;
+
+/// What the search counts for a position: what the firm gets for it, and the bonus if it is wanted.
+fn gain(side: Side, price: i128, wanted: bool) -> i128
+    requires { IsAtMost price (10 ^ 20) }
+    ensures value { result ≡ payment_of side price +ℤ (if wanted then pos (10 ^ 22) else pos 0) }
+    ensures small { IsAtMost result (2 * 10 ^ 22) }
+{
+    let payment = match side {
+        Side::Buy => -price,
+        Side::Sell => price,
+    };
+    if wanted { payment + BONUS } else { payment }
+}
+
+/// What the search counts for each position.
+fn gains<V: Valuation>(firm: &V, need: Bundle, prices: &[i128]) -> [i128; MOST_TRADES]
+    requires priced { length prices.now ≡ (V.firm firm.now).count }
+    requires few { (V.firm firm.now).count ≤ 32 }
+    requires small { All (λ p. IsAtMost p (10 ^ 20)) prices.now }
+    ensures { AreGains (V.firm firm.now).buys need prices.now (V.firm firm.now).count result }
+{
+    let mut gains = [0; MOST_TRADES];
+    for k in 0..firm.trades() {
+        gains[k as usize] = gain(firm.side(k), prices[k as usize], need.has(k));
+    }
+    gains
+}
+
+/// A best bundle among the possible ones that contain `need` and have beside it only positions of `free`, with its
+/// utility; None exactly where no such bundle is possible. Each worth that it asks counts on `steps`. It takes no
+/// memory.
+///
+/// The search goes up from the empty bundle by the best change of one or two positions, until none gains (steepest
+/// ascent: Murota, Discrete Convex Analysis, 2003).
+pub fn best_by_ascent<V: Valuation>(
+    firm: &V,
+    need: Bundle,
+    free: Bundle,
+    scale: i128,
+    prices: &[i128],
+    steps: &mut Steps<V::Mark>,
+) -> Option<(Bundle, i128)>
+    requires apart { meet need free ≡ 0 }
+    requires own { union need free < 2 ^ (V.firm firm.now).count }
+    requires priced { length prices.now ≡ (V.firm firm.now).count }
+    requires small_prices { All (λ p. IsAtMost p (10 ^ 20)) prices.now }
+    requires scaled { pos 1 ≤ℤ scale }
+    requires small_scale { scale ≤ℤ pos 10000000 }
+    requires few_trades { (V.firm firm.now).count ≤ 32 }
+    requires small_worths { V.limit firm.now ≤ 10 ^ 11 }
+    ensures { GivesBest need free (utility scale (price_at prices.now) (V.firm firm.now)) result }
+{
+    let gains = gains(firm, need, prices);
+    let aim = Aim {
+        firm,
+        allowed: need.union(free),
+        scale,
+        gains: &gains,
+    };
+    let found = aim.climb(steps);
+    if need.minus(found.bundle) != Bundle::empty() {
+        return None;
+    }
+    let bonuses = BONUS * need.count() as i128;
+    Some((found.bundle, found.value - bonuses))
+}
