@@ -6,3 +6,4 @@ pub mod Best
 pub mod Accepted
 pub mod Traded
 pub mod Ascent
+pub mod Lawful

@@ -1,0 +1,50 @@
+ghost use Rattle.std.specs.Prelude.{◌^◌};
+ghost use Rattle.tn_table.specs.Tables.{firm_of, table_laws};
+
+use crate::table::Table;
+use tn_base::{Asked, Bundle, Side, Steps};
+use tn_market::Valuation;
+
+/// The size that no worth of a firm is above.
+const BOUND: i128 = 100_000_000_000;
+
+impl Valuation for Table {
+    type Mark = Asked;
+
+    ghost firm = { firm_of };
+
+    ghost limit = { λ _. 10 ^ 11 };
+
+    fn trades(&self) -> u32 {
+        self.raw.trades()
+    }
+
+    fn side(&self, k: u32) -> Side {
+        self.raw.side(k)
+    }
+
+    fn bound(&self) -> i128 {
+        BOUND
+    }
+
+    fn value(&self, x: Bundle, steps: &mut Steps<Asked>) -> Option<i128> {
+        steps.tick();
+        self.raw.worth(x)
+    }
+
+    ghost few_trades = { λ table. (table_laws table).few_trades };
+
+    ghost own_purchases = { λ table. (table_laws table).own_purchases };
+
+    ghost own_bundles = { λ table. (table_laws table).own_bundles };
+
+    ghost empty_is_possible = { λ table. (table_laws table).empty_is_possible };
+
+    ghost exchange_one = { λ table. (table_laws table).exchange_one };
+
+    ghost exchange_net = { λ table. (table_laws table).exchange_net };
+
+    ghost within = { λ table. (table_laws table).within };
+
+    ghost small_limit = { λ table. (table_laws table).small_limit };
+}
