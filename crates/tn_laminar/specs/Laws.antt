@@ -16,14 +16,14 @@ use Rattle.tn_base.proofs.SumLemmas.{sum_over-empty}
 use Rattle.tn_law.specs.Nested.{CountTerm, AreNested, Cross, IsConcave, count_sum, both, nested_sum, listed_from, at_place}
 use Rattle.tn_law.proofs.NestedLemmas.{meets-nested}
 use Rattle.tn_law.proofs.ConcaveLemmas.{concave-listed}
-use Rattle.tn_market.specs.Valued.{ExchangesOne, ExchangesNet, IsWorthAtMost}
+use Rattle.tn_market.specs.Valued.{IsWorthAtMost}
+use Rattle.tn_market.specs.Lawful.{IsLawful}
+use Rattle.tn_laminar.specs.declared.laminar.Laminar.{Laminar}
+use Rattle.tn_laminar.specs.Firms.{firm_of}
 use Rattle.tn_laminar.specs.declared.set.LaminarSet.{LaminarSet}
 use Rattle.tn_laminar.specs.declared.masks.Masks.{Masks}
 use Rattle.tn_laminar.specs.Faults.{AreSound, HasEmpty}
 use Rattle.tn_laminar.specs.Sum.{HasNumbersWithin, IsLaminar, IsOwnSet, amount_at, laminar_sum, term_of}
-
-pub few_trades_of : (count buys : ℕ) (amounts : List ℤ) (sets : List LaminarSet) (masks : List Masks) → IsLaminar count buys amounts sets masks → count ≤ 64
-few_trades_of count buys amounts sets masks is = let few = is.few in omega (arith, few)
 
 -- an element of a list of which all elements meet P meets it
 pub all_at : {X : Type 0} (P : X → Type 0) (xs : List X) (k : ℕ) (x : X) → All P xs → slice_get xs k ≡ Some x → P x
@@ -62,15 +62,6 @@ meets : (count buys : ℕ) (amounts : List ℤ) (sets : List LaminarSet) (masks 
     → HasOwnBundles (laminar_sum count buys amounts sets) × MeetsExchange (laminar_sum count buys amounts sets)
 meets count buys amounts sets masks is = meets-nested count buys (amount_at amounts) (map term_of sets) (nested_from count buys amounts sets masks is)
 
-pub own_bundles_of : (count buys : ℕ) (amounts : List ℤ) (sets : List LaminarSet) (masks : List Masks) → IsLaminar count buys amounts sets masks → HasOwnBundles (laminar_sum count buys amounts sets)
-own_bundles_of count buys amounts sets masks is = (meets count buys amounts sets masks is).0
-
-pub exchange_one_of : (count buys : ℕ) (amounts : List ℤ) (sets : List LaminarSet) (masks : List Masks) → IsLaminar count buys amounts sets masks → ExchangesOne (laminar_sum count buys amounts sets)
-exchange_one_of count buys amounts sets masks is = (meets count buys amounts sets masks is).1.one
-
-pub exchange_net_of : (count buys : ℕ) (amounts : List ℤ) (sets : List LaminarSet) (masks : List Masks) → IsLaminar count buys amounts sets masks → ExchangesNet (laminar_sum count buys amounts sets)
-exchange_net_of count buys amounts sets masks is = (meets count buys amounts sets masks is).1.net_count
-
 -- the empty bundle has no trade within any set
 meet-zero : (q : ℕ) → meet 0 q ≡ 0
 meet-zero q = same_set (meet 0 q) 0 (λ k. has-meet 0 q k ∙ ap (λ b. b && has q k) (has-zero k) ∙ sym (has-zero k))
@@ -92,7 +83,7 @@ empty_sum buys (set ∷ sets) each =
     some_of (Some u) there = (u, refl)
     some_of None there = absurd (false≢true there)
 
-pub empty_is_possible_of : (count buys : ℕ) (amounts : List ℤ) (sets : List LaminarSet) (masks : List Masks) → IsLaminar count buys amounts sets masks → MayAbstain (laminar_sum count buys amounts sets)
+empty_is_possible_of : (count buys : ℕ) (amounts : List ℤ) (sets : List LaminarSet) (masks : List Masks) → IsLaminar count buys amounts sets masks → MayAbstain (laminar_sum count buys amounts sets)
 empty_is_possible_of count buys amounts sets masks is =
     let counted = empty_sum buys sets (λ k set e. (is.sound k set e).empty) in
     let own : 0 < 2 ^ count = pow_pos count in
@@ -163,7 +154,7 @@ numbers_small buys x sets few numbered u is =
     let high = sum.high in
     record { low = omega (arith, ints, few, low); high = omega (arith, ints, few, high) }
 
-pub within_of : (count buys : ℕ) (amounts : List ℤ) (sets : List LaminarSet) (masks : List Masks) → IsLaminar count buys amounts sets masks → IsWorthAtMost (10 ^ 11) (laminar_sum count buys amounts sets)
+within_of : (count buys : ℕ) (amounts : List ℤ) (sets : List LaminarSet) (masks : List Masks) → IsLaminar count buys amounts sets masks → IsWorthAtMost (10 ^ 11) (laminar_sum count buys amounts sets)
 within_of count buys amounts sets masks is x a worth_is = by (nat_lt x (2 ^ count)) worth_is
   where
     by : (b : Bool) → (if b then both (Some (sum_over (amount_at amounts) count x)) (count_sum buys (map term_of sets) x) else None) ≡ Some a → IsAtMost a (10 ^ 11)
@@ -180,5 +171,23 @@ within_of count buys amounts sets masks is x a worth_is = by (nat_lt x (2 ^ coun
         let s = counted.high in
         record { low = omega (arith, ints, first, total, p, q, r, s); high = omega (arith, ints, first, total, p, q, r, s) }
 
-pub small_limit_of : 10 ^ 11 ≤ 10 ^ 18
-small_limit_of = lit≤ tt
+-- a laminar sum is a firm that may be asked, and no worth of it is above 10^11
+pub laminar_sum_laws : (count buys : ℕ) (amounts : List ℤ) (sets : List LaminarSet) (masks : List Masks) → IsLaminar count buys amounts sets masks
+    → IsLawful (10 ^ 11) (laminar_sum count buys amounts sets)
+laminar_sum_laws count buys amounts sets masks is =
+    let few = is.few in
+    let exchange = meets count buys amounts sets masks is in
+    record {
+      few_trades = omega (arith, few);
+      own_purchases = is.bought;
+      own_bundles = exchange.0;
+      empty_is_possible = empty_is_possible_of count buys amounts sets masks is;
+      exchange_one = exchange.1.one;
+      exchange_net = exchange.1.net_count;
+      within = within_of count buys amounts sets masks is;
+      small_limit = omega arith;
+    }
+
+-- so is each laminar firm
+pub laminar_laws : (firm : Laminar) → IsLawful (10 ^ 11) (firm_of firm)
+laminar_laws firm = laminar_sum_laws firm.trades firm.buys firm.amounts.items firm.sets.items firm.masks.items firm.laminar

@@ -4,7 +4,6 @@ ghost use Rattle.tn_base.specs.Sets.{has, sum_over};
 ghost use Rattle.tn_base.specs.Table.{buys_of};
 ghost use Rattle.tn_law.specs.Nested.{count_sum};
 ghost use Rattle.tn_laminar.specs.Faults.{AreSound, IsRefusedFor};
-ghost use Rattle.tn_laminar.specs.Laws.{few_trades_of, own_bundles_of, empty_is_possible_of, exchange_one_of, exchange_net_of, within_of, small_limit_of};
 ghost use Rattle.tn_laminar.specs.Masked.{masks_of};
 ghost use Rattle.tn_laminar.specs.Sum.{HasNumbersWithin, IsLaminar, IsOwnSet, amount_at, laminar_firm, laminar_sum, number_of, term_of};
 
@@ -13,15 +12,14 @@ use crate::masks::Masks;
 use crate::refusal::LaminarRefusal;
 use crate::set::LaminarSet;
 use std::alloc::{AllocFailed, Global};
-use tn_base::{Asked, Bundle, Side, Steps};
-use tn_market::Valuation;
+use tn_base::{Bundle, Side};
 
 /// A firm whose worth is the sum of an amount for each trade of a bundle, and for each of a family of nested sets a
 /// concave function of the net count within it (laminar concave functions: Murota, Discrete Convex Analysis, 2003).
 #[derive(Debug, Drop)]
 pub struct Laminar {
-    trades: u32,
-    buys: Bundle,
+    pub(crate) trades: u32,
+    pub(crate) buys: Bundle,
     amounts: Vec<i128>,
     sets: Vec<LaminarSet>,
     masks: Vec<Masks>,
@@ -29,6 +27,8 @@ pub struct Laminar {
 }
 
 impl Laminar {
+    ghost use Rattle.tn_laminar.specs.Firms.{firm_of};
+
     /// The firm with these sides and amounts by position and these sets. It has at most 32 trades and 64 sets, each
     /// with at most 65 numbers from a net count of -32 to 32 on; amounts and numbers are at most 10^9 in size.
     ///
@@ -46,7 +46,7 @@ impl Laminar {
         requires few_sets { length sets.items ≤ 64 }
         requires own { All (IsOwnSet (length sides.items)) sets.items }
         requires numbered { All HasNumbersWithin sets.items }
-        ensures firm { IfOk result (λ firm. ⟦<Laminar as Valuation>⟧.firm firm ≡ laminar_firm sides.items amounts.items sets.items) }
+        ensures firm { IfOk result (λ firm. firm_of firm ≡ laminar_firm sides.items amounts.items sets.items) }
         ensures sound { IfOk result (λ firm. AreSound sets.items) }
         ensures refused { IfErr result (IsRefusedFor sets.items) }
     {
@@ -81,7 +81,7 @@ impl Laminar {
 
     /// The sum of the amounts of a bundle's trades.
     #[tactic(auto, unfolding(tn_base::specs::Sets::sum_over))]
-    fn amount(&self, x: Bundle) -> i128
+    pub(crate) fn amount(&self, x: Bundle) -> i128
         ensures sum { result ≡ sum_over (amount_at self.now.amounts.items) self.now.trades x }
         ensures small { IsAtMost result (32 * 10 ^ 9) }
     {
@@ -102,7 +102,7 @@ impl Laminar {
     }
 
     /// The sum of the sets' numbers at the net counts of a bundle within them, None where one isn't listed.
-    fn numbers(&self, x: Bundle) -> Option<i128>
+    pub(crate) fn numbers(&self, x: Bundle) -> Option<i128>
         ensures sum { result ≡ count_sum self.now.buys (map term_of self.now.sets.items) x }
         ensures small { IfSome result (λ total. IsAtMost total (64 * 10 ^ 9)) }
     {
@@ -137,50 +137,4 @@ fn masks(alloc: Global, sets: &[LaminarSet], buys: Bundle) -> Result<Vec<Masks>,
         masks.push(Masks::of(set.members, buys))?;
     }
     Ok(masks)
-}
-
-impl Valuation for Laminar {
-    type Mark = Asked;
-
-    ghost firm = { λ v. laminar_sum v.trades v.buys v.amounts.items v.sets.items };
-
-    ghost limit = { λ v. 10 ^ 11 };
-
-    fn trades(&self) -> u32 {
-        self.trades
-    }
-
-    fn side(&self, k: u32) -> Side {
-        if self.buys.has(k) {
-            Side::Buy
-        } else {
-            Side::Sell
-        }
-    }
-
-    fn bound(&self) -> i128 {
-        100_000_000_000
-    }
-
-    fn value(&self, x: Bundle, steps: &mut Steps<Asked>) -> Option<i128> {
-        steps.tick();
-        let numbers = self.numbers(x)?;
-        Some(self.amount(x) + numbers)
-    }
-
-    ghost few_trades = { λ v. few_trades_of v.trades v.buys v.amounts.items v.sets.items v.masks.items v.laminar };
-
-    ghost own_purchases = { λ v. v.laminar.bought };
-
-    ghost own_bundles = { λ v. own_bundles_of v.trades v.buys v.amounts.items v.sets.items v.masks.items v.laminar };
-
-    ghost empty_is_possible = { λ v. empty_is_possible_of v.trades v.buys v.amounts.items v.sets.items v.masks.items v.laminar };
-
-    ghost exchange_one = { λ v. exchange_one_of v.trades v.buys v.amounts.items v.sets.items v.masks.items v.laminar };
-
-    ghost exchange_net = { λ v. exchange_net_of v.trades v.buys v.amounts.items v.sets.items v.masks.items v.laminar };
-
-    ghost within = { λ v. within_of v.trades v.buys v.amounts.items v.sets.items v.masks.items v.laminar };
-
-    ghost small_limit = { λ v. small_limit_of };
 }

@@ -3,13 +3,12 @@
 //! is, and what is wrong with sets that are refused, stands in `specs/`.
 #![tactic(auto)]
 
+mod asked;
 mod faults;
 mod laminar;
 mod masks;
 mod refusal;
 mod set;
-#[cfg(test)]
-mod tests;
 
 pub use laminar::Laminar;
 pub use refusal::LaminarRefusal;
