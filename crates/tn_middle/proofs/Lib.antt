@@ -1,0 +1,2 @@
+pub mod BuysLemmas
+pub mod BalanceLemmas

@@ -1,0 +1,4 @@
+pub mod Pairs
+pub mod Firms
+pub mod Sets
+pub mod Laws

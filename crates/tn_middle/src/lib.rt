@@ -1,0 +1,7 @@
+//! Middlemen: firms that buy one good and sell it on, or keep it. What each bundle is worth to one stands in `specs/`.
+#![tactic(auto)]
+
+mod asked;
+mod middle;
+
+pub use middle::Middle;
