@@ -45,8 +45,7 @@ pub bend_from : (numbers : List ℤ) (place : ℕ) (a b d : ℤ) → 1 ≤ place
 bend_from numbers place a b d after_first before_last a_is b_is d_is =
     let before : get_or numbers (place - 1) (pos 0) ≡ a = get_or_from_slice_get numbers (place - 1) a (pos 0) a_is in
     let here : get_or numbers place (pos 0) ≡ b = get_or_from_slice_get numbers place b (pos 0) b_is in
-    let after : get_or numbers (place + 1) (pos 0) ≡ d = get_or_from_slice_get numbers (place + 1) d (pos 0) d_is in
-    (
+    let after : get_or numbers (place + 1) (pos 0) ≡ d = get_or_from_slice_get numbers (place + 1) d (pos 0) d_is in (
       (λ below. record { after_first = after_first; before_last = before_last; below = omega (arith, ints, below, before, here, after) }),
       (λ bend. let below = bend.below in omega (arith, ints, below, before, here, after)),
     )

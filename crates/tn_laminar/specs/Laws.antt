@@ -73,11 +73,12 @@ empty_sum buys [] each = (pos 0, refl)
 empty_sum buys (set ∷ sets) each =
     let rest = empty_sum buys sets (λ k other e. each (suc k) other e) in
     let none_in : net buys (meet 0 set.members) ≡ pos 0 = ap (net buys) (meet-zero set.members) ∙ net-zero buys in
-    let number = some_of (listed_from set.low set.numbers (pos 0)) (each 0 set refl) in
-    (number.0 +ℤ rest.0,
-    ap (λ z. both (listed_from set.low set.numbers z) (count_sum buys (map term_of sets) 0)) none_in
-    ∙ ap (λ o. both o (count_sum buys (map term_of sets) 0)) number.1
-    ∙ ap (both (Some number.0)) rest.1)
+    let number = some_of (listed_from set.low set.numbers (pos 0)) (each 0 set refl) in (
+      number.0 +ℤ rest.0,
+      ap (λ z. both (listed_from set.low set.numbers z) (count_sum buys (map term_of sets) 0)) none_in
+          ∙ ap (λ o. both o (count_sum buys (map term_of sets) 0)) number.1
+          ∙ ap (both (Some number.0)) rest.1,
+    )
   where
     some_of : (o : Option ℤ) → IsSome o → (u : ℤ) × (o ≡ Some u)
     some_of (Some u) there = (u, refl)
@@ -86,10 +87,11 @@ empty_sum buys (set ∷ sets) each =
 empty_is_possible_of : (count buys : ℕ) (amounts : List ℤ) (sets : List LaminarSet) (masks : List Masks) → IsLaminar count buys amounts sets masks → MayAbstain (laminar_sum count buys amounts sets)
 empty_is_possible_of count buys amounts sets masks is =
     let counted = empty_sum buys sets (λ k set e. (is.sound k set e).empty) in
-    let own : 0 < 2 ^ count = pow_pos count in
-    (sum_over (amount_at amounts) count 0 +ℤ counted.0,
-    ap (λ b. if b then both (Some (sum_over (amount_at amounts) count 0)) (count_sum buys (map term_of sets) 0) else None) (lt-ltb 0 (2 ^ count) own)
-    ∙ ap (both (Some (sum_over (amount_at amounts) count 0))) counted.1)
+    let own : 0 < 2 ^ count = pow_pos count in (
+      sum_over (amount_at amounts) count 0 +ℤ counted.0,
+      ap (λ b. if b then both (Some (sum_over (amount_at amounts) count 0)) (count_sum buys (map term_of sets) 0) else None) (lt-ltb 0 (2 ^ count) own)
+          ∙ ap (both (Some (sum_over (amount_at amounts) count 0))) counted.1,
+    )
 
 -- a sum of amounts of at most 10^9 in size
 pub sum_small : (c : ℕ → ℤ) (n x : ℕ) → ((k : ℕ) → k < n → IsAtMost (c k) (10 ^ 9)) → IsAtMost (sum_over c n x) (n * 10 ^ 9)

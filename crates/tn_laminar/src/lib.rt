@@ -9,6 +9,8 @@ mod laminar;
 mod masks;
 mod refusal;
 mod set;
+#[cfg(test)]
+mod tests;
 
 pub use laminar::Laminar;
 pub use refusal::LaminarRefusal;

@@ -251,8 +251,8 @@ are_nested count buys keep bought =
     record {
       own = each_of (λ t. t.members < 2 ^ count) (purchase_term buys) (sale_term count buys) (trade_term count keep) bought sales_own all_own;
       concave = each_of (λ t. IsConcave t.number_at) (purchase_term buys) (sale_term count buys) (trade_term count keep)
-      (concave-listed (pos 0) (pos 0 ∷ pos 0 ∷ []) two_concave) (concave-listed (negsuc 0) (pos 0 ∷ pos 0 ∷ []) two_concave)
-      (concave-listed (pos 0) (kept keep) (kept_concave keep));
+          (concave-listed (pos 0) (pos 0 ∷ pos 0 ∷ []) two_concave) (concave-listed (negsuc 0) (pos 0 ∷ pos 0 ∷ []) two_concave)
+          (concave-listed (pos 0) (kept keep) (kept_concave keep));
       uncrossed = uncrossed;
     }
   where

@@ -3,5 +3,7 @@
 
 mod asked;
 mod middle;
+#[cfg(test)]
+mod tests;
 
 pub use middle::Middle;

@@ -15,14 +15,16 @@ invariant_of-result c =
     let bought : c.buys-buys.result ≡ buys_of c.args.sides.items = search rules in
     let masked : c.in-Ok.masks.items ≡ map (λ set. masks_of c.buys-buys.result set.members) c.args.sets.items = search rules in
     let few = c.requires.few in
-    record { laminar = rw count (record {
-      few = c.requires.few;
-      bought = rw bought (buys_of_within c.args.sides.items);
-      as_many = c.requires.as_many;
-      small = c.requires.small;
-      few_sets = c.requires.few_sets;
-      own = c.requires.own;
-      numbered = c.requires.numbered;
-      sound = sound;
-      masked = masked;
-    }) }
+    record {
+      laminar = rw count (record {
+        few = c.requires.few;
+        bought = rw bought (buys_of_within c.args.sides.items);
+        as_many = c.requires.as_many;
+        small = c.requires.small;
+        few_sets = c.requires.few_sets;
+        own = c.requires.own;
+        numbered = c.requires.numbered;
+        sound = sound;
+        masked = masked;
+      });
+    }
