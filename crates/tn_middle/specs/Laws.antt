@@ -19,10 +19,10 @@ use Rattle.tn_middle.specs.Firms.{firm_of}
 use Rattle.tn_middle.specs.Pairs.{IsMiddle, number_at, by_counts, pair_worth, pairing}
 use Rattle.tn_middle.specs.Sets.{meets}
 
-meet-none : (q : ℕ) → meet 0 q ≡ 0
+pub meet-none : (q : ℕ) → meet 0 q ≡ 0
 meet-none q = same_set (meet 0 q) 0 (λ k. has-meet 0 q k ∙ ap (λ b. b && has q k) (has-zero k) ∙ sym (has-zero k))
 
-minus-none : (q : ℕ) → minus 0 q ≡ 0
+pub minus-none : (q : ℕ) → minus 0 q ≡ 0
 minus-none q = same_set (minus 0 q) 0 (λ k. has-minus 0 q k ∙ ap (λ b. b && not (has q k)) (has-zero k) ∙ sym (has-zero k))
 
 -- the empty bundle is worth 0

@@ -2,8 +2,10 @@
 #![tactic(auto)]
 
 mod asked;
+mod laws;
 mod middle;
 #[cfg(test)]
 mod tests;
 
+pub use laws::middlemen_pair;
 pub use middle::Middle;
