@@ -1,5 +1,5 @@
 -- What the masks of a set count.
-use Rattle.std.proofs.Common.{◌≡◌, ℕ, Bool, true, false, not, ◌&&◌, refl, sym, ap, ◌∙◌, arith, ℤ, pos, ◌-ℤ◌}
+use Rattle.std.proofs.Common.{◌≡◌, ℕ, Bool, true, false, not, ◌&&◌, refl, sym, ap, ◌∙◌, pos, ◌-ℤ◌}
 use Rattle.tn_base.specs.Sets.{has, meet, minus, size}
 use Rattle.tn_base.specs.Firm.{net}
 use Rattle.tn_base.proofs.SetLemmas.{same_set, has-meet, has-minus}

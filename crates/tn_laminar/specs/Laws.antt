@@ -1,6 +1,6 @@
 -- The laws of a laminar firm, over what every one keeps.
-use Rattle.std.proofs.Common.{◌≡◌, ◌≢◌, ◌&&◌, ℕ, zero, suc, ◌+◌, ◌-◌, ◌*◌, ◌^◌, ◌<◌, ◌≤◌, Bool, true, false, refl, sym, ap, ◌∙◌, subst, arith, inl, inr, if◌then◌else◌, List, [], ◌∷◌, length, get_or, Option, Some, None, ℤ, pos, negsuc, ◌+ℤ◌, ◌-ℤ◌, neg_ℤ, ◌≤ℤ◌, lit≤}
-use Rattle.std.specs.Prelude.{All, map, slice_get, option_map, IsSome, nat_lt, cond}
+use Rattle.std.proofs.Common.{◌≡◌, ◌&&◌, ℕ, zero, suc, ◌*◌, ◌^◌, ◌<◌, ◌≤◌, Bool, true, false, refl, sym, ap, ◌∙◌, subst, arith, if◌then◌else◌, List, [], ◌∷◌, length, Option, Some, None, ℤ, pos, negsuc, ◌+ℤ◌, ◌-ℤ◌, neg_ℤ, ◌≤ℤ◌}
+use Rattle.std.specs.Prelude.{All, map, slice_get, option_map, IsSome, nat_lt}
 use Rattle.std.proofs.lemmas.Int.{ints}
 use Rattle.std.proofs.lemmas.Nat.{pow_pos}
 use Rattle.std.proofs.lemmas.Bool.{lt-ltb, false≢true}
@@ -8,12 +8,11 @@ use Rattle.std.proofs.lemmas.Option.{none-some, same_Some, slice_get-map, slice_
 use Rattle.std.proofs.lemmas.List.Elements.{All-get_or}
 use Rattle.tn_base.specs.Arcs.{IsAtMost}
 use Rattle.tn_base.specs.Sets.{has, meet, sum_over}
-use Rattle.tn_base.specs.Firm.{Firm, HasOwnBundles, MayAbstain, net}
+use Rattle.tn_base.specs.Firm.{HasOwnBundles, MayAbstain, net}
 use Rattle.tn_base.specs.Exchange.{MeetsExchange}
 use Rattle.tn_base.proofs.SetLemmas.{same_set, has-meet, has-zero}
 use Rattle.tn_base.proofs.FirmLemmas.{net-zero}
-use Rattle.tn_base.proofs.SumLemmas.{sum_over-empty}
-use Rattle.tn_law.specs.Nested.{CountTerm, AreNested, Cross, IsConcave, count_sum, both, nested_sum, listed_from, at_place}
+use Rattle.tn_law.specs.Nested.{CountTerm, AreNested, Cross, IsConcave, count_sum, both, listed_from, at_place}
 use Rattle.tn_law.proofs.NestedLemmas.{meets-nested}
 use Rattle.tn_law.proofs.ConcaveLemmas.{concave-listed}
 use Rattle.tn_market.specs.Valued.{IsWorthAtMost}
@@ -22,7 +21,7 @@ use Rattle.tn_laminar.specs.declared.laminar.Laminar.{Laminar}
 use Rattle.tn_laminar.specs.Firms.{firm_of}
 use Rattle.tn_laminar.specs.declared.set.LaminarSet.{LaminarSet}
 use Rattle.tn_laminar.specs.declared.masks.Masks.{Masks}
-use Rattle.tn_laminar.specs.Faults.{AreSound, HasEmpty}
+use Rattle.tn_laminar.specs.Faults.{HasEmpty}
 use Rattle.tn_laminar.specs.Sum.{HasNumbersWithin, IsLaminar, IsOwnSet, amount_at, laminar_sum, term_of}
 
 -- an element of a list of which all elements meet P meets it

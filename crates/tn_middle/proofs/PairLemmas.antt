@@ -1,21 +1,20 @@
 -- What a middleman's bundles are worth, bundle by bundle.
-use Rattle.std.proofs.Common.{◌≡◌, ◌≢◌, ℕ, zero, suc, ◌+◌, ◌-◌, ◌^◌, ◌<◌, ◌≤◌, Bool, true, false, not, ◌&&◌, refl, sym, ap, ◌∙◌, subst, arith, inl, inr, ◌⊎◌, if◌then◌else◌, List, length, get_or, Option, Some, None, ℤ, pos, ◌+ℤ◌, ◌-ℤ◌, neg_ℤ}
-use Rattle.std.specs.Prelude.{nat_lt, option_map}
+use Rattle.std.proofs.Common.{◌≡◌, ◌≢◌, ℕ, zero, suc, ◌+◌, ◌^◌, ◌<◌, ◌≤◌, Bool, true, false, not, ◌&&◌, refl, sym, ap, ◌∙◌, arith, inl, inr, ◌⊎◌, if◌then◌else◌, List, length, Option, Some, None, ℤ, ◌+ℤ◌, ◌-ℤ◌, neg_ℤ}
+use Rattle.std.specs.Prelude.{option_map}
 use Rattle.std.proofs.lemmas.Int.{ints}
 use Rattle.std.proofs.lemmas.Nat.{pow_pos}
 use Rattle.std.proofs.lemmas.Bool.{lt-ltb, cases_Bool, cases_lt, le-ltb, false≢true}
 use Rattle.std.proofs.lemmas.Option.{none-some}
 use Rattle.tn_base.specs.Sets.{has, toggle, meet, minus, size, size_below, sum_over}
-use Rattle.tn_base.specs.Firm.{Firm, payments}
+use Rattle.tn_base.specs.Firm.{payments}
 use Rattle.tn_base.specs.Table.{buys_of}
-use Rattle.tn_base.specs.declared.side.Side.{Side}
 use Rattle.tn_base.proofs.SetLemmas.{has-meet, has-minus, has-zero, has-toggle_other, has_below, toggle_within, toggle-toggle, toggle_comm}
 use Rattle.tn_base.proofs.SizeLemmas.{size-zero, size-toggle_in, size-toggle_out}
 use Rattle.tn_base.proofs.SumLemmas.{sum_over-empty, sum_over-toggle_in}
 use Rattle.tn_base.proofs.FirmLemmas.{meet-toggle_in, meet-toggle_out, minus-toggle_in, minus-toggle_out}
-use Rattle.tn_middle.specs.Pairs.{number_at, by_counts, pair_worth, pairing, middle_firm}
-use Rattle.tn_middle.specs.PairLaw.{IsPurchase, IsSale, IsOnePurchase, IsPair, IsPairing, MiddlemenPair}
-use Rattle.tn_middle.specs.Sets.{empty_from_size, empty_from_counts}
+use Rattle.tn_middle.specs.Pairs.{number_at, by_counts, pair_worth, pairing}
+use Rattle.tn_middle.specs.PairLaw.{IsOnePurchase, IsPair, MiddlemenPair}
+use Rattle.tn_middle.specs.Sets.{empty_from_counts}
 use Rattle.tn_middle.specs.Laws.{pairing-empty, meet-none, minus-none}
 
 both_true : (a b : Bool) → (a && b) ≡ true → (a ≡ true) × (b ≡ true)
@@ -163,10 +162,10 @@ only_of : (count buys : ℕ) (numbers : List ℤ) (keep : Option ℤ) (x : ℕ) 
     → (x ≡ 0) ⊎ (IsOnePurchase (pairing count buys numbers keep) x ⊎ IsPair (pairing count buys numbers keep) x)
 only_of count buys numbers keep x a is = elim (cases_lt x (2 ^ count)) [
   | inr above ↦ absurd (none-some a (sym (ap (λ b. if b then by_counts (size (meet x buys)) (size (minus x buys)) keep (sum_over (payments buys (number_at numbers)) count x) else None)
-  (le-ltb x (2 ^ count) above)) ∙ is))
+      (le-ltb x (2 ^ count) above)) ∙ is))
   | inl own ↦ by own (size (meet x buys)) (size (minus x buys)) refl refl
-  (sym (ap (λ b. if b then by_counts (size (meet x buys)) (size (minus x buys)) keep (sum_over (payments buys (number_at numbers)) count x) else None)
-  (lt-ltb x (2 ^ count) own)) ∙ is)
+      (sym (ap (λ b. if b then by_counts (size (meet x buys)) (size (minus x buys)) keep (sum_over (payments buys (number_at numbers)) count x) else None)
+      (lt-ltb x (2 ^ count) own)) ∙ is)
 ]
   where
     by : x < 2 ^ count → (p s : ℕ) → size (meet x buys) ≡ p → size (minus x buys) ≡ s

@@ -1,6 +1,6 @@
 -- The laws of a middleman.
-use Rattle.std.proofs.Common.{◌≡◌, ℕ, zero, suc, ◌+◌, ◌*◌, ◌^◌, ◌<◌, ◌≤◌, Bool, true, false, not, ◌&&◌, refl, sym, ap, ◌∙◌, arith, if◌then◌else◌, List, length, get_or, Option, Some, None, ℤ, pos, ◌+ℤ◌, neg_ℤ, ◌≤ℤ◌}
-use Rattle.std.specs.Prelude.{All, nat_lt, option_map}
+use Rattle.std.proofs.Common.{◌≡◌, ℕ, zero, suc, ◌*◌, ◌^◌, ◌<◌, Bool, true, false, not, ◌&&◌, refl, sym, ap, ◌∙◌, arith, if◌then◌else◌, List, length, get_or, Option, Some, None, ℤ, pos, ◌+ℤ◌, neg_ℤ, ◌≤ℤ◌}
+use Rattle.std.specs.Prelude.{All, nat_lt}
 use Rattle.std.specs.Option.{ForSome}
 use Rattle.std.proofs.lemmas.Int.{ints}
 use Rattle.std.proofs.lemmas.Nat.{pow_pos}
@@ -9,7 +9,7 @@ use Rattle.std.proofs.lemmas.Option.{none-some, same_Some}
 use Rattle.std.proofs.lemmas.List.Elements.{All-get_or}
 use Rattle.tn_base.specs.Arcs.{IsAtMost}
 use Rattle.tn_base.specs.Sets.{has, meet, minus, size, sum_over}
-use Rattle.tn_base.specs.Firm.{payments, MayAbstain}
+use Rattle.tn_base.specs.Firm.{payments}
 use Rattle.tn_base.proofs.SetLemmas.{same_set, has-meet, has-minus, has-zero}
 use Rattle.tn_base.proofs.SizeLemmas.{size-zero}
 use Rattle.tn_market.specs.Valued.{IsWorthAtMost}

@@ -1,14 +1,14 @@
 -- A middleman is a laminar sum of three sets: its purchases, its sales, and all its trades.
-use Rattle.std.proofs.Common.{◌≡◌, ◌≢◌, ℕ, zero, suc, ◌+◌, ◌-◌, ◌*◌, ◌^◌, ◌<◌, ◌≤◌, Bool, true, false, not, ◌&&◌, refl, sym, ap, ◌∙◌, subst, arith, inl, inr, ◌⊎◌, if◌then◌else◌, List, [], ◌∷◌, length, get_or, Option, Some, None, ℤ, pos, negsuc, ◌+ℤ◌, ◌-ℤ◌, neg_ℤ, ◌≤ℤ◌}
-use Rattle.std.specs.Prelude.{slice_get, nat_lt, option_map}
+use Rattle.std.proofs.Common.{◌≡◌, ℕ, zero, suc, ◌^◌, ◌<◌, Bool, true, false, not, ◌&&◌, refl, sym, ap, ◌∙◌, subst, arith, inl, inr, ◌⊎◌, if◌then◌else◌, List, [], ◌∷◌, Option, Some, None, ℤ, pos, negsuc, ◌+ℤ◌, ◌-ℤ◌}
+use Rattle.std.specs.Prelude.{slice_get}
 use Rattle.std.proofs.lemmas.Int.{ints}
-use Rattle.std.proofs.lemmas.Bool.{lt-ltb, ltb-true, cases_Bool, cases_lt, le-ltb, false≢true}
-use Rattle.std.proofs.lemmas.Option.{none-some, same_Some, slice_get_within}
+use Rattle.std.proofs.lemmas.Bool.{lt-ltb, cases_Bool, cases_lt, le-ltb, false≢true}
+use Rattle.std.proofs.lemmas.Option.{none-some, same_Some}
 use Rattle.std.proofs.Math.Path.{fun_ext}
 use Rattle.tn_base.specs.Sets.{has, meet, minus, size, set_of, sum_over}
 use Rattle.tn_base.specs.Firm.{Firm, net, payments, HasOwnBundles}
 use Rattle.tn_base.specs.Exchange.{MeetsExchange}
-use Rattle.tn_base.proofs.SetLemmas.{same_set, has-meet, has-minus, has-zero, has-set_of, set_of_within, minus_within, has_above, has_below, minus-zero_from}
+use Rattle.tn_base.proofs.SetLemmas.{same_set, has-meet, has-minus, has-zero, has-set_of, set_of_within, minus_within, has_below, minus-zero_from}
 use Rattle.tn_base.proofs.SizeLemmas.{size-zero, size-toggle_out}
 use Rattle.tn_base.proofs.SumLemmas.{sum_over-empty}
 use Rattle.tn_law.specs.Nested.{CountTerm, AreNested, Cross, IsConcave, IsConcaveList, count_sum, both, nested_sum, listed_from, at_place}

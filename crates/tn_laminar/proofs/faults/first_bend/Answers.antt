@@ -1,4 +1,4 @@
-use Rattle.std.proofs.Common.{rules, arith}
+use Rattle.std.proofs.Common.{arith}
 use Rattle.tn_laminar.proofs.FaultLemmas.{concave_from}
 use Rattle.tn_laminar.proofs.faults.first_bend.Goals as goal
 

@@ -1,4 +1,4 @@
-use Rattle.std.proofs.Common.{rules, ◌≡◌, arith, length, map, sym, ◌∙◌, subst, ◌^◌, ◌<◌, ℕ}
+use Rattle.std.proofs.Common.{rules, ◌≡◌, length, map}
 use Rattle.tn_base.specs.Table.{buys_of}
 use Rattle.tn_base.proofs.TableLemmas.{buys_of_within}
 use Rattle.tn_laminar.specs.Faults.{AreSound}

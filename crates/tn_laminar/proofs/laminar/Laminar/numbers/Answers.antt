@@ -1,5 +1,5 @@
 use Rattle.std.proofs.Common.{rules, ◌≡◌, ◌<◌, ◌≤◌, sym, ◌∙◌, subst, arith, length, None, ℤ, ◌+◌}
-use Rattle.tn_laminar.proofs.ValueLemmas.{CountsSoFar, counts_more, counts_stop, counts_all, step_is}
+use Rattle.tn_laminar.proofs.ValueLemmas.{CountsSoFar, counts_more, counts_stop, step_is}
 use Rattle.tn_laminar.proofs.laminar.Laminar.numbers.Goals as goal
 
 pub returns-in_err-total-clause-sum : goal.returns-in_err-total-clause-sum

@@ -1,4 +1,3 @@
-use Rattle.std.proofs.Common.{◌≡◌}
 use Rattle.tn_laminar.proofs.ValueLemmas.{CountsSoFar}
 use Rattle.tn_laminar.proofs.laminar.Laminar.numbers.Given as goal
 

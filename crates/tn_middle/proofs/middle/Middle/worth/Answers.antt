@@ -1,9 +1,5 @@
-use Rattle.std.proofs.Common.{rules, arith, ◌≡◌, ap, ◌∙◌, sym, Some, ℕ, ◌+ℤ◌}
-use Rattle.std.specs.Prelude.{option_map}
-use Rattle.std.proofs.lemmas.Int.{ints}
-use Rattle.tn_base.specs.Sets.{meet, minus, size, sum_over}
-use Rattle.tn_base.specs.Firm.{payments}
-use Rattle.tn_middle.specs.Pairs.{by_counts, number_at}
+use Rattle.std.proofs.Common.{rules, ◌≡◌, ap, ◌∙◌, Some}
+use Rattle.tn_base.specs.Sets.{meet, minus, size}
 use Rattle.tn_middle.proofs.BalanceLemmas.{kept_is, kept_worth}
 use Rattle.tn_middle.proofs.middle.Middle.worth.Goals as goal
 
