@@ -1,0 +1,4 @@
+pub mod BuysLemmas
+pub mod ValueLemmas
+pub mod MaskLemmas
+pub mod FaultLemmas

@@ -1,0 +1,5 @@
+pub mod Masked
+pub mod Faults
+pub mod Sum
+pub mod Firms
+pub mod Laws

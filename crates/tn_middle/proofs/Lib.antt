@@ -1,0 +1,3 @@
+pub mod BuysLemmas
+pub mod BalanceLemmas
+pub mod PairLemmas
