@@ -181,8 +181,7 @@ fn writes_faults_of_the_whole_document(rt: HostRuntime) -> Result<(), Fail> {
 }
 
 // A failure of exchange at the second firm, on two trades.
-fn exchange_fault(alloc: Global) -> Result<Fault, Fail>
-{
+fn exchange_fault(alloc: Global) -> Result<Fault, Fail> {
     let place = vec![in alloc; PlaceStep::Word(Word::Firms), PlaceStep::Index(1)]?;
     let x = vec![in alloc; 0, 1]?;
     let shown = Shown {
