@@ -8,7 +8,7 @@ pub enum RawFirm {
 }
 
 impl RawFirm {
-    ghost use Rattle.std.specs.Prelude.{◌≡◌, ◌↔◌};
+    ghost use Rattle.std.specs.Prelude.{◌≡◌, ◌≤◌, ◌↔◌};
     ghost use Rattle.tn_base.specs.Exchange.{NoneFails};
     ghost use Rattle.tn_exchange.specs.Rows.{firm_of_table};
     ghost use Rattle.tn_exchange.specs.TestOrder.{IsFirstFailure};
@@ -22,6 +22,14 @@ impl RawFirm {
         match self {
             RawFirm::Table(table) => table,
         }
+    }
+
+    /// How many own trades there are.
+    pub fn trades(&self) -> u32
+        ensures count { result ≡ (raw_firm_of self.now).count }
+        ensures few { result ≤ 64 }
+    {
+        self.table().trades()
     }
 
     /// Whether the firm meets exchange, or else the first triple that fails in test order. It takes no memory.

@@ -1,1 +1,4 @@
-
+pub mod Words
+pub mod Tested
+pub mod Answer
+pub mod Run

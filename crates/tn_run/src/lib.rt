@@ -1,6 +1,12 @@
 //! The top call: the words of the program, what it reads, what it answers and what it writes.
 #![tactic(auto)]
 
+mod answer;
 mod checking;
+mod command;
+mod testing;
+#[cfg(test)]
+mod tests;
+mod top;
 
-pub use checking::check;
+pub use top::{Run, run_market, run_steadily};

@@ -1,0 +1,60 @@
+-- What the program may say of what it read.
+use Rattle.std.specs.Prelude.{◌≡◌, ◌≢◌, ℕ, ◌+◌, ◌≤◌, ◌⊎◌, pos, List, [], ◌∷◌, length, Option, Some, None, IfSome, Result, Ok, Err}
+use Rattle.std.specs.Io.KnownBytes.{Consumes, IsAtEnd}
+use Rattle.tn_base.specs.declared.fault.FaultKind.{FaultKind}
+use Rattle.tn_base.specs.declared.fault.FaultKind.TheVariants.{TooLong}
+use Rattle.tn_market.specs.declared.said.Said.{Said}
+use Rattle.tn_market.specs.declared.said.Said.TheVariants.{Usage, ReadFault, NoMemory, Fault}
+use Rattle.tn_market.specs.Best.{price_at}
+use Rattle.tn_market.specs.Verdict.{Judges}
+use Rattle.tn_io.specs.Counts.{Rose}
+use Rattle.tn_io.specs.Source.{TakesFirst, TakesAtMost}
+use Rattle.tn_answer.specs.Names.{NameLists}
+use Rattle.tn_file.specs.Reading.{Stop}
+use Rattle.tn_file.specs.Document.{DocumentData, ExtraData, nothing, arrangement, reading_of}
+use Rattle.tn_run.specs.declared.command.Command.{Command}
+use Rattle.tn_run.specs.declared.command.Command.TheVariants.{Check, Test}
+use Rattle.tn_run.specs.Tested.{Tests}
+use Rattle.tn_run.specs.Words.{need_of}
+
+-- how many bytes a document may have
+abbrev pub document_limit : ℕ
+document_limit = 4194304
+
+-- the verdict on the arrangement of a document, at scale 1
+abbrev pub ChecksExtra : DocumentData → ExtraData → Said → Type 0
+ChecksExtra doc nothing said = ⊥
+ChecksExtra doc (arrangement at) said = Judges doc.firms doc.ends (pos 1) at.on (price_at at.prices) said
+
+-- the defined answer of a command on a document
+abbrev pub IsAnswerOf : Command → DocumentData → Said → Type 0
+IsAnswerOf Check doc said = ChecksExtra doc doc.extra said
+IsAnswerOf Test doc said = Tests doc.firms doc.ends said
+
+-- the defined answer where the bytes read so, over the names that are read
+abbrev pub IsAnswerTo : Command → Result DocumentData Stop → NameLists → Said → Type 0
+IsAnswerTo command (Ok doc) names said = IsAnswerOf command doc said × (names ≡ doc.names)
+IsAnswerTo command (Err stop) names said = (said ≡ Fault stop.fault) × (names ≡ stop.names)
+
+-- the source was taken to its end, and the answer is the defined one for the bytes that it gave
+pub record AnswersWhole (command : Command) (old new : Option (List ℕ)) (names : NameLists) (said : Said) : Type 0 where
+  pub bytes : List ℕ
+  pub few : length bytes ≤ document_limit
+  pub taken : Consumes old new bytes
+  pub end : IsAtEnd new
+  -- a source that tells its bytes told these
+  pub told : IfSome old (λ all. bytes ≡ all)
+  pub answer : IsAnswerTo command (reading_of (need_of command) bytes) names said
+
+-- one byte more than the limit was taken
+pub record FindsTooLong (old new : Option (List ℕ)) (said : Said) : Type 0 where
+  pub said_is : said ≡ Fault (record { kind = TooLong; place = []; shown = None })
+  pub taken : TakesFirst old new (document_limit + 1)
+
+-- what may be said after a command has read a source, by what the source told before and after, and by its counts of
+-- faults
+abbrev pub MayBeSaid : Command → Option (List ℕ) → Option (List ℕ) → ℕ → ℕ → NameLists → Said → Type 0
+MayBeSaid command old new faults_old faults_new names ReadFault = Rose faults_old faults_new × TakesAtMost old new document_limit
+MayBeSaid command old new faults_old faults_new names NoMemory = Unit {0}
+MayBeSaid command old new faults_old faults_new names Usage = ⊥
+MayBeSaid command old new faults_old faults_new names said = FindsTooLong old new said ⊎ AnswersWhole command old new names said

@@ -1,0 +1,35 @@
+-- What a whole run comes to.
+use Rattle.std.specs.Prelude.{◌≡◌, ◌≢◌, ℕ, ◌⊎◌, List, length, Option, Some, None}
+use Rattle.tn_market.specs.declared.said.Said.{Said}
+use Rattle.tn_market.specs.declared.said.Said.TheVariants.{Usage, ReadFault, NoMemory, Fault, Equilibrium, Better, Impossible, Accepted, ExchangeFails}
+use Rattle.tn_io.specs.Counts.{Rose}
+use Rattle.tn_io.specs.Sink.{Grows, GrowsByPrefix}
+use Rattle.tn_answer.specs.Names.{NameLists}
+use Rattle.tn_answer.specs.AnswerText.{answer_line}
+
+-- the exit status of an answer that was written whole
+abbrev pub status_of : Said → ℕ
+status_of (Equilibrium surplus) = 0
+status_of (Fault fault) = 1
+status_of Usage = 2
+status_of ReadFault = 3
+status_of NoMemory = 5
+status_of (Better firm bundle gain) = 6
+status_of (Impossible firm) = 6
+status_of Accepted = 0
+status_of (ExchangeFails firm x y at) = 6
+
+-- the text of the answer was written whole
+pub record IsWrittenWhole (old new : Option (List ℕ)) (names : NameLists) (said : Said) (status : ℕ) : Type 0 where
+  pub status_is : status ≡ status_of said
+  pub grown : Grows old new (answer_line names said)
+
+-- a write failed, and a prefix of the text was written
+pub record IsCutShort (old new : Option (List ℕ)) (faults_old faults_new : ℕ) (names : NameLists) (said : Said) (status : ℕ) : Type 0 where
+  pub status_is : status ≡ 4
+  pub cause : Rose faults_old faults_new
+  pub grown : GrowsByPrefix old new (answer_line names said)
+
+-- what was written of an answer over some names, and the exit status
+abbrev pub IsWritten : Option (List ℕ) → Option (List ℕ) → ℕ → ℕ → NameLists → Said → ℕ → Type 0
+IsWritten old new faults_old faults_new names said status = IsWrittenWhole old new names said status ⊎ IsCutShort old new faults_old faults_new names said status

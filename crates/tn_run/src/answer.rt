@@ -1,0 +1,124 @@
+//! The answer to the bytes of a document.
+
+ghost use Rattle.std.specs.Prelude.{◌≡◌, ◌≤◌, [], None, IfOk};
+ghost use Rattle.tn_answer.specs.Sayable.{IsSayable};
+ghost use Rattle.tn_base.specs.declared.fault.FaultKind.TheVariants.{TooLong};
+ghost use Rattle.tn_file.specs.Document.{reading_of};
+ghost use Rattle.tn_file.specs.Laws.{IsDocument};
+ghost use Rattle.tn_file.specs.Refusal.{IsExtraFor, IsLoadedFor, document_view};
+ghost use Rattle.tn_run.specs.Answer.{IsAnswerOf, IsAnswerTo, MayBeSaid};
+ghost use Rattle.tn_run.specs.Words.{need_of};
+
+use crate::checking::check;
+use crate::command::{Command, need_of};
+use crate::testing::test;
+use std::alloc::Global;
+use tn_answer::Names;
+use tn_base::{FaultKind, OutOfMemory};
+use tn_file::{DocRefusal, Document, Extra, Loaded, Need, read_doc};
+use tn_io::{ReadStop, Source, read_all};
+use tn_market::{Fault, Place, Said};
+
+/// How many bytes a document may have.
+const DOCUMENT_LIMIT: usize = 4_194_304;
+
+/// The answer of `check` on a document.
+fn check_document(alloc: Global, doc: &Document) -> Result<Said, OutOfMemory>
+    requires document { IsDocument Need.Arrangement (document_view doc.now) }
+    requires loaded { IsLoadedFor Need.Arrangement doc.now.firms }
+    requires extra { IsExtraFor Need.Arrangement doc.now.extra }
+    ensures answer { IfOk result (IsAnswerOf Command.Check (document_view doc.now)) }
+    ensures sayable { IfOk result IsSayable }
+{
+    match &doc.firms {
+        Loaded::Market(market) => match &doc.extra {
+            Extra::Arrangement(at) => check(alloc, market, at),
+            Extra::None => unreachable!(),
+        },
+        Loaded::Raw(_) => unreachable!(),
+    }
+}
+
+/// The answer of `test` on a document.
+fn test_document(alloc: Global, doc: &Document) -> Result<Said, OutOfMemory>
+    requires document { IsDocument Need.Raw (document_view doc.now) }
+    requires loaded { IsLoadedFor Need.Raw doc.now.firms }
+    ensures answer { IfOk result (IsAnswerOf Command.Test (document_view doc.now)) }
+    ensures sayable { IfOk result IsSayable }
+{
+    match &doc.firms {
+        Loaded::Raw(net) => test(alloc, net),
+        Loaded::Market(_) => unreachable!(),
+    }
+}
+
+/// The answer of a command on a document.
+fn answer_document(alloc: Global, command: Command, doc: &Document) -> Result<Said, OutOfMemory>
+    requires document { IsDocument (need_of command) (document_view doc.now) }
+    requires loaded { IsLoadedFor (need_of command) doc.now.firms }
+    requires extra { IsExtraFor (need_of command) doc.now.extra }
+    ensures answer { IfOk result (IsAnswerOf command (document_view doc.now)) }
+    ensures sayable { IfOk result IsSayable }
+{
+    match command {
+        Command::Check => check_document(alloc, doc),
+        Command::Test => test_document(alloc, doc),
+    }
+}
+
+/// The answer of a command to the bytes of a document, over the names that are read.
+fn answer_bytes(
+    alloc: Global,
+    command: Command,
+    bytes: &[u8],
+    names: &mut Names,
+) -> Result<Said, OutOfMemory>
+    ensures answer { IfOk result (IsAnswerTo command (reading_of (need_of command) bytes.now) names.new) }
+    ensures sayable { IfOk result IsSayable }
+{
+    match read_doc(alloc, need_of(command), bytes) {
+        Ok(doc) => {
+            let said = answer_document(alloc, command, &doc)?;
+            *names = doc.names;
+            Ok(said)
+        }
+        Err(DocRefusal::Fault { fault, names: read }) => {
+            *names = read;
+            Ok(Said::Fault(fault))
+        }
+        Err(DocRefusal::OutOfMemory) => Err(OutOfMemory),
+    }
+}
+
+/// The fault of a document that is too long.
+fn too_long(alloc: Global) -> Said
+    ensures { result ≡ Said.Fault (record { kind = TooLong; place = []; shown = None }) }
+{
+    Said::Fault(Fault {
+        kind: FaultKind::TooLong,
+        place: Place::from_vec(Vec::new(alloc)),
+        shown: None,
+    })
+}
+
+/// The answer of a command to what a source gives, over the names that are read.
+pub fn answer_source<S: Source>(
+    alloc: Global,
+    command: Command,
+    source: &mut S,
+    names: &mut Names,
+) -> Said
+    ensures answer { MayBeSaid command (S.left source.old) (S.left source.new) (S.faults source.old) (S.faults source.new) names.new result }
+    ensures sayable { IsSayable result }
+    ensures later { S.faults source.old ≤ S.faults source.new }
+{
+    match read_all(alloc, source, DOCUMENT_LIMIT) {
+        Ok(bytes) => match answer_bytes(alloc, command, &bytes, names) {
+            Ok(said) => said,
+            Err(OutOfMemory) => Said::NoMemory,
+        },
+        Err(ReadStop::Failed) => Said::ReadFault,
+        Err(ReadStop::TooLong) => too_long(alloc),
+        Err(ReadStop::OutOfMemory) => Said::NoMemory,
+    }
+}

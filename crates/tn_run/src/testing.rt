@@ -1,0 +1,37 @@
+//! The answer of `test`.
+
+ghost use Rattle.std.specs.Prelude.{◌≡◌, ◌<◌, ◌≤◌, IfOk, length, map, option_map};
+ghost use Rattle.tn_answer.specs.Sayable.{IsSayable};
+ghost use Rattle.tn_firm.specs.Raw.{raw_firm_of};
+ghost use Rattle.tn_market.specs.Network.{own, trades_of};
+ghost use Rattle.tn_run.specs.Tested.{Tests};
+
+use std::alloc::Global;
+use tn_base::OutOfMemory;
+use tn_exchange::Verdict;
+use tn_file::RawNet;
+use tn_market::Said;
+
+/// Whether every firm of a network meets the exchange property, or else the first that doesn't, with its first failing
+/// triple.
+pub fn test(alloc: Global, net: &RawNet) -> Result<Said, OutOfMemory>
+    requires few_firms { length net.now.firms ≤ 128 }
+    requires few_trades { length net.now.ends ≤ 128 }
+    ensures answer { IfOk result (Tests (map raw_firm_of net.now.firms) net.now.ends) }
+    ensures sayable { IfOk result IsSayable }
+{
+    let mut f = 0;
+    for firm in net.firms() {
+        if let Verdict::Fails { x, y, at } = firm.test() {
+            let count = firm.trades();
+            return Ok(Said::ExchangeFails {
+                firm: f,
+                x: net.trades_in(alloc, f, count, x)?,
+                y: net.trades_in(alloc, f, count, y)?,
+                at: net.trade_at(f, at),
+            });
+        }
+        f += 1;
+    }
+    Ok(Said::Accepted)
+}

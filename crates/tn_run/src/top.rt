@@ -1,0 +1,127 @@
+//! The top call: words, reading, the answer, writing.
+
+ghost use Rattle.std.specs.Prelude.{◌≡◌, ◌≢◌, ◌⊎◌, None, Some, map, string_bytes};
+ghost use Rattle.tn_answer.specs.AnswerText.{answer_line};
+ghost use Rattle.tn_answer.specs.Names.{NameLists};
+ghost use Rattle.tn_answer.specs.Sayable.{IsSayable};
+ghost use Rattle.tn_io.specs.Sink.{Grows, GrowsByPrefix};
+ghost use Rattle.tn_run.specs.Answer.{MayBeSaid};
+ghost use Rattle.tn_run.specs.Run.{IsWritten, status_of};
+ghost use Rattle.tn_run.specs.Words.{command_of};
+ghost use Rattle.tn_run.specs.declared.command.Command.{Command};
+
+use crate::answer::answer_source;
+use crate::command::command_of;
+use std::alloc::Global;
+use tn_answer::{Names, answer_text, no_memory_text, read_fault_text, usage_text};
+use tn_base::OutOfMemory;
+use tn_io::{Sink, Source, SteadySink, SteadySource, WriteFailed, write_all};
+use tn_market::Said;
+
+/// What a run has come to: its exit status, and the answer whose text was written. Where the status is 4 a prefix of
+/// the text was written.
+#[derive(Debug, Drop)]
+pub struct Run {
+    pub status: u8,
+    pub said: Said,
+}
+
+/// The exit status of an answer that was written whole.
+fn status_of(said: &Said) -> u8
+    ensures { result ≡ status_of said.now }
+{
+    match said {
+        Said::Equilibrium { .. } | Said::Accepted => 0,
+        Said::Fault(_) => 1,
+        Said::Usage => 2,
+        Said::ReadFault => 3,
+        Said::NoMemory => 5,
+        Said::Better { .. } | Said::Impossible { .. } | Said::ExchangeFails { .. } => 6,
+    }
+}
+
+/// Writes the text of an answer.
+fn write_line<K: Sink>(sink: &mut K, line: &[u8], said: Said) -> Run
+    ensures said { result.said ≡ said }
+    ensures written { (names : NameLists) → line.now ≡ answer_line names said
+        → IsWritten (K.written sink.old) (K.written sink.new) (K.faults sink.old) (K.faults sink.new) names said result.status }
+{
+    match write_all(sink, line) {
+        Ok(()) => Run {
+            status: status_of(&said),
+            said,
+        },
+        Err(WriteFailed) => Run { status: 4, said },
+    }
+}
+
+/// Writes an answer, or that memory ran out before its text was whole.
+fn tell<K: Sink>(alloc: Global, names: &Names, said: Said, sink: &mut K) -> Run
+    requires { IsSayable said }
+    ensures said { (result.said ≡ said) ⊎ (result.said ≡ Said.NoMemory) }
+    ensures written { IsWritten (K.written sink.old) (K.written sink.new) (K.faults sink.old) (K.faults sink.new) names.now result.said result.status }
+{
+    match said {
+        Said::Usage => write_line(sink, usage_text(), said),
+        Said::ReadFault => write_line(sink, read_fault_text(), said),
+        Said::NoMemory => write_line(sink, no_memory_text(), said),
+        said => match answer_text(alloc, names, &said) {
+            Ok(text) => write_line(sink, &text, said),
+            Err(OutOfMemory) => write_line(sink, no_memory_text(), Said::NoMemory),
+        },
+    }
+}
+
+/// The run, with the names that the answer's text is over.
+fn run_with<S: Source, K: Sink>(
+    alloc: Global,
+    words: &[String],
+    source: &mut S,
+    sink: &mut K,
+    names: &mut Names,
+) -> Run
+    ensures usage { command_of (map string_bytes words.now) ≡ None → (result.said ≡ Said.Usage) × (source.new ≡ source.old) }
+    ensures answer { (command : Command) → command_of (map string_bytes words.now) ≡ Some command
+        → MayBeSaid command (S.left source.old) (S.left source.new) (S.faults source.old) (S.faults source.new) names.new result.said }
+    ensures written { IsWritten (K.written sink.old) (K.written sink.new) (K.faults sink.old) (K.faults sink.new) names.new result.said result.status }
+{
+    match command_of(words) {
+        None => write_line(sink, usage_text(), Said::Usage),
+        Some(command) => {
+            let said = answer_source(alloc, command, source, names);
+            tell(alloc, names, said, sink)
+        }
+    }
+}
+
+/// Runs the program on its words: reads the source, answers, and writes the answer's text to the sink.
+pub fn run_market<S: Source, K: Sink>(
+    alloc: Global,
+    words: &[String],
+    source: &mut S,
+    sink: &mut K,
+) -> Run
+    // Words that are no command: the source is as at entry.
+    ensures usage { command_of (map string_bytes words.now) ≡ None → (result.said ≡ Said.Usage) × (source.new ≡ source.old) }
+    // Words that are a command: what the source gave is answered. What was written is the answer's text, or a prefix.
+    ensures answer { (names : NameLists)
+        × ((command : Command) → command_of (map string_bytes words.now) ≡ Some command
+        → MayBeSaid command (S.left source.old) (S.left source.new) (S.faults source.old) (S.faults source.new) names result.said)
+        × IsWritten (K.written sink.old) (K.written sink.new) (K.faults sink.old) (K.faults sink.new) names result.said result.status }
+{
+    let mut names = Names::empty(alloc);
+    run_with(alloc, words, source, sink, &mut names)
+}
+
+/// The run over ends in memory that never fail: it ends by neither a failed read nor a failed write.
+pub fn run_steadily(
+    alloc: Global,
+    words: &[String],
+    source: &mut SteadySource,
+    sink: &mut SteadySink,
+) -> Run
+    ensures read { result.status ≢ 3 }
+    ensures written { result.status ≢ 4 }
+{
+    run_market(alloc, words, source, sink)
+}
