@@ -28,9 +28,8 @@ use Rattle.tn_file.specs.Document.{DocumentData, ExtraData, nothing, arrangement
 use Rattle.tn_file.specs.Laws.{IsDocument, IsExtra, IsArrangement, DocumentsAreNetworks}
 use Rattle.tn_file.proofs.LeadLemmas.{Leads, leads_ok, leads_bind, leads_after, leads_wanted, leads_beside, leads_as, leads_both}
 use Rattle.tn_file.proofs.NameLeads.{IsListWhileFew, AreListed, firms_lead, firms_count, trades_lead, trades_count, few_lead}
-use Rattle.tn_file.proofs.FirmLeads.{AreFirms, firms_are, firms_are_counted}
+use Rattle.tn_file.proofs.FirmLeads.{AreFirms, firms_are, firms_are_counted, network_of}
 use Rattle.tn_file.proofs.ArrangementLeads.{arrangement_leads}
-use Rattle.tn_file.proofs.NetworkLemmas.{HaveSides, network}
 
 limit_leads : (top : Data) → Leads (λ n. n ≤ 128) (version_limit top)
 unfolding version_limit
@@ -80,17 +79,11 @@ extra_leads Arrangement trades top = leads_bind (IsArrangement (length trades)) 
 extra_leads Market trades top = leads_ok (IsExtra (length trades)) nothing tt
 extra_leads Raw trades top = leads_ok (IsExtra (length trades)) nothing tt
 
-slice_get-map_from : {A B : Type 0} (f : A → B) (xs : List A) (k : ℕ) (y : B) → slice_get (map f xs) k ≡ Some y → (x : A) × (slice_get xs k ≡ Some x) × (f x ≡ y)
-slice_get-map_from f [] k y e = absurd (none-some _ e)
-slice_get-map_from f (x ∷ xs) zero y e = (x, refl, same_Some _ _ e)
-slice_get-map_from f (x ∷ xs) (suc k) y e = slice_get-map_from f xs k y e
-
-is_document : (need : Need) (found : Listed × Items) (tables : List TableRows) (extra : ExtraData) (listing : IsListing found)
-    → AreFirms (is_tested need) found.0 listing.trades tables → length tables ≡ items_len found.1 → IsExtra (length found.0.names.trades) extra
-    → IsDocument need (record { names = found.0.names; firms = tables; ends = found.0.ends; extra = extra })
-is_document need found tables extra listing are count is_extra =
-    let named : length found.0.names.firms ≡ length tables = omega (arith, listing.count, count) in
-    let firms_count : length (map firm_of_table tables) ≡ length found.0.names.firms = length-map tables firm_of_table ∙ sym named in
+is_document : (need : Need) (found : Listed × Items) (firms : List Firm) (extra : ExtraData) (listing : IsListing found)
+    → AreFirms (is_tested need) found.0 listing.trades firms → length firms ≡ items_len found.1 → IsExtra (length found.0.names.trades) extra
+    → IsDocument need (record { names = found.0.names; firms = firms; ends = found.0.ends; extra = extra })
+is_document need found firms extra listing are count is_extra =
+    let named : length found.0.names.firms ≡ length firms = omega (arith, listing.count, count) in
     record {
       firm_names = listing.firm_names;
       trade_names = listing.trade_names;
@@ -98,19 +91,11 @@ is_document need found tables extra listing are count is_extra =
       trades_named = listing.trades.named;
       few_firms = omega (arith, count, listing.few);
       few_trades = listing.trades.few;
-      tables = λ f table at. (are f table at).is_table;
-      network = network found.0.ends (map firm_of_table tables) (subst (λ n. AreInOrder n found.0.ends) (sym firms_count) listing.trades.order) have;
-      tested = λ is f table at. (are f table at).meets is;
+      tables = λ f firm at. (are f firm at).is_table;
+      network = network_of (is_tested need) found.0 listing.trades firms are named;
+      tested = λ is f firm at. (are f firm at).meets is;
       extra = subst (λ n. IsExtra n extra) listing.trades.named is_extra;
     }
-  where
-    have : HaveSides found.0.ends (map firm_of_table tables)
-    have f firm at =
-        let r = slice_get-map_from firm_of_table tables f firm at in
-        let sides = (are f r.0 r.1).is_table.sides in
-        ( ap (λ (x : Firm). x.count) (sym r.2) ∙ ap length sides
-        , ap (λ (x : Firm). x.buys) (sym r.2) ∙ ap buys_of sides
-        )
 
 document_leads : (need : Need) (top : Data) → Leads (IsDocument need) (document_of need top)
 unfolding document_of

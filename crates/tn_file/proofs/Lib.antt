@@ -6,7 +6,6 @@ pub mod FailureLemmas
 pub mod FirmLemmas
 pub mod PriceLemmas
 pub mod JsonLemmas
-pub mod PlainLemmas
 pub mod NetworkLemmas
 pub mod LeadLemmas
 pub mod TableLeads

@@ -30,7 +30,6 @@ use Rattle.tn_file.specs.declared.shapes.ObjectKind.TheVariants.{Table as TableO
 use Rattle.tn_file.specs.Reading.{each, holds}
 use Rattle.tn_file.specs.Tables.{firm_place, row_place}
 use Rattle.tn_file.specs.Shapes.{list_at, two_at, number_at, object_of}
-use Rattle.tn_file.specs.Laws.{IsTableOf}
 use Rattle.tn_file.proofs.EndsLemmas.{position_within}
 use Rattle.tn_file.proofs.LeadLemmas.{Leads, leads_ok, leads_bind, leads_after, leads_each, leads_wanted, leads_holds, leads_as, small_from_test}
 
@@ -41,6 +40,14 @@ number_leads limit place value = leads_after _ _ _ (λ z. leads_bind _ _ _ _ (le
 pub trade_leads : (trades : List (List ℕ)) (place : List PlaceStep) (value : Data) → Leads (λ t. t < length trades) (trade_at trades place value)
 unfolding trade_at
 trade_leads trades place value = leads_after _ _ _ (λ name. leads_as (λ t. number_of trades name ≡ Some t) _ _ (λ t e. slice_get_within trades t name (name_at_number trades name t e)) (leads_wanted _ _ _))
+
+-- the table of firm f is a list of numbers for bundles of its own trades, no bundle twice
+pub record IsTableOf (trades : List Ends) (f : ℕ) (table : TableRows) : Type 0 where
+  pub sides : table.sides ≡ sides_of trades f
+  pub within : IsWithinLimits table
+  pub rows : List (ℕ × ℤ)
+  pub apart : AreApart (length (sides_of trades f)) rows
+  pub is : firm_of_table table ≡ table_firm (sides_of trades f) rows
 
 -- one row more, for a bundle that has none yet
 row_in-append_none : (rows : List (ℕ × ℤ)) (next : ℕ × ℤ) (x : ℕ) → row_in rows x ≡ None → next.0 ≢ x → row_in (rows ++ next ∷ []) x ≡ None

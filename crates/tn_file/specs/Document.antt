@@ -3,7 +3,7 @@ use Rattle.std.specs.Prelude.{◌≡◌, ℕ, [], ◌∷◌, List, codes, Bool, 
 use Rattle.serde_json.specs.Data.{Data, Items}
 use Rattle.serde_json.specs.Find.{get, as_number, as_u64}
 use Rattle.tn_base.specs.declared.fault.FaultKind.TheVariants.{NotJson, Shape}
-use Rattle.tn_exchange.specs.Rows.{TableRows}
+use Rattle.tn_base.specs.Firm.{Firm}
 use Rattle.tn_market.specs.declared.ends.Ends.{Ends}
 use Rattle.tn_market.specs.declared.place.PlaceStep.TheVariants.{Word}
 use Rattle.tn_market.specs.declared.place.Word.TheVariants.{Version, Firms, Trades}
@@ -55,15 +55,15 @@ extra_of Arrangement trades top = do
   Ok (arrangement arranged)
 extra_of _ trades top = Ok nothing
 
--- firms as they are listed, and the ends of the trades in file order
+-- firms, and the ends of the trades in file order
 pub record NetData : Type 0 where
-  pub firms : List TableRows
+  pub firms : List Firm
   pub ends : List Ends
 
 -- what a document stands for
 pub record DocumentData : Type 0 where
   pub names : NameLists
-  pub firms : List TableRows
+  pub firms : List Firm
   -- the ends of the trades, in file order
   pub ends : List Ends
   pub extra : ExtraData

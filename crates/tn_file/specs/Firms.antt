@@ -2,7 +2,8 @@
 use Rattle.std.specs.Prelude.{◌≡◌, ℕ, ◌++◌, [], ◌∷◌, List, length, Bool, true, false, if◌then◌else◌, Option, Some, None, option_map, Result, Ok, Err}
 use Rattle.serde_json.specs.Data.{Data}
 use Rattle.tn_base.specs.declared.fault.FaultKind.TheVariants.{ExchangeFails}
-use Rattle.tn_exchange.specs.Rows.{TableRows}
+use Rattle.tn_base.specs.Firm.{Firm}
+use Rattle.tn_exchange.specs.Rows.{TableRows, firm_of_table}
 use Rattle.tn_exchange.specs.TestOrder.{Triple}
 use Rattle.tn_market.specs.declared.ends.Ends.{Ends}
 use Rattle.tn_market.specs.declared.said.Fault.{Fault}
@@ -28,16 +29,21 @@ unless_failing trades f count (Some t) = Err (failure_of trades f count t)
 unfoldable pub exchange_of : List Ends → ℕ → TableRows → Result (Unit {0}) Fault
 exchange_of trades f table = unless_failing trades f (length table.sides) (first_failure table)
 
+-- the firm of a table, which meets exchange where that is tested
+unfoldable pub tested_firm : Bool → List Ends → ℕ → TableRows → Result Firm Fault
+tested_firm tested trades f table = do
+  met ← if tested then exchange_of trades f table else Ok tt
+  Ok (firm_of_table table)
+
 -- firm f
-unfoldable pub firm_of : Bool → Listed → ℕ → Data → Result TableRows Fault
+unfoldable pub firm_of : Bool → Listed → ℕ → Data → Result Firm Fault
 firm_of tested listed f firm = do
   kind ← kind_of f firm
   table ← table_of listed f firm
-  met ← if tested then exchange_of listed.ends f table else Ok tt
-  Ok table
+  tested_firm tested listed.ends f table
 
 -- one more firm; its number is the count of those before it
-unfoldable pub one_firm : Bool → Listed → List TableRows → Data → Result (List TableRows) Fault
-one_firm tested listed tables firm = do
-  table ← firm_of tested listed (length tables) firm
-  Ok (tables ++ table ∷ [])
+unfoldable pub one_firm : Bool → Listed → List Firm → Data → Result (List Firm) Fault
+one_firm tested listed firms firm = do
+  next ← firm_of tested listed (length firms) firm
+  Ok (firms ++ next ∷ [])

@@ -1,26 +1,25 @@
 -- What holds of every document that is read, and of every fault, in words that know nothing of the reading.
-use Rattle.std.specs.Prelude.{◌≡◌, ℕ, ◌*◌, ◌^◌, ◌<◌, ◌≤◌, ℤ, List, length, map, slice_get, true, All, Option, Some, Result, Ok, Err}
+use Rattle.std.specs.Prelude.{◌≡◌, ℕ, ◌*◌, ◌^◌, ◌<◌, ◌≤◌, ℤ, List, length, slice_get, true, All, Option, Some, Result, Ok, Err}
 use Rattle.tn_base.specs.Arcs.{IsAtMost}
 use Rattle.tn_base.specs.Exchange.{MeetsExchange}
 use Rattle.tn_base.specs.Table.{table_firm}
-use Rattle.tn_exchange.specs.Rows.{TableRows, IsWithinLimits, firm_of_table}
+use Rattle.tn_base.specs.Firm.{Firm}
 use Rattle.tn_exchange.specs.RowsLaw.{AreApart}
 use Rattle.tn_market.specs.declared.ends.Ends.{Ends}
 use Rattle.tn_market.specs.Network.{IsNetwork}
 use Rattle.tn_answer.specs.Names.{IsNameList}
-use Rattle.tn_answer.specs.Sayable.{IsSayableFault}
 use Rattle.tn_file.specs.declared.need.Need.{Need}
 use Rattle.tn_file.specs.Naming.{sides_of}
 use Rattle.tn_file.specs.Arranged.{Arranged}
 use Rattle.tn_file.specs.Document.{DocumentData, ExtraData, nothing, arrangement, is_tested, reading_of}
 
--- the table of firm f is a list of numbers for bundles of its own trades, no bundle twice, each number within 10^9
-pub record IsTableOf (trades : List Ends) (f : ℕ) (table : TableRows) : Type 0 where
-  pub sides : table.sides ≡ sides_of trades f
-  pub within : IsWithinLimits table
+-- firm f is a list of numbers for bundles of its own trades, no bundle twice, each number within 10^9
+pub record IsTableFirm (trades : List Ends) (f : ℕ) (firm : Firm) : Type 0 where
   pub rows : List (ℕ × ℤ)
   pub apart : AreApart (length (sides_of trades f)) rows
-  pub is : firm_of_table table ≡ table_firm (sides_of trades f) rows
+  pub is : firm ≡ table_firm (sides_of trades f) rows
+  pub few : length (sides_of trades f) ≤ 10
+  pub small : (x : ℕ) (amount : ℤ) → firm.worth x ≡ Some amount → IsAtMost amount (10 ^ 9)
 
 -- a set of so many trades, and a price of at most 10^14 for each
 pub record IsArrangement (trades : ℕ) (part : Arranged) : Type 0 where
@@ -40,11 +39,11 @@ pub record IsDocument (need : Need) (doc : DocumentData) : Type 0 where
   pub trades_named : length doc.names.trades ≡ length doc.ends
   pub few_firms : length doc.firms ≤ 128
   pub few_trades : length doc.ends ≤ 128
-  pub tables : (f : ℕ) (table : TableRows) → slice_get doc.firms f ≡ Some table → IsTableOf doc.ends f table
+  pub tables : (f : ℕ) (firm : Firm) → slice_get doc.firms f ≡ Some firm → IsTableFirm doc.ends f firm
   -- each trade has two different firms of the list, and firms and trades fit together
-  pub network : IsNetwork (map firm_of_table doc.firms) doc.ends
+  pub network : IsNetwork doc.firms doc.ends
   -- each firm meets exchange, unless the network is read raw
-  pub tested : is_tested need ≡ true → (f : ℕ) (table : TableRows) → slice_get doc.firms f ≡ Some table → MeetsExchange (firm_of_table table)
+  pub tested : is_tested need ≡ true → (f : ℕ) (firm : Firm) → slice_get doc.firms f ≡ Some firm → MeetsExchange firm
   pub extra : IsExtra (length doc.ends) doc.extra
 
 -- every document that is read is one

@@ -8,5 +8,6 @@ pub mod Arranged
 pub mod Json
 pub mod Document
 pub mod Extra
+pub mod RawData
 pub mod Refusal
 pub mod Laws

@@ -1,16 +1,24 @@
 -- What the reader returned, against the reading.
-use Rattle.std.specs.Prelude.{◌≡◌, Result, Ok, Err}
+use Rattle.std.specs.Prelude.{◌≡◌, map, Result, Ok, Err}
+use Rattle.tn_firm.specs.Firms.{firm_of}
+use Rattle.tn_firm.specs.Raw.{raw_firm_of}
+use Rattle.tn_file.specs.declared.need.Need.{Need}
+use Rattle.tn_file.specs.declared.need.Need.TheVariants.{Market, Raw, Arrangement}
 use Rattle.tn_file.specs.declared.document.Document.{Document}
-use Rattle.tn_file.specs.declared.document.Loaded.TheVariants.{Raw}
+use Rattle.tn_file.specs.declared.document.Loaded.TheVariants.{Market as MarketIs, Raw as RawIs}
 use Rattle.tn_file.specs.declared.document.Loaded.{Loaded}
 use Rattle.tn_file.specs.declared.document.DocRefusal.{DocRefusal}
 use Rattle.tn_file.specs.declared.document.DocRefusal.TheVariants.{Fault, OutOfMemory}
+use Rattle.tn_file.specs.declared.extra.Extra.{Extra}
+use Rattle.tn_file.specs.declared.extra.Extra.TheVariants.{None as NothingIs, Arrangement as ArrangementIs}
 use Rattle.tn_file.specs.Reading.{Stop}
 use Rattle.tn_file.specs.Document.{NetData, DocumentData}
 use Rattle.tn_file.specs.Extra.{extra_view}
 
+-- the firms and the ends of a network that was read
 abbrev pub net_view : Loaded → NetData
-net_view (Raw net) = net
+net_view (MarketIs market) = record { firms = map firm_of market.firms; ends = market.trades }
+net_view (RawIs net) = record { firms = map raw_firm_of net.firms; ends = net.ends }
 
 -- what a document that was read stands for
 abbrev pub document_view : Document → DocumentData
@@ -21,3 +29,17 @@ abbrev pub Reads : Result Document DocRefusal → Result DocumentData Stop → T
 Reads (Ok doc) reading = reading ≡ Ok (document_view doc)
 Reads (Err (Fault fault names)) reading = reading ≡ Err (record { fault = fault; names = names })
 Reads (Err OutOfMemory) reading = Unit {0}
+
+-- a network is a market, unless it is read raw
+abbrev pub IsLoadedFor : Need → Loaded → Type 0
+IsLoadedFor Raw (RawIs net) = Unit {0}
+IsLoadedFor Raw (MarketIs market) = ⊥
+IsLoadedFor _ (MarketIs market) = Unit {0}
+IsLoadedFor _ (RawIs net) = ⊥
+
+-- there is an arrangement exactly where it is needed
+abbrev pub IsExtraFor : Need → Extra → Type 0
+IsExtraFor Arrangement (ArrangementIs part) = Unit {0}
+IsExtraFor Arrangement NothingIs = ⊥
+IsExtraFor _ NothingIs = Unit {0}
+IsExtraFor _ (ArrangementIs part) = ⊥

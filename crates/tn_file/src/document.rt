@@ -1,8 +1,8 @@
 use crate::extra::Extra;
 use std::marker::Model;
 use tn_answer::Names;
-use tn_exchange::RawTable;
-use tn_market::{Ends, Fault};
+use tn_firm::{FirmValue, RawFirm};
+use tn_market::{Ends, Fault, Market};
 
 /// A document that is read.
 #[derive(Drop)]
@@ -16,8 +16,10 @@ pub struct Document {
 }
 
 /// The network of a document.
-#[derive(Debug, Drop)]
+#[derive(Drop)]
 pub enum Loaded {
+    /// Firms that meet exchange, and the trades between them.
+    Market(Market<FirmValue>),
     /// Firms as they are listed.
     Raw(RawNet),
 }
@@ -25,14 +27,14 @@ pub enum Loaded {
 /// Firms as they are listed, and the two ends of each trade.
 #[derive(Debug, Drop)]
 pub struct RawNet {
-    firms: Vec<RawTable>,
+    firms: Vec<RawFirm>,
     ends: Vec<Ends>,
 }
 
 impl Model for RawNet {
-    ghost use Rattle.tn_file.specs.Document.{NetData};
+    ghost use Rattle.tn_file.specs.RawData.{RawData};
 
-    ghost Value = { NetData };
+    ghost Value = { RawData };
 
     ghost view = { λ net. record { firms = net.firms.items; ends = net.ends.items } };
 }
@@ -40,14 +42,14 @@ impl Model for RawNet {
 impl RawNet {
     ghost use Rattle.std.specs.Prelude.{◌≡◌};
 
-    pub(crate) fn new(firms: Vec<RawTable>, ends: Vec<Ends>) -> RawNet
+    pub(crate) fn new(firms: Vec<RawFirm>, ends: Vec<Ends>) -> RawNet
         ensures { result ≡ record { firms = firms.items; ends = ends.items } }
     {
         RawNet { firms, ends }
     }
 
     /// The firms.
-    pub fn firms(&self) -> &[RawTable]
+    pub fn firms(&self) -> &[RawFirm]
         ensures { result.now ≡ self.now.firms }
     {
         &self.firms

@@ -1,8 +1,9 @@
-ghost use Rattle.std.specs.Prelude.{◌≡◌, ◌≤◌, length};
+ghost use Rattle.std.specs.Prelude.{◌≡◌, ◌≤◌, length, IfOk};
 ghost use Rattle.serde_json.specs.View.{view};
 ghost use Rattle.tn_file.specs.Document.{extra_of};
 ghost use Rattle.tn_file.specs.Extra.{extra_view};
 ghost use Rattle.tn_file.specs.Reading.{Gives};
+ghost use Rattle.tn_file.specs.Refusal.{IsExtraFor};
 
 use crate::arrangement::read_arrangement;
 use crate::fault::ReadError;
@@ -30,7 +31,8 @@ pub(crate) fn read_extra(
     top: &Value,
 ) -> Result<Extra, ReadError>
     requires { length names.now.trades ≤ 128 }
-    ensures { Gives extra_view result (extra_of need names.now.trades (view top.now)) }
+    ensures gives { Gives extra_view result (extra_of need names.now.trades (view top.now)) }
+    ensures extra { IfOk result (IsExtraFor need) }
 {
     match need {
         Need::Market | Need::Raw => Ok(Extra::None),

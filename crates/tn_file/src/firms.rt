@@ -1,12 +1,12 @@
-ghost use Rattle.std.specs.Prelude.{◌≡◌, ◌<◌, ◌≤◌, [], length, option_map, Some, IfOk};
+ghost use Rattle.std.specs.Prelude.{◌≡◌, ◌<◌, ◌≤◌, [], length, map, option_map, Some, IfOk};
 ghost use Rattle.serde_json.specs.View.{view, items_view};
-ghost use Rattle.tn_file.specs.Firms.{exchange_of, firm_of, one_firm};
+ghost use Rattle.tn_file.specs.Firms.{firm_of, one_firm};
 ghost use Rattle.tn_file.specs.Naming.{Listed, sides_of};
 ghost use Rattle.tn_file.specs.Reading.{Gives, each};
 ghost use Rattle.tn_file.specs.Tables.{AreTrades, kind_of, table_of};
 
-use crate::failures::failure;
 use crate::fault::ReadError;
+use crate::made::FromTable;
 use crate::rows::read_rows;
 use crate::shapes::{ObjectKind, check, list, object_of, text};
 use crate::steps::{FIRMS, KIND, ROWS};
@@ -15,54 +15,49 @@ use serde_json::Value;
 use std::alloc::Global;
 use tn_answer::Names;
 use tn_base::FaultKind;
-use tn_exchange::{RawTable, Verdict, test};
+use tn_exchange::RawTable;
 use tn_market::Ends;
 use tn_market::PlaceStep::Index;
 
 /// The most own trades of a table firm.
 const TABLE_LIMIT: u32 = 10;
 
-/// The tables of the firms, each of which meets exchange where that is tested.
-pub(crate) fn read_firms(
+/// The firms in their order.
+pub(crate) fn read_firms<F: FromTable + Drop>(
     alloc: Global,
-    tested: bool,
     names: &Names,
     ends: &[Ends],
     firms: &[Value],
-) -> Result<Vec<RawTable>, ReadError>
+) -> Result<Vec<F>, ReadError>
     requires trades { AreTrades (record { names = names.now; ends = ends.now }) }
     requires few { length firms.now ≤ 128 }
-    ensures { Gives (λ tables. tables.items) result
-        (each (one_firm tested (record { names = names.now; ends = ends.now })) [] (items_view firms.now)) }
+    ensures { Gives (λ made. map F.firm made.items) result
+        (each (one_firm F.tested (record { names = names.now; ends = ends.now })) [] (items_view firms.now)) }
 {
-    let mut tables = Vec::new(alloc);
+    let mut made = Vec::new(alloc);
     for firm in firms {
-        let f = tables.len() as u32;
-        let table = firm_of(alloc, tested, names, ends, f, firm)?;
-        tables.push(table)?;
+        let f = made.len() as u32;
+        let next = firm_of(alloc, names, ends, f, firm)?;
+        made.push(next)?;
     }
-    Ok(tables)
+    Ok(made)
 }
 
 #[tactic(auto, unfolding(crate::specs::Firms::firm_of))]
-fn firm_of(
+fn firm_of<F: FromTable>(
     alloc: Global,
-    tested: bool,
     names: &Names,
     ends: &[Ends],
     f: u32,
     firm: &Value,
-) -> Result<RawTable, ReadError>
+) -> Result<F, ReadError>
     requires { AreTrades (record { names = names.now; ends = ends.now }) }
-    ensures { Gives (λ table. table) result
-        (firm_of tested (record { names = names.now; ends = ends.now }) f (view firm.now)) }
+    ensures { Gives F.firm result
+        (firm_of F.tested (record { names = names.now; ends = ends.now }) f (view firm.now)) }
 {
     check_kind(alloc, f, firm)?;
     let table = table_of(alloc, names, ends, f, firm)?;
-    if tested {
-        check_exchange(alloc, ends, f, &table)?;
-    }
-    Ok(table)
+    F::from_table(alloc, ends, f, table)
 }
 
 /// Whether the kind of a firm is one of those that are known.
@@ -93,18 +88,4 @@ fn table_of(
     check(alloc, few, FaultKind::Limit, &place)?;
     let rows = list(alloc, firm.get("rows"), &[FIRMS, Index(f), ROWS])?;
     read_rows(alloc, names, ends, f, rows)
-}
-
-/// Whether a table meets exchange.
-fn check_exchange(alloc: Global, ends: &[Ends], f: u32, table: &RawTable) -> Result<(), ReadError>
-    requires { length ends.now ≤ 128 }
-    ensures { Gives (λ _. tt) result (exchange_of ends.now f table.now) }
-{
-    match test(table) {
-        Verdict::Holds => Ok(()),
-        Verdict::Fails { x, y, at } => {
-            let fault = failure(alloc, ends, f, table.trades(), x, y, at)?;
-            Err(ReadError::Fault(fault))
-        }
-    }
 }

@@ -7,6 +7,7 @@ mod extra;
 mod failures;
 mod fault;
 mod firms;
+mod made;
 mod names;
 mod need;
 mod network;

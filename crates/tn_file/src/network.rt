@@ -1,12 +1,15 @@
-ghost use Rattle.std.specs.Prelude.{◌≡◌, ◌≤◌, length, IfOk};
+ghost use Rattle.std.specs.Prelude.{◌≡◌, ◌≤◌, [], length, IfOk};
 ghost use Rattle.serde_json.specs.View.{view, items_view};
 ghost use Rattle.tn_answer.specs.Names.{no_names};
 ghost use Rattle.tn_file.specs.Document.{DocumentData, document_of, is_tested, listed_of, version_limit};
 ghost use Rattle.tn_file.specs.Extra.{extra_view};
 ghost use Rattle.tn_file.specs.Naming.{Listed};
-ghost use Rattle.tn_file.specs.Reading.{Gives, GivesBeside};
+ghost use Rattle.tn_file.specs.Firms.{one_firm};
+ghost use Rattle.tn_file.specs.Reading.{Gives, GivesBeside, each};
+ghost use Rattle.tn_file.specs.Refusal.{IsExtraFor, IsLoadedFor, net_view};
 ghost use Rattle.tn_file.specs.Tables.{AreTrades};
 
+use crate::document::{Loaded, RawNet};
 use crate::extra::{Extra, read_extra};
 use crate::fault::ReadError;
 use crate::firms::read_firms;
@@ -19,14 +22,13 @@ use serde_json::Value;
 use std::alloc::Global;
 use tn_answer::Names;
 use tn_base::FaultKind;
-use tn_exchange::RawTable;
-use tn_market::Ends;
+use tn_firm::{FirmValue, RawFirm};
+use tn_market::{Ends, Market};
 
 /// What a document has beside its names.
 #[derive(Drop)]
 pub(crate) struct Parts {
-    pub(crate) firms: Vec<RawTable>,
-    pub(crate) ends: Vec<Ends>,
+    pub(crate) firms: Loaded,
     pub(crate) extra: Extra,
 }
 
@@ -39,23 +41,43 @@ pub(crate) fn read_document(
     top: &Value,
 ) -> Result<Parts, ReadError>
     requires { names.old ≡ no_names }
-    ensures { GivesBeside names.new
-        (λ p. record { names = names.new; firms = p.firms.items; ends = p.ends.items; extra = extra_view p.extra })
+    ensures gives { GivesBeside names.new
+        (λ p. record { names = names.new; firms = (net_view p.firms).firms; ends = (net_view p.firms).ends; extra = extra_view p.extra })
         result (document_of need (view top.now)) }
+    ensures loaded { IfOk result (λ p. IsLoadedFor need p.firms) }
+    ensures extra { IfOk result (λ p. IsExtraFor need p.extra) }
 {
     let (ends, firms) = read_listed(alloc, names, top)?;
-    let firms = read_firms(alloc, is_tested(need), names, &ends, firms)?;
+    let firms = load(alloc, need, names, ends, firms)?;
     let extra = read_extra(alloc, need, names, top)?;
-    Ok(Parts { firms, ends, extra })
+    Ok(Parts { firms, extra })
 }
 
-/// Whether each firm is to meet exchange.
-fn is_tested(need: Need) -> bool
-    ensures { result ≡ is_tested need }
+/// Reads the firms, and puts them and the trades together as the need has it.
+fn load(
+    alloc: Global,
+    need: Need,
+    names: &Names,
+    ends: Vec<Ends>,
+    firms: &[Value],
+) -> Result<Loaded, ReadError>
+    requires trades { AreTrades (record { names = names.now; ends = ends.items }) }
+    requires count { length names.now.firms ≡ length firms.now }
+    requires few { length firms.now ≤ 128 }
+    ensures gives { Gives (λ l. (net_view l).firms) result
+        (each (one_firm (is_tested need) (record { names = names.now; ends = ends.items })) [] (items_view firms.now)) }
+    ensures ends { IfOk result (λ l. (net_view l).ends ≡ ends.items) }
+    ensures loaded { IfOk result (IsLoadedFor need) }
 {
     match need {
-        Need::Raw => false,
-        Need::Market | Need::Arrangement => true,
+        Need::Raw => {
+            let firms = read_firms::<RawFirm>(alloc, names, &ends, firms)?;
+            Ok(Loaded::Raw(RawNet::new(firms, ends)))
+        }
+        Need::Market | Need::Arrangement => {
+            let firms = read_firms::<FirmValue>(alloc, names, &ends, firms)?;
+            Ok(Loaded::Market(Market::new(alloc, firms, ends)?))
+        }
     }
 }
 
@@ -71,6 +93,7 @@ fn read_listed<'a>(
         (λ p. (record { names = names.new; ends = p.0.items }, items_view p.1.now))
         result (listed_of (view top.now)) }
     ensures trades { IfOk result (λ p. AreTrades (record { names = names.new; ends = p.0.items })) }
+    ensures count { IfOk result (λ p. length names.new.firms ≡ length p.1.now) }
     ensures few { IfOk result (λ p. length p.1.now ≤ 128) }
 {
     object_of(alloc, ObjectKind::Top, Some(top), &[])?;

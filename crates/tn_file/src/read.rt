@@ -1,4 +1,4 @@
-ghost use Rattle.std.specs.Prelude.{◌≡◌, []};
+ghost use Rattle.std.specs.Prelude.{◌≡◌, [], IfOk};
 ghost use Rattle.serde_json.specs.View.{view};
 ghost use Rattle.tn_base.specs.declared.fault.FaultKind.TheVariants.{NotJson};
 ghost use Rattle.tn_answer.specs.Names.{no_names};
@@ -6,9 +6,9 @@ ghost use Rattle.tn_file.specs.Document.{DocumentData, reading_of};
 ghost use Rattle.tn_file.specs.Extra.{extra_view};
 ghost use Rattle.tn_file.specs.Json.{json_of};
 ghost use Rattle.tn_file.specs.Reading.{Gives, GivesBeside, wanted};
-ghost use Rattle.tn_file.specs.Refusal.{Reads};
+ghost use Rattle.tn_file.specs.Refusal.{IsExtraFor, IsLoadedFor, Reads, net_view};
 
-use crate::document::{DocRefusal, Document, Loaded, RawNet};
+use crate::document::{DocRefusal, Document};
 use crate::fault::ReadError;
 use crate::need::Need;
 use crate::network::{Parts, read_document};
@@ -21,12 +21,14 @@ use tn_base::FaultKind;
 /// Reads a document from its bytes: what they stand for, or the first fault.
 pub fn read_doc(alloc: Global, need: Need, bytes: &[u8]) -> Result<Document, DocRefusal>
     ensures exact { Reads result (reading_of need bytes.now) }
+    ensures loaded { IfOk result (λ doc. IsLoadedFor need doc.firms) }
+    ensures extra { IfOk result (λ doc. IsExtraFor need doc.extra) }
 {
     let mut names = Names::empty(alloc);
     match read_parts(alloc, need, &mut names, bytes) {
-        Ok(Parts { firms, ends, extra }) => Ok(Document {
+        Ok(Parts { firms, extra }) => Ok(Document {
             names,
-            firms: Loaded::Raw(RawNet::new(firms, ends)),
+            firms,
             extra,
         }),
         Err(ReadError::Fault(fault)) => Err(DocRefusal::Fault { fault, names }),
@@ -43,9 +45,11 @@ fn read_parts(
     bytes: &[u8],
 ) -> Result<Parts, ReadError>
     requires { names.old ≡ no_names }
-    ensures { GivesBeside names.new
-        (λ p. record { names = names.new; firms = p.firms.items; ends = p.ends.items; extra = extra_view p.extra })
+    ensures gives { GivesBeside names.new
+        (λ p. record { names = names.new; firms = (net_view p.firms).firms; ends = (net_view p.firms).ends; extra = extra_view p.extra })
         result (reading_of need bytes.now) }
+    ensures loaded { IfOk result (λ p. IsLoadedFor need p.firms) }
+    ensures extra { IfOk result (λ p. IsExtraFor need p.extra) }
 {
     let top = value_of(alloc, bytes)?;
     read_document(alloc, need, names, &top)

@@ -1,4 +1,4 @@
-use Rattle.std.proofs.Common.{◌≡◌, length, drop, []}
+use Rattle.std.proofs.Common.{◌≡◌, length, drop, map, []}
 use Rattle.serde_json.specs.View.{items_view}
 use Rattle.tn_file.specs.Reading.{each}
 use Rattle.tn_file.specs.Naming.{Listed}
@@ -6,7 +6,7 @@ use Rattle.tn_file.specs.Firms.{one_firm}
 use Rattle.tn_file.proofs.firms.read_firms.Given as goal
 
 abbrev pub invariant-loop-firm : goal.invariant-loop-firm
-invariant-loop-firm l = record {
-  count : length l.tables.items ≡ l.firm-index;
-  rest : each (one_firm l.tested (record { names = l.names; ends = l.ends })) l.tables.items (items_view (drop l.firm-index l.firms)) ≡ each (one_firm l.tested (record { names = l.names; ends = l.ends })) [] (items_view l.firms);
+invariant-loop-firm g l = record {
+  count : length l.made.items ≡ l.firm-index;
+  rest : each (one_firm g.F.FromTable.tested (record { names = l.names; ends = l.ends })) (map g.F.FromTable.firm l.made.items) (items_view (drop l.firm-index l.firms)) ≡ each (one_firm g.F.FromTable.tested (record { names = l.names; ends = l.ends })) [] (items_view l.firms);
 }

@@ -1,0 +1,74 @@
+ghost use Rattle.std.specs.Prelude.{◌≡◌, ◌≤◌, Bool, length};
+ghost use Rattle.tn_base.specs.Firm.{Firm};
+ghost use Rattle.tn_file.specs.Firms.{tested_firm};
+ghost use Rattle.tn_file.specs.Reading.{Gives};
+
+use crate::failures::failure;
+use crate::fault::ReadError;
+use std::alloc::Global;
+use tn_exchange::RawTable;
+use tn_firm::{FirmValue, RawFirm};
+use tn_market::Ends;
+use tn_table::{Table, TableRefused};
+
+/// A firm that can be made of a table. Where it is to meet exchange, this is the one time that the table is tested.
+pub(crate) trait FromTable: Sized {
+    /// Whether it is to meet exchange.
+    ghost tested: { Bool };
+
+    /// The firm, as the definitions see it.
+    ghost firm: { Self → Firm };
+
+    /// Firm `f` over the trades with these ends, or the fault that its table fails exchange.
+    fn from_table(
+        alloc: Global,
+        ends: &[Ends],
+        f: u32,
+        table: RawTable,
+    ) -> Result<Self, ReadError>
+        requires { length ends.now ≤ 128 }
+        ensures { Gives firm result (tested_firm tested ends.now f table) };
+}
+
+impl FromTable for RawFirm {
+    ghost use Rattle.std.specs.Prelude.{false};
+    ghost use Rattle.tn_firm.specs.Raw.{raw_firm_of};
+
+    ghost tested = { false };
+
+    ghost firm = { raw_firm_of };
+
+    #[tactic(auto, unfolding(crate::specs::Firms::tested_firm))]
+    fn from_table(
+        _alloc: Global,
+        _ends: &[Ends],
+        _f: u32,
+        table: RawTable,
+    ) -> Result<RawFirm, ReadError> {
+        Ok(RawFirm::Table(table))
+    }
+}
+
+impl FromTable for FirmValue {
+    ghost use Rattle.std.specs.Prelude.{true};
+    ghost use Rattle.tn_firm.specs.Firms.{firm_of};
+
+    ghost tested = { true };
+
+    ghost firm = { firm_of };
+
+    fn from_table(
+        alloc: Global,
+        ends: &[Ends],
+        f: u32,
+        table: RawTable,
+    ) -> Result<FirmValue, ReadError> {
+        match Table::new(table) {
+            Ok(table) => Ok(FirmValue::Table(table)),
+            Err(TableRefused { raw, x, y, at }) => {
+                let fault = failure(alloc, ends, f, raw.trades(), x, y, at)?;
+                Err(ReadError::Fault(fault))
+            }
+        }
+    }
+}
