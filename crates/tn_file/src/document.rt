@@ -1,8 +1,11 @@
 use crate::extra::Extra;
+use crate::failures::{own_option, trades_of};
+use std::alloc::Global;
 use std::marker::Model;
 use tn_answer::Names;
+use tn_base::{Bundle, OutOfMemory};
 use tn_firm::{FirmValue, RawFirm};
-use tn_market::{Ends, Fault, Market};
+use tn_market::{Ends, Fault, Market, Trades};
 
 /// A document that is read.
 #[derive(Drop)]
@@ -40,7 +43,8 @@ impl Model for RawNet {
 }
 
 impl RawNet {
-    ghost use Rattle.std.specs.Prelude.{◌≡◌};
+    ghost use Rattle.std.specs.Prelude.{◌≡◌, ◌≤◌, length, option_map, IfOk};
+    ghost use Rattle.tn_market.specs.Network.{own, trades_of};
 
     pub(crate) fn new(firms: Vec<RawFirm>, ends: Vec<Ends>) -> RawNet
         ensures { result ≡ record { firms = firms.items; ends = ends.items } }
@@ -60,6 +64,29 @@ impl RawNet {
         ensures { result.now ≡ self.now.ends }
     {
         &self.ends
+    }
+
+    /// The trades of firm `f`, which has `count` own trades, in a bundle, ascending.
+    pub fn trades_in(
+        &self,
+        alloc: Global,
+        f: u32,
+        count: u32,
+        bundle: Bundle,
+    ) -> Result<Trades, OutOfMemory>
+        requires few { length self.now.ends ≤ 128 }
+        requires count { count ≤ 64 }
+        ensures { IfOk result (λ trades. trades ≡ trades_of self.now.ends f count bundle) }
+    {
+        Ok(Trades::from_vec(trades_of(alloc, &self.ends, f, count, bundle)?))
+    }
+
+    /// The trade at a position of firm `f`, where there is one.
+    pub fn trade_at(&self, f: u32, at: Option<u32>) -> Option<u32>
+        requires { length self.now.ends ≤ 128 }
+        ensures { result ≡ option_map (own self.now.ends f) at }
+    {
+        own_option(&self.ends, f, at)
     }
 }
 

@@ -39,7 +39,7 @@ pub(crate) fn failure(
 }
 
 /// The trades of firm `f` in a bundle, ascending.
-fn trades_of(
+pub(crate) fn trades_of(
     alloc: Global,
     ends: &[Ends],
     f: u32,
@@ -59,7 +59,8 @@ fn trades_of(
     Ok(trades)
 }
 
-fn own_option(ends: &[Ends], f: u32, at: Option<u32>) -> Option<u32>
+/// The trade at a position of firm `f`, where there is one.
+pub(crate) fn own_option(ends: &[Ends], f: u32, at: Option<u32>) -> Option<u32>
     requires { length ends.now ≤ 128 }
     ensures { result ≡ option_map (own ends.now f) at }
 {

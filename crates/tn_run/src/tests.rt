@@ -1,4 +1,4 @@
-//! Whole runs on the documents that are taken so far, and over ends that fail.
+//! Whole runs on documents, and over ends that fail.
 
 use crate::{Run, run_market, run_steadily};
 use std::alloc::Global;
@@ -39,6 +39,134 @@ fn run_on(alloc: Global, texts: &[&str], document: Vec<u8>) -> Result<(u8, Vec<u
     let run = run_steadily(alloc, &words, &mut source, &mut sink);
     let text = sink.written().ok_or("more than the room was written")?;
     Ok((run.status, text.to_vec(alloc)?))
+}
+
+/// A command, a document, the status, and the text without its line end.
+type Case = (&'static str, &'static str, u8, &'static str);
+
+fn agrees(alloc: Global, case: &Case) -> Result<bool, Fail> {
+    let document = case.1.as_bytes().to_vec(alloc)?;
+    let (status, written) = run_on(alloc, &[case.0], document)?;
+    Ok(status == case.2 && written.strip_suffix(b"\n") == Some(case.3.as_bytes()))
+}
+
+/// Networks with a dealer, with complements and with tied pairs.
+const NETWORKS: [Case; 6] = [
+    (
+        "test",
+        r#"{"version":1,"firms":[{"name":"S","kind":"table","rows":[[["a"],-1]]},{"name":"M","kind":"table","rows":[[[],0],[["a","b"],5]]},{"name":"B","kind":"table","rows":[[["b"],6]]}],"trades":[{"name":"a","seller":"S","buyer":"M"},{"name":"b","seller":"M","buyer":"B"}]}"#,
+        0,
+        r#"{"answer":"accepted"}"#,
+    ),
+    (
+        "check",
+        r#"{"version":1,"firms":[{"name":"S","kind":"table","rows":[[["a"],-1]]},{"name":"M","kind":"table","rows":[[[],0],[["a","b"],5]]},{"name":"B","kind":"table","rows":[[["b"],6]]}],"trades":[{"name":"a","seller":"S","buyer":"M"},{"name":"b","seller":"M","buyer":"B"}],"arrangement":{"on":[],"prices":[["a",0],["b",6]]}}"#,
+        6,
+        r#"{"answer":"better","bundle":["a","b"],"firm":"M","gain":11}"#,
+    ),
+    (
+        "test",
+        r#"{"version":1,"firms":[{"name":"S","kind":"table","rows":[[["a"],-1],[["b"],-1],[["a","b"],-2]]},{"name":"B","kind":"table","rows":[[["a"],0],[["b"],0],[["a","b"],10]]}],"trades":[{"name":"a","seller":"S","buyer":"B"},{"name":"b","seller":"S","buyer":"B"}]}"#,
+        6,
+        r#"{"answer":"exchange_fails","at":"a","firm":"B","x":["a","b"],"y":[]}"#,
+    ),
+    (
+        "check",
+        r#"{"version":1,"firms":[{"name":"S","kind":"table","rows":[[["a"],-1],[["b"],-1],[["a","b"],-2]]},{"name":"B","kind":"table","rows":[[["a"],0],[["b"],0],[["a","b"],10]]}],"trades":[{"name":"a","seller":"S","buyer":"B"},{"name":"b","seller":"S","buyer":"B"}],"arrangement":{"on":[],"prices":[["a",0],["b",0]]}}"#,
+        1,
+        r#"{"answer":"fault","at":"a","fault":16,"name":"ExchangeFails","place":["firms",1],"x":["a","b"],"y":[]}"#,
+    ),
+    (
+        "test",
+        r#"{"version":1,"firms":[{"name":"S","kind":"table","rows":[[["a1"],0],[["a2"],0],[["a1","a2"],0]]},{"name":"M","kind":"table","rows":[[["a1","b1"],5],[["a2","b2"],5]]},{"name":"B","kind":"table","rows":[[["b1"],0],[["b2"],0],[["b1","b2"],0]]}],"trades":[{"name":"a1","seller":"S","buyer":"M"},{"name":"a2","seller":"S","buyer":"M"},{"name":"b1","seller":"M","buyer":"B"},{"name":"b2","seller":"M","buyer":"B"}]}"#,
+        6,
+        r#"{"answer":"exchange_fails","at":"a2","firm":"M","x":["a2","b2"],"y":["a1","b1"]}"#,
+    ),
+    (
+        "check",
+        r#"{"version":2,"firms":[{"name":"S","kind":"table","rows":[[["a"],-3]]},{"name":"B","kind":"table","rows":[[["a"],5]]}],"trades":[{"name":"a","seller":"S","buyer":"B"}],"arrangement":{"on":["a"],"prices":[["a",4]]}}"#,
+        0,
+        r#"{"answer":"equilibrium","surplus":2}"#,
+    ),
+];
+
+/// Faults with their places, as they are written.
+const FAULTS: [Case; 8] = [
+    (
+        "check",
+        r#"{"version":1,"firms":[{"name":"S","kind":"table","rows":[[["a"],-3]]},{"name":"B","kind":"table","rows":[[["a"],5]]}],"trades":[{"name":"a","seller":"S","buyer":"B"}],"arrangement":{"on":[],"prices":[]}}"#,
+        1,
+        r#"{"answer":"fault","fault":18,"name":"PriceMissing","place":["arrangement","prices","a"]}"#,
+    ),
+    (
+        "check",
+        r#"{"version":1,"firms":[{"name":"S","kind":"table","rows":[[["a"],-3]]},{"name":"B","kind":"table","rows":[[["a"],5]]}],"trades":[{"name":"a","seller":"S","buyer":"B"}],"arrangement":{"on":["a","a"],"prices":[]}}"#,
+        1,
+        r#"{"answer":"fault","fault":17,"name":"SameTrade","place":["arrangement","on",1]}"#,
+    ),
+    (
+        "check",
+        r#"{"version":1,"firms":[{"name":"S","kind":"table","rows":[[["z"],-3]]},{"name":"B","kind":"table","rows":[[["a"],5]]}],"trades":[{"name":"a","seller":"S","buyer":"B"}]}"#,
+        1,
+        r#"{"answer":"fault","fault":8,"name":"UnknownTrade","place":["firms",0,"rows",0,0,0]}"#,
+    ),
+    (
+        "check",
+        r#"{"version":1,"firms":[{"name":"S","kind":"table","rows":[[["a"],-3],[["a"],-2]]},{"name":"B","kind":"table","rows":[[["a"],5]]}],"trades":[{"name":"a","seller":"S","buyer":"B"}]}"#,
+        1,
+        r#"{"answer":"fault","fault":12,"name":"SameBundle","place":["firms",0,"rows",1]}"#,
+    ),
+    (
+        "check",
+        r#"{"version":1,"firms":[{"name":"S","kind":"table","rows":[[["a"],-1000000000]]},{"name":"B","kind":"table","rows":[[["a"],1000000001]]}],"trades":[{"name":"a","seller":"S","buyer":"B"}]}"#,
+        1,
+        r#"{"answer":"fault","fault":10,"name":"AmountRange","place":["firms",1,"rows",0,1]}"#,
+    ),
+    (
+        "check",
+        r#"{"version":1,"firms":[{"name":"S","kind":"table","rows":[[["a"],-3]]},{"name":"B","kind":"table","rows":[[["a"],5]]}],"trades":[{"name":"a","seller":"S","buyer":"B"}],"arrangement":{"on":["a"],"prices":[["a",100000000000001]]}}"#,
+        1,
+        r#"{"answer":"fault","fault":10,"name":"AmountRange","place":["arrangement","prices",0,1]}"#,
+    ),
+    (
+        "check",
+        r#"{"version":1,"firms":[{"name":"S","kind":"table","rows":[[["a"],-3]]},{"name":"B","kind":"table","rows":[[["a"],5]]}],"trades":[{"name":"a","seller":"S","buyer":"B"}],"arrangement":{"on":["a"],"prices":[["a",100000000000000]]}}"#,
+        6,
+        r#"{"answer":"better","bundle":[],"firm":"B","gain":99999999999995}"#,
+    ),
+    (
+        "solve",
+        r#"{"version":1}"#,
+        2,
+        r#"{"answer":"usage"}"#,
+    ),
+];
+
+#[test]
+fn answers_networks(rt: HostRuntime) -> Result<(), Fail> {
+    for case in &NETWORKS {
+        assert!(rt; agrees(rt.alloc(), case)?, "{}", case.3);
+    }
+    Ok(())
+}
+
+#[test]
+fn tells_faults_with_their_places(rt: HostRuntime) -> Result<(), Fail> {
+    for case in &FAULTS {
+        assert!(rt; agrees(rt.alloc(), case)?, "{}", case.3);
+    }
+    Ok(())
+}
+
+#[test]
+fn takes_no_document_that_is_cut(rt: HostRuntime) -> Result<(), Fail> {
+    for length in 0..DEAL.len() {
+        let document = DEAL[..length].to_vec(rt.alloc())?;
+        let (status, written) = run_on(rt.alloc(), &["check"], document)?;
+        assert_eq!(rt; status, 1);
+        assert_eq!(rt; written.as_slice(), NOT_JSON.as_bytes());
+    }
+    Ok(())
 }
 
 #[test]
