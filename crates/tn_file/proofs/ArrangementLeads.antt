@@ -28,13 +28,13 @@ module _ (trades : List (List ℕ)) where
   unfolding new_trade
   new_trade_leads place named value =
       leads_bind (λ t. t < length trades) (λ t. t < length trades) (trade_at trades place value) _ (trade_leads trades place value) (λ t known.
-        leads_after (λ t. t < length trades) (holds SameTrade place (not (has named t))) _ (λ u. leads_ok (λ t. t < length trades) t known))
+      leads_after (λ t. t < length trades) (holds SameTrade place (not (has named t))) _ (λ u. leads_ok (λ t. t < length trades) t known))
 
   one_on_leads : (on : ℕ) (value : Data) → on < 2 ^ length trades → Leads (λ next. next < 2 ^ length trades) (one_on trades on value)
   unfolding one_on
   one_on_leads on value below =
       leads_bind (λ t. t < length trades) (λ next. next < 2 ^ length trades) (new_trade trades (Word Arrangement ∷ Word On ∷ Index (size on) ∷ []) on value) _ (new_trade_leads (Word Arrangement ∷ Word On ∷ Index (size on) ∷ []) on value) (λ t known.
-        leads_ok (λ next. next < 2 ^ length trades) (toggle on t) (toggle_within on t (length trades) below known))
+      leads_ok (λ next. next < 2 ^ length trades) (toggle on t) (toggle_within on t (length trades) below known))
 
   -- small prices, one for each trade
   pub record ArePrices (prices : List ℤ) : Type 0 where
@@ -45,18 +45,18 @@ module _ (trades : List (List ℕ)) where
   unfolding entry_of
   entry_leads k named entry =
       leads_after (λ p. IsAtMost p.1 (10 ^ 14)) (two_at (Word Arrangement ∷ Word Prices ∷ Index k ∷ []) entry) _ (λ two.
-        leads_after (λ p. IsAtMost p.1 (10 ^ 14)) (new_trade trades (Word Arrangement ∷ Word Prices ∷ Index k ∷ Index 0 ∷ []) named two.0) _ (λ t.
-          leads_bind (λ z. IsAtMost z (10 ^ 14)) (λ p. IsAtMost p.1 (10 ^ 14)) (number_at (10 ^ 14) (Word Arrangement ∷ Word Prices ∷ Index k ∷ Index 1 ∷ []) two.1) _ (number_leads (10 ^ 14) (Word Arrangement ∷ Word Prices ∷ Index k ∷ Index 1 ∷ []) two.1) (λ z small.
-            leads_ok (λ p. IsAtMost p.1 (10 ^ 14)) (t, z) small)))
+      leads_after (λ p. IsAtMost p.1 (10 ^ 14)) (new_trade trades (Word Arrangement ∷ Word Prices ∷ Index k ∷ Index 0 ∷ []) named two.0) _ (λ t.
+      leads_bind (λ z. IsAtMost z (10 ^ 14)) (λ p. IsAtMost p.1 (10 ^ 14)) (number_at (10 ^ 14) (Word Arrangement ∷ Word Prices ∷ Index k ∷ Index 1 ∷ []) two.1) _ (number_leads (10 ^ 14) (Word Arrangement ∷ Word Prices ∷ Index k ∷ Index 1 ∷ []) two.1) (λ z small.
+      leads_ok (λ p. IsAtMost p.1 (10 ^ 14)) (t, z) small)))
 
   one_price_leads : (priced : Priced) (entry : Data) → ArePrices priced.prices → Leads (λ next. ArePrices next.prices) (one_price trades priced entry)
   unfolding one_price
   one_price_leads priced entry are =
       leads_bind (λ p. IsAtMost p.1 (10 ^ 14)) (λ next. ArePrices next.prices) (entry_of trades (size priced.named) priced.named entry) _ (entry_leads (size priced.named) priced.named entry) (λ next small.
-        leads_ok (λ next. ArePrices next.prices) (record { named = toggle priced.named next.0; prices = slice_set priced.prices next.0 next.1 }) (record {
-          count = length-set priced.prices next.0 next.1 ∙ are.count;
-          small = All-set (λ z. IsAtMost z (10 ^ 14)) priced.prices next.0 next.1 small are.small;
-        }))
+      leads_ok (λ next. ArePrices next.prices) (record { named = toggle priced.named next.0; prices = slice_set priced.prices next.0 next.1 }) (record {
+        count = length-set priced.prices next.0 next.1 ∙ are.count;
+        small = All-set (λ z. IsAtMost z (10 ^ 14)) priced.prices next.0 next.1 small are.small;
+      }))
 
   zeros : ArePrices (replicate (length trades) (pos 0))
   zeros = record { count = length-replicate (length trades) (pos 0); small = All-replicate (λ z. IsAtMost z (10 ^ 14)) (length trades) (pos 0) (search (arith, ints)) }
@@ -65,18 +65,17 @@ module _ (trades : List (List ℕ)) where
   unfolding prices_of
   prices_lead entries =
       leads_bind (λ priced. ArePrices priced.prices) ArePrices (each (one_price trades) (record { named = 0; prices = replicate (length trades) (pos 0) }) entries) _
-        (leads_each (λ priced. ArePrices priced.prices) (one_price trades) one_price_leads (record { named = 0; prices = replicate (length trades) (pos 0) }) entries zeros) (λ priced are.
-          leads_after ArePrices (unless_missing (first_without priced.named 0 (length trades))) _ (λ u. leads_ok ArePrices priced.prices are))
+      (leads_each (λ priced. ArePrices priced.prices) (one_price trades) one_price_leads (record { named = 0; prices = replicate (length trades) (pos 0) }) entries zeros) (λ priced are.
+      leads_after ArePrices (unless_missing (first_without priced.named 0 (length trades))) _ (λ u. leads_ok ArePrices priced.prices are))
 
   pub arrangement_leads : (top : Data) → Leads (IsArrangement (length trades)) (arrangement_of trades top)
   unfolding arrangement_of
   arrangement_leads top =
       leads_after _ (wanted Shape (Word Arrangement ∷ []) (get (codes "arrangement") top)) _ (λ part.
-        leads_after _ (object_of ArrangementObject (Word Arrangement ∷ []) (Some part)) _ (λ object.
-          leads_after _ (list_at (Word Arrangement ∷ Word On ∷ []) (get (codes "on") part)) _ (λ references.
-            leads_bind (λ on. on < 2 ^ length trades) (IsArrangement (length trades)) (each (one_on trades) 0 references) _
-              (leads_each (λ on. on < 2 ^ length trades) (one_on trades) one_on_leads 0 references (pow_pos (length trades))) (λ on below.
-                leads_after _ (list_at (Word Arrangement ∷ Word Prices ∷ []) (get (codes "prices") part)) _ (λ entries.
-                  leads_bind ArePrices (IsArrangement (length trades)) (prices_of trades entries) _ (prices_lead entries) (λ prices are.
-                    leads_ok (IsArrangement (length trades)) (record { on = on; prices = prices }) (record { on = below; count = are.count; small = are.small })))))))
-
+      leads_after _ (object_of ArrangementObject (Word Arrangement ∷ []) (Some part)) _ (λ object.
+      leads_after _ (list_at (Word Arrangement ∷ Word On ∷ []) (get (codes "on") part)) _ (λ references.
+      leads_bind (λ on. on < 2 ^ length trades) (IsArrangement (length trades)) (each (one_on trades) 0 references) _
+      (leads_each (λ on. on < 2 ^ length trades) (one_on trades) one_on_leads 0 references (pow_pos (length trades))) (λ on below.
+      leads_after _ (list_at (Word Arrangement ∷ Word Prices ∷ []) (get (codes "prices") part)) _ (λ entries.
+      leads_bind ArePrices (IsArrangement (length trades)) (prices_of trades entries) _ (prices_lead entries) (λ prices are.
+      leads_ok (IsArrangement (length trades)) (record { on = on; prices = prices }) (record { on = below; count = are.count; small = are.small })))))))

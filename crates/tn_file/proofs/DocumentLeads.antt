@@ -35,7 +35,7 @@ limit_leads : (top : Data) → Leads (λ n. n ≤ 128) (version_limit top)
 unfolding version_limit
 limit_leads top =
     leads_after _ (wanted Shape (Word Version ∷ []) (option_and_then as_u64 (option_and_then as_number (get (codes "version") top)))) _ (λ version.
-      leads_as (λ n. limit_of version ≡ Some n) (λ n. n ≤ 128) _ (λ n e. grind (arith, e)) (leads_wanted Shape (Word Version ∷ []) (limit_of version)))
+    leads_as (λ n. limit_of version ≡ Some n) (λ n. n ≤ 128) _ (λ n e. grind (arith, e)) (leads_wanted Shape (Word Version ∷ []) (limit_of version)))
 
 -- the names and the trades of a document with so many firms
 pub record IsListing (found : Listed × Items) : Type 0 where
@@ -64,14 +64,14 @@ listed_leads : (top : Data) → Leads IsListing (listed_of top)
 unfolding listed_of
 listed_leads top =
     leads_after IsListing (beside no_names (object_of Top [] (Some top))) _ (λ object.
-      leads_bind (λ n. n ≤ 128) IsListing (beside no_names (version_limit top)) _ (leads_beside _ no_names (version_limit top) (limit_leads top)) (λ limit most.
-        leads_bind (λ items. items_len items ≤ limit) IsListing (beside no_names (few_at limit (Word Firms ∷ []) (get (codes "firms") top))) _ (leads_beside _ no_names _ (few_lead limit (Word Firms ∷ []) (get (codes "firms") top))) (λ firms few_firms.
-          leads_bind (λ end. (IsListWhileFew end.firms × (end.trades ≡ [])) × (length end.firms ≡ 0 + items_len firms)) IsListing (each one_firm_name no_names firms) _
-            (leads_both _ _ _ (firms_lead no_names firms refl refl) (firms_count no_names firms)) (λ names are_names.
-            leads_bind (λ items. items_len items ≤ limit) IsListing (beside names (few_at limit (Word Trades ∷ []) (get (codes "trades") top))) _ (leads_beside _ names _ (few_lead limit (Word Trades ∷ []) (get (codes "trades") top))) (λ trades few_trades.
-              leads_bind (λ end. AreListed names.firms end × (length end.ends ≡ 0 + items_len trades)) IsListing (each one_trade (record { names = names; ends = [] }) trades) _
-                (leads_both _ _ _ (trades_lead names trades are_names.0.1) (trades_count (record { names = names; ends = [] }) trades)) (λ listed are.
-                leads_ok IsListing (listed, firms) (is_listing limit names firms trades listed most few_firms are_names.0.0 (are_names.1 ∙ omega arith) few_trades are.0 (are.1 ∙ omega arith))))))))
+    leads_bind (λ n. n ≤ 128) IsListing (beside no_names (version_limit top)) _ (leads_beside _ no_names (version_limit top) (limit_leads top)) (λ limit most.
+    leads_bind (λ items. items_len items ≤ limit) IsListing (beside no_names (few_at limit (Word Firms ∷ []) (get (codes "firms") top))) _ (leads_beside _ no_names _ (few_lead limit (Word Firms ∷ []) (get (codes "firms") top))) (λ firms few_firms.
+    leads_bind (λ end. (IsListWhileFew end.firms × (end.trades ≡ [])) × (length end.firms ≡ 0 + items_len firms)) IsListing (each one_firm_name no_names firms) _
+    (leads_both _ _ _ (firms_lead no_names firms refl refl) (firms_count no_names firms)) (λ names are_names.
+    leads_bind (λ items. items_len items ≤ limit) IsListing (beside names (few_at limit (Word Trades ∷ []) (get (codes "trades") top))) _ (leads_beside _ names _ (few_lead limit (Word Trades ∷ []) (get (codes "trades") top))) (λ trades few_trades.
+    leads_bind (λ end. AreListed names.firms end × (length end.ends ≡ 0 + items_len trades)) IsListing (each one_trade (record { names = names; ends = [] }) trades) _
+    (leads_both _ _ _ (trades_lead names trades are_names.0.1) (trades_count (record { names = names; ends = [] }) trades)) (λ listed are.
+    leads_ok IsListing (listed, firms) (is_listing limit names firms trades listed most few_firms are_names.0.0 (are_names.1 ∙ omega arith) few_trades are.0 (are.1 ∙ omega arith))))))))
 
 extra_leads : (need : Need) (trades : List (List ℕ)) (top : Data) → Leads (IsExtra (length trades)) (extra_of need trades top)
 unfolding extra_of
@@ -101,12 +101,12 @@ document_leads : (need : Need) (top : Data) → Leads (IsDocument need) (documen
 unfolding document_of
 document_leads need top =
     leads_bind IsListing (IsDocument need) (listed_of top) _ (listed_leads top) (λ found listing.
-      leads_bind (λ tables. AreFirms (is_tested need) found.0 listing.trades tables × (length tables ≡ items_len found.1)) (IsDocument need)
-        (beside found.0.names (each (one_firm (is_tested need) found.0) [] found.1)) _
-        (leads_beside _ found.0.names _ (leads_both _ _ _ (firms_are (is_tested need) found.0 listing.trades found.1) (firms_are_counted (is_tested need) found.0 listing.trades found.1))) (λ tables are.
-          leads_bind (IsExtra (length found.0.names.trades)) (IsDocument need) (beside found.0.names (extra_of need found.0.names.trades top)) _
-            (leads_beside _ found.0.names _ (extra_leads need found.0.names.trades top)) (λ extra is_extra.
-              leads_ok (IsDocument need) (record { names = found.0.names; firms = tables; ends = found.0.ends; extra = extra }) (is_document need found tables extra listing are.0 are.1 is_extra))))
+    leads_bind (λ tables. AreFirms (is_tested need) found.0 listing.trades tables × (length tables ≡ items_len found.1)) (IsDocument need)
+    (beside found.0.names (each (one_firm (is_tested need) found.0) [] found.1)) _
+    (leads_beside _ found.0.names _ (leads_both _ _ _ (firms_are (is_tested need) found.0 listing.trades found.1) (firms_are_counted (is_tested need) found.0 listing.trades found.1))) (λ tables are.
+    leads_bind (IsExtra (length found.0.names.trades)) (IsDocument need) (beside found.0.names (extra_of need found.0.names.trades top)) _
+    (leads_beside _ found.0.names _ (extra_leads need found.0.names.trades top)) (λ extra is_extra.
+    leads_ok (IsDocument need) (record { names = found.0.names; firms = tables; ends = found.0.ends; extra = extra }) (is_document need found tables extra listing are.0 are.1 is_extra))))
 
 reading_leads : (need : Need) (bytes : List ℕ) → Leads (IsDocument need) (reading_of need bytes)
 unfolding reading_of

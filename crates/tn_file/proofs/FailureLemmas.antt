@@ -49,7 +49,7 @@ module _ {A : Type 0} (find : ℕ → Option A) where
       by_front : (front : Option A) → first_below find n ≡ front → or_else front (find n) ≡ None
           → (first_below find n ≡ None → (k : ℕ) → k < n → find k ≡ None) → find k ≡ None
       by_front (Some a) front_is e all = absurd cc
-      by_front None front_is e all = elim (cases_eq k n) [ | inl same ↦ ap find same ∙ e | inr d ↦ all front_is k (omega (arith, h, d)) ]
+      by_front None front_is e all = elim (cases_eq k n) [ inl same ↦ ap find same ∙ e | inr d ↦ all front_is k (omega (arith, h, d)) ]
 
   -- what is found going up: nothing was before it
   abbrev pub FirstBelow : ℕ → A → Type 0
@@ -71,7 +71,7 @@ module _ {A : Type 0} (find : ℕ → Option A) where
       by_last : (last : Option A) → find n ≡ last → or_else last (last_below find n) ≡ None
           → (last_below find n ≡ None → (k : ℕ) → k < n → find k ≡ None) → find k ≡ None
       by_last (Some a) last_is e all = absurd cc
-      by_last None last_is e all = elim (cases_eq k n) [ | inl same ↦ ap find same ∙ last_is | inr d ↦ all e k (omega (arith, h, d)) ]
+      by_last None last_is e all = elim (cases_eq k n) [ inl same ↦ ap find same ∙ last_is | inr d ↦ all e k (omega (arith, h, d)) ]
 
   -- what is found coming down: nothing was above it
   abbrev pub LastBelow : ℕ → A → Type 0
@@ -86,7 +86,7 @@ module _ {A : Type 0} (find : ℕ → Option A) where
       by_last (Some b) last_is e found = (n, record { below = omega arith; is = last_is ∙ e }, λ j above below. absurd (omega (arith, above, below)))
       by_last None last_is e found =
           let r = found e in
-          (r.0, record { below = omega (arith, r.1.below); is = r.1.is }, λ j above below. elim (cases_eq j n) [ | inl same ↦ ap find same ∙ last_is | inr d ↦ r.2 j above (omega (arith, below, d)) ])
+          (r.0, record { below = omega (arith, r.1.below); is = r.1.is }, λ j above below. elim (cases_eq j n) [ inl same ↦ ap find same ∙ last_is | inr d ↦ r.2 j above (omega (arith, below, d)) ])
 
 if_decided-yes : {P : Type 0} (decided : IsDecided P) (t : Triple) → P → if_decided decided t ≡ Some t
 if_decided-yes (inl fails) t p = refl
@@ -116,20 +116,20 @@ module _ (table : TableRows) where
       let f = is.fails in
       let within : i < length table.sides = wrong_at_own (firm_of_table table) x y _ i (own_bundles table x f.first f.first_is) (own_bundles table y f.second f.second_is) f.wrong in
       let found = first_below-some (λ i. failing table x y (Some i)) (length table.sides) i _ within (failing-some x y (Some i) f)
-        (λ j h. failing-none x y (Some j) (is.first (record { x = x; y = y; at = Some j }) (inr (refl, inr (refl, h))))) in
+      (λ j h. failing-none x y (Some j) (is.first (record { x = x; y = y; at = Some j }) (inr (refl, inr (refl, h))))) in
       rw found refl
   pair-some x y None is =
       rw (first_below-none (λ i. failing table x y (Some i)) (length table.sides) (λ i h. failing-none x y (Some i) (is.first (record { x = x; y = y; at = Some i }) (inr (refl, inr (refl, tt))))))
-        (failing-some x y None is.fails)
+      (failing-some x y None is.fails)
 
   pub found : (t : Triple) → IsFirstFailure (firm_of_table table) t → first_failure table ≡ Some t
   unfolding first_failure
   found t is =
       let f = is.fails in
       last_below-some (failing_from table) (2 ^ length table.sides) t.x t (own_bundles table t.x f.first f.first_is)
-        (first_below-some (failing_at_pair table t.x) (2 ^ length table.sides) t.y t (own_bundles table t.y f.second f.second_is) (pair-some t.x t.y t.at is)
-          (λ y h. pair-none t.x y (λ at. is.first (record { x = t.x; y = y; at = at }) (inr (refl, inl h)))))
-        (λ x above below. first_below-none (failing_at_pair table x) (2 ^ length table.sides) (λ y h. pair-none x y (λ at. is.first (record { x = x; y = y; at = at }) (inl above))))
+      (first_below-some (failing_at_pair table t.x) (2 ^ length table.sides) t.y t (own_bundles table t.y f.second f.second_is) (pair-some t.x t.y t.at is)
+      (λ y h. pair-none t.x y (λ at. is.first (record { x = t.x; y = y; at = at }) (inr (refl, inl h)))))
+      (λ x above below. first_below-none (failing_at_pair table x) (2 ^ length table.sides) (λ y h. pair-none x y (λ at. is.first (record { x = x; y = y; at = at }) (inl above))))
 
 if_decided-some : {P : Type 0} (decided : IsDecided P) (t s : Triple) → if_decided decided t ≡ Some s → P × (t ≡ s)
 if_decided-some (inl fails) t s e = (fails, same_Some _ _ e)

@@ -48,8 +48,8 @@ exchange_leads : (trades : List Ends) (f : ℕ) (table : TableRows) → Leads (�
 unfolding exchange_of
 exchange_leads trades f table =
     leads_as (λ _. first_failure table ≡ None) (λ _. MeetsExchange (firm_of_table table)) _
-      (λ u none. exchange_from_none_fails (firm_of_table table) (own_bundles table) (holds table none))
-      (unless_failing_leads trades f (length table.sides) (first_failure table))
+    (λ u none. exchange_from_none_fails (firm_of_table table) (own_bundles table) (holds table none))
+    (unless_failing_leads trades f (length table.sides) (first_failure table))
 
 tested_leads : (tested : Bool) (trades : List Ends) (f : ℕ) (table : TableRows) → Leads (λ _. tested ≡ true → MeetsExchange (firm_of_table table)) (if tested then exchange_of trades f table else Ok tt)
 tested_leads true trades f table = leads_as (λ _. MeetsExchange (firm_of_table table)) _ _ (λ u meets is. meets) (exchange_leads trades f table)
@@ -59,15 +59,15 @@ tested_firm_leads : (tested : Bool) (trades : List Ends) (f : ℕ) (table : Tabl
 unfolding tested_firm
 tested_firm_leads tested trades f table is_table =
     leads_bind (λ _. tested ≡ true → MeetsExchange (firm_of_table table)) (IsFirm tested trades f) (if tested then exchange_of trades f table else Ok tt) _ (tested_leads tested trades f table) (λ u meets.
-      leads_ok (IsFirm tested trades f) (firm_of_table table) (record { is_table = of_table trades f table is_table; meets = meets }))
+    leads_ok (IsFirm tested trades f) (firm_of_table table) (record { is_table = of_table trades f table is_table; meets = meets }))
 
 module _ (tested : Bool) (listed : Listed) (trades : AreTrades listed) where
   firm_leads : (f : ℕ) (firm : Data) → Leads (IsFirm tested listed.ends f) (firm_of tested listed f firm)
   unfolding firm_of
   firm_leads f firm =
       leads_after (IsFirm tested listed.ends f) (kind_of f firm) _ (λ kind.
-        leads_bind (IsTableOf listed.ends f) (IsFirm tested listed.ends f) (table_of listed f firm) _ (table_leads listed trades f firm) (λ table is_table.
-          tested_firm_leads tested listed.ends f table is_table))
+      leads_bind (IsTableOf listed.ends f) (IsFirm tested listed.ends f) (table_of listed f firm) _ (table_leads listed trades f firm) (λ table is_table.
+      tested_firm_leads tested listed.ends f table is_table))
 
   abbrev pub AreFirms : List Firm → Type 0
   AreFirms firms = (f : ℕ) (firm : Firm) → slice_get firms f ≡ Some firm → IsFirm tested listed.ends f firm
@@ -76,10 +76,10 @@ module _ (tested : Bool) (listed : Listed) (trades : AreTrades listed) where
   unfolding one_firm
   one_firm_leads firms firm are =
       leads_bind (IsFirm tested listed.ends (length firms)) AreFirms (firm_of tested listed (length firms) firm) _ (firm_leads (length firms) firm) (λ next is.
-        leads_ok AreFirms (firms ++ next ∷ []) (λ f other at. elim (push_cases firms next other f at) [
-          | inl h ↦ are f other h
-          | inr h ↦ subst (IsFirm tested listed.ends f) h.1 (subst (λ g. IsFirm tested listed.ends g next) (sym h.0) is)
-        ]))
+      leads_ok AreFirms (firms ++ next ∷ []) (λ f other at. elim (push_cases firms next other f at) [
+        | inl h ↦ are f other h
+        | inr h ↦ subst (IsFirm tested listed.ends f) h.1 (subst (λ g. IsFirm tested listed.ends g next) (sym h.0) is)
+      ]))
 
   pub firms_are : (firms : Items) → Leads AreFirms (each (one_firm tested listed) [] firms)
   firms_are firms = leads_each AreFirms (one_firm tested listed) one_firm_leads [] firms (λ f firm e. absurd (none-some _ e))
@@ -88,7 +88,7 @@ module _ (tested : Bool) (listed : Listed) (trades : AreTrades listed) where
   unfolding one_firm
   one_firm_count firms firm =
       leads_after _ (firm_of tested listed (length firms) firm) _ (λ next.
-        leads_ok (λ more. length more ≡ length firms + 1) (firms ++ next ∷ []) (length-append firms (next ∷ [])))
+      leads_ok (λ more. length more ≡ length firms + 1) (firms ++ next ∷ []) (length-append firms (next ∷ [])))
 
   pub firms_are_counted : (firms : Items) → Leads (λ end. length end ≡ items_len firms) (each (one_firm tested listed) [] firms)
   firms_are_counted firms = leads_as (λ end. length end ≡ 0 + items_len firms) _ _ (λ end e. e ∙ omega arith) (leads_count length (one_firm tested listed) one_firm_count [] firms)

@@ -86,7 +86,7 @@ module _ (listed : Listed) (trades : AreTrades listed) (f : ℕ) where
   unfolding own_reference
   reference_leads place bundle value own =
       leads_bind (λ k. k < length (sides_of listed.ends f)) _ _ _ (position_leads place value) (λ k below.
-        leads_after _ _ _ (λ u. leads_ok (λ b. b < 2 ^ length (sides_of listed.ends f)) (toggle bundle k) (toggle_within bundle k (length (sides_of listed.ends f)) own below)))
+      leads_after _ _ _ (λ u. leads_ok (λ b. b < 2 ^ length (sides_of listed.ends f)) (toggle bundle k) (toggle_within bundle k (length (sides_of listed.ends f)) own below)))
 
   -- a row is on own trades, and its number is small
   pub record IsOwnRow (row : ℕ × ℤ) : Type 0 where
@@ -97,10 +97,10 @@ module _ (listed : Listed) (trades : AreTrades listed) (f : ℕ) where
   unfolding row_of
   row_leads r row positive =
       leads_after IsOwnRow (two_at (row_place f r) row) _ (λ two. leads_after IsOwnRow (list_at (row_place f r ++ Index 0 ∷ []) (Some two.0)) _ (λ references.
-        leads_bind (λ b. b < 2 ^ length (sides_of listed.ends f)) IsOwnRow (each (row_reference listed f r) 0 references) _
-          (leads_each (λ b. b < 2 ^ length (sides_of listed.ends f)) (row_reference listed f r) (λ b d own. reference_leads (row_place f r ++ Index 0 ∷ Index (size b) ∷ []) b d own) 0 references positive)
-          (λ b own. leads_bind (λ z. IsAtMost z (10 ^ 9)) IsOwnRow (number_at (10 ^ 9) (row_place f r ++ Index 1 ∷ []) two.1) _ (number_leads (10 ^ 9) (row_place f r ++ Index 1 ∷ []) two.1)
-            (λ z small. leads_ok IsOwnRow (b, z) (record { own = own; small = small })))))
+      leads_bind (λ b. b < 2 ^ length (sides_of listed.ends f)) IsOwnRow (each (row_reference listed f r) 0 references) _
+      (leads_each (λ b. b < 2 ^ length (sides_of listed.ends f)) (row_reference listed f r) (λ b d own. reference_leads (row_place f r ++ Index 0 ∷ Index (size b) ∷ []) b d own) 0 references positive)
+      (λ b own. leads_bind (λ z. IsAtMost z (10 ^ 9)) IsOwnRow (number_at (10 ^ 9) (row_place f r ++ Index 1 ∷ []) two.1) _ (number_leads (10 ^ 9) (row_place f r ++ Index 1 ∷ []) two.1)
+      (λ z small. leads_ok IsOwnRow (b, z) (record { own = own; small = small })))))
 
   -- the rows so far
   pub record AreRows (rows : Rows) : Type 0 where
@@ -124,8 +124,8 @@ module _ (listed : Listed) (trades : AreTrades listed) (f : ℕ) where
   one_row_leads rows row kept =
       let n : 2 ^ length rows.table.sides ≡ 2 ^ length (sides_of listed.ends f) = ap (λ (s : List Side). 2 ^ length s) kept.sides in
       leads_bind IsOwnRow AreRows (row_of listed f rows.count row) _ (row_leads rows.count row (subst (λ m. 0 < m) n (pow_pos (length rows.table.sides)))) (λ next is_own.
-        leads_bind (λ _. is_none (row_at rows.table.rows next.0) ≡ true) AreRows (holds SameBundle (row_place f rows.count) (is_none (row_at rows.table.rows next.0))) _ (leads_holds SameBundle (row_place f rows.count) (is_none (row_at rows.table.rows next.0))) (λ u new.
-          leads_ok AreRows (record { count = rows.count + 1; table = with_row rows.table next.0 next.1 }) (more next is_own (none_from (row_at rows.table.rows next.0) new))))
+      leads_bind (λ _. is_none (row_at rows.table.rows next.0) ≡ true) AreRows (holds SameBundle (row_place f rows.count) (is_none (row_at rows.table.rows next.0))) _ (leads_holds SameBundle (row_place f rows.count) (is_none (row_at rows.table.rows next.0))) (λ u new.
+      leads_ok AreRows (record { count = rows.count + 1; table = with_row rows.table next.0 next.1 }) (more next is_own (none_from (row_at rows.table.rows next.0) new))))
     where
       none_from : (row : Option ℤ) → is_none row ≡ true → row ≡ None
       none_from None e = refl
@@ -147,21 +147,21 @@ module _ (listed : Listed) (trades : AreTrades listed) (f : ℕ) where
   unfolding rows_of
   rows_lead items few =
       leads_bind AreRows (IsTableOf listed.ends f) (each (one_row listed f) (record { count = 0; table = without_rows (sides_of listed.ends f) }) items) _
-        (leads_each AreRows (one_row listed f) one_row_leads (record { count = 0; table = without_rows (sides_of listed.ends f) }) items (rows_start few))
-        (λ rows kept. leads_ok (IsTableOf listed.ends f) rows.table (record {
-          sides = kept.sides;
-          within = kept.within;
-          rows = kept.listed_rows;
-          apart = kept.apart;
-          is = made_firm rows.table kept.listed_rows kept.within.places kept.made ∙ ap (λ (s : List Side). table_firm s kept.listed_rows) kept.sides;
-        }))
+      (leads_each AreRows (one_row listed f) one_row_leads (record { count = 0; table = without_rows (sides_of listed.ends f) }) items (rows_start few))
+      (λ rows kept. leads_ok (IsTableOf listed.ends f) rows.table (record {
+        sides = kept.sides;
+        within = kept.within;
+        rows = kept.listed_rows;
+        apart = kept.apart;
+        is = made_firm rows.table kept.listed_rows kept.within.places kept.made ∙ ap (λ (s : List Side). table_firm s kept.listed_rows) kept.sides;
+      }))
 
   pub table_leads : (firm : Data) → Leads (IsTableOf listed.ends f) (table_of listed f firm)
   unfolding table_of
   table_leads firm =
       leads_after (IsTableOf listed.ends f) (object_of TableObject (firm_place f) (Some firm)) _ (λ object.
-        leads_bind (λ _. nat_le (length (sides_of listed.ends f)) 10 ≡ true) (IsTableOf listed.ends f) (holds Limit (firm_place f) (nat_le (length (sides_of listed.ends f)) 10)) _ (leads_holds Limit (firm_place f) (nat_le (length (sides_of listed.ends f)) 10)) (λ u few.
-          leads_after (IsTableOf listed.ends f) (list_at (firm_place f ++ Word RowsWord ∷ []) (get (codes "rows") firm)) _ (λ items. rows_lead items (le_from (length (sides_of listed.ends f)) few))))
+      leads_bind (λ _. nat_le (length (sides_of listed.ends f)) 10 ≡ true) (IsTableOf listed.ends f) (holds Limit (firm_place f) (nat_le (length (sides_of listed.ends f)) 10)) _ (leads_holds Limit (firm_place f) (nat_le (length (sides_of listed.ends f)) 10)) (λ u few.
+      leads_after (IsTableOf listed.ends f) (list_at (firm_place f ++ Word RowsWord ∷ []) (get (codes "rows") firm)) _ (λ items. rows_lead items (le_from (length (sides_of listed.ends f)) few))))
     where
       le_from : (n : ℕ) → nat_le n 10 ≡ true → n ≤ 10
       le_from n e = grind (arith, e)

@@ -43,11 +43,7 @@ pub(crate) fn read_arrangement(
 }
 
 /// The trades that are on.
-fn read_on(
-    alloc: Global,
-    names: &Names,
-    references: &[Value],
-) -> Result<TradeSet<2>, ReadError>
+fn read_on(alloc: Global, names: &Names, references: &[Value]) -> Result<TradeSet<2>, ReadError>
     requires { length names.now.trades ≤ 128 }
     ensures { Gives (λ on. on) result (each (one_on names.now.trades) 0 (items_view references.now)) }
 {
@@ -164,7 +160,12 @@ fn entry_of(
     let (reference, price) = two(alloc, entry, &[ARRANGEMENT, PRICES, k])?;
     let place = [ARRANGEMENT, PRICES, k, Index(0)];
     let t = new_trade(alloc, names, named, reference, &place)?;
-    let price = number(alloc, PRICE_LIMIT, price, &[ARRANGEMENT, PRICES, k, Index(1)])?;
+    let price = number(
+        alloc,
+        PRICE_LIMIT,
+        price,
+        &[ARRANGEMENT, PRICES, k, Index(1)],
+    )?;
     Ok((t, price))
 }
 

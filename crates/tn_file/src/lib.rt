@@ -7,6 +7,7 @@ mod extra;
 mod failures;
 mod fault;
 mod firms;
+mod laws;
 mod made;
 mod names;
 mod need;
@@ -22,5 +23,6 @@ mod trades;
 
 pub use document::{DocRefusal, Document, Loaded, RawNet};
 pub use extra::Extra;
+pub use laws::{documents_are_networks, first_failures_are_first};
 pub use need::Need;
 pub use read::read_doc;

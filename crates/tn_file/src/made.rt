@@ -20,12 +20,7 @@ pub(crate) trait FromTable: Sized {
     ghost firm: { Self → Firm };
 
     /// Firm `f` over the trades with these ends, or the fault that its table fails exchange.
-    fn from_table(
-        alloc: Global,
-        ends: &[Ends],
-        f: u32,
-        table: RawTable,
-    ) -> Result<Self, ReadError>
+    fn from_table(alloc: Global, ends: &[Ends], f: u32, table: RawTable) -> Result<Self, ReadError>
         requires { length ends.now ≤ 128 }
         ensures { Gives firm result (tested_firm tested ends.now f table) };
 }

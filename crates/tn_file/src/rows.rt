@@ -62,7 +62,7 @@ fn read_row(
     requires places { length table.old.rows ≡ 2 ^ length table.old.sides }
     ensures gives { Gives (λ _. record { count = count + 1; table = table.new }) result
         (one_row (record { names = names.now; ends = ends.now }) f
-            (record { count = count; table = table.old }) (view row.now)) }
+        (record { count = count; table = table.old }) (view row.now)) }
     ensures sides { OnOk result (table.new.sides ≡ table.old.sides) }
     ensures places { OnOk result (length table.new.rows ≡ length table.old.rows) }
     ensures filled { OnOk result (filled table.new.rows ≡ filled table.old.rows + 1) }

@@ -108,7 +108,12 @@ pub(crate) fn few<'a>(
     ensures few { IfOk result (λ s. length s.now ≤ limit) }
 {
     let items = list(alloc, value, place)?;
-    check(alloc, items.len() <= limit as usize, FaultKind::Limit, place)?;
+    check(
+        alloc,
+        items.len() <= limit as usize,
+        FaultKind::Limit,
+        place,
+    )?;
     Ok(items)
 }
 

@@ -15,21 +15,9 @@ type Case = (&'static str, FaultKind, &'static [PlaceStep]);
 
 /// Documents with one fault.
 const FAULTY: [Case; 23] = [
-    (
-        r#"{"firms":[{"name":""#,
-        FaultKind::NotJson,
-        &[],
-    ),
-    (
-        r#""#,
-        FaultKind::NotJson,
-        &[],
-    ),
-    (
-        r#"null"#,
-        FaultKind::Shape,
-        &[],
-    ),
+    (r#"{"firms":[{"name":""#, FaultKind::NotJson, &[]),
+    (r#""#, FaultKind::NotJson, &[]),
+    (r#"null"#, FaultKind::Shape, &[]),
     (
         r#"{"firms":[{"name":"S","kind":"table","rows":[[["a"],-3]]},{"name":"B","kind":"table","rows":[[["a"],5]]}],"trades":[{"name":"a","seller":"S","buyer":"B"}]}"#,
         FaultKind::Shape,
@@ -134,11 +122,7 @@ const FAULTY: [Case; 23] = [
 
 /// Documents with several faults, of which the first one is told.
 const ORDERED: [Case; 20] = [
-    (
-        r#"{"size":1,"version":3}"#,
-        FaultKind::Shape,
-        &[],
-    ),
+    (r#"{"size":1,"version":3}"#, FaultKind::Shape, &[]),
     (
         r#"{"version":3,"firms":1,"trades":1}"#,
         FaultKind::Shape,
@@ -236,7 +220,8 @@ const ORDERED: [Case; 20] = [
     ),
 ];
 
-const PRICED: &str = r#"{"version":1,"firms":[{"name":"S","kind":"table","rows":[[["a"],-3]]},{"name":"B","kind":"table","rows":[[["a"],5]]}],"trades":[{"name":"a","seller":"S","buyer":"B"}],"arrangement":{"on":["a"],"prices":[["a",4]]}}"#;
+const PRICED: &str =
+    r#"{"version":1,"firms":[{"name":"S","kind":"table","rows":[[["a"],-3]]},{"name":"B","kind":"table","rows":[[["a"],5]]}],"trades":[{"name":"a","seller":"S","buyer":"B"}],"arrangement":{"on":["a"],"prices":[["a",4]]}}"#;
 
 fn is_place(found: &Place, wanted: &[PlaceStep]) -> bool {
     if found.len() != wanted.len() {
@@ -251,7 +236,13 @@ fn is_place(found: &Place, wanted: &[PlaceStep]) -> bool {
 }
 
 /// Whether the document has this fault first.
-fn has_fault(alloc: Global, need: Need, bytes: &[u8], kind: FaultKind, place: &[PlaceStep]) -> bool {
+fn has_fault(
+    alloc: Global,
+    need: Need,
+    bytes: &[u8],
+    kind: FaultKind,
+    place: &[PlaceStep],
+) -> bool {
     match read_doc(alloc, need, bytes) {
         Err(DocRefusal::Fault { fault, .. }) => fault.kind == kind && is_place(&fault.place, place),
         _ => false,
@@ -261,10 +252,16 @@ fn has_fault(alloc: Global, need: Need, bytes: &[u8], kind: FaultKind, place: &[
 #[test]
 fn tells_the_first_fault(rt: HostRuntime) {
     for (text, kind, place) in FAULTY {
-        assert!(rt; has_fault(rt.alloc(), Need::Arrangement, text.as_bytes(), kind, place), "{text}");
+        assert!(rt;
+            has_fault(rt.alloc(), Need::Arrangement, text.as_bytes(), kind, place),
+            "{text}"
+        );
     }
     for (text, kind, place) in ORDERED {
-        assert!(rt; has_fault(rt.alloc(), Need::Arrangement, text.as_bytes(), kind, place), "{text}");
+        assert!(rt;
+            has_fault(rt.alloc(), Need::Arrangement, text.as_bytes(), kind, place),
+            "{text}"
+        );
     }
 }
 
@@ -278,14 +275,18 @@ fn ring(alloc: Global, version: u32, trades: u32) -> Result<String, Fail> {
     let mut text = format!(in alloc; "{{\"version\":{version},\"firms\":[")?;
     for f in 0..128 {
         let comma = if f == 0 { "" } else { "," };
-        let firm = format!(in alloc; "{comma}{{\"name\":\"F{f}\",\"kind\":\"table\",\"rows\":[]}}")?;
+        let firm = format!(in alloc;
+            "{comma}{{\"name\":\"F{f}\",\"kind\":\"table\",\"rows\":[]}}"
+        )?;
         text.push_str(&firm)?;
     }
     text.push_str("],\"trades\":[")?;
     for t in 0..trades {
         let comma = if t == 0 { "" } else { "," };
         let (seller, buyer) = (t % 128, t.wrapping_add(1) % 128);
-        let trade = format!(in alloc; "{comma}{{\"name\":\"t{t}\",\"seller\":\"F{seller}\",\"buyer\":\"F{buyer}\"}}")?;
+        let trade = format!(in alloc;
+            "{comma}{{\"name\":\"t{t}\",\"seller\":\"F{seller}\",\"buyer\":\"F{buyer}\"}}"
+        )?;
         text.push_str(&trade)?;
     }
     text.push_str("]}")?;
@@ -312,11 +313,35 @@ fn keeps_the_limits(rt: HostRuntime) -> Result<(), Fail> {
     let need = Need::Arrangement;
     assert!(rt; is_read(alloc, need, PRICED.as_bytes()));
     assert!(rt; is_read(alloc, need, nested(alloc, 126)?.as_bytes()));
-    assert!(rt; has_fault(alloc, need, nested(alloc, 127)?.as_bytes(), FaultKind::NotJson, &[]));
+    assert!(rt;
+        has_fault(
+            alloc,
+            need,
+            nested(alloc, 127)?.as_bytes(),
+            FaultKind::NotJson,
+            &[]
+        )
+    );
     assert!(rt; has_fault(alloc, need, b"\xff{}", FaultKind::NotJson, &[]));
     let raw = Need::Raw;
-    assert!(rt; has_fault(alloc, raw, ring(alloc, 1, 1)?.as_bytes(), FaultKind::Limit, &[FIRMS]));
+    assert!(rt;
+        has_fault(
+            alloc,
+            raw,
+            ring(alloc, 1, 1)?.as_bytes(),
+            FaultKind::Limit,
+            &[FIRMS]
+        )
+    );
     assert!(rt; is_read(alloc, raw, ring(alloc, 2, 128)?.as_bytes()));
-    assert!(rt; has_fault(alloc, raw, ring(alloc, 2, 129)?.as_bytes(), FaultKind::Limit, &[TRADES]));
+    assert!(rt;
+        has_fault(
+            alloc,
+            raw,
+            ring(alloc, 2, 129)?.as_bytes(),
+            FaultKind::Limit,
+            &[TRADES]
+        )
+    );
     Ok(())
 }

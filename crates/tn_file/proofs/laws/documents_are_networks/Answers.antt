@@ -1,0 +1,5 @@
+use Rattle.tn_file.proofs.DocumentLeads.{documents_are_networks}
+use Rattle.tn_file.proofs.laws.documents_are_networks.Goals as goal
+
+pub returns : goal.returns
+returns c = documents_are_networks
