@@ -57,7 +57,7 @@ are_small (value ∷ firms) = ((firm_laws value).within, are_small firms)
 pub surplus_fits : (firms : List FirmValue) (trades : List Ends) (on : ℕ) (s : ℤ) → length firms ≤ 1024 → surplus_of (map firm_of firms) trades on ≡ Some s → IsAtMost s (10 ^ 15)
 surplus_fits firms trades on s few is =
     let small = surplus_small trades on 0 (map firm_of firms) s (are_small firms) is in
-    let count = length-map firm_of firms in
+    let count : length (map firm_of firms) ≡ length firms = length-map firms firm_of in
     record { low = omega (arith, ints, small.low, count, few); high = omega (arith, ints, small.high, count, few) }
 
 -- a gain fits an answer

@@ -6,7 +6,7 @@ use Rattle.tn_run.proofs.checking.check.Goals as goal
 
 pub returns-in-Equilibrium-clause-sayable : goal.returns-in-Equilibrium-clause-sayable
 returns-in-Equilibrium-clause-sayable c =
-    let fits = surplus_fits c.args.market.now.firms c.args.market.now.trades c.args.at.now.on c.in-Equilibrium.surplus c.firms-_count.ensures.few c.in-Equilibrium.ensures.1 in
+    let fits = surplus_fits c.args.market.now.firms c.args.market.now.trades c.args.at.now.on c.in-Equilibrium.surplus (omega (arith, c.firms-count.ensures.count, c.firms-count.ensures.few)) c.in-Equilibrium.ensures.1 in
     omega (arith, ints, fits.low, fits.high)
 
 pub trades_in-requires : goal.trades_in-requires
