@@ -1,5 +1,5 @@
 -- What the arrangement is that reading gives.
-use Rattle.std.proofs.Common.{◌≡◌, ℕ, ◌+◌, ◌^◌, ◌<◌, ◌≤◌, List, [], ◌∷◌, ◌++◌, length, Option, Some, None, Result, Ok, refl, sym, ap, subst, ◌∙◌, rules, arith}
+use Rattle.std.proofs.Common.{◌≡◌, ℕ, ◌^◌, ◌<◌, List, [], ◌∷◌, length, Some, ◌∙◌, arith}
 use Rattle.std.specs.Prelude.{ℤ, pos, not, replicate, slice_set, codes, All}
 use Rattle.std.proofs.lemmas.Int.{ints}
 use Rattle.std.proofs.lemmas.Nat.{pow_pos}
@@ -15,13 +15,13 @@ use Rattle.tn_market.specs.declared.place.PlaceStep.{PlaceStep}
 use Rattle.tn_market.specs.declared.place.PlaceStep.TheVariants.{Index, Word}
 use Rattle.tn_market.specs.declared.place.Word.TheVariants.{Arrangement, On, Prices}
 use Rattle.tn_file.specs.declared.shapes.ObjectKind.TheVariants.{Arrangement as ArrangementObject}
-use Rattle.tn_file.specs.Reading.{◌>>=◌, each, wanted, holds}
+use Rattle.tn_file.specs.Reading.{each, wanted, holds}
 use Rattle.tn_file.specs.Shapes.{list_at, two_at, number_at, object_of}
 use Rattle.tn_file.specs.Tables.{trade_at}
-use Rattle.tn_file.specs.Arranged.{Priced, Arranged, new_trade, one_on, entry_of, one_price, prices_of, unless_missing, first_without, arrangement_of}
+use Rattle.tn_file.specs.Arranged.{Priced, new_trade, one_on, entry_of, one_price, prices_of, unless_missing, first_without, arrangement_of}
 use Rattle.tn_file.specs.Laws.{IsArrangement}
 use Rattle.tn_file.proofs.TableLeads.{number_leads, trade_leads}
-use Rattle.tn_file.proofs.LeadLemmas.{Leads, leads_ok, leads_bind, leads_after, leads_each, leads_as}
+use Rattle.tn_file.proofs.LeadLemmas.{Leads, leads_ok, leads_bind, leads_after, leads_each}
 
 module _ (trades : List (List ℕ)) where
   new_trade_leads : (place : List PlaceStep) (named : ℕ) (value : Data) → Leads (λ t. t < length trades) (new_trade trades place named value)

@@ -1,30 +1,25 @@
 -- Every document that is read is a network with its names.
-use Rattle.std.proofs.Common.{◌≡◌, ℕ, zero, suc, ◌+◌, ◌*◌, ◌^◌, ◌<◌, ◌≤◌, Bool, true, false, cond, List, [], ◌∷◌, length, map, slice_get, Option, Some, None, Result, Ok, refl, sym, ap, subst, ◌∙◌, arith}
+use Rattle.std.proofs.Common.{◌≡◌, ℕ, ◌+◌, ◌≤◌, List, [], ◌∷◌, length, Some, refl, sym, ap, subst, ◌∙◌, arith}
 use Rattle.std.specs.Prelude.{codes, option_and_then}
-use Rattle.std.proofs.lemmas.List.{length-map}
-use Rattle.std.proofs.lemmas.Option.{none-some, same_Some}
 use Rattle.serde_json.specs.Data.{Data, Items}
 use Rattle.serde_json.specs.Events.{items_len}
 use Rattle.serde_json.specs.Find.{get, as_number, as_u64}
 use Rattle.tn_base.specs.Firm.{Firm}
-use Rattle.tn_base.specs.Table.{buys_of}
 use Rattle.tn_base.specs.declared.fault.FaultKind.TheVariants.{NotJson, Shape}
-use Rattle.tn_exchange.specs.Rows.{TableRows, firm_of_table}
-use Rattle.tn_market.specs.declared.ends.Ends.{Ends}
 use Rattle.tn_market.specs.declared.place.PlaceStep.TheVariants.{Word}
 use Rattle.tn_market.specs.declared.place.Word.TheVariants.{Version, Firms, Trades}
 use Rattle.tn_answer.specs.Names.{NameLists, IsNameList, no_names}
 use Rattle.tn_file.specs.declared.need.Need.{Need}
 use Rattle.tn_file.specs.declared.need.Need.TheVariants.{Market, Raw, Arrangement}
 use Rattle.tn_file.specs.declared.shapes.ObjectKind.TheVariants.{Top}
-use Rattle.tn_file.specs.Reading.{Stop, ◌>>=◌, beside, each, wanted}
+use Rattle.tn_file.specs.Reading.{beside, each, wanted}
 use Rattle.tn_file.specs.Json.{json_of}
 use Rattle.tn_file.specs.Shapes.{few_at, object_of}
-use Rattle.tn_file.specs.Naming.{Listed, AreInOrder, one_firm_name, one_trade, sides_of}
+use Rattle.tn_file.specs.Naming.{Listed, AreInOrder, one_firm_name, one_trade}
 use Rattle.tn_file.specs.Tables.{AreTrades}
 use Rattle.tn_file.specs.Firms.{one_firm}
 use Rattle.tn_file.specs.Arranged.{arrangement_of}
-use Rattle.tn_file.specs.Document.{DocumentData, ExtraData, nothing, arrangement, limit_of, version_limit, listed_of, extra_of, document_of, is_tested, reading_of}
+use Rattle.tn_file.specs.Document.{ExtraData, nothing, arrangement, limit_of, version_limit, listed_of, extra_of, document_of, is_tested, reading_of}
 use Rattle.tn_file.specs.Laws.{IsDocument, IsExtra, IsArrangement, DocumentsAreNetworks}
 use Rattle.tn_file.proofs.LeadLemmas.{Leads, leads_ok, leads_bind, leads_after, leads_wanted, leads_beside, leads_as, leads_both}
 use Rattle.tn_file.proofs.NameLeads.{IsListWhileFew, AreListed, firms_lead, firms_count, trades_lead, trades_count, few_lead}

@@ -1,7 +1,7 @@
 -- The search for the first failing triple finds the first failure of the test.
-use Rattle.std.proofs.Common.{◌≡◌, ℕ, zero, suc, ◌^◌, ◌<◌, ◌≤◌, refl, sym, ap, ◌∙◌, subst, arith, ◌⊎◌, inl, inr, length}
+use Rattle.std.proofs.Common.{◌≡◌, ℕ, zero, suc, ◌^◌, ◌<◌, refl, sym, ap, ◌∙◌, subst, arith, inl, inr, length}
 use Rattle.std.specs.Prelude.{Option, Some, None}
-use Rattle.std.proofs.lemmas.Bool.{cases_eq, cases_lt}
+use Rattle.std.proofs.lemmas.Bool.{cases_eq}
 use Rattle.std.proofs.lemmas.Option.{none-some, same_Some}
 use Rattle.std.proofs.Math.Path.{subst₂}
 use Rattle.tn_base.specs.Exchange.{NoneFails, Fails}
@@ -11,7 +11,7 @@ use Rattle.tn_exchange.specs.TestOrder.{Triple, TripleFails, IsBefore, IsEarlier
 use Rattle.tn_exchange.proofs.RowLemmas.{own_bundles}
 use Rattle.tn_exchange.proofs.DecisionLemmas.{fails_or_not}
 use Rattle.tn_exchange.proofs.TestLemmas.{wrong_at_own}
-use Rattle.tn_file.specs.FirstFailure.{or_else, first_below, last_below, if_decided, failing, failing_at_pair, failing_from, first_failure, IsTheFirstFailure}
+use Rattle.tn_file.specs.FirstFailure.{or_else, first_below, last_below, if_decided, failing, failing_at_pair, failing_from, first_failure}
 
 module _ {A : Type 0} (find : ℕ → Option A) where
   pub first_below-none : (n : ℕ) → ((k : ℕ) → k < n → find k ≡ None) → first_below find n ≡ None

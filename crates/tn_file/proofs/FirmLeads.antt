@@ -1,5 +1,5 @@
 -- What the firms are that reading gives.
-use Rattle.std.proofs.Common.{◌≡◌, ℕ, ◌+◌, ◌<◌, ◌≤◌, Bool, true, false, List, [], ◌∷◌, ◌++◌, length, slice_get, Option, Some, None, Result, Ok, ◌⊎◌, inl, inr, refl, sym, ap, subst, ◌∙◌, arith, length-append}
+use Rattle.std.proofs.Common.{◌≡◌, ℕ, ◌+◌, ◌≤◌, Bool, true, false, List, [], ◌∷◌, ◌++◌, length, slice_get, Option, Some, None, Ok, inl, inr, refl, sym, ap, subst, ◌∙◌, arith, length-append}
 use Rattle.std.specs.Prelude.{if◌then◌else◌}
 use Rattle.std.proofs.lemmas.Option.{none-some}
 use Rattle.serde_json.specs.Data.{Data, Items}
@@ -13,8 +13,7 @@ use Rattle.tn_exchange.specs.Rows.{TableRows, firm_of_table}
 use Rattle.tn_exchange.specs.TestOrder.{Triple}
 use Rattle.tn_exchange.proofs.RowLemmas.{own_bundles, worth_is_small}
 use Rattle.tn_market.specs.declared.ends.Ends.{Ends}
-use Rattle.tn_market.specs.declared.said.Fault.{Fault}
-use Rattle.tn_file.specs.Reading.{◌>>=◌, each}
+use Rattle.tn_file.specs.Reading.{each}
 use Rattle.tn_file.specs.Naming.{Listed, AreInOrder}
 use Rattle.tn_file.specs.Tables.{AreTrades, kind_of, table_of}
 use Rattle.tn_file.specs.Firms.{unless_failing, exchange_of, tested_firm, firm_of, one_firm}

@@ -1,8 +1,7 @@
 -- What is said of the value that reading gives.
-use Rattle.std.proofs.Common.{◌≡◌, ◌≢◌, ℕ, zero, suc, ◌+◌, ◌^◌, ◌<◌, ◌≤◌, Bool, true, false, List, [], ◌∷◌, ◌++◌, length, take, slice_get, Option, Some, None, Result, Ok, Err, refl, sym, ap, subst, ◌∙◌, arith, length-append}
-use Rattle.std.specs.Prelude.{ℤ, pos, unsigned_abs, nat_le, nat_eq, not, is_none, option_and_then, replicate}
+use Rattle.std.proofs.Common.{◌≡◌, ◌≢◌, ℕ, suc, ◌+◌, Bool, true, false, List, Option, Some, None, Result, Ok, Err, refl, ap, subst, arith}
+use Rattle.std.specs.Prelude.{ℤ, unsigned_abs, nat_le, nat_eq, not}
 use Rattle.std.proofs.lemmas.Int.{ints}
-use Rattle.std.proofs.lemmas.Option.{none-some, same_Some, slice_get_within, option_and_then_some}
 use Rattle.serde_json.specs.Data.{Data, Items, no_items, item}
 use Rattle.serde_json.specs.Events.{items_len}
 use Rattle.tn_base.specs.Arcs.{IsAtMost}
@@ -10,7 +9,7 @@ use Rattle.tn_base.specs.declared.fault.FaultKind.{FaultKind}
 use Rattle.tn_market.specs.declared.place.PlaceStep.{PlaceStep}
 use Rattle.tn_market.specs.declared.said.Fault.{Fault}
 use Rattle.tn_answer.specs.Names.{NameLists}
-use Rattle.tn_file.specs.Reading.{Stop, ◌>>=◌, beside, each, fault, wanted, holds}
+use Rattle.tn_file.specs.Reading.{◌>>=◌, beside, each, wanted, holds}
 
 pub record Leads {A E : Type 0} (P : A → Type 0) (r : Result A E) : Type 0 where
   pub at : (x : A) → r ≡ Ok x → P x

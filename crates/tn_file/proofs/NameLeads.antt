@@ -1,20 +1,19 @@
 -- What the names and the trades are that reading gives.
-use Rattle.std.proofs.Common.{◌≡◌, ◌≢◌, ℕ, zero, suc, ◌+◌, ◌<◌, ◌≤◌, Bool, true, false, List, [], ◌∷◌, ◌++◌, length, Option, Some, None, Result, refl, sym, ap, subst, ◌∙◌, arith, length-append}
-use Rattle.std.specs.Prelude.{nat_le, nat_eq, not, codes, slice_get}
+use Rattle.std.proofs.Common.{◌≡◌, ℕ, ◌+◌, ◌<◌, ◌≤◌, true, false, List, [], ◌∷◌, ◌++◌, length, Option, Some, refl, sym, ap, subst, ◌∙◌, arith, length-append}
+use Rattle.std.specs.Prelude.{nat_le, nat_eq, not, codes}
 use Rattle.std.proofs.lemmas.Option.{none-some, slice_get_within}
 use Rattle.serde_json.specs.Data.{Data, Items}
 use Rattle.serde_json.specs.Events.{items_len}
 use Rattle.serde_json.specs.Find.{get}
-use Rattle.tn_base.specs.declared.fault.FaultKind.TheVariants.{Shape, BadName, SameName, UnknownFirm, SelfTrade, Limit}
+use Rattle.tn_base.specs.declared.fault.FaultKind.TheVariants.{BadName, SameName, UnknownFirm, SelfTrade, Limit}
 use Rattle.tn_market.specs.declared.ends.Ends.{Ends}
 use Rattle.tn_market.specs.declared.place.PlaceStep.{PlaceStep}
 use Rattle.tn_market.specs.declared.place.PlaceStep.TheVariants.{Index, Word}
-use Rattle.tn_market.specs.declared.place.Word.TheVariants.{Firms, Trades, Name, Seller, Buyer, Version}
-use Rattle.tn_market.specs.declared.said.Fault.{Fault}
+use Rattle.tn_market.specs.declared.place.Word.TheVariants.{Firms, Trades, Name, Seller, Buyer}
 use Rattle.tn_answer.specs.Names.{NameLists, IsNameList, MAX_NAMES, has_name, is_name, number_of, with_firm, with_trade}
 use Rattle.tn_answer.proofs.NameLemmas.{IsNameList-push, name_at_number}
 use Rattle.tn_file.specs.declared.shapes.ObjectKind.TheVariants.{Trade as TradeObject}
-use Rattle.tn_file.specs.Reading.{Stop, ◌>>=◌, beside, each, wanted, holds}
+use Rattle.tn_file.specs.Reading.{beside, each, holds}
 use Rattle.tn_file.specs.Shapes.{text_at, name_at, list_at, few_at, object_at, object_of}
 use Rattle.tn_file.specs.Naming.{Listed, new_name, firm_name, one_firm_name, trade_name, firm_at, ends_at, one_trade, ComesNext, AreInOrder, sides_of}
 use Rattle.tn_file.proofs.EndsLemmas.{AreInOrder-push}

@@ -1,5 +1,5 @@
 -- Trades in order stand at each position of a firm, and only once: they and the firms make a network.
-use Rattle.std.proofs.Common.{◌≡◌, ◌≢◌, ℕ, zero, suc, ◌+◌, ◌<◌, ◌≤◌, Bool, true, false, ◌&&◌, ◌||◌, List, [], ◌∷◌, ◌++◌, length, take, get_or, map, slice_get, Option, Some, None, ◌⊎◌, inl, inr, refl, sym, ap, subst, ◌∙◌, arith, length-append}
+use Rattle.std.proofs.Common.{◌≡◌, ℕ, zero, suc, ◌+◌, ◌<◌, ◌≤◌, Bool, true, false, ◌&&◌, ◌||◌, List, [], ◌∷◌, length, take, get_or, slice_get, Option, Some, None, inl, inr, refl, sym, ap, subst, ◌∙◌, arith, length-append}
 use Rattle.std.specs.Prelude.{nat_eq, cond}
 use Rattle.std.proofs.lemmas.Bool.{cases_lt, cases_eq, cases_Bool, eqb-true, eq-eqb, ne_eqb}
 use Rattle.std.proofs.lemmas.Option.{none-some, same_Some, slice_get_within, slice_get-get_or}
@@ -11,9 +11,9 @@ use Rattle.tn_base.specs.declared.side.Side.{Side}
 use Rattle.tn_base.specs.declared.side.Side.TheVariants.{Buy, Sell}
 use Rattle.tn_market.specs.declared.ends.Ends.{Ends}
 use Rattle.tn_market.specs.Network.{stands_at, own, IsNetwork}
-use Rattle.tn_file.specs.Naming.{side_in, sides_of, ComesNext, AreInOrder}
+use Rattle.tn_file.specs.Naming.{side_in, sides_of, AreInOrder}
 use Rattle.tn_file.specs.Tables.{position_in}
-use Rattle.tn_file.proofs.EndsLemmas.{with_next, sides_of-next, sides_of-none, own_side, own_position}
+use Rattle.tn_file.proofs.EndsLemmas.{with_next, sides_of-next, sides_of-none, own_side}
 
 -- a firm has no fewer own trades among more trades
 grows : (f : ℕ) (next : Option Side) (sides : List Side) → length sides ≤ length (with_next f next sides)

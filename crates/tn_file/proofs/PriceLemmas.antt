@@ -1,5 +1,5 @@
 -- The first number that isn't a member.
-use Rattle.std.proofs.Common.{◌≡◌, ℕ, suc, ◌+◌, ◌-◌, ◌<◌, Bool, true, refl, ap, ◌∙◌, arith}
+use Rattle.std.proofs.Common.{◌≡◌, ℕ, suc, ◌+◌, ◌-◌, ◌<◌, true, refl, ap, ◌∙◌, arith}
 use Rattle.tn_base.specs.Sets.{has}
 use Rattle.tn_file.specs.Arranged.{first_without}
 

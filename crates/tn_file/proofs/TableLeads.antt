@@ -1,11 +1,11 @@
 -- What the tables are that reading gives.
-use Rattle.std.proofs.Common.{◌≡◌, ◌≢◌, ℕ, zero, suc, ◌+◌, ◌^◌, ◌<◌, ◌≤◌, Bool, true, false, cond, List, [], ◌∷◌, ◌++◌, length, take, slice_get, Option, Some, None, Result, Ok, Err, refl, sym, ap, subst, ◌∙◌, arith, length-append}
-use Rattle.std.specs.Prelude.{ℤ, nat_le, nat_eq, not, is_none, option_and_then, replicate}
-use Rattle.std.proofs.lemmas.Bool.{cases_eq, eq-eqb, ne_eqb}
-use Rattle.std.proofs.lemmas.Option.{none-some, same_Some, slice_get_within, option_and_then_some}
+use Rattle.std.proofs.Common.{◌≡◌, ◌≢◌, ℕ, ◌+◌, ◌^◌, ◌<◌, ◌≤◌, Bool, true, false, cond, List, [], ◌∷◌, ◌++◌, length, slice_get, Option, Some, None, refl, sym, ap, subst, ◌∙◌, arith}
+use Rattle.std.specs.Prelude.{ℤ, nat_le, nat_eq, is_none, option_and_then}
+use Rattle.std.proofs.lemmas.Bool.{eq-eqb, ne_eqb}
+use Rattle.std.proofs.lemmas.Option.{slice_get_within, option_and_then_some}
 use Rattle.serde_json.specs.Data.{Data, Items}
 use Rattle.tn_base.specs.Arcs.{IsAtMost}
-use Rattle.tn_base.specs.Sets.{has, toggle}
+use Rattle.tn_base.specs.Sets.{toggle}
 use Rattle.tn_base.specs.Table.{row_of as row_in, table_firm}
 use Rattle.tn_base.proofs.SetLemmas.{toggle_within}
 use Rattle.tn_base.specs.declared.side.Side.{Side}
@@ -14,7 +14,6 @@ use Rattle.tn_exchange.specs.RowsLaw.{AreApart}
 use Rattle.tn_exchange.proofs.RowLemmas.{IsMadeOf, limits_with_row, limits_without_rows, made_of_none, made_with_row, made_firm}
 use Rattle.tn_market.specs.declared.ends.Ends.{Ends}
 use Rattle.tn_market.specs.declared.place.PlaceStep.{PlaceStep}
-use Rattle.tn_market.specs.declared.said.Fault.{Fault}
 use Rattle.tn_answer.specs.Names.{number_of}
 use Rattle.tn_answer.proofs.NameLemmas.{name_at_number}
 use Rattle.tn_file.specs.Naming.{Listed, sides_of}

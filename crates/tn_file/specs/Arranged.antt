@@ -1,5 +1,5 @@
 -- The arrangement: the trades that are on, and a price for each trade.
-use Rattle.std.specs.Prelude.{◌≡◌, ℕ, zero, suc, ◌+◌, ◌^◌, ◌++◌, [], ◌∷◌, ℤ, pos, List, length, replicate, slice_set, codes, Bool, not, if◌then◌else◌, Option, Some, None, Result, Ok, Err}
+use Rattle.std.specs.Prelude.{ℕ, zero, suc, ◌+◌, ◌^◌, [], ◌∷◌, ℤ, pos, List, length, replicate, slice_set, codes, not, if◌then◌else◌, Option, Some, None, Result, Ok, Err}
 use Rattle.serde_json.specs.Data.{Data, Items}
 use Rattle.serde_json.specs.Find.{get}
 use Rattle.tn_base.specs.Sets.{has, toggle, size}

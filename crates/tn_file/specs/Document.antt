@@ -1,5 +1,5 @@
 -- The reading of a document: what it stands for, or the first fault.
-use Rattle.std.specs.Prelude.{◌≡◌, ℕ, [], ◌∷◌, List, codes, Bool, true, false, ◌==◌, if◌then◌else◌, Option, Some, None, option_and_then, Result, Ok, Err}
+use Rattle.std.specs.Prelude.{ℕ, [], ◌∷◌, List, codes, Bool, true, false, ◌==◌, if◌then◌else◌, Option, Some, None, option_and_then, Result, Ok}
 use Rattle.serde_json.specs.Data.{Data, Items}
 use Rattle.serde_json.specs.Find.{get, as_number, as_u64}
 use Rattle.tn_base.specs.declared.fault.FaultKind.TheVariants.{NotJson, Shape}
@@ -10,9 +10,9 @@ use Rattle.tn_market.specs.declared.place.Word.TheVariants.{Version, Firms, Trad
 use Rattle.tn_market.specs.declared.said.Fault.{Fault}
 use Rattle.tn_answer.specs.Names.{NameLists, no_names}
 use Rattle.tn_file.specs.declared.need.Need.{Need}
-use Rattle.tn_file.specs.declared.need.Need.TheVariants.{Market, Raw, Arrangement}
+use Rattle.tn_file.specs.declared.need.Need.TheVariants.{Raw, Arrangement}
 use Rattle.tn_file.specs.declared.shapes.ObjectKind.TheVariants.{Top}
-use Rattle.tn_file.specs.Reading.{Stop, ◌>>=◌, beside, each, fault, wanted}
+use Rattle.tn_file.specs.Reading.{Stop, ◌>>=◌, beside, each, wanted}
 use Rattle.tn_file.specs.Shapes.{few_at, object_of}
 use Rattle.tn_file.specs.Json.{json_of}
 use Rattle.tn_file.specs.Naming.{Listed, one_firm_name, one_trade}

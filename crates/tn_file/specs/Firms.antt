@@ -1,5 +1,5 @@
 -- The firms: each has a kind and the members of its kind, and meets the exchange property where it is tested.
-use Rattle.std.specs.Prelude.{◌≡◌, ℕ, ◌++◌, [], ◌∷◌, List, length, Bool, true, false, if◌then◌else◌, Option, Some, None, option_map, Result, Ok, Err}
+use Rattle.std.specs.Prelude.{ℕ, ◌++◌, [], ◌∷◌, List, length, Bool, if◌then◌else◌, Option, Some, None, option_map, Result, Ok, Err}
 use Rattle.serde_json.specs.Data.{Data}
 use Rattle.tn_base.specs.declared.fault.FaultKind.TheVariants.{ExchangeFails}
 use Rattle.tn_base.specs.Firm.{Firm}
@@ -9,7 +9,7 @@ use Rattle.tn_market.specs.declared.ends.Ends.{Ends}
 use Rattle.tn_market.specs.declared.said.Fault.{Fault}
 use Rattle.tn_market.specs.declared.said.Shown.{Shown}
 use Rattle.tn_market.specs.Network.{own, trades_of}
-use Rattle.tn_file.specs.Reading.{◌>>=◌, each}
+use Rattle.tn_file.specs.Reading.{◌>>=◌}
 use Rattle.tn_file.specs.Naming.{Listed}
 use Rattle.tn_file.specs.Tables.{firm_place, kind_of, table_of}
 use Rattle.tn_file.specs.FirstFailure.{first_failure}

@@ -1,11 +1,11 @@
 -- The first triple, in the order of the test, at which a table fails the exchange property. Whether one triple fails
 -- is decided, so that it can be searched for.
-use Rattle.std.specs.Prelude.{◌≡◌, ℕ, zero, suc, ◌^◌, ◌⊎◌, length, Option, Some, None}
+use Rattle.std.specs.Prelude.{◌≡◌, ℕ, zero, suc, ◌^◌, length, Option, Some, None}
 use Rattle.std.proofs.Common.{inl, inr}
 use Rattle.tn_base.specs.Exchange.{NoneFails}
 use Rattle.tn_base.proofs.ExchangeLemmas.{IsDecided}
 use Rattle.tn_exchange.specs.Rows.{TableRows, firm_of_table}
-use Rattle.tn_exchange.specs.TestOrder.{Triple, TripleFails, IsFirstFailure}
+use Rattle.tn_exchange.specs.TestOrder.{Triple, IsFirstFailure}
 use Rattle.tn_exchange.proofs.DecisionLemmas.{fails_or_not}
 
 -- the first of two that is there

@@ -1,5 +1,5 @@
 -- What holds of every document that is read, and of every fault, in words that know nothing of the reading.
-use Rattle.std.specs.Prelude.{◌≡◌, ℕ, ◌*◌, ◌^◌, ◌<◌, ◌≤◌, ℤ, List, length, slice_get, true, All, Option, Some, Result, Ok, Err}
+use Rattle.std.specs.Prelude.{◌≡◌, ℕ, ◌^◌, ◌<◌, ◌≤◌, ℤ, List, length, slice_get, true, All, Some, Ok}
 use Rattle.tn_base.specs.Arcs.{IsAtMost}
 use Rattle.tn_base.specs.Exchange.{MeetsExchange}
 use Rattle.tn_base.specs.Table.{table_firm}

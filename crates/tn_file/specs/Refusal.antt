@@ -3,7 +3,7 @@ use Rattle.std.specs.Prelude.{◌≡◌, map, Result, Ok, Err}
 use Rattle.tn_firm.specs.Firms.{firm_of}
 use Rattle.tn_firm.specs.Raw.{raw_firm_of}
 use Rattle.tn_file.specs.declared.need.Need.{Need}
-use Rattle.tn_file.specs.declared.need.Need.TheVariants.{Market, Raw, Arrangement}
+use Rattle.tn_file.specs.declared.need.Need.TheVariants.{Raw, Arrangement}
 use Rattle.tn_file.specs.declared.document.Document.{Document}
 use Rattle.tn_file.specs.declared.document.Loaded.TheVariants.{Market as MarketIs, Raw as RawIs}
 use Rattle.tn_file.specs.declared.document.Loaded.{Loaded}

@@ -1,13 +1,12 @@
 -- The shapes of values, and the members that an object may have.
-use Rattle.std.specs.Prelude.{ℕ, ◌≡◌, ◌++◌, [], ◌∷◌, ◌&&◌, ◌||◌, ℤ, unsigned_abs, nat_le, List, codes, Bool, true, false, is_some, Option, Some, None, option_map, option_and_then, unwrap_or, Result, Ok}
+use Rattle.std.specs.Prelude.{ℕ, ◌&&◌, ◌||◌, ℤ, unsigned_abs, nat_le, List, codes, Bool, true, is_some, Option, Some, None, option_and_then, Result, Ok}
 use Rattle.std.specs.Str.{bytes_eq}
 use Rattle.tn_base.specs.declared.fault.FaultKind.TheVariants.{Shape, BadName, Limit, AmountRange}
 use Rattle.tn_market.specs.declared.place.PlaceStep.{PlaceStep}
-use Rattle.tn_market.specs.declared.place.PlaceStep.TheVariants.{Index}
 use Rattle.tn_market.specs.declared.said.Fault.{Fault}
 use Rattle.serde_json.specs.Data.{Data, Items, no_items, item, Members, no_members, member}
 use Rattle.serde_json.specs.Events.{items_len}
-use Rattle.serde_json.specs.Find.{get, as_str, as_array, as_object, as_number, as_i64, as_u64}
+use Rattle.serde_json.specs.Find.{as_str, as_array, as_object, as_number, as_i64}
 use Rattle.tn_file.specs.declared.shapes.ObjectKind.{ObjectKind}
 use Rattle.tn_file.specs.declared.shapes.ObjectKind.TheVariants.{Top, Trade, Table, Arrangement}
 use Rattle.tn_answer.specs.Names.{is_name}

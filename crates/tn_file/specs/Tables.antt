@@ -1,10 +1,9 @@
 -- The tables of the firms.
-use Rattle.std.specs.Prelude.{◌≡◌, ℕ, suc, ◌+◌, ◌^◌, ◌≤◌, ◌++◌, [], ◌∷◌, ℤ, List, length, slice_get, codes, Bool, true, false, not, ◌==◌, nat_le, if◌then◌else◌, Option, Some, None, is_none, option_and_then, Result, Ok}
+use Rattle.std.specs.Prelude.{◌≡◌, ℕ, suc, ◌+◌, ◌^◌, ◌≤◌, ◌++◌, [], ◌∷◌, ℤ, List, length, slice_get, codes, not, ◌==◌, nat_le, if◌then◌else◌, Option, Some, None, is_none, option_and_then, Result, Ok}
 use Rattle.std.specs.Str.{bytes_eq}
 use Rattle.serde_json.specs.Data.{Data, Items}
 use Rattle.serde_json.specs.Find.{get}
 use Rattle.tn_base.specs.Sets.{has, toggle, size}
-use Rattle.tn_base.specs.declared.side.Side.{Side}
 use Rattle.tn_base.specs.declared.fault.FaultKind.TheVariants.{Shape, Limit, UnknownTrade, NotOwnTrade, SameTrade, SameBundle}
 use Rattle.tn_exchange.specs.Rows.{TableRows, row_at, without_rows, with_row}
 use Rattle.tn_market.specs.declared.ends.Ends.{Ends}

@@ -1,7 +1,7 @@
 use Rattle.std.proofs.Common.{◌≡◌, length, drop}
 use Rattle.serde_json.specs.View.{items_view}
 use Rattle.tn_file.specs.Reading.{each}
-use Rattle.tn_file.specs.Arranged.{Priced, one_price}
+use Rattle.tn_file.specs.Arranged.{one_price}
 use Rattle.tn_file.proofs.arrangement.read_entries.Given as goal
 
 abbrev pub invariant-loop-entry : goal.invariant-loop-entry

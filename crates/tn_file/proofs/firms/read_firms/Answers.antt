@@ -1,9 +1,8 @@
-use Rattle.std.proofs.Common.{◌≡◌, ap, sym, ◌∙◌, ◌++◌, ◌∷◌, [], map, length, arith, length-append}
+use Rattle.std.proofs.Common.{◌≡◌, ap, ◌∙◌, ◌++◌, ◌∷◌, [], map, length, arith, length-append}
 use Rattle.std.proofs.lemmas.Result.{err_from_is_err_and}
 use Rattle.std.proofs.lemmas.List.{length-map, map_push}
 use Rattle.serde_json.specs.View.{items_view}
 use Rattle.tn_file.specs.Reading.{each}
-use Rattle.tn_file.specs.Naming.{Listed}
 use Rattle.tn_file.specs.Firms.{one_firm}
 use Rattle.tn_file.proofs.EachLemmas.{each_goes_on, each_is_done, each_fails}
 use Rattle.tn_file.proofs.FirmLemmas.{one_firm-fails, one_firm-next}

@@ -1,7 +1,6 @@
 use Rattle.std.proofs.Common.{◌≡◌, length, drop, map, []}
 use Rattle.serde_json.specs.View.{items_view}
 use Rattle.tn_file.specs.Reading.{each}
-use Rattle.tn_file.specs.Naming.{Listed}
 use Rattle.tn_file.specs.Firms.{one_firm}
 use Rattle.tn_file.proofs.firms.read_firms.Given as goal
 

@@ -1,7 +1,5 @@
-use Rattle.std.proofs.Common.{ap, subst, ◌∙◌, arith}
+use Rattle.std.proofs.Common.{◌∙◌, arith}
 use Rattle.std.proofs.lemmas.Result.{err_from_is_err_and}
-use Rattle.serde_json.specs.View.{items_view}
-use Rattle.tn_file.specs.Reading.{each, FailsBeside}
 use Rattle.tn_file.specs.Naming.{one_firm_name}
 use Rattle.tn_file.proofs.EachLemmas.{each_goes_on, each_is_done, each_fails_beside}
 use Rattle.tn_file.proofs.names.read_firm_names.Goals as goal

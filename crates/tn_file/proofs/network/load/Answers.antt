@@ -1,4 +1,4 @@
-use Rattle.std.proofs.Common.{◌≡◌, ◌≤◌, sym, ap, ◌∙◌, map, [], length, true, Ok, arith}
+use Rattle.std.proofs.Common.{◌≡◌, sym, ◌∙◌, map, [], length, true, Ok, arith}
 use Rattle.std.proofs.lemmas.List.{length-map}
 use Rattle.serde_json.specs.View.{items_view}
 use Rattle.serde_json.specs.Events.{items_len}

@@ -1,4 +1,4 @@
-use Rattle.std.proofs.Common.{get_or, Some, ap, sym, ◌∙◌, arith}
+use Rattle.std.proofs.Common.{sym, ◌∙◌, arith}
 use Rattle.std.proofs.lemmas.Option.{slice_get-get_or}
 use Rattle.tn_file.proofs.EndsLemmas.{found_within, position_within}
 use Rattle.tn_file.proofs.references.own_position.Goals as goal

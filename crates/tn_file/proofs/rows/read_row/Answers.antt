@@ -1,7 +1,4 @@
-use Rattle.std.proofs.Common.{ap, sym, subst, ◌∙◌, ◌^◌, ◌<◌, length, add-one, arith}
-use Rattle.std.specs.List.{slice_index_or}
-use Rattle.tn_base.specs.declared.side.Side.{Side}
-use Rattle.tn_file.specs.Tables.{filled}
+use Rattle.std.proofs.Common.{sym, subst, ◌^◌, ◌<◌, length}
 use Rattle.tn_file.proofs.RowLemmas.{filled-added}
 use Rattle.tn_file.proofs.rows.read_row.Goals as goal
 

@@ -4,8 +4,8 @@ use Rattle.std.proofs.Math.Nat.{pow-le-pow_right}
 use Rattle.serde_json.specs.View.{items_view}
 use Rattle.tn_exchange.specs.Rows.{TableRows, without_rows}
 use Rattle.tn_file.specs.Reading.{each}
-use Rattle.tn_file.specs.Naming.{Listed, sides_of}
-use Rattle.tn_file.specs.Tables.{Rows, filled, one_row, rows_of}
+use Rattle.tn_file.specs.Naming.{sides_of}
+use Rattle.tn_file.specs.Tables.{filled, one_row, rows_of}
 use Rattle.tn_file.proofs.EachLemmas.{each_goes_on, each_is_done, each_fails, fails_then}
 use Rattle.tn_file.proofs.RowLemmas.{filled_le, filled-none, length-replicate}
 use Rattle.tn_file.proofs.rows.read_rows.Goals as goal

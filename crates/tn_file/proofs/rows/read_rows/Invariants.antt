@@ -1,9 +1,9 @@
-use Rattle.std.proofs.Common.{◌≡◌, ◌<◌, ◌^◌, length, drop}
+use Rattle.std.proofs.Common.{◌≡◌, ◌^◌, length, drop}
 use Rattle.serde_json.specs.View.{items_view}
 use Rattle.tn_exchange.specs.Rows.{without_rows}
 use Rattle.tn_file.specs.Reading.{each}
-use Rattle.tn_file.specs.Naming.{Listed, sides_of}
-use Rattle.tn_file.specs.Tables.{Rows, filled, one_row}
+use Rattle.tn_file.specs.Naming.{sides_of}
+use Rattle.tn_file.specs.Tables.{filled, one_row}
 use Rattle.tn_file.proofs.rows.read_rows.Given as goal
 
 abbrev pub invariant-loop-row : goal.invariant-loop-row

@@ -1,6 +1,4 @@
-use Rattle.std.proofs.Common.{ap, sym, ◌∙◌, arith}
 use Rattle.std.proofs.lemmas.Result.{err_from_is_err_and}
-use Rattle.tn_file.specs.Naming.{Listed}
 use Rattle.tn_file.specs.Tables.{row_reference}
 use Rattle.tn_file.proofs.EachLemmas.{each_goes_on, each_is_done, each_fails}
 use Rattle.tn_file.proofs.rows.row_bundle.Goals as goal

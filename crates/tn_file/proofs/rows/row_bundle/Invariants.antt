@@ -1,7 +1,7 @@
 use Rattle.std.proofs.Common.{◌≡◌, ◌<◌, ◌^◌, length, drop}
 use Rattle.serde_json.specs.View.{items_view}
 use Rattle.tn_file.specs.Reading.{each}
-use Rattle.tn_file.specs.Naming.{Listed, sides_of}
+use Rattle.tn_file.specs.Naming.{sides_of}
 use Rattle.tn_file.specs.Tables.{row_reference}
 use Rattle.tn_file.proofs.rows.row_bundle.Given as goal
 

@@ -1,7 +1,5 @@
-use Rattle.std.proofs.Common.{ap, sym, ◌∙◌, ◌∷◌, [], None, length, arith, length-append, get_or}
-use Rattle.std.specs.Prelude.{Option, Some, is_some}
-use Rattle.tn_base.specs.declared.side.Side.{Side}
-use Rattle.tn_file.specs.Naming.{sides_of}
+use Rattle.std.proofs.Common.{ap, sym, ◌∙◌, length, arith}
+use Rattle.std.specs.Prelude.{is_some}
 use Rattle.tn_file.proofs.EndsLemmas.{sides_of-none, count-own, count-other}
 use Rattle.tn_file.proofs.trades.count_own.Goals as goal
 use Rattle.tn_file.proofs.trades.count_own.Goals.{then-is_some, else-is_some}

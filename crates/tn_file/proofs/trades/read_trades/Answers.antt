@@ -1,9 +1,6 @@
-use Rattle.std.proofs.Common.{ap, sym, subst, ◌∙◌, ◌++◌, ◌∷◌, [], length, add-one, arith, length-append}
+use Rattle.std.proofs.Common.{ap, ◌∙◌, ◌∷◌, [], length, arith, length-append}
 use Rattle.std.proofs.lemmas.Result.{err_from_is_err_and}
-use Rattle.tn_market.specs.declared.ends.Ends.{Ends}
-use Rattle.std.proofs.Common.{List}
-use Rattle.tn_file.specs.Reading.{each}
-use Rattle.tn_file.specs.Naming.{Listed, AreInOrder, one_trade}
+use Rattle.tn_file.specs.Naming.{one_trade}
 use Rattle.tn_file.proofs.EachLemmas.{each_goes_on, each_is_done, each_fails_beside}
 use Rattle.tn_file.proofs.EndsLemmas.{AreInOrder-push}
 use Rattle.tn_file.proofs.trades.read_trades.Goals as goal

@@ -1,7 +1,7 @@
 use Rattle.std.proofs.Common.{◌≡◌, length, drop, []}
 use Rattle.serde_json.specs.View.{items_view}
 use Rattle.tn_file.specs.Reading.{each}
-use Rattle.tn_file.specs.Naming.{Listed, AreInOrder, one_trade}
+use Rattle.tn_file.specs.Naming.{AreInOrder, one_trade}
 use Rattle.tn_file.proofs.trades.read_trades.Given as goal
 
 abbrev pub invariant-loop-trade : goal.invariant-loop-trade

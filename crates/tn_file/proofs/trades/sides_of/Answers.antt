@@ -1,7 +1,5 @@
-use Rattle.std.proofs.Common.{◌≡◌, ap, sym, subst, ◌∙◌, ◌++◌, ◌∷◌, [], get_or, Some, None, Vec, Global}
-use Rattle.std.specs.Prelude.{Option}
+use Rattle.std.proofs.Common.{ap, sym, ◌∙◌, ◌++◌, ◌∷◌, [], Vec, Global}
 use Rattle.tn_base.specs.declared.side.Side.{Side}
-use Rattle.tn_file.specs.Naming.{side_in}
 use Rattle.tn_file.proofs.EndsLemmas.{sides_of-none, sides_of-own, sides_of-other}
 use Rattle.tn_file.proofs.trades.sides_of.Goals as goal
 use Rattle.tn_file.proofs.trades.sides_of.Goals.{in-Some+in_ok-push, in_default}

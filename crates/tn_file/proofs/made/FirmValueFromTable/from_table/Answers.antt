@@ -1,4 +1,4 @@
-use Rattle.std.proofs.Common.{◌≡◌, refl, sym, ap, ◌∙◌, length, Ok, Err}
+use Rattle.std.proofs.Common.{refl, sym, ap, ◌∙◌, length, Ok, Err}
 use Rattle.tn_exchange.specs.Rows.{TableRows}
 use Rattle.tn_file.proofs.FirmLemmas.{tested_firm-holds, tested_firm-fails}
 use Rattle.tn_file.proofs.made.FirmValueFromTable.from_table.Goals as goal
