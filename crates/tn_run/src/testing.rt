@@ -20,18 +20,23 @@ pub fn test(alloc: Global, net: &RawNet) -> Result<Said, OutOfMemory>
     ensures answer { IfOk result (Tests (map raw_firm_of net.now.firms) net.now.ends) }
     ensures sayable { IfOk result IsSayable }
 {
+    let firms = net.firms();
     let mut f = 0;
-    for firm in net.firms() {
-        if let Verdict::Fails { x, y, at } = firm.test() {
-            let count = firm.trades();
-            return Ok(Said::ExchangeFails {
-                firm: f,
-                x: net.trades_in(alloc, f, count, x)?,
-                y: net.trades_in(alloc, f, count, y)?,
-                at: net.trade_at(f, at),
-            });
+    for firm in firms {
+        match firm.test() {
+            Verdict::Holds => f += 1,
+            Verdict::Fails { x, y, at } => {
+                let count = firm.trades();
+                let x = net.trades_in(alloc, f, count, x)?;
+                let y = net.trades_in(alloc, f, count, y)?;
+                return Ok(Said::ExchangeFails {
+                    firm: f,
+                    x,
+                    y,
+                    at: net.trade_at(f, at),
+                });
+            }
         }
-        f += 1;
     }
     Ok(Said::Accepted)
 }
