@@ -5,8 +5,9 @@ ghost use Rattle.tn_answer.specs.Names.{no_names};
 ghost use Rattle.tn_file.specs.Document.{DocumentData, reading_of};
 ghost use Rattle.tn_file.specs.Extra.{extra_view};
 ghost use Rattle.tn_file.specs.Json.{json_of};
+ghost use Rattle.tn_file.specs.Laws.{IsDocument};
 ghost use Rattle.tn_file.specs.Reading.{Gives, GivesBeside, wanted};
-ghost use Rattle.tn_file.specs.Refusal.{IsExtraFor, IsLoadedFor, Reads, net_view};
+ghost use Rattle.tn_file.specs.Refusal.{IsExtraFor, IsLoadedFor, Reads, document_view, net_view};
 
 use crate::document::{DocRefusal, Document};
 use crate::fault::ReadError;
@@ -21,6 +22,8 @@ use tn_base::FaultKind;
 /// Reads a document from its bytes: what they stand for, or the first fault.
 pub fn read_doc(alloc: Global, need: Need, bytes: &[u8]) -> Result<Document, DocRefusal>
     ensures exact { Reads result (reading_of need bytes.now) }
+    // A network with its names, whose firms meet exchange unless it is read raw.
+    ensures network { IfOk result (λ doc. IsDocument need (document_view doc)) }
     ensures loaded { IfOk result (λ doc. IsLoadedFor need doc.firms) }
     ensures extra { IfOk result (λ doc. IsExtraFor need doc.extra) }
 {
