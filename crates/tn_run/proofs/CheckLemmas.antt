@@ -43,8 +43,9 @@ get_or-past (x ∷ xs) (suc k) d h = get_or-past xs k d (omega (arith, h))
 -- each price is small, and so is that of a trade that isn't there
 price_small : (prices : List ℤ) (t limit : ℕ) → All (λ p. IsAtMost p limit) prices → IsAtMost (price_at prices t) limit
 price_small prices t limit small = elim (cases_lt t (length prices)) [
-      inl h ↦ All-get_or (λ p. IsAtMost p limit) prices t (pos 0) h small
-    | inr h ↦ subst (λ (z : ℤ). IsAtMost z limit) (sym (get_or-past prices t (pos 0) h)) (record { low = omega (arith, ints); high = omega (arith, ints) }) ]
+  | inl h ↦ All-get_or (λ p. IsAtMost p limit) prices t (pos 0) h small
+  | inr h ↦ subst (λ (z : ℤ). IsAtMost z limit) (sym (get_or-past prices t (pos 0) h)) (record { low = omega (arith, ints); high = omega (arith, ints) })
+]
 
 few_own : (value : FirmValue) → (firm_of value).count ≤ 32
 few_own (Table table) = let few = table.within.few in omega (arith, few)
@@ -62,7 +63,7 @@ surplus_fits firms trades on s few is =
 
 -- a gain fits an answer
 pub gain_fits : (firms : List FirmValue) (trades : List Ends) (on : ℕ) (prices : List ℤ) (f x : ℕ) (gain : ℤ) → All (λ p. IsAtMost p (10 ^ 14)) prices
-  → IsFirstBettered (map firm_of firms) trades (pos 1) on (price_at prices) f x gain → IsAtMost gain (10 ^ 16)
+    → IsFirstBettered (map firm_of firms) trades (pos 1) on (price_at prices) f x gain → IsAtMost gain (10 ^ 16)
 gain_fits firms trades on prices f x gain small bettered =
     let there = value_at firms f bettered.firm bettered.is in
     let few : bettered.firm.count ≤ 32 = subst (λ (firm : Firm). firm.count ≤ 32) there.2 (few_own there.0) in
@@ -77,16 +78,18 @@ gain_fits firms trades on prices f x gain small bettered =
 
 -- the answer that a firm could do better
 pub answer_better : (firms : List FirmValue) (trades : List Ends) (on : ℕ) (prices : List ℤ) (f x : ℕ) (gain told : ℤ) (bundle : List ℕ)
-  → IsFirstBettered (map firm_of firms) trades (pos 1) on (price_at prices) f x gain → told ≡ gain
-  → ((value : FirmValue) → slice_get firms f ≡ Some value → bundle ≡ trades_of trades f (firm_of value).count x)
-  → Judges (map firm_of firms) trades (pos 1) on (price_at prices) (Better f bundle told)
+    → IsFirstBettered (map firm_of firms) trades (pos 1) on (price_at prices) f x gain → told ≡ gain
+    → ((value : FirmValue) → slice_get firms f ≡ Some value → bundle ≡ trades_of trades f (firm_of value).count x)
+    → Judges (map firm_of firms) trades (pos 1) on (price_at prices) (Better f bundle told)
 answer_better firms trades on prices f x gain told bundle bettered same bundle_is =
-    let there = value_at firms f bettered.firm bettered.is in
-    (x, subst (λ (z : ℤ). IsFirstBettered (map firm_of firms) trades (pos 1) on (price_at prices) f x z) (sym same) bettered,
-     bundle_is there.0 there.1 ∙ ap (λ (firm : Firm). trades_of trades f firm.count x) there.2)
+    let there = value_at firms f bettered.firm bettered.is in (
+      x,
+      subst (λ (z : ℤ). IsFirstBettered (map firm_of firms) trades (pos 1) on (price_at prices) f x z) (sym same) bettered,
+      bundle_is there.0 there.1 ∙ ap (λ (firm : Firm). trades_of trades f firm.count x) there.2,
+    )
 
 -- the firm that could do better is one of the firms
 pub bettered_firm : (firms : List FirmValue) (trades : List Ends) (on : ℕ) (prices : List ℤ) (f x : ℕ) (gain : ℤ)
-  → IsFirstBettered (map firm_of firms) trades (pos 1) on (price_at prices) f x gain → f < length firms
+    → IsFirstBettered (map firm_of firms) trades (pos 1) on (price_at prices) f x gain → f < length firms
 bettered_firm firms trades on prices f x gain bettered =
     let there = value_at firms f bettered.firm bettered.is in slice_get_within firms f there.0 there.1

@@ -28,8 +28,10 @@ surplus_small trades on f (firm ∷ firms) s small is = with_worth (λ rest e. s
   where
     none_some : (a : ℤ) → None ≡ Some a → ⊥
     none_some a e = (cc)
+
     sum : ℤ → Option ℤ
     sum w = option_map (λ rest. w +ℤ rest) (surplus_from trades on (f + 1) firms)
+
     with_worth : ((rest : ℤ) → surplus_from trades on (f + 1) firms ≡ Some rest → IsAtMost rest (length firms * 10 ^ 11)) → (o : Option ℤ) → firm.worth (part trades f firm.count on) ≡ o → IsAtMost s (length (firm ∷ firms) * 10 ^ 11)
     with_worth later None e = absurd (none_some s (sym (ap (option_and_then sum) e) ∙ is))
     with_worth later (Some w) e =

@@ -18,12 +18,13 @@ some_inj : (a b : Firm) → Some a ≡ Some b → a ≡ b
 some_inj a b e = (cc)
 
 pub one_more_meets : (firms : List RawFirm) (f : ℕ) (raw : RawFirm) → slice_get firms f ≡ Some raw → NoneFails (raw_firm_of raw)
-  → MeetBefore (map raw_firm_of firms) f → MeetBefore (map raw_firm_of firms) (f + 1)
+    → MeetBefore (map raw_firm_of firms) f → MeetBefore (map raw_firm_of firms) (f + 1)
 one_more_meets firms f raw e holds before g firm less at = elim (cases_lt g f) [
-      inl h ↦ before g firm h at
-    | inr h ↦ let same : g ≡ f = omega (arith, less, h) in
-        let is : raw_firm_of raw ≡ firm = some_inj (raw_firm_of raw) firm (sym (firm_there firms f raw e) ∙ ap (slice_get (map raw_firm_of firms)) (sym same) ∙ at) in
-        subst (λ (x : Firm). NoneFails x) is holds ]
+  | inl h ↦ before g firm h at
+  | inr h ↦ let same : g ≡ f = omega (arith, less, h) in
+      let is : raw_firm_of raw ≡ firm = some_inj (raw_firm_of raw) firm (sym (firm_there firms f raw e) ∙ ap (slice_get (map raw_firm_of firms)) (sym same) ∙ at) in
+      subst (λ (x : Firm). NoneFails x) is holds
+]
 
 -- the item that a loop looks at
 pub item_there : (firms : List RawFirm) (i f : ℕ) (raw : RawFirm) → f ≡ i → i < length firms → raw ≡ get_or firms i raw → slice_get firms f ≡ Some raw
@@ -31,7 +32,7 @@ item_there firms i f raw same within is = ap (slice_get firms) same ∙ slice_ge
 
 -- the firms that were looked at are all of them
 pub all_meet : (firms all : List RawFirm) (f i : ℕ) → firms ≡ all → f ≡ i → length firms ≤ i → MeetBefore (map raw_firm_of firms) f
-  → MeetBefore (map raw_firm_of all) (length (map raw_firm_of all))
+    → MeetBefore (map raw_firm_of all) (length (map raw_firm_of all))
 all_meet firms all f i same counted done meet g firm less at =
     let count : length (map raw_firm_of all) ≡ length all = length-map all raw_firm_of in
     let as_many : length firms ≡ length all = ap length same in

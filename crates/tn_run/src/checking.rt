@@ -15,7 +15,12 @@ use tn_market::{Arrangement, Market, Room, Said, Trades, Valuation};
 use tn_price::{Check, judge_arrangement};
 
 /// The trades of firm `f` in a bundle, ascending.
-fn trades_in(alloc: Global, market: &Market<FirmValue>, f: u32, bundle: Bundle) -> Result<Trades, OutOfMemory>
+fn trades_in(
+    alloc: Global,
+    market: &Market<FirmValue>,
+    f: u32,
+    bundle: Bundle,
+) -> Result<Trades, OutOfMemory>
     requires { f < length market.now.firms }
     ensures { IfOk result (λ trades. (value : _) → slice_get market.now.firms f ≡ Some value → trades ≡ trades_of market.now.trades f (firm_of value).count bundle) }
 {
@@ -29,7 +34,11 @@ fn trades_in(alloc: Global, market: &Market<FirmValue>, f: u32, bundle: Bundle) 
 }
 
 /// The verdict on an arrangement, at scale 1.
-pub fn check(alloc: Global, market: &Market<FirmValue>, at: &Arrangement<2>) -> Result<Said, OutOfMemory>
+pub fn check(
+    alloc: Global,
+    market: &Market<FirmValue>,
+    at: &Arrangement<2>,
+) -> Result<Said, OutOfMemory>
     requires wide { length market.now.trades ≤ 128 }
     requires priced { length at.now.prices ≡ length market.now.trades }
     requires small { All (λ p. IsAtMost p (10 ^ 14)) at.now.prices }

@@ -134,12 +134,7 @@ const FAULTS: [Case; 8] = [
         6,
         r#"{"answer":"better","bundle":[],"firm":"B","gain":99999999999995}"#,
     ),
-    (
-        "solve",
-        r#"{"version":1}"#,
-        2,
-        r#"{"answer":"usage"}"#,
-    ),
+    ("solve", r#"{"version":1}"#, 2, r#"{"answer":"usage"}"#),
 ];
 
 #[test]

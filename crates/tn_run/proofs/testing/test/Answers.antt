@@ -11,8 +11,8 @@ pub loop-firm-preserved : goal.loop-firm-preserved
 loop-firm-preserved c = record {
   counted = omega (arith, c.loop-firm.invariant.counted);
   met = one_more_meets c.firms-firms.result.now c.loop-firm.f c.firm-item.result
-    (item_there c.firms-firms.result.now c.loop-firm.firm-index c.loop-firm.f c.firm-item.result c.loop-firm.invariant.counted c.loop-firm-test.true c.firm-item.is)
-    (c.test.ensures.holds.0 c.in-Holds.is) c.loop-firm.invariant.met;
+      (item_there c.firms-firms.result.now c.loop-firm.firm-index c.loop-firm.f c.firm-item.result c.loop-firm.invariant.counted c.loop-firm-test.true c.firm-item.is)
+      (c.test.ensures.holds.0 c.in-Holds.is) c.loop-firm.invariant.met;
 }
 
 pub returns-in-Fails-clause-answer : goal.returns-in-Fails-clause-answer
