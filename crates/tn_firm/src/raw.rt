@@ -1,10 +1,17 @@
 use tn_exchange::{RawTable, Verdict, test};
+use tn_laminar::Laminar;
+use tn_market::Valuation;
+use tn_middle::Middle;
 
 /// A firm of one of the kinds, whose exchange isn't tested yet.
 #[derive(Debug, Drop)]
 pub enum RawFirm {
     /// A number for each listed bundle.
     Table(RawTable),
+    /// An amount for each own trade, and concave functions of the net counts of nested sets of them.
+    Laminar(Laminar),
+    /// A firm that buys one good and sells it on, or keeps it.
+    Middle(Middle),
 }
 
 impl RawFirm {
@@ -15,28 +22,27 @@ impl RawFirm {
     ghost use Rattle.tn_exchange.specs.Verdicts.{IfFails};
     ghost use Rattle.tn_firm.specs.Raw.{raw_firm_of};
 
-    /// The table that the firm is.
-    fn table(&self) -> &RawTable
-        ensures { raw_firm_of self.now ≡ firm_of_table result.now }
-    {
-        match self {
-            RawFirm::Table(table) => table,
-        }
-    }
-
     /// How many own trades there are.
     pub fn trades(&self) -> u32
         ensures count { result ≡ (raw_firm_of self.now).count }
         ensures few { result ≤ 64 }
     {
-        self.table().trades()
+        match self {
+            RawFirm::Table(table) => table.trades(),
+            RawFirm::Laminar(firm) => firm.trades(),
+            RawFirm::Middle(firm) => firm.trades(),
+        }
     }
 
-    /// Whether the firm meets exchange, or else the first triple that fails in test order. It takes no memory.
+    /// Whether the firm meets exchange, or else the first triple that fails in test order; laminar firms and
+    /// middlemen always meet it. It takes no memory.
     pub fn test(&self) -> Verdict
         ensures holds { (result ≡ Verdict.Holds) ↔ NoneFails (raw_firm_of self.now) }
         ensures first { IfFails result (IsFirstFailure (raw_firm_of self.now)) }
     {
-        test(self.table())
+        match self {
+            RawFirm::Table(table) => test(table),
+            RawFirm::Laminar(_) | RawFirm::Middle(_) => Verdict::Holds,
+        }
     }
 }

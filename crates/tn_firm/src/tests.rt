@@ -5,9 +5,12 @@ ghost use Rattle.tn_market.specs.Stall.{trade_between};
 use super::*;
 use std::alloc::Global;
 use std::process::Abort;
-use tn_base::{Bundle, OutOfMemory, Side, TradeSet};
+use std::test::Fail;
+use tn_base::{Asked, Bundle, OutOfMemory, Side, Steps, TradeSet};
 use tn_exchange::{RawTable, Verdict};
-use tn_market::{Arrangement, Ends, Market, Prices, Room};
+use tn_laminar::Laminar;
+use tn_market::{Arrangement, Ends, Market, Oracle, Prices, Room, Valuation};
+use tn_middle::Middle;
 use tn_price::{Check, judge_arrangement};
 use tn_table::Table;
 
@@ -148,4 +151,44 @@ fn complements_fail_the_test(rt: HostRuntime) {
         at: Some(0),
     };
     assert!(rt; verdict == fails);
+}
+
+/// A middleman who buys at a cost of 2 and sells on at a gain of 3, or keeps what is worth 8.
+#[test]
+fn a_middleman_is_asked(rt: HostRuntime) -> Result<(), Fail> {
+    let alloc = rt.alloc();
+    let sides = vec![in alloc; Side::Buy, Side::Sell]?;
+    let firm = FirmValue::Middle(Middle::new(sides, vec![in alloc; 2, 3]?, Some(8)));
+    let both = Bundle::from_bits(3);
+    assert_eq!(rt; firm.trades(), 2);
+    assert_eq!(rt; firm.value(both, &mut Steps::new(Asked)), Some(1));
+    let best = firm.best(Bundle::empty(), both, 1, &[1, 9], &mut Room::new(alloc)?);
+    assert_eq!(rt; best, Some((both, 9)));
+    Ok(())
+}
+
+/// An amount for each of two trades, and no set of them: whatever pays is in the best bundle.
+#[test]
+fn a_laminar_firm_is_asked(rt: HostRuntime) -> Result<(), Fail> {
+    let alloc = rt.alloc();
+    let sides = vec![in alloc; Side::Buy, Side::Sell]?;
+    let amounts = vec![in alloc; 6, -3]?;
+    let laminar = Laminar::new(alloc, sides, amounts, Vec::new(alloc));
+    let firm = FirmValue::Laminar(laminar.expect(&rt, "no set, so none is refused"));
+    let both = Bundle::from_bits(3);
+    assert_eq!(rt; firm.value(both, &mut Steps::new(Asked)), Some(3));
+    let best = firm.best(Bundle::empty(), both, 1, &[5, 2], &mut Room::new(alloc)?);
+    assert_eq!(rt; best, Some((Bundle::from_bits(1), 1)));
+    Ok(())
+}
+
+/// No middleman needs a test.
+#[test]
+fn middlemen_meet_exchange(rt: HostRuntime) -> Result<(), Fail> {
+    let alloc = rt.alloc();
+    let sides = vec![in alloc; Side::Buy, Side::Sell]?;
+    let firm = RawFirm::Middle(Middle::new(sides, vec![in alloc; 2, 3]?, None));
+    assert_eq!(rt; firm.trades(), 2);
+    assert_eq!(rt; firm.test(), Verdict::Holds);
+    Ok(())
 }

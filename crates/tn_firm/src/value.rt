@@ -1,5 +1,7 @@
 use tn_base::{Asked, Bundle, Side, Steps};
+use tn_laminar::Laminar;
 use tn_market::{Oracle, Room, Valuation};
+use tn_middle::Middle;
 use tn_table::Table;
 
 /// A firm of one of the kinds, which meets exchange.
@@ -7,21 +9,10 @@ use tn_table::Table;
 pub enum FirmValue {
     /// A number for each listed bundle.
     Table(Table),
-}
-
-impl FirmValue {
-    ghost use Rattle.std.specs.Prelude.{◌≡◌};
-    ghost use Rattle.tn_firm.specs.Firms.{firm_of};
-    ghost use Rattle.tn_table.specs.Tables.{firm_of as table_firm_of};
-
-    /// The table that the firm is.
-    fn table(&self) -> &Table
-        ensures { firm_of self.now ≡ table_firm_of result.now }
-    {
-        match self {
-            FirmValue::Table(table) => table,
-        }
-    }
+    /// An amount for each own trade, and concave functions of the net counts of nested sets of them.
+    Laminar(Laminar),
+    /// A firm that buys one good and sells it on, or keeps it.
+    Middle(Middle),
 }
 
 impl Valuation for FirmValue {
@@ -35,19 +26,35 @@ impl Valuation for FirmValue {
     ghost limit = { λ _. 10 ^ 11 };
 
     fn trades(&self) -> u32 {
-        self.table().trades()
+        match self {
+            FirmValue::Table(firm) => firm.trades(),
+            FirmValue::Laminar(firm) => firm.trades(),
+            FirmValue::Middle(firm) => firm.trades(),
+        }
     }
 
     fn side(&self, k: u32) -> Side {
-        self.table().side(k)
+        match self {
+            FirmValue::Table(firm) => firm.side(k),
+            FirmValue::Laminar(firm) => firm.side(k),
+            FirmValue::Middle(firm) => firm.side(k),
+        }
     }
 
     fn bound(&self) -> i128 {
-        self.table().bound()
+        match self {
+            FirmValue::Table(firm) => firm.bound(),
+            FirmValue::Laminar(firm) => firm.bound(),
+            FirmValue::Middle(firm) => firm.bound(),
+        }
     }
 
     fn value(&self, x: Bundle, steps: &mut Steps<Asked>) -> Option<i128> {
-        self.table().value(x, steps)
+        match self {
+            FirmValue::Table(firm) => firm.value(x, steps),
+            FirmValue::Laminar(firm) => firm.value(x, steps),
+            FirmValue::Middle(firm) => firm.value(x, steps),
+        }
     }
 
     ghost few_trades = { λ value. (firm_laws value).few_trades };
@@ -76,6 +83,10 @@ impl Oracle for FirmValue {
         prices: &[i128],
         room: &mut Room,
     ) -> Option<(Bundle, i128)> {
-        self.table().best(need, free, scale, prices, room)
+        match self {
+            FirmValue::Table(firm) => firm.best(need, free, scale, prices, room),
+            FirmValue::Laminar(firm) => firm.best(need, free, scale, prices, room),
+            FirmValue::Middle(firm) => firm.best(need, free, scale, prices, room),
+        }
     }
 }
