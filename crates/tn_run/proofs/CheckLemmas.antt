@@ -10,8 +10,7 @@ use Rattle.std.proofs.lemmas.List.Elements.{All-get_or}
 use Rattle.tn_base.specs.Arcs.{IsAtMost}
 use Rattle.tn_base.specs.Firm.{Firm, IsBest}
 use Rattle.tn_firm.specs.declared.value.FirmValue.{FirmValue}
-use Rattle.tn_firm.specs.declared.value.FirmValue.TheVariants.{Table}
-use Rattle.tn_firm.specs.Firms.{firm_of, firm_laws}
+use Rattle.tn_firm.specs.Firms.{firm_of, firm_laws, firm_few}
 use Rattle.tn_market.specs.declared.ends.Ends.{Ends}
 use Rattle.tn_market.specs.declared.said.Said.TheVariants.{Equilibrium, Better, Impossible}
 use Rattle.tn_market.specs.Best.{price_at}
@@ -47,9 +46,6 @@ price_small prices t limit small = elim (cases_lt t (length prices)) [
   | inr h ↦ subst (λ (z : ℤ). IsAtMost z limit) (sym (get_or-past prices t (pos 0) h)) (record { low = omega (arith, ints); high = omega (arith, ints) })
 ]
 
-few_own : (value : FirmValue) → (firm_of value).count ≤ 32
-few_own (Table table) = let few = table.within.few in omega (arith, few)
-
 pub are_small : (firms : List FirmValue) → AreSmallFirms (map firm_of firms)
 are_small [] = tt
 are_small (value ∷ firms) = ((firm_laws value).within, are_small firms)
@@ -66,7 +62,7 @@ pub gain_fits : (firms : List FirmValue) (trades : List Ends) (on : ℕ) (prices
     → IsFirstBettered (map firm_of firms) trades (pos 1) on (price_at prices) f x gain → IsAtMost gain (10 ^ 16)
 gain_fits firms trades on prices f x gain small bettered =
     let there = value_at firms f bettered.firm bettered.is in
-    let few : bettered.firm.count ≤ 32 = subst (λ (firm : Firm). firm.count ≤ 32) there.2 (few_own there.0) in
+    let few : bettered.firm.count ≤ 32 = subst (λ (firm : Firm). firm.count ≤ 32) there.2 (firm_few there.0) in
     let worths = subst (λ (firm : Firm). (y : ℕ) (a : ℤ) → firm.worth y ≡ Some a → IsAtMost a (10 ^ 11)) there.2 (firm_laws there.0).within in
     let own_small = utility_small bettered.firm (λ k. price_at prices (own trades f k)) _ bettered.own_value few worths (λ k. price_small prices (own trades f k) (10 ^ 14) small) bettered.own_is in
     let best_small = utility_small bettered.firm (λ k. price_at prices (own trades f k)) x bettered.best_value few worths (λ k. price_small prices (own trades f k) (10 ^ 14) small) bettered.best.is in
