@@ -155,6 +155,7 @@ fn complements_fail_the_test(rt: HostRuntime) {
 
 /// A middleman who buys at a cost of 2 and sells on at a gain of 3, or keeps what is worth 8.
 #[test]
+#[tactic(auto, unfolding(tn_base::specs::Sets::meet, tn_base::specs::Sets::union))]
 fn a_middleman_is_asked(rt: HostRuntime) -> Result<(), Fail> {
     let alloc = rt.alloc();
     let sides = vec![in alloc; Side::Buy, Side::Sell]?;
@@ -169,6 +170,7 @@ fn a_middleman_is_asked(rt: HostRuntime) -> Result<(), Fail> {
 
 /// An amount for each of two trades, and no set of them: whatever pays is in the best bundle.
 #[test]
+#[tactic(auto, unfolding(tn_base::specs::Sets::meet, tn_base::specs::Sets::union))]
 fn a_laminar_firm_is_asked(rt: HostRuntime) -> Result<(), Fail> {
     let alloc = rt.alloc();
     let sides = vec![in alloc; Side::Buy, Side::Sell]?;
