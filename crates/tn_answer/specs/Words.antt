@@ -3,7 +3,7 @@ use Rattle.std.specs.Prelude.{ℕ, List, codes}
 use Rattle.tn_base.specs.declared.fault.FaultKind.{FaultKind}
 use Rattle.tn_base.specs.declared.fault.FaultKind.TheVariants.{NotJson, TooLong, Shape, BadName, SameName, UnknownFirm, SelfTrade, UnknownTrade, Limit, AmountRange, NotOwnTrade, SameBundle, NoEmpty, NotLaminar, NotConcave, ExchangeFails, SameTrade, PriceMissing, BadOver}
 use Rattle.tn_market.specs.declared.place.Word.{Word}
-use Rattle.tn_market.specs.declared.place.Word.TheVariants.{Version, Firms, Trades, Arrangement, Name, Seller, Buyer, Kind, Rows, On, Prices}
+use Rattle.tn_market.specs.declared.place.Word.TheVariants.{Version, Firms, Trades, Arrangement, Name, Seller, Buyer, Kind, Rows, Amounts, Sets, From, Values, Costs, Gains, Keep, On, Prices}
 
 -- the name of a kind of fault
 abbrev pub kind_name : FaultKind → List ℕ
@@ -38,5 +38,12 @@ word_text Seller = codes "seller"
 word_text Buyer = codes "buyer"
 word_text Kind = codes "kind"
 word_text Rows = codes "rows"
+word_text Amounts = codes "amounts"
+word_text Sets = codes "sets"
+word_text From = codes "from"
+word_text Values = codes "values"
+word_text Costs = codes "costs"
+word_text Gains = codes "gains"
+word_text Keep = codes "keep"
 word_text On = codes "on"
 word_text Prices = codes "prices"

@@ -45,6 +45,13 @@ pub(crate) fn word_text(word: Word) -> &'static str
         Word::Buyer => "buyer",
         Word::Kind => "kind",
         Word::Rows => "rows",
+        Word::Amounts => "amounts",
+        Word::Sets => "sets",
+        Word::From => "from",
+        Word::Values => "values",
+        Word::Costs => "costs",
+        Word::Gains => "gains",
+        Word::Keep => "keep",
         Word::On => "on",
         Word::Prices => "prices",
     }

@@ -3,5 +3,6 @@ pub mod SizeLemmas
 pub mod SumLemmas
 pub mod FirmLemmas
 pub mod TableLemmas
+pub mod BuysLemmas
 pub mod LimbLemmas
 pub mod ExchangeLemmas

@@ -20,6 +20,6 @@ pub use fault::FaultKind;
 pub use laws::{bundles_are_sets, exchange_is_what_no_triple_fails};
 pub use memory::OutOfMemory;
 pub use number::scaled;
-pub use side::Side;
+pub use side::{Side, purchases};
 pub use steps::{Asked, Steps};
 pub use trade_set::TradeSet;

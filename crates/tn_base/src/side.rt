@@ -1,3 +1,8 @@
+ghost use Rattle.std.specs.Prelude.{◌≡◌, ◌≤◌, length};
+ghost use Rattle.tn_base.specs.Table.{buys_of};
+
+use crate::bundle::Bundle;
+
 /// On which side of a trade a firm stands.
 #[derive(Clone, Copy, Debug, PartialEq, Eq)]
 pub enum Side {
@@ -5,4 +10,18 @@ pub enum Side {
     Buy,
     /// The firm sells the trade.
     Sell,
+}
+
+/// The positions that are bought, of at most 64 own trades with these sides by position.
+pub fn purchases(sides: &[Side]) -> Bundle
+    requires { length sides.now ≤ 64 }
+    ensures { result ≡ buys_of sides.now }
+{
+    let mut buys = Bundle::empty();
+    for k in 0..sides.len() {
+        if let Side::Buy = sides[k] {
+            buys = buys.toggle(k as u32);
+        }
+    }
+    buys
 }

@@ -1,4 +1,3 @@
 pub mod RowLemmas
-pub mod BuysLemmas
 pub mod TestLemmas
 pub mod DecisionLemmas

@@ -6,7 +6,7 @@ ghost use Rattle.tn_exchange.specs.Rows.{HasRow, IsWithinLimits, firm_of_table, 
 use crate::refusal::RowRefusal;
 use std::alloc::Global;
 use std::marker::Model;
-use tn_base::{Bundle, OutOfMemory, Side};
+use tn_base::{Bundle, OutOfMemory, Side, purchases};
 
 /// A table of numbers for bundles of own positions that may not meet exchange. The empty bundle is worth 0 where it
 /// has no row; every other bundle without a row is impossible.
@@ -96,12 +96,6 @@ impl RawTable {
         ensures members { result ≡ buys_of self.now.sides }
         ensures within { IsWithinLimits self.now }
     {
-        let mut buys = Bundle::empty();
-        for k in 0..self.trades() {
-            if let Side::Buy = self.side(k) {
-                buys = buys.toggle(k);
-            }
-        }
-        buys
+        purchases(&self.sides)
     }
 }

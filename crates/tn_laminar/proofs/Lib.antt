@@ -1,4 +1,3 @@
-pub mod BuysLemmas
 pub mod ValueLemmas
 pub mod MaskLemmas
 pub mod FaultLemmas

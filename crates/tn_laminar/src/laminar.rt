@@ -1,7 +1,6 @@
 ghost use Rattle.std.specs.Prelude.{map, slice_get, if◌then◌else◌, pos, ◌≡◌, ◌<◌, ◌≤◌, ◌^◌, ◌*◌, length, All, IfOk, IfErr, IfSome};
 ghost use Rattle.tn_base.specs.Arcs.{IsAtMost};
 ghost use Rattle.tn_base.specs.Sets.{has, sum_over};
-ghost use Rattle.tn_base.specs.Table.{buys_of};
 ghost use Rattle.tn_law.specs.Nested.{count_sum};
 ghost use Rattle.tn_laminar.specs.Faults.{AreSound, IsRefusedFor};
 ghost use Rattle.tn_laminar.specs.Masked.{masks_of};
@@ -12,7 +11,7 @@ use crate::masks::Masks;
 use crate::refusal::LaminarRefusal;
 use crate::set::LaminarSet;
 use std::alloc::{AllocFailed, Global};
-use tn_base::{Bundle, Side};
+use tn_base::{Bundle, Side, purchases};
 
 /// A firm whose worth is the sum of an amount for each trade of a bundle, and for each of a family of nested sets a
 /// concave function of the net count within it (laminar concave functions: Murota, Discrete Convex Analysis, 2003).
@@ -53,7 +52,7 @@ impl Laminar {
         if let Some(fault) = first_fault(&sets) {
             return Err(fault);
         }
-        let buys = buys(&sides);
+        let buys = purchases(&sides);
         let Ok(masks) = masks(alloc, &sets, buys) else {
             return Err(LaminarRefusal::OutOfMemory);
         };
@@ -112,20 +111,6 @@ impl Laminar {
         }
         Some(total)
     }
-}
-
-/// The positions that are bought.
-fn buys(sides: &[Side]) -> Bundle
-    requires { length sides.now ≤ 32 }
-    ensures { result ≡ buys_of sides.now }
-{
-    let mut buys = Bundle::empty();
-    for k in 0..sides.len() {
-        if let Side::Buy = sides[k] {
-            buys = buys.toggle(k as u32);
-        }
-    }
-    buys
 }
 
 /// The masks of the sets.

@@ -10,6 +10,13 @@ pub enum Word {
     Buyer,
     Kind,
     Rows,
+    Amounts,
+    Sets,
+    From,
+    Values,
+    Costs,
+    Gains,
+    Keep,
     On,
     Prices,
 }

@@ -1,3 +1,2 @@
-pub mod BuysLemmas
 pub mod BalanceLemmas
 pub mod PairLemmas

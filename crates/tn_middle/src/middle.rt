@@ -3,10 +3,9 @@ ghost use Rattle.std.specs.Option.{ForSome};
 ghost use Rattle.tn_base.specs.Arcs.{IsAtMost};
 ghost use Rattle.tn_base.specs.Sets.{has, meet, minus, size, sum_over};
 ghost use Rattle.tn_base.specs.Firm.{payments};
-ghost use Rattle.tn_base.specs.Table.{buys_of};
 ghost use Rattle.tn_middle.specs.Pairs.{IsMiddle, by_counts, number_at, middle_firm};
 
-use tn_base::{Bundle, Side};
+use tn_base::{Bundle, Side, purchases};
 
 /// A firm that buys one good and sells it on, and may keep a good that it has bought where it is told what that is
 /// worth. Nothing else is possible.
@@ -34,7 +33,7 @@ impl Middle {
     {
         Middle {
             trades: sides.len() as u32,
-            buys: buys(&sides),
+            buys: purchases(&sides),
             numbers,
             keep,
         }
@@ -79,18 +78,4 @@ impl Middle {
             _ => None,
         }
     }
-}
-
-/// The positions that are bought.
-fn buys(sides: &[Side]) -> Bundle
-    requires { length sides.now ≤ 32 }
-    ensures { result ≡ buys_of sides.now }
-{
-    let mut buys = Bundle::empty();
-    for k in 0..sides.len() {
-        if let Side::Buy = sides[k] {
-            buys = buys.toggle(k as u32);
-        }
-    }
-    buys
 }

@@ -12,8 +12,8 @@ pub invariant_of-result : goal.invariant_of-result
 invariant_of-result c =
     let sound : AreSound c.args.sets.items = rw c.deref.ensures.value at c.in_default.ensures in
     let count : c.len.result ≡ length c.args.sides.items = search rules in
-    let bought : c.buys-buys.result ≡ buys_of c.args.sides.items = search rules in
-    let masked : c.in-Ok.masks.items ≡ map (λ set. masks_of c.buys-buys.result set.members) c.args.sets.items = search rules in
+    let bought : c.purchases-buys.result ≡ buys_of c.args.sides.items = search rules in
+    let masked : c.in-Ok.masks.items ≡ map (λ set. masks_of c.purchases-buys.result set.members) c.args.sets.items = search rules in
     let few = c.requires.few in
     record {
       laminar = rw count (record {

@@ -6,7 +6,7 @@ use Rattle.tn_middle.proofs.middle.Middle.new.Goals as goal
 pub invariant_of-result : goal.invariant_of-result
 invariant_of-result c =
     let count : c.len.result ≡ length c.args.sides.items = search rules in
-    let bought : c.buys.result ≡ buys_of c.args.sides.items = search rules in
+    let bought : c.purchases.result ≡ buys_of c.args.sides.items = search rules in
     let few = c.requires.few in
     record {
       middle = rw (count, bought) (record {

@@ -3,9 +3,9 @@ use Rattle.std.proofs.lemmas.Option.{slice_get_read, get_or_from_slice_get}
 use Rattle.tn_base.specs.declared.side.Side.TheVariants.{Buy}
 use Rattle.tn_base.specs.Sets.{has, set_of}
 use Rattle.tn_base.specs.Table.{buys_of}
-use Rattle.tn_middle.proofs.BuysLemmas.{buys_none, buys_more, buys_same, buys_all}
-use Rattle.tn_middle.proofs.middle.buys.Goals as goal
-use Rattle.tn_middle.proofs.middle.buys.Goals.{in-Buy, in_default}
+use Rattle.tn_base.proofs.BuysLemmas.{buys_none, buys_more, buys_same, buys_all}
+use Rattle.tn_base.proofs.side.purchases.Goals as goal
+use Rattle.tn_base.proofs.side.purchases.Goals.{in-Buy, in_default}
 
 pub loop-k-init : goal.loop-k-init
 loop-k-init c = c.empty-buys.ensures ∙ buys_none c.args.sides.now

@@ -1,7 +1,0 @@
-use Rattle.std.proofs.Common.{◌≡◌}
-use Rattle.tn_base.specs.Sets.{has, set_of}
-use Rattle.tn_base.specs.Table.{buys_of}
-use Rattle.tn_laminar.proofs.laminar.buys.Given as goal
-
-abbrev pub invariant-loop-k : goal.invariant-loop-k
-invariant-loop-k l = l.buys ≡ set_of (has (buys_of l.sides)) l.k
