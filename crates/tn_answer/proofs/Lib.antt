@@ -2,3 +2,6 @@ pub mod NameLemmas
 pub mod FloatLemmas
 pub mod MapLemmas
 pub mod LawLemmas
+pub mod DataTexts
+pub mod PlainAnswers
+pub mod ApartLemmas

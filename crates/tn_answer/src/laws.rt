@@ -1,4 +1,11 @@
+ghost use Rattle.tn_answer.specs.Apart.{AnswersAreToldApart};
 ghost use Rattle.tn_answer.specs.Laws.{NeedsNoNames};
+
+/// Answers of one text over the same names are equal, but for a step of a fault's place that is a member in one and a
+/// trade of the same name in the other.
+pub fn answers_are_told_apart()
+    ensures { AnswersAreToldApart }
+{}
 
 /// The text of an answer that names no firm and no trade doesn't depend on names.
 pub fn some_answers_need_no_names()

@@ -12,7 +12,7 @@ mod text;
 mod values;
 mod words;
 
-pub use laws::some_answers_need_no_names;
+pub use laws::{answers_are_told_apart, some_answers_need_no_names};
 pub use names::Names;
 pub use rule::is_name;
 pub use text::{answer_text, no_memory_text, read_fault_text, usage_text};

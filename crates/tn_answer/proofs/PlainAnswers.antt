@@ -1,0 +1,98 @@
+-- The data of an answer are plain: their texts have characters of names alone, and their numbers are short.
+use Rattle.std.proofs.Common.{◌≡◌, ℕ, ℤ, pos, negsuc, ◌<◌, ◌^◌, true, List, [], ◌∷◌, map, slice_get, All, Option, None, Some, unwrap_or, FitsSigned, refl, arith}
+use Rattle.std.specs.Int.{w64}
+use Rattle.std.proofs.lemmas.Bool.{and_parts}
+use Rattle.std.proofs.lemmas.List.Elements.{All-head, All-tail}
+use Rattle.serde_json.specs.Find.{of_integer}
+use Rattle.serde_json.specs.View.{items_of}
+use Rattle.tn_base.specs.declared.fault.FaultKind.{FaultKind}
+use Rattle.tn_base.specs.declared.fault.FaultKind.TheVariants.{NotJson}
+use Rattle.tn_base.specs.Faults.{fault_number}
+use Rattle.tn_market.specs.declared.place.PlaceStep.{PlaceStep}
+use Rattle.tn_market.specs.declared.place.PlaceStep.TheVariants.{Word as Member, Index, Trade}
+use Rattle.tn_market.specs.declared.place.Word.{Word}
+use Rattle.tn_market.specs.declared.place.Word.TheVariants.{Version}
+use Rattle.tn_market.specs.declared.said.Fault.{Fault}
+use Rattle.tn_market.specs.declared.said.Shown.{Shown}
+use Rattle.tn_market.specs.declared.said.Said.{Said}
+use Rattle.tn_market.specs.declared.said.Said.TheVariants.{Usage, ReadFault, NoMemory, Fault as FaultIs, Equilibrium, Better, Impossible, Accepted, ExchangeFails}
+use Rattle.tn_answer.specs.Names.{NameLists, IsNameList, is_name}
+use Rattle.tn_answer.specs.Words.{kind_name, word_text}
+use Rattle.tn_answer.specs.AnswerText.{name_data, option_data, step_data, fault_data, answer_data}
+use Rattle.tn_answer.specs.Apart.{HasShortIndex, HasShortNumbers}
+use Rattle.tn_answer.proofs.DataTexts.{IsShort, HasNameBytes, IsPlain, ItemsArePlain}
+
+kind_name_is_plain : (kind : FaultKind) → HasNameBytes (kind_name kind)
+kind_name_is_plain NotJson = refl
+kind_name_is_plain kind = refl
+
+word_text_is_plain : (word : Word) → HasNameBytes (word_text word)
+word_text_is_plain Version = refl
+word_text_is_plain word = refl
+
+fault_number_is_short : (kind : FaultKind) → fault_number kind < 2 ^ 64
+fault_number_is_short NotJson = omega arith
+fault_number_is_short kind = omega arith
+
+integer_is_short : (z : ℤ) → FitsSigned w64 z → IsShort (of_integer z)
+integer_is_short (pos n) h = omega (arith, h)
+integer_is_short (negsuc n) h = omega (arith, h)
+
+module _ (names : List (List ℕ)) (kept : IsNameList names) where
+  name_is_plain : (k : ℕ) → IsPlain (name_data names k)
+  name_is_plain k = found (slice_get names k) (λ name at. kept.named k name at)
+    where
+      found : (o : Option (List ℕ)) → ((name : List ℕ) → o ≡ Some name → is_name name ≡ true) → HasNameBytes (unwrap_or o [])
+      found None h = refl
+      found (Some name) h = (and_parts _ _ (h name refl)).1
+
+  names_are_plain : (ks : List ℕ) → ItemsArePlain (items_of (map (name_data names) ks))
+  names_are_plain [] = tt
+  names_are_plain (k ∷ ks) = (name_is_plain k, names_are_plain ks)
+
+  option_is_plain : (o : Option ℕ) → IsPlain (option_data names o)
+  option_is_plain None = tt
+  option_is_plain (Some k) = name_is_plain k
+
+  step_is_plain : (step : PlaceStep) → HasShortIndex step → IsPlain (step_data names step)
+  step_is_plain (Member word) h = word_text_is_plain word
+  step_is_plain (Index k) h = h
+  step_is_plain (Trade t) h = name_is_plain t
+
+  place_is_plain : (place : List PlaceStep) → All HasShortIndex place → ItemsArePlain (items_of (map (step_data names) place))
+  place_is_plain [] h = tt
+  place_is_plain (step ∷ place) h = (step_is_plain step (All-head HasShortIndex step place h), place_is_plain place (All-tail HasShortIndex step place h))
+
+  fault_is_plain : (fault : Fault) (shown : Option Shown) → All HasShortIndex fault.place → IsPlain (fault_data names fault shown)
+  fault_is_plain fault None h =
+      (refl, refl, (refl, fault_number_is_short fault.kind, (refl, kind_name_is_plain fault.kind, (refl, place_is_plain fault.place h, tt))))
+  fault_is_plain fault (Some shown) h = (
+    refl,
+    refl,
+    (
+      refl,
+      option_is_plain shown.at,
+      (
+        refl,
+        fault_number_is_short fault.kind,
+        (
+          refl,
+          kind_name_is_plain fault.kind,
+          (refl, place_is_plain fault.place h, (refl, names_are_plain shown.x, (refl, names_are_plain shown.y, tt))),
+        ),
+      ),
+    ),
+  )
+
+pub answer_is_plain : (names : NameLists) → IsNameList names.firms → IsNameList names.trades → (said : Said) → HasShortNumbers said → IsPlain (answer_data names said)
+answer_is_plain names firms trades Usage h = (refl, refl, tt)
+answer_is_plain names firms trades ReadFault h = (refl, refl, tt)
+answer_is_plain names firms trades NoMemory h = (refl, refl, tt)
+answer_is_plain names firms trades (FaultIs fault) h = fault_is_plain names.trades trades fault fault.shown h
+answer_is_plain names firms trades (Equilibrium surplus) h = (refl, refl, (refl, integer_is_short surplus h, tt))
+answer_is_plain names firms trades (Better firm bundle gain) h =
+    (refl, refl, (refl, names_are_plain names.trades trades bundle, (refl, name_is_plain names.firms firms firm, (refl, integer_is_short gain h, tt))))
+answer_is_plain names firms trades (Impossible firm) h = (refl, refl, (refl, name_is_plain names.firms firms firm, tt))
+answer_is_plain names firms trades Accepted h = (refl, refl, tt)
+answer_is_plain names firms trades (ExchangeFails firm x y at) h =
+    (refl, refl, (refl, option_is_plain names.trades trades at, (refl, name_is_plain names.firms firms firm, (refl, names_are_plain names.trades trades x, (refl, names_are_plain names.trades trades y, tt)))))

@@ -1,0 +1,5 @@
+use Rattle.tn_answer.proofs.ApartLemmas.{answers_told_apart}
+use Rattle.tn_answer.proofs.laws.answers_are_told_apart.Goals as goal
+
+pub returns : goal.returns
+returns c = answers_told_apart
