@@ -16,7 +16,7 @@ use Rattle.tn_file.specs.Reading.{beside, each, wanted}
 use Rattle.tn_file.specs.Json.{json_of}
 use Rattle.tn_file.specs.Shapes.{few_at, object_of}
 use Rattle.tn_file.specs.Naming.{Listed, AreInOrder, one_firm_name, one_trade}
-use Rattle.tn_file.specs.Tables.{AreTrades}
+use Rattle.tn_file.specs.References.{AreTrades}
 use Rattle.tn_file.specs.Firms.{one_firm}
 use Rattle.tn_file.specs.Arranged.{arrangement_of}
 use Rattle.tn_file.specs.Document.{ExtraData, nothing, arrangement, limit_of, version_limit, listed_of, extra_of, document_of, is_tested, reading_of}
@@ -86,7 +86,7 @@ is_document need found firms extra listing are count is_extra =
       trades_named = listing.trades.named;
       few_firms = omega (arith, count, listing.few);
       few_trades = listing.trades.few;
-      tables = λ f firm at. (are f firm at).is_table;
+      listed = λ f firm at. (are f firm at).listed;
       network = network_of (is_tested need) found.0 listing.trades firms are named;
       tested = λ is f firm at. (are f firm at).meets is;
       extra = subst (λ n. IsExtra n extra) listing.trades.named is_extra;

@@ -8,7 +8,7 @@ use Rattle.tn_base.specs.declared.side.Side.{Side}
 use Rattle.tn_base.specs.declared.side.Side.TheVariants.{Buy, Sell}
 use Rattle.tn_market.specs.declared.ends.Ends.{Ends}
 use Rattle.tn_file.specs.declared.fault.ReadError.{ReadError}
-use Rattle.tn_file.specs.Tables.{position_in}
+use Rattle.tn_file.specs.References.{position_in, position_on}
 use Rattle.tn_file.specs.Naming.{side_in, sides_of, ComesNext, AreInOrder}
 
 -- what stands in a list once an item is last
@@ -118,6 +118,22 @@ module _ (firms f : ℕ) (es : List Ends) (t : ℕ) (e : Ends) (order : AreInOrd
   position_within k at =
       let own = side_at_position k at in
       slice_get_within (sides_of es f) k own.0 own.2
+
+  -- where it stands on a given side
+  sold : (sells : Bool) (k : ℕ) (rest : Option ℕ) → cond sells (Some e.at_seller) None ≡ Some k → cond sells (Some e.at_seller) rest ≡ Some k
+  sold true k rest at = at
+  sold false k rest at = absurd (none-some k at)
+
+  bought : (sells buys : Bool) (k : ℕ) → nat_eq e.seller f ≡ sells → nat_eq e.buyer f ≡ buys → cond buys (Some e.at_buyer) None ≡ Some k
+      → cond sells (Some e.at_seller) (cond buys (Some e.at_buyer) None) ≡ Some k
+  bought false buys k seller buyer at = at
+  bought true true k seller buyer at = absurd ((order t e is).apart (eqb-true e.seller f seller ∙ sym (eqb-true e.buyer f buyer)))
+  bought true false k seller buyer at = absurd (none-some k at)
+
+  pub position_on-within : (side : Option Side) (k : ℕ) → position_on side f e ≡ Some k → k < length (sides_of es f)
+  position_on-within None k at = position_within k at
+  position_on-within (Some Sell) k at = position_within k (sold (nat_eq e.seller f) k (cond (nat_eq e.buyer f) (Some e.at_buyer) None) at)
+  position_on-within (Some Buy) k at = position_within k (bought (nat_eq e.seller f) (nat_eq e.buyer f) k refl refl at)
 
 pub found_within : (r : Result ℕ ReadError) (position : Option ℕ) (n : ℕ) → IfOk r (λ k. position ≡ Some k) → ((k : ℕ) → position ≡ Some k → k < n) → IfOk r (λ k. k < n)
 found_within (Ok k) position n found within = within k found

@@ -1,11 +1,18 @@
 -- What the firms are that reading gives.
 use Rattle.std.proofs.Common.{◌≡◌, ℕ, ◌+◌, ◌≤◌, Bool, true, false, List, [], ◌∷◌, ◌++◌, length, slice_get, Option, Some, None, Ok, inl, inr, refl, sym, ap, subst, ◌∙◌, arith, length-append}
-use Rattle.std.specs.Prelude.{if◌then◌else◌}
+use Rattle.std.specs.Prelude.{if◌then◌else◌, map, nat_le}
 use Rattle.std.proofs.lemmas.Option.{none-some}
 use Rattle.serde_json.specs.Data.{Data, Items}
 use Rattle.serde_json.specs.Events.{items_len}
 use Rattle.tn_base.specs.Firm.{Firm}
+use Rattle.tn_base.specs.Table.{buys_of}
+use Rattle.tn_base.proofs.TableLemmas.{buys_of_within}
 use Rattle.tn_base.specs.declared.side.Side.{Side}
+use Rattle.tn_base.specs.declared.fault.FaultKind.TheVariants.{Limit}
+use Rattle.tn_laminar.specs.declared.set.LaminarSet.{LaminarSet}
+use Rattle.tn_laminar.specs.Masked.{masks_of}
+use Rattle.tn_laminar.specs.Laws.{laminar_sum_laws}
+use Rattle.tn_middle.specs.Sets.{meets}
 use Rattle.tn_market.specs.Network.{IsNetwork}
 use Rattle.tn_base.specs.Exchange.{MeetsExchange}
 use Rattle.tn_base.proofs.ExchangeLemmas.{exchange_from_none_fails}
@@ -13,17 +20,27 @@ use Rattle.tn_exchange.specs.Rows.{TableRows, firm_of_table}
 use Rattle.tn_exchange.specs.TestOrder.{Triple}
 use Rattle.tn_exchange.proofs.RowLemmas.{own_bundles, worth_is_small}
 use Rattle.tn_market.specs.declared.ends.Ends.{Ends}
-use Rattle.tn_file.specs.Reading.{each}
-use Rattle.tn_file.specs.Naming.{Listed, AreInOrder}
-use Rattle.tn_file.specs.Tables.{AreTrades, kind_of, table_of}
-use Rattle.tn_file.specs.Firms.{unless_failing, exchange_of, tested_firm, firm_of, one_firm}
+use Rattle.tn_file.specs.Reading.{each, holds}
+use Rattle.tn_file.specs.Naming.{Listed, AreInOrder, sides_of}
+use Rattle.tn_file.specs.declared.kinds.FirmKind.{FirmKind}
+use Rattle.tn_file.specs.declared.kinds.FirmKind.TheVariants.{Table, Laminar, Middleman}
+use Rattle.tn_file.specs.declared.shapes.ObjectKind.TheVariants.{Firm as FirmObject}
+use Rattle.tn_file.specs.Shapes.{object_of}
+use Rattle.tn_file.specs.References.{AreTrades, firm_place}
+use Rattle.tn_file.specs.Kinds.{most_own, kind_of, frame_of}
+use Rattle.tn_file.specs.Tables.{table_of}
+use Rattle.tn_file.specs.Laminars.{laminar_of}
+use Rattle.tn_file.specs.Middlemen.{middle_of}
+use Rattle.tn_file.specs.Firms.{unless_failing, exchange_of, tested_firm, firm_by, firm_of, one_firm}
 use Rattle.tn_file.specs.FirstFailure.{first_failure}
-use Rattle.tn_file.specs.Laws.{IsTableFirm}
+use Rattle.tn_file.specs.Laws.{IsTableFirm, IsLaminarFirm, IsMiddlemanFirm, IsListedFirm, table as table_is, laminar, middleman}
 use Rattle.tn_file.proofs.EndsLemmas.{push_cases}
-use Rattle.tn_file.proofs.FailureLemmas.{holds}
+use Rattle.tn_file.proofs.FailureLemmas.{holds as none_fails}
 use Rattle.tn_file.proofs.TableLeads.{IsTableOf, table_leads}
+use Rattle.tn_file.proofs.LaminarLeads.{laminar_leads}
+use Rattle.tn_file.proofs.MiddleLeads.{middle_leads}
 use Rattle.tn_file.proofs.NetworkLemmas.{HaveSides, network}
-use Rattle.tn_file.proofs.LeadLemmas.{Leads, leads_ok, leads_bind, leads_after, leads_each, leads_count, leads_as}
+use Rattle.tn_file.proofs.LeadLemmas.{Leads, leads_ok, leads_bind, leads_after, leads_each, leads_count, leads_holds, leads_as, le_from_test}
 
 unless_failing_leads : (trades : List Ends) (f count : ℕ) (found : Option Triple) → Leads (λ _. found ≡ None) (unless_failing trades f count found)
 unless_failing_leads trades f count None = leads_ok (λ _. None ≡ None) tt refl
@@ -31,7 +48,7 @@ unless_failing_leads trades f count (Some t) = record { at = λ x e. absurd (cc)
 
 -- firm f, which meets exchange where that is tested
 pub record IsFirm (tested : Bool) (trades : List Ends) (f : ℕ) (firm : Firm) : Type 0 where
-  pub is_table : IsTableFirm trades f firm
+  pub listed : IsListedFirm trades f firm
   pub meets : tested ≡ true → MeetsExchange firm
 
 of_table : (trades : List Ends) (f : ℕ) (table : TableRows) → IsTableOf trades f table → IsTableFirm trades f (firm_of_table table)
@@ -43,11 +60,33 @@ of_table trades f table is = record {
   small = λ x amount e. worth_is_small table is.within x amount e;
 }
 
+-- laminar firms and middlemen meet exchange by what they are
+laminar_meets : (trades : List Ends) (f : ℕ) (firm : Firm) → IsLaminarFirm trades f firm → MeetsExchange firm
+laminar_meets trades f firm is =
+    let sides = sides_of trades f in
+    let laws = laminar_sum_laws (length sides) (buys_of sides) is.amounts is.sets (map (λ (set : LaminarSet). masks_of (buys_of sides) set.members) is.sets) (record {
+      few = is.few;
+      bought = buys_of_within sides;
+      as_many = is.as_many;
+      small = is.small;
+      few_sets = is.few_sets;
+      own = is.own;
+      numbered = is.numbered;
+      sound = is.sound;
+      masked = refl;
+    }) in
+    subst MeetsExchange (sym is.is) (record { one = laws.exchange_one; net_count = laws.exchange_net })
+
+middleman_meets : (trades : List Ends) (f : ℕ) (firm : Firm) → IsMiddlemanFirm trades f firm → MeetsExchange firm
+middleman_meets trades f firm is =
+    let sides = sides_of trades f in
+    subst MeetsExchange (sym is.is) (meets (length sides) (buys_of sides) is.numbers is.keep (buys_of_within sides)).1
+
 exchange_leads : (trades : List Ends) (f : ℕ) (table : TableRows) → Leads (λ _. MeetsExchange (firm_of_table table)) (exchange_of trades f table)
 unfolding exchange_of
 exchange_leads trades f table =
     leads_as (λ _. first_failure table ≡ None) (λ _. MeetsExchange (firm_of_table table)) _
-    (λ u none. exchange_from_none_fails (firm_of_table table) (own_bundles table) (holds table none))
+    (λ u none. exchange_from_none_fails (firm_of_table table) (own_bundles table) (none_fails table none))
     (unless_failing_leads trades f (length table.sides) (first_failure table))
 
 tested_leads : (tested : Bool) (trades : List Ends) (f : ℕ) (table : TableRows) → Leads (λ _. tested ≡ true → MeetsExchange (firm_of_table table)) (if tested then exchange_of trades f table else Ok tt)
@@ -58,15 +97,30 @@ tested_firm_leads : (tested : Bool) (trades : List Ends) (f : ℕ) (table : Tabl
 unfolding tested_firm
 tested_firm_leads tested trades f table is_table =
     leads_bind (λ _. tested ≡ true → MeetsExchange (firm_of_table table)) (IsFirm tested trades f) (if tested then exchange_of trades f table else Ok tt) _ (tested_leads tested trades f table) (λ u meets.
-    leads_ok (IsFirm tested trades f) (firm_of_table table) (record { is_table = of_table trades f table is_table; meets = meets }))
+    leads_ok (IsFirm tested trades f) (firm_of_table table) (record { listed = table_is (of_table trades f table is_table); meets = meets }))
 
 module _ (tested : Bool) (listed : Listed) (trades : AreTrades listed) where
+  kind_leads : (f : ℕ) (kind : FirmKind) (firm : Data) → length (sides_of listed.ends f) ≤ most_own kind → Leads (IsFirm tested listed.ends f) (firm_by tested listed f kind firm)
+  unfolding firm_by
+  kind_leads f Table firm few =
+      leads_bind (IsTableOf listed.ends f) (IsFirm tested listed.ends f) (table_of listed f firm) _ (table_leads listed trades f firm few) (λ table is_table.
+      tested_firm_leads tested listed.ends f table is_table)
+  kind_leads f Laminar firm few = leads_as (IsLaminarFirm listed.ends f) (IsFirm tested listed.ends f) (laminar_of listed f firm) (λ made is. record { listed = laminar is; meets = λ t. laminar_meets listed.ends f made is }) (laminar_leads listed trades f firm few)
+  kind_leads f Middleman firm few = leads_as (IsMiddlemanFirm listed.ends f) (IsFirm tested listed.ends f) (middle_of listed f firm) (λ made is. record { listed = middleman is; meets = λ t. middleman_meets listed.ends f made is }) (middle_leads listed f firm few)
+
+  frame_leads : (f : ℕ) (kind : FirmKind) (firm : Data) → Leads (λ _. length (sides_of listed.ends f) ≤ most_own kind) (frame_of listed.ends f kind firm)
+  unfolding frame_of
+  frame_leads f kind firm =
+      leads_after _ (object_of (FirmObject kind) (firm_place f) (Some firm)) _ (λ object.
+      leads_as (λ _. nat_le (length (sides_of listed.ends f)) (most_own kind) ≡ true) _ (holds Limit (firm_place f) (nat_le (length (sides_of listed.ends f)) (most_own kind))) (λ u few. le_from_test (length (sides_of listed.ends f)) (most_own kind) few)
+      (leads_holds Limit (firm_place f) (nat_le (length (sides_of listed.ends f)) (most_own kind))))
+
   firm_leads : (f : ℕ) (firm : Data) → Leads (IsFirm tested listed.ends f) (firm_of tested listed f firm)
   unfolding firm_of
   firm_leads f firm =
       leads_after (IsFirm tested listed.ends f) (kind_of f firm) _ (λ kind.
-      leads_bind (IsTableOf listed.ends f) (IsFirm tested listed.ends f) (table_of listed f firm) _ (table_leads listed trades f firm) (λ table is_table.
-      tested_firm_leads tested listed.ends f table is_table))
+      leads_bind (λ _. length (sides_of listed.ends f) ≤ most_own kind) (IsFirm tested listed.ends f) (frame_of listed.ends f kind firm) _ (frame_leads f kind firm) (λ u few.
+      kind_leads f kind firm few))
 
   abbrev pub AreFirms : List Firm → Type 0
   AreFirms firms = (f : ℕ) (firm : Firm) → slice_get firms f ≡ Some firm → IsFirm tested listed.ends f firm
@@ -93,9 +147,12 @@ module _ (tested : Bool) (listed : Listed) (trades : AreTrades listed) where
   firms_are_counted firms = leads_as (λ end. length end ≡ 0 + items_len firms) _ _ (λ end e. e ∙ omega arith) (leads_count length (one_firm tested listed) one_firm_count [] firms)
 
   have_sides : (firms : List Firm) → AreFirms firms → HaveSides listed.ends firms
-  have_sides firms are f firm at =
-      let t = (are f firm at).is_table in
-      (ap (λ (x : Firm). x.count) t.is, ap (λ (x : Firm). x.buys) t.is)
+  have_sides firms are f firm at = by_kind (are f firm at).listed
+    where
+      by_kind : IsListedFirm listed.ends f firm → (firm.count ≡ length (sides_of listed.ends f)) × (firm.buys ≡ buys_of (sides_of listed.ends f))
+      by_kind (table_is t) = (ap (λ (x : Firm). x.count) t.is, ap (λ (x : Firm). x.buys) t.is)
+      by_kind (laminar t) = (ap (λ (x : Firm). x.count) t.is, ap (λ (x : Firm). x.buys) t.is)
+      by_kind (middleman t) = (ap (λ (x : Firm). x.count) t.is, ap (λ (x : Firm). x.buys) t.is)
 
   -- firms that were read are a network with the trades
   pub network_of : (firms : List Firm) → AreFirms firms → length listed.names.firms ≡ length firms → IsNetwork firms listed.ends

@@ -1,5 +1,5 @@
 -- What is said of the value that reading gives.
-use Rattle.std.proofs.Common.{◌≡◌, ◌≢◌, ℕ, suc, ◌+◌, Bool, true, false, List, Option, Some, None, Result, Ok, Err, refl, ap, subst, arith}
+use Rattle.std.proofs.Common.{◌≡◌, ◌≢◌, ℕ, suc, ◌+◌, ◌≤◌, Bool, true, false, List, Option, Some, None, Result, Ok, Err, refl, ap, subst, arith}
 use Rattle.std.specs.Prelude.{ℤ, unsigned_abs, nat_le, nat_eq, not}
 use Rattle.std.proofs.lemmas.Int.{ints}
 use Rattle.serde_json.specs.Data.{Data, Items, no_items, item}
@@ -52,6 +52,9 @@ leads_beside P names (Err e) first = record { at = λ y e. absurd (cc) }
 
 pub small_from_test : (z : ℤ) (limit : ℕ) → nat_le (unsigned_abs z) limit ≡ true → IsAtMost z limit
 small_from_test z limit e = search (arith, ints, e)
+
+pub le_from_test : (n m : ℕ) → nat_le n m ≡ true → n ≤ m
+le_from_test n m e = grind (arith, e)
 
 pub is_true_not : (b : Bool) → not b ≡ true → b ≡ false
 is_true_not true e = absurd (cc)

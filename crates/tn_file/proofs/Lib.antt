@@ -8,7 +8,12 @@ pub mod PriceLemmas
 pub mod JsonLemmas
 pub mod NetworkLemmas
 pub mod LeadLemmas
+pub mod ReferenceLeads
+pub mod EntryLeads
 pub mod TableLeads
+pub mod SoundLemmas
+pub mod LaminarLeads
+pub mod MiddleLeads
 pub mod NameLeads
 pub mod FirmLeads
 pub mod ArrangementLeads

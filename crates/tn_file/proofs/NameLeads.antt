@@ -17,7 +17,7 @@ use Rattle.tn_file.specs.Reading.{beside, each, holds}
 use Rattle.tn_file.specs.Shapes.{text_at, name_at, list_at, few_at, object_at, object_of}
 use Rattle.tn_file.specs.Naming.{Listed, new_name, firm_name, one_firm_name, trade_name, firm_at, ends_at, one_trade, ComesNext, AreInOrder, sides_of}
 use Rattle.tn_file.proofs.EndsLemmas.{AreInOrder-push}
-use Rattle.tn_file.proofs.LeadLemmas.{Leads, leads_ok, leads_bind, leads_after, leads_each, leads_count, leads_wanted, leads_holds, leads_beside, leads_as, is_true_not, apart_from_test}
+use Rattle.tn_file.proofs.LeadLemmas.{Leads, leads_ok, leads_bind, leads_after, leads_each, leads_count, leads_wanted, leads_holds, leads_beside, leads_as, is_true_not, apart_from_test, le_from_test}
 
 name_leads : (place : List PlaceStep) (value : Option Data) → Leads (λ n. is_name n ≡ true) (name_at place value)
 unfolding name_at
@@ -139,7 +139,4 @@ trades_count listed trades = leads_count (λ (l : Listed). length l.ends) one_tr
 
 pub few_lead : (limit : ℕ) (place : List PlaceStep) (value : Option Data) → Leads (λ items. items_len items ≤ limit) (few_at limit place value)
 unfolding few_at
-few_lead limit place value = leads_after _ (list_at place value) _ (λ items. leads_bind (λ _. nat_le (items_len items) limit ≡ true) (λ items. items_len items ≤ limit) (holds Limit place (nat_le (items_len items) limit)) _ (leads_holds Limit place (nat_le (items_len items) limit)) (λ u few. leads_ok (λ items. items_len items ≤ limit) items (le_from (items_len items) limit few)))
-  where
-    le_from : (n m : ℕ) → nat_le n m ≡ true → n ≤ m
-    le_from n m e = grind (arith, e)
+few_lead limit place value = leads_after _ (list_at place value) _ (λ items. leads_bind (λ _. nat_le (items_len items) limit ≡ true) (λ items. items_len items ≤ limit) (holds Limit place (nat_le (items_len items) limit)) _ (leads_holds Limit place (nat_le (items_len items) limit)) (λ u few. leads_ok (λ items. items_len items ≤ limit) items (le_from_test (items_len items) limit few)))

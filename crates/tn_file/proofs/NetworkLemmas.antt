@@ -12,7 +12,7 @@ use Rattle.tn_base.specs.declared.side.Side.TheVariants.{Buy, Sell}
 use Rattle.tn_market.specs.declared.ends.Ends.{Ends}
 use Rattle.tn_market.specs.Network.{stands_at, own, IsNetwork}
 use Rattle.tn_file.specs.Naming.{side_in, sides_of, AreInOrder}
-use Rattle.tn_file.specs.Tables.{position_in}
+use Rattle.tn_file.specs.References.{position_in}
 use Rattle.tn_file.proofs.EndsLemmas.{with_next, sides_of-next, sides_of-none, own_side}
 
 -- a firm has no fewer own trades among more trades

@@ -1,44 +1,26 @@
 -- What the tables are that reading gives.
-use Rattle.std.proofs.Common.{◌≡◌, ◌≢◌, ℕ, ◌+◌, ◌^◌, ◌<◌, ◌≤◌, Bool, true, false, cond, List, [], ◌∷◌, ◌++◌, length, slice_get, Option, Some, None, refl, sym, ap, subst, ◌∙◌, arith}
-use Rattle.std.specs.Prelude.{ℤ, nat_le, nat_eq, is_none, option_and_then}
+use Rattle.std.proofs.Common.{◌≡◌, ◌≢◌, ℕ, ◌+◌, ◌^◌, ◌<◌, ◌≤◌, Bool, true, false, cond, List, [], ◌∷◌, ◌++◌, length, Option, Some, None, refl, sym, ap, subst, ◌∙◌}
+use Rattle.std.specs.Prelude.{ℤ, nat_eq, is_none, codes}
 use Rattle.std.proofs.lemmas.Bool.{eq-eqb, ne_eqb}
-use Rattle.std.proofs.lemmas.Option.{slice_get_within, option_and_then_some}
 use Rattle.serde_json.specs.Data.{Data, Items}
+use Rattle.serde_json.specs.Find.{get}
 use Rattle.tn_base.specs.Arcs.{IsAtMost}
-use Rattle.tn_base.specs.Sets.{toggle}
 use Rattle.tn_base.specs.Table.{row_of as row_in, table_firm}
-use Rattle.tn_base.proofs.SetLemmas.{toggle_within}
 use Rattle.tn_base.specs.declared.side.Side.{Side}
+use Rattle.tn_base.specs.declared.fault.FaultKind.TheVariants.{SameBundle}
 use Rattle.tn_exchange.specs.Rows.{TableRows, IsWithinLimits, firm_of_table, row_at, with_row, without_rows}
 use Rattle.tn_exchange.specs.RowsLaw.{AreApart}
 use Rattle.tn_exchange.proofs.RowLemmas.{IsMadeOf, limits_with_row, limits_without_rows, made_of_none, made_with_row, made_firm}
 use Rattle.tn_market.specs.declared.ends.Ends.{Ends}
-use Rattle.tn_market.specs.declared.place.PlaceStep.{PlaceStep}
-use Rattle.tn_answer.specs.Names.{number_of}
-use Rattle.tn_answer.proofs.NameLemmas.{name_at_number}
-use Rattle.tn_file.specs.Naming.{Listed, sides_of}
-use Rattle.tn_file.specs.Tables.{AreTrades, Rows, position_in, trade_at, own_position, own_reference, row_reference, row_of, one_row, rows_of, table_of}
-use Rattle.std.proofs.lemmas.Nat.{pow_pos}
-use Rattle.std.specs.Prelude.{codes}
-use Rattle.serde_json.specs.Find.{get}
-use Rattle.tn_base.specs.Sets.{size}
-use Rattle.tn_base.specs.declared.fault.FaultKind.TheVariants.{Limit, SameBundle}
 use Rattle.tn_market.specs.declared.place.PlaceStep.TheVariants.{Index, Word}
 use Rattle.tn_market.specs.declared.place.Word.TheVariants.{Rows as RowsWord}
-use Rattle.tn_file.specs.declared.shapes.ObjectKind.TheVariants.{Table as TableObject}
 use Rattle.tn_file.specs.Reading.{each, holds}
-use Rattle.tn_file.specs.Tables.{firm_place, row_place}
-use Rattle.tn_file.specs.Shapes.{list_at, two_at, number_at, object_of}
-use Rattle.tn_file.proofs.EndsLemmas.{position_within}
-use Rattle.tn_file.proofs.LeadLemmas.{Leads, leads_ok, leads_bind, leads_after, leads_each, leads_wanted, leads_holds, leads_as, small_from_test}
-
-pub number_leads : (limit : ℕ) (place : List PlaceStep) (value : Data) → Leads (λ z. IsAtMost z limit) (number_at limit place value)
-unfolding number_at
-number_leads limit place value = leads_after _ _ _ (λ z. leads_bind _ _ _ _ (leads_holds _ _ _) (λ u t. leads_ok (λ z. IsAtMost z limit) z (small_from_test z limit t)))
-
-pub trade_leads : (trades : List (List ℕ)) (place : List PlaceStep) (value : Data) → Leads (λ t. t < length trades) (trade_at trades place value)
-unfolding trade_at
-trade_leads trades place value = leads_after _ _ _ (λ name. leads_as (λ t. number_of trades name ≡ Some t) _ _ (λ t e. slice_get_within trades t name (name_at_number trades name t e)) (leads_wanted _ _ _))
+use Rattle.tn_file.specs.Shapes.{list_at, two_at, number_at}
+use Rattle.tn_file.specs.Naming.{Listed, sides_of}
+use Rattle.tn_file.specs.References.{AreTrades, firm_place, bundle_at}
+use Rattle.tn_file.specs.Tables.{Rows, row_place, row_of, one_row, rows_of, table_of}
+use Rattle.tn_file.proofs.ReferenceLeads.{number_leads, bundle_leads}
+use Rattle.tn_file.proofs.LeadLemmas.{Leads, leads_ok, leads_bind, leads_after, leads_each, leads_holds}
 
 -- the table of firm f is a list of numbers for bundles of its own trades, no bundle twice
 pub record IsTableOf (trades : List Ends) (f : ℕ) (table : TableRows) : Type 0 where
@@ -71,35 +53,19 @@ apart_push n (row ∷ rows) next apart own none =
     rest false e = e
 
 module _ (listed : Listed) (trades : AreTrades listed) (f : ℕ) where
-  count : ℕ
-  count = length (sides_of listed.ends f)
-
-  position_leads : (place : List PlaceStep) (value : Data) → Leads (λ k. k < length (sides_of listed.ends f)) (own_position listed f place value)
-  unfolding own_position
-  position_leads place value = leads_after _ _ _ (λ t. leads_as (λ k. option_and_then (position_in f) (slice_get listed.ends t) ≡ Some k) _ _ (within t) (leads_wanted _ _ _))
-    where
-      within : (t k : ℕ) → option_and_then (position_in f) (slice_get listed.ends t) ≡ Some k → k < length (sides_of listed.ends f)
-      within t k e = option_and_then_some (position_in f) (slice_get listed.ends t) k e (λ trade is at. position_within (length listed.names.firms) f listed.ends t trade trades.order is k at)
-
-  reference_leads : (place : List PlaceStep) (bundle : ℕ) (value : Data) → bundle < 2 ^ length (sides_of listed.ends f) → Leads (λ b. b < 2 ^ length (sides_of listed.ends f)) (own_reference listed f place bundle value)
-  unfolding own_reference
-  reference_leads place bundle value own =
-      leads_bind (λ k. k < length (sides_of listed.ends f)) _ _ _ (position_leads place value) (λ k below.
-      leads_after _ _ _ (λ u. leads_ok (λ b. b < 2 ^ length (sides_of listed.ends f)) (toggle bundle k) (toggle_within bundle k (length (sides_of listed.ends f)) own below)))
-
   -- a row is on own trades, and its number is small
   pub record IsOwnRow (row : ℕ × ℤ) : Type 0 where
     pub own : row.0 < 2 ^ length (sides_of listed.ends f)
     pub small : IsAtMost row.1 (10 ^ 9)
 
-  row_leads : (r : ℕ) (row : Data) → 0 < 2 ^ length (sides_of listed.ends f) → Leads IsOwnRow (row_of listed f r row)
+  row_leads : (r : ℕ) (row : Data) → Leads IsOwnRow (row_of listed f r row)
   unfolding row_of
-  row_leads r row positive =
-      leads_after IsOwnRow (two_at (row_place f r) row) _ (λ two. leads_after IsOwnRow (list_at (row_place f r ++ Index 0 ∷ []) (Some two.0)) _ (λ references.
-      leads_bind (λ b. b < 2 ^ length (sides_of listed.ends f)) IsOwnRow (each (row_reference listed f r) 0 references) _
-      (leads_each (λ b. b < 2 ^ length (sides_of listed.ends f)) (row_reference listed f r) (λ b d own. reference_leads (row_place f r ++ Index 0 ∷ Index (size b) ∷ []) b d own) 0 references positive)
-      (λ b own. leads_bind (λ z. IsAtMost z (10 ^ 9)) IsOwnRow (number_at (10 ^ 9) (row_place f r ++ Index 1 ∷ []) two.1) _ (number_leads (10 ^ 9) (row_place f r ++ Index 1 ∷ []) two.1)
-      (λ z small. leads_ok IsOwnRow (b, z) (record { own = own; small = small })))))
+  row_leads r row =
+      leads_after IsOwnRow (two_at (row_place f r) row) _ (λ two.
+      leads_bind (λ b. b < 2 ^ length (sides_of listed.ends f)) IsOwnRow (bundle_at listed f (row_place f r ++ Index 0 ∷ []) (Some two.0)) _
+      (bundle_leads listed trades f (row_place f r ++ Index 0 ∷ []) (Some two.0)) (λ b own.
+      leads_bind (λ z. IsAtMost z (10 ^ 9)) IsOwnRow (number_at (10 ^ 9) (row_place f r ++ Index 1 ∷ []) two.1) _ (number_leads (10 ^ 9) (row_place f r ++ Index 1 ∷ []) two.1)
+      (λ z small. leads_ok IsOwnRow (b, z) (record { own = own; small = small }))))
 
   -- the rows so far
   pub record AreRows (rows : Rows) : Type 0 where
@@ -121,8 +87,7 @@ module _ (listed : Listed) (trades : AreTrades listed) (f : ℕ) where
   one_row_leads : (rows : Rows) (row : Data) → AreRows rows → Leads AreRows (one_row listed f rows row)
   unfolding one_row
   one_row_leads rows row kept =
-      let n : 2 ^ length rows.table.sides ≡ 2 ^ length (sides_of listed.ends f) = ap (λ (s : List Side). 2 ^ length s) kept.sides in
-      leads_bind IsOwnRow AreRows (row_of listed f rows.count row) _ (row_leads rows.count row (subst (λ m. 0 < m) n (pow_pos (length rows.table.sides)))) (λ next is_own.
+      leads_bind IsOwnRow AreRows (row_of listed f rows.count row) _ (row_leads rows.count row) (λ next is_own.
       leads_bind (λ _. is_none (row_at rows.table.rows next.0) ≡ true) AreRows (holds SameBundle (row_place f rows.count) (is_none (row_at rows.table.rows next.0))) _ (leads_holds SameBundle (row_place f rows.count) (is_none (row_at rows.table.rows next.0))) (λ u new.
       leads_ok AreRows (record { count = rows.count + 1; table = with_row rows.table next.0 next.1 }) (more next is_own (none_from (row_at rows.table.rows next.0) new))))
     where
@@ -155,12 +120,6 @@ module _ (listed : Listed) (trades : AreTrades listed) (f : ℕ) where
         is = made_firm rows.table kept.listed_rows kept.within.places kept.made ∙ ap (λ (s : List Side). table_firm s kept.listed_rows) kept.sides;
       }))
 
-  pub table_leads : (firm : Data) → Leads (IsTableOf listed.ends f) (table_of listed f firm)
+  pub table_leads : (firm : Data) → length (sides_of listed.ends f) ≤ 10 → Leads (IsTableOf listed.ends f) (table_of listed f firm)
   unfolding table_of
-  table_leads firm =
-      leads_after (IsTableOf listed.ends f) (object_of TableObject (firm_place f) (Some firm)) _ (λ object.
-      leads_bind (λ _. nat_le (length (sides_of listed.ends f)) 10 ≡ true) (IsTableOf listed.ends f) (holds Limit (firm_place f) (nat_le (length (sides_of listed.ends f)) 10)) _ (leads_holds Limit (firm_place f) (nat_le (length (sides_of listed.ends f)) 10)) (λ u few.
-      leads_after (IsTableOf listed.ends f) (list_at (firm_place f ++ Word RowsWord ∷ []) (get (codes "rows") firm)) _ (λ items. rows_lead items (le_from (length (sides_of listed.ends f)) few))))
-    where
-      le_from : (n : ℕ) → nat_le n 10 ≡ true → n ≤ 10
-      le_from n e = grind (arith, e)
+  table_leads firm few = leads_after (IsTableOf listed.ends f) (list_at (firm_place f ++ Word RowsWord ∷ []) (get (codes "rows") firm)) _ (λ items. rows_lead items few)

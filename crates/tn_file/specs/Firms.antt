@@ -11,7 +11,13 @@ use Rattle.tn_market.specs.declared.said.Shown.{Shown}
 use Rattle.tn_market.specs.Network.{own, trades_of}
 use Rattle.tn_file.specs.Reading.{◌>>=◌}
 use Rattle.tn_file.specs.Naming.{Listed}
-use Rattle.tn_file.specs.Tables.{firm_place, kind_of, table_of}
+use Rattle.tn_file.specs.declared.kinds.FirmKind.{FirmKind}
+use Rattle.tn_file.specs.declared.kinds.FirmKind.TheVariants.{Table, Laminar, Middleman}
+use Rattle.tn_file.specs.References.{firm_place}
+use Rattle.tn_file.specs.Kinds.{kind_of, frame_of}
+use Rattle.tn_file.specs.Tables.{table_of}
+use Rattle.tn_file.specs.Laminars.{laminar_of}
+use Rattle.tn_file.specs.Middlemen.{middle_of}
 use Rattle.tn_file.specs.FirstFailure.{first_failure}
 
 -- a triple of firm f, which has so many own trades, in trade numbers
@@ -35,12 +41,20 @@ tested_firm tested trades f table = do
   met ← if tested then exchange_of trades f table else Ok tt
   Ok (firm_of_table table)
 
+-- firm f of a kind; only a table has to be tested, since the others meet exchange by what they are
+unfoldable pub firm_by : Bool → Listed → ℕ → FirmKind → Data → Result Firm Fault
+firm_by tested listed f Table firm = do
+  table ← table_of listed f firm
+  tested_firm tested listed.ends f table
+firm_by tested listed f Laminar firm = laminar_of listed f firm
+firm_by tested listed f Middleman firm = middle_of listed f firm
+
 -- firm f
 unfoldable pub firm_of : Bool → Listed → ℕ → Data → Result Firm Fault
 firm_of tested listed f firm = do
   kind ← kind_of f firm
-  table ← table_of listed f firm
-  tested_firm tested listed.ends f table
+  frame ← frame_of listed.ends f kind firm
+  firm_by tested listed f kind firm
 
 -- one more firm; its number is the count of those before it
 unfoldable pub one_firm : Bool → Listed → List Firm → Data → Result (List Firm) Fault

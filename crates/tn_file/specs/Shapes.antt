@@ -8,7 +8,8 @@ use Rattle.serde_json.specs.Data.{Data, Items, no_items, item, Members, no_membe
 use Rattle.serde_json.specs.Events.{items_len}
 use Rattle.serde_json.specs.Find.{as_str, as_array, as_object, as_number, as_i64}
 use Rattle.tn_file.specs.declared.shapes.ObjectKind.{ObjectKind}
-use Rattle.tn_file.specs.declared.shapes.ObjectKind.TheVariants.{Top, Trade, Table, Arrangement}
+use Rattle.tn_file.specs.declared.kinds.FirmKind.TheVariants.{Table, Laminar, Middleman}
+use Rattle.tn_file.specs.declared.shapes.ObjectKind.TheVariants.{Top, Trade, Firm, LaminarSet, Arrangement}
 use Rattle.tn_answer.specs.Names.{is_name}
 use Rattle.tn_file.specs.Reading.{◌>>=◌, wanted, holds}
 
@@ -24,6 +25,11 @@ name_at place value = do
 
 abbrev pub list_at : List PlaceStep → Option Data → Result Items Fault
 list_at place value = wanted Shape place (option_and_then as_array value)
+
+-- a list, which is empty where it isn't there
+abbrev pub optional_list_at : List PlaceStep → Option Data → Result Items Fault
+optional_list_at place None = Ok no_items
+optional_list_at place (Some value) = list_at place (Some value)
 
 -- a list of at most so many items
 unfoldable pub few_at : ℕ → List PlaceStep → Option Data → Result Items Fault
@@ -46,9 +52,13 @@ two_at place value = do
   wanted Shape place (two_of items)
 
 -- a whole number is one that fits 64 bits with a sign
+abbrev pub whole_at : List PlaceStep → Option Data → Result ℤ Fault
+whole_at place value = wanted Shape place (option_and_then as_i64 (option_and_then as_number value))
+
+-- a whole number of at most this size
 unfoldable pub number_at : ℕ → List PlaceStep → Data → Result ℤ Fault
 number_at limit place value = do
-  z ← wanted Shape place (option_and_then as_i64 (as_number value))
+  z ← whole_at place (Some value)
   small ← holds AmountRange place (nat_le (unsigned_abs z) limit)
   Ok z
 
@@ -56,7 +66,10 @@ number_at limit place value = do
 unfoldable pub allows : ObjectKind → List ℕ → Bool
 allows Top k = bytes_eq k (codes "version") || bytes_eq k (codes "firms") || bytes_eq k (codes "trades") || bytes_eq k (codes "arrangement") || bytes_eq k (codes "outcome") || bytes_eq k (codes "claim") || bytes_eq k (codes "note")
 allows Trade k = bytes_eq k (codes "name") || bytes_eq k (codes "seller") || bytes_eq k (codes "buyer") || bytes_eq k (codes "note")
-allows Table k = bytes_eq k (codes "name") || bytes_eq k (codes "kind") || bytes_eq k (codes "rows") || bytes_eq k (codes "note")
+allows (Firm Table) k = bytes_eq k (codes "name") || bytes_eq k (codes "kind") || bytes_eq k (codes "rows") || bytes_eq k (codes "note")
+allows (Firm Laminar) k = bytes_eq k (codes "name") || bytes_eq k (codes "kind") || bytes_eq k (codes "amounts") || bytes_eq k (codes "sets") || bytes_eq k (codes "note")
+allows (Firm Middleman) k = bytes_eq k (codes "name") || bytes_eq k (codes "kind") || bytes_eq k (codes "costs") || bytes_eq k (codes "gains") || bytes_eq k (codes "keep") || bytes_eq k (codes "note")
+allows LaminarSet k = bytes_eq k (codes "trades") || bytes_eq k (codes "from") || bytes_eq k (codes "values")
 allows Arrangement k = bytes_eq k (codes "on") || bytes_eq k (codes "prices")
 
 abbrev pub allows_all : ObjectKind → Members → Bool

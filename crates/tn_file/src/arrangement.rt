@@ -1,20 +1,20 @@
 ghost use Rattle.std.specs.Prelude.{◌≡◌, ◌^◌, ◌<◌, ◌≤◌, ℤ, length, replicate, slice_set, pos, IfOk, OnOk, Some, All};
 ghost use Rattle.serde_json.specs.View.{view, items_view};
 ghost use Rattle.tn_base.specs.Arcs.{IsAtMost};
-ghost use Rattle.tn_base.specs.Sets.{size};
-ghost use Rattle.tn_file.specs.Arranged.{Arranged, Priced, arrangement_of, entry_of, first_without, new_trade, one_on, one_price, prices_of, unless_missing};
+ghost use Rattle.tn_file.specs.Arranged.{Arranged, arrangement_of, first_without, one_on, one_price, price_of, prices_of, unless_missing};
+ghost use Rattle.tn_file.specs.Entries.{Numbered};
 ghost use Rattle.tn_file.specs.Reading.{Gives, each};
 
 use crate::fault::ReadError;
-use crate::references::trade;
-use crate::shapes::{ObjectKind, check, fault, list, number, object_of, present, two};
+use crate::references::new_trade;
+use crate::shapes::{ObjectKind, fault, list, number, object_of, present, two};
 use crate::steps::{ARRANGEMENT, ON, PRICES};
 use serde_json::Value;
 use std::alloc::Global;
 use tn_answer::Names;
 use tn_base::{FaultKind, TradeSet};
 use tn_market::PlaceStep::{Index, Trade};
-use tn_market::{Arrangement, PlaceStep, Prices};
+use tn_market::{Arrangement, Prices};
 
 /// The largest price.
 const PRICE_LIMIT: u64 = 100_000_000_000_000;
@@ -71,25 +71,6 @@ fn add_on(
     Ok(())
 }
 
-/// A trade that a reference names, and that isn't a member of the set yet.
-#[tactic(auto, unfolding(crate::specs::Arranged::new_trade))]
-fn new_trade(
-    alloc: Global,
-    names: &Names,
-    named: &TradeSet<2>,
-    value: &Value,
-    place: &[PlaceStep],
-) -> Result<u32, ReadError>
-    requires { length names.now.trades ≤ 128 }
-    ensures gives { Gives (λ t. t) result
-        (new_trade names.now.trades place.now named.now (view value.now)) }
-    ensures known { IfOk result (λ t. t < length names.now.trades) }
-{
-    let t = trade(alloc, names, value, place)?;
-    check(alloc, !named.has(t), FaultKind::SameTrade, place)?;
-    Ok(t)
-}
-
 /// The prices of all trades, by trade number.
 #[tactic(auto, unfolding(crate::specs::Arranged::prices_of))]
 fn read_prices(alloc: Global, names: &Names, entries: &[Value]) -> Result<Vec<i128>, ReadError>
@@ -112,8 +93,8 @@ fn read_entries(
 ) -> Result<TradeSet<2>, ReadError>
     requires few { length names.now.trades ≤ 128 }
     requires places { length prices.old ≡ length names.now.trades }
-    ensures { Gives (λ named. record { named = named; prices = prices.new }) result
-        (each (one_price names.now.trades) (record { named = 0; prices = prices.old }) (items_view entries.now)) }
+    ensures { Gives (λ named. record { named = named; numbers = prices.new }) result
+        (each (one_price names.now.trades) (record { named = 0; numbers = prices.old }) (items_view entries.now)) }
 {
     let mut named = TradeSet::empty();
     for entry in entries {
@@ -123,7 +104,7 @@ fn read_entries(
 }
 
 /// Puts one more price to its trade.
-#[tactic(auto, unfolding(crate::specs::Arranged::one_price))]
+#[tactic(auto, unfolding(crate::specs::Entries::one_entry))]
 fn add_price(
     alloc: Global,
     names: &Names,
@@ -133,19 +114,19 @@ fn add_price(
 ) -> Result<(), ReadError>
     requires few { length names.now.trades ≤ 128 }
     requires places { length prices.old ≡ length names.now.trades }
-    ensures gives { Gives (λ _. record { named = named.new; prices = prices.new }) result
-        (one_price names.now.trades (record { named = named.old; prices = prices.old }) (view entry.now)) }
+    ensures gives { Gives (λ _. record { named = named.new; numbers = prices.new }) result
+        (one_price names.now.trades (record { named = named.old; numbers = prices.old }) (view entry.now)) }
     ensures places { length prices.new ≡ length prices.old }
 {
-    let (t, price) = entry_of(alloc, names, named, entry)?;
+    let (t, price) = price_of(alloc, names, named, entry)?;
     prices[t as usize] = price;
     named.toggle(t);
     Ok(())
 }
 
 /// The price that one more entry gives to a trade.
-#[tactic(auto, unfolding(crate::specs::Arranged::entry_of))]
-fn entry_of(
+#[tactic(auto, unfolding(crate::specs::Entries::entry_of))]
+fn price_of(
     alloc: Global,
     names: &Names,
     named: &TradeSet<2>,
@@ -153,7 +134,7 @@ fn entry_of(
 ) -> Result<(u32, i128), ReadError>
     requires { length names.now.trades ≤ 128 }
     ensures gives { Gives (λ p. p) result
-        (entry_of names.now.trades (size named.now) named.now (view entry.now)) }
+        (price_of names.now.trades named.now (view entry.now)) }
     ensures known { IfOk result (λ p. p.0 < length names.now.trades) }
 {
     let k = Index(named.count());

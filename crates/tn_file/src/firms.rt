@@ -1,29 +1,29 @@
 ghost use Rattle.std.specs.Prelude.{◌≡◌, ◌<◌, ◌≤◌, [], length, map, option_map, Some, IfOk};
 ghost use Rattle.serde_json.specs.View.{view, items_view};
-ghost use Rattle.tn_file.specs.Firms.{firm_of, one_firm};
+ghost use Rattle.tn_file.specs.Firms.{firm_by, firm_of, one_firm};
+ghost use Rattle.tn_file.specs.Kinds.{most_own};
 ghost use Rattle.tn_file.specs.Naming.{Listed, sides_of};
 ghost use Rattle.tn_file.specs.Reading.{Gives, each};
-ghost use Rattle.tn_file.specs.Tables.{AreTrades, kind_of, table_of};
+ghost use Rattle.tn_file.specs.References.{AreTrades};
+ghost use Rattle.tn_file.specs.Tables.{table_of};
 
 use crate::fault::ReadError;
-use crate::made::FromTable;
+use crate::kinds::{FirmKind, check_frame, kind_of};
+use crate::laminars::laminar_of;
+use crate::made::FromKinds;
+use crate::middlemen::middle_of;
 use crate::rows::read_rows;
-use crate::shapes::{ObjectKind, check, list, object_of, text};
-use crate::steps::{FIRMS, KIND, ROWS};
-use crate::trades::count_own;
+use crate::shapes::list;
+use crate::steps::{FIRMS, ROWS};
 use serde_json::Value;
 use std::alloc::Global;
 use tn_answer::Names;
-use tn_base::FaultKind;
 use tn_exchange::RawTable;
 use tn_market::Ends;
 use tn_market::PlaceStep::Index;
 
-/// The most own trades of a table firm.
-const TABLE_LIMIT: u32 = 10;
-
 /// The firms in their order.
-pub(crate) fn read_firms<F: FromTable + Drop>(
+pub(crate) fn read_firms<F: FromKinds + Drop>(
     alloc: Global,
     names: &Names,
     ends: &[Ends],
@@ -44,7 +44,7 @@ pub(crate) fn read_firms<F: FromTable + Drop>(
 }
 
 #[tactic(auto, unfolding(crate::specs::Firms::firm_of))]
-fn firm_of<F: FromTable>(
+fn firm_of<F: FromKinds>(
     alloc: Global,
     names: &Names,
     ends: &[Ends],
@@ -55,19 +55,40 @@ fn firm_of<F: FromTable>(
     ensures { Gives F.firm result
         (firm_of F.tested (record { names = names.now; ends = ends.now }) f (view firm.now)) }
 {
-    check_kind(alloc, f, firm)?;
-    let table = table_of(alloc, names, ends, f, firm)?;
-    F::from_table(alloc, ends, f, table)
+    let kind = kind_of(alloc, f, firm)?;
+    check_frame(alloc, ends, f, kind, firm)?;
+    firm_by(alloc, names, ends, f, kind, firm)
 }
 
-/// Whether the kind of a firm is one of those that are known.
-#[tactic(auto, unfolding(crate::specs::Tables::kind_of))]
-fn check_kind(alloc: Global, f: u32, firm: &Value) -> Result<(), ReadError>
-    ensures { Gives (λ _. tt) result (kind_of f (view firm.now)) }
+/// Firm `f`, which is of a kind.
+#[tactic(auto, unfolding(crate::specs::Firms::firm_by))]
+fn firm_by<F: FromKinds>(
+    alloc: Global,
+    names: &Names,
+    ends: &[Ends],
+    f: u32,
+    kind: FirmKind,
+    firm: &Value,
+) -> Result<F, ReadError>
+    requires trades { AreTrades (record { names = names.now; ends = ends.now }) }
+    requires few { length (sides_of ends.now f) ≤ most_own kind }
+    ensures { Gives F.firm result
+        (firm_by F.tested (record { names = names.now; ends = ends.now }) f kind (view firm.now)) }
 {
-    let place = [FIRMS, Index(f), KIND];
-    let kind = text(alloc, firm.get("kind"), &place)?;
-    check(alloc, kind == "table", FaultKind::Shape, &place)
+    match kind {
+        FirmKind::Table => {
+            let table = table_of(alloc, names, ends, f, firm)?;
+            F::from_table(alloc, ends, f, table)
+        }
+        FirmKind::Laminar => {
+            let laminar = laminar_of(alloc, names, ends, f, firm)?;
+            Ok(F::from_laminar(laminar))
+        }
+        FirmKind::Middleman => {
+            let middle = middle_of(alloc, names, ends, f, firm)?;
+            Ok(F::from_middle(middle))
+        }
+    }
 }
 
 #[tactic(auto, unfolding(crate::specs::Tables::table_of))]
@@ -78,14 +99,11 @@ fn table_of(
     f: u32,
     firm: &Value,
 ) -> Result<RawTable, ReadError>
-    requires { AreTrades (record { names = names.now; ends = ends.now }) }
+    requires trades { AreTrades (record { names = names.now; ends = ends.now }) }
+    requires few { length (sides_of ends.now f) ≤ 10 }
     ensures { Gives (λ table. table) result
         (table_of (record { names = names.now; ends = ends.now }) f (view firm.now)) }
 {
-    let place = [FIRMS, Index(f)];
-    object_of(alloc, ObjectKind::Table, Some(firm), &place)?;
-    let few = count_own(ends, f) <= TABLE_LIMIT;
-    check(alloc, few, FaultKind::Limit, &place)?;
     let rows = list(alloc, firm.get("rows"), &[FIRMS, Index(f), ROWS])?;
     read_rows(alloc, names, ends, f, rows)
 }

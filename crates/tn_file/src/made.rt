@@ -2,17 +2,21 @@ ghost use Rattle.std.specs.Prelude.{◌≡◌, ◌≤◌, Bool, length};
 ghost use Rattle.tn_base.specs.Firm.{Firm};
 ghost use Rattle.tn_file.specs.Firms.{tested_firm};
 ghost use Rattle.tn_file.specs.Reading.{Gives};
+ghost use Rattle.tn_laminar.specs.Firms.{firm_of as laminar_firm_of};
+ghost use Rattle.tn_middle.specs.Firms.{firm_of as middle_firm_of};
 
 use crate::failures::failure;
 use crate::fault::ReadError;
 use std::alloc::Global;
 use tn_exchange::RawTable;
 use tn_firm::{FirmValue, RawFirm};
+use tn_laminar::Laminar;
 use tn_market::Ends;
+use tn_middle::Middle;
 use tn_table::{Table, TableRefused};
 
-/// A firm that can be made of a table. Where it is to meet exchange, this is the one time that the table is tested.
-pub(crate) trait FromTable: Sized {
+/// A firm that can be made of each kind. Where it is to meet exchange, this is the one time that a table is tested.
+pub(crate) trait FromKinds: Sized {
     /// Whether it is to meet exchange.
     ghost tested: { Bool };
 
@@ -23,9 +27,17 @@ pub(crate) trait FromTable: Sized {
     fn from_table(alloc: Global, ends: &[Ends], f: u32, table: RawTable) -> Result<Self, ReadError>
         requires { length ends.now ≤ 128 }
         ensures { Gives firm result (tested_firm tested ends.now f table) };
+
+    /// A laminar firm.
+    fn from_laminar(laminar: Laminar) -> Self
+        ensures { firm result ≡ laminar_firm_of laminar };
+
+    /// A middleman.
+    fn from_middle(middle: Middle) -> Self
+        ensures { firm result ≡ middle_firm_of middle };
 }
 
-impl FromTable for RawFirm {
+impl FromKinds for RawFirm {
     ghost use Rattle.std.specs.Prelude.{false};
     ghost use Rattle.tn_firm.specs.Raw.{raw_firm_of};
 
@@ -42,9 +54,17 @@ impl FromTable for RawFirm {
     ) -> Result<RawFirm, ReadError> {
         Ok(RawFirm::Table(table))
     }
+
+    fn from_laminar(laminar: Laminar) -> RawFirm {
+        RawFirm::Laminar(laminar)
+    }
+
+    fn from_middle(middle: Middle) -> RawFirm {
+        RawFirm::Middle(middle)
+    }
 }
 
-impl FromTable for FirmValue {
+impl FromKinds for FirmValue {
     ghost use Rattle.std.specs.Prelude.{true};
     ghost use Rattle.tn_firm.specs.Firms.{firm_of};
 
@@ -65,5 +85,13 @@ impl FromTable for FirmValue {
                 Err(ReadError::Fault(fault))
             }
         }
+    }
+
+    fn from_laminar(laminar: Laminar) -> FirmValue {
+        FirmValue::Laminar(laminar)
+    }
+
+    fn from_middle(middle: Middle) -> FirmValue {
+        FirmValue::Middle(middle)
     }
 }

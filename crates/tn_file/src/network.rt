@@ -7,7 +7,7 @@ ghost use Rattle.tn_file.specs.Naming.{Listed};
 ghost use Rattle.tn_file.specs.Firms.{one_firm};
 ghost use Rattle.tn_file.specs.Reading.{Gives, GivesBeside, each};
 ghost use Rattle.tn_file.specs.Refusal.{IsExtraFor, IsLoadedFor, net_view};
-ghost use Rattle.tn_file.specs.Tables.{AreTrades};
+ghost use Rattle.tn_file.specs.References.{AreTrades};
 
 use crate::document::{Loaded, RawNet};
 use crate::extra::{Extra, read_extra};

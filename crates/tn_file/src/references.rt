@@ -1,25 +1,25 @@
-ghost use Rattle.std.specs.Prelude.{◌≡◌, ◌^◌, ◌<◌, ◌≤◌, length, IfOk, Some, IfSome, slice_get};
-ghost use Rattle.serde_json.specs.View.{view};
+//! References: texts that name a trade, or an own trade of a firm.
+
+ghost use Rattle.std.specs.Prelude.{◌≡◌, ◌^◌, ◌<◌, ◌≤◌, ◌++◌, [], ◌∷◌, length, option_map, IfOk, Some, IfSome, slice_get};
+ghost use Rattle.serde_json.specs.View.{view, items_view};
 ghost use Rattle.tn_file.specs.Naming.{Listed, sides_of};
-ghost use Rattle.tn_file.specs.Reading.{Gives};
-ghost use Rattle.tn_file.specs.Tables.{AreTrades, own_position, own_reference, position_in, trade_at};
+ghost use Rattle.tn_file.specs.Reading.{Gives, each};
+ghost use Rattle.tn_file.specs.References.{AreTrades, bundle_at, new_trade, own_position, own_reference, part_place, position_in, position_on, trade_at};
+ghost use Rattle.tn_market.specs.declared.place.PlaceStep.TheVariants.{Index as IndexStep};
 
 use crate::fault::ReadError;
-use crate::shapes::{check, found, text};
+use crate::shapes::{check, found, list, text};
+use crate::steps::FIRMS;
 use serde_json::Value;
 use std::alloc::Global;
 use tn_answer::Names;
-use tn_base::{Bundle, FaultKind};
+use tn_base::{Bundle, FaultKind, Side, TradeSet};
+use tn_market::PlaceStep::Index;
 use tn_market::{Ends, PlaceStep};
 
 /// The trade that a reference names.
-#[tactic(auto, unfolding(crate::specs::Tables::trade_at), using(std::proofs::lemmas::Option::slice_get_within))]
-pub(crate) fn trade(
-    alloc: Global,
-    names: &Names,
-    value: &Value,
-    place: &[PlaceStep],
-) -> Result<u32, ReadError>
+#[tactic(auto, unfolding(crate::specs::References::trade_at), using(std::proofs::lemmas::Option::slice_get_within))]
+fn trade(alloc: Global, names: &Names, value: &Value, place: &[PlaceStep]) -> Result<u32, ReadError>
     ensures gives { Gives (λ t. t) result (trade_at names.now.trades place.now (view value.now)) }
     ensures known { IfOk result (λ t. t < length names.now.trades) }
 {
@@ -27,51 +27,147 @@ pub(crate) fn trade(
     found(alloc, names.trade_of(name), FaultKind::UnknownTrade, place)
 }
 
-/// The position of the own trade of firm `f` that a reference names.
-#[tactic(auto, unfolding(crate::specs::Tables::own_position))]
-fn own_position(
+/// A trade that a reference names, and that isn't a member of the set yet.
+#[tactic(auto, unfolding(crate::specs::References::new_trade))]
+pub(crate) fn new_trade(
+    alloc: Global,
+    names: &Names,
+    named: &TradeSet<2>,
+    value: &Value,
+    place: &[PlaceStep],
+) -> Result<u32, ReadError>
+    requires { length names.now.trades ≤ 128 }
+    ensures gives { Gives (λ t. t) result
+        (new_trade names.now.trades place.now named.now (view value.now)) }
+    ensures known { IfOk result (λ t. t < length names.now.trades) }
+{
+    let t = trade(alloc, names, value, place)?;
+    check(alloc, !named.has(t), FaultKind::SameTrade, place)?;
+    Ok(t)
+}
+
+/// The position of the own trade of firm `f` that a reference names, on one side if it is given.
+#[tactic(auto, unfolding(crate::specs::References::own_position))]
+pub(crate) fn own_position(
     alloc: Global,
     names: &Names,
     ends: &[Ends],
     f: u32,
+    side: Option<Side>,
     value: &Value,
     place: &[PlaceStep],
 ) -> Result<u32, ReadError>
     requires { AreTrades (record { names = names.now; ends = ends.now }) }
     ensures gives { Gives (λ k. k) result
-        (own_position (record { names = names.now; ends = ends.now }) f place.now (view value.now)) }
+        (own_position (record { names = names.now; ends = ends.now }) f side place.now (view value.now)) }
     ensures own { IfOk result (λ k. k < length (sides_of ends.now f)) }
 {
     let t = trade(alloc, names, value, place)?;
-    let position = position_in(&ends[t as usize], f);
+    let position = position_on(side, &ends[t as usize], f);
     found(alloc, position, FaultKind::NotOwnTrade, place)
 }
 
-/// The bundle with one more own trade of firm `f`, which a reference names.
-#[tactic(auto, unfolding(crate::specs::Tables::own_reference), using(tn_base::proofs::SetLemmas::toggle_within))]
-pub(crate) fn own_reference(
+/// A part of an item of a list of a firm, which is a list of references.
+#[derive(Clone, Copy)]
+pub(crate) struct ItemPart {
+    pub(crate) firm: u32,
+    pub(crate) list: PlaceStep,
+    pub(crate) item: u32,
+    pub(crate) part: PlaceStep,
+}
+
+/// The bundle of own trades that the references of a part name.
+#[tactic(auto, unfolding(crate::specs::References::bundle_at))]
+pub(crate) fn own_bundle(
     alloc: Global,
     names: &Names,
     ends: &[Ends],
-    f: u32,
-    bundle: Bundle,
-    value: &Value,
-    place: &[PlaceStep],
+    part: ItemPart,
+    value: Option<&Value>,
 ) -> Result<Bundle, ReadError>
     requires trades { AreTrades (record { names = names.now; ends = ends.now }) }
-    requires few { length (sides_of ends.now f) ≤ 10 }
-    requires own { bundle < 2 ^ length (sides_of ends.now f) }
-    ensures gives { Gives (λ b. b) result
-        (own_reference (record { names = names.now; ends = ends.now }) f place.now bundle (view value.now)) }
-    ensures own { IfOk result (λ b. b < 2 ^ length (sides_of ends.now f)) }
+    requires few { length (sides_of ends.now part.firm) ≤ 32 }
+    ensures gives { Gives (λ bundle. bundle) result
+        (bundle_at (record { names = names.now; ends = ends.now }) part.firm (part_place part)
+        (option_map (λ v. view v.now) value.entry)) }
+    ensures own { IfOk result (λ bundle. bundle < 2 ^ length (sides_of ends.now part.firm)) }
 {
-    let k = own_position(alloc, names, ends, f, value, place)?;
-    check(alloc, !bundle.has(k), FaultKind::SameTrade, place)?;
+    let place = [
+        FIRMS,
+        Index(part.firm),
+        part.list,
+        Index(part.item),
+        part.part,
+    ];
+    let references = list(alloc, value, &place)?;
+    each_own(alloc, names, ends, part, references)
+}
+
+/// The bundle that references name, one after the other.
+fn each_own(
+    alloc: Global,
+    names: &Names,
+    ends: &[Ends],
+    part: ItemPart,
+    references: &[Value],
+) -> Result<Bundle, ReadError>
+    requires trades { AreTrades (record { names = names.now; ends = ends.now }) }
+    requires few { length (sides_of ends.now part.firm) ≤ 32 }
+    ensures gives { Gives (λ bundle. bundle) result
+        (each (own_reference (record { names = names.now; ends = ends.now }) part.firm (part_place part)) 0
+        (items_view references.now)) }
+    ensures own { IfOk result (λ bundle. bundle < 2 ^ length (sides_of ends.now part.firm)) }
+{
+    let mut bundle = Bundle::empty();
+    for reference in references {
+        bundle = own_reference(alloc, names, ends, part, bundle, reference)?;
+    }
+    Ok(bundle)
+}
+
+/// The bundle with one more own trade, which a reference names.
+#[tactic(auto, unfolding(crate::specs::References::own_reference, crate::specs::References::new_own), using(tn_base::proofs::SetLemmas::toggle_within))]
+fn own_reference(
+    alloc: Global,
+    names: &Names,
+    ends: &[Ends],
+    part: ItemPart,
+    bundle: Bundle,
+    value: &Value,
+) -> Result<Bundle, ReadError>
+    requires trades { AreTrades (record { names = names.now; ends = ends.now }) }
+    requires few { length (sides_of ends.now part.firm) ≤ 32 }
+    requires own { bundle < 2 ^ length (sides_of ends.now part.firm) }
+    ensures gives { Gives (λ b. b) result
+        (own_reference (record { names = names.now; ends = ends.now }) part.firm (part_place part) bundle (view value.now)) }
+    ensures own { IfOk result (λ b. b < 2 ^ length (sides_of ends.now part.firm)) }
+{
+    let place = [
+        FIRMS,
+        Index(part.firm),
+        part.list,
+        Index(part.item),
+        part.part,
+        Index(bundle.count()),
+    ];
+    let k = own_position(alloc, names, ends, part.firm, None, value, &place)?;
+    check(alloc, !bundle.has(k), FaultKind::SameTrade, &place)?;
     Ok(bundle.toggle(k))
 }
 
+/// Where a trade stands among the own trades of firm `f` on a side, or on either where none is given.
+fn position_on(side: Option<Side>, trade: &Ends, f: u32) -> Option<u32>
+    ensures { result ≡ position_on side f trade.now }
+{
+    match side {
+        None => position_in(trade, f),
+        Some(Side::Sell) => (trade.seller == f).then_some(trade.at_seller),
+        Some(Side::Buy) => (trade.buyer == f).then_some(trade.at_buyer),
+    }
+}
+
 /// Where a trade stands among the own trades of firm `f`.
-pub(crate) fn position_in(trade: &Ends, f: u32) -> Option<u32>
+fn position_in(trade: &Ends, f: u32) -> Option<u32>
     ensures { result ≡ position_in f trade.now }
 {
     if trade.seller == f {

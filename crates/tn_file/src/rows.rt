@@ -3,11 +3,12 @@ ghost use Rattle.serde_json.specs.View.{view, items_view};
 ghost use Rattle.tn_base.specs.Arcs.{IsAtMost};
 ghost use Rattle.tn_file.specs.Naming.{Listed, sides_of};
 ghost use Rattle.tn_file.specs.Reading.{Gives, each};
-ghost use Rattle.tn_file.specs.Tables.{AreTrades, Rows, filled, one_row, row_of, row_reference, rows_of};
+ghost use Rattle.tn_file.specs.References.{AreTrades};
+ghost use Rattle.tn_file.specs.Tables.{Rows, filled, one_row, row_of, rows_of};
 
 use crate::fault::ReadError;
-use crate::references::own_reference;
-use crate::shapes::{fault, list, number, two};
+use crate::references::{ItemPart, own_bundle};
+use crate::shapes::{fault, number, two};
 use crate::steps::{FIRMS, ROWS};
 use crate::trades::sides_of;
 use serde_json::Value;
@@ -18,8 +19,8 @@ use tn_exchange::{RawTable, RowRefusal};
 use tn_market::Ends;
 use tn_market::PlaceStep::Index;
 
-/// The largest number of a row.
-const AMOUNT_LIMIT: u64 = 1_000_000_000;
+/// The largest number of a firm.
+pub(crate) const AMOUNT_LIMIT: u64 = 1_000_000_000;
 
 /// The table of the rows of firm `f`, which has at most 10 own trades.
 #[tactic(auto, unfolding(crate::specs::Tables::rows_of))]
@@ -96,34 +97,14 @@ fn row_of(
 {
     let (f_step, r_step) = (Index(f), Index(r));
     let (references, amount) = two(alloc, row, &[FIRMS, f_step, ROWS, r_step])?;
-    let place = [FIRMS, f_step, ROWS, r_step, Index(0)];
-    let references = list(alloc, Some(references), &place)?;
-    let bundle = row_bundle(alloc, names, ends, f, r, references)?;
+    let part = ItemPart {
+        firm: f,
+        list: ROWS,
+        item: r,
+        part: Index(0),
+    };
+    let bundle = own_bundle(alloc, names, ends, part, Some(references))?;
     let place = [FIRMS, f_step, ROWS, r_step, Index(1)];
     let amount = number(alloc, AMOUNT_LIMIT, amount, &place)?;
     Ok((bundle, amount))
-}
-
-/// The bundle that the references of row `r` name.
-fn row_bundle(
-    alloc: Global,
-    names: &Names,
-    ends: &[Ends],
-    f: u32,
-    r: u32,
-    references: &[Value],
-) -> Result<Bundle, ReadError>
-    requires trades { AreTrades (record { names = names.now; ends = ends.now }) }
-    requires few { length (sides_of ends.now f) ≤ 10 }
-    ensures gives { Gives (λ bundle. bundle) result
-        (each (row_reference (record { names = names.now; ends = ends.now }) f r) 0 (items_view references.now)) }
-    ensures own { IfOk result (λ bundle. bundle < 2 ^ length (sides_of ends.now f)) }
-{
-    let mut bundle = Bundle::empty();
-    for reference in references {
-        let k = Index(bundle.count());
-        let place = [FIRMS, Index(f), ROWS, Index(r), Index(0), k];
-        bundle = own_reference(alloc, names, ends, f, bundle, reference, &place)?;
-    }
-    Ok(bundle)
 }

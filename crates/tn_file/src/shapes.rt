@@ -5,9 +5,10 @@ ghost use Rattle.tn_base.specs.Arcs.{IsAtMost};
 ghost use Rattle.tn_base.specs.declared.fault.FaultKind.TheVariants.{Shape};
 ghost use Rattle.tn_answer.specs.Names.{is_name};
 ghost use Rattle.tn_file.specs.Reading.{Gives, fault, holds, wanted, IsFaultAt};
-ghost use Rattle.tn_file.specs.Shapes.{allows, allows_all, few_at, list_at, name_at, number_at, object_at, object_of, text_at, two_at, two_of};
+ghost use Rattle.tn_file.specs.Shapes.{allows, allows_all, few_at, list_at, name_at, number_at, object_at, object_of, optional_list_at, text_at, two_at, two_of, whole_at};
 
 use crate::fault::ReadError;
+use crate::kinds::FirmKind;
 use serde_json::{Map, Value};
 use std::alloc::Global;
 use tn_answer::is_name;
@@ -19,7 +20,8 @@ use tn_market::{Fault, Place, PlaceStep};
 pub(crate) enum ObjectKind {
     Top,
     Trade,
-    Table,
+    Firm(FirmKind),
+    LaminarSet,
     Arrangement,
 }
 
@@ -54,17 +56,17 @@ pub(crate) fn check(
 }
 
 /// What a look-up found, and otherwise a fault.
-pub(crate) fn found(
+pub(crate) fn found<T: Copy>(
     alloc: Global,
-    number: Option<u32>,
+    value: Option<T>,
     kind: FaultKind,
     place: &[PlaceStep],
-) -> Result<u32, ReadError>
-    ensures gives { Gives (λ n. n) result (wanted kind place.now number) }
-    ensures found { IfOk result (λ n. number ≡ Some n) }
+) -> Result<T, ReadError>
+    ensures gives { Gives (λ x. x) result (wanted kind place.now value) }
+    ensures found { IfOk result (λ x. value ≡ Some x) }
 {
-    match number {
-        Some(number) => Ok(number),
+    match value {
+        Some(value) => Ok(value),
         None => Err(fault(alloc, kind, place)),
     }
 }
@@ -92,6 +94,20 @@ pub(crate) fn list<'a>(
     match value.and_then(Value::as_array) {
         Some(list) => Ok(list.as_slice()),
         None => Err(fault(alloc, FaultKind::Shape, place)),
+    }
+}
+
+/// A list, which is empty where it isn't there.
+pub(crate) fn optional_list<'a>(
+    alloc: Global,
+    value: Option<&'a Value>,
+    place: &[PlaceStep],
+) -> Result<&'a [Value], ReadError>
+    ensures { Gives (λ s. items_view s.now) result (optional_list_at place.now (option_map (λ v. view v.now) value.entry)) }
+{
+    match value {
+        Some(value) => list(alloc, Some(value), place),
+        None => Ok(&[]),
     }
 }
 
@@ -166,6 +182,20 @@ fn two_of(items: &[Value]) -> Option<(&Value, &Value)>
     }
 }
 
+/// A whole number.
+pub(crate) fn whole(
+    alloc: Global,
+    value: Option<&Value>,
+    place: &[PlaceStep],
+) -> Result<i64, ReadError>
+    ensures { Gives (λ z. z) result (whole_at place.now (option_map (λ v. view v.now) value.entry)) }
+{
+    match value.and_then(Value::as_i64) {
+        Some(number) => Ok(number),
+        None => Err(fault(alloc, FaultKind::Shape, place)),
+    }
+}
+
 /// A whole number of at most this size.
 #[tactic(auto, unfolding(crate::specs::Shapes::number_at))]
 pub(crate) fn number(
@@ -177,9 +207,7 @@ pub(crate) fn number(
     ensures gives { Gives (λ z. z) result (number_at limit place.now (view value.now)) }
     ensures small { IfOk result (λ z. IsAtMost z limit) }
 {
-    let Some(number) = value.as_i64() else {
-        return Err(fault(alloc, FaultKind::Shape, place));
-    };
+    let number = whole(alloc, Some(value), place)?;
     check(
         alloc,
         number.unsigned_abs() <= limit,
@@ -206,7 +234,25 @@ fn allows(kind: ObjectKind, word: &str) -> bool
         ObjectKind::Trade => {
             word == "name" || word == "seller" || word == "buyer" || word == "note"
         }
-        ObjectKind::Table => word == "name" || word == "kind" || word == "rows" || word == "note",
+        ObjectKind::Firm(FirmKind::Table) => {
+            word == "name" || word == "kind" || word == "rows" || word == "note"
+        }
+        ObjectKind::Firm(FirmKind::Laminar) => {
+            word == "name"
+                || word == "kind"
+                || word == "amounts"
+                || word == "sets"
+                || word == "note"
+        }
+        ObjectKind::Firm(FirmKind::Middleman) => {
+            word == "name"
+                || word == "kind"
+                || word == "costs"
+                || word == "gains"
+                || word == "keep"
+                || word == "note"
+        }
+        ObjectKind::LaminarSet => word == "trades" || word == "from" || word == "values",
         ObjectKind::Arrangement => word == "on" || word == "prices",
     }
 }

@@ -20,6 +20,20 @@ pub(crate) const KIND: PlaceStep = PlaceStep::Word(Word::Kind);
 
 pub(crate) const ROWS: PlaceStep = PlaceStep::Word(Word::Rows);
 
+pub(crate) const AMOUNTS: PlaceStep = PlaceStep::Word(Word::Amounts);
+
+pub(crate) const SETS: PlaceStep = PlaceStep::Word(Word::Sets);
+
+pub(crate) const FROM: PlaceStep = PlaceStep::Word(Word::From);
+
+pub(crate) const VALUES: PlaceStep = PlaceStep::Word(Word::Values);
+
+pub(crate) const COSTS: PlaceStep = PlaceStep::Word(Word::Costs);
+
+pub(crate) const GAINS: PlaceStep = PlaceStep::Word(Word::Gains);
+
+pub(crate) const KEEP: PlaceStep = PlaceStep::Word(Word::Keep);
+
 pub(crate) const ON: PlaceStep = PlaceStep::Word(Word::On);
 
 pub(crate) const PRICES: PlaceStep = PlaceStep::Word(Word::Prices);

@@ -86,7 +86,7 @@ const FAULTY: [Case; 23] = [
     (
         r#"{"version":1,"firms":[{"name":"S","kind":"laminar","rows":[[["a"],-3]]},{"name":"B","kind":"table","rows":[[["a"],5]]}],"trades":[{"name":"a","seller":"S","buyer":"B"}]}"#,
         FaultKind::Shape,
-        &[FIRMS, Index(0), KIND],
+        &[FIRMS, Index(0)],
     ),
     (
         r#"{"version":1,"firms":[{"name":"S","kind":"table","rows":[[["a"],-3]]},{"name":"B","kind":"table","rows":[[["a"],5]]}],"trades":[{"name":"a","seller":"S","buyer":"B"}]}"#,
@@ -236,7 +236,7 @@ fn is_place(found: &Place, wanted: &[PlaceStep]) -> bool {
 }
 
 /// Whether the document has this fault first.
-fn has_fault(
+pub(crate) fn has_fault(
     alloc: Global,
     need: Need,
     bytes: &[u8],

@@ -7,5 +7,5 @@ use Rattle.tn_file.proofs.arrangement.read_entries.Given as goal
 abbrev pub invariant-loop-entry : goal.invariant-loop-entry
 invariant-loop-entry l = record {
   places : length l.prices ≡ length l.names.trades;
-  rest : each (one_price l.names.trades) (record { named = l.named; prices = l.prices }) (items_view (drop l.entry-index l.entries)) ≡ each (one_price l.names.trades) (record { named = 0; prices = l.fn.prices }) (items_view l.entries);
+  rest : each (one_price l.names.trades) (record { named = l.named; numbers = l.prices }) (items_view (drop l.entry-index l.entries)) ≡ each (one_price l.names.trades) (record { named = 0; numbers = l.fn.prices }) (items_view l.entries);
 }

@@ -7,5 +7,5 @@ use Rattle.tn_file.proofs.firms.read_firms.Given as goal
 abbrev pub invariant-loop-firm : goal.invariant-loop-firm
 invariant-loop-firm g l = record {
   count : length l.made.items ≡ l.firm-index;
-  rest : each (one_firm g.F.FromTable.tested (record { names = l.names; ends = l.ends })) (map g.F.FromTable.firm l.made.items) (items_view (drop l.firm-index l.firms)) ≡ each (one_firm g.F.FromTable.tested (record { names = l.names; ends = l.ends })) [] (items_view l.firms);
+  rest : each (one_firm g.F.FromKinds.tested (record { names = l.names; ends = l.ends })) (map g.F.FromKinds.firm l.made.items) (items_view (drop l.firm-index l.firms)) ≡ each (one_firm g.F.FromKinds.tested (record { names = l.names; ends = l.ends })) [] (items_view l.firms);
 }

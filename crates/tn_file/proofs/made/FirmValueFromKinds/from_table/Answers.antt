@@ -1,7 +1,7 @@
 use Rattle.std.proofs.Common.{refl, sym, ap, ◌∙◌, length, Ok, Err}
 use Rattle.tn_exchange.specs.Rows.{TableRows}
 use Rattle.tn_file.proofs.FirmLemmas.{tested_firm-holds, tested_firm-fails}
-use Rattle.tn_file.proofs.made.FirmValueFromTable.from_table.Goals as goal
+use Rattle.tn_file.proofs.made.FirmValueFromKinds.from_table.Goals as goal
 
 pub returns-in-Ok : goal.returns-in-Ok
 returns-in-Ok c = tested_firm-holds c.args.ends.now c.args.f c.args.table (c.in-Ok.ensures.accepted.0 refl) ∙ ap Ok (sym c.in-Ok.ensures.same)
