@@ -240,7 +240,7 @@ module _ (f : ℕ) where
       let more : length (earlier ++ set ∷ []) ≡ length earlier + 1 = length-append earlier (set ∷ []) in
       ap (λ r. r >>= λ met. check_sets f (earlier ++ set ∷ []) sets) (check_set-sound earlier sets set f (each (length earlier) set (omega arith) (get-next earlier sets set)))
       ∙ sound_after (earlier ++ set ∷ []) sets (λ k other after is. (subst (λ (all : List LaminarSet). IsSound all k other) (sym whole)
-          (each k other (omega (arith, after, more)) (subst (λ (all : List LaminarSet). slice_get all k ≡ Some other) whole is))))
+      (each k other (omega (arith, after, more)) (subst (λ (all : List LaminarSet). slice_get all k ≡ Some other) whole is))))
 
   pub check_sets-sound : (sets : List LaminarSet) → AreSound sets → check_sets f [] sets ≡ Ok tt
   check_sets-sound sets sound = sound_after [] sets (λ k set after is. sound k set is)

@@ -7,6 +7,8 @@ mod extra;
 mod failures;
 mod fault;
 mod firms;
+#[cfg(test)]
+mod kind_tests;
 mod kinds;
 mod laminars;
 mod laws;

@@ -4,6 +4,8 @@
 mod answer;
 mod checking;
 mod command;
+#[cfg(test)]
+mod kind_tests;
 mod testing;
 #[cfg(test)]
 mod tests;

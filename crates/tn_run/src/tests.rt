@@ -32,7 +32,11 @@ fn words_of(alloc: Global, texts: &[&str]) -> Result<Vec<String>, Fail> {
 }
 
 /// The status and the written text of a run over ends that never fail.
-fn run_on(alloc: Global, texts: &[&str], document: Vec<u8>) -> Result<(u8, Vec<u8>), Fail> {
+pub(crate) fn run_on(
+    alloc: Global,
+    texts: &[&str],
+    document: Vec<u8>,
+) -> Result<(u8, Vec<u8>), Fail> {
     let words = words_of(alloc, texts)?;
     let mut source = SteadySource::new(document, 100);
     let mut sink = SteadySink::with_room(alloc, 4096, 10)?;
@@ -42,9 +46,9 @@ fn run_on(alloc: Global, texts: &[&str], document: Vec<u8>) -> Result<(u8, Vec<u
 }
 
 /// A command, a document, the status, and the text without its line end.
-type Case = (&'static str, &'static str, u8, &'static str);
+pub(crate) type Case = (&'static str, &'static str, u8, &'static str);
 
-fn agrees(alloc: Global, case: &Case) -> Result<bool, Fail> {
+pub(crate) fn agrees(alloc: Global, case: &Case) -> Result<bool, Fail> {
     let document = case.1.as_bytes().to_vec(alloc)?;
     let (status, written) = run_on(alloc, &[case.0], document)?;
     Ok(status == case.2 && written.strip_suffix(b"\n") == Some(case.3.as_bytes()))
