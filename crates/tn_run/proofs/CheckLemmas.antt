@@ -1,49 +1,40 @@
 -- From the judgement of an arrangement to the answer about it.
-use Rattle.std.proofs.Common.{◌≡◌, ℕ, zero, suc, ◌+◌, ◌*◌, ◌^◌, ◌<◌, ◌≤◌, ℤ, pos, ◌+ℤ◌, ◌-ℤ◌, ◌*ℤ◌, ◌≤ℤ◌, List, [], ◌∷◌, length, get_or, map, refl, sym, ap, ◌∙◌, subst, arith, FitsSigned, ◌⊎◌, inl, inr}
+use Rattle.std.proofs.Common.{◌≡◌, ℕ, ◌^◌, ◌<◌, ◌≤◌, ℤ, pos, List, [], ◌∷◌, length, map, refl, sym, ap, ◌∙◌, subst, arith, inl, inr}
 use Rattle.std.specs.Prelude.{Option, Some, None, option_map, slice_get, All}
-use Rattle.std.specs.Int.{w64}
 use Rattle.std.proofs.lemmas.Int.{ints}
-use Rattle.std.proofs.lemmas.List.{length-map}
+use Rattle.std.proofs.lemmas.List.{length-map, get_or_past}
 use Rattle.std.proofs.lemmas.Bool.{cases_lt}
-use Rattle.std.proofs.lemmas.Option.{slice_get-map, slice_get_within}
+use Rattle.std.proofs.lemmas.Option.{none-some, same_Some, slice_get-map, slice_get_within}
 use Rattle.std.proofs.lemmas.List.Elements.{All-get_or}
 use Rattle.tn_base.specs.Arcs.{IsAtMost}
-use Rattle.tn_base.specs.Firm.{Firm, IsBest}
+use Rattle.tn_base.specs.Firm.{Firm}
 use Rattle.tn_firm.specs.declared.value.FirmValue.{FirmValue}
 use Rattle.tn_firm.specs.Firms.{firm_of, firm_laws, firm_few}
 use Rattle.tn_market.specs.declared.ends.Ends.{Ends}
-use Rattle.tn_market.specs.declared.said.Said.TheVariants.{Equilibrium, Better, Impossible}
+use Rattle.tn_market.specs.declared.said.Said.{Said}
+use Rattle.tn_market.specs.declared.said.Said.TheVariants.{Equilibrium, Better, Impossible, Fault, Usage, ReadFault, NoMemory, Accepted, ExchangeFails}
 use Rattle.tn_market.specs.Best.{price_at}
-use Rattle.tn_market.specs.Network.{own, part, trades_of}
+use Rattle.tn_market.specs.Network.{IsNetwork, own, trades_of}
 use Rattle.tn_market.specs.Equilibrium.{surplus_of}
 use Rattle.tn_market.specs.Verdict.{IsFirstBettered, Judges}
+use Rattle.tn_price.proofs.WelfareLemmas.{equilibrium_is_efficient}
+use Rattle.tn_run.specs.Answer.{IsEfficientWhereSaid}
 use Rattle.tn_run.proofs.NumberLemmas.{AreSmallFirms, surplus_small, utility_small}
 
 -- what stands at a place of a mapped list comes from there
 from_map : {A B : Type 0} (g : A → B) (o : Option A) (y : B) → option_map g o ≡ Some y → (x : A) × (o ≡ Some x) × (g x ≡ y)
-from_map g None y e = absurd (none_some y e)
-  where
-    none_some : {B : Type 0} (y : B) → None ≡ Some y → ⊥
-    none_some y e = (cc)
-from_map g (Some x) y e = (x, refl, same_some (g x) y e)
-  where
-    same_some : {B : Type 0} (a b : B) → Some a ≡ Some b → a ≡ b
-    same_some a b e = (cc)
+from_map g None y e = absurd (none-some y e)
+from_map g (Some x) y e = (x, refl, same_Some (g x) y e)
 
 -- the value of a firm in a list of firms
 pub value_at : (firms : List FirmValue) (f : ℕ) (firm : Firm) → slice_get (map firm_of firms) f ≡ Some firm → (value : FirmValue) × (slice_get firms f ≡ Some value) × (firm_of value ≡ firm)
 value_at firms f firm e = from_map firm_of (slice_get firms f) firm (sym (slice_get-map firm_of firms f) ∙ e)
 
-get_or-past : (xs : List ℤ) (k : ℕ) (d : ℤ) → length xs ≤ k → get_or xs k d ≡ d
-get_or-past [] k d h = refl
-get_or-past (x ∷ xs) zero d h = absurd (omega (arith, h))
-get_or-past (x ∷ xs) (suc k) d h = get_or-past xs k d (omega (arith, h))
-
 -- each price is small, and so is that of a trade that isn't there
 price_small : (prices : List ℤ) (t limit : ℕ) → All (λ p. IsAtMost p limit) prices → IsAtMost (price_at prices t) limit
 price_small prices t limit small = elim (cases_lt t (length prices)) [
   | inl h ↦ All-get_or (λ p. IsAtMost p limit) prices t (pos 0) h small
-  | inr h ↦ subst (λ (z : ℤ). IsAtMost z limit) (sym (get_or-past prices t (pos 0) h)) (record { low = omega (arith, ints); high = omega (arith, ints) })
+  | inr h ↦ subst (λ (z : ℤ). IsAtMost z limit) (sym (get_or_past prices t (pos 0) h)) (record { low = omega (arith, ints); high = omega (arith, ints) })
 ]
 
 pub are_small : (firms : List FirmValue) → AreSmallFirms (map firm_of firms)
@@ -89,3 +80,16 @@ pub bettered_firm : (firms : List FirmValue) (trades : List Ends) (on : ℕ) (pr
     → IsFirstBettered (map firm_of firms) trades (pos 1) on (price_at prices) f x gain → f < length firms
 bettered_firm firms trades on prices f x gain bettered =
     let there = value_at firms f bettered.firm bettered.is in slice_get_within firms f there.0 there.1
+
+-- an equilibrium of a network is efficient
+pub efficient_where_said : (firms : List Firm) (trades : List Ends) (on : ℕ) (prices : ℕ → ℤ) (said : Said) → IsNetwork firms trades
+    → Judges firms trades (pos 1) on prices said → IsEfficientWhereSaid firms trades on said
+efficient_where_said firms trades on prices (Equilibrium surplus) network judges = equilibrium_is_efficient firms trades (pos 1) on prices network (omega (arith, ints)) judges.0
+efficient_where_said firms trades on prices (Better f bundle gain) network judges = tt
+efficient_where_said firms trades on prices (Impossible f) network judges = tt
+efficient_where_said firms trades on prices (Fault fault) network judges = tt
+efficient_where_said firms trades on prices Usage network judges = tt
+efficient_where_said firms trades on prices ReadFault network judges = tt
+efficient_where_said firms trades on prices NoMemory network judges = tt
+efficient_where_said firms trades on prices Accepted network judges = tt
+efficient_where_said firms trades on prices (ExchangeFails f x y at) network judges = tt

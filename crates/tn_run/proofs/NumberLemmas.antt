@@ -1,15 +1,15 @@
 -- The numbers of a verdict fit an answer.
-use Rattle.std.proofs.Common.{◌≡◌, ℕ, zero, suc, ◌+◌, ◌*◌, ◌^◌, ◌<◌, ◌≤◌, ℤ, pos, ◌+ℤ◌, ◌-ℤ◌, ◌*ℤ◌, ◌≤ℤ◌, List, [], ◌∷◌, length, map, refl, sym, ap, ◌∙◌, arith, FitsSigned}
-use Rattle.std.specs.Prelude.{Option, Some, None, option_map, option_and_then, slice_get}
-use Rattle.std.specs.Int.{w64}
+use Rattle.std.proofs.Common.{◌≡◌, ℕ, ◌+◌, ◌*◌, ◌^◌, ◌≤◌, ℤ, pos, ◌+ℤ◌, ◌*ℤ◌, List, [], ◌∷◌, length, refl, sym, ap, ◌∙◌, arith}
+use Rattle.std.specs.Prelude.{Option, Some, None, option_map, option_and_then}
 use Rattle.std.proofs.lemmas.Int.{ints}
+use Rattle.std.proofs.lemmas.Option.{none-some, same_Some}
 use Rattle.tn_base.specs.Arcs.{IsAtMost}
 use Rattle.tn_base.specs.Sets.{sum_over}
 use Rattle.tn_base.specs.Firm.{Firm, payments, utility}
 use Rattle.tn_law.proofs.KeepLemmas.{option_map-some}
 use Rattle.tn_market.specs.declared.ends.Ends.{Ends}
 use Rattle.tn_market.specs.Network.{part}
-use Rattle.tn_market.specs.Equilibrium.{surplus_from, surplus_of}
+use Rattle.tn_market.specs.Equilibrium.{surplus_from}
 use Rattle.tn_market.specs.Valued.{IsWorthAtMost}
 use Rattle.tn_price.proofs.AskLemmas.{sum_over_small, payment_small}
 
@@ -20,20 +20,14 @@ AreSmallFirms (firm ∷ firms) = IsWorthAtMost (10 ^ 11) firm × AreSmallFirms f
 
 -- a surplus is at most 10^11 for each firm
 pub surplus_small : (trades : List Ends) (on f : ℕ) (firms : List Firm) (s : ℤ) → AreSmallFirms firms → surplus_from trades on f firms ≡ Some s → IsAtMost s (length firms * 10 ^ 11)
-surplus_small trades on f [] s small is = let e : pos 0 ≡ s = some_inj (pos 0) s is in record { low = omega (arith, ints, e); high = omega (arith, ints, e) }
-  where
-    some_inj : (a b : ℤ) → Some a ≡ Some b → a ≡ b
-    some_inj a b e = (cc)
+surplus_small trades on f [] s small is = let e : pos 0 ≡ s = same_Some (pos 0) s is in record { low = omega (arith, ints, e); high = omega (arith, ints, e) }
 surplus_small trades on f (firm ∷ firms) s small is = with_worth (λ rest e. surplus_small trades on (f + 1) firms rest small.1 e) (firm.worth (part trades f firm.count on)) refl
   where
-    none_some : (a : ℤ) → None ≡ Some a → ⊥
-    none_some a e = (cc)
-
     sum : ℤ → Option ℤ
     sum w = option_map (λ rest. w +ℤ rest) (surplus_from trades on (f + 1) firms)
 
     with_worth : ((rest : ℤ) → surplus_from trades on (f + 1) firms ≡ Some rest → IsAtMost rest (length firms * 10 ^ 11)) → (o : Option ℤ) → firm.worth (part trades f firm.count on) ≡ o → IsAtMost s (length (firm ∷ firms) * 10 ^ 11)
-    with_worth later None e = absurd (none_some s (sym (ap (option_and_then sum) e) ∙ is))
+    with_worth later None e = absurd (none-some s (sym (ap (option_and_then sum) e) ∙ is))
     with_worth later (Some w) e =
         let rest = option_map-some (λ rest. w +ℤ rest) (surplus_from trades on (f + 1) firms) s (sym (ap (option_and_then sum) e) ∙ is) in
         let below = later rest.0 rest.1 in

@@ -1,11 +1,13 @@
 -- What the program may say of what it read.
-use Rattle.std.specs.Prelude.{◌≡◌, ◌≢◌, ℕ, ◌+◌, ◌≤◌, ◌⊎◌, pos, List, [], ◌∷◌, length, Option, Some, None, IfSome, Result, Ok, Err}
+use Rattle.std.specs.Prelude.{◌≡◌, ℕ, ◌+◌, ◌≤◌, ◌⊎◌, pos, List, [], length, Option, None, IfSome, Result, Ok, Err}
 use Rattle.std.specs.Io.KnownBytes.{Consumes, IsAtEnd}
-use Rattle.tn_base.specs.declared.fault.FaultKind.{FaultKind}
 use Rattle.tn_base.specs.declared.fault.FaultKind.TheVariants.{TooLong}
+use Rattle.tn_base.specs.Firm.{Firm}
 use Rattle.tn_market.specs.declared.said.Said.{Said}
-use Rattle.tn_market.specs.declared.said.Said.TheVariants.{Usage, ReadFault, NoMemory, Fault}
+use Rattle.tn_market.specs.declared.said.Said.TheVariants.{Usage, ReadFault, NoMemory, Fault, Equilibrium}
+use Rattle.tn_market.specs.declared.ends.Ends.{Ends}
 use Rattle.tn_market.specs.Best.{price_at}
+use Rattle.tn_market.specs.Equilibrium.{IsEfficient}
 use Rattle.tn_market.specs.Verdict.{Judges}
 use Rattle.tn_io.specs.Counts.{Rose}
 use Rattle.tn_io.specs.Source.{TakesFirst, TakesAtMost}
@@ -21,10 +23,15 @@ use Rattle.tn_run.specs.Words.{need_of}
 abbrev pub document_limit : ℕ
 document_limit = 4194304
 
+-- where it is said to be an equilibrium, no set of trades has a greater surplus
+abbrev pub IsEfficientWhereSaid : List Firm → List Ends → ℕ → Said → Type 0
+IsEfficientWhereSaid firms trades on (Equilibrium surplus) = IsEfficient firms trades on
+IsEfficientWhereSaid firms trades on _ = Unit {0}
+
 -- the verdict on the arrangement of a document, at scale 1
 abbrev pub ChecksExtra : DocumentData → ExtraData → Said → Type 0
 ChecksExtra doc nothing said = ⊥
-ChecksExtra doc (arrangement at) said = Judges doc.firms doc.ends (pos 1) at.on (price_at at.prices) said
+ChecksExtra doc (arrangement at) said = Judges doc.firms doc.ends (pos 1) at.on (price_at at.prices) said × IsEfficientWhereSaid doc.firms doc.ends at.on said
 
 -- the defined answer of a command on a document
 abbrev pub IsAnswerOf : Command → DocumentData → Said → Type 0

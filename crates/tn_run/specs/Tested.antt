@@ -1,7 +1,7 @@
 -- The answer of `test`: whether every firm meets the exchange property.
 use Rattle.std.specs.Prelude.{◌≡◌, ℕ, ◌<◌, List, length, slice_get, Option, Some, option_map}
 use Rattle.tn_base.specs.Firm.{Firm}
-use Rattle.tn_base.specs.Exchange.{NoneFails}
+use Rattle.tn_base.specs.Exchange.{MeetsExchange}
 use Rattle.tn_exchange.specs.TestOrder.{Triple, IsFirstFailure}
 use Rattle.tn_market.specs.declared.ends.Ends.{Ends}
 use Rattle.tn_market.specs.declared.said.Said.{Said}
@@ -10,7 +10,7 @@ use Rattle.tn_market.specs.Network.{own, trades_of}
 
 -- each firm before f meets exchange
 abbrev pub MeetBefore : List Firm → ℕ → Type 0
-MeetBefore firms f = (g : ℕ) (firm : Firm) → g < f → slice_get firms g ≡ Some firm → NoneFails firm
+MeetBefore firms f = (g : ℕ) (firm : Firm) → g < f → slice_get firms g ≡ Some firm → MeetsExchange firm
 
 -- firm f is the first that fails exchange, with its first failing triple in trade numbers
 pub record IsFirstToFail (firms : List Firm) (trades : List Ends) (f : ℕ) (x y : List ℕ) (at : Option ℕ) : Type 0 where

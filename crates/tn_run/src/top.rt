@@ -6,7 +6,7 @@ ghost use Rattle.tn_answer.specs.Names.{NameLists};
 ghost use Rattle.tn_answer.specs.Sayable.{IsSayable};
 ghost use Rattle.tn_io.specs.Sink.{Grows, GrowsByPrefix};
 ghost use Rattle.tn_run.specs.Answer.{MayBeSaid};
-ghost use Rattle.tn_run.specs.Run.{IsWritten, status_of};
+ghost use Rattle.tn_run.specs.Run.{IsWritten, IsWrittenWhole, status_of};
 ghost use Rattle.tn_run.specs.Words.{command_of};
 ghost use Rattle.tn_run.specs.declared.command.Command.{Command};
 
@@ -120,6 +120,12 @@ pub fn run_steadily(
     source: &mut SteadySource,
     sink: &mut SteadySink,
 ) -> Run
+    ensures usage { command_of (map string_bytes words.now) ≡ None → (result.said ≡ Said.Usage) × (source.new ≡ source.old) }
+    // Words that are a command: what the source gave is answered. The answer's text was written whole.
+    ensures answer { (names : NameLists)
+        × ((command : Command) → command_of (map string_bytes words.now) ≡ Some command
+        → MayBeSaid command (Some source.old.unread) (Some source.new.unread) 0 0 names result.said)
+        × IsWrittenWhole sink.old.told sink.new.told names result.said result.status }
     ensures read { result.status ≢ 3 }
     ensures written { result.status ≢ 4 }
 {

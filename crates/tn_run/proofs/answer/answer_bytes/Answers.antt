@@ -1,11 +1,8 @@
-use Rattle.std.proofs.Common.{◌≡◌, subst, sym, ap, ◌∙◌}
-use Rattle.std.specs.Prelude.{Ok}
+use Rattle.std.proofs.Common.{subst}
 use Rattle.tn_file.specs.declared.need.Need.{Need}
-use Rattle.tn_file.specs.Document.{reading_of}
 use Rattle.tn_file.specs.Laws.{IsDocument}
 use Rattle.tn_file.specs.Refusal.{document_view}
 use Rattle.tn_file.proofs.DocumentLeads.{documents_are_networks}
-use Rattle.tn_run.specs.Words.{need_of}
 use Rattle.tn_run.proofs.answer.answer_bytes.Goals as goal
 
 pub answer_document-requires-clause-document : goal.answer_document-requires-clause-document

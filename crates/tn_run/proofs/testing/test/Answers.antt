@@ -1,10 +1,11 @@
-use Rattle.std.proofs.Common.{◌≡◌, ℕ, List, map, sym, subst, ap, ◌∙◌, arith}
-use Rattle.std.specs.Prelude.{Some, slice_get}
+use Rattle.std.proofs.Common.{List, map, sym, subst, ap, ◌∙◌, arith}
+use Rattle.std.specs.Prelude.{slice_get}
 use Rattle.tn_firm.specs.declared.raw.RawFirm.{RawFirm}
 use Rattle.tn_firm.specs.Raw.{raw_firm_of}
 use Rattle.tn_market.specs.Network.{trades_of}
+use Rattle.tn_price.proofs.JudgeLemmas.{firm_is}
 use Rattle.tn_run.specs.Tested.{MeetBefore}
-use Rattle.tn_run.proofs.TestLemmas.{one_more_meets, firm_there, item_there, all_meet}
+use Rattle.tn_run.proofs.TestLemmas.{one_more_meets, item_there, all_meet}
 use Rattle.tn_run.proofs.testing.test.Goals as goal
 
 pub loop-firm-preserved : goal.loop-firm-preserved
@@ -21,7 +22,7 @@ returns-in-Fails-clause-answer c =
     record {
       before = subst (λ (xs : List RawFirm). MeetBefore (map raw_firm_of xs) c.loop-firm.f) c.firms-firms.ensures c.loop-firm.invariant.met;
       firm = raw_firm_of c.firm-item.result;
-      is = ap (λ (xs : List RawFirm). slice_get (map raw_firm_of xs) c.loop-firm.f) (sym c.firms-firms.ensures) ∙ firm_there c.firms-firms.result.now c.loop-firm.f c.firm-item.result there;
+      is = ap (λ (xs : List RawFirm). slice_get (map raw_firm_of xs) c.loop-firm.f) (sym c.firms-firms.ensures) ∙ firm_is raw_firm_of c.firms-firms.result.now c.loop-firm.f c.firm-item.result there;
       triple = record { x = c.in-Fails.x; y = c.in-Fails.y; at = c.in-Fails.at };
       first = c.in-Fails.ensures.first;
       x_is = c.in_ok-x-in-Fails.ensures ∙ ap (λ n. trades_of c.args.net.now.ends c.loop-firm.f n c.in-Fails.x) c.trades-count.ensures.count;
