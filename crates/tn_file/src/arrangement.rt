@@ -1,6 +1,5 @@
-ghost use Rattle.std.specs.Prelude.{◌≡◌, ◌^◌, ◌<◌, ◌≤◌, ℤ, length, replicate, slice_set, pos, IfOk, OnOk, Some, All};
+ghost use Rattle.std.specs.Prelude.{◌≡◌, ◌<◌, ◌≤◌, length, IfOk, Some};
 ghost use Rattle.serde_json.specs.View.{view, items_view};
-ghost use Rattle.tn_base.specs.Arcs.{IsAtMost};
 ghost use Rattle.tn_file.specs.Arranged.{Arranged, arrangement_of, first_without, one_on, one_price, price_of, prices_of, unless_missing};
 ghost use Rattle.tn_file.specs.Entries.{Numbered};
 ghost use Rattle.tn_file.specs.Reading.{Gives, each};

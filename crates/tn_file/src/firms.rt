@@ -1,4 +1,4 @@
-ghost use Rattle.std.specs.Prelude.{◌≡◌, ◌<◌, ◌≤◌, [], length, map, option_map, Some, IfOk};
+ghost use Rattle.std.specs.Prelude.{◌<◌, ◌≤◌, [], length, map};
 ghost use Rattle.serde_json.specs.View.{view, items_view};
 ghost use Rattle.tn_file.specs.Firms.{firm_by, firm_of, one_firm};
 ghost use Rattle.tn_file.specs.Kinds.{most_own};

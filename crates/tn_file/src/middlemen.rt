@@ -1,6 +1,6 @@
 //! Middlemen.
 
-ghost use Rattle.std.specs.Prelude.{◌≡◌, ◌≤◌, length, option_map};
+ghost use Rattle.std.specs.Prelude.{◌≤◌, length, option_map};
 ghost use Rattle.serde_json.specs.View.{view};
 ghost use Rattle.tn_middle.specs.Firms.{firm_of};
 ghost use Rattle.tn_file.specs.Middlemen.{keep_at, middle_of};

@@ -2,7 +2,6 @@
 
 ghost use Rattle.std.specs.Prelude.{◌≡◌, ◌<◌, ◌≤◌, length, option_map, IfOk};
 ghost use Rattle.serde_json.specs.View.{view, items_view};
-ghost use Rattle.tn_base.specs.Sets.{size};
 ghost use Rattle.tn_file.specs.Entries.{Numbered};
 ghost use Rattle.tn_file.specs.Naming.{Listed, sides_of};
 ghost use Rattle.tn_file.specs.OwnNumbers.{one_own, own_entry, own_numbers};

@@ -1,11 +1,10 @@
 //! References: texts that name a trade, or an own trade of a firm.
 
-ghost use Rattle.std.specs.Prelude.{◌≡◌, ◌^◌, ◌<◌, ◌≤◌, ◌++◌, [], ◌∷◌, length, option_map, IfOk, Some, IfSome, slice_get};
+ghost use Rattle.std.specs.Prelude.{◌≡◌, ◌^◌, ◌<◌, ◌≤◌, length, option_map, IfOk, Some};
 ghost use Rattle.serde_json.specs.View.{view, items_view};
 ghost use Rattle.tn_file.specs.Naming.{Listed, sides_of};
 ghost use Rattle.tn_file.specs.Reading.{Gives, each};
 ghost use Rattle.tn_file.specs.References.{AreTrades, bundle_at, new_trade, own_position, own_reference, part_place, position_in, position_on, trade_at};
-ghost use Rattle.tn_market.specs.declared.place.PlaceStep.TheVariants.{Index as IndexStep};
 
 use crate::fault::ReadError;
 use crate::shapes::{check, found, list, text};
