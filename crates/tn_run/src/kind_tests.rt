@@ -112,50 +112,51 @@ fn tells_faults_of_each_kind(rt: HostRuntime) -> Result<(), Fail> {
     Ok(())
 }
 
-/// Adds the items that a function writes, with a comma between two.
-fn push_each(
-    alloc: Global,
-    text: &mut String,
-    count: u32,
-    item: fn(Global, u32) -> Result<String, Fail>,
-) -> Result<(), Fail> {
-    for k in 0..count {
-        if k > 0 {
-            text.push_str(",")?;
-        }
-        let next = item(alloc, k)?;
-        text.push_str(&next)?;
+fn comma(k: u32) -> &'static str {
+    if k == 0 { "" } else { "," }
+}
+
+/// So many pairs of laminar firms without amounts and sets.
+fn push_firms(alloc: Global, text: &mut String, pairs: u32) -> Result<(), Fail> {
+    for k in 0..pairs {
+        let comma = comma(k);
+        let pair = format!(in alloc;
+            "{comma}{{\"name\":\"S{k}\",\"kind\":\"laminar\"}},{{\"name\":\"B{k}\",\"kind\":\"laminar\"}}"
+        )?;
+        text.push_str(&pair)?;
     }
     Ok(())
 }
 
-fn pair(alloc: Global, k: u32) -> Result<String, Fail> {
-    let text = format!(in alloc;
-        "{{\"name\":\"S{k}\",\"kind\":\"laminar\"}},{{\"name\":\"B{k}\",\"kind\":\"laminar\"}}"
-    )?;
-    Ok(text)
+/// So many trades, of which each pair of firms has 32; what the fifth would have is the first's.
+fn push_trades(alloc: Global, text: &mut String, trades: u32) -> Result<(), Fail> {
+    for t in 0..trades {
+        let (comma, k) = (comma(t), t / 32 % 4);
+        let trade = format!(in alloc;
+            "{comma}{{\"name\":\"t{t}\",\"seller\":\"S{k}\",\"buyer\":\"B{k}\"}}"
+        )?;
+        text.push_str(&trade)?;
+    }
+    Ok(())
 }
 
-/// Trade `t`, of the pair of firms that has 32 trades before the next pair begins; the fifth pair's are the first's.
-fn trade(alloc: Global, t: u32) -> Result<String, Fail> {
-    let k = t / 32 % 4;
-    let text = format!(in alloc; "{{\"name\":\"t{t}\",\"seller\":\"S{k}\",\"buyer\":\"B{k}\"}}")?;
-    Ok(text)
+fn push_prices(alloc: Global, text: &mut String, trades: u32) -> Result<(), Fail> {
+    for t in 0..trades {
+        let comma = comma(t);
+        let price = format!(in alloc; "{comma}[\"t{t}\",0]")?;
+        text.push_str(&price)?;
+    }
+    Ok(())
 }
 
-fn price(alloc: Global, t: u32) -> Result<String, Fail> {
-    let text = format!(in alloc; "[\"t{t}\",0]")?;
-    Ok(text)
-}
-
-/// Pairs of laminar firms without amounts and sets, with trades between the two of each pair, and all prices 0.
+/// Pairs of laminar firms with trades between the two of each pair, one of them on, and all prices 0.
 fn pairs(alloc: Global, version: u32, pairs: u32, trades: u32) -> Result<String, Fail> {
     let mut text = format!(in alloc; "{{\"version\":{version},\"firms\":[")?;
-    push_each(alloc, &mut text, pairs, pair)?;
+    push_firms(alloc, &mut text, pairs)?;
     text.push_str("],\"trades\":[")?;
-    push_each(alloc, &mut text, trades, trade)?;
+    push_trades(alloc, &mut text, trades)?;
     text.push_str("],\"arrangement\":{\"on\":[\"t0\"],\"prices\":[")?;
-    push_each(alloc, &mut text, trades, price)?;
+    push_prices(alloc, &mut text, trades)?;
     text.push_str("]}}")?;
     Ok(text)
 }
