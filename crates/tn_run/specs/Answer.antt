@@ -59,9 +59,9 @@ pub record FindsTooLong (old new : Option (List ℕ)) (said : Said) : Type 0 whe
   pub taken : TakesFirst old new (document_limit + 1)
 
 -- what may be said after a command has read a source, by what the source told before and after, and by its counts of
--- faults
+-- faults; memory may run out at any time, and even then at most one byte more than the limit was taken
 abbrev pub MayBeSaid : Command → Option (List ℕ) → Option (List ℕ) → ℕ → ℕ → NameLists → Said → Type 0
 MayBeSaid command old new faults_old faults_new names ReadFault = Rose faults_old faults_new × TakesAtMost old new document_limit
-MayBeSaid command old new faults_old faults_new names NoMemory = Unit {0}
+MayBeSaid command old new faults_old faults_new names NoMemory = TakesAtMost old new (document_limit + 1)
 MayBeSaid command old new faults_old faults_new names Usage = ⊥
 MayBeSaid command old new faults_old faults_new names said = FindsTooLong old new said ⊎ AnswersWhole command old new names said

@@ -1,0 +1,43 @@
+-- How much of a source is taken, whatever is said.
+use Rattle.std.proofs.Common.{◌≡◌, ℕ, ◌+◌, ◌≤◌, List, length, sym, subst, arith, ◌⊎◌, inl, inr}
+use Rattle.std.specs.Prelude.{Option}
+use Rattle.tn_market.specs.declared.said.Said.{Said}
+use Rattle.tn_market.specs.declared.said.Said.TheVariants.{Equilibrium, Better, Impossible, Fault, Usage, ReadFault, NoMemory, Accepted, ExchangeFails}
+use Rattle.tn_io.specs.Source.{TakesAtMost}
+use Rattle.tn_io.proofs.Taken.{Consumes-TakesFirst}
+use Rattle.tn_answer.specs.Names.{NameLists}
+use Rattle.tn_run.specs.declared.command.Command.{Command}
+use Rattle.tn_run.specs.Answer.{document_limit, AnswersWhole, FindsTooLong, MayBeSaid}
+
+-- what is within the limit is within one byte more
+one_past : (old new : Option (List ℕ)) → TakesAtMost old new document_limit → TakesAtMost old new (document_limit + 1)
+one_past old new taken = let few : taken.0 ≤ document_limit = taken.1 in (taken.0, omega (arith, few), taken.2)
+
+-- a document that is too long, or read whole, takes at most one byte more than the limit
+taken_or_long : (command : Command) (old new : Option (List ℕ)) (names : NameLists) (said : Said) → FindsTooLong old new said ⊎ AnswersWhole command old new names said
+    → TakesAtMost old new (document_limit + 1)
+taken_or_long command old new names said answer = elim answer [
+  | inl long ↦ (document_limit + 1, omega arith, long.taken)
+  | inr whole ↦ let few : length whole.bytes ≤ document_limit = whole.few in (length whole.bytes, omega (arith, few), Consumes-TakesFirst old new whole.bytes whole.taken)
+]
+
+-- whatever may be said, at most one byte more than the limit was taken
+taken_at_most : (command : Command) (old new : Option (List ℕ)) (before after : ℕ) (names : NameLists) (said : Said)
+    → MayBeSaid command old new before after names said → TakesAtMost old new (document_limit + 1)
+taken_at_most command old new before after names Usage may = absurd may
+taken_at_most command old new before after names ReadFault may = one_past old new may.1
+taken_at_most command old new before after names NoMemory may = may
+taken_at_most command old new before after names (Fault fault) may = taken_or_long command old new names (Fault fault) may
+taken_at_most command old new before after names (Equilibrium surplus) may = taken_or_long command old new names (Equilibrium surplus) may
+taken_at_most command old new before after names (Better f bundle gain) may = taken_or_long command old new names (Better f bundle gain) may
+taken_at_most command old new before after names (Impossible f) may = taken_or_long command old new names (Impossible f) may
+taken_at_most command old new before after names Accepted may = taken_or_long command old new names Accepted may
+taken_at_most command old new before after names (ExchangeFails f x y at) may = taken_or_long command old new names (ExchangeFails f x y at) may
+
+-- where something may be said, it may be said that memory ran out
+pub may_run_out : (command : Command) (old new : Option (List ℕ)) (before after : ℕ) (names : NameLists) (said told : Said)
+    → MayBeSaid command old new before after names said → (told ≡ said) ⊎ (told ≡ NoMemory) → MayBeSaid command old new before after names told
+may_run_out command old new before after names said told may which = elim which [
+  | inl e ↦ subst (MayBeSaid command old new before after names) (sym e) may
+  | inr e ↦ subst (MayBeSaid command old new before after names) (sym e) (taken_at_most command old new before after names said may)
+]
