@@ -26,7 +26,7 @@ use Rattle.tn_file.proofs.NameLeads.{IsListWhileFew, AreListed, firms_lead, firm
 use Rattle.tn_file.proofs.FirmLeads.{AreFirms, firms_are, firms_are_counted, network_of}
 use Rattle.tn_file.proofs.ArrangementLeads.{arrangement_leads}
 
-limit_leads : (top : Data) → Leads (λ n. n ≤ 128) (version_limit top)
+pub limit_leads : (top : Data) → Leads (λ n. n ≤ 128) (version_limit top)
 unfolding version_limit
 limit_leads top =
     leads_after _ (wanted Shape (Word Version ∷ []) (option_and_then as_u64 (option_and_then as_number (get (codes "version") top)))) _ (λ version.
@@ -55,7 +55,7 @@ is_listing limit names firms trades listed most few_firms kept count few_trades 
   few = omega (arith, most, few_firms);
 }
 
-listed_leads : (top : Data) → Leads IsListing (listed_of top)
+pub listed_leads : (top : Data) → Leads IsListing (listed_of top)
 unfolding listed_of
 listed_leads top =
     leads_after IsListing (beside no_names (object_of Top [] (Some top))) _ (λ object.

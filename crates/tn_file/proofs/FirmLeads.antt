@@ -108,7 +108,7 @@ module _ (tested : Bool) (listed : Listed) (trades : AreTrades listed) where
   kind_leads f Laminar firm few = leads_as (IsLaminarFirm listed.ends f) (IsFirm tested listed.ends f) (laminar_of listed f firm) (λ made is. record { listed = laminar is; meets = λ t. laminar_meets listed.ends f made is }) (laminar_leads listed trades f firm few)
   kind_leads f Middleman firm few = leads_as (IsMiddlemanFirm listed.ends f) (IsFirm tested listed.ends f) (middle_of listed f firm) (λ made is. record { listed = middleman is; meets = λ t. middleman_meets listed.ends f made is }) (middle_leads listed f firm few)
 
-  frame_leads : (f : ℕ) (kind : FirmKind) (firm : Data) → Leads (λ _. length (sides_of listed.ends f) ≤ most_own kind) (frame_of listed.ends f kind firm)
+  pub frame_leads : (f : ℕ) (kind : FirmKind) (firm : Data) → Leads (λ _. length (sides_of listed.ends f) ≤ most_own kind) (frame_of listed.ends f kind firm)
   unfolding frame_of
   frame_leads f kind firm =
       leads_after _ (object_of (FirmObject kind) (firm_place f) (Some firm)) _ (λ object.

@@ -18,3 +18,8 @@ pub mod NameLeads
 pub mod FirmLeads
 pub mod ArrangementLeads
 pub mod DocumentLeads
+pub mod StopLemmas
+pub mod ReaderStops
+pub mod ShownLemmas
+pub mod FirmStops
+pub mod DocumentStops

@@ -41,7 +41,7 @@ pub record IsMore (names more : List (List ℕ)) : Type 0 where
   pub is_new : IsNew names name
   pub is : more ≡ names ++ name ∷ []
 
-firm_name_leads : (names : NameLists) (firm : Data) → Leads (λ next. IsMore names.firms next.firms × (next.trades ≡ names.trades)) (firm_name names firm)
+pub firm_name_leads : (names : NameLists) (firm : Data) → Leads (λ next. IsMore names.firms next.firms × (next.trades ≡ names.trades)) (firm_name names firm)
 unfolding firm_name
 firm_name_leads names firm =
     leads_after _ (object_at (Word Firms ∷ Index (length names.firms) ∷ []) (Some firm)) _ (λ object.
@@ -49,7 +49,7 @@ firm_name_leads names firm =
     (new_name_leads names.firms (Word Firms ∷ Index (length names.firms) ∷ Word Name ∷ []) (get (codes "name") firm))
     (λ name is_new. leads_ok (λ next. IsMore names.firms next.firms × (next.trades ≡ names.trades)) (with_firm names name) (record { name = name; is_new = is_new; is = refl }, refl)))
 
-trade_name_leads : (names : NameLists) (trade : Data) → Leads (λ next. IsMore names.trades next.trades × (next.firms ≡ names.firms)) (trade_name names trade)
+pub trade_name_leads : (names : NameLists) (trade : Data) → Leads (λ next. IsMore names.trades next.trades × (next.firms ≡ names.firms)) (trade_name names trade)
 unfolding trade_name
 trade_name_leads names trade =
     leads_after _ (object_of TradeObject (Word Trades ∷ Index (length names.trades) ∷ []) (Some trade)) _ (λ object.
@@ -61,15 +61,15 @@ trade_name_leads names trade =
 abbrev pub IsListWhileFew : List (List ℕ) → Type 0
 IsListWhileFew names = length names ≤ MAX_NAMES → IsNameList names
 
-more_names : (names more : List (List ℕ)) → IsMore names more → IsListWhileFew names → IsListWhileFew more
+pub more_names : (names more : List (List ℕ)) → IsMore names more → IsListWhileFew names → IsListWhileFew more
 more_names names more m kept few =
     let longer = ap length m.is ∙ length-append names (m.name ∷ []) in
     subst IsNameList (sym m.is) (IsNameList-push names m.name (kept (omega (arith, few, longer))) m.is_new.new m.is_new.rule (omega (arith, few, longer)))
 
-more_count : (names more : List (List ℕ)) → IsMore names more → length more ≡ length names + 1
+pub more_count : (names more : List (List ℕ)) → IsMore names more → length more ≡ length names + 1
 more_count names more m = ap length m.is ∙ length-append names (m.name ∷ [])
 
-none_named : IsListWhileFew []
+pub none_named : IsListWhileFew []
 none_named few = record { few = few; named = λ k name e. absurd (none-some _ e); once = λ j k name e d. absurd (none-some _ e) }
 
 pub firms_lead : (start : NameLists) (firms : Items) → start.firms ≡ [] → start.trades ≡ []
@@ -105,7 +105,7 @@ pub record AreListed (firms : List (List ℕ)) (listed : Listed) : Type 0 where
   pub order : AreInOrder (length firms) listed.ends
   pub firms_are : listed.names.firms ≡ firms
 
-one_trade_leads : (firms : List (List ℕ)) (listed : Listed) (trade : Data) → AreListed firms listed → Leads (AreListed firms) (one_trade listed trade)
+pub one_trade_leads : (firms : List (List ℕ)) (listed : Listed) (trade : Data) → AreListed firms listed → Leads (AreListed firms) (one_trade listed trade)
 unfolding one_trade
 one_trade_leads firms listed trade are =
     leads_bind (λ next. IsMore listed.names.trades next.trades × (next.firms ≡ listed.names.firms)) (AreListed firms) (beside listed.names (trade_name listed.names trade)) _ (leads_beside _ listed.names (trade_name listed.names trade) (trade_name_leads listed.names trade)) (λ names more.
@@ -118,16 +118,18 @@ one_trade_leads firms listed trade are =
       firms_are = same;
     })))
 
-pub trades_lead : (names : NameLists) (trades : Items) → names.trades ≡ [] → Leads (AreListed names.firms) (each one_trade (record { names = names; ends = [] }) trades)
-trades_lead names trades no_trades =
-    leads_each (AreListed names.firms) one_trade (one_trade_leads names.firms) (record { names = names; ends = [] }) trades (record {
-      kept = subst IsListWhileFew (sym no_trades) none_named;
-      named = ap length no_trades;
-      order = λ t trade e. absurd (none-some _ e);
-      firms_are = refl;
-    })
+pub no_trades_listed : (names : NameLists) → names.trades ≡ [] → AreListed names.firms (record { names = names; ends = [] })
+no_trades_listed names no_trades = record {
+  kept = subst IsListWhileFew (sym no_trades) none_named;
+  named = ap length no_trades;
+  order = λ t trade e. absurd (none-some _ e);
+  firms_are = refl;
+}
 
-one_trade_count : (listed : Listed) (trade : Data) → Leads (λ next. length next.ends ≡ length listed.ends + 1) (one_trade listed trade)
+pub trades_lead : (names : NameLists) (trades : Items) → names.trades ≡ [] → Leads (AreListed names.firms) (each one_trade (record { names = names; ends = [] }) trades)
+trades_lead names trades no_trades = leads_each (AreListed names.firms) one_trade (one_trade_leads names.firms) (record { names = names; ends = [] }) trades (no_trades_listed names no_trades)
+
+pub one_trade_count : (listed : Listed) (trade : Data) → Leads (λ next. length next.ends ≡ length listed.ends + 1) (one_trade listed trade)
 unfolding one_trade
 one_trade_count listed trade =
     leads_after _ (beside listed.names (trade_name listed.names trade)) _ (λ names.

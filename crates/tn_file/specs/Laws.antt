@@ -1,5 +1,5 @@
 -- What holds of every document that is read, and of every fault, in words that know nothing of the reading.
-use Rattle.std.specs.Prelude.{◌≡◌, ℕ, ◌^◌, ◌<◌, ◌≤◌, ℤ, List, length, slice_get, true, All, Option, Some, Ok}
+use Rattle.std.specs.Prelude.{◌≡◌, ℕ, ◌^◌, ◌<◌, ◌≤◌, ℤ, List, length, slice_get, true, All, Option, Some, Ok, Err}
 use Rattle.std.specs.Option.{ForSome}
 use Rattle.tn_base.specs.Arcs.{IsAtMost}
 use Rattle.tn_base.specs.Exchange.{MeetsExchange}
@@ -13,7 +13,9 @@ use Rattle.tn_middle.specs.Pairs.{middle_firm}
 use Rattle.tn_market.specs.declared.ends.Ends.{Ends}
 use Rattle.tn_market.specs.Network.{IsNetwork}
 use Rattle.tn_answer.specs.Names.{IsNameList}
+use Rattle.tn_answer.specs.Sayable.{IsSayableFault}
 use Rattle.tn_file.specs.declared.need.Need.{Need}
+use Rattle.tn_file.specs.Reading.{Stop}
 use Rattle.tn_file.specs.Naming.{sides_of}
 use Rattle.tn_file.specs.Arranged.{Arranged}
 use Rattle.tn_file.specs.Document.{DocumentData, ExtraData, nothing, arrangement, is_tested, reading_of}
@@ -83,3 +85,14 @@ pub record IsDocument (need : Need) (doc : DocumentData) : Type 0 where
 -- every document that is read is one
 abbrev pub DocumentsAreNetworks : Type 0
 DocumentsAreNetworks = (need : Need) (bytes : List ℕ) (doc : DocumentData) → reading_of need bytes ≡ Ok doc → IsDocument need doc
+
+-- a stop speaks only of trades with a name and shows a triple exactly where exchange fails, and the names beside its
+-- fault keep the rules
+pub record IsStop (stop : Stop) : Type 0 where
+  pub fault : IsSayableFault stop.names.trades stop.fault
+  pub firm_names : IsNameList stop.names.firms
+  pub trade_names : IsNameList stop.names.trades
+
+-- wherever reading stops, it is such a stop
+abbrev pub FaultsAreSayable : Type 0
+FaultsAreSayable = (need : Need) (bytes : List ℕ) (stop : Stop) → reading_of need bytes ≡ Err stop → IsStop stop

@@ -29,6 +29,6 @@ mod trades;
 
 pub use document::{DocRefusal, Document, Loaded, RawNet};
 pub use extra::Extra;
-pub use laws::{documents_are_networks, first_failures_are_first};
+pub use laws::{documents_are_networks, faults_are_sayable, first_failures_are_first};
 pub use need::Need;
 pub use read::read_doc;

@@ -1,0 +1,5 @@
+use Rattle.tn_file.proofs.DocumentStops.{faults_are_sayable}
+use Rattle.tn_file.proofs.laws.faults_are_sayable.Goals as goal
+
+pub returns : goal.returns
+returns c = faults_are_sayable
