@@ -1,3 +1,4 @@
 pub mod NumberLemmas
 pub mod CheckLemmas
 pub mod TestLemmas
+pub mod NamedLemmas
