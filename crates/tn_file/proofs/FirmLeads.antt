@@ -143,7 +143,7 @@ module _ (tested : Bool) (listed : Listed) (trades : AreTrades listed) where
   pub firms_are : (firms : Items) → Leads AreFirms (each (one_firm tested listed) [] firms)
   firms_are firms = leads_each AreFirms (one_firm tested listed) one_firm_leads [] firms (λ f firm e. absurd (none-some _ e))
 
-  one_firm_count : (firms : List Firm) (firm : Data) → Leads (λ next. length next ≡ length firms + 1) (one_firm tested listed firms firm)
+  pub one_firm_count : (firms : List Firm) (firm : Data) → Leads (λ next. length next ≡ length firms + 1) (one_firm tested listed firms firm)
   unfolding one_firm
   one_firm_count firms firm =
       leads_after _ (firm_of tested listed (length firms) firm) _ (λ next.
