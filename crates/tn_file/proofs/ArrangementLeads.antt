@@ -20,7 +20,7 @@ use Rattle.tn_file.proofs.EntryLeads.{AreNumbers, zeros, entries_lead}
 use Rattle.tn_file.proofs.LeadLemmas.{Leads, leads_ok, leads_bind, leads_after, leads_each}
 
 module _ (trades : List (List ℕ)) where
-  one_on_leads : (on : ℕ) (value : Data) → on < 2 ^ length trades → Leads (λ next. next < 2 ^ length trades) (one_on trades on value)
+  pub one_on_leads : (on : ℕ) (value : Data) → on < 2 ^ length trades → Leads (λ next. next < 2 ^ length trades) (one_on trades on value)
   unfolding one_on
   one_on_leads on value below =
       leads_bind (λ t. t < length trades) (λ next. next < 2 ^ length trades) (new_trade trades (Word Arrangement ∷ Word On ∷ Index (size on) ∷ []) on value) _ (new_trade_leads trades (Word Arrangement ∷ Word On ∷ Index (size on) ∷ []) on value) (λ t known.

@@ -1,5 +1,5 @@
 -- What the firms are that reading gives.
-use Rattle.std.proofs.Common.{◌≡◌, ℕ, ◌+◌, ◌≤◌, Bool, true, false, List, [], ◌∷◌, ◌++◌, length, slice_get, Option, Some, None, Ok, inl, inr, refl, sym, ap, subst, ◌∙◌, arith, length-append}
+use Rattle.std.proofs.Common.{◌≡◌, ℕ, ◌+◌, ◌^◌, ◌≤◌, Bool, true, false, List, [], ◌∷◌, ◌++◌, length, slice_get, Option, Some, None, Ok, inl, inr, refl, sym, ap, subst, ◌∙◌, arith, length-append}
 use Rattle.std.specs.Prelude.{if◌then◌else◌, map, nat_le}
 use Rattle.std.proofs.lemmas.Option.{none-some}
 use Rattle.serde_json.specs.Data.{Data, Items}
@@ -11,8 +11,10 @@ use Rattle.tn_base.specs.declared.side.Side.{Side}
 use Rattle.tn_base.specs.declared.fault.FaultKind.TheVariants.{Limit}
 use Rattle.tn_laminar.specs.declared.set.LaminarSet.{LaminarSet}
 use Rattle.tn_laminar.specs.Masked.{masks_of}
+use Rattle.tn_laminar.specs.Sum.{laminar_firm}
 use Rattle.tn_laminar.specs.Laws.{laminar_sum_laws}
 use Rattle.tn_middle.specs.Sets.{meets}
+use Rattle.tn_market.specs.Lawful.{IsLawful}
 use Rattle.tn_market.specs.Network.{IsNetwork}
 use Rattle.tn_base.specs.Exchange.{MeetsExchange}
 use Rattle.tn_base.proofs.ExchangeLemmas.{exchange_from_none_fails}
@@ -61,10 +63,10 @@ of_table trades f table is = record {
 }
 
 -- laminar firms and middlemen meet exchange by what they are
-laminar_meets : (trades : List Ends) (f : ℕ) (firm : Firm) → IsLaminarFirm trades f firm → MeetsExchange firm
-laminar_meets trades f firm is =
+pub laminar_is_lawful : (trades : List Ends) (f : ℕ) (firm : Firm) (is : IsLaminarFirm trades f firm) → IsLawful (10 ^ 11) (laminar_firm (sides_of trades f) is.amounts is.sets)
+laminar_is_lawful trades f firm is =
     let sides = sides_of trades f in
-    let laws = laminar_sum_laws (length sides) (buys_of sides) is.amounts is.sets (map (λ (set : LaminarSet). masks_of (buys_of sides) set.members) is.sets) (record {
+    laminar_sum_laws (length sides) (buys_of sides) is.amounts is.sets (map (λ (set : LaminarSet). masks_of (buys_of sides) set.members) is.sets) (record {
       few = is.few;
       bought = buys_of_within sides;
       as_many = is.as_many;
@@ -74,7 +76,11 @@ laminar_meets trades f firm is =
       numbered = is.numbered;
       sound = is.sound;
       masked = refl;
-    }) in
+    })
+
+laminar_meets : (trades : List Ends) (f : ℕ) (firm : Firm) → IsLaminarFirm trades f firm → MeetsExchange firm
+laminar_meets trades f firm is =
+    let laws = laminar_is_lawful trades f firm is in
     subst MeetsExchange (sym is.is) (record { one = laws.exchange_one; net_count = laws.exchange_net })
 
 middleman_meets : (trades : List Ends) (f : ℕ) (firm : Firm) → IsMiddlemanFirm trades f firm → MeetsExchange firm
@@ -137,7 +143,7 @@ module _ (tested : Bool) (listed : Listed) (trades : AreTrades listed) where
   pub firms_are : (firms : Items) → Leads AreFirms (each (one_firm tested listed) [] firms)
   firms_are firms = leads_each AreFirms (one_firm tested listed) one_firm_leads [] firms (λ f firm e. absurd (none-some _ e))
 
-  one_firm_count : (firms : List Firm) (firm : Data) → Leads (λ next. length next ≡ length firms + 1) (one_firm tested listed firms firm)
+  pub one_firm_count : (firms : List Firm) (firm : Data) → Leads (λ next. length next ≡ length firms + 1) (one_firm tested listed firms firm)
   unfolding one_firm
   one_firm_count firms firm =
       leads_after _ (firm_of tested listed (length firms) firm) _ (λ next.

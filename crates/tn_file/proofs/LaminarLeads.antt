@@ -45,7 +45,7 @@ module _ (f s : ℕ) where
       leads_bind (λ z. IsAtMost z (10 ^ 9)) (All (λ z. IsAtMost z (10 ^ 9))) (number_at (10 ^ 9) (set_place f s ++ Word Values ∷ Index (length numbers) ∷ []) value) _ (number_leads (10 ^ 9) (set_place f s ++ Word Values ∷ Index (length numbers) ∷ []) value) (λ z is.
       leads_ok (All (λ z. IsAtMost z (10 ^ 9))) (numbers ++ z ∷ []) (All-push (λ z. IsAtMost z (10 ^ 9)) numbers z small is))
 
-  value_counts : (numbers : List ℤ) (value : Data) → Leads (λ next. length next ≡ length numbers + 1) (one_value f s numbers value)
+  pub value_counts : (numbers : List ℤ) (value : Data) → Leads (λ next. length next ≡ length numbers + 1) (one_value f s numbers value)
   unfolding one_value
   value_counts numbers value =
       leads_after (λ next. length next ≡ length numbers + 1) (number_at (10 ^ 9) (set_place f s ++ Word Values ∷ Index (length numbers) ∷ []) value) _ (λ z.
@@ -86,7 +86,7 @@ module _ (listed : Listed) (trades : AreTrades listed) (f : ℕ) where
       leads_bind IsSetOf AreSetsOf (set_of listed f (length sets) set) _ (set_leads (length sets) set) (λ next is.
       leads_ok AreSetsOf (sets ++ next ∷ []) (record { own = All-push (IsOwnSet (length (sides_of listed.ends f))) sets next are.own is.own; numbered = All-push HasNumbersWithin sets next are.numbered is.numbered }))
 
-  one_set_counts : (sets : List LaminarSet) (set : Data) → Leads (λ next. length next ≡ length sets + 1) (one_set listed f sets set)
+  pub one_set_counts : (sets : List LaminarSet) (set : Data) → Leads (λ next. length next ≡ length sets + 1) (one_set listed f sets set)
   unfolding one_set
   one_set_counts sets set =
       leads_after (λ next. length next ≡ length sets + 1) (set_of listed f (length sets) set) _ (λ next.

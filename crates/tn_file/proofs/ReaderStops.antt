@@ -1,10 +1,13 @@
--- Readers that stop only with faults that name no trade and show no triple: shapes, names, references and entries.
-use Rattle.std.proofs.Common.{◌≡◌, ℕ, ◌^◌, true, List, [], ◌∷◌, ◌++◌, length, slice_get, Option, Some, None, Result, refl}
-use Rattle.std.specs.Prelude.{ℤ, codes, nat_eq, nat_le, not, unsigned_abs, is_some, option_and_then}
+-- Readers that stop only with plain faults: shapes, names, references and entries.
+use Rattle.std.proofs.Common.{ℕ, ◌^◌, ◌<◌, ◌≤◌, List, [], ◌∷◌, ◌++◌, length, slice_get, Option, Some, None, refl, arith}
+use Rattle.std.specs.Prelude.{ℤ, codes, nat_eq, nat_le, not, unsigned_abs, is_some, option_and_then, slice_set}
+use Rattle.std.proofs.lemmas.Nat.{pow_pos}
 use Rattle.serde_json.specs.Data.{Data, Items, no_items}
 use Rattle.serde_json.specs.Events.{items_len}
 use Rattle.serde_json.specs.Find.{get, as_str, as_array, as_object, as_number, as_i64}
 use Rattle.tn_base.specs.Sets.{has, size, toggle}
+use Rattle.tn_base.proofs.SetLemmas.{toggle_within}
+use Rattle.tn_base.proofs.SizeLemmas.{size_le}
 use Rattle.tn_base.specs.declared.side.Side.{Side}
 use Rattle.tn_base.specs.declared.fault.FaultKind.TheVariants.{Shape, BadName, SameName, UnknownFirm, SelfTrade, UnknownTrade, Limit, AmountRange, NotOwnTrade, SameTrade}
 use Rattle.tn_market.specs.declared.ends.Ends.{Ends}
@@ -12,23 +15,20 @@ use Rattle.tn_market.specs.declared.place.PlaceStep.{PlaceStep}
 use Rattle.tn_market.specs.declared.place.PlaceStep.TheVariants.{Index, Word}
 use Rattle.tn_market.specs.declared.place.Word.TheVariants.{Firms, Trades, Name, Seller, Buyer}
 use Rattle.tn_answer.specs.Names.{NameLists, has_name, is_name, number_of, with_firm, with_trade}
-use Rattle.tn_answer.specs.Laws.{names_no_trade_at}
-use Rattle.tn_market.specs.declared.said.Fault.{Fault}
 use Rattle.tn_file.specs.declared.shapes.ObjectKind.{ObjectKind}
 use Rattle.tn_file.specs.declared.shapes.ObjectKind.TheVariants.{Trade as TradeObject}
 use Rattle.tn_file.specs.declared.own_numbers.OwnList.{OwnList}
 use Rattle.tn_file.specs.Reading.{each, wanted, holds}
 use Rattle.tn_file.specs.Shapes.{text_at, name_at, list_at, optional_list_at, few_at, object_at, two_of, two_at, whole_at, number_at, allows_all, object_of}
 use Rattle.tn_file.specs.Naming.{Listed, new_name, firm_name, trade_name, firm_at, ends_at, sides_of}
-use Rattle.tn_file.specs.References.{position_on, trade_at, new_trade, own_position, new_own, own_reference, bundle_at}
+use Rattle.tn_file.specs.References.{AreTrades, position_on, trade_at, new_trade, own_position, new_own, own_reference, bundle_at}
 use Rattle.tn_file.specs.Entries.{Numbered, Refers, entry_of, one_entry}
 use Rattle.tn_file.specs.OwnNumbers.{list_place, one_own, own_numbers}
-use Rattle.tn_file.proofs.StopLemmas.{StopsPlainly, IsPlain, names_no_trade, stops_ok, stops_bind, stops_each, plain_wanted, plain_holds, plain_within}
+use Rattle.tn_file.proofs.LeadLemmas.{Leads, leads_ok, leads_bind, leads_after}
+use Rattle.tn_file.proofs.ReferenceLeads.{new_own_leads, reference_leads}
+use Rattle.tn_file.proofs.StopLemmas.{StopsPlainly, IsPlain, IsPlainPlace, stops_ok, stops_bind, stops_each, plain_wanted, plain_holds, plain_within}
 
-pub plain_each : {A : Type 0} (step : A → Data → Result A Fault) → ((found : A) (d : Data) → StopsPlainly (step found d)) → (found : A) (ds : Items) → StopsPlainly (each step found ds)
-plain_each step one found ds = stops_each IsPlain step one found ds
-
-module _ (place : List PlaceStep) (plain : names_no_trade place ≡ true) where
+module _ (place : List PlaceStep) (plain : IsPlainPlace place) where
   pub text_stops : (value : Option Data) → StopsPlainly (text_at place value)
   text_stops value = plain_wanted Shape place (option_and_then as_str value) refl plain
 
@@ -106,71 +106,103 @@ module _ (place : List PlaceStep) (plain : names_no_trade place ≡ true) where
       stops_bind IsPlain (holds SameTrade place (not (has bundle k))) _ (plain_holds SameTrade place (not (has bundle k)) refl plain) (λ new. stops_ok IsPlain k))
 
 -- the name of a firm, and that of a trade
-pub firm_name_stops : (names : NameLists) (firm : Data) → StopsPlainly (firm_name names firm)
+pub firm_name_stops : (names : NameLists) (firm : Data) → length names.firms ≤ 1024 → StopsPlainly (firm_name names firm)
 unfolding firm_name
-firm_name_stops names firm =
+firm_name_stops names firm few =
     let place = Word Firms ∷ Index (length names.firms) ∷ [] in
-    stops_bind IsPlain (object_at place (Some firm)) _ (object_at_stops place refl (Some firm)) (λ object.
+    stops_bind IsPlain (object_at place (Some firm)) _ (object_at_stops place (tt, (few, tt)) (Some firm)) (λ object.
     stops_bind IsPlain (new_name names.firms (Word Firms ∷ Index (length names.firms) ∷ Word Name ∷ []) (get (codes "name") firm)) _
-    (new_name_stops (Word Firms ∷ Index (length names.firms) ∷ Word Name ∷ []) refl names.firms (get (codes "name") firm)) (λ name.
+    (new_name_stops (Word Firms ∷ Index (length names.firms) ∷ Word Name ∷ []) (tt, (few, (tt, tt))) names.firms (get (codes "name") firm)) (λ name.
     stops_ok IsPlain (with_firm names name)))
 
-pub trade_name_stops : (names : NameLists) (trade : Data) → StopsPlainly (trade_name names trade)
+pub trade_name_stops : (names : NameLists) (trade : Data) → length names.trades ≤ 1024 → StopsPlainly (trade_name names trade)
 unfolding trade_name
-trade_name_stops names trade =
-    stops_bind IsPlain (object_of TradeObject (Word Trades ∷ Index (length names.trades) ∷ []) (Some trade)) _ (object_stops (Word Trades ∷ Index (length names.trades) ∷ []) refl TradeObject (Some trade)) (λ object.
+trade_name_stops names trade few =
+    stops_bind IsPlain (object_of TradeObject (Word Trades ∷ Index (length names.trades) ∷ []) (Some trade)) _ (object_stops (Word Trades ∷ Index (length names.trades) ∷ []) (tt, (few, tt)) TradeObject (Some trade)) (λ object.
     stops_bind IsPlain (new_name names.trades (Word Trades ∷ Index (length names.trades) ∷ Word Name ∷ []) (get (codes "name") trade)) _
-    (new_name_stops (Word Trades ∷ Index (length names.trades) ∷ Word Name ∷ []) refl names.trades (get (codes "name") trade)) (λ name.
+    (new_name_stops (Word Trades ∷ Index (length names.trades) ∷ Word Name ∷ []) (tt, (few, (tt, tt))) names.trades (get (codes "name") trade)) (λ name.
     stops_ok IsPlain (with_trade names name)))
 
 -- the ends of a trade
-pub ends_stop : (firms : List (List ℕ)) (before : List Ends) (t : ℕ) (trade : Data) → StopsPlainly (ends_at firms before t trade)
+pub ends_stop : (firms : List (List ℕ)) (before : List Ends) (t : ℕ) (trade : Data) → t ≤ 1024 → StopsPlainly (ends_at firms before t trade)
 unfolding ends_at
-ends_stop firms before t trade =
-    stops_bind IsPlain (firm_at firms (Word Trades ∷ Index t ∷ Word Seller ∷ []) (get (codes "seller") trade)) _ (firm_at_stops (Word Trades ∷ Index t ∷ Word Seller ∷ []) refl firms (get (codes "seller") trade)) (λ seller.
-    stops_bind IsPlain (firm_at firms (Word Trades ∷ Index t ∷ Word Buyer ∷ []) (get (codes "buyer") trade)) _ (firm_at_stops (Word Trades ∷ Index t ∷ Word Buyer ∷ []) refl firms (get (codes "buyer") trade)) (λ buyer.
-    stops_bind IsPlain (holds SelfTrade (Word Trades ∷ Index t ∷ []) (not (nat_eq seller buyer))) _ (plain_holds SelfTrade (Word Trades ∷ Index t ∷ []) (not (nat_eq seller buyer)) refl refl) (λ apart.
+ends_stop firms before t trade few =
+    stops_bind IsPlain (firm_at firms (Word Trades ∷ Index t ∷ Word Seller ∷ []) (get (codes "seller") trade)) _ (firm_at_stops (Word Trades ∷ Index t ∷ Word Seller ∷ []) (tt, (few, (tt, tt))) firms (get (codes "seller") trade)) (λ seller.
+    stops_bind IsPlain (firm_at firms (Word Trades ∷ Index t ∷ Word Buyer ∷ []) (get (codes "buyer") trade)) _ (firm_at_stops (Word Trades ∷ Index t ∷ Word Buyer ∷ []) (tt, (few, (tt, tt))) firms (get (codes "buyer") trade)) (λ buyer.
+    stops_bind IsPlain (holds SelfTrade (Word Trades ∷ Index t ∷ []) (not (nat_eq seller buyer))) _ (plain_holds SelfTrade (Word Trades ∷ Index t ∷ []) (not (nat_eq seller buyer)) refl (tt, (few, tt))) (λ apart.
     stops_ok IsPlain (record { seller = seller; buyer = buyer; at_seller = length (sides_of before seller); at_buyer = length (sides_of before buyer) }))))
 
+-- a set below 2^n has few members
+pub few_members : (n set : ℕ) → set < 2 ^ n → n ≤ 1024 → size set ≤ 1024
+few_members n set below few = omega (arith, size_le n set below, few)
+
 -- a list of references
-module _ (listed : Listed) (f : ℕ) (place : List PlaceStep) (plain : names_no_trade place ≡ true) where
-  reference_stops : (bundle : ℕ) (value : Data) → StopsPlainly (own_reference listed f place bundle value)
+module _ (listed : Listed) (trades : AreTrades listed) (f : ℕ) (few : length (sides_of listed.ends f) ≤ 32) (place : List PlaceStep) (plain : IsPlainPlace place) where
+  reference_stops : (bundle : ℕ) (value : Data) → bundle < 2 ^ length (sides_of listed.ends f) → StopsPlainly (own_reference listed f place bundle value)
   unfolding own_reference
-  reference_stops bundle value =
+  reference_stops bundle value own =
       let at = place ++ Index (size bundle) ∷ [] in
-      stops_bind IsPlain (new_own listed f None at bundle value) _ (new_own_stops at (plain_within place (Index (size bundle) ∷ []) plain refl) listed f None bundle value) (λ k.
+      let few_before : size bundle ≤ 1024 = few_members (length (sides_of listed.ends f)) bundle own (omega (arith, few)) in
+      stops_bind IsPlain (new_own listed f None at bundle value) _ (new_own_stops at (plain_within place (Index (size bundle) ∷ []) plain (few_before, tt)) listed f None bundle value) (λ k.
       stops_ok IsPlain (toggle bundle k))
 
   pub bundle_stops : (value : Option Data) → StopsPlainly (bundle_at listed f place value)
   unfolding bundle_at
-  bundle_stops value = stops_bind IsPlain (list_at place value) _ (list_stops place plain value) (λ references. plain_each (own_reference listed f place) reference_stops 0 references)
+  bundle_stops value =
+      stops_bind IsPlain (list_at place value) _ (list_stops place plain value) (λ references.
+      stops_each IsPlain (λ b. b < 2 ^ length (sides_of listed.ends f)) (own_reference listed f place) (reference_leads listed trades f place) reference_stops 0 references (pow_pos (length (sides_of listed.ends f))))
 
--- a reference at a plain place stops plainly
-abbrev pub RefersPlainly : Refers → Type 0
-RefersPlainly refer = (place : List PlaceStep) (named : ℕ) (value : Data) → names_no_trade place ≡ true → StopsPlainly (refer place named value)
+-- a reference at a plain place stops plainly, and gives a number below n
+pub record RefersPlainly (n : ℕ) (refer : Refers) : Type 0 where
+  pub stops : (place : List PlaceStep) (named : ℕ) (value : Data) → IsPlainPlace place → StopsPlainly (refer place named value)
+  pub below : (place : List PlaceStep) (named : ℕ) (value : Data) → Leads (λ k. k < n) (refer place named value)
 
-module _ (refer : Refers) (refers : RefersPlainly refer) (place : List PlaceStep) (plain : names_no_trade place ≡ true) (limit : ℕ) where
-  entry_stops : (named : ℕ) (entry : Data) → StopsPlainly (entry_of refer place limit named entry)
+module _ (n : ℕ) (few : n ≤ 1024) (refer : Refers) (refers : RefersPlainly n refer) (place : List PlaceStep) (plain : IsPlainPlace place) (limit : ℕ) where
+  entry_stops : (named : ℕ) (entry : Data) → named < 2 ^ n → StopsPlainly (entry_of refer place limit named entry)
   unfolding entry_of
-  entry_stops named entry =
-      stops_bind IsPlain (two_at (place ++ Index (size named) ∷ []) entry) _ (two_stops (place ++ Index (size named) ∷ []) (plain_within place (Index (size named) ∷ []) plain refl) entry) (λ two.
-      stops_bind IsPlain (refer (place ++ Index (size named) ∷ Index 0 ∷ []) named two.0) _ (refers (place ++ Index (size named) ∷ Index 0 ∷ []) named two.0 (plain_within place (Index (size named) ∷ Index 0 ∷ []) plain refl)) (λ k.
-      stops_bind IsPlain (number_at limit (place ++ Index (size named) ∷ Index 1 ∷ []) two.1) _ (number_stops (place ++ Index (size named) ∷ Index 1 ∷ []) (plain_within place (Index (size named) ∷ Index 1 ∷ []) plain refl) limit two.1) (λ number.
+  entry_stops named entry below =
+      let few_before : size named ≤ 1024 = few_members n named below few in
+      stops_bind IsPlain (two_at (place ++ Index (size named) ∷ []) entry) _ (two_stops (place ++ Index (size named) ∷ []) (plain_within place (Index (size named) ∷ []) plain (few_before, tt)) entry) (λ two.
+      stops_bind IsPlain (refer (place ++ Index (size named) ∷ Index 0 ∷ []) named two.0) _
+      (refers.stops (place ++ Index (size named) ∷ Index 0 ∷ []) named two.0 (plain_within place (Index (size named) ∷ Index 0 ∷ []) plain (few_before, (omega arith, tt)))) (λ k.
+      stops_bind IsPlain (number_at limit (place ++ Index (size named) ∷ Index 1 ∷ []) two.1) _
+      (number_stops (place ++ Index (size named) ∷ Index 1 ∷ []) (plain_within place (Index (size named) ∷ Index 1 ∷ []) plain (few_before, (omega arith, tt))) limit two.1) (λ number.
       stops_ok IsPlain (k, number))))
 
-  pub one_entry_stops : (numbered : Numbered) (entry : Data) → StopsPlainly (one_entry refer place limit numbered entry)
-  unfolding one_entry
-  one_entry_stops numbered entry =
-      stops_bind IsPlain (entry_of refer place limit numbered.named entry) _ (entry_stops numbered.named entry) (λ next.
-      stops_ok IsPlain _)
+  entry_below : (named : ℕ) (entry : Data) → Leads (λ next. next.0 < n) (entry_of refer place limit named entry)
+  unfolding entry_of
+  entry_below named entry =
+      leads_after (λ next. next.0 < n) (two_at (place ++ Index (size named) ∷ []) entry) _ (λ two.
+      leads_bind (λ k. k < n) (λ next. next.0 < n) (refer (place ++ Index (size named) ∷ Index 0 ∷ []) named two.0) _ (refers.below (place ++ Index (size named) ∷ Index 0 ∷ []) named two.0) (λ k below.
+      leads_after (λ next. next.0 < n) (number_at limit (place ++ Index (size named) ∷ Index 1 ∷ []) two.1) _ (λ number.
+      leads_ok (λ next. next.0 < n) (k, number) below)))
 
-pub own_numbers_stop : (listed : Listed) (list : OwnList) (numbers : List ℤ) (value : Option Data) → names_no_trade_at list.member ≡ true → StopsPlainly (own_numbers listed list numbers value)
-unfolding own_numbers
-own_numbers_stop listed list numbers value member =
-    let plain : names_no_trade (list_place list) ≡ true = rw member refl in
-    stops_bind IsPlain (optional_list_at (list_place list) value) _ (optional_list_stops (list_place list) plain value) (λ entries.
-    stops_bind IsPlain (each (one_own listed list) (record { named = 0; numbers = numbers }) entries) _
-    (plain_each (one_own listed list)
-    (one_entry_stops _ (λ place named value at. new_own_stops place at listed list.firm list.side named value) (list_place list) plain (10 ^ 9))
-    (record { named = 0; numbers = numbers }) entries) (λ end.
-    stops_ok IsPlain end.numbers))
+  one_entry_stops : (numbered : Numbered) (entry : Data) → numbered.named < 2 ^ n → StopsPlainly (one_entry refer place limit numbered entry)
+  unfolding one_entry
+  one_entry_stops numbered entry below =
+      stops_bind IsPlain (entry_of refer place limit numbered.named entry) _ (entry_stops numbered.named entry below) (λ next. stops_ok IsPlain _)
+
+  one_entry_below : (numbered : Numbered) (entry : Data) → numbered.named < 2 ^ n → Leads (λ next. next.named < 2 ^ n) (one_entry refer place limit numbered entry)
+  unfolding one_entry
+  one_entry_below numbered entry below =
+      leads_bind (λ next. next.0 < n) (λ next. next.named < 2 ^ n) (entry_of refer place limit numbered.named entry) _ (entry_below numbered.named entry) (λ next known.
+      leads_ok (λ next. next.named < 2 ^ n) (record { named = toggle numbered.named next.0; numbers = slice_set numbered.numbers next.0 next.1 }) (toggle_within numbered.named next.0 n below known))
+
+  pub entries_stop : (numbers : List ℤ) (entries : Items) → StopsPlainly (each (one_entry refer place limit) (record { named = 0; numbers = numbers }) entries)
+  entries_stop numbers entries =
+      stops_each IsPlain (λ (numbered : Numbered). numbered.named < 2 ^ n) (one_entry refer place limit) one_entry_below one_entry_stops (record { named = 0; numbers = numbers }) entries (pow_pos n)
+
+module _ (listed : Listed) (trades : AreTrades listed) (list : OwnList) (few : length (sides_of listed.ends list.firm) ≤ 32) (plain : IsPlainPlace (list_place list)) where
+  own_refers : RefersPlainly (length (sides_of listed.ends list.firm)) (new_own listed list.firm list.side)
+  own_refers = record {
+    stops = λ place named value at. new_own_stops place at listed list.firm list.side named value;
+    below = λ place named value. new_own_leads listed trades list.firm list.side place named value;
+  }
+
+  pub own_numbers_stop : (numbers : List ℤ) (value : Option Data) → StopsPlainly (own_numbers listed list numbers value)
+  unfolding own_numbers
+  own_numbers_stop numbers value =
+      stops_bind IsPlain (optional_list_at (list_place list) value) _ (optional_list_stops (list_place list) plain value) (λ entries.
+      stops_bind IsPlain (each (one_own listed list) (record { named = 0; numbers = numbers }) entries) _
+      (entries_stop (length (sides_of listed.ends list.firm)) (omega (arith, few)) (new_own listed list.firm list.side) own_refers (list_place list) plain (10 ^ 9) numbers entries) (λ end.
+      stops_ok IsPlain end.numbers))

@@ -41,13 +41,13 @@ module _ (listed : Listed) (trades : AreTrades listed) (f : ℕ) where
       within : (t k : ℕ) → option_and_then (position_on side f) (slice_get listed.ends t) ≡ Some k → k < length (sides_of listed.ends f)
       within t k e = option_and_then_some (position_on side f) (slice_get listed.ends t) k e (λ trade is at. position_on-within (length listed.names.firms) f listed.ends t trade trades.order is side k at)
 
-  new_own_leads : (side : Option Side) (place : List PlaceStep) (bundle : ℕ) (value : Data) → Leads (λ k. k < length (sides_of listed.ends f)) (new_own listed f side place bundle value)
+  pub new_own_leads : (side : Option Side) (place : List PlaceStep) (bundle : ℕ) (value : Data) → Leads (λ k. k < length (sides_of listed.ends f)) (new_own listed f side place bundle value)
   unfolding new_own
   new_own_leads side place bundle value =
       leads_bind (λ k. k < length (sides_of listed.ends f)) (λ k. k < length (sides_of listed.ends f)) (own_position listed f side place value) _ (position_leads side place value) (λ k below.
       leads_after (λ k. k < length (sides_of listed.ends f)) (holds SameTrade place (not (has bundle k))) _ (λ u. leads_ok (λ k. k < length (sides_of listed.ends f)) k below))
 
-  reference_leads : (place : List PlaceStep) (bundle : ℕ) (value : Data) → bundle < 2 ^ length (sides_of listed.ends f) → Leads (λ b. b < 2 ^ length (sides_of listed.ends f)) (own_reference listed f place bundle value)
+  pub reference_leads : (place : List PlaceStep) (bundle : ℕ) (value : Data) → bundle < 2 ^ length (sides_of listed.ends f) → Leads (λ b. b < 2 ^ length (sides_of listed.ends f)) (own_reference listed f place bundle value)
   unfolding own_reference
   reference_leads place bundle value own =
       leads_bind (λ k. k < length (sides_of listed.ends f)) _ _ _ (new_own_leads None _ bundle value) (λ k below.

@@ -52,13 +52,17 @@ apart_push n (row ∷ rows) next apart own none =
     rest true e = absurd (cc)
     rest false e = e
 
+pub none_from : (row : Option ℤ) → is_none row ≡ true → row ≡ None
+none_from None e = refl
+none_from (Some z) e = absurd (cc)
+
 module _ (listed : Listed) (trades : AreTrades listed) (f : ℕ) where
   -- a row is on own trades, and its number is small
   pub record IsOwnRow (row : ℕ × ℤ) : Type 0 where
     pub own : row.0 < 2 ^ length (sides_of listed.ends f)
     pub small : IsAtMost row.1 (10 ^ 9)
 
-  row_leads : (r : ℕ) (row : Data) → Leads IsOwnRow (row_of listed f r row)
+  pub row_leads : (r : ℕ) (row : Data) → Leads IsOwnRow (row_of listed f r row)
   unfolding row_of
   row_leads r row =
       leads_after IsOwnRow (two_at (row_place f r) row) _ (λ two.
@@ -75,7 +79,7 @@ module _ (listed : Listed) (trades : AreTrades listed) (f : ℕ) where
     pub apart : AreApart (length (sides_of listed.ends f)) listed_rows
     pub made : IsMadeOf rows.table listed_rows
 
-  rows_start : length (sides_of listed.ends f) ≤ 10 → AreRows (record { count = 0; table = without_rows (sides_of listed.ends f) })
+  pub rows_start : length (sides_of listed.ends f) ≤ 10 → AreRows (record { count = 0; table = without_rows (sides_of listed.ends f) })
   rows_start few = record {
     sides = refl;
     within = limits_without_rows (sides_of listed.ends f) few;
@@ -84,17 +88,13 @@ module _ (listed : Listed) (trades : AreTrades listed) (f : ℕ) where
     made = made_of_none (sides_of listed.ends f);
   }
 
-  one_row_leads : (rows : Rows) (row : Data) → AreRows rows → Leads AreRows (one_row listed f rows row)
+  pub one_row_leads : (rows : Rows) (row : Data) → AreRows rows → Leads AreRows (one_row listed f rows row)
   unfolding one_row
   one_row_leads rows row kept =
       leads_bind IsOwnRow AreRows (row_of listed f rows.count row) _ (row_leads rows.count row) (λ next is_own.
       leads_bind (λ _. is_none (row_at rows.table.rows next.0) ≡ true) AreRows (holds SameBundle (row_place f rows.count) (is_none (row_at rows.table.rows next.0))) _ (leads_holds SameBundle (row_place f rows.count) (is_none (row_at rows.table.rows next.0))) (λ u new.
       leads_ok AreRows (record { count = rows.count + 1; table = with_row rows.table next.0 next.1 }) (more next is_own (none_from (row_at rows.table.rows next.0) new))))
     where
-      none_from : (row : Option ℤ) → is_none row ≡ true → row ≡ None
-      none_from None e = refl
-      none_from (Some z) e = absurd (cc)
-
       more : (next : ℕ × ℤ) → IsOwnRow next → row_at rows.table.rows next.0 ≡ None → AreRows (record { count = rows.count + 1; table = with_row rows.table next.0 next.1 })
       more next is_own none =
           let own : next.0 < 2 ^ length rows.table.sides = subst (λ (s : List Side). next.0 < 2 ^ length s) (sym kept.sides) is_own.own in

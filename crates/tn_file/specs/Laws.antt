@@ -12,6 +12,7 @@ use Rattle.tn_laminar.specs.Sum.{HasNumbersWithin, IsOwnSet, laminar_firm}
 use Rattle.tn_middle.specs.Pairs.{middle_firm}
 use Rattle.tn_market.specs.declared.ends.Ends.{Ends}
 use Rattle.tn_market.specs.Network.{IsNetwork}
+use Rattle.tn_answer.specs.Apart.{HasShortIndex}
 use Rattle.tn_answer.specs.Names.{IsNameList}
 use Rattle.tn_answer.specs.Sayable.{IsSayableFault}
 use Rattle.tn_file.specs.declared.need.Need.{Need}
@@ -86,10 +87,11 @@ pub record IsDocument (need : Need) (doc : DocumentData) : Type 0 where
 abbrev pub DocumentsAreNetworks : Type 0
 DocumentsAreNetworks = (need : Need) (bytes : List ℕ) (doc : DocumentData) → reading_of need bytes ≡ Ok doc → IsDocument need doc
 
--- a stop speaks only of trades with a name and shows a triple exactly where exchange fails, and the names beside its
--- fault keep the rules
+-- a stop speaks only of trades with a name and shows a triple exactly where exchange fails, its numbers are short, and
+-- the names beside its fault keep the rules
 pub record IsStop (stop : Stop) : Type 0 where
   pub fault : IsSayableFault stop.names.trades stop.fault
+  pub short : All HasShortIndex stop.fault.place
   pub firm_names : IsNameList stop.names.firms
   pub trade_names : IsNameList stop.names.trades
 

@@ -7,8 +7,8 @@ pub fn documents_are_networks()
     ensures { DocumentsAreNetworks }
 {}
 
-/// A fault speaks only of trades that have a name, and shows a failing triple exactly where a firm doesn't meet exchange.
-/// The names beside it are different and keep the rule for names.
+/// A fault speaks only of trades that have a name, its numbers fit 64 bits, and it shows a failing triple exactly where a
+/// firm doesn't meet exchange. The names beside it are different and keep the rule for names.
 pub fn faults_are_sayable()
     ensures { FaultsAreSayable }
 {}

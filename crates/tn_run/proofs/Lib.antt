@@ -2,3 +2,4 @@ pub mod NumberLemmas
 pub mod CheckLemmas
 pub mod TestLemmas
 pub mod TakenLemmas
+pub mod NamedLemmas

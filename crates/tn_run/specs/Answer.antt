@@ -11,7 +11,8 @@ use Rattle.tn_market.specs.Equilibrium.{IsEfficient}
 use Rattle.tn_market.specs.Verdict.{Judges}
 use Rattle.tn_io.specs.Counts.{Rose}
 use Rattle.tn_io.specs.Source.{TakesFirst, TakesAtMost}
-use Rattle.tn_answer.specs.Names.{NameLists}
+use Rattle.tn_answer.specs.Apart.{HasShortNumbers, IsNamedAnswer}
+use Rattle.tn_answer.specs.Names.{NameLists, IsNameList}
 use Rattle.tn_file.specs.Reading.{Stop}
 use Rattle.tn_file.specs.Document.{DocumentData, ExtraData, nothing, arrangement, reading_of}
 use Rattle.tn_run.specs.declared.command.Command.{Command}
@@ -52,6 +53,11 @@ pub record AnswersWhole (command : Command) (old new : Option (List ℕ)) (names
   -- a source that tells its bytes told these
   pub told : IfSome old (λ all. bytes ≡ all)
   pub answer : IsAnswerTo command (reading_of (need_of command) bytes) names said
+  -- the answer speaks only of firms and trades that have a name, its numbers are short, and the names keep the rules
+  pub named : IsNamedAnswer names said
+  pub short : HasShortNumbers said
+  pub firm_names : IsNameList names.firms
+  pub trade_names : IsNameList names.trades
 
 -- one byte more than the limit was taken
 pub record FindsTooLong (old new : Option (List ℕ)) (said : Said) : Type 0 where

@@ -1,6 +1,8 @@
 //! The answer to the bytes of a document.
 
 ghost use Rattle.std.specs.Prelude.{◌≡◌, ◌≤◌, [], None, IfOk};
+ghost use Rattle.tn_answer.specs.Apart.{HasShortNumbers, IsNamedAnswer};
+ghost use Rattle.tn_answer.specs.Names.{IsNameList};
 ghost use Rattle.tn_answer.specs.Sayable.{IsSayable};
 ghost use Rattle.tn_base.specs.declared.fault.FaultKind.TheVariants.{TooLong};
 ghost use Rattle.tn_file.specs.Document.{reading_of};
@@ -74,6 +76,10 @@ fn answer_bytes(
     names: &mut Names,
 ) -> Result<Said, OutOfMemory>
     ensures answer { IfOk result (IsAnswerTo command (reading_of (need_of command) bytes.now) names.new) }
+    ensures named { IfOk result (IsNamedAnswer names.new) }
+    ensures short { IfOk result HasShortNumbers }
+    ensures firm_names { IfOk result (λ _. IsNameList names.new.firms) }
+    ensures trade_names { IfOk result (λ _. IsNameList names.new.trades) }
     ensures sayable { IfOk result IsSayable }
 {
     match read_doc(alloc, need_of(command), bytes) {

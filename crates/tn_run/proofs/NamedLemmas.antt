@@ -1,0 +1,114 @@
+-- What is said of a document speaks only of firms and trades that have a name, and its numbers are short.
+use Rattle.std.proofs.Common.{◌≡◌, ℕ, ◌<◌, ℤ, pos, List, Option, sym, subst}
+use Rattle.std.specs.Prelude.{Some, Ok, Err, All, IfSome, slice_get}
+use Rattle.std.proofs.lemmas.Option.{slice_get_within}
+use Rattle.tn_base.specs.Firm.{Firm}
+use Rattle.tn_market.specs.declared.said.Fault.{Fault as FaultIs}
+use Rattle.tn_market.specs.declared.said.Said.{Said}
+use Rattle.tn_market.specs.declared.said.Said.TheVariants.{Equilibrium, Better, Impossible, Fault, Usage, ReadFault, NoMemory, Accepted, ExchangeFails}
+use Rattle.tn_market.specs.Best.{price_at}
+use Rattle.tn_market.specs.Network.{own}
+use Rattle.tn_market.specs.Verdict.{Judges}
+use Rattle.tn_answer.specs.Apart.{HasShortNumbers, IsNamedAnswer}
+use Rattle.tn_answer.specs.Names.{NameLists}
+use Rattle.tn_answer.specs.Sayable.{IsNamed, IsSayable}
+use Rattle.tn_file.specs.declared.document.DocRefusal.{DocRefusal}
+use Rattle.tn_file.specs.declared.need.Need.{Need}
+use Rattle.tn_file.specs.Document.{DocumentData, ExtraData, nothing, arrangement, reading_of}
+use Rattle.tn_file.specs.Laws.{IsDocument, IsStop}
+use Rattle.tn_file.specs.Refusal.{Reads}
+use Rattle.tn_file.proofs.DocumentLeads.{documents_are_networks}
+use Rattle.tn_file.proofs.DocumentStops.{faults_are_sayable}
+use Rattle.tn_file.proofs.ShownLemmas.{OwnAreNamed, listed_own_bundles, own_position_of, trades_named, triple_named}
+use Rattle.tn_run.specs.Answer.{ChecksExtra, IsAnswerOf}
+use Rattle.tn_run.specs.Tested.{IsFirstToFail, Tests}
+use Rattle.tn_run.specs.Words.{need_of}
+use Rattle.tn_run.specs.declared.command.Command.{Command}
+use Rattle.tn_run.specs.declared.command.Command.TheVariants.{Check, Test}
+
+module _ (need : Need) (doc : DocumentData) (is : IsDocument need doc) where
+  firm_named : (f : ℕ) (firm : Firm) → slice_get doc.firms f ≡ Some firm → IsNamed doc.names.firms f
+  firm_named f firm at = subst (λ n. f < n) (sym is.firms_named) (slice_get_within doc.firms f firm at)
+
+  own_named : (f : ℕ) (firm : Firm) → slice_get doc.firms f ≡ Some firm → OwnAreNamed doc.names.trades doc.ends f firm.count
+  own_named f firm at k below = subst (λ n. own doc.ends f k < n) (sym is.trades_named) (is.network.whole f k firm at below)
+
+  -- the answer of `check`
+  judged_named : (scale : ℤ) (on : ℕ) (prices : ℕ → ℤ) (said : Said) → Judges doc.firms doc.ends scale on prices said → IsNamedAnswer doc.names said
+  judged_named scale on prices (Equilibrium surplus) judges = tt
+  judged_named scale on prices (Better f bundle gain) judges =
+      let bettered = judges.1 in (
+        firm_named f bettered.firm bettered.is,
+        subst (All (IsNamed doc.names.trades)) (sym judges.2) (trades_named doc.names.trades doc.ends f bettered.firm.count judges.0 (own_named f bettered.firm bettered.is)),
+      )
+  judged_named scale on prices (Impossible f) judges = firm_named f judges.firm judges.is
+  judged_named scale on prices (Fault fault) judges = absurd judges
+  judged_named scale on prices Usage judges = absurd judges
+  judged_named scale on prices ReadFault judges = absurd judges
+  judged_named scale on prices NoMemory judges = absurd judges
+  judged_named scale on prices Accepted judges = absurd judges
+  judged_named scale on prices (ExchangeFails f x y at) judges = absurd judges
+
+  checked_named : (extra : ExtraData) (said : Said) → ChecksExtra doc extra said → IsNamedAnswer doc.names said
+  checked_named nothing said checks = absurd checks
+  checked_named (arrangement at) said checks = judged_named (pos 1) at.on (price_at at.prices) said checks.0
+
+  -- the answer of `test`
+  failed_named : (f : ℕ) (x y : List ℕ) (at : Option ℕ) → IsFirstToFail doc.firms doc.ends f x y at → IsNamedAnswer doc.names (ExchangeFails f x y at)
+  failed_named f x y at fails =
+      let own_bundles = listed_own_bundles doc.ends f fails.firm (is.listed f fails.firm fails.is) in
+      let triple = triple_named doc.names.trades doc.ends f fails.firm.count fails.triple (own_named f fails.firm fails.is) (own_position_of fails.firm fails.triple own_bundles fails.first.fails) in (
+        firm_named f fails.firm fails.is,
+        record {
+          x = subst (All (IsNamed doc.names.trades)) (sym fails.x_is) triple.x;
+          y = subst (All (IsNamed doc.names.trades)) (sym fails.y_is) triple.y;
+          at = subst (λ (t : Option ℕ). IfSome t (IsNamed doc.names.trades)) (sym fails.at_is) triple.at;
+        },
+      )
+
+  tested_named : (said : Said) → Tests doc.firms doc.ends said → IsNamedAnswer doc.names said
+  tested_named Accepted tests = tt
+  tested_named (ExchangeFails f x y at) tests = failed_named f x y at tests
+  tested_named (Equilibrium surplus) tests = absurd tests
+  tested_named (Better f bundle gain) tests = absurd tests
+  tested_named (Impossible f) tests = absurd tests
+  tested_named (Fault fault) tests = absurd tests
+  tested_named Usage tests = absurd tests
+  tested_named ReadFault tests = absurd tests
+  tested_named NoMemory tests = absurd tests
+
+-- the answer of a command on a document
+pub document_named : (command : Command) (doc : DocumentData) → IsDocument (need_of command) doc → (said : Said) → IsAnswerOf command doc said → IsNamedAnswer doc.names said
+document_named Check doc is said answer = checked_named (need_of Check) doc is doc.extra said answer
+document_named Test doc is said answer = tested_named (need_of Test) doc is said answer
+
+-- what is said of a document is no fault
+no_fault : (command : Command) (doc : DocumentData) (fault : FaultIs) → IsAnswerOf command doc (Fault fault) → ⊥
+no_fault Check doc fault answer = by_extra doc.extra answer
+  where
+    by_extra : (extra : ExtraData) → ChecksExtra doc extra (Fault fault) → ⊥
+    by_extra nothing checks = checks
+    by_extra (arrangement at) checks = checks.0
+no_fault Test doc fault answer = answer
+
+-- and its numbers are short where it can be written
+pub document_short : (command : Command) (doc : DocumentData) (said : Said) → IsAnswerOf command doc said → IsSayable said → HasShortNumbers said
+document_short command doc (Fault fault) answer sayable = absurd (no_fault command doc fault answer)
+document_short command doc (Equilibrium surplus) answer sayable = sayable
+document_short command doc (Better f bundle gain) answer sayable = sayable
+document_short command doc (Impossible f) answer sayable = sayable
+document_short command doc Usage answer sayable = sayable
+document_short command doc ReadFault answer sayable = sayable
+document_short command doc NoMemory answer sayable = sayable
+document_short command doc Accepted answer sayable = sayable
+document_short command doc (ExchangeFails f x y at) answer sayable = sayable
+
+-- a document that was read for a command
+pub document_read : (command : Command) (need : Need) (bytes : List ℕ) (doc : DocumentData) → need ≡ need_of command → reading_of need bytes ≡ Ok doc → IsDocument (need_of command) doc
+document_read command need bytes doc same e = subst (λ (n : Need). IsDocument n doc) same (documents_are_networks need bytes doc e)
+
+-- a refusal for a fault is a stop
+pub stop_read : (need : Need) (bytes : List ℕ) (refusal : DocRefusal) (fault : FaultIs) (names : NameLists) → refusal ≡ DocRefusal.Fault fault names → Reads (Err refusal) (reading_of need bytes)
+    → IsStop (record { fault = fault; names = names })
+stop_read need bytes refusal fault names same reads =
+    faults_are_sayable need bytes (record { fault = fault; names = names }) (subst (λ (e : DocRefusal). Reads (Err e) (reading_of need bytes)) same reads)
