@@ -241,9 +241,11 @@ frame_stops trades f kind firm near =
 
 -- exchange, the firms, and the names of the trades that a failing triple shows
 module _ (listed : Listed) (trades : AreTrades listed) where
+  -- a fault of this listing
   abbrev pub IsToldHere : Fault → Type 0
   IsToldHere = IsTold listed.names.trades
 
+  -- the trade at a position of a firm has a name
   own_named : (f k : ℕ) → k < length (sides_of listed.ends f) → own listed.ends f k < length listed.names.trades
   own_named f k below = subst (λ n. own listed.ends f k < n) (sym trades.named) (own_within (length listed.names.firms) f k listed.ends trades.order below)
 

@@ -33,6 +33,7 @@ module _ (trades : List (List ℕ)) (es : List Ends) (f : ℕ) where
   abbrev pub OwnAreNamed : ℕ → Type 0
   OwnAreNamed n = (k : ℕ) → k < n → IsNamed trades (own es f k)
 
+  -- so do those of a bundle
   pub trades_named : (n x : ℕ) → OwnAreNamed n → All (IsNamed trades) (trades_of es f n x)
   trades_named zero x named = All-nil (IsNamed trades)
   trades_named (suc n) x named = by_test (has x n) (trades_named n x (λ k below. named k (omega (arith, below))))
@@ -45,6 +46,7 @@ module _ (trades : List (List ℕ)) (es : List Ends) (f : ℕ) where
   position_named n None named below = tt
   position_named n (Some i) named below = named i (below i refl)
 
+  -- and those of a triple
   pub triple_named : (n : ℕ) (t : Triple) → OwnAreNamed n → ((i : ℕ) → t.at ≡ Some i → i < n) → IsNamedTriple trades (shown_of es f n t)
   triple_named n t named below = record {
     x = trades_named n t.x named;

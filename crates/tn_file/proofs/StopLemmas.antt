@@ -59,6 +59,7 @@ module _ {E : Type 0} (Q : E → Type 0) where
       stops_after (λ next. P next × (size next ≡ size found + 1)) (step found d) _ (lead found d start) (one found d start (omega (arith, few)))
       (λ next kept. stops_each_few P size most step lead one next ds kept.0 (let more = kept.1 in omega (arith, few, more)))
 
+-- less may be said of the error
 pub stops_as : {A E : Type 0} (Q R : E → Type 0) (r : Result A E) → ((e : E) → Q e → R e) → Stops Q r → Stops R r
 stops_as Q R r turn first = record { at = λ e is. turn e (first.at e is) }
 
@@ -84,6 +85,7 @@ pub record IsPlain (fault : Fault) : Type 0 where
   pub place : IsPlainPlace fault.place
   pub none : fault.shown ≡ None
 
+-- reading stops with plain faults alone
 abbrev pub StopsPlainly : {A : Type 0} → Result A Fault → Type 0
 StopsPlainly r = Stops IsPlain r
 
@@ -103,6 +105,7 @@ pub plain_within : (place rest : List PlaceStep) → IsPlainPlace place → IsPl
 plain_within [] rest plain more = more
 plain_within (step ∷ place) rest plain more = (plain.0, plain_within place rest plain.1 more)
 
+-- a plain place is named, whatever the names, and its numbers are short
 named_step : (trades : List (List ℕ)) (step : PlaceStep) → IsPlainStep step → IsNamedStep trades step
 named_step trades (Word word) plain = tt
 named_step trades (Index k) plain = tt

@@ -27,6 +27,7 @@ use Rattle.tn_run.specs.declared.command.Command.{Command}
 use Rattle.tn_run.specs.declared.command.Command.TheVariants.{Check, Test}
 
 module _ (need : Need) (doc : DocumentData) (is : IsDocument need doc) where
+  -- a firm of the document has a name, and so have its own trades
   firm_named : (f : ℕ) (firm : Firm) → slice_get doc.firms f ≡ Some firm → IsNamed doc.names.firms f
   firm_named f firm at = subst (λ n. f < n) (sym is.firms_named) (slice_get_within doc.firms f firm at)
 
