@@ -25,9 +25,10 @@ use tn_laminar::{Laminar, LaminarRefusal, LaminarSet};
 use tn_market::PlaceStep::Index;
 use tn_market::{Amounts, Ends, PlaceStep};
 
-/// The most sets of a firm, and the most numbers of a set.
+/// The most sets of a firm.
 const SET_LIMIT: usize = 64;
 
+/// The most numbers of a set.
 const VALUE_LIMIT: u32 = 65;
 
 /// The farthest net count from 0 that the first number of a set may be for.
