@@ -4,6 +4,8 @@ pub mod Exchange
 pub mod Table
 pub mod Faults
 pub mod Arcs
+pub mod Options
+pub mod Walks
 pub mod Ticks
 pub mod SetLaws
 pub mod ExchangeLaw

@@ -9,7 +9,8 @@ use mir.Val.{of_z, to_z}
 use Rattle.tn_base.specs.Arcs.{IsAtMost}
 use Rattle.tn_base.specs.Sets.{has, meet, sum_over}
 use Rattle.tn_base.specs.Firm.{net}
-use Rattle.tn_law.specs.Nested.{count_sum, both, listed_from}
+use Rattle.tn_base.specs.Options.{both}
+use Rattle.tn_law.specs.Nested.{count_sum, listed_from}
 use Rattle.tn_laminar.specs.declared.set.LaminarSet.{LaminarSet}
 use Rattle.tn_laminar.specs.declared.masks.Masks.{Masks}
 use Rattle.tn_laminar.specs.Masked.{masks_of, net_within}

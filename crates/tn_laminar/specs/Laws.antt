@@ -12,7 +12,8 @@ use Rattle.tn_base.specs.Firm.{HasOwnBundles, MayAbstain, net}
 use Rattle.tn_base.specs.Exchange.{MeetsExchange}
 use Rattle.tn_base.proofs.SetLemmas.{same_set, has-meet, has-zero}
 use Rattle.tn_base.proofs.FirmLemmas.{net-zero}
-use Rattle.tn_law.specs.Nested.{CountTerm, AreNested, Cross, IsConcave, count_sum, both, listed_from, at_place}
+use Rattle.tn_base.specs.Options.{both}
+use Rattle.tn_law.specs.Nested.{CountTerm, AreNested, Cross, IsConcave, count_sum, listed_from, at_place}
 use Rattle.tn_law.proofs.NestedLemmas.{meets-nested}
 use Rattle.tn_law.proofs.ConcaveLemmas.{concave-listed}
 use Rattle.tn_market.specs.Valued.{IsWorthAtMost}

@@ -4,12 +4,13 @@ use Rattle.std.specs.Prelude.{◌≤ℤ◌, ◌<ℤ◌, Option, Some, None, slic
 use Rattle.std.proofs.lemmas.Bool.{cases_eq, cases_order, cases_Bool, lt-ltb, ltb-true, true≢false, and_from}
 use Rattle.std.proofs.lemmas.Option.{same_Some, none-some}
 use Rattle.std.proofs.lemmas.Int.{ints}
+use Rattle.tn_base.specs.Options.{both}
 use Rattle.tn_base.specs.Sets.{has, meet, minus, set_of, sum_over}
 use Rattle.tn_base.specs.Firm.{net, HasOwnBundles}
 use Rattle.tn_base.specs.Exchange.{MeetsExchange}
 use Rattle.tn_base.proofs.SetLemmas.{has-meet, has-zero, has_from_minus-zero, has_below, has-set_of}
 use Rattle.tn_law.specs.Places.{level, move, sum_to, ExchangesOverPlaces}
-use Rattle.tn_law.specs.Nested.{CountTerm, both, count_sum, nested_sum, AreEnoughAt, IsConcave, Cross, AreNested}
+use Rattle.tn_law.specs.Nested.{CountTerm, count_sum, nested_sum, AreEnoughAt, IsConcave, Cross, AreNested}
 use Rattle.tn_law.proofs.PlaceLemmas.{places}
 use Rattle.tn_law.proofs.DistanceLemmas.{up_moves, up_apart_down}
 use Rattle.tn_law.proofs.ExchangeLemmas.{exchange_from_places}

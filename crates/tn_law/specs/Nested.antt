@@ -1,5 +1,6 @@
 -- Sums of concave functions of net counts over nested sets.
 use Rattle.std.specs.Prelude.{◌≡◌, ◌≢◌, ℕ, ◌+◌, ◌^◌, ◌<◌, nat_lt, ℤ, pos, negsuc, ◌+ℤ◌, ◌-ℤ◌, ◌*ℤ◌, ◌≤ℤ◌, ◌<ℤ◌, if◌then◌else◌, List, [], ◌∷◌, length, get_or, Option, Some, None, slice_get}
+use Rattle.tn_base.specs.Options.{both}
 use Rattle.tn_base.specs.Sets.{meet, minus, sum_over}
 use Rattle.tn_base.specs.Firm.{Firm, net}
 
@@ -7,12 +8,6 @@ use Rattle.tn_base.specs.Firm.{Firm, net}
 pub record CountTerm : Type 0 where
   pub members : ℕ
   pub number_at : ℤ → Option ℤ
-
--- the sum of two numbers, none where one of them is none
-abbrev pub both : Option ℤ → Option ℤ → Option ℤ
-both None second = None
-both (Some a) None = None
-both (Some a) (Some b) = Some (a +ℤ b)
 
 -- the sum of the numbers at the net counts of a bundle within each of the sets
 abbrev pub count_sum : ℕ → List CountTerm → ℕ → Option ℤ

@@ -11,7 +11,8 @@ use Rattle.tn_base.specs.Exchange.{MeetsExchange}
 use Rattle.tn_base.proofs.SetLemmas.{same_set, has-meet, has-minus, has-zero, has-set_of, set_of_within, minus_within, has_below, minus-zero_from}
 use Rattle.tn_base.proofs.SizeLemmas.{size-zero, size-toggle_out}
 use Rattle.tn_base.proofs.SumLemmas.{sum_over-empty}
-use Rattle.tn_law.specs.Nested.{CountTerm, AreNested, Cross, IsConcave, IsConcaveList, count_sum, both, nested_sum, listed_from, at_place}
+use Rattle.tn_base.specs.Options.{both}
+use Rattle.tn_law.specs.Nested.{CountTerm, AreNested, Cross, IsConcave, IsConcaveList, count_sum, nested_sum, listed_from, at_place}
 use Rattle.tn_law.proofs.NestedLemmas.{meets-nested}
 use Rattle.tn_law.proofs.ConcaveLemmas.{concave-listed}
 use Rattle.tn_middle.specs.Pairs.{number_at, by_counts, pair_worth, pairing}
