@@ -1,5 +1,8 @@
 pub mod Network
 pub mod Equilibrium
+pub mod Graph
+pub mod Admitted
+pub mod Choices
 pub mod Verdict
 pub mod Valued
 pub mod Best
