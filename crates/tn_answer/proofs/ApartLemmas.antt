@@ -18,9 +18,9 @@ use Rattle.tn_market.specs.declared.said.Fault.{Fault}
 use Rattle.tn_market.specs.declared.said.Shown.{Shown}
 use Rattle.tn_market.specs.declared.said.Said.{Said}
 use Rattle.tn_market.specs.declared.said.Said.TheVariants.{Usage, ReadFault, NoMemory, Fault as FaultIs, Equilibrium, Better, Impossible, Accepted, ExchangeFails}
-use Rattle.tn_answer.specs.Names.{NameLists, IsNameList}
+use Rattle.tn_names.specs.Names.{NameLists, IsNameList}
 use Rattle.tn_answer.specs.Words.{word_text}
-use Rattle.tn_answer.specs.Sayable.{IsNamed, IsNamedStep, IsNamedTriple}
+use Rattle.tn_names.specs.Named.{IsNamed, IsNamedStep, IsNamedTriple}
 use Rattle.tn_answer.specs.AnswerText.{name_data, names_data, option_data, integer_data, step_data, place_data, fault_data, answer_data, answer_line}
 use Rattle.tn_answer.specs.Apart.{IsNamedAnswer, IsSameStep, IsSameFault, IsSameAnswer, AnswersAreToldApart}
 use Rattle.tn_answer.proofs.DataTexts.{clash, compact_text-tells}

@@ -16,10 +16,11 @@ use Rattle.tn_market.specs.declared.said.Fault.{Fault}
 use Rattle.tn_market.specs.declared.said.Shown.{Shown}
 use Rattle.tn_market.specs.declared.said.Said.{Said}
 use Rattle.tn_market.specs.declared.said.Said.TheVariants.{Usage, ReadFault, NoMemory, Fault as FaultIs, Equilibrium, Better, Impossible, Accepted, ExchangeFails}
-use Rattle.tn_answer.specs.Names.{NameLists, IsNameList, is_name}
+use Rattle.tn_names.specs.Names.{NameLists, IsNameList, is_name}
 use Rattle.tn_answer.specs.Words.{kind_name, word_text}
 use Rattle.tn_answer.specs.AnswerText.{name_data, option_data, step_data, fault_data, answer_data}
-use Rattle.tn_answer.specs.Apart.{HasShortIndex, HasShortNumbers}
+use Rattle.tn_names.specs.Named.{HasShortIndex}
+use Rattle.tn_answer.specs.Apart.{HasShortNumbers}
 use Rattle.tn_answer.proofs.DataTexts.{IsShort, HasNameBytes, IsPlain, ItemsArePlain}
 
 kind_name_is_plain : (kind : FaultKind) → HasNameBytes (kind_name kind)

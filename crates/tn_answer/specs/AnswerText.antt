@@ -12,7 +12,7 @@ use Rattle.tn_market.specs.declared.said.Fault.{Fault}
 use Rattle.tn_market.specs.declared.said.Shown.{Shown}
 use Rattle.tn_market.specs.declared.said.Said.{Said}
 use Rattle.tn_market.specs.declared.said.Said.TheVariants.{Usage, ReadFault, NoMemory, Fault as FaultIs, Equilibrium, Better, Impossible, Accepted, ExchangeFails}
-use Rattle.tn_answer.specs.Names.{NameLists}
+use Rattle.tn_names.specs.Names.{NameLists}
 use Rattle.tn_answer.specs.Words.{kind_name, word_text}
 
 -- the name with a number, and those with several

@@ -1,14 +1,15 @@
 -- Different answers over the same names have different texts.
-use Rattle.std.specs.Prelude.{◌≡◌, ℕ, ◌<◌, ◌^◌, List, All, IfSome, slice_get, Some}
+use Rattle.std.specs.Prelude.{◌≡◌, ℕ, List, All, IfSome, slice_get, Some}
 use Rattle.std.specs.List.{AllZip}
 use Rattle.tn_market.specs.declared.place.PlaceStep.{PlaceStep}
-use Rattle.tn_market.specs.declared.place.PlaceStep.TheVariants.{Word, Index, Trade}
+use Rattle.tn_market.specs.declared.place.PlaceStep.TheVariants.{Word, Trade}
 use Rattle.tn_market.specs.declared.said.Fault.{Fault}
 use Rattle.tn_market.specs.declared.said.Said.{Said}
 use Rattle.tn_market.specs.declared.said.Said.TheVariants.{Fault as FaultIs, Better, Impossible, ExchangeFails}
-use Rattle.tn_answer.specs.Names.{NameLists, IsNameList}
+use Rattle.tn_names.specs.Names.{NameLists, IsNameList}
 use Rattle.tn_answer.specs.Words.{word_text}
-use Rattle.tn_answer.specs.Sayable.{IsSayable, IsNamed, IsNamedStep, IsNamedTriple}
+use Rattle.tn_answer.specs.Sayable.{IsSayable}
+use Rattle.tn_names.specs.Named.{IsNamed, IsNamedStep, IsNamedTriple, HasShortIndex}
 use Rattle.tn_answer.specs.AnswerText.{answer_line}
 
 -- an answer speaks only of firms and trades that have a name
@@ -18,11 +19,6 @@ IsNamedAnswer names (Better firm bundle gain) = IsNamed names.firms firm × All 
 IsNamedAnswer names (Impossible firm) = IsNamed names.firms firm
 IsNamedAnswer names (ExchangeFails firm x y at) = IsNamed names.firms firm × IsNamedTriple names.trades (record { x = x; y = y; at = at })
 IsNamedAnswer names _ = Unit {0}
-
--- an index on the way to a place fits 64 bits
-abbrev pub HasShortIndex : PlaceStep → Type 0
-HasShortIndex (Index k) = k < 2 ^ 64
-HasShortIndex _ = Unit {0}
 
 -- the numbers of an answer fit 64 bits
 abbrev pub HasShortNumbers : Said → Type 0

@@ -6,7 +6,7 @@ use Rattle.tn_market.specs.declared.place.PlaceStep.TheVariants.{Trade}
 use Rattle.tn_market.specs.declared.said.Shown.{Shown}
 use Rattle.tn_market.specs.declared.said.Said.{Said}
 use Rattle.tn_market.specs.declared.said.Said.TheVariants.{Fault as FaultIs, Better, Impossible, ExchangeFails}
-use Rattle.tn_answer.specs.Names.{NameLists}
+use Rattle.tn_names.specs.Names.{NameLists}
 use Rattle.tn_answer.specs.AnswerText.{answer_line}
 
 abbrev pub names_no_trade_at : PlaceStep → Bool

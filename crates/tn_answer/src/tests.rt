@@ -1,41 +1,11 @@
 ghost use Rattle.tn_answer.specs.Sayable.{IsSayable};
 
-use crate::{Names, answer_text, is_name, no_memory_text, read_fault_text, usage_text};
+use crate::{Names, answer_text, no_memory_text, read_fault_text, usage_text};
 use std::alloc::Global;
 use std::process::Abort;
 use std::test::Fail;
 use tn_base::FaultKind;
 use tn_market::{Fault, Place, PlaceStep, Said, Shown, Trades, Word};
-
-#[test]
-fn numbers_names_in_first_seen_order(rt: HostRuntime) -> Result<(), Fail> {
-    let mut names = Names::empty(rt.alloc());
-    assert!(rt; names.firms() == 0 && names.trades() == 0);
-    assert!(rt; names.add_firm("S")?);
-    assert!(rt; names.add_trade("S")?);
-    assert!(rt; names.firms() == 1 && names.trades() == 1);
-    assert!(rt; names.add_firm("B")?);
-    assert!(rt; names.firms() == 2);
-    assert!(rt; !names.add_firm("S")?);
-    assert!(rt; names.firms() == 2 && names.trades() == 1);
-    assert!(rt; names.firm(1) == "B" && names.trade(0) == "S");
-    assert!(rt; names.firm_of("B") == Some(1) && names.trade_of("B").is_none());
-    Ok(())
-}
-
-#[test]
-fn tests_the_name_rule(rt: HostRuntime) {
-    for (text, is) in [
-        ("o1-d_2.X", true),
-        ("", false),
-        ("a b", false),
-        ("é", false),
-        ("0123456789abcdefghijklmnopqrstuv", true),
-        ("0123456789abcdefghijklmnopqrstuvw", false),
-    ] {
-        assert!(rt; is_name(text) == is, "{text}");
-    }
-}
 
 fn two_of_each(alloc: Global) -> Result<Names, Fail> {
     let mut names = Names::empty(alloc);

@@ -1,13 +1,13 @@
 ghost use Rattle.std.specs.Prelude.{◌≡◌, IfOk};
 ghost use Rattle.tn_answer.specs.AnswerText.{answer_line};
-ghost use Rattle.tn_answer.specs.Names.{NameLists};
+ghost use Rattle.tn_names.specs.Names.{NameLists};
 ghost use Rattle.tn_answer.specs.Sayable.{IsSayable};
 
-use crate::names::Names;
 use crate::values::answer_value;
 use std::alloc::Global;
 use tn_base::OutOfMemory;
 use tn_market::Said;
+use tn_names::Names;
 
 /// The text of an answer over some names, with its line end. A firm or a trade without a name has an empty one.
 #[tactic(auto, using(crate::proofs::FloatLemmas::answer_has_no_float), unfolding(crate::specs::AnswerText::answer_line))]

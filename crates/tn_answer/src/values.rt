@@ -5,11 +5,11 @@ ghost use Rattle.serde_json.specs.View.{view};
 ghost use Rattle.tn_answer.specs.AnswerText.{answer_data, fault_data, name_data, names_data, option_data, place_data, step_data};
 ghost use Rattle.tn_answer.specs.Sayable.{IsSayable};
 
-use crate::names::Names;
 use crate::words::{kind_name, word_text};
 use serde_json::{Value, json};
 use std::alloc::{AllocError, Global};
 use tn_market::{Fault, Place, PlaceStep, Said, Shown, Trades};
+use tn_names::Names;
 
 pub(crate) fn answer_value(alloc: Global, names: &Names, said: &Said) -> Result<Value, AllocError>
     requires { IsSayable said.now }

@@ -8,7 +8,7 @@ use Rattle.tn_base.specs.Firm.{Firm}
 use Rattle.tn_base.specs.declared.fault.FaultKind.TheVariants.{NotJson, Shape}
 use Rattle.tn_market.specs.declared.place.PlaceStep.TheVariants.{Word}
 use Rattle.tn_market.specs.declared.place.Word.TheVariants.{Version, Firms, Trades}
-use Rattle.tn_answer.specs.Names.{NameLists, IsNameList, no_names}
+use Rattle.tn_names.specs.Names.{NameLists, IsNameList, no_names}
 use Rattle.tn_file.specs.declared.need.Need.{Need}
 use Rattle.tn_file.specs.declared.need.Need.TheVariants.{Market, Raw, Arrangement}
 use Rattle.tn_file.specs.declared.shapes.ObjectKind.TheVariants.{Top}

@@ -12,9 +12,9 @@ use Rattle.tn_base.specs.declared.fault.FaultKind.TheVariants.{NotJson, PriceMis
 use Rattle.tn_market.specs.declared.place.PlaceStep.TheVariants.{Index, Trade, Word}
 use Rattle.tn_market.specs.declared.place.Word.TheVariants.{Arrangement as ArrangementWord, Firms, On, Prices, Trades, Version}
 use Rattle.tn_market.specs.declared.said.Fault.{Fault}
-use Rattle.tn_answer.specs.Apart.{HasShortIndex}
-use Rattle.tn_answer.specs.Names.{NameLists, IsNameList, no_names}
-use Rattle.tn_answer.specs.Sayable.{IsNamedStep, IsSayableFault}
+use Rattle.tn_names.specs.Named.{HasShortIndex}
+use Rattle.tn_names.specs.Names.{NameLists, IsNameList, no_names}
+use Rattle.tn_names.specs.Named.{IsNamedStep, IsSayableFault}
 use Rattle.tn_file.specs.declared.need.Need.{Need}
 use Rattle.tn_file.specs.declared.need.Need.TheVariants.{Market, Raw, Arrangement}
 use Rattle.tn_file.specs.declared.shapes.ObjectKind.TheVariants.{Arrangement as ArrangementObject, Top}

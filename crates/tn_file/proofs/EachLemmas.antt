@@ -4,7 +4,7 @@ use Rattle.serde_json.specs.Data.{Data}
 use Rattle.serde_json.specs.View.{view, items_view}
 use Rattle.serde_json.specs.declared.value.Value.{Value}
 use Rattle.tn_market.specs.declared.said.Fault.{Fault}
-use Rattle.tn_answer.specs.Names.{NameLists}
+use Rattle.tn_names.specs.Names.{NameLists}
 use Rattle.tn_file.specs.declared.fault.ReadError.{ReadError}
 use Rattle.tn_file.specs.declared.fault.ReadError.TheVariants.{Fault as FaultIs, OutOfMemory}
 use Rattle.tn_file.specs.Reading.{Stop, ◌>>=◌, each, Fails, FailsBeside}

@@ -24,7 +24,7 @@ use Rattle.tn_market.specs.declared.place.PlaceStep.TheVariants.{Index, Word}
 use Rattle.tn_market.specs.declared.place.Word.TheVariants.{Trades, Sets, From, Values, Keep, Kind, Rows as RowsWord}
 use Rattle.tn_market.specs.declared.said.Fault.{Fault}
 use Rattle.tn_market.specs.Network.{own}
-use Rattle.tn_answer.specs.Sayable.{IsSayableFault}
+use Rattle.tn_names.specs.Named.{IsSayableFault}
 use Rattle.tn_file.specs.declared.kinds.FirmKind.{FirmKind}
 use Rattle.tn_file.specs.declared.kinds.FirmKind.TheVariants.{Table, Laminar, Middleman}
 use Rattle.tn_file.specs.declared.shapes.ObjectKind.TheVariants.{Firm as FirmObject, LaminarSet as LaminarSetObject}

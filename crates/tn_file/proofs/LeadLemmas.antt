@@ -8,7 +8,7 @@ use Rattle.tn_base.specs.Arcs.{IsAtMost}
 use Rattle.tn_base.specs.declared.fault.FaultKind.{FaultKind}
 use Rattle.tn_market.specs.declared.place.PlaceStep.{PlaceStep}
 use Rattle.tn_market.specs.declared.said.Fault.{Fault}
-use Rattle.tn_answer.specs.Names.{NameLists}
+use Rattle.tn_names.specs.Names.{NameLists}
 use Rattle.tn_file.specs.Reading.{◌>>=◌, beside, each, wanted, holds}
 
 pub record Leads {A E : Type 0} (P : A → Type 0) (r : Result A E) : Type 0 where

@@ -10,8 +10,8 @@ use Rattle.tn_market.specs.declared.ends.Ends.{Ends}
 use Rattle.tn_market.specs.declared.place.PlaceStep.{PlaceStep}
 use Rattle.tn_market.specs.declared.place.PlaceStep.TheVariants.{Index, Word}
 use Rattle.tn_market.specs.declared.place.Word.TheVariants.{Firms, Trades, Name, Seller, Buyer}
-use Rattle.tn_answer.specs.Names.{NameLists, IsNameList, MAX_NAMES, has_name, is_name, number_of, with_firm, with_trade}
-use Rattle.tn_answer.proofs.NameLemmas.{IsNameList-push, name_at_number}
+use Rattle.tn_names.specs.Names.{NameLists, IsNameList, MAX_NAMES, has_name, is_name, number_of, with_firm, with_trade}
+use Rattle.tn_names.proofs.NameLemmas.{IsNameList-push, name_at_number}
 use Rattle.tn_file.specs.declared.shapes.ObjectKind.TheVariants.{Trade as TradeObject}
 use Rattle.tn_file.specs.Reading.{beside, each, holds}
 use Rattle.tn_file.specs.Shapes.{text_at, name_at, list_at, few_at, object_at, object_of}

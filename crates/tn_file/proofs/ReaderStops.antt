@@ -14,7 +14,7 @@ use Rattle.tn_market.specs.declared.ends.Ends.{Ends}
 use Rattle.tn_market.specs.declared.place.PlaceStep.{PlaceStep}
 use Rattle.tn_market.specs.declared.place.PlaceStep.TheVariants.{Index, Word}
 use Rattle.tn_market.specs.declared.place.Word.TheVariants.{Firms, Trades, Name, Seller, Buyer}
-use Rattle.tn_answer.specs.Names.{NameLists, has_name, is_name, number_of, with_firm, with_trade}
+use Rattle.tn_names.specs.Names.{NameLists, has_name, is_name, number_of, with_firm, with_trade}
 use Rattle.tn_file.specs.declared.shapes.ObjectKind.{ObjectKind}
 use Rattle.tn_file.specs.declared.shapes.ObjectKind.TheVariants.{Trade as TradeObject}
 use Rattle.tn_file.specs.declared.own_numbers.OwnList.{OwnList}

@@ -10,8 +10,8 @@ use Rattle.tn_base.proofs.SetLemmas.{toggle_within}
 use Rattle.tn_base.specs.declared.side.Side.{Side}
 use Rattle.tn_base.specs.declared.fault.FaultKind.TheVariants.{SameTrade}
 use Rattle.tn_market.specs.declared.place.PlaceStep.{PlaceStep}
-use Rattle.tn_answer.specs.Names.{number_of}
-use Rattle.tn_answer.proofs.NameLemmas.{name_at_number}
+use Rattle.tn_names.specs.Names.{number_of}
+use Rattle.tn_names.proofs.NameLemmas.{name_at_number}
 use Rattle.tn_file.specs.Reading.{holds}
 use Rattle.tn_file.specs.Shapes.{list_at, number_at}
 use Rattle.tn_file.specs.Naming.{Listed, sides_of}

@@ -17,7 +17,7 @@ use Rattle.tn_exchange.proofs.TestLemmas.{wrong_at_own}
 use Rattle.tn_middle.specs.Sets.{meets}
 use Rattle.tn_market.specs.declared.ends.Ends.{Ends}
 use Rattle.tn_market.specs.Network.{own, trades_of}
-use Rattle.tn_answer.specs.Sayable.{IsNamed, IsNamedTriple}
+use Rattle.tn_names.specs.Named.{IsNamed, IsNamedTriple}
 use Rattle.tn_file.specs.Naming.{sides_of}
 use Rattle.tn_file.specs.Firms.{shown_of}
 use Rattle.tn_file.specs.Laws.{IsListedFirm, table, laminar, middleman}

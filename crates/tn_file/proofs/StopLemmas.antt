@@ -10,9 +10,9 @@ use Rattle.tn_market.specs.declared.place.PlaceStep.{PlaceStep}
 use Rattle.tn_market.specs.declared.place.PlaceStep.TheVariants.{Word, Index, Trade}
 use Rattle.tn_market.specs.declared.said.Fault.{Fault}
 use Rattle.tn_market.specs.declared.said.Shown.{Shown}
-use Rattle.tn_answer.specs.Names.{NameLists}
-use Rattle.tn_answer.specs.Apart.{HasShortIndex}
-use Rattle.tn_answer.specs.Sayable.{IsNamedStep, IsNamedTriple, IsSayableFault}
+use Rattle.tn_names.specs.Names.{NameLists}
+use Rattle.tn_names.specs.Named.{HasShortIndex}
+use Rattle.tn_names.specs.Named.{IsNamedStep, IsNamedTriple, IsSayableFault}
 use Rattle.tn_file.specs.Reading.{Stop, ◌>>=◌, beside, fault, each, wanted, holds}
 use Rattle.tn_file.proofs.LeadLemmas.{Leads}
 

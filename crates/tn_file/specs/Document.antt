@@ -8,7 +8,7 @@ use Rattle.tn_market.specs.declared.ends.Ends.{Ends}
 use Rattle.tn_market.specs.declared.place.PlaceStep.TheVariants.{Word}
 use Rattle.tn_market.specs.declared.place.Word.TheVariants.{Version, Firms, Trades}
 use Rattle.tn_market.specs.declared.said.Fault.{Fault}
-use Rattle.tn_answer.specs.Names.{NameLists, no_names}
+use Rattle.tn_names.specs.Names.{NameLists, no_names}
 use Rattle.tn_file.specs.declared.need.Need.{Need}
 use Rattle.tn_file.specs.declared.need.Need.TheVariants.{Raw, Arrangement}
 use Rattle.tn_file.specs.declared.shapes.ObjectKind.TheVariants.{Top}

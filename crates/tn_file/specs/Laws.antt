@@ -12,9 +12,9 @@ use Rattle.tn_laminar.specs.Sum.{HasNumbersWithin, IsOwnSet, laminar_firm}
 use Rattle.tn_middle.specs.Pairs.{middle_firm}
 use Rattle.tn_market.specs.declared.ends.Ends.{Ends}
 use Rattle.tn_market.specs.Network.{IsNetwork}
-use Rattle.tn_answer.specs.Apart.{HasShortIndex}
-use Rattle.tn_answer.specs.Names.{IsNameList}
-use Rattle.tn_answer.specs.Sayable.{IsSayableFault}
+use Rattle.tn_names.specs.Named.{HasShortIndex}
+use Rattle.tn_names.specs.Names.{IsNameList}
+use Rattle.tn_names.specs.Named.{IsSayableFault}
 use Rattle.tn_file.specs.declared.need.Need.{Need}
 use Rattle.tn_file.specs.Reading.{Stop}
 use Rattle.tn_file.specs.Naming.{sides_of}

@@ -3,7 +3,7 @@ use Rattle.std.specs.Prelude.{◌≡◌, List, Bool, true, false, Option, Some, 
 use Rattle.tn_base.specs.declared.fault.FaultKind.{FaultKind}
 use Rattle.tn_market.specs.declared.place.PlaceStep.{PlaceStep}
 use Rattle.tn_market.specs.declared.said.Fault.{Fault}
-use Rattle.tn_answer.specs.Names.{NameLists}
+use Rattle.tn_names.specs.Names.{NameLists}
 use Rattle.tn_file.specs.declared.fault.ReadError.{ReadError}
 use Rattle.tn_file.specs.declared.fault.ReadError.TheVariants.{Fault as FaultIs, OutOfMemory}
 use Rattle.serde_json.specs.Data.{Data, Items, no_items, item}

@@ -10,7 +10,7 @@ use Rattle.tn_market.specs.declared.place.PlaceStep.{PlaceStep}
 use Rattle.tn_market.specs.declared.place.PlaceStep.TheVariants.{Index, Word}
 use Rattle.tn_market.specs.declared.place.Word.TheVariants.{Firms}
 use Rattle.tn_market.specs.declared.said.Fault.{Fault}
-use Rattle.tn_answer.specs.Names.{number_of}
+use Rattle.tn_names.specs.Names.{number_of}
 use Rattle.tn_file.specs.declared.references.ItemPart.{ItemPart}
 use Rattle.tn_file.specs.Reading.{◌>>=◌, each, wanted, holds}
 use Rattle.tn_file.specs.Shapes.{text_at, list_at}

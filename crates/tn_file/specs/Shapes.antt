@@ -10,7 +10,7 @@ use Rattle.serde_json.specs.Find.{as_str, as_array, as_object, as_number, as_i64
 use Rattle.tn_file.specs.declared.shapes.ObjectKind.{ObjectKind}
 use Rattle.tn_file.specs.declared.kinds.FirmKind.TheVariants.{Table, Laminar, Middleman}
 use Rattle.tn_file.specs.declared.shapes.ObjectKind.TheVariants.{Top, Trade, Firm, LaminarSet, Arrangement}
-use Rattle.tn_answer.specs.Names.{is_name}
+use Rattle.tn_names.specs.Names.{is_name}
 use Rattle.tn_file.specs.Reading.{◌>>=◌, wanted, holds}
 
 abbrev pub text_at : List PlaceStep → Option Data → Result (List ℕ) Fault

@@ -10,7 +10,7 @@ use crate::shapes::{ObjectKind, fault, list, number, object_of, present, two};
 use crate::steps::{ARRANGEMENT, ON, PRICES};
 use serde_json::Value;
 use std::alloc::Global;
-use tn_answer::Names;
+use tn_names::Names;
 use tn_base::{FaultKind, TradeSet};
 use tn_market::PlaceStep::{Index, Trade};
 use tn_market::{Arrangement, Prices};

@@ -2,7 +2,7 @@ use crate::extra::Extra;
 use crate::failures::{own_option, trades_of};
 use std::alloc::Global;
 use std::marker::Model;
-use tn_answer::Names;
+use tn_names::Names;
 use tn_base::{Bundle, OutOfMemory};
 use tn_firm::{FirmValue, RawFirm};
 use tn_market::{Ends, Fault, Market, Trades};

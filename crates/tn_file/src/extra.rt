@@ -10,7 +10,7 @@ use crate::fault::ReadError;
 use crate::need::Need;
 use serde_json::Value;
 use std::alloc::Global;
-use tn_answer::Names;
+use tn_names::Names;
 use tn_market::Arrangement;
 
 /// What is read beside the network.

@@ -17,7 +17,7 @@ use crate::shapes::list;
 use crate::steps::{FIRMS, ROWS};
 use serde_json::Value;
 use std::alloc::Global;
-use tn_answer::Names;
+use tn_names::Names;
 use tn_exchange::RawTable;
 use tn_market::Ends;
 use tn_market::PlaceStep::Index;

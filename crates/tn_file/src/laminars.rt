@@ -19,7 +19,7 @@ use crate::steps::{AMOUNTS, FIRMS, FROM, SETS, TRADES, VALUES};
 use crate::trades::sides_of;
 use serde_json::Value;
 use std::alloc::Global;
-use tn_answer::Names;
+use tn_names::Names;
 use tn_base::{FaultKind, Side};
 use tn_laminar::{Laminar, LaminarRefusal, LaminarSet};
 use tn_market::PlaceStep::Index;

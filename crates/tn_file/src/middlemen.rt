@@ -16,7 +16,7 @@ use crate::steps::{COSTS, FIRMS, GAINS, KEEP};
 use crate::trades::sides_of;
 use serde_json::Value;
 use std::alloc::Global;
-use tn_answer::Names;
+use tn_names::Names;
 use tn_base::Side;
 use tn_market::PlaceStep::Index;
 use tn_market::{Ends, PlaceStep};

@@ -1,6 +1,6 @@
 ghost use Rattle.std.specs.Prelude.{◌≡◌, ◌+◌, ◌<◌, ◌≤◌, length, option_map, OnOk};
 ghost use Rattle.serde_json.specs.View.{view, items_view};
-ghost use Rattle.tn_answer.specs.Names.{NameLists};
+ghost use Rattle.tn_names.specs.Names.{NameLists};
 ghost use Rattle.tn_file.specs.Naming.{firm_name, one_firm_name, trade_name};
 ghost use Rattle.tn_file.specs.Reading.{GivesBeside, beside, each};
 
@@ -9,7 +9,7 @@ use crate::shapes::{ObjectKind, fault, name, object, object_of};
 use crate::steps::{FIRMS, NAME, TRADES};
 use serde_json::Value;
 use std::alloc::Global;
-use tn_answer::Names;
+use tn_names::Names;
 use tn_base::FaultKind;
 use tn_market::PlaceStep;
 

@@ -1,6 +1,6 @@
 ghost use Rattle.std.specs.Prelude.{◌≡◌, ◌≤◌, [], length, IfOk};
 ghost use Rattle.serde_json.specs.View.{view, items_view};
-ghost use Rattle.tn_answer.specs.Names.{no_names};
+ghost use Rattle.tn_names.specs.Names.{no_names};
 ghost use Rattle.tn_file.specs.Document.{DocumentData, document_of, is_tested, listed_of, version_limit};
 ghost use Rattle.tn_file.specs.Extra.{extra_view};
 ghost use Rattle.tn_file.specs.Naming.{Listed};
@@ -20,7 +20,7 @@ use crate::steps::{FIRMS, TRADES, VERSION};
 use crate::trades::read_trades;
 use serde_json::Value;
 use std::alloc::Global;
-use tn_answer::Names;
+use tn_names::Names;
 use tn_base::FaultKind;
 use tn_firm::{FirmValue, RawFirm};
 use tn_market::{Ends, Market};

@@ -15,7 +15,7 @@ use crate::shapes::{check, number, optional_list, two};
 use crate::steps::FIRMS;
 use serde_json::Value;
 use std::alloc::Global;
-use tn_answer::Names;
+use tn_names::Names;
 use tn_base::{Bundle, FaultKind, Side};
 use tn_market::PlaceStep::Index;
 use tn_market::{Ends, PlaceStep};

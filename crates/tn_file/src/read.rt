@@ -1,7 +1,7 @@
 ghost use Rattle.std.specs.Prelude.{◌≡◌, [], IfOk};
 ghost use Rattle.serde_json.specs.View.{view};
 ghost use Rattle.tn_base.specs.declared.fault.FaultKind.TheVariants.{NotJson};
-ghost use Rattle.tn_answer.specs.Names.{no_names};
+ghost use Rattle.tn_names.specs.Names.{no_names};
 ghost use Rattle.tn_file.specs.Document.{DocumentData, reading_of};
 ghost use Rattle.tn_file.specs.Extra.{extra_view};
 ghost use Rattle.tn_file.specs.Json.{json_of};
@@ -16,7 +16,7 @@ use crate::network::{Parts, read_document};
 use crate::shapes::fault;
 use serde_json::Value;
 use std::alloc::Global;
-use tn_answer::Names;
+use tn_names::Names;
 use tn_base::FaultKind;
 
 /// Reads a document from its bytes: what they stand for, or the first fault.

@@ -11,7 +11,7 @@ use crate::shapes::{check, found, list, text};
 use crate::steps::FIRMS;
 use serde_json::Value;
 use std::alloc::Global;
-use tn_answer::Names;
+use tn_names::Names;
 use tn_base::{Bundle, FaultKind, Side, TradeSet};
 use tn_market::PlaceStep::Index;
 use tn_market::{Ends, PlaceStep};

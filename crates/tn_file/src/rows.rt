@@ -13,7 +13,7 @@ use crate::steps::{FIRMS, ROWS};
 use crate::trades::sides_of;
 use serde_json::Value;
 use std::alloc::Global;
-use tn_answer::Names;
+use tn_names::Names;
 use tn_base::{Bundle, FaultKind};
 use tn_exchange::{RawTable, RowRefusal};
 use tn_market::Ends;

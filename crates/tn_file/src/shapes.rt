@@ -3,7 +3,7 @@ ghost use Rattle.std.specs.List.{list_all};
 ghost use Rattle.serde_json.specs.View.{view, items_view, members_view};
 ghost use Rattle.tn_base.specs.Arcs.{IsAtMost};
 ghost use Rattle.tn_base.specs.declared.fault.FaultKind.TheVariants.{Shape};
-ghost use Rattle.tn_answer.specs.Names.{is_name};
+ghost use Rattle.tn_names.specs.Names.{is_name};
 ghost use Rattle.tn_file.specs.Reading.{Gives, fault, holds, wanted, IsFaultAt};
 ghost use Rattle.tn_file.specs.Shapes.{allows, allows_all, few_at, list_at, name_at, number_at, object_at, object_of, optional_list_at, text_at, two_at, two_of, whole_at};
 
@@ -11,7 +11,7 @@ use crate::fault::ReadError;
 use crate::kinds::FirmKind;
 use serde_json::{Map, Value};
 use std::alloc::Global;
-use tn_answer::is_name;
+use tn_names::is_name;
 use tn_base::FaultKind;
 use tn_market::{Fault, Place, PlaceStep};
 

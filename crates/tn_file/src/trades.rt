@@ -1,6 +1,6 @@
 ghost use Rattle.std.specs.Prelude.{◌≡◌, ◌+◌, ◌<◌, ◌≤◌, ◌++◌, [], ◌∷◌, length, option_map, IfOk, OnOk};
 ghost use Rattle.serde_json.specs.View.{view, items_view};
-ghost use Rattle.tn_answer.specs.Names.{NameLists};
+ghost use Rattle.tn_names.specs.Names.{NameLists};
 ghost use Rattle.tn_file.specs.Naming.{AreInOrder, ComesNext, Listed, ends_at, firm_at, one_trade, side_in, sides_of};
 ghost use Rattle.tn_file.specs.Reading.{Gives, GivesBeside, each};
 
@@ -10,7 +10,7 @@ use crate::shapes::{check, found, text};
 use crate::steps::{BUYER, SELLER, TRADES};
 use serde_json::Value;
 use std::alloc::Global;
-use tn_answer::Names;
+use tn_names::Names;
 use tn_base::{FaultKind, OutOfMemory, Side};
 use tn_market::{Ends, PlaceStep};
 

@@ -10,8 +10,9 @@ use Rattle.tn_market.specs.Best.{price_at}
 use Rattle.tn_market.specs.Network.{own}
 use Rattle.tn_market.specs.Verdict.{Judges}
 use Rattle.tn_answer.specs.Apart.{HasShortNumbers, IsNamedAnswer}
-use Rattle.tn_answer.specs.Names.{NameLists}
-use Rattle.tn_answer.specs.Sayable.{IsNamed, IsSayable}
+use Rattle.tn_names.specs.Names.{NameLists}
+use Rattle.tn_names.specs.Named.{IsNamed}
+use Rattle.tn_answer.specs.Sayable.{IsSayable}
 use Rattle.tn_file.specs.declared.document.DocRefusal.{DocRefusal}
 use Rattle.tn_file.specs.declared.need.Need.{Need}
 use Rattle.tn_file.specs.Document.{DocumentData, ExtraData, nothing, arrangement, reading_of}

@@ -5,7 +5,7 @@ use Rattle.tn_market.specs.declared.said.Said.{Said}
 use Rattle.tn_market.specs.declared.said.Said.TheVariants.{Equilibrium, Better, Impossible, Fault, Usage, ReadFault, NoMemory, Accepted, ExchangeFails}
 use Rattle.tn_io.specs.Source.{TakesAtMost}
 use Rattle.tn_io.proofs.Taken.{Consumes-TakesFirst}
-use Rattle.tn_answer.specs.Names.{NameLists}
+use Rattle.tn_names.specs.Names.{NameLists}
 use Rattle.tn_run.specs.declared.command.Command.{Command}
 use Rattle.tn_run.specs.Answer.{document_limit, AnswersWhole, FindsTooLong, MayBeSaid}
 

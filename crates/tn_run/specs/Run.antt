@@ -4,7 +4,7 @@ use Rattle.tn_market.specs.declared.said.Said.{Said}
 use Rattle.tn_market.specs.declared.said.Said.TheVariants.{Usage, ReadFault, NoMemory, Fault, Equilibrium, Better, Impossible, Accepted, ExchangeFails}
 use Rattle.tn_io.specs.Counts.{Rose}
 use Rattle.tn_io.specs.Sink.{Grows, GrowsByPrefix}
-use Rattle.tn_answer.specs.Names.{NameLists}
+use Rattle.tn_names.specs.Names.{NameLists}
 use Rattle.tn_answer.specs.AnswerText.{answer_line}
 
 -- the exit status of an answer that was written whole

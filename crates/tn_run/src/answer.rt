@@ -2,7 +2,7 @@
 
 ghost use Rattle.std.specs.Prelude.{◌≡◌, ◌≤◌, [], None, IfOk};
 ghost use Rattle.tn_answer.specs.Apart.{HasShortNumbers, IsNamedAnswer};
-ghost use Rattle.tn_answer.specs.Names.{IsNameList};
+ghost use Rattle.tn_names.specs.Names.{IsNameList};
 ghost use Rattle.tn_answer.specs.Sayable.{IsSayable};
 ghost use Rattle.tn_base.specs.declared.fault.FaultKind.TheVariants.{TooLong};
 ghost use Rattle.tn_file.specs.Document.{reading_of};

@@ -2,7 +2,7 @@
 
 ghost use Rattle.std.specs.Prelude.{◌≡◌, ◌≢◌, ◌⊎◌, None, Some, map, string_bytes};
 ghost use Rattle.tn_answer.specs.AnswerText.{answer_line};
-ghost use Rattle.tn_answer.specs.Names.{NameLists};
+ghost use Rattle.tn_names.specs.Names.{NameLists};
 ghost use Rattle.tn_answer.specs.Sayable.{IsSayable};
 ghost use Rattle.tn_io.specs.Sink.{Grows, GrowsByPrefix};
 ghost use Rattle.tn_run.specs.Answer.{MayBeSaid};

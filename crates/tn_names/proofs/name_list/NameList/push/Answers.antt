@@ -1,6 +1,6 @@
 use Rattle.std.proofs.Common.{◌∙◌, ap, map, string_bytes, ◌++◌, ◌∷◌, []}
-use Rattle.tn_answer.proofs.NameLemmas.{map-insert_name, IsNameList-push}
-use Rattle.tn_answer.proofs.name_list.NameList.push.Goals as goal
+use Rattle.tn_names.proofs.NameLemmas.{map-insert_name, IsNameList-push}
+use Rattle.tn_names.proofs.name_list.NameList.push.Goals as goal
 
 pub invariant_of-self-2 : goal.invariant_of-self-2
 invariant_of-self-2 c =

@@ -1,5 +1,5 @@
 ghost use Rattle.std.specs.Prelude.{◌≡◌, ◌<◌, ◌++◌, [], ◌∷◌, true, false, Some, not, length, slice_get, if◌then◌else◌, ◌↔◌, IsSome, IfSome, IsTrue, IfOk, OnErr};
-ghost use Rattle.tn_answer.specs.Names.{IsNameList, has_name, is_name, number_of, no_names, with_firm, with_trade, MAX_NAMES};
+ghost use Rattle.tn_names.specs.Names.{IsNameList, has_name, is_name, number_of, no_names, with_firm, with_trade, MAX_NAMES};
 
 use crate::name_list::NameList;
 use std::alloc::Global;
@@ -15,7 +15,7 @@ pub struct Names {
 }
 
 impl Model for Names {
-    ghost use Rattle.tn_answer.specs.Names.{NameLists};
+    ghost use Rattle.tn_names.specs.Names.{NameLists};
 
     ghost Value = { NameLists };
 

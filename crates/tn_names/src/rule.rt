@@ -1,6 +1,6 @@
 ghost use Rattle.std.specs.Prelude.{◌≡◌};
 ghost use Rattle.std.specs.List.{list_all};
-ghost use Rattle.tn_answer.specs.Names.{is_name, is_name_byte};
+ghost use Rattle.tn_names.specs.Names.{is_name, is_name_byte};
 
 /// Whether a text may be a name: it has 1 to 32 characters, each an ASCII letter, an ASCII digit, `_`, `-` or `.`.
 pub fn is_name(text: &str) -> bool

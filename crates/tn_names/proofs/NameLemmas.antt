@@ -10,7 +10,7 @@ use Rattle.std.proofs.lemmas.List.Quantifiers.{position-Some}
 use Rattle.std.proofs.lemmas.Map.Keys.{any_passes_from_place}
 use Rattle.std.proofs.lemmas.Option.{none-some, same_Some, slice_get-get_or}
 use Rattle.std.proofs.lemmas.Slice.Eq.{bytes_eq-Decides}
-use Rattle.tn_answer.specs.Names.{IsNameList, is_name, has_name, number_of, MAX_NAMES}
+use Rattle.tn_names.specs.Names.{IsNameList, is_name, has_name, number_of, MAX_NAMES}
 
 module _ {A B : Type 0} (f : A → B) (p : B → Bool) where
   pub list_any-map : (xs : List A) → list_any p (map f xs) ≡ list_any (λ x. p (f x)) xs

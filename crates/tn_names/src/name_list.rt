@@ -1,5 +1,5 @@
 ghost use Rattle.std.specs.Prelude.{◌≡◌, ◌<◌, ◌++◌, [], ◌∷◌, true, false, Some, not, length, slice_get, if◌then◌else◌, ◌↔◌, IsSome, IfSome, IsTrue, IfOk, OnOk, OnErr};
-ghost use Rattle.tn_answer.specs.Names.{IsNameList, has_name, is_name, number_of, MAX_NAMES};
+ghost use Rattle.tn_names.specs.Names.{IsNameList, has_name, is_name, number_of, MAX_NAMES};
 
 use indexmap::IndexSet;
 use std::alloc::Global;
@@ -15,7 +15,7 @@ pub struct NameList {
 
 impl Model for NameList {
     ghost use Rattle.std.specs.Prelude.{List, ℕ, map, string_bytes};
-    ghost use Rattle.tn_answer.specs.Names.{IsNameList};
+    ghost use Rattle.tn_names.specs.Names.{IsNameList};
 
     ghost Value = { List (List ℕ) };
 

@@ -1,8 +1,8 @@
 use Rattle.std.proofs.Common.{◌≡◌, ◌∙◌, arith, Some}
 use Rattle.std.proofs.lemmas.Grind.{common_steps}
-use Rattle.tn_answer.specs.Names.{number_of}
-use Rattle.tn_answer.proofs.NameLemmas.{has_name-keys, number_of-keys, name_at_number}
-use Rattle.tn_answer.proofs.name_list.NameList.number_of.Goals as goal
+use Rattle.tn_names.specs.Names.{number_of}
+use Rattle.tn_names.proofs.NameLemmas.{has_name-keys, number_of-keys, name_at_number}
+use Rattle.tn_names.proofs.name_list.NameList.number_of.Goals as goal
 
 pub returns-in_err-number-clause-number : goal.returns-in_err-number-clause-number
 returns-in_err-number-clause-number c =

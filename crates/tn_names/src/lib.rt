@@ -1,0 +1,12 @@
+//! The names of a document's firms and trades, and the rule that a name keeps. Which faults speak of named trades
+//! alone stands in `specs/`.
+#![tactic(auto)]
+
+mod name_list;
+mod names;
+mod rule;
+#[cfg(test)]
+mod tests;
+
+pub use names::Names;
+pub use rule::is_name;
