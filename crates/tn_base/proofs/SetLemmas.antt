@@ -5,7 +5,7 @@ use Rattle.std.proofs.Math.Nat.{pow-suc}
 use Rattle.std.specs.Int.{bit_at}
 use Rattle.std.proofs.lemmas.Nat.Bits.{bit_at-zero, bit_at_and, bit_at_or, bit_at_xor, bit_at-pow_same, bit_at-pow_other, bit_at-lt, same_from_bits, bit_at_above, bit_at_lowest, bit_at-suc, bit_at_cat_low, bit_at_cat_high}
 use Rattle.std.proofs.lemmas.Nat.{or_lt, xor_lt, and_le_l, pow_below}
-use Rattle.std.proofs.lemmas.Bool.{cases_eq, cases_lt, lt-ltb, le-ltb, false≢true, true≢false}
+use Rattle.std.proofs.lemmas.Bool.{cases_eq, cases_lt, lt-ltb, ltb-true, le-ltb, and_parts, false≢true, true≢false}
 use Rattle.tn_base.specs.Sets.{has, toggle, union, meet, minus, set_of}
 
 -- a binary digit is 0 or 1
@@ -175,6 +175,15 @@ has-set_of test (suc n) k =
           ] in
           kept ∙ has-set_of test n k ∙ ap (λ b. b && test k) (sym (lt_next k n d))
     ]
+
+-- the same as a fact
+pub member_of_set : (test : ℕ → Bool) (n k : ℕ) → (has (set_of test n) k ≡ true) ↔ ((k < n) × (test k ≡ true))
+member_of_set test n k = (
+  (λ there.
+      let parts = and_parts (nat_lt k n) (test k) (sym (has-set_of test n k) ∙ there) in
+      (ltb-true k n parts.0, parts.1)),
+  (λ passes. has-set_of test n k ∙ ap (λ b. b && test k) (lt-ltb k n passes.0) ∙ passes.1),
+)
 
 -- a set with no member from n on is below 2 ^ n
 pub within_from : (x n : ℕ) → ((k : ℕ) → n ≤ k → has x k ≡ false) → x < 2 ^ n

@@ -8,5 +8,6 @@ pub mod Options
 pub mod Walks
 pub mod Ticks
 pub mod SetLaws
+pub mod TableLaws
 pub mod ExchangeLaw
 pub mod Limbs

@@ -1,6 +1,6 @@
 -- That the operations on numbers are those of sets.
-use Rattle.std.specs.Prelude.{◌≡◌, ◌≢◌, ℕ, ◌^◌, ◌<◌, false, not, ◌&&◌, ◌||◌}
-use Rattle.tn_base.specs.Sets.{has, toggle, union, meet, minus, size, size_below}
+use Rattle.std.specs.Prelude.{◌≡◌, ◌≢◌, ℕ, ◌+◌, ◌^◌, ◌<◌, ◌≤◌, Bool, true, false, not, ◌&&◌, ◌||◌, ◌↔◌, ℤ, pos, ◌+ℤ◌, ◌-ℤ◌}
+use Rattle.tn_base.specs.Sets.{has, toggle, union, meet, minus, size, size_below, sum_over, set_of}
 
 pub record AreSets : Type 0 where
   -- sets with the same members are equal
@@ -11,5 +11,21 @@ pub record AreSets : Type 0 where
   pub either : (x y k : ℕ) → has (union x y) k ≡ (has x k || has y k)
   pub both : (x y k : ℕ) → has (meet x y) k ≡ (has x k && has y k)
   pub without : (x y k : ℕ) → has (minus x y) k ≡ (has x k && not (has y k))
+  -- the set that a test makes has the numbers below n that pass it, and no others
+  pub made : (test : ℕ → Bool) (n k : ℕ) → (has (set_of test n) k ≡ true) ↔ ((k < n) × (test k ≡ true))
   -- the number of a set of numbers below n is below 2^n, and its members may be counted up to n
   pub counted : (n x : ℕ) → x < 2 ^ n → size x ≡ size_below n x
+
+-- A toggle moves one member in or out, and the count of members with it.
+pub record AreCounted : Type 0 where
+  pub none : size 0 ≡ 0
+  pub more : (x k : ℕ) → has x k ≡ false → size (toggle x k) ≡ size x + 1
+  pub less : (x k : ℕ) → has x k ≡ true → size x ≡ size (toggle x k) + 1
+
+-- A sum over the members below n has one term for each of them.
+pub record AreSummed : Type 0 where
+  pub none : (c : ℕ → ℤ) (n : ℕ) → sum_over c n 0 ≡ pos 0
+  pub more : (c : ℕ → ℤ) (n x k : ℕ) → k < n → has x k ≡ false → sum_over c n (toggle x k) ≡ sum_over c n x +ℤ c k
+  pub less : (c : ℕ → ℤ) (n x k : ℕ) → k < n → has x k ≡ true → sum_over c n (toggle x k) ≡ sum_over c n x -ℤ c k
+  -- what stands at n or above doesn't count
+  pub above : (c : ℕ → ℤ) (n x k : ℕ) → n ≤ k → sum_over c n (toggle x k) ≡ sum_over c n x

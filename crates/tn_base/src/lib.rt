@@ -17,7 +17,10 @@ mod trade_set;
 pub use bundle::Bundle;
 pub use costs::Costs;
 pub use fault::FaultKind;
-pub use laws::{bundles_are_sets, exchange_is_what_no_triple_fails};
+pub use laws::{
+    bundles_are_sets, exchange_is_what_no_triple_fails, sets_are_counted_and_summed,
+    tables_are_firms,
+};
 pub use memory::OutOfMemory;
 pub use number::scaled;
 pub use side::{Side, purchases};

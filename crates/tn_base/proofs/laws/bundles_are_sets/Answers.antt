@@ -1,4 +1,4 @@
-use Rattle.tn_base.proofs.SetLemmas.{same_set, has-zero, has-toggle_same, has-toggle_other, has-union, has-meet, has-minus}
+use Rattle.tn_base.proofs.SetLemmas.{same_set, has-zero, has-toggle_same, has-toggle_other, has-union, has-meet, has-minus, member_of_set}
 use Rattle.tn_base.proofs.SizeLemmas.{size_at}
 use Rattle.tn_base.proofs.laws.bundles_are_sets.Goals as goal
 
@@ -11,5 +11,6 @@ returns c = record {
   either = has-union;
   both = has-meet;
   without = has-minus;
+  made = member_of_set;
   counted = size_at;
 }
