@@ -1,4 +1,5 @@
 pub mod MarketLemmas
+pub mod NetworkLemmas
 pub mod AscentLemmas
 pub mod BonusLemmas
 pub mod StallLemmas

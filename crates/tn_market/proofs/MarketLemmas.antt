@@ -9,6 +9,7 @@ use Rattle.tn_base.specs.Sets.{has, toggle, set_of}
 use Rattle.tn_base.specs.Firm.{Firm}
 use Rattle.tn_market.specs.declared.ends.Ends.{Ends}
 use Rattle.tn_market.specs.Network.{own, part, stands_at, IsNetwork}
+use Rattle.tn_market.specs.NetworkLaws.{StandsThere}
 use Rattle.tn_market.specs.Traded.{AreOwn, HaveOwn, IsMarket, HasOnePlace, ArePlaced, Traded, sold_at, bought_at, placed}
 
 -- an element of a list after a write
@@ -25,11 +26,6 @@ slice_get-set_other (x ∷ xs) (suc i) v zero other = refl
 slice_get-set_other (x ∷ xs) (suc i) v (suc k) other = slice_get-set_other xs i v k (λ e. other (ap (λ (n : ℕ). suc n) e))
 
 -- the trade that `own` finds is there, and it stands there
-pub record StandsThere (trades : List Ends) (f k t : ℕ) : Type 0 where
-  pub trade : Ends
-  pub is : slice_get trades t ≡ Some trade
-  pub stands : stands_at trade f k ≡ true
-
 pub own_stands : (trades : List Ends) (f k : ℕ) → own trades f k < length trades → StandsThere trades f k (own trades f k)
 own_stands [] f k inside = absurd (omega (arith, inside))
 own_stands (trade ∷ trades) f k inside = by_case (stands_at trade f k) refl (own_stands trades f k)

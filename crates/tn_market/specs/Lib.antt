@@ -1,4 +1,5 @@
 pub mod Network
+pub mod NetworkLaws
 pub mod Equilibrium
 pub mod Graph
 pub mod Admitted

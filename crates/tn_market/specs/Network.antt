@@ -37,3 +37,7 @@ pub record IsNetwork (firms : List Firm) (trades : List Ends) : Type 0 where
   -- and only one
   pub once : (f k s t : ℕ) (one other : Ends) → slice_get trades s ≡ Some one → slice_get trades t ≡ Some other
       → stands_at one f k ≡ true → stands_at other f k ≡ true → s ≡ t
+
+-- the trades at a firm's positions ascend with the positions
+abbrev pub HaveAscendingPositions : List Firm → List Ends → Type 0
+HaveAscendingPositions firms trades = (f i j : ℕ) (firm : Firm) → slice_get firms f ≡ Some firm → i < j → j < firm.count → own trades f i < own trades f j

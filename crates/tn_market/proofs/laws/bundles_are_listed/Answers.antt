@@ -1,0 +1,5 @@
+use Rattle.tn_market.proofs.NetworkLemmas.{listed_trades, ascending_trades}
+use Rattle.tn_market.proofs.laws.bundles_are_listed.Goals as goal
+
+pub returns : goal.returns
+returns c = record { whole = listed_trades; ascending = ascending_trades }

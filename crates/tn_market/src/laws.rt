@@ -1,0 +1,13 @@
+ghost use Rattle.tn_market.specs.NetworkLaws.{AreBundleLists, ArePlaces};
+
+/// The trade at a position of a firm is the one that stands there, and a firm's bundle of a set of trades has the
+/// positions whose trade is in the set.
+pub fn positions_have_one_trade()
+    ensures { ArePlaces }
+{}
+
+/// The list of a bundle's trades has exactly the trades that stand at the bundle's positions. It ascends strictly where
+/// the trades ascend with the positions.
+pub fn bundles_are_listed()
+    ensures { AreBundleLists }
+{}
