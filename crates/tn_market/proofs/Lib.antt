@@ -2,4 +2,5 @@ pub mod MarketLemmas
 pub mod NetworkLemmas
 pub mod AscentLemmas
 pub mod BonusLemmas
+pub mod AskLemmas
 pub mod StallLemmas

@@ -8,15 +8,13 @@ ghost use Rattle.tn_market.specs.Ascent.{AreGains, payment_of};
 ghost use Rattle.tn_market.specs.Best.{GivesBest, price_at};
 
 use crate::aim::Aim;
+use crate::oracle::MOST_OWN;
 use crate::valuation::Valuation;
 use tn_base::{Bundle, Side, Steps};
 
 /// What a wanted position is worth to the search: more than any two utilities are apart, which are at most 3.3 * 10^21
 /// in size. So a bundle of greatest value has all wanted positions, if any possible bundle has them.
 const BONUS: i128 = 10_000_000_000_000_000_000_000;
-
-/// How many trades of its own a firm may have that is searched.
-const MOST_TRADES: usize = 32;
 
 /// What the search counts for a position: what the firm gets for it, and the bonus if it is wanted.
 fn gain(side: Side, price: i128, wanted: bool) -> i128
@@ -32,13 +30,13 @@ fn gain(side: Side, price: i128, wanted: bool) -> i128
 }
 
 /// What the search counts for each position.
-fn gains<V: Valuation>(firm: &V, need: Bundle, prices: &[i128]) -> [i128; MOST_TRADES]
+fn gains<V: Valuation>(firm: &V, need: Bundle, prices: &[i128]) -> [i128; MOST_OWN]
     requires priced { length prices.now ≡ (V.firm firm.now).count }
     requires few { (V.firm firm.now).count ≤ 32 }
     requires small { All (λ p. IsAtMost p (10 ^ 20)) prices.now }
     ensures { AreGains (V.firm firm.now).buys need prices.now (V.firm firm.now).count result }
 {
-    let mut gains = [0; MOST_TRADES];
+    let mut gains = [0; MOST_OWN];
     for k in 0..firm.trades() {
         gains[k as usize] = gain(firm.side(k), prices[k as usize], need.has(k));
     }

@@ -26,7 +26,7 @@ pub use ends::Ends;
 pub use laws::{bundles_are_listed, positions_have_one_trade};
 pub use lists::{Amounts, Contracts, Listed, Nodes, Numbers, Place, Prices, Trades};
 pub use market::Market;
-pub use oracle::Oracle;
+pub use oracle::{MOST_OWN, Oracle, utility_of, worth_of};
 pub use place::{PlaceStep, Word};
 pub use room::Room;
 pub use said::{Fault, Said, Shown};

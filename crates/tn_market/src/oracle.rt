@@ -1,4 +1,4 @@
-ghost use Rattle.std.specs.Prelude.{◌≡◌, ◌^◌, ◌*◌, ◌<◌, ◌≤◌, pos, ◌≤ℤ◌, length, All};
+ghost use Rattle.std.specs.Prelude.{◌≡◌, ◌^◌, ◌*◌, ◌<◌, ◌≤◌, pos, ◌≤ℤ◌, length, All, IfSome};
 ghost use Rattle.tn_base.specs.Arcs.{IsAtMost};
 ghost use Rattle.tn_base.specs.Sets.{meet, union};
 ghost use Rattle.tn_base.specs.Firm.{utility};
@@ -7,6 +7,9 @@ ghost use Rattle.tn_market.specs.Best.{GivesBest, price_at};
 use crate::room::Room;
 use crate::valuation::Valuation;
 use tn_base::Bundle;
+
+/// How many own trades a firm may have that is asked for best bundles.
+pub const MOST_OWN: usize = 32;
 
 /// A firm that finds a best bundle at given prices.
 pub trait Oracle: Valuation {
@@ -30,4 +33,42 @@ pub trait Oracle: Valuation {
         requires few_trades { (Self.firm self.now).count ≤ 32 }
         requires small_worths { Self.limit self.now ≤ 10 ^ 11 }
         ensures { GivesBest need free (utility scale (price_at prices.now) (Self.firm self.now)) result };
+}
+
+/// The utility of a bundle at a scale and at the prices of the positions, None where it is impossible. It takes no
+/// memory.
+pub fn utility_of<V: Oracle>(
+    firm: &V,
+    x: Bundle,
+    scale: i128,
+    prices: &[i128],
+    room: &mut Room,
+) -> Option<i128>
+    requires own { x < 2 ^ (V.firm firm.now).count }
+    requires priced { length prices.now ≡ (V.firm firm.now).count }
+    requires small_prices { All (λ p. IsAtMost p (10 ^ 20)) prices.now }
+    requires scaled { pos 1 ≤ℤ scale }
+    requires small_scale { scale ≤ℤ pos 10000000 }
+    requires few_trades { (V.firm firm.now).count ≤ 32 }
+    requires small_worths { V.limit firm.now ≤ 10 ^ 11 }
+    ensures value { result ≡ utility scale (price_at prices.now) (V.firm firm.now) x }
+    ensures small { IfSome result (λ value. IsAtMost value (10 ^ 22)) }
+{
+    // No other bundle is as asked.
+    match firm.best(x, Bundle::empty(), scale, prices, room) {
+        Some((_, value)) => Some(value),
+        None => None,
+    }
+}
+
+/// The worth of a bundle, None where it is impossible. It takes no memory.
+pub fn worth_of<V: Oracle>(firm: &V, x: Bundle, room: &mut Room) -> Option<i128>
+    requires own { x < 2 ^ (V.firm firm.now).count }
+    requires few_trades { (V.firm firm.now).count ≤ 32 }
+    requires small_worths { V.limit firm.now ≤ 10 ^ 11 }
+    ensures { result ≡ (V.firm firm.now).worth x }
+{
+    // At scale 1 and prices of 0 the utility is the worth.
+    let free = [0; MOST_OWN];
+    utility_of(firm, x, 1, &free[..firm.trades() as usize], room)
 }

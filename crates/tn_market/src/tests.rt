@@ -142,6 +142,14 @@ fn best_bundle_of_a_stall(rt: HostRuntime) {
 }
 
 #[test]
+fn bundles_of_a_stall(rt: HostRuntime) {
+    let mut room = Room::new(rt.alloc()).expect(&rt, "memory");
+    let both = Bundle::from_bits(3);
+    assert!(rt; worth_of(&Stall, both, &mut room) == Some(2));
+    assert!(rt; utility_of(&Stall, both, 2, &[4, 4], &mut room) == Some(4));
+}
+
+#[test]
 fn room_has_its_cells(rt: HostRuntime) {
     let mut room = Room::new(rt.alloc()).expect(&rt, "memory");
     let cells = room.cells();

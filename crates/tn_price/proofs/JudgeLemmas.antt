@@ -1,5 +1,5 @@
 -- The judgement of an arrangement, firm by firm.
-use Rattle.std.proofs.Common.{◌≡◌, ℕ, zero, suc, ◌+◌, ◌*◌, ◌^◌, ◌<◌, ◌≤◌, if◌then◌else◌, List, [], ◌∷◌, ◌++◌, length, map, take, slice_get, Some, Option, option_map, refl, sym, ap, ◌∙◌, subst, arith, inl, inr, ℤ, pos, ◌+ℤ◌, neg_ℤ, ◌*ℤ◌, add-one}
+use Rattle.std.proofs.Common.{◌≡◌, ℕ, zero, suc, ◌+◌, ◌*◌, ◌^◌, ◌<◌, ◌≤◌, if◌then◌else◌, List, [], ◌∷◌, ◌++◌, length, map, take, slice_get, Some, Option, option_map, refl, sym, ap, ◌∙◌, subst, arith, inl, inr, ℤ, pos, ◌+ℤ◌, neg_ℤ, ◌*ℤ◌, ◌≤ℤ◌, add-one}
 use Rattle.std.specs.Prelude.{option_and_then}
 use Rattle.std.specs.List.{All}
 use Rattle.std.proofs.lemmas.Int.{ints}
@@ -50,7 +50,7 @@ one_priced trades prices f k t price list before inside at is small =
       ];
     }
 
-pub price_fits : (prices : List ℤ) (t : ℕ) (price : ℤ) → slice_get prices t ≡ Some price → All (λ p. IsAtMost p (10 ^ 18)) prices → IsAtMost price (10 ^ 20)
+pub price_fits : (prices : List ℤ) (t : ℕ) (price : ℤ) → slice_get prices t ≡ Some price → All (λ p. IsAtMost p (10 ^ 18)) prices → IsAtMost price (10 ^ 22)
 price_fits prices t price is small =
     let read : price_at prices t ≡ price = get_or_from_slice_get prices t price (pos 0) is in
     let there = All-get_or (λ p. IsAtMost p (10 ^ 18)) prices t (pos 0) (slice_get_within prices t price is) small in
@@ -225,3 +225,13 @@ sum_fits surplus amount f n small more below few =
     let more_low = more.low in
     let more_high = more.high in
     omega (arith, ints, low, high, more_low, more_high, below, few)
+
+-- a bundle of the greatest utility is best, with its worth
+pub best_worth : (worth value_of : ℕ → Option ℤ) (x y : ℕ) (amount value most : ℤ) → worth x ≡ Some amount → IsAtMost amount (10 ^ 11)
+    → value_of x ≡ Some value → IsBest value_of y most → most ≤ℤ value → IsBestWorth worth value_of x amount
+best_worth worth value_of x y amount value most worth_is small value_is best above = record {
+  worth_is = worth_is;
+  small = small;
+  value = value;
+  best = record { is = value_is; most = λ z other z_is. let below = best.most z other z_is in omega (arith, ints, above, below) };
+}

@@ -1,4 +1,3 @@
 pub mod SumLemmas
 pub mod WelfareLemmas
-pub mod AskLemmas
 pub mod JudgeLemmas

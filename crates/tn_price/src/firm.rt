@@ -9,46 +9,7 @@ ghost use Rattle.tn_price.specs.Standings.{Stands};
 
 use crate::standing::Standing;
 use tn_base::Bundle;
-use tn_market::{Oracle, Room};
-
-/// How many own trades a firm may have that is judged.
-pub const MOST_OWN: usize = 32;
-
-/// The utility of a bundle, None where it is impossible: no other bundle is as asked.
-fn utility_of<V: Oracle>(
-    firm: &V,
-    x: Bundle,
-    scale: i128,
-    prices: &[i128],
-    room: &mut Room,
-) -> Option<i128>
-    requires own { x < 2 ^ (V.firm firm.now).count }
-    requires priced { length prices.now ≡ (V.firm firm.now).count }
-    requires small_prices { All (λ p. IsAtMost p (10 ^ 18)) prices.now }
-    requires from_one { pos 1 ≤ℤ scale }
-    requires small_scale { scale ≤ℤ pos 100000 }
-    requires few_trades { (V.firm firm.now).count ≤ 32 }
-    requires small_worths { V.limit firm.now ≤ 10 ^ 11 }
-    ensures value { result ≡ utility scale (price_at prices.now) (V.firm firm.now) x }
-    ensures small { IfSome result (λ value. IsAtMost value (10 ^ 20)) }
-{
-    match firm.best(x, Bundle::empty(), scale, prices, room) {
-        Some((_, value)) => Some(value),
-        None => None,
-    }
-}
-
-/// The worth of a possible bundle: its utility at prices of 0.
-fn worth_of<V: Oracle>(firm: &V, x: Bundle, room: &mut Room) -> i128
-    requires own { x < 2 ^ (V.firm firm.now).count }
-    requires possible { IsSome ((V.firm firm.now).worth x) }
-    requires few_trades { (V.firm firm.now).count ≤ 32 }
-    requires small_worths { V.limit firm.now ≤ 10 ^ 11 }
-    ensures { (V.firm firm.now).worth x ≡ Some result }
-{
-    let free = [0; MOST_OWN];
-    utility_of(firm, x, 1, &free[..firm.trades() as usize], room).unwrap()
-}
+use tn_market::{Oracle, Room, utility_of, worth_of};
 
 /// The bundle of all of a firm's positions.
 #[tactic(auto, unfolding(tn_base::specs::Sets::set_of))]
@@ -66,13 +27,13 @@ fn all_positions(n: u32) -> Bundle
 /// A best bundle with its utility. There is one, since the empty bundle is possible.
 fn greatest<V: Oracle>(firm: &V, scale: i128, prices: &[i128], room: &mut Room) -> (Bundle, i128)
     requires priced { length prices.now ≡ (V.firm firm.now).count }
-    requires small_prices { All (λ p. IsAtMost p (10 ^ 18)) prices.now }
-    requires from_one { pos 1 ≤ℤ scale }
-    requires small_scale { scale ≤ℤ pos 100000 }
+    requires small_prices { All (λ p. IsAtMost p (10 ^ 20)) prices.now }
+    requires scaled { pos 1 ≤ℤ scale }
+    requires small_scale { scale ≤ℤ pos 10000000 }
     requires few_trades { (V.firm firm.now).count ≤ 32 }
     requires small_worths { V.limit firm.now ≤ 10 ^ 11 }
     ensures best { IsBest (utility scale (price_at prices.now) (V.firm firm.now)) result.0 result.1 }
-    ensures small { IsAtMost result.1 (10 ^ 20) }
+    ensures small { IsAtMost result.1 (10 ^ 22) }
 {
     let all = all_positions(firm.trades());
     firm.best(Bundle::empty(), all, scale, prices, room)
@@ -89,9 +50,9 @@ pub fn standing<V: Oracle>(
 ) -> Standing
     requires own { own < 2 ^ (V.firm firm.now).count }
     requires priced { length prices.now ≡ (V.firm firm.now).count }
-    requires small_prices { All (λ p. IsAtMost p (10 ^ 18)) prices.now }
-    requires from_one { pos 1 ≤ℤ scale }
-    requires small_scale { scale ≤ℤ pos 100000 }
+    requires small_prices { All (λ p. IsAtMost p (10 ^ 20)) prices.now }
+    requires scaled { pos 1 ≤ℤ scale }
+    requires small_scale { scale ≤ℤ pos 10000000 }
     requires few_trades { (V.firm firm.now).count ≤ 32 }
     requires small_worths { V.limit firm.now ≤ 10 ^ 11 }
     ensures { Stands (V.firm firm.now).worth (utility scale (price_at prices.now) (V.firm firm.now)) own result }
@@ -103,5 +64,5 @@ pub fn standing<V: Oracle>(
     if value < most {
         return Standing::Bettered(bundle, most - value);
     }
-    Standing::Best(worth_of(firm, own, room))
+    Standing::Best(worth_of(firm, own, room).unwrap())
 }

@@ -5,9 +5,9 @@ ghost use Rattle.tn_price.specs.Checks.{Checks};
 ghost use Rattle.tn_price.specs.Standings.{AreOwnPrices, StandsAt};
 
 use crate::check::Check;
-use crate::firm::{MOST_OWN, standing};
+use crate::firm::standing;
 use crate::standing::Standing;
-use tn_market::{Arrangement, Market, Oracle, Prices, Room, Valuation};
+use tn_market::{Arrangement, MOST_OWN, Market, Oracle, Prices, Room, Valuation};
 
 /// The prices of the `n` trades of firm `f`, by position.
 fn own_prices<V: Valuation>(market: &Market<V>, prices: &Prices, f: u32, n: u32) -> [i128; MOST_OWN]

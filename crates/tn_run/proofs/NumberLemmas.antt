@@ -11,7 +11,7 @@ use Rattle.tn_market.specs.declared.ends.Ends.{Ends}
 use Rattle.tn_market.specs.Network.{part}
 use Rattle.tn_market.specs.Equilibrium.{surplus_from}
 use Rattle.tn_market.specs.Valued.{IsWorthAtMost}
-use Rattle.tn_price.proofs.AskLemmas.{sum_over_small, payment_small}
+use Rattle.tn_market.proofs.AskLemmas.{sum_over_small, payment_small}
 
 -- each firm of a list has worths of at most 10^11 in size
 abbrev pub AreSmallFirms : List Firm → Type 0

@@ -5,7 +5,7 @@ use mir.Val.{SFits}
 use Rattle.tn_base.specs.Sets.{set_of}
 use Rattle.tn_base.specs.Firm.{utility}
 use Rattle.tn_market.specs.Best.{price_at, GivesBest}
-use Rattle.tn_price.proofs.AskLemmas.{none_meet, all_within, some_greatest, greatest_is_best, IsAsked, utility_small}
+use Rattle.tn_market.proofs.AskLemmas.{none_meet, all_within, some_greatest, greatest_is_best, IsAsked, utility_small}
 use Rattle.tn_price.proofs.firm.greatest.Goals as goal
 
 pub best-requires-clause-apart : goal.best-requires-clause-apart
@@ -51,7 +51,7 @@ returns-clause-small g c =
       priced = c.requires.priced;
       few = c.requires.few_trades;
       small = c.requires.small_prices;
-      from_one = c.requires.from_one;
+      from_one = c.requires.scaled;
       small_scale = c.requires.small_scale;
     } in
     utility_small firm (g.V.Valuation.limit c.args.firm.now) c.args.scale c.args.prices.now c.unwrap.result.0 c.unwrap.result.1 asked best.is

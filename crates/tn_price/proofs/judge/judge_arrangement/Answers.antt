@@ -8,7 +8,7 @@ use Rattle.tn_market.specs.Verdict.{IsFirstBettered}
 use Rattle.tn_market.proofs.AscentLemmas.{smaller}
 use Rattle.tn_price.specs.Standings.{StandsAt}
 use Rattle.tn_price.specs.declared.standing.Standing.TheVariants.{Impossible, Bettered}
-use Rattle.tn_price.proofs.AskLemmas.{as_is}
+use Rattle.tn_market.proofs.AskLemmas.{as_is}
 use Rattle.tn_price.proofs.JudgeLemmas.{AreJudged, some_item, firm_is, one_judged, all_judged, first_impossible, first_bettered, sum_fits}
 use Rattle.tn_price.proofs.judge.judge_arrangement.Goals as goal
 
@@ -19,7 +19,7 @@ overflow_add-surplus g c =
     let found = some_item c.args.market.now.firms c.loop-f.f (omega (arith, inside, count)) in
     let stands = c.in-Best.ensures in
     let best = stands (g.V.Valuation.firm found.0) (firm_is g.V.Valuation.firm c.args.market.now.firms c.loop-f.f found.0 found.1) in
-    let plain = as_is c.in-Best.worth (smaller c.in-Best.worth (10 ^ 11) (10 ^ 20) (omega arith) best.small) in
+    let plain = as_is c.in-Best.worth (smaller c.in-Best.worth (10 ^ 11) (10 ^ 22) (omega arith) best.small) in
     subst (λ (z : ℤ). SFits w128 (to_z w128 c.loop-f.surplus-bits +ℤ z)) (sym plain)
     (sum_fits (to_z w128 c.loop-f.surplus-bits) c.in-Best.worth c.loop-f.f c.firms-f-end.result c.loop-f.invariant.small best.small inside c.firms-f-end.ensures.few)
 
@@ -67,7 +67,7 @@ loop-f-preserved g c =
     let at = firm_is g.V.Valuation.firm c.args.market.now.firms c.loop-f.f found.0 found.1 in
     let stands = c.in-Best.ensures in
     let best = stands (g.V.Valuation.firm found.0) at in
-    let plain = as_is c.in-Best.worth (smaller c.in-Best.worth (10 ^ 11) (10 ^ 20) (omega arith) best.small) in
+    let plain = as_is c.in-Best.worth (smaller c.in-Best.worth (10 ^ 11) (10 ^ 22) (omega arith) best.small) in
     let sum = to_z-of_z w128 (to_z w128 c.loop-f.surplus-bits +ℤ c.in-Best.worth)
     (sum_fits (to_z w128 c.loop-f.surplus-bits) c.in-Best.worth c.loop-f.f c.firms-f-end.result c.loop-f.invariant.small best.small inside c.firms-f-end.ensures.few) in
     let scale = to_z w128 (of_z w128 c.args.over) in

@@ -15,7 +15,6 @@ use Rattle.tn_law.proofs.KeepLemmas.{option_map-some}
 use Rattle.tn_market.specs.Valued.{IsWorthAtMost}
 use Rattle.tn_market.specs.Best.{IsBetween, IsBestBetween, GivesBest, price_at}
 use Rattle.tn_market.proofs.AscentLemmas.{scaled_small, smaller}
-use Rattle.tn_price.specs.Standings.{IsBestWorth}
 
 -- ---- the empty bundle
 
@@ -145,31 +144,30 @@ pub record IsAsked (firm : Firm) (limit : ℕ) (scale : ℤ) (prices : List ℤ)
   pub small_limit : limit ≤ 10 ^ 11
   pub priced : length prices ≡ firm.count
   pub few : firm.count ≤ 32
-  pub small : All (λ p. IsAtMost p (10 ^ 18)) prices
+  pub small : All (λ p. IsAtMost p (10 ^ 20)) prices
   pub from_one : pos 1 ≤ℤ scale
-  pub small_scale : scale ≤ℤ pos 100000
+  pub small_scale : scale ≤ℤ pos 10000000
 
--- a utility is at most 10^20 in size
+-- a utility is at most 10^22 in size
 pub utility_small : (firm : Firm) (limit : ℕ) (scale : ℤ) (prices : List ℤ) (x : ℕ) (value : ℤ) → IsAsked firm limit scale prices
-    → utility scale (price_at prices) firm x ≡ Some value → IsAtMost value (10 ^ 20)
+    → utility scale (price_at prices) firm x ≡ Some value → IsAtMost value (10 ^ 22)
 utility_small firm limit scale prices x value asked is =
     let few = asked.few in
     let priced = asked.priced in
-    let small_scale = asked.small_scale in
     let worth = option_map-some (λ a. scale *ℤ a +ℤ sum_over (payments firm.buys (price_at prices)) firm.count x) (firm.worth x) value is in
-    let product = scaled_small scale worth.0 asked.from_one (omega (arith, ints, small_scale)) (smaller worth.0 limit (10 ^ 11) asked.small_limit (asked.within x worth.0 worth.1)) in
-    let sum = sum_over_small (payments firm.buys (price_at prices)) firm.count x (10 ^ 18) (λ k below.
-    payment_small firm.buys (price_at prices) k (10 ^ 18) (All-get_or (λ p. IsAtMost p (10 ^ 18)) prices k (pos 0) (omega (arith, priced, below)) asked.small)) in
+    let product = scaled_small scale worth.0 asked.from_one asked.small_scale (smaller worth.0 limit (10 ^ 11) asked.small_limit (asked.within x worth.0 worth.1)) in
+    let sum = sum_over_small (payments firm.buys (price_at prices)) firm.count x (10 ^ 20) (λ k below.
+    payment_small firm.buys (price_at prices) k (10 ^ 20) (All-get_or (λ p. IsAtMost p (10 ^ 20)) prices k (pos 0) (omega (arith, priced, below)) asked.small)) in
     both few _ _ _ worth.2 product sum
   where
-    both : firm.count ≤ 32 → (a b c : ℤ) → a +ℤ b ≡ c → IsAtMost a (10 ^ 18) → IsAtMost b (firm.count * 10 ^ 18) → IsAtMost c (10 ^ 20)
+    both : firm.count ≤ 32 → (a b c : ℤ) → a +ℤ b ≡ c → IsAtMost a (10 ^ 18) → IsAtMost b (firm.count * 10 ^ 20) → IsAtMost c (10 ^ 22)
     both few a b c sum small_a small_b = record {
       low = omega (arith, ints, sum, small_a.low, small_b.low, few);
       high = omega (arith, ints, sum, small_a.high, small_b.high, few);
     }
 
 -- such a number is in the range of the code's
-pub as_is : (z : ℤ) → IsAtMost z (10 ^ 20) → to_z w128 (of_z w128 z) ≡ z
+pub as_is : (z : ℤ) → IsAtMost z (10 ^ 22) → to_z w128 (of_z w128 z) ≡ z
 as_is z small = let low = small.low in let high = small.high in omega (arith, ints, low, high)
 
 -- ---- prices of 0
@@ -220,12 +218,9 @@ free_count n count same few = simp (length-take, length-replicate) (omega (arith
 pub all_free : (n : ℕ) → All (λ p. p ≡ pos 0) (take n (replicate 32 (pos 0)))
 all_free n = All-take (λ p. p ≡ pos 0) n (replicate 32 (pos 0)) (All-replicate (λ p. p ≡ pos 0) 32 (pos 0) refl)
 
--- a bundle of the greatest utility is best, with its worth
-pub best_worth : (worth value_of : ℕ → Option ℤ) (x y : ℕ) (amount value most : ℤ) → worth x ≡ Some amount → IsAtMost amount (10 ^ 11)
-    → value_of x ≡ Some value → IsBest value_of y most → most ≤ℤ value → IsBestWorth worth value_of x amount
-best_worth worth value_of x y amount value most worth_is small value_is best above = record {
-  worth_is = worth_is;
-  small = small;
-  value = value;
-  best = record { is = value_is; most = λ z other z_is. let below = best.most z other z_is in omega (arith, ints, above, below) };
-}
+-- the utility at scale 1 and prices of 0 tells the worth, and that there is none
+pub worth_from_free : (firm : Firm) (prices : List ℤ) (x : ℕ) (found : Option ℤ) → length prices ≡ firm.count → All (λ p. p ≡ pos 0) prices
+    → found ≡ utility (pos 1) (price_at prices) firm x → found ≡ firm.worth x
+worth_from_free firm prices x (Some value) priced free is = sym (free_utility firm prices x value priced free (sym is))
+worth_from_free firm prices x None priced free is =
+    sym (impossible_worth (λ a. pos 1 *ℤ a +ℤ sum_over (payments firm.buys (price_at prices)) firm.count x) (firm.worth x) (sym is))

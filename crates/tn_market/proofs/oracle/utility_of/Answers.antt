@@ -5,8 +5,8 @@ use mir.Val.{SFits}
 use Rattle.tn_base.specs.Arcs.{IsAtMost}
 use Rattle.tn_base.specs.Firm.{utility}
 use Rattle.tn_market.specs.Best.{price_at, GivesBest}
-use Rattle.tn_price.proofs.AskLemmas.{meet_none, union_none, asked_some, asked_none, IsAsked, utility_small, as_is}
-use Rattle.tn_price.proofs.firm.utility_of.Goals as goal
+use Rattle.tn_market.proofs.AskLemmas.{meet_none, union_none, asked_some, asked_none, IsAsked, utility_small, as_is}
+use Rattle.tn_market.proofs.oracle.utility_of.Goals as goal
 
 pub best-requires-clause-apart : goal.best-requires-clause-apart
 best-requires-clause-apart g c = meet_none c.args.x c.empty.result c.empty.ensures
@@ -29,7 +29,7 @@ returns-in-Some-clause-value g c =
       priced = c.requires.priced;
       few = c.requires.few_trades;
       small = c.requires.small_prices;
-      from_one = c.requires.from_one;
+      from_one = c.requires.scaled;
       small_scale = c.requires.small_scale;
     } in
     let small = utility_small firm (g.V.Valuation.limit c.args.firm.now) c.args.scale c.args.prices.now c.args.x c.in-Some.value asked is in
@@ -49,11 +49,11 @@ returns-in-Some-clause-small g c =
       priced = c.requires.priced;
       few = c.requires.few_trades;
       small = c.requires.small_prices;
-      from_one = c.requires.from_one;
+      from_one = c.requires.scaled;
       small_scale = c.requires.small_scale;
     } in
     let small = utility_small firm (g.V.Valuation.limit c.args.firm.now) c.args.scale c.args.prices.now c.args.x c.in-Some.value asked is in
-    subst (λ (z : ℤ). IsAtMost z (10 ^ 20)) (sym (as_is c.in-Some.value small)) small
+    subst (λ (z : ℤ). IsAtMost z (10 ^ 22)) (sym (as_is c.in-Some.value small)) small
 
 pub returns-in-None-clause-value : goal.returns-in-None-clause-value
 returns-in-None-clause-value g c =
