@@ -1,3 +1,3 @@
 pub mod Firms
 pub mod Raw
-pub mod Ring
+mod Ring

@@ -1,4 +1,5 @@
--- A firm for tests and examples: a stall that may buy one thing for 3 and sell another for 5, each by itself.
+-- A firm for tests: a stall that may buy one thing for 3 and sell another for 5, each by itself. It stands here, and in
+-- public, since the laws of an impl may be cited only from the specs/ of its crate, and proofs read nothing private there.
 use Rattle.std.specs.Prelude.{◌≡◌, ℕ, ◌<◌, Bool, true, false, nat_lt, ◌==◌, if◌then◌else◌, ℤ, pos, negsuc, ◌+ℤ◌, Some, None, refl}
 use Rattle.std.proofs.Common.{sym, ap, ◌∙◌, subst, arith}
 use Rattle.std.proofs.lemmas.Int.{ints}
