@@ -5,6 +5,7 @@ pub mod KeepLemmas
 pub mod DistanceLemmas
 pub mod LocalLemmas
 pub mod AdditiveLemmas
+pub mod OrderedLemmas
 pub mod NestedFamilies
 pub mod NestedCounts
 pub mod NestedLemmas

@@ -5,6 +5,7 @@ use Rattle.tn_base.specs.Exchange.{MeetsExchange}
 use Rattle.tn_law.specs.Places.{level, move, ArePlaces, ExchangesOverPlaces}
 use Rattle.tn_law.specs.Local.{IsLocallyBest, IsUnimproved}
 use Rattle.tn_law.specs.Additive.{additive}
+use Rattle.tn_law.specs.Ordered.{Shift, shifted, AreOrdered}
 use Rattle.tn_law.specs.Nested.{CountTerm, nested_sum, AreNested, IsConcave, IsConcaveList, listed_from}
 
 -- bundles, whatever the count of trades and the purchases among them, have places, levels and moves
@@ -41,6 +42,12 @@ abbrev pub LocalIsGlobal : Type 0
 LocalIsGlobal = (firm : Firm) → HasOwnBundles firm → MeetsExchange firm → (scale : ℤ) (prices : ℕ → ℤ) → pos 0 ≤ℤ scale
     → (x : ℕ) (value : ℤ) → utility scale prices firm x ≡ Some value
     → IsBest (utility scale prices firm) x value ↔ IsUnimproved firm.count firm.buys (utility scale prices firm) x value
+
+-- where a firm meets exchange, a best bundle with several tight shifts, in an order without a shortcut, is possible and
+-- best again after all of them
+abbrev pub OrderedShiftsKeepBest : Type 0
+OrderedShiftsKeepBest = (firm : Firm) → HasOwnBundles firm → MeetsExchange firm → (x : ℕ) (value : ℤ) → IsBest firm.worth x value
+    → (shifts : List Shift) → AreOrdered firm x value shifts → IsBest firm.worth (shifted firm.count x shifts) value
 
 -- a firm to which its trades are independent of each other meets exchange
 abbrev pub ExchangeOfAdditiveFirms : Type 0

@@ -2,4 +2,5 @@ pub mod Places
 pub mod Additive
 pub mod Local
 pub mod Nested
+pub mod Ordered
 pub mod Laws

@@ -6,10 +6,12 @@ mod additive;
 mod kept;
 mod local;
 mod nested;
+mod ordered;
 mod places;
 
 pub use additive::exchange_of_additive_firms;
 pub use kept::{exchange_among, exchange_of_priced_firms};
 pub use local::{local_is_global, locally_best_is_best};
 pub use nested::{exchange_of_nested_sums, listed_numbers_are_concave};
+pub use ordered::ordered_shifts_keep_best;
 pub use places::{bundles_have_places, exchange_over_places, null_is_net_count};

@@ -1,0 +1,5 @@
+use Rattle.tn_law.proofs.OrderedLemmas.{ordered_keep_best}
+use Rattle.tn_law.proofs.ordered.ordered_shifts_keep_best.Goals as goal
+
+pub returns : goal.returns
+returns c = ordered_keep_best
