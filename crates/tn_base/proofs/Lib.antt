@@ -1,6 +1,7 @@
 pub mod SetLemmas
 pub mod SizeLemmas
 pub mod SumLemmas
+pub mod WalkLemmas
 pub mod FirmLemmas
 pub mod TableLemmas
 pub mod BuysLemmas

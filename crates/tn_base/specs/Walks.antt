@@ -1,5 +1,5 @@
 -- Walks in a graph by the costs of its arcs, closed walks, and numbers of the nodes that keep the arcs.
-use Rattle.std.specs.Prelude.{◌≡◌, ◌≢◌, ℕ, ◌≤◌, ℤ, pos, ◌+ℤ◌, ◌≤ℤ◌, ◌<ℤ◌, List, [], ◌∷◌, length, slice_get, All, Bool, ◌&&◌, if◌then◌else◌, Option, Some, None}
+use Rattle.std.specs.Prelude.{◌≡◌, ◌≢◌, ℕ, ◌≤◌, ℤ, pos, ◌+ℤ◌, ◌≤ℤ◌, List, [], ◌∷◌, length, slice_get, All, Bool, ◌&&◌, if◌then◌else◌, Option, Some, None}
 use Rattle.tn_base.specs.Options.{both}
 
 -- the cost of the walk from u through the nodes of the list to w, none where one of its arcs isn't there

@@ -6,6 +6,7 @@ pub mod DistanceLemmas
 pub mod LocalLemmas
 pub mod AdditiveLemmas
 pub mod OrderedLemmas
+pub mod LabelLemmas
 pub mod NestedFamilies
 pub mod NestedCounts
 pub mod NestedLemmas

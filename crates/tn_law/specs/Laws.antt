@@ -1,7 +1,9 @@
 -- The laws, each as one statement over all firms.
-use Rattle.std.specs.Prelude.{◌≡◌, ℕ, ◌<◌, ℤ, pos, ◌<ℤ◌, ◌≤ℤ◌, ◌↔◌, ◌^◌, Some, List}
+use Rattle.std.specs.Prelude.{◌≡◌, ℕ, ◌<◌, ℤ, pos, ◌<ℤ◌, ◌≤ℤ◌, ◌↔◌, ◌^◌, Option, Some, List}
 use Rattle.tn_base.specs.Firm.{Firm, net, HasOwnBundles, plus_sum, among, utility, IsBest}
 use Rattle.tn_base.specs.Exchange.{MeetsExchange}
+use Rattle.tn_base.specs.Arcs.{AreBetweenNodes}
+use Rattle.tn_base.specs.Walks.{KeepsArcs, HasNoNegativeCycle}
 use Rattle.tn_law.specs.Places.{level, move, ArePlaces, ExchangesOverPlaces}
 use Rattle.tn_law.specs.Local.{IsLocallyBest, IsUnimproved}
 use Rattle.tn_law.specs.Additive.{additive}
@@ -62,3 +64,8 @@ ExchangeOfNestedSums = (count buys : ℕ) (amounts : ℕ → ℤ) (terms : List 
 -- a list of numbers of which none is below the middle of its neighbours is a concave function, wherever it begins
 abbrev pub ListedNumbersAreConcave : Type 0
 ListedNumbersAreConcave = (low : ℤ) (numbers : List ℤ) → IsConcaveList numbers → IsConcave (listed_from low numbers)
+
+-- in a graph of finitely many nodes some numbers keep every arc exactly where no closed walk is negative
+abbrev pub NumbersKeepArcs : Type 0
+NumbersKeepArcs = (n : ℕ) (arc : ℕ → ℕ → Option ℤ) → AreBetweenNodes n arc
+    → HasNoNegativeCycle arc ↔ ((label : ℕ → ℤ) × KeepsArcs arc label)

@@ -4,6 +4,7 @@
 
 mod additive;
 mod kept;
+mod labels;
 mod local;
 mod nested;
 mod ordered;
@@ -11,6 +12,7 @@ mod places;
 
 pub use additive::exchange_of_additive_firms;
 pub use kept::{exchange_among, exchange_of_priced_firms};
+pub use labels::numbers_keep_arcs;
 pub use local::{local_is_global, locally_best_is_best};
 pub use nested::{exchange_of_nested_sums, listed_numbers_are_concave};
 pub use ordered::ordered_shifts_keep_best;
