@@ -1,3 +1,4 @@
+pub mod GraphLemmas
 pub mod MarketLemmas
 pub mod NetworkLemmas
 pub mod AscentLemmas
