@@ -1,6 +1,6 @@
 -- The exchange graph of a network at a set of trades: an arc says what it costs one firm that one trade is toggled and
 -- another with it, and a walk what it costs all firms on the way (Candogan, Epitropou and Vohra, 2021).
-use Rattle.std.specs.Prelude.{ℕ, ◌+◌, ◌*◌, ℤ, neg_ℤ, List, [], ◌∷◌, length, slice_get, Bool, true, false, not, ◌==◌, ◌&&◌, nat_le, if◌then◌else◌, Option, Some, None, option_map, option_and_then}
+use Rattle.std.specs.Prelude.{◌≡◌, ℕ, ◌+◌, ◌*◌, ℤ, neg_ℤ, List, [], ◌∷◌, length, slice_get, Bool, true, false, not, ◌==◌, ◌&&◌, nat_le, if◌then◌else◌, Option, Some, None, option_map, option_and_then, IsSome}
 use Rattle.tn_base.specs.Options.{both}
 use Rattle.tn_base.specs.Sets.{has, toggle}
 use Rattle.tn_base.specs.Firm.{Firm}
@@ -48,3 +48,7 @@ exchange_arc firms trades on u v = if nat_le u (length trades) && nat_le v (leng
 abbrev pub graph_worths : List Firm → ℕ
 graph_worths [] = 0
 graph_worths (firm ∷ firms) = (firm.count + 1) * (firm.count + 1) + graph_worths firms
+
+-- each firm's bundle of a set of trades is possible
+abbrev pub ArePossible : List Firm → List Ends → ℕ → Type 0
+ArePossible firms trades on = (f : ℕ) (firm : Firm) → slice_get firms f ≡ Some firm → IsSome (firm.worth (part trades f firm.count on))
