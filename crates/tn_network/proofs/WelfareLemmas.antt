@@ -13,7 +13,7 @@ use Rattle.tn_law.proofs.KeepLemmas.{option_map-some, times-le}
 use Rattle.tn_market.specs.declared.ends.Ends.{Ends}
 use Rattle.tn_market.specs.Network.{own, part, stands_at, IsNetwork}
 use Rattle.tn_market.specs.Equilibrium.{prices_at, HasBest, IsEquilibrium, surplus_from, IsEfficient}
-use Rattle.tn_price.proofs.SumLemmas.{sum_to, sum_to-same, AllFrom, all_from, sum_list, sum_list-same, sum_list-none, over_all, over_all-plus, over_all-zero, placed_at, over_all-placed}
+use Rattle.tn_network.proofs.SumLemmas.{sum_to, sum_to-same, AllFrom, all_from, sum_list, sum_list-same, sum_list-none, over_all, over_all-plus, over_all-zero, placed_at, over_all-placed}
 
 -- ---- what is paid for a trade
 
@@ -260,7 +260,7 @@ all_most trades scale on prices s (firm ∷ firms) best =
     with_firm trades scale on prices s firm firms best.0 (all_most trades scale on prices (s + 1) firms best.1)
 
 -- a scale of at least 1 may be left out
-le_from_times : (scale a b : ℤ) → pos 1 ≤ℤ scale → (scale *ℤ a) ≤ℤ (scale *ℤ b) → a ≤ℤ b
+pub le_from_times : (scale a b : ℤ) → pos 1 ≤ℤ scale → (scale *ℤ a) ≤ℤ (scale *ℤ b) → a ≤ℤ b
 le_from_times scale a b from_one below = by_lt_z {P = a ≤ℤ b} b a
     (λ less.
     let step = times-le scale (b +ℤ pos 1) a (omega (arith, ints, from_one)) (omega (arith, ints, less)) in

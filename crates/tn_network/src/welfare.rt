@@ -1,4 +1,4 @@
-ghost use Rattle.tn_price.specs.Laws.{EquilibriaAreEfficient};
+ghost use Rattle.tn_network.specs.Laws.{EquilibriaAreEfficient};
 
 /// An equilibrium has the greatest surplus, over all sets of trades: in the sum of the firms' utilities each price is
 /// paid once and received once (the first welfare theorem of trading networks: Hatfield, Kominers, Nichifor, Ostrovsky

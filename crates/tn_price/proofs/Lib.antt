@@ -1,3 +1,1 @@
-pub mod SumLemmas
-pub mod WelfareLemmas
 pub mod JudgeLemmas

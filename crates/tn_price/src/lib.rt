@@ -4,9 +4,7 @@
 mod check;
 mod firm;
 mod judge;
-mod laws;
 mod standing;
 
 pub use check::Check;
 pub use judge::judge_arrangement;
-pub use laws::equilibria_are_efficient;

@@ -1,5 +1,5 @@
-use Rattle.tn_price.proofs.WelfareLemmas.{equilibrium_is_efficient}
-use Rattle.tn_price.proofs.laws.equilibria_are_efficient.Goals as goal
+use Rattle.tn_network.proofs.WelfareLemmas.{equilibrium_is_efficient}
+use Rattle.tn_network.proofs.welfare.equilibria_are_efficient.Goals as goal
 
 pub returns : goal.returns
 returns c = equilibrium_is_efficient

@@ -1,0 +1,5 @@
+use Rattle.tn_network.proofs.SupportLemmas.{labels_are_supports}
+use Rattle.tn_network.proofs.support.labels_are_supports.Goals as goal
+
+pub returns : goal.returns
+returns c = labels_are_supports

@@ -1,0 +1,5 @@
+use Rattle.tn_network.proofs.SupportLemmas.{negative_cycles}
+use Rattle.tn_network.proofs.support.negative_cycles_forbid_supports.Goals as goal
+
+pub returns : goal.returns
+returns c = negative_cycles

@@ -1,0 +1,5 @@
+use Rattle.tn_network.proofs.SupportLemmas.{supports_keep_arcs}
+use Rattle.tn_network.proofs.support.supports_keep_arcs.Goals as goal
+
+pub returns : goal.returns
+returns c = supports_keep_arcs

@@ -1,0 +1,9 @@
+//! The laws of trading networks, over all networks of firms that meet exchange. Each law is the contract of a function
+//! with an empty body: calling it proves nothing more, and costs nothing.
+#![tactic(auto)]
+
+mod support;
+mod welfare;
+
+pub use support::{labels_are_supports, negative_cycles_forbid_supports, supports_keep_arcs};
+pub use welfare::equilibria_are_efficient;
