@@ -1,21 +1,18 @@
 -- The arcs of the exchange graph, seen from the firms: an arc is a move of one firm at two of its places.
-use Rattle.std.proofs.Common.{◌≡◌, ◌≢◌, ℕ, ◌<◌, ◌≤◌, Bool, true, false, not, ◌==◌, ◌&&◌, ◌||◌, if◌then◌else◌, ltb, List, length, slice_get, Some, None, Option, option_map, refl, sym, ap, ap₂, ◌∙◌, subst, arith, inl, inr, ◌⊎◌, ℤ}
+use Rattle.std.proofs.Common.{◌≡◌, ℕ, ◌<◌, ◌≤◌, Bool, true, false, not, ◌==◌, ◌&&◌, ◌||◌, if◌then◌else◌, List, length, slice_get, Some, None, Option, option_map, refl, sym, ap, ap₂, ◌∙◌, subst, arith, inl, inr, ◌⊎◌, ℤ}
 use Rattle.std.specs.Prelude.{option_and_then, nat_le}
 use Rattle.std.proofs.lemmas.Bool.{cases_Bool, cases_lt, eqb-true, eq-eqb, and_parts, or_cases, lt-ltb, le-ltb, le-leb, leb-true}
 use Rattle.std.proofs.lemmas.Option.{same_Some, slice_get_cases, slice_get_past}
 use Rattle.tn_base.specs.Sets.{has, toggle}
 use Rattle.tn_base.specs.Firm.{Firm}
 use Rattle.tn_base.proofs.SetLemmas.{has-set_of}
-use Rattle.tn_law.specs.Places.{trade_level, level, move, CanRise, CanFall}
+use Rattle.tn_law.specs.Places.{trade_level, level, move}
 use Rattle.tn_law.proofs.PlaceLemmas.{level-trade, move-both, move-to_null, move-from_null}
 use Rattle.tn_market.specs.declared.ends.Ends.{Ends}
 use Rattle.tn_market.specs.Network.{own, part, stands_at, IsNetwork}
 use Rattle.tn_market.specs.Graph.{raised, lowered, raised_by, lowered_by, loss, loss_at, arc_between, exchange_arc}
+use Rattle.tn_market.specs.ArcPlaces.{node_at, AreArcPlaces, common_firm, arc_firm}
 use Rattle.tn_market.proofs.MarketLemmas.{own_stands}
-
--- the node of a place of firm f: the trade at its position, and the null node for null
-abbrev pub node_at : List Ends → ℕ → ℕ → ℕ → ℕ
-node_at trades f n i = if ltb i n then own trades f i else length trades
 
 pub node_at-trade : (trades : List Ends) (f n i : ℕ) → i < n → node_at trades f n i ≡ own trades f i
 node_at-trade trades f n i below = ap (λ (b : Bool). if b then own trades f i else length trades) (lt-ltb i n below)
@@ -188,14 +185,6 @@ arc_is firms trades on u v up down u_inside v_inside raises lowers =
     (le-leb u (length trades) u_inside) (le-leb v (length trades) v_inside)
     ∙ ap₂ (arc_between firms trades on) raises lowers
 
--- the places of an arc: one that can be raised, and another that can be lowered
-pub record AreArcPlaces (firm : Firm) (x i j : ℕ) : Type 0 where
-  pub from_within : i ≤ firm.count
-  pub to_within : j ≤ firm.count
-  pub apart : i ≢ j
-  pub rises : CanRise firm.count (level firm.count firm.buys x) i
-  pub falls : CanFall firm.count (level firm.count firm.buys x) j
-
 -- a move of a firm is an arc, and costs what the firm loses by it
 pub arc_at : (firms : List Firm) (trades : List Ends) → IsNetwork firms trades → (on f : ℕ) (firm : Firm) → slice_get firms f ≡ Some firm → (i j : ℕ)
     → AreArcPlaces firm (part trades f firm.count on) i j
@@ -240,8 +229,7 @@ arc_at firms trades network on f firm is i j places = elim (cases_lt i firm.coun
 -- ---- arcs are moves
 
 -- the firm of an arc, and its places
-pub record ArcAt (firms : List Firm) (trades : List Ends) (on u v : ℕ) (cost : ℤ) : Type 0 where
-  pub f : ℕ
+pub record IsMoveOf (firms : List Firm) (trades : List Ends) (on u v f : ℕ) : Type 0 where
   pub firm : Firm
   pub is : slice_get firms f ≡ Some firm
   pub from : ℕ
@@ -249,9 +237,8 @@ pub record ArcAt (firms : List Firm) (trades : List Ends) (on u v : ℕ) (cost :
   pub places : AreArcPlaces firm (part trades f firm.count on) from to
   pub begin : node_at trades f firm.count from ≡ u
   pub end : node_at trades f firm.count to ≡ v
-  pub costs : loss firm (part trades f firm.count on) (move firm.count (part trades f firm.count on) from to) ≡ Some cost
 
--- a firm of a node, with the place there, and the level of the place if it is a trade's
+-- a firm at a node, with the position there and its level
 record IsAtNode (firms : List Firm) (trades : List Ends) (on wanted t f k : ℕ) : Type 0 where
   firm : Firm
   is : slice_get firms f ≡ Some firm
@@ -291,57 +278,39 @@ at_lowered firms trades network on t trade there =
     by_case true = refl
     by_case false = refl
 
--- an arc between two trades is at a firm of both
-both_trades : (firms : List Firm) (trades : List Ends) (on u v f g i j : ℕ) (cost : ℤ) → IsAtNode firms trades on 0 u f i → IsAtNode firms trades on 1 v g j
-    → arc_between firms trades on (Some (f, i)) (Some (g, j)) ≡ Some cost → ArcAt firms trades on u v cost
-both_trades firms trades on u v f g i j cost up down is = elim (cases_Bool (f == g)) [
-  | inr apart ↦
-      let none : arc_between firms trades on (Some (f, i)) (Some (g, j)) ≡ None =
-      ap (λ (b : Bool). if b then loss_at firms trades on f (λ y. toggle (toggle y i) j) else None) apart in
-      absurd (cc (none, is))
-  | inl same ↦
-      let here : f ≡ g = eqb-true f g same in
-      let loses : loss_at firms trades on f (λ y. toggle (toggle y i) j) ≡ Some cost =
-      ap (λ (b : Bool). if b then loss_at firms trades on f (λ y. toggle (toggle y i) j) else None) (sym same) ∙ is in
-      at (subst (λ (h : ℕ). IsAtNode firms trades on 1 v h j) (sym here) down) loses
-]
-  where
-    at : IsAtNode firms trades on 1 v f j → loss_at firms trades on f (λ y. toggle (toggle y i) j) ≡ Some cost → ArcAt firms trades on u v cost
-    at down loses =
-        let one = same_firm firms f down.firm up.firm down.is up.is in
-        let j_inside : j < up.firm.count = subst (λ (z : Firm). j < z.count) one down.inside in
-        let high : level up.firm.count up.firm.buys (part trades f up.firm.count on) j ≡ 1 =
-        subst (λ (z : Firm). level z.count z.buys (part trades f z.count on) j ≡ 1) one down.level_is in
-        let i_inside = up.inside in
-        let low = up.level_is in
-        record {
-          f = f;
-          firm = up.firm;
-          is = up.is;
-          from = i;
-          to = j;
-          places = record {
-            from_within = omega (arith, i_inside);
-            to_within = omega (arith, j_inside);
-            apart = λ e. let other : level up.firm.count up.firm.buys (part trades f up.firm.count on) j ≡ 0 =
-                subst (λ (k : ℕ). level up.firm.count up.firm.buys (part trades f up.firm.count on) k ≡ 0) e low in omega (arith, high, other);
-            rises = λ p. low;
-            falls = λ p. high;
-          };
-          begin = node_at-trade trades f up.firm.count i i_inside ∙ up.owns;
-          end = node_at-trade trades f up.firm.count j j_inside ∙ down.owns;
-          costs = ap (loss up.firm (part trades f up.firm.count on)) (move-both up.firm.count (part trades f up.firm.count on) i j i_inside j_inside)
-              ∙ sym (loss_here firms trades on f up.firm (λ y. toggle (toggle y i) j) up.is) ∙ loses;
-        }
+-- an arc between two trades is a move of the firm of both
+both_trades : (firms : List Firm) (trades : List Ends) (on u v f i j : ℕ) → IsAtNode firms trades on 0 u f i → IsAtNode firms trades on 1 v f j
+    → IsMoveOf firms trades on u v f
+both_trades firms trades on u v f i j up down =
+    let one = same_firm firms f down.firm up.firm down.is up.is in
+    let i_inside = up.inside in
+    let low = up.level_is in
+    let j_inside : j < up.firm.count = subst (λ (z : Firm). j < z.count) one down.inside in
+    let high : level up.firm.count up.firm.buys (part trades f up.firm.count on) j ≡ 1 =
+    subst (λ (z : Firm). level z.count z.buys (part trades f z.count on) j ≡ 1) one down.level_is in
+    record {
+      firm = up.firm;
+      is = up.is;
+      from = i;
+      to = j;
+      places = record {
+        from_within = omega (arith, i_inside);
+        to_within = omega (arith, j_inside);
+        apart = λ e. let other : level up.firm.count up.firm.buys (part trades f up.firm.count on) j ≡ 0 =
+            subst (λ (k : ℕ). level up.firm.count up.firm.buys (part trades f up.firm.count on) k ≡ 0) e low in omega (arith, high, other);
+        rises = λ p. low;
+        falls = λ p. high;
+      };
+      begin = node_at-trade trades f up.firm.count i i_inside ∙ up.owns;
+      end = node_at-trade trades f up.firm.count j j_inside ∙ down.owns;
+    }
 
--- an arc to null is at the firm that its begin raises
-to_null : (firms : List Firm) (trades : List Ends) (on u v f i : ℕ) (cost : ℤ) → IsAtNode firms trades on 0 u f i → length trades ≡ v
-    → loss_at firms trades on f (λ y. toggle y i) ≡ Some cost → ArcAt firms trades on u v cost
-to_null firms trades on u v f i cost up null loses =
+-- an arc to null is one of the firm that its begin raises
+to_null : (firms : List Firm) (trades : List Ends) (on u v f i : ℕ) → IsAtNode firms trades on 0 u f i → length trades ≡ v → IsMoveOf firms trades on u v f
+to_null firms trades on u v f i up null =
     let i_inside = up.inside in
     let low = up.level_is in
     record {
-      f = f;
       firm = up.firm;
       is = up.is;
       from = i;
@@ -355,18 +324,14 @@ to_null firms trades on u v f i cost up null loses =
       };
       begin = node_at-trade trades f up.firm.count i i_inside ∙ up.owns;
       end = node_at-null trades f up.firm.count up.firm.count (omega arith) ∙ null;
-      costs = ap (loss up.firm (part trades f up.firm.count on)) (move-to_null up.firm.count (part trades f up.firm.count on) i i_inside)
-          ∙ sym (loss_here firms trades on f up.firm (λ y. toggle y i) up.is) ∙ loses;
     }
 
--- and one from null at the firm that its end lowers
-from_null : (firms : List Firm) (trades : List Ends) (on u v g j : ℕ) (cost : ℤ) → IsAtNode firms trades on 1 v g j → length trades ≡ u
-    → loss_at firms trades on g (λ y. toggle y j) ≡ Some cost → ArcAt firms trades on u v cost
-from_null firms trades on u v g j cost down null loses =
+-- and one from null of the firm that its end lowers
+from_null : (firms : List Firm) (trades : List Ends) (on u v f j : ℕ) → IsAtNode firms trades on 1 v f j → length trades ≡ u → IsMoveOf firms trades on u v f
+from_null firms trades on u v f j down null =
     let j_inside = down.inside in
     let high = down.level_is in
     record {
-      f = g;
       firm = down.firm;
       is = down.is;
       from = down.firm.count;
@@ -378,46 +343,59 @@ from_null firms trades on u v g j cost down null loses =
         rises = λ p. absurd (omega (arith, p));
         falls = λ p. high;
       };
-      begin = node_at-null trades g down.firm.count down.firm.count (omega arith) ∙ null;
-      end = node_at-trade trades g down.firm.count j j_inside ∙ down.owns;
-      costs = ap (loss down.firm (part trades g down.firm.count on)) (move-from_null down.firm.count (part trades g down.firm.count on) j j_inside)
-          ∙ sym (loss_here firms trades on g down.firm (λ y. toggle y j) down.is) ∙ loses;
+      begin = node_at-null trades f down.firm.count down.firm.count (omega arith) ∙ null;
+      end = node_at-trade trades f down.firm.count j j_inside ∙ down.owns;
     }
 
--- an arc leads from node to node
-pub arc_within : (firms : List Firm) (trades : List Ends) (on u v : ℕ) (cost : ℤ) → exchange_arc firms trades on u v ≡ Some cost
-    → (u ≤ length trades) × (v ≤ length trades)
-unfolding exchange_arc
-arc_within firms trades on u v cost is = elim (cases_Bool (nat_le u (length trades) && nat_le v (length trades))) [
+-- whether two numbers are nodes
+nodes_or_not : (trades : List Ends) (u v : ℕ)
+    → ((u ≤ length trades) × (v ≤ length trades) × ((nat_le u (length trades) && nat_le v (length trades)) ≡ true))
+    ⊎ ((nat_le u (length trades) && nat_le v (length trades)) ≡ false)
+nodes_or_not trades u v = elim (cases_Bool (nat_le u (length trades) && nat_le v (length trades))) [
   | inl inside ↦ let parts = and_parts (nat_le u (length trades)) (nat_le v (length trades)) inside in
-      (leb-true u (length trades) parts.0, leb-true v (length trades) parts.1)
-  | inr outside ↦
-      let none : (if nat_le u (length trades) && nat_le v (length trades) then arc_between firms trades on (raised_by trades on u) (lowered_by trades on v) else None) ≡ None =
-      ap (λ (b : Bool). if b then arc_between firms trades on (raised_by trades on u) (lowered_by trades on v) else None) outside in
-      absurd (cc (none, is))
+      inl (leb-true u (length trades) parts.0, leb-true v (length trades) parts.1, inside)
+  | inr outside ↦ inr outside
 ]
 
--- an arc is a move of a firm
-pub arc_from : (firms : List Firm) (trades : List Ends) → IsNetwork firms trades → (on u v : ℕ) (cost : ℤ) → exchange_arc firms trades on u v ≡ Some cost
-    → ArcAt firms trades on u v cost
-arc_from firms trades network on u v cost is =
-    let inside = arc_within firms trades on u v cost is in
-    let u_inside : u ≤ length trades = inside.0 in
-    let v_inside : v ≤ length trades = inside.1 in
+-- an arc has a firm, and leads from node to node
+pub record IsFirmOfArc (trades : List Ends) (on u v f : ℕ) : Type 0 where
+  pub begin : u ≤ length trades
+  pub end : v ≤ length trades
+  pub common : common_firm (raised_by trades on u) (lowered_by trades on v) ≡ Some f
+
+pub firm_of_arc : (trades : List Ends) (on u v f : ℕ) → arc_firm trades on u v ≡ Some f → IsFirmOfArc trades on u v f
+firm_of_arc trades on u v f is = elim (nodes_or_not trades u v) [
+  | inl inside ↦ record { begin = inside.0; end = inside.1; common = sym (ap at inside.2) ∙ is }
+  | inr outside ↦ absurd (let none : arc_firm trades on u v ≡ None = ap at outside in cc (none, is))
+]
+  where
+    at : Bool → Option ℕ
+    at b = if b then common_firm (raised_by trades on u) (lowered_by trades on v) else None
+
+-- so it is a move of that firm
+pub move_of_arc : (firms : List Firm) (trades : List Ends) → IsNetwork firms trades → (on u v f : ℕ) → arc_firm trades on u v ≡ Some f
+    → IsMoveOf firms trades on u v f
+move_of_arc firms trades network on u v f is =
+    let at = firm_of_arc trades on u v f is in
+    let u_inside = at.begin in
+    let v_inside = at.end in
     elim (slice_get_cases trades u).1 [
       | inl p ↦ elim (slice_get_cases trades v).1 [
-        | inl q ↦ both_trades firms trades on u v (raised p.0 (has on u)).0 (lowered q.0 (has on v)).0 (raised p.0 (has on u)).1 (lowered q.0 (has on v)).1 cost
+        | inl q ↦ trades_of (raised p.0 (has on u)) (lowered q.0 (has on v)) (sym (ap₂ common_firm (raises u p.0 p.2) (lowers v q.0 q.2)) ∙ at.common)
             (at_raised firms trades network on u p.0 p.2) (at_lowered firms trades network on v q.0 q.2)
-            (sym (arc_is firms trades on u v _ _ u_inside v_inside (raises u p.0 p.2) (lowers v q.0 q.2)) ∙ is)
-        | inr q ↦ to_null firms trades on u v (raised p.0 (has on u)).0 (raised p.0 (has on u)).1 cost
-            (at_raised firms trades network on u p.0 p.2) (let above = q.0 in omega (arith, above, v_inside))
-            (sym (arc_is firms trades on u v _ _ u_inside v_inside (raises u p.0 p.2) (no_lower v q.1)) ∙ is)
+        | inr q ↦
+            let here : (raised p.0 (has on u)).0 ≡ f = same_Some _ _ (sym (ap₂ common_firm (raises u p.0 p.2) (no_lower v q.1)) ∙ at.common) in
+            to_null firms trades on u v f (raised p.0 (has on u)).1
+            (subst (λ (g : ℕ). IsAtNode firms trades on 0 u g (raised p.0 (has on u)).1) here (at_raised firms trades network on u p.0 p.2))
+            (let above = q.0 in omega (arith, above, v_inside))
       ]
       | inr p ↦ elim (slice_get_cases trades v).1 [
-        | inl q ↦ from_null firms trades on u v (lowered q.0 (has on v)).0 (lowered q.0 (has on v)).1 cost
-            (at_lowered firms trades network on v q.0 q.2) (let above = p.0 in omega (arith, above, u_inside))
-            (sym (arc_is firms trades on u v _ _ u_inside v_inside (no_raise u p.1) (lowers v q.0 q.2)) ∙ is)
-        | inr q ↦ absurd (let none = arc_is firms trades on u v None None u_inside v_inside (no_raise u p.1) (no_lower v q.1) in cc (none, is))
+        | inl q ↦
+            let here : (lowered q.0 (has on v)).0 ≡ f = same_Some _ _ (sym (ap₂ common_firm (no_raise u p.1) (lowers v q.0 q.2)) ∙ at.common) in
+            from_null firms trades on u v f (lowered q.0 (has on v)).1
+            (subst (λ (g : ℕ). IsAtNode firms trades on 1 v g (lowered q.0 (has on v)).1) here (at_lowered firms trades network on v q.0 q.2))
+            (let above = p.0 in omega (arith, above, u_inside))
+        | inr q ↦ absurd (let none = ap₂ common_firm (no_raise u p.1) (no_lower v q.1) in let some = at.common in cc (none, some))
       ]
     ]
   where
@@ -432,3 +410,78 @@ arc_from firms trades network on u v cost is =
 
     no_lower : (t : ℕ) → slice_get trades t ≡ None → lowered_by trades on t ≡ None
     no_lower t none = ap (option_map (λ z. lowered z (has on t))) none
+
+    trades_of : (up down : ℕ × ℕ) → common_firm (Some up) (Some down) ≡ Some f → IsAtNode firms trades on 0 u up.0 up.1
+        → IsAtNode firms trades on 1 v down.0 down.1 → IsMoveOf firms trades on u v f
+    trades_of up down common at_up at_down = elim (cases_Bool (up.0 == down.0)) [
+      | inr apart ↦ absurd (let none : common_firm (Some up) (Some down) ≡ None = ap (λ (b : Bool). if b then Some up.0 else None) apart in cc (none, common))
+      | inl same ↦
+          let here : up.0 ≡ f = same_Some _ _ (sym (ap (λ (b : Bool). if b then Some up.0 else None) same) ∙ common) in
+          let there : down.0 ≡ f = sym (eqb-true up.0 down.0 same) ∙ here in
+          both_trades firms trades on u v f up.1 down.1 (subst (λ (g : ℕ). IsAtNode firms trades on 0 u g up.1) here at_up)
+          (subst (λ (g : ℕ). IsAtNode firms trades on 1 v g down.1) there at_down)
+    ]
+
+-- where there can be no arc there is none
+no_arc_between : (firms : List Firm) (trades : List Ends) (on : ℕ) (up down : Option (ℕ × ℕ)) → common_firm up down ≡ None → arc_between firms trades on up down ≡ None
+no_arc_between firms trades on (Some up) (Some down) none = elim (cases_Bool (up.0 == down.0)) [
+  | inl same ↦ absurd (let some : common_firm (Some up) (Some down) ≡ Some up.0 = ap (λ (b : Bool). if b then Some up.0 else None) same in cc (some, none))
+  | inr apart ↦ ap (λ (b : Bool). if b then loss_at firms trades on up.0 (λ y. toggle (toggle y up.1) down.1) else None) apart
+]
+no_arc_between firms trades on (Some up) None none = absurd (cc none)
+no_arc_between firms trades on None (Some down) none = absurd (cc none)
+no_arc_between firms trades on None None none = refl
+
+pub no_arc : (firms : List Firm) (trades : List Ends) (on u v : ℕ) → arc_firm trades on u v ≡ None → exchange_arc firms trades on u v ≡ None
+unfolding exchange_arc
+no_arc firms trades on u v none = elim (nodes_or_not trades u v) [
+  | inl inside ↦ ap at inside.2 ∙ no_arc_between firms trades on (raised_by trades on u) (lowered_by trades on v) (sym (ap firm_at inside.2) ∙ none)
+  | inr outside ↦ ap at outside
+]
+  where
+    at : Bool → Option ℤ
+    at b = if b then arc_between firms trades on (raised_by trades on u) (lowered_by trades on v) else None
+
+    firm_at : Bool → Option ℕ
+    firm_at b = if b then common_firm (raised_by trades on u) (lowered_by trades on v) else None
+
+-- an arc leads from node to node
+pub arc_within : (firms : List Firm) (trades : List Ends) (on u v : ℕ) (cost : ℤ) → exchange_arc firms trades on u v ≡ Some cost
+    → (u ≤ length trades) × (v ≤ length trades)
+arc_within firms trades on u v cost is = by_case (arc_firm trades on u v) refl
+  where
+    by_case : (o : Option ℕ) → arc_firm trades on u v ≡ o → (u ≤ length trades) × (v ≤ length trades)
+    by_case None none = absurd (let no = no_arc firms trades on u v none in cc (no, is))
+    by_case (Some f) some = let at = firm_of_arc trades on u v f some in (at.begin, at.end)
+
+-- an arc is a move of a firm, and costs what the firm loses by it
+pub record ArcAt (firms : List Firm) (trades : List Ends) (on u v : ℕ) (cost : ℤ) : Type 0 where
+  pub f : ℕ
+  pub firm : Firm
+  pub is : slice_get firms f ≡ Some firm
+  pub from : ℕ
+  pub to : ℕ
+  pub places : AreArcPlaces firm (part trades f firm.count on) from to
+  pub begin : node_at trades f firm.count from ≡ u
+  pub end : node_at trades f firm.count to ≡ v
+  pub costs : loss firm (part trades f firm.count on) (move firm.count (part trades f firm.count on) from to) ≡ Some cost
+
+pub arc_from : (firms : List Firm) (trades : List Ends) → IsNetwork firms trades → (on u v : ℕ) (cost : ℤ) → exchange_arc firms trades on u v ≡ Some cost
+    → ArcAt firms trades on u v cost
+arc_from firms trades network on u v cost is = by_case (arc_firm trades on u v) refl
+  where
+    by_case : (o : Option ℕ) → arc_firm trades on u v ≡ o → ArcAt firms trades on u v cost
+    by_case None none = absurd (let no = no_arc firms trades on u v none in cc (no, is))
+    by_case (Some f) some =
+        let at = move_of_arc firms trades network on u v f some in
+        record {
+          f = f;
+          firm = at.firm;
+          is = at.is;
+          from = at.from;
+          to = at.to;
+          places = at.places;
+          begin = at.begin;
+          end = at.end;
+          costs = sym (arc_at firms trades network on f at.firm at.is at.from at.to at.places) ∙ ap₂ (exchange_arc firms trades on) at.begin at.end ∙ is;
+        }

@@ -19,7 +19,8 @@ use Rattle.tn_market.specs.declared.ends.Ends.{Ends}
 use Rattle.tn_market.specs.Network.{own, part, IsNetwork}
 use Rattle.tn_market.specs.Equilibrium.{prices_at, HasBest, IsEquilibrium}
 use Rattle.tn_market.specs.Graph.{loss, exchange_arc, ArePossible}
-use Rattle.tn_market.proofs.GraphLemmas.{node_at, node_at-trade, node_at-null, AreArcPlaces, arc_at, ArcAt, arc_from, arc_within}
+use Rattle.tn_market.specs.ArcPlaces.{node_at, AreArcPlaces}
+use Rattle.tn_market.proofs.GraphLemmas.{node_at-trade, node_at-null, arc_at, arc_from, arc_within}
 use Rattle.tn_network.specs.Laws.{MeetExchange, price_of_node}
 use Rattle.tn_network.proofs.WelfareLemmas.{le_from_times}
 
