@@ -1,6 +1,7 @@
 -- Walks in a graph by the costs of its arcs, closed walks, and numbers of the nodes that keep the arcs.
-use Rattle.std.specs.Prelude.{◌≡◌, ◌≢◌, ℕ, ◌≤◌, ℤ, pos, ◌+ℤ◌, ◌≤ℤ◌, List, [], ◌∷◌, length, slice_get, All, Bool, ◌&&◌, if◌then◌else◌, Option, Some, None}
+use Rattle.std.specs.Prelude.{◌≡◌, ◌≢◌, ℕ, ◌≤◌, ℤ, pos, ◌+ℤ◌, ◌≤ℤ◌, List, [], ◌∷◌, length, slice_get, All, Bool, ◌==◌, ◌&&◌, ◌||◌, if◌then◌else◌, Option, Some, None}
 use Rattle.tn_base.specs.Options.{both}
+use Rattle.tn_base.specs.Sets.{has}
 
 -- the cost of the walk from u through the nodes of the list to w, none where one of its arcs isn't there
 abbrev pub walk_cost : (ℕ → ℕ → Option ℤ) → ℕ → List ℕ → ℕ → Option ℤ
@@ -10,6 +11,14 @@ walk_cost arc u (v ∷ vs) w = both (arc u v) (walk_cost arc v vs w)
 -- the graph with those arcs alone whose two ends pass a test
 abbrev pub arcs_among : (ℕ → Bool) → (ℕ → ℕ → Option ℤ) → ℕ → ℕ → Option ℤ
 arcs_among test arc u v = if test u && test v then arc u v else None
+
+-- whether a node is a trade of the set or the null node
+abbrev pub is_admitted : ℕ → ℕ → ℕ → Bool
+is_admitted null allowed v = v == null || has allowed v
+
+-- whether a node is the given one, a trade of the set or the null node
+abbrev pub is_looked_at : ℕ → ℕ → ℕ → ℕ → Bool
+is_looked_at null node allowed v = v == node || is_admitted null allowed v
 
 -- no number stands twice in the list
 abbrev pub AreDifferent : List ℕ → Type 0

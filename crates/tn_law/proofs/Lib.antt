@@ -7,6 +7,7 @@ pub mod LocalLemmas
 pub mod AdditiveLemmas
 pub mod OrderedLemmas
 pub mod LabelLemmas
+pub mod FavourLemmas
 pub mod NestedFamilies
 pub mod NestedCounts
 pub mod NestedLemmas

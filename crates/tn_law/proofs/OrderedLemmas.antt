@@ -2,11 +2,12 @@
 use Rattle.std.proofs.Common.{◌≡◌, ◌≢◌, ℕ, suc, ◌+◌, ◌<◌, ◌≤◌, refl, sym, ap, ◌∙◌, arith, inl, inr, ℤ, ◌+ℤ◌, List, [], ◌∷◌}
 use Rattle.std.specs.Prelude.{◌≤ℤ◌, Some, All, AllPairs, length, get_or}
 use Rattle.std.proofs.lemmas.Bool.{cases_eq}
+use Rattle.std.proofs.lemmas.Option.{same_Some}
 use Rattle.std.proofs.lemmas.Int.{ints}
 use Rattle.std.proofs.lemmas.List.Elements.{All-head, All-tail}
 use Rattle.tn_base.specs.Firm.{Firm, HasOwnBundles, IsBest}
 use Rattle.tn_base.specs.Exchange.{MeetsExchange}
-use Rattle.tn_law.specs.Places.{level, move, one_at, ArePlaces, ExchangesOverPlaces, SwapsAt}
+use Rattle.tn_law.specs.Places.{level, move, one_at, CanRise, CanFall, ArePlaces, ExchangesOverPlaces, SwapsAt}
 use Rattle.tn_law.specs.Ordered.{Shift, shifted, IsTight, IsBefore, AreOrdered}
 use Rattle.tn_law.proofs.SumLemmas.{one_at-same, one_at-other}
 use Rattle.tn_law.proofs.PlaceLemmas.{places}
@@ -155,3 +156,59 @@ ordered_keep_best firm own meets x value best shifts ordered = record {
   is = ordered_keep firm (exchange_to_places firm own meets) x value best shifts ordered;
   most = best.most;
 }
+
+-- ---- two tight shifts, of which one lowers null and the other raises it
+
+-- what the first raises and the second lowers is a tight shift by itself
+pub through_null : (firm : Firm) → ExchangesOverPlaces firm → (x : ℕ) (value : ℤ) → IsBest firm.worth x value → (i j : ℕ) → i < firm.count → j < firm.count → i ≢ j
+    → CanRise firm.count (level firm.count firm.buys x) i → CanFall firm.count (level firm.count firm.buys x) j
+    → firm.worth (move firm.count x i firm.count) ≡ Some value → firm.worth (move firm.count x firm.count j) ≡ Some value
+    → firm.worth (move firm.count x i j) ≡ Some value
+through_null firm over x value best i j i_in j_in apart rises falls raised_is lowered_is = elim (cases_eq swap.at firm.count) [
+  | inl e ↦
+      let first_is : firm.worth (move firm.count x i j) ≡ Some swap.enough.first =
+      ap firm.worth (sym (are.through x i firm.count j) ∙ are.order raised firm.count j ∙ ap (move firm.count raised j) (sym e)) ∙ swap.enough.first_is in
+      let second_is : firm.worth x ≡ Some swap.enough.second =
+      ap firm.worth (sym (are.same x firm.count) ∙ sym (are.through x firm.count j firm.count) ∙ ap (move firm.count lowered j) (sym e)) ∙ swap.enough.second_is in
+      let second : swap.enough.second ≡ value = same_Some _ _ (sym second_is ∙ best.is) in
+      let most = best.most (move firm.count x i j) swap.enough.first first_is in
+      let enough = swap.enough.enough in
+      first_is ∙ ap (λ (z : ℤ). Some z) (equal swap.enough.first swap.enough.second value second most enough)
+  | inr other ↦
+      let down = swap.is_down in
+      let up_level = raised_levels swap.at swap.is_place in
+      let low_level = lowered_levels swap.at swap.is_place in
+      let none = one_at-other firm.count swap.at (λ e. other (sym e)) in
+      absurd (omega (arith, down, up_level, low_level, none))
+]
+  where
+    are : ArePlaces firm.count (level firm.count firm.buys) (move firm.count)
+    are = places firm.count firm.buys
+
+    raised : ℕ
+    raised = move firm.count x i firm.count
+
+    lowered : ℕ
+    lowered = move firm.count x firm.count j
+
+    raised_levels : (k : ℕ) → k ≤ firm.count
+        → level firm.count firm.buys (move firm.count x i firm.count) k + one_at firm.count k ≡ level firm.count firm.buys x k + one_at i k
+    raised_levels k within = are.levels x i firm.count k (omega (arith, i_in)) (omega arith) (omega (arith, i_in)) rises (λ p. absurd (omega (arith, p))) within
+
+    lowered_levels : (k : ℕ) → k ≤ firm.count
+        → level firm.count firm.buys (move firm.count x firm.count j) k + one_at j k ≡ level firm.count firm.buys x k + one_at firm.count k
+    lowered_levels k within = are.levels x firm.count j k (omega arith) (omega (arith, j_in)) (omega (arith, j_in)) (λ p. absurd (omega (arith, p))) falls within
+
+    is_up : level firm.count firm.buys (move firm.count x firm.count j) j < level firm.count firm.buys (move firm.count x i firm.count) j
+    is_up =
+        let up_level = raised_levels j (omega (arith, j_in)) in
+        let low_level = lowered_levels j (omega (arith, j_in)) in
+        let here = one_at-same j in
+        let null = one_at-other firm.count j (λ e. absurd (omega (arith, e, j_in))) in
+        omega (arith, up_level, low_level, here, null)
+
+    swap : SwapsAt firm (move firm.count x i firm.count) (move firm.count x firm.count j) (value +ℤ value) j
+    swap = over (move firm.count x i firm.count) (move firm.count x firm.count j) value value raised_is lowered_is j (omega (arith, j_in)) is_up
+
+    equal : (a b v : ℤ) → b ≡ v → a ≤ℤ v → (v +ℤ v) ≤ℤ (a +ℤ b) → a ≡ v
+    equal a b v same most enough = omega (arith, ints, same, most, enough)

@@ -1,3 +1,10 @@
 pub mod SumLemmas
 pub mod WelfareLemmas
 pub mod SupportLemmas
+pub mod SplitLemmas
+pub mod LegLemmas
+pub mod ShortcutLemmas
+pub mod AlongLemmas
+pub mod RoundLemmas
+pub mod AdmittedLemmas
+pub mod KeptLemmas

@@ -1,18 +1,18 @@
 -- Supporting prices are numbers of the nodes that keep every arc of the exchange graph.
-use Rattle.std.proofs.Common.{◌≡◌, ◌≢◌, ℕ, ◌<◌, ◌≤◌, Bool, true, false, if◌then◌else◌, ltb, List, [], ◌∷◌, length, slice_get, Some, None, Option, option_map, refl, sym, ap, ap₂, ◌∙◌, subst, arith, inl, inr, ◌↔◌, ℤ, pos, ◌+ℤ◌, ◌-ℤ◌, neg_ℤ, ◌≤ℤ◌, ◌*ℤ◌}
-use Rattle.std.specs.Prelude.{◌<ℤ◌, IsSome, nat_lt}
-use Rattle.std.proofs.lemmas.Int.{ints, by_lt_z}
+use Rattle.std.proofs.Common.{◌≡◌, ◌≢◌, ℕ, ◌<◌, ◌≤◌, Bool, true, false, if◌then◌else◌, ltb, List, [], ◌∷◌, length, slice_get, Some, None, Option, option_map, refl, sym, ap, ap₂, ◌∙◌, arith, inl, inr, ◌↔◌, ℤ, pos, ◌+ℤ◌, ◌-ℤ◌, neg_ℤ, ◌≤ℤ◌, ◌*ℤ◌}
+use Rattle.std.specs.Prelude.{◌<ℤ◌, IsSome}
+use Rattle.std.proofs.lemmas.Int.{ints}
 use Rattle.std.proofs.lemmas.Bool.{cases_lt, lt-ltb, le-ltb}
 use Rattle.std.proofs.lemmas.Option.{same_Some}
 use Rattle.tn_base.specs.Options.{both}
 use Rattle.tn_base.specs.Sets.{has, toggle, sum_over}
-use Rattle.tn_base.specs.Firm.{Firm, HasOwnBundles, payments, plus_sum, utility, IsBest}
+use Rattle.tn_base.specs.Firm.{Firm, HasOwnBundles, payments, plus_sum}
 use Rattle.tn_base.specs.Exchange.{MeetsExchange}
 use Rattle.tn_base.specs.Walks.{walk_cost, KeepsArcs}
 use Rattle.tn_base.proofs.SumLemmas.{sum_over-toggle_in, sum_over-toggle_out, times-plus}
 use Rattle.tn_law.specs.Places.{trade_level, level, toggle_at, move, CanRise, CanFall}
 use Rattle.tn_law.proofs.PlaceLemmas.{level-trade, toggle_at-trade, toggle_at-null}
-use Rattle.tn_law.proofs.KeepLemmas.{has-toggle_at, option_map-some, meets-plus_sum, times-le}
+use Rattle.tn_law.proofs.KeepLemmas.{has-toggle_at, option_map-some, meets-plus_sum}
 use Rattle.tn_law.proofs.ExchangeLemmas.{exchange_to_places}
 use Rattle.tn_law.proofs.LocalLemmas.{best_from_unmoved}
 use Rattle.tn_market.specs.declared.ends.Ends.{Ends}
@@ -27,7 +27,7 @@ use Rattle.tn_network.proofs.WelfareLemmas.{le_from_times}
 -- ---- what a move costs at prices
 
 -- the price at a place: none is paid for null
-abbrev price_of_place : ℕ → (ℕ → ℤ) → ℕ → ℤ
+abbrev pub price_of_place : ℕ → (ℕ → ℤ) → ℕ → ℤ
 price_of_place n prices k = if ltb k n then prices k else pos 0
 
 -- who raises a place pays its price
@@ -103,7 +103,7 @@ one_lowered buys prices n x i falls = elim (cases_lt i n) [
             omega (arith, ints, step, pays)
 
 -- a move pays the one price and gets the other
-paid_move : (firm : Firm) (prices : ℕ → ℤ) (x i j : ℕ) → AreArcPlaces firm x i j
+pub paid_move : (firm : Firm) (prices : ℕ → ℤ) (x i j : ℕ) → AreArcPlaces firm x i j
     → sum_over (payments firm.buys prices) firm.count (move firm.count x i j)
     ≡ (sum_over (payments firm.buys prices) firm.count x -ℤ price_of_place firm.count prices i) +ℤ price_of_place firm.count prices j
 unfolding move trade_level
@@ -132,14 +132,14 @@ place_price firms trades network prices f firm is k = elim (cases_lt k firm.coun
 -- ---- what a firm loses
 
 -- a loss is the difference of two worths
-record IsLoss (firm : Firm) (x y : ℕ) (cost : ℤ) : Type 0 where
-  first : ℤ
-  second : ℤ
-  first_is : firm.worth x ≡ Some first
-  second_is : firm.worth y ≡ Some second
-  cost_is : cost ≡ first +ℤ neg_ℤ second
+pub record IsLoss (firm : Firm) (x y : ℕ) (cost : ℤ) : Type 0 where
+  pub first : ℤ
+  pub second : ℤ
+  pub first_is : firm.worth x ≡ Some first
+  pub second_is : firm.worth y ≡ Some second
+  pub cost_is : cost ≡ first +ℤ neg_ℤ second
 
-loss_parts : (firm : Firm) (x y : ℕ) (cost : ℤ) → loss firm x y ≡ Some cost → IsLoss firm x y cost
+pub loss_parts : (firm : Firm) (x y : ℕ) (cost : ℤ) → loss firm x y ≡ Some cost → IsLoss firm x y cost
 loss_parts firm x y cost is = by_case (firm.worth x) (firm.worth y) refl refl is
   where
     by_case : (a b : Option ℤ) → firm.worth x ≡ a → firm.worth y ≡ b → both a (option_map neg_ℤ b) ≡ Some cost → IsLoss firm x y cost
@@ -147,7 +147,7 @@ loss_parts firm x y cost is = by_case (firm.worth x) (firm.worth y) refl refl is
     by_case (Some a) None p q e = absurd (cc e)
     by_case (Some a) (Some b) p q e = record { first = a; second = b; first_is = p; second_is = q; cost_is = same_Some _ _ (sym e) }
 
-loss_of : (firm : Firm) (x y : ℕ) (a b : ℤ) → firm.worth x ≡ Some a → firm.worth y ≡ Some b → loss firm x y ≡ Some (a +ℤ neg_ℤ b)
+pub loss_of : (firm : Firm) (x y : ℕ) (a b : ℤ) → firm.worth x ≡ Some a → firm.worth y ≡ Some b → loss firm x y ≡ Some (a +ℤ neg_ℤ b)
 loss_of firm x y a b x_is y_is = ap₂ (λ (p q : Option ℤ). both p (option_map neg_ℤ q)) x_is y_is
 
 -- ---- supporting prices keep the arcs

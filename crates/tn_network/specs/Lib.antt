@@ -1,1 +1,4 @@
 pub mod Laws
+pub mod Along
+pub mod Kept
+pub mod Rounds

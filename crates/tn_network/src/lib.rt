@@ -2,8 +2,10 @@
 //! with an empty body: calling it proves nothing more, and costs nothing.
 #![tactic(auto)]
 
+mod rounds;
 mod support;
 mod welfare;
 
+pub use rounds::one_cycle_for_each_trade;
 pub use support::{labels_are_supports, negative_cycles_forbid_supports, supports_keep_arcs};
 pub use welfare::equilibria_are_efficient;

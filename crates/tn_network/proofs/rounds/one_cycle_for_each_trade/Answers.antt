@@ -1,0 +1,5 @@
+use Rattle.tn_network.proofs.KeptLemmas.{one_cycle_for_each_trade}
+use Rattle.tn_network.proofs.rounds.one_cycle_for_each_trade.Goals as goal
+
+pub returns : goal.returns
+returns c = one_cycle_for_each_trade

@@ -1,0 +1,9 @@
+ghost use Rattle.tn_network.specs.Rounds.{OneCycleForEachTrade};
+
+/// Where trades are admitted one after another, one cycle of the exchange graph through the new trade, of least cost and
+/// then of least arcs, leads from an equilibrium of the trades before to one with it; and numbers of the nodes that keep
+/// the arcs are its prices. So every network of firms that meet exchange has an equilibrium (Hatfield, Kominers,
+/// Nichifor, Ostrovsky and Westkamp, 2013; as a flow, Candogan, Epitropou and Vohra, 2021).
+pub fn one_cycle_for_each_trade()
+    ensures { OneCycleForEachTrade }
+{}
