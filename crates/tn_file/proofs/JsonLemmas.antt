@@ -6,10 +6,10 @@ use Rattle.std.proofs.lemmas.Str.{IsUtf8-from_is_utf8, is_utf8-from_IsUtf8}
 use Rattle.serde_json.specs.Read.{read}
 use Rattle.tn_base.specs.declared.fault.FaultKind.{FaultKind}
 use Rattle.tn_market.specs.declared.place.PlaceStep.{PlaceStep}
-use Rattle.tn_file.specs.declared.fault.ReadError.{ReadError}
-use Rattle.tn_file.specs.declared.fault.ReadError.TheVariants.{Fault as FaultIs, OutOfMemory}
+use Rattle.tn_shape.specs.declared.error.ReadError.{ReadError}
+use Rattle.tn_shape.specs.declared.error.ReadError.TheVariants.{Fault as FaultIs, OutOfMemory}
 use Rattle.tn_file.specs.Json.{json_of}
-use Rattle.tn_file.specs.Reading.{Fails, IsFaultAt, wanted}
+use Rattle.tn_shape.specs.Reading.{Fails, IsFaultAt, wanted}
 
 pub json_of-text : (bytes : List ℕ) → IsUtf8 bytes → json_of bytes ≡ read bytes
 unfolding json_of

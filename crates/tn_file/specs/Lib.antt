@@ -1,16 +1,3 @@
-pub mod Reading
-pub mod Shapes
-pub mod Naming
-pub mod References
-pub mod Entries
-pub mod FirstFailure
-pub mod Kinds
-pub mod Tables
-pub mod OwnNumbers
-pub mod Laminars
-pub mod Middlemen
-pub mod Firms
-pub mod Arranged
 pub mod Json
 pub mod Document
 pub mod Extra

@@ -3,7 +3,7 @@ use Rattle.std.specs.Prelude.{◌≡◌, map, Result, Ok, Err}
 use Rattle.tn_firm.specs.Firms.{firm_of}
 use Rattle.tn_firm.specs.Raw.{raw_firm_of}
 use Rattle.tn_file.specs.declared.need.Need.{Need}
-use Rattle.tn_file.specs.declared.need.Need.TheVariants.{Raw, Arrangement}
+use Rattle.tn_file.specs.declared.need.Need.TheVariants.{Market, Raw, Arrangement}
 use Rattle.tn_file.specs.declared.document.Document.{Document}
 use Rattle.tn_file.specs.declared.document.Loaded.TheVariants.{Market as MarketIs, Raw as RawIs}
 use Rattle.tn_file.specs.declared.document.Loaded.{Loaded}
@@ -11,7 +11,7 @@ use Rattle.tn_file.specs.declared.document.DocRefusal.{DocRefusal}
 use Rattle.tn_file.specs.declared.document.DocRefusal.TheVariants.{Fault, OutOfMemory}
 use Rattle.tn_file.specs.declared.extra.Extra.{Extra}
 use Rattle.tn_file.specs.declared.extra.Extra.TheVariants.{None as NothingIs, Arrangement as ArrangementIs}
-use Rattle.tn_file.specs.Reading.{Stop}
+use Rattle.tn_listed.specs.Beside.{Stop}
 use Rattle.tn_file.specs.Document.{NetData, DocumentData}
 use Rattle.tn_file.specs.Extra.{extra_view}
 
@@ -32,14 +32,18 @@ Reads (Err OutOfMemory) reading = Unit {0}
 
 -- a network is a market, unless it is read raw
 abbrev pub IsLoadedFor : Need → Loaded → Type 0
-IsLoadedFor Raw (RawIs net) = Unit {0}
+IsLoadedFor Market (MarketIs market) = Unit {0}
+IsLoadedFor Market (RawIs net) = ⊥
 IsLoadedFor Raw (MarketIs market) = ⊥
-IsLoadedFor _ (MarketIs market) = Unit {0}
-IsLoadedFor _ (RawIs net) = ⊥
+IsLoadedFor Raw (RawIs net) = Unit {0}
+IsLoadedFor Arrangement (MarketIs market) = Unit {0}
+IsLoadedFor Arrangement (RawIs net) = ⊥
 
 -- there is an arrangement exactly where it is needed
 abbrev pub IsExtraFor : Need → Extra → Type 0
-IsExtraFor Arrangement (ArrangementIs part) = Unit {0}
+IsExtraFor Market NothingIs = Unit {0}
+IsExtraFor Market (ArrangementIs part) = ⊥
+IsExtraFor Raw NothingIs = Unit {0}
+IsExtraFor Raw (ArrangementIs part) = ⊥
 IsExtraFor Arrangement NothingIs = ⊥
-IsExtraFor _ NothingIs = Unit {0}
-IsExtraFor _ (ArrangementIs part) = ⊥
+IsExtraFor Arrangement (ArrangementIs part) = Unit {0}

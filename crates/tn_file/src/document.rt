@@ -1,11 +1,11 @@
 use crate::extra::Extra;
-use crate::failures::{own_option, trades_of};
 use std::alloc::Global;
 use std::marker::Model;
-use tn_names::Names;
 use tn_base::{Bundle, OutOfMemory};
 use tn_firm::{FirmValue, RawFirm};
+use tn_kinds::{own_option, trades_of};
 use tn_market::{Ends, Fault, Market, Trades};
+use tn_names::Names;
 
 /// A document that is read.
 #[derive(Drop)]

@@ -1,17 +1,17 @@
 ghost use Rattle.std.specs.Prelude.{◌≡◌, ◌≤◌, length, IfOk};
 ghost use Rattle.serde_json.specs.View.{view};
+ghost use Rattle.tn_shape.specs.Reading.{Gives};
 ghost use Rattle.tn_file.specs.Document.{extra_of};
 ghost use Rattle.tn_file.specs.Extra.{extra_view};
-ghost use Rattle.tn_file.specs.Reading.{Gives};
 ghost use Rattle.tn_file.specs.Refusal.{IsExtraFor};
 
-use crate::arrangement::read_arrangement;
-use crate::fault::ReadError;
 use crate::need::Need;
 use serde_json::Value;
 use std::alloc::Global;
-use tn_names::Names;
+use tn_extra::read_arrangement;
 use tn_market::Arrangement;
+use tn_names::Names;
+use tn_shape::ReadError;
 
 /// What is read beside the network.
 #[derive(Debug, Drop)]

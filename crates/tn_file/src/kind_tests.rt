@@ -1,6 +1,5 @@
 //! Laminar firms and middlemen, and their first faults.
 
-use crate::steps::{AMOUNTS, COSTS, FIRMS, FROM, GAINS, KEEP, SETS, TRADES, VALUES};
 use crate::tests::has_fault;
 use crate::{Need, read_doc};
 use std::alloc::Global;
@@ -8,6 +7,7 @@ use std::test::Fail;
 use tn_base::FaultKind;
 use tn_market::PlaceStep;
 use tn_market::PlaceStep::Index;
+use tn_shape::steps::{AMOUNTS, COSTS, FIRMS, FROM, GAINS, KEEP, SETS, TRADES, VALUES};
 
 /// The members of firm B after its name, the kind of its first fault, and the fault's place.
 type Case = (&'static str, FaultKind, &'static [PlaceStep]);

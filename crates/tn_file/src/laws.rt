@@ -1,8 +1,7 @@
-ghost use Rattle.tn_file.specs.FirstFailure.{IsTheFirstFailure};
-ghost use Rattle.tn_file.specs.Laws.{DocumentsAreNetworks, FaultsAreSayable};
+ghost use Rattle.tn_file.specs.Laws.{DocumentsAreNetworks, FaultsAreSayable, ReadingsAreNeverTooLong};
 
-/// Every document that is read is a network of firms with different names, and each of its firms meets exchange unless
-/// it is read raw.
+/// Every document that is read is a network of firms with different names. Of each firm only bundles of its own trades
+/// are possible and the empty one is, later positions have later trades, and it meets exchange unless it is read raw.
 pub fn documents_are_networks()
     ensures { DocumentsAreNetworks }
 {}
@@ -13,7 +12,7 @@ pub fn faults_are_sayable()
     ensures { FaultsAreSayable }
 {}
 
-/// The failing triple that a fault shows is the first one of the test.
-pub fn first_failures_are_first()
-    ensures { IsTheFirstFailure }
+/// No reading of bytes says that they are too long: that is a fault of the input, of which no byte is read then.
+pub fn readings_are_never_too_long()
+    ensures { ReadingsAreNeverTooLong }
 {}

@@ -2,27 +2,27 @@ ghost use Rattle.std.specs.Prelude.{◌≡◌, [], IfOk};
 ghost use Rattle.serde_json.specs.View.{view};
 ghost use Rattle.tn_base.specs.declared.fault.FaultKind.TheVariants.{NotJson};
 ghost use Rattle.tn_names.specs.Names.{no_names};
+ghost use Rattle.tn_shape.specs.Reading.{Gives, wanted};
+ghost use Rattle.tn_listed.specs.Beside.{GivesBeside};
 ghost use Rattle.tn_file.specs.Document.{DocumentData, reading_of};
 ghost use Rattle.tn_file.specs.Extra.{extra_view};
 ghost use Rattle.tn_file.specs.Json.{json_of};
 ghost use Rattle.tn_file.specs.Laws.{IsDocument};
-ghost use Rattle.tn_file.specs.Reading.{Gives, GivesBeside, wanted};
 ghost use Rattle.tn_file.specs.Refusal.{IsExtraFor, IsLoadedFor, Reads, document_view, net_view};
 
 use crate::document::{DocRefusal, Document};
-use crate::fault::ReadError;
 use crate::need::Need;
 use crate::network::{Parts, read_document};
-use crate::shapes::fault;
 use serde_json::Value;
 use std::alloc::Global;
-use tn_names::Names;
 use tn_base::FaultKind;
+use tn_names::Names;
+use tn_shape::{ReadError, fault};
 
 /// Reads a document from its bytes: what they stand for, or the first fault.
 pub fn read_doc(alloc: Global, need: Need, bytes: &[u8]) -> Result<Document, DocRefusal>
     ensures exact { Reads result (reading_of need bytes.now) }
-    // A network with its names, whose firms meet exchange unless it is read raw.
+    // A network with its names, whose firms are accepted unless it is read raw.
     ensures network { IfOk result (λ doc. IsDocument need (document_view doc)) }
     ensures loaded { IfOk result (λ doc. IsLoadedFor need doc.firms) }
     ensures extra { IfOk result (λ doc. IsExtraFor need doc.extra) }

@@ -1,14 +1,14 @@
 //! Documents and their first faults.
 
-use crate::steps::{
-    ARRANGEMENT, BUYER, FIRMS, KIND, NAME, ON, PRICES, ROWS, SELLER, TRADES, VERSION,
-};
 use crate::{DocRefusal, Need, read_doc};
 use std::alloc::Global;
 use std::test::Fail;
 use tn_base::FaultKind;
 use tn_market::PlaceStep::{Index, Trade};
 use tn_market::{Place, PlaceStep};
+use tn_shape::steps::{
+    ARRANGEMENT, BUYER, FIRMS, KIND, NAME, ON, PRICES, ROWS, SELLER, TRADES, VERSION,
+};
 
 /// A document, the kind of its first fault, and the fault's place.
 type Case = (&'static str, FaultKind, &'static [PlaceStep]);

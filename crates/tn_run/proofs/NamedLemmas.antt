@@ -16,11 +16,13 @@ use Rattle.tn_answer.specs.Sayable.{IsSayable}
 use Rattle.tn_file.specs.declared.document.DocRefusal.{DocRefusal}
 use Rattle.tn_file.specs.declared.need.Need.{Need}
 use Rattle.tn_file.specs.Document.{DocumentData, ExtraData, nothing, arrangement, reading_of}
-use Rattle.tn_file.specs.Laws.{IsDocument, IsStop}
+use Rattle.tn_file.specs.Laws.{IsDocument}
+use Rattle.tn_listed.specs.Beside.{IsStop}
 use Rattle.tn_file.specs.Refusal.{Reads}
 use Rattle.tn_file.proofs.DocumentLeads.{documents_are_networks}
 use Rattle.tn_file.proofs.DocumentStops.{faults_are_sayable}
-use Rattle.tn_file.proofs.ShownLemmas.{OwnAreNamed, listed_own_bundles, own_position_of, trades_named, triple_named}
+use Rattle.tn_kinds.proofs.ShownLemmas.{OwnAreNamed, own_position_of, trades_named, triple_named}
+use Rattle.tn_kinds.proofs.KindLemmas.{listed_own_bundles}
 use Rattle.tn_run.specs.Answer.{ChecksExtra, IsAnswerOf}
 use Rattle.tn_run.specs.Tested.{IsFirstToFail, Tests}
 use Rattle.tn_run.specs.Words.{need_of}

@@ -13,7 +13,7 @@ use Rattle.tn_io.specs.Counts.{Rose}
 use Rattle.tn_io.specs.Source.{TakesFirst, TakesAtMost}
 use Rattle.tn_answer.specs.Apart.{HasShortNumbers, IsNamedAnswer}
 use Rattle.tn_names.specs.Names.{NameLists, IsNameList}
-use Rattle.tn_file.specs.Reading.{Stop}
+use Rattle.tn_listed.specs.Beside.{Stop}
 use Rattle.tn_file.specs.Document.{DocumentData, ExtraData, nothing, arrangement, reading_of}
 use Rattle.tn_run.specs.declared.command.Command.{Command}
 use Rattle.tn_run.specs.declared.command.Command.TheVariants.{Check, Test}

@@ -1,0 +1,5 @@
+pub mod PriceLemmas
+pub mod ListLeads
+pub mod ListStops
+pub mod ArrangementLeads
+pub mod ArrangementStops

@@ -1,0 +1,7 @@
+//! The parts of a document beside its network: the arrangement.
+#![tactic(auto)]
+
+mod arrangement;
+mod lists;
+
+pub use arrangement::read_arrangement;

@@ -1,0 +1,5 @@
+use Rattle.tn_file.proofs.DocumentStops.{readings_are_never_too_long}
+use Rattle.tn_file.proofs.laws.readings_are_never_too_long.Goals as goal
+
+pub returns : goal.returns
+returns c = readings_are_never_too_long

@@ -1,0 +1,12 @@
+pub mod RowLemmas
+pub mod FailureLemmas
+pub mod FirmLemmas
+pub mod TableLeads
+pub mod SoundLemmas
+pub mod LaminarLeads
+pub mod MiddleLeads
+pub mod KindLemmas
+pub mod FirmLeads
+pub mod ShownLemmas
+pub mod FirmStops
+pub mod OwnLemmas

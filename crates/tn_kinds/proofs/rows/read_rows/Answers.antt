@@ -1,0 +1,51 @@
+use Rattle.std.proofs.Common.{refl, ap, sym, ◌∙◌, ◌^◌, ◌≡◌, ◌≤◌, None, length, arith}
+use Rattle.std.proofs.lemmas.Result.{err_from_is_err_and}
+use Rattle.std.proofs.Math.Nat.{pow-le-pow_right}
+use Rattle.serde_json.specs.View.{items_view}
+use Rattle.tn_exchange.specs.Rows.{TableRows, without_rows}
+use Rattle.tn_shape.specs.Reading.{each}
+use Rattle.tn_refer.specs.Ordered.{sides_of}
+use Rattle.tn_kinds.specs.Tables.{filled, one_row, rows_of}
+use Rattle.tn_shape.proofs.EachLemmas.{each_goes_on, each_is_done, each_fails, fails_then}
+use Rattle.tn_kinds.proofs.RowLemmas.{filled_le, filled-none, length-replicate}
+use Rattle.tn_kinds.proofs.rows.read_rows.Goals as goal
+
+pub loop-row-init : goal.loop-row-init
+loop-row-init c =
+    let made = c.in_ok-table.ensures ∙ ap without_rows c.in_ok-sides.ensures in
+    record {
+      sides = ap (λ (t : TableRows). t.sides) made;
+      places = ap (λ (t : TableRows). length t.rows) made ∙ length-replicate _ None ∙ ap (λ (t : TableRows). 2 ^ length t.sides) (sym made);
+      filled = sym (ap (λ (t : TableRows). filled t.rows) made ∙ filled-none (2 ^ length (sides_of c.args.ends.now c.args.f)));
+      rest = ap (λ (t : TableRows). each (one_row (record { names = c.args.names.now; ends = c.args.ends.now }) c.args.f) (record { count = 0; table = t }) (items_view c.args.rows.now)) made;
+    }
+
+pub returns-in_err-read_row : goal.returns-in_err-read_row
+unfolding rows_of
+returns-in_err-read_row c =
+    let p = err_from_is_err_and c.from_residual-in_err-read_row.result c.from_residual-in_err-read_row.ensures.1 in
+    rw (p.1, p.2) (fails_then c.in_err-read_row.field-0.0 _ _ (each_fails (one_row (record { names = c.args.names.now; ends = c.args.ends.now }) c.args.f) c.in_err-read_row.field-0.0 c.args.rows.now c.loop-row.row-index c.row-item.result _ _ c.loop-row-test.true (rw (← c.row-item.is) c.in_err-read_row.ensures.gives) c.loop-row.invariant.rest))
+
+pub overflow_add-count : goal.overflow_add-count
+overflow_add-count c =
+    let i = c.loop-row.invariant in
+    let most : 2 ^ length (sides_of c.args.ends.now c.args.f) ≤ 1024 = pow-le-pow_right (omega arith) c.requires.few in
+    let places : length c.loop-row.table.rows ≡ 2 ^ length (sides_of c.args.ends.now c.args.f) = i.places ∙ ap (λ sides. 2 ^ length sides) i.sides in
+    omega (arith, i.filled, filled_le c.loop-row.table.rows, places, most)
+
+pub loop-row-preserved : goal.loop-row-preserved
+loop-row-preserved c =
+    let i = c.loop-row.invariant in
+    let after = c.in_ok-read_row.ensures in
+    record {
+      sides = after.sides ∙ i.sides;
+      places = after.places ∙ i.places ∙ ap (λ sides. 2 ^ length sides) (sym after.sides);
+      filled = omega (arith, after.filled, i.filled);
+      rest = each_goes_on (one_row (record { names = c.args.names.now; ends = c.args.ends.now }) c.args.f) c.args.rows.now c.loop-row.row-index c.row-item.result _ _ _ c.loop-row-test.true (rw (← c.row-item.is) after.gives) i.rest;
+    }
+
+pub returns : goal.returns
+unfolding rows_of
+returns c =
+    let done = each_is_done (one_row (record { names = c.args.names.now; ends = c.args.ends.now }) c.args.f) c.args.rows.now c.loop-row.row-index _ _ c.loop-row-test.false c.loop-row.invariant.rest in
+    rw done refl

@@ -1,0 +1,8 @@
+pub mod OwnNumbers
+pub mod Tables
+pub mod Laminars
+pub mod Middlemen
+pub mod Kinds
+pub mod Firms
+pub mod FirstFailure
+pub mod Laws

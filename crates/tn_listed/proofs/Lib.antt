@@ -1,0 +1,5 @@
+pub mod BesideLemmas
+pub mod NameLeads
+pub mod ListingLeads
+pub mod NameStops
+pub mod ListingStops

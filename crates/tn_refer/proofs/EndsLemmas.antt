@@ -1,0 +1,140 @@
+-- The trades of a list in their order, and the sides on which a firm stands in them.
+use Rattle.std.proofs.Common.{◌≡◌, ℕ, zero, suc, ◌+◌, ◌<◌, Bool, true, false, List, [], ◌∷◌, ◌++◌, length, take, get_or, slice_get, Option, Some, None, is_some, ◌⊎◌, inl, inr, refl, sym, ap, subst, ◌∙◌, add-one, arith, length-append}
+use Rattle.std.specs.Prelude.{nat_eq, cond, IfOk, Result, Ok, Err}
+use Rattle.std.specs.List.{cons_option}
+use Rattle.std.proofs.lemmas.Option.{none-some, same_Some, slice_get_within}
+use Rattle.std.proofs.lemmas.Bool.{eqb-true}
+use Rattle.tn_base.specs.declared.side.Side.{Side}
+use Rattle.tn_base.specs.declared.side.Side.TheVariants.{Buy, Sell}
+use Rattle.tn_market.specs.declared.ends.Ends.{Ends}
+use Rattle.tn_shape.specs.declared.error.ReadError.{ReadError}
+use Rattle.tn_refer.specs.References.{position_in, position_on}
+use Rattle.tn_refer.specs.Ordered.{side_in, sides_of, ComesNext, AreInOrder}
+
+-- what stands in a list once an item is last
+pub push_cases : {A : Type 0} (es : List A) (e x : A) (k : ℕ) → slice_get (es ++ e ∷ []) k ≡ Some x
+    → (slice_get es k ≡ Some x) ⊎ ((k ≡ length es) × (e ≡ x))
+push_cases [] e x zero is = inr (refl, same_Some _ _ is)
+push_cases [] e x (suc k) is = absurd (none-some _ is)
+push_cases (y ∷ ys) e x zero is = inl is
+push_cases (y ∷ ys) e x (suc k) is = elim (push_cases ys e x k is) [ inl h ↦ inl h | inr h ↦ inr (ap suc h.0, h.1) ]
+
+pub take-push : (es : List Ends) (e x : Ends) (k : ℕ) → slice_get es k ≡ Some x → take k (es ++ e ∷ []) ≡ take k es
+take-push [] e x k is = absurd (none-some _ is)
+take-push (y ∷ ys) e x zero is = refl
+take-push (y ∷ ys) e x (suc k) is = ap (λ zs. y ∷ zs) (take-push ys e x k is)
+
+pub take-whole_push : (es : List Ends) (e : Ends) → take (length es) (es ++ e ∷ []) ≡ es
+take-whole_push [] e = refl
+take-whole_push (y ∷ ys) e = ap (λ zs. y ∷ zs) (take-whole_push ys e)
+
+-- one more trade that comes next
+pub AreInOrder-push : (firms : ℕ) (es : List Ends) (e : Ends) → AreInOrder firms es → ComesNext firms es e → AreInOrder firms (es ++ e ∷ [])
+AreInOrder-push firms es e order next t trade is =
+    elim (push_cases es e trade t is) [
+      | inl h ↦ subst (λ (before : List Ends). ComesNext firms before trade) (sym (take-push es e trade t h)) (order t trade h)
+      | inr h ↦ subst (λ (k : ℕ). ComesNext firms (take k (es ++ e ∷ [])) trade) (sym h.0)
+          (subst (λ (before : List Ends). ComesNext firms before trade) (sym (take-whole_push es e)) (subst (ComesNext firms es) h.1 next))
+    ]
+
+-- the sides of a firm in one trade more
+module _ (f : ℕ) where
+  abbrev pub with_next : Option Side → List Side → List Side
+  with_next None sides = sides
+  with_next (Some side) sides = sides ++ side ∷ []
+
+  front-next : (first next : Option Side) (sides : List Side) → cons_option first (with_next next sides) ≡ with_next next (cons_option first sides)
+  front-next None None sides = refl
+  front-next None (Some t) sides = refl
+  front-next (Some s) None sides = refl
+  front-next (Some s) (Some t) sides = refl
+
+  pub sides_of-next : (es : List Ends) (k : ℕ) (d : Ends) → k < length es → sides_of (take (suc k) es) f ≡ with_next (side_in f (get_or es k d)) (sides_of (take k es) f)
+  unfolding sides_of
+  sides_of-next [] k d h = absurd (omega (arith, h))
+  sides_of-next (e ∷ es) zero d h = front-nil (side_in f e)
+    where
+      front-nil : (side : Option Side) → cons_option side [] ≡ with_next side []
+      front-nil None = refl
+      front-nil (Some s) = refl
+  sides_of-next (e ∷ es) (suc k) d h = ap (cons_option (side_in f e)) (sides_of-next es k d (omega (arith, h))) ∙ front-next (side_in f e) (side_in f (get_or es k d)) (sides_of (take k es) f)
+
+  pub sides_of-own : (es : List Ends) (k : ℕ) (d : Ends) (side : Side) → k < length es → side_in f (get_or es k d) ≡ Some side → sides_of (take (k + 1) es) f ≡ sides_of (take k es) f ++ side ∷ []
+  sides_of-own es k d side h is = ap (λ (n : ℕ). sides_of (take n es) f) (add-one k) ∙ sides_of-next es k d h ∙ ap (λ (next : Option Side). with_next next (sides_of (take k es) f)) is
+
+  pub sides_of-other : (es : List Ends) (k : ℕ) (d : Ends) → k < length es → side_in f (get_or es k d) ≡ None → sides_of (take (k + 1) es) f ≡ sides_of (take k es) f
+  sides_of-other es k d h is = ap (λ (n : ℕ). sides_of (take n es) f) (add-one k) ∙ sides_of-next es k d h ∙ ap (λ (next : Option Side). with_next next (sides_of (take k es) f)) is
+
+pub sides_of-none : (f : ℕ) → sides_of [] f ≡ []
+unfolding sides_of
+sides_of-none f = refl
+
+pub count-own : (f : ℕ) (es : List Ends) (k : ℕ) (d : Ends) → k < length es → is_some (side_in f (get_or es k d)) ≡ true → length (sides_of (take (k + 1) es) f) ≡ length (sides_of (take k es) f) + 1
+count-own f es k d h is = by_side (side_in f (get_or es k d)) refl is
+  where
+    by_side : (side : Option Side) → side_in f (get_or es k d) ≡ side → is_some side ≡ true → length (sides_of (take (k + 1) es) f) ≡ length (sides_of (take k es) f) + 1
+    by_side None e there = absurd cc
+    by_side (Some s) e there = ap length (sides_of-own f es k d s h e) ∙ omega (arith, length-append (sides_of (take k es) f) (s ∷ []))
+
+pub count-other : (f : ℕ) (es : List Ends) (k : ℕ) (d : Ends) → k < length es → is_some (side_in f (get_or es k d)) ≡ false → length (sides_of (take (k + 1) es) f) ≡ length (sides_of (take k es) f)
+count-other f es k d h is = by_side (side_in f (get_or es k d)) refl is
+  where
+    by_side : (side : Option Side) → side_in f (get_or es k d) ≡ side → is_some side ≡ false → length (sides_of (take (k + 1) es) f) ≡ length (sides_of (take k es) f)
+    by_side None e there = ap length (sides_of-other f es k d h e)
+    by_side (Some s) e there = absurd cc
+
+-- a firm stands in a trade on the side that its own trades have at the trade's position
+pub own_side : (f : ℕ) (es : List Ends) (t : ℕ) (e : Ends) (side : Side) → slice_get es t ≡ Some e → side_in f e ≡ Some side
+    → slice_get (sides_of es f) (length (sides_of (take t es) f)) ≡ Some side
+unfolding sides_of
+own_side f [] t e side is at = absurd (none-some _ is)
+own_side f (x ∷ es) zero e side is at = ap (λ (s : Option Side). slice_get (cons_option s (sides_of es f)) 0) (ap (side_in f) (same_Some _ _ is) ∙ at)
+own_side f (x ∷ es) (suc t) e side is at = after (side_in f x) (own_side f es t e side is at)
+  where
+    after : (first : Option Side) → slice_get (sides_of es f) (length (sides_of (take t es) f)) ≡ Some side
+        → slice_get (cons_option first (sides_of es f)) (length (cons_option first (sides_of (take t es) f))) ≡ Some side
+    after None is = is
+    after (Some s) is = is
+
+-- the position of an own trade, and its side
+module _ (firms f : ℕ) (es : List Ends) (t : ℕ) (e : Ends) (order : AreInOrder firms es) (is : slice_get es t ≡ Some e) where
+  by_tests : (sells buys : Bool) (k : ℕ) → nat_eq e.seller f ≡ sells → nat_eq e.buyer f ≡ buys
+      → cond sells (Some e.at_seller) (cond buys (Some e.at_buyer) None) ≡ Some k
+      → (side : Side) × (cond sells (Some Sell) (cond buys (Some Buy) None) ≡ Some side) × (k ≡ length (sides_of (take t es) f))
+  by_tests true buys k seller buyer at = (Sell, refl, same_Some _ _ (sym at) ∙ (order t e is).at_seller ∙ ap (λ (g : ℕ). length (sides_of (take t es) g)) (eqb-true e.seller f seller))
+  by_tests false true k seller buyer at = (Buy, refl, same_Some _ _ (sym at) ∙ (order t e is).at_buyer ∙ ap (λ (g : ℕ). length (sides_of (take t es) g)) (eqb-true e.buyer f buyer))
+  by_tests false false k seller buyer at = absurd (none-some _ at)
+
+  pub own_position : (k : ℕ) → position_in f e ≡ Some k → (side : Side) × (side_in f e ≡ Some side) × (k ≡ length (sides_of (take t es) f))
+  own_position k at = by_tests (nat_eq e.seller f) (nat_eq e.buyer f) k refl refl at
+
+  -- the side of the own trade at that position
+  pub side_at_position : (k : ℕ) → position_in f e ≡ Some k → (side : Side) × (side_in f e ≡ Some side) × (slice_get (sides_of es f) k ≡ Some side)
+  side_at_position k at =
+      let own = own_position k at in
+      (own.0, own.1, ap (slice_get (sides_of es f)) own.2 ∙ own_side f es t e own.0 is own.1)
+
+  pub position_within : (k : ℕ) → position_in f e ≡ Some k → k < length (sides_of es f)
+  position_within k at =
+      let own = side_at_position k at in
+      slice_get_within (sides_of es f) k own.0 own.2
+
+  -- where it stands on a given side
+  sold : (sells : Bool) (k : ℕ) (rest : Option ℕ) → cond sells (Some e.at_seller) None ≡ Some k → cond sells (Some e.at_seller) rest ≡ Some k
+  sold true k rest at = at
+  sold false k rest at = absurd (none-some k at)
+
+  bought : (sells buys : Bool) (k : ℕ) → nat_eq e.seller f ≡ sells → nat_eq e.buyer f ≡ buys → cond buys (Some e.at_buyer) None ≡ Some k
+      → cond sells (Some e.at_seller) (cond buys (Some e.at_buyer) None) ≡ Some k
+  bought false buys k seller buyer at = at
+  bought true true k seller buyer at = absurd ((order t e is).apart (eqb-true e.seller f seller ∙ sym (eqb-true e.buyer f buyer)))
+  bought true false k seller buyer at = absurd (none-some k at)
+
+  pub position_on-within : (side : Option Side) (k : ℕ) → position_on side f e ≡ Some k → k < length (sides_of es f)
+  position_on-within None k at = position_within k at
+  position_on-within (Some Sell) k at = position_within k (sold (nat_eq e.seller f) k (cond (nat_eq e.buyer f) (Some e.at_buyer) None) at)
+  position_on-within (Some Buy) k at = position_within k (bought (nat_eq e.seller f) (nat_eq e.buyer f) k refl refl at)
+
+pub found_within : (r : Result ℕ ReadError) (position : Option ℕ) (n : ℕ) → IfOk r (λ k. position ≡ Some k) → ((k : ℕ) → position ≡ Some k → k < n) → IfOk r (λ k. k < n)
+found_within (Ok k) position n found within = within k found
+found_within (Err e) position n found within = tt

@@ -1,0 +1,3 @@
+pub mod Ordered
+pub mod References
+pub mod Entries

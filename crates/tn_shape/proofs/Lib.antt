@@ -1,0 +1,6 @@
+pub mod ShapeLemmas
+pub mod EachLemmas
+pub mod LeadLemmas
+pub mod ShapeLeads
+pub mod StopLemmas
+pub mod ShapeStops

@@ -1,0 +1,75 @@
+//! The members that an object may have.
+
+ghost use Rattle.std.specs.Prelude.{◌≡◌, map, string_bytes, bytes_eq};
+ghost use Rattle.std.specs.List.{list_all, list_any};
+ghost use Rattle.serde_json.specs.View.{members_view};
+ghost use Rattle.tn_shape.specs.Members.{allows, allows_all};
+
+use serde_json::{Map, Value};
+
+/// The kinds of firms.
+#[derive(Clone, Copy)]
+pub enum FirmKind {
+    Table,
+    Laminar,
+    Middleman,
+}
+
+/// The objects of a document whose members are fixed.
+#[derive(Clone, Copy)]
+pub enum ObjectKind {
+    Top,
+    Trade,
+    Firm(FirmKind),
+    LaminarSet,
+    Arrangement,
+}
+
+/// Whether an object of a kind has allowed members alone.
+pub(crate) fn allows_all(kind: ObjectKind, members: &Map<String, Value>) -> bool
+    ensures { result ≡ allows_all kind (members_view members.now.entries) }
+{
+    allows_keys(kind, members)
+}
+
+fn allows_keys(kind: ObjectKind, members: &Map<String, Value>) -> bool
+    ensures { result ≡ list_all (λ k. allows kind (string_bytes k)) (map (λ m. m.0) members.now.entries) }
+{
+    members.keys().all(|key| allows(kind, key.as_str()))
+}
+
+#[tactic(auto, unfolding(crate::specs::Members::allows))]
+fn allows(kind: ObjectKind, word: &str) -> bool
+    ensures { result ≡ allows kind word.now }
+{
+    match kind {
+        ObjectKind::Top => is_one_of(
+            word,
+            &[
+                "version",
+                "firms",
+                "trades",
+                "arrangement",
+                "outcome",
+                "claim",
+                "note",
+            ],
+        ),
+        ObjectKind::Trade => is_one_of(word, &["name", "seller", "buyer", "note"]),
+        ObjectKind::Firm(FirmKind::Table) => is_one_of(word, &["name", "kind", "rows", "note"]),
+        ObjectKind::Firm(FirmKind::Laminar) => {
+            is_one_of(word, &["name", "kind", "amounts", "sets", "note"])
+        }
+        ObjectKind::Firm(FirmKind::Middleman) => {
+            is_one_of(word, &["name", "kind", "costs", "gains", "keep", "note"])
+        }
+        ObjectKind::LaminarSet => is_one_of(word, &["trades", "from", "values"]),
+        ObjectKind::Arrangement => is_one_of(word, &["on", "prices"]),
+    }
+}
+
+fn is_one_of(word: &str, words: &[&str]) -> bool
+    ensures { result ≡ list_any (λ w. bytes_eq word.now w.now) words.now }
+{
+    words.iter().any(|one| word == *one)
+}
