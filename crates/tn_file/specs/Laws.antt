@@ -1,20 +1,15 @@
 -- What holds of every document that is read, and of every fault, in words that know nothing of the reading.
-use Rattle.std.specs.Prelude.{◌≡◌, ◌≢◌, ℕ, ◌<◌, ◌≤◌, List, length, slice_get, true, Some, Ok, Err}
+use Rattle.std.specs.Prelude.{◌≡◌, ◌≢◌, ℕ, ◌≤◌, List, length, slice_get, true, Some, Ok, Err}
 use Rattle.tn_base.specs.declared.fault.FaultKind.TheVariants.{TooLong}
 use Rattle.tn_base.specs.Firm.{Firm, HasOwnBundles, MayAbstain}
-use Rattle.tn_market.specs.declared.ends.Ends.{Ends}
 use Rattle.tn_market.specs.Accepted.{AreAccepted}
-use Rattle.tn_market.specs.Network.{IsNetwork, own}
+use Rattle.tn_market.specs.Network.{IsNetwork, HaveAscendingPositions}
 use Rattle.tn_names.specs.Names.{IsNameList}
 use Rattle.tn_file.specs.declared.need.Need.{Need}
 use Rattle.tn_listed.specs.Beside.{Stop, IsStop}
 use Rattle.tn_file.specs.Document.{DocumentData, ExtraData, nothing, arrangement, is_tested, reading_of}
 use Rattle.tn_kinds.specs.Laws.{IsListedFirm}
 use Rattle.tn_extra.specs.Arranged.{IsArrangement}
-
--- at a later position of a firm stands a later trade
-abbrev pub HaveAscendingPositions : List Firm → List Ends → Type 0
-HaveAscendingPositions firms trades = (f i j : ℕ) (firm : Firm) → slice_get firms f ≡ Some firm → i < j → j < firm.count → own trades f i < own trades f j
 
 abbrev pub IsExtra : ℕ → ExtraData → Type 0
 IsExtra trades nothing = Unit {0}
