@@ -60,18 +60,14 @@ fn shown_fault_value(
     ensures { IfOk result
         (λ value. view value ≡ fault_data names.now.trades fault.now (Some shown.now)) }
 {
-    let at = option_value(alloc, names, shown.at)?;
-    let place = place_value(alloc, names, &fault.place)?;
-    let x = trades_value(alloc, names, &shown.x)?;
-    let y = trades_value(alloc, names, &shown.y)?;
     json!(in alloc; {
         "answer": "fault",
-        "at": at,
+        "at": option_value(alloc, names, shown.at)?,
         "fault": fault.kind.number(),
         "name": kind_name(fault.kind),
-        "place": place,
-        "x": x,
-        "y": y,
+        "place": place_value(alloc, names, &fault.place)?,
+        "x": trades_value(alloc, names, &shown.x)?,
+        "y": trades_value(alloc, names, &shown.y)?,
     })
 }
 
@@ -120,15 +116,12 @@ fn exchange_fails_value(
     ensures { IfOk result
         (λ value. view value ≡ answer_data names.now (Said.ExchangeFails firm x.now y.now at)) }
 {
-    let at = option_value(alloc, names, at)?;
-    let x = trades_value(alloc, names, x)?;
-    let y = trades_value(alloc, names, y)?;
     json!(in alloc; {
         "answer": "exchange_fails",
-        "at": at,
+        "at": option_value(alloc, names, at)?,
         "firm": firm_name(names, firm),
-        "x": x,
-        "y": y,
+        "x": trades_value(alloc, names, x)?,
+        "y": trades_value(alloc, names, y)?,
     })
 }
 
