@@ -1,5 +1,7 @@
 -- Where an answer names no firm and no trade, names don't matter.
-use Rattle.std.proofs.Common.{◌≡◌, ℕ, Bool, true, false, ◌&&◌, List, [], ◌∷◌, ◌++◌, map, codes, Option, None, Some, is_none, refl, ap, true≢false, sym}
+use Rattle.std.proofs.Common.{◌≡◌, ℕ, Bool, true, false, ◌&&◌, List, [], ◌∷◌, ◌++◌, map, codes, Option, None, Some, is_none, refl, ap, true≢false, sym, arith, FitsSigned, ℤ}
+use Rattle.std.specs.Int.{w64}
+use Rattle.std.proofs.lemmas.Int.{ints}
 use Rattle.std.specs.List.{list_all}
 use Rattle.serde_json.specs.Data.{array, member, no_members}
 use Rattle.serde_json.specs.View.{items_of}
@@ -12,6 +14,8 @@ use Rattle.tn_market.specs.declared.said.Said.{Said}
 use Rattle.tn_market.specs.declared.said.Said.TheVariants.{Usage, ReadFault, NoMemory, Fault as FaultIs, Equilibrium, Better, Impossible, Accepted, ExchangeFails}
 use Rattle.tn_names.specs.Names.{NameLists}
 use Rattle.tn_answer.specs.AnswerText.{names_data, option_data, step_data, answer, fault_members, fault_data, answer_data, answer_line}
+use Rattle.tn_answer.specs.Sayable.{IsSayable}
+use Rattle.tn_answer.specs.Kept.{IsWithinClaim, IsWithinClaims}
 use Rattle.tn_answer.specs.Laws.{are_none, names_no_trade_at, names_no_trade_in, names_nothing}
 
 both : (a b : Bool) → (a && b) ≡ true → (a ≡ true) × (b ≡ true)
@@ -64,3 +68,19 @@ same_data (ExchangeFails firm x y at) names others e = absurd (true≢false (sym
 pub same_line : (said : Said) (names others : NameLists) → names_nothing said ≡ true → answer_line names said ≡ answer_line others said
 unfolding answer_line
 same_line said names others e = ap (λ d. compact_text d ++ 10 ∷ []) (same_data said names others e)
+
+-- ---- within the limits of claims
+
+fits_from_within : (z : ℤ) → IsWithinClaim z → FitsSigned w64 z
+fits_from_within z within = omega (arith, ints, within.low, within.high)
+
+pub within_sayable : (said : Said) → IsWithinClaims said → IsSayable said
+within_sayable Usage within = tt
+within_sayable ReadFault within = tt
+within_sayable NoMemory within = tt
+within_sayable (FaultIs fault) within = tt
+within_sayable (Equilibrium surplus) within = fits_from_within surplus within
+within_sayable (Better firm bundle gain) within = fits_from_within gain within
+within_sayable (Impossible firm) within = tt
+within_sayable Accepted within = tt
+within_sayable (ExchangeFails firm x y at) within = tt

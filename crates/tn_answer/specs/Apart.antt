@@ -1,29 +1,40 @@
 -- Different answers over the same names have different texts.
-use Rattle.std.specs.Prelude.{◌≡◌, ℕ, List, All, IfSome, slice_get, Some}
+use Rattle.std.specs.Prelude.{◌≡◌, ℕ, List, All, IfSome, slice_get, Some, FitsSigned}
+use Rattle.std.specs.Int.{w64}
 use Rattle.std.specs.List.{AllZip}
 use Rattle.tn_market.specs.declared.place.PlaceStep.{PlaceStep}
 use Rattle.tn_market.specs.declared.place.PlaceStep.TheVariants.{Word, Trade}
 use Rattle.tn_market.specs.declared.said.Fault.{Fault}
 use Rattle.tn_market.specs.declared.said.Said.{Said}
-use Rattle.tn_market.specs.declared.said.Said.TheVariants.{Fault as FaultIs, Better, Impossible, ExchangeFails}
+use Rattle.tn_market.specs.declared.said.Said.TheVariants.{Usage, ReadFault, NoMemory, Fault as FaultIs, Equilibrium, Better, Impossible, Accepted, ExchangeFails}
 use Rattle.tn_names.specs.Names.{NameLists, IsNameList}
 use Rattle.tn_answer.specs.Words.{word_text}
-use Rattle.tn_answer.specs.Sayable.{IsSayable}
 use Rattle.tn_names.specs.Named.{IsNamed, IsNamedStep, IsNamedTriple, HasShortIndex}
 use Rattle.tn_answer.specs.AnswerText.{answer_line}
 
 -- an answer speaks only of firms and trades that have a name
 abbrev pub IsNamedAnswer : NameLists → Said → Type 0
+IsNamedAnswer names Usage = Unit {0}
+IsNamedAnswer names ReadFault = Unit {0}
+IsNamedAnswer names NoMemory = Unit {0}
 IsNamedAnswer names (FaultIs fault) = All (IsNamedStep names.trades) fault.place × IfSome fault.shown (IsNamedTriple names.trades)
+IsNamedAnswer names (Equilibrium surplus) = Unit {0}
 IsNamedAnswer names (Better firm bundle gain) = IsNamed names.firms firm × All (IsNamed names.trades) bundle
 IsNamedAnswer names (Impossible firm) = IsNamed names.firms firm
+IsNamedAnswer names Accepted = Unit {0}
 IsNamedAnswer names (ExchangeFails firm x y at) = IsNamed names.firms firm × IsNamedTriple names.trades (record { x = x; y = y; at = at })
-IsNamedAnswer names _ = Unit {0}
 
 -- the numbers of an answer fit 64 bits
 abbrev pub HasShortNumbers : Said → Type 0
+HasShortNumbers Usage = Unit {0}
+HasShortNumbers ReadFault = Unit {0}
+HasShortNumbers NoMemory = Unit {0}
 HasShortNumbers (FaultIs fault) = All HasShortIndex fault.place
-HasShortNumbers said = IsSayable said
+HasShortNumbers (Equilibrium surplus) = FitsSigned w64 surplus
+HasShortNumbers (Better firm bundle gain) = FitsSigned w64 gain
+HasShortNumbers (Impossible firm) = Unit {0}
+HasShortNumbers Accepted = Unit {0}
+HasShortNumbers (ExchangeFails firm x y at) = Unit {0}
 
 -- steps of a place are written alike: a trade and a member of the same name, or equal steps
 abbrev pub IsSameStep : List (List ℕ) → PlaceStep → PlaceStep → Type 0

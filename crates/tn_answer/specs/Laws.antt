@@ -2,16 +2,19 @@
 use Rattle.std.specs.Prelude.{◌≡◌, ℕ, Bool, true, false, ◌&&◌, List, [], ◌∷◌, Option, None, Some, is_none}
 use Rattle.std.specs.List.{list_all}
 use Rattle.tn_market.specs.declared.place.PlaceStep.{PlaceStep}
-use Rattle.tn_market.specs.declared.place.PlaceStep.TheVariants.{Trade}
+use Rattle.tn_market.specs.declared.place.PlaceStep.TheVariants.{Word, Index, Trade}
 use Rattle.tn_market.specs.declared.said.Shown.{Shown}
 use Rattle.tn_market.specs.declared.said.Said.{Said}
-use Rattle.tn_market.specs.declared.said.Said.TheVariants.{Fault as FaultIs, Better, Impossible, ExchangeFails}
+use Rattle.tn_market.specs.declared.said.Said.TheVariants.{Usage, ReadFault, NoMemory, Fault as FaultIs, Equilibrium, Better, Impossible, Accepted, ExchangeFails}
 use Rattle.tn_names.specs.Names.{NameLists}
+use Rattle.tn_answer.specs.Sayable.{IsSayable}
+use Rattle.tn_answer.specs.Kept.{IsWithinClaims}
 use Rattle.tn_answer.specs.AnswerText.{answer_line}
 
 abbrev pub names_no_trade_at : PlaceStep → Bool
+names_no_trade_at (Word word) = true
+names_no_trade_at (Index k) = true
 names_no_trade_at (Trade t) = false
-names_no_trade_at _ = true
 
 abbrev pub are_none : List ℕ → Bool
 are_none [] = true
@@ -23,12 +26,20 @@ names_no_trade_in (Some shown) = are_none shown.x && are_none shown.y && is_none
 
 -- whether an answer names no firm and no trade
 abbrev pub names_nothing : Said → Bool
+names_nothing Usage = true
+names_nothing ReadFault = true
+names_nothing NoMemory = true
 names_nothing (FaultIs fault) = list_all names_no_trade_at fault.place && names_no_trade_in fault.shown
+names_nothing (Equilibrium surplus) = true
 names_nothing (Better firm bundle gain) = false
 names_nothing (Impossible firm) = false
+names_nothing Accepted = true
 names_nothing (ExchangeFails firm x y at) = false
-names_nothing _ = true
 
 -- the text of such an answer is the same over any names
 abbrev pub NeedsNoNames : Type 0
 NeedsNoNames = (said : Said) (names others : NameLists) → names_nothing said ≡ true → answer_line names said ≡ answer_line others said
+
+-- an answer within the limits of claims can be written
+abbrev pub IsSayableWithinClaims : Type 0
+IsSayableWithinClaims = (said : Said) → IsWithinClaims said → IsSayable said

@@ -2,9 +2,15 @@
 use Rattle.std.specs.Prelude.{FitsSigned}
 use Rattle.std.specs.Int.{w64}
 use Rattle.tn_market.specs.declared.said.Said.{Said}
-use Rattle.tn_market.specs.declared.said.Said.TheVariants.{Equilibrium, Better}
+use Rattle.tn_market.specs.declared.said.Said.TheVariants.{Usage, ReadFault, NoMemory, Fault as FaultIs, Equilibrium, Better, Impossible, Accepted, ExchangeFails}
 
 abbrev pub IsSayable : Said → Type 0
+IsSayable Usage = Unit {0}
+IsSayable ReadFault = Unit {0}
+IsSayable NoMemory = Unit {0}
+IsSayable (FaultIs fault) = Unit {0}
 IsSayable (Equilibrium surplus) = FitsSigned w64 surplus
 IsSayable (Better firm bundle gain) = FitsSigned w64 gain
-IsSayable _ = Unit {0}
+IsSayable (Impossible firm) = Unit {0}
+IsSayable Accepted = Unit {0}
+IsSayable (ExchangeFails firm x y at) = Unit {0}

@@ -1,5 +1,5 @@
 ghost use Rattle.tn_answer.specs.Apart.{AnswersAreToldApart};
-ghost use Rattle.tn_answer.specs.Laws.{NeedsNoNames};
+ghost use Rattle.tn_answer.specs.Laws.{IsSayableWithinClaims, NeedsNoNames};
 
 /// Answers of one text over the same names are equal, but for a step of a fault's place that is a member in one and a
 /// trade of the same name in the other.
@@ -10,4 +10,9 @@ pub fn answers_are_told_apart()
 /// The text of an answer that names no firm and no trade doesn't depend on names.
 pub fn some_answers_need_no_names()
     ensures { NeedsNoNames }
+{}
+
+/// An answer whose numbers are within the limits of claims can be written.
+pub fn answers_within_claims_are_sayable()
+    ensures { IsSayableWithinClaims }
 {}

@@ -8,6 +8,8 @@ mod text;
 mod values;
 mod words;
 
-pub use laws::{answers_are_told_apart, some_answers_need_no_names};
+pub use laws::{
+    answers_are_told_apart, answers_within_claims_are_sayable, some_answers_need_no_names,
+};
 pub use text::{answer_text, no_memory_text, read_fault_text, usage_text};
 pub use tn_names::{Names, is_name};

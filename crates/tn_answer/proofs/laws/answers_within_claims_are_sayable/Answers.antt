@@ -1,0 +1,5 @@
+use Rattle.tn_answer.proofs.LawLemmas.{within_sayable}
+use Rattle.tn_answer.proofs.laws.answers_within_claims_are_sayable.Goals as goal
+
+pub returns : goal.returns
+returns c = within_sayable

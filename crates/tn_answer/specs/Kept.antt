@@ -1,0 +1,40 @@
+-- What the program's answers keep to: how large their numbers are, and how their lists of trades are ordered.
+use Rattle.std.specs.Prelude.{◌^◌, ℤ, IfSome}
+use Rattle.std.specs.List.Sorted.{IsStrictlyIncreasing}
+use Rattle.tn_base.specs.Arcs.{IsAtMost}
+use Rattle.tn_market.specs.declared.said.Shown.{Shown}
+use Rattle.tn_market.specs.declared.said.Said.{Said}
+use Rattle.tn_market.specs.declared.said.Said.TheVariants.{Usage, ReadFault, NoMemory, Fault as FaultIs, Equilibrium, Better, Impossible, Accepted, ExchangeFails}
+
+-- no number of a claim is above this size
+abbrev pub IsWithinClaim : ℤ → Type 0
+IsWithinClaim z = IsAtMost z (10 ^ 18)
+
+-- the numbers of an answer are within the limits of claims
+abbrev pub IsWithinClaims : Said → Type 0
+IsWithinClaims Usage = Unit {0}
+IsWithinClaims ReadFault = Unit {0}
+IsWithinClaims NoMemory = Unit {0}
+IsWithinClaims (FaultIs fault) = Unit {0}
+IsWithinClaims (Equilibrium surplus) = IsWithinClaim surplus
+IsWithinClaims (Better firm bundle gain) = IsWithinClaim gain
+IsWithinClaims (Impossible firm) = Unit {0}
+IsWithinClaims Accepted = Unit {0}
+IsWithinClaims (ExchangeFails firm x y at) = Unit {0}
+
+-- the trades of both bundles ascend strictly
+pub record IsAscendingTriple (shown : Shown) : Type 0 where
+  pub x : IsStrictlyIncreasing shown.x
+  pub y : IsStrictlyIncreasing shown.y
+
+-- each list of trades in an answer ascends strictly
+abbrev pub HasAscendingTrades : Said → Type 0
+HasAscendingTrades Usage = Unit {0}
+HasAscendingTrades ReadFault = Unit {0}
+HasAscendingTrades NoMemory = Unit {0}
+HasAscendingTrades (FaultIs fault) = IfSome fault.shown IsAscendingTriple
+HasAscendingTrades (Equilibrium surplus) = Unit {0}
+HasAscendingTrades (Better firm bundle gain) = IsStrictlyIncreasing bundle
+HasAscendingTrades (Impossible firm) = Unit {0}
+HasAscendingTrades Accepted = Unit {0}
+HasAscendingTrades (ExchangeFails firm x y at) = IsAscendingTriple (record { x = x; y = y; at = at })
