@@ -7,8 +7,9 @@ use Rattle.tn_run.specs.declared.command.Command.{Command}
 use Rattle.tn_run.specs.declared.command.Command.TheVariants.{Check, Test}
 
 abbrev pub command_of : List (List ℕ) → Option Command
+command_of [] = None
 command_of (word ∷ []) = if bytes_eq word (codes "check") then Some Check else (if bytes_eq word (codes "test") then Some Test else None)
-command_of _ = None
+command_of (word ∷ next ∷ words) = None
 
 abbrev pub need_of : Command → Need
 need_of Check = Arrangement
