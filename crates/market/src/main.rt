@@ -1,10 +1,10 @@
-//! The program: standard input to standard output by the top call.
+//! The program: its words, and standard input to standard output by the top call.
 #![tactic(auto)]
 
 use std::env;
 use std::process::ExitCode;
 use tn_io::{StdSink, StdSource};
-use tn_run::run_market;
+use tn_run::run_to_exit;
 
 /// The exit status where the system doesn't give the words.
 const NO_WORDS: u8 = 7;
@@ -18,6 +18,5 @@ fn main(rt: HostRuntime) -> ExitCode {
     };
     let mut source = StdSource::new(rt.stdin());
     let mut sink = StdSink::new(rt.stdout());
-    let run = run_market(rt.alloc(), words.as_slice(), &mut source, &mut sink);
-    ExitCode::from(run.status)
+    run_to_exit(rt.alloc(), words.as_slice(), &mut source, &mut sink)
 }

@@ -3,3 +3,4 @@ pub mod CheckLemmas
 pub mod TestLemmas
 pub mod TakenLemmas
 pub mod NamedLemmas
+pub mod CompleteLemmas

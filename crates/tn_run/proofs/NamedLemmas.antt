@@ -12,7 +12,8 @@ use Rattle.tn_market.specs.Verdict.{Judges}
 use Rattle.tn_answer.specs.Apart.{HasShortNumbers, IsNamedAnswer}
 use Rattle.tn_names.specs.Names.{NameLists}
 use Rattle.tn_names.specs.Named.{IsNamed}
-use Rattle.tn_answer.specs.Sayable.{IsSayable}
+use Rattle.tn_answer.specs.Kept.{IsWithinClaims}
+use Rattle.tn_answer.proofs.LawLemmas.{within_sayable}
 use Rattle.tn_file.specs.declared.document.DocRefusal.{DocRefusal}
 use Rattle.tn_file.specs.declared.need.Need.{Need}
 use Rattle.tn_file.specs.Document.{DocumentData, ExtraData, nothing, arrangement, reading_of}
@@ -95,17 +96,17 @@ no_fault Check doc fault answer = by_extra doc.extra answer
     by_extra (arrangement at) checks = checks.0
 no_fault Test doc fault answer = answer
 
--- and its numbers are short where it can be written
-pub document_short : (command : Command) (doc : DocumentData) (said : Said) → IsAnswerOf command doc said → IsSayable said → HasShortNumbers said
-document_short command doc (Fault fault) answer sayable = absurd (no_fault command doc fault answer)
-document_short command doc (Equilibrium surplus) answer sayable = sayable
-document_short command doc (Better f bundle gain) answer sayable = sayable
-document_short command doc (Impossible f) answer sayable = sayable
-document_short command doc Usage answer sayable = sayable
-document_short command doc ReadFault answer sayable = sayable
-document_short command doc NoMemory answer sayable = sayable
-document_short command doc Accepted answer sayable = sayable
-document_short command doc (ExchangeFails f x y at) answer sayable = sayable
+-- and its numbers are short within the limits of claims
+pub document_short : (command : Command) (doc : DocumentData) (said : Said) → IsAnswerOf command doc said → IsWithinClaims said → HasShortNumbers said
+document_short command doc (Fault fault) answer within = absurd (no_fault command doc fault answer)
+document_short command doc (Equilibrium surplus) answer within = within_sayable (Equilibrium surplus) within
+document_short command doc (Better f bundle gain) answer within = within_sayable (Better f bundle gain) within
+document_short command doc (Impossible f) answer within = tt
+document_short command doc Usage answer within = tt
+document_short command doc ReadFault answer within = tt
+document_short command doc NoMemory answer within = tt
+document_short command doc Accepted answer within = tt
+document_short command doc (ExchangeFails f x y at) answer within = tt
 
 -- a document that was read for a command
 pub document_read : (command : Command) (need : Need) (bytes : List ℕ) (doc : DocumentData) → need ≡ need_of command → reading_of need bytes ≡ Ok doc → IsDocument (need_of command) doc

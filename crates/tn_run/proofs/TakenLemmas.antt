@@ -7,14 +7,14 @@ use Rattle.tn_io.specs.Source.{TakesAtMost}
 use Rattle.tn_io.proofs.Taken.{Consumes-TakesFirst}
 use Rattle.tn_names.specs.Names.{NameLists}
 use Rattle.tn_run.specs.declared.command.Command.{Command}
-use Rattle.tn_run.specs.Answer.{document_limit, AnswersWhole, FindsTooLong, MayBeSaid}
+use Rattle.tn_run.specs.Answer.{document_limit, AnswersBytes, MayBeSaid}
 
 -- what is within the limit is within one byte more
 one_past : (old new : Option (List ℕ)) → TakesAtMost old new document_limit → TakesAtMost old new (document_limit + 1)
 one_past old new taken = let few : taken.0 ≤ document_limit = taken.1 in (taken.0, omega (arith, few), taken.2)
 
 -- a document that is too long, or read whole, takes at most one byte more than the limit
-taken_or_long : (command : Command) (old new : Option (List ℕ)) (names : NameLists) (said : Said) → FindsTooLong old new said ⊎ AnswersWhole command old new names said
+taken_or_long : (command : Command) (old new : Option (List ℕ)) (names : NameLists) (said : Said) → AnswersBytes command old new names said
     → TakesAtMost old new (document_limit + 1)
 taken_or_long command old new names said answer = elim answer [
   | inl long ↦ (document_limit + 1, omega arith, long.taken)

@@ -4,7 +4,7 @@ use Rattle.std.specs.Io.KnownBytes.{Consumes, IsAtEnd}
 use Rattle.tn_base.specs.declared.fault.FaultKind.TheVariants.{TooLong}
 use Rattle.tn_base.specs.Firm.{Firm}
 use Rattle.tn_market.specs.declared.said.Said.{Said}
-use Rattle.tn_market.specs.declared.said.Said.TheVariants.{Usage, ReadFault, NoMemory, Fault, Equilibrium}
+use Rattle.tn_market.specs.declared.said.Said.TheVariants.{Usage, ReadFault, NoMemory, Fault, Equilibrium, Better, Impossible, Accepted, ExchangeFails}
 use Rattle.tn_market.specs.declared.ends.Ends.{Ends}
 use Rattle.tn_market.specs.Best.{price_at}
 use Rattle.tn_market.specs.Equilibrium.{IsEfficient}
@@ -26,8 +26,15 @@ document_limit = 4194304
 
 -- where it is said to be an equilibrium, no set of trades has a greater surplus
 abbrev pub IsEfficientWhereSaid : List Firm → List Ends → ℕ → Said → Type 0
+IsEfficientWhereSaid firms trades on Usage = Unit {0}
+IsEfficientWhereSaid firms trades on ReadFault = Unit {0}
+IsEfficientWhereSaid firms trades on NoMemory = Unit {0}
+IsEfficientWhereSaid firms trades on (Fault fault) = Unit {0}
 IsEfficientWhereSaid firms trades on (Equilibrium surplus) = IsEfficient firms trades on
-IsEfficientWhereSaid firms trades on _ = Unit {0}
+IsEfficientWhereSaid firms trades on (Better f bundle gain) = Unit {0}
+IsEfficientWhereSaid firms trades on (Impossible f) = Unit {0}
+IsEfficientWhereSaid firms trades on Accepted = Unit {0}
+IsEfficientWhereSaid firms trades on (ExchangeFails f x y at) = Unit {0}
 
 -- the verdict on the arrangement of a document, at scale 1
 abbrev pub ChecksExtra : DocumentData → ExtraData → Said → Type 0
@@ -59,15 +66,28 @@ pub record AnswersWhole (command : Command) (old new : Option (List ℕ)) (names
   pub firm_names : IsNameList names.firms
   pub trade_names : IsNameList names.trades
 
+-- that the document is too long
+abbrev pub too_long : Said
+too_long = Fault (record { kind = TooLong; place = []; shown = None })
+
 -- one byte more than the limit was taken
 pub record FindsTooLong (old new : Option (List ℕ)) (said : Said) : Type 0 where
-  pub said_is : said ≡ Fault (record { kind = TooLong; place = []; shown = None })
+  pub said_is : said ≡ too_long
   pub taken : TakesFirst old new (document_limit + 1)
+
+-- what is said of the bytes of a source: that they are too long, or the defined answer
+abbrev pub AnswersBytes : Command → Option (List ℕ) → Option (List ℕ) → NameLists → Said → Type 0
+AnswersBytes command old new names said = FindsTooLong old new said ⊎ AnswersWhole command old new names said
 
 -- what may be said after a command has read a source, by what the source told before and after, and by its counts of
 -- faults; memory may run out at any time, and even then at most one byte more than the limit was taken
 abbrev pub MayBeSaid : Command → Option (List ℕ) → Option (List ℕ) → ℕ → ℕ → NameLists → Said → Type 0
+MayBeSaid command old new faults_old faults_new names Usage = ⊥
 MayBeSaid command old new faults_old faults_new names ReadFault = Rose faults_old faults_new × TakesAtMost old new document_limit
 MayBeSaid command old new faults_old faults_new names NoMemory = TakesAtMost old new (document_limit + 1)
-MayBeSaid command old new faults_old faults_new names Usage = ⊥
-MayBeSaid command old new faults_old faults_new names said = FindsTooLong old new said ⊎ AnswersWhole command old new names said
+MayBeSaid command old new faults_old faults_new names (Fault fault) = AnswersBytes command old new names (Fault fault)
+MayBeSaid command old new faults_old faults_new names (Equilibrium surplus) = AnswersBytes command old new names (Equilibrium surplus)
+MayBeSaid command old new faults_old faults_new names (Better f bundle gain) = AnswersBytes command old new names (Better f bundle gain)
+MayBeSaid command old new faults_old faults_new names (Impossible f) = AnswersBytes command old new names (Impossible f)
+MayBeSaid command old new faults_old faults_new names Accepted = AnswersBytes command old new names Accepted
+MayBeSaid command old new faults_old faults_new names (ExchangeFails f x y at) = AnswersBytes command old new names (ExchangeFails f x y at)

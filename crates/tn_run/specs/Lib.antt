@@ -2,3 +2,4 @@ pub mod Words
 pub mod Tested
 pub mod Answer
 pub mod Run
+pub mod Complete

@@ -1,14 +1,13 @@
 //! The answer to the bytes of a document.
 
-ghost use Rattle.std.specs.Prelude.{◌≡◌, ◌≤◌, [], None, IfOk};
+ghost use Rattle.std.specs.Prelude.{◌≡◌, ◌≤◌, IfOk};
 ghost use Rattle.tn_answer.specs.Apart.{HasShortNumbers, IsNamedAnswer};
 ghost use Rattle.tn_names.specs.Names.{IsNameList};
-ghost use Rattle.tn_answer.specs.Sayable.{IsSayable};
-ghost use Rattle.tn_base.specs.declared.fault.FaultKind.TheVariants.{TooLong};
+ghost use Rattle.tn_answer.specs.Kept.{IsWithinClaims};
 ghost use Rattle.tn_file.specs.Document.{reading_of};
 ghost use Rattle.tn_file.specs.Laws.{IsDocument};
 ghost use Rattle.tn_file.specs.Refusal.{IsExtraFor, IsLoadedFor, document_view};
-ghost use Rattle.tn_run.specs.Answer.{IsAnswerOf, IsAnswerTo, MayBeSaid};
+ghost use Rattle.tn_run.specs.Answer.{IsAnswerOf, IsAnswerTo, MayBeSaid, too_long};
 ghost use Rattle.tn_run.specs.Words.{need_of};
 
 use crate::checking::check;
@@ -30,7 +29,7 @@ fn check_document(alloc: Global, doc: &Document) -> Result<Said, OutOfMemory>
     requires loaded { IsLoadedFor Need.Arrangement doc.now.firms }
     requires extra { IsExtraFor Need.Arrangement doc.now.extra }
     ensures answer { IfOk result (IsAnswerOf Command.Check (document_view doc.now)) }
-    ensures sayable { IfOk result IsSayable }
+    ensures within { IfOk result IsWithinClaims }
 {
     match &doc.firms {
         Loaded::Market(market) => match &doc.extra {
@@ -46,7 +45,7 @@ fn test_document(alloc: Global, doc: &Document) -> Result<Said, OutOfMemory>
     requires document { IsDocument Need.Raw (document_view doc.now) }
     requires loaded { IsLoadedFor Need.Raw doc.now.firms }
     ensures answer { IfOk result (IsAnswerOf Command.Test (document_view doc.now)) }
-    ensures sayable { IfOk result IsSayable }
+    ensures within { IfOk result IsWithinClaims }
 {
     match &doc.firms {
         Loaded::Raw(net) => test(alloc, net),
@@ -60,7 +59,7 @@ fn answer_document(alloc: Global, command: Command, doc: &Document) -> Result<Sa
     requires loaded { IsLoadedFor (need_of command) doc.now.firms }
     requires extra { IsExtraFor (need_of command) doc.now.extra }
     ensures answer { IfOk result (IsAnswerOf command (document_view doc.now)) }
-    ensures sayable { IfOk result IsSayable }
+    ensures within { IfOk result IsWithinClaims }
 {
     match command {
         Command::Check => check_document(alloc, doc),
@@ -80,7 +79,7 @@ fn answer_bytes(
     ensures short { IfOk result HasShortNumbers }
     ensures firm_names { IfOk result (λ _. IsNameList names.new.firms) }
     ensures trade_names { IfOk result (λ _. IsNameList names.new.trades) }
-    ensures sayable { IfOk result IsSayable }
+    ensures within { IfOk result IsWithinClaims }
 {
     match read_doc(alloc, need_of(command), bytes) {
         Ok(doc) => {
@@ -98,7 +97,7 @@ fn answer_bytes(
 
 /// The fault of a document that is too long.
 fn too_long(alloc: Global) -> Said
-    ensures { result ≡ Said.Fault (record { kind = TooLong; place = []; shown = None }) }
+    ensures { result ≡ too_long }
 {
     Said::Fault(Fault {
         kind: FaultKind::TooLong,
@@ -115,7 +114,7 @@ pub fn answer_source<S: Source>(
     names: &mut Names,
 ) -> Said
     ensures answer { MayBeSaid command (S.left source.old) (S.left source.new) (S.faults source.old) (S.faults source.new) names.new result }
-    ensures sayable { IsSayable result }
+    ensures within { IsWithinClaims result }
     ensures later { S.faults source.old ≤ S.faults source.new }
 {
     match read_all(alloc, source, DOCUMENT_LIMIT) {

@@ -1,7 +1,7 @@
 //! The answer of `check`.
 
 ghost use Rattle.std.specs.Prelude.{◌≡◌, ◌^◌, ◌<◌, ◌≤◌, pos, All, IfOk, length, map, slice_get, Some};
-ghost use Rattle.tn_answer.specs.Sayable.{IsSayable};
+ghost use Rattle.tn_answer.specs.Kept.{IsWithinClaims};
 ghost use Rattle.tn_base.specs.Arcs.{IsAtMost};
 ghost use Rattle.tn_firm.specs.Firms.{firm_of};
 ghost use Rattle.tn_market.specs.Best.{price_at};
@@ -43,7 +43,7 @@ pub fn check(
     requires priced { length at.now.prices ≡ length market.now.trades }
     requires small { All (λ p. IsAtMost p (10 ^ 14)) at.now.prices }
     ensures answer { IfOk result (Judges (map firm_of market.now.firms) market.now.trades (pos 1) at.now.on (price_at at.now.prices)) }
-    ensures sayable { IfOk result IsSayable }
+    ensures within { IfOk result IsWithinClaims }
 {
     let mut room = Room::new(alloc)?;
     let _count = market.firms();

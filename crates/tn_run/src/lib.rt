@@ -4,6 +4,7 @@
 mod answer;
 mod checking;
 mod command;
+mod exit;
 #[cfg(test)]
 mod kind_tests;
 mod testing;
@@ -11,4 +12,5 @@ mod testing;
 mod tests;
 mod top;
 
+pub use exit::run_to_exit;
 pub use top::{Run, run_market, run_steadily};

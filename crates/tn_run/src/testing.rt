@@ -1,7 +1,7 @@
 //! The answer of `test`.
 
 ghost use Rattle.std.specs.Prelude.{◌≡◌, ◌<◌, ◌≤◌, IfOk, length, map, option_map};
-ghost use Rattle.tn_answer.specs.Sayable.{IsSayable};
+ghost use Rattle.tn_answer.specs.Kept.{IsWithinClaims};
 ghost use Rattle.tn_firm.specs.Raw.{raw_firm_of};
 ghost use Rattle.tn_market.specs.Network.{own, trades_of};
 ghost use Rattle.tn_run.specs.Tested.{Tests};
@@ -18,7 +18,7 @@ pub fn test(alloc: Global, net: &RawNet) -> Result<Said, OutOfMemory>
     requires few_firms { length net.now.firms ≤ 128 }
     requires few_trades { length net.now.ends ≤ 128 }
     ensures answer { IfOk result (Tests (map raw_firm_of net.now.firms) net.now.ends) }
-    ensures sayable { IfOk result IsSayable }
+    ensures within { IfOk result IsWithinClaims }
 {
     let firms = net.firms();
     let mut f = 0;

@@ -1,11 +1,12 @@
 //! The top call: words, reading, the answer, writing.
 
-ghost use Rattle.std.specs.Prelude.{◌≡◌, ◌≢◌, ◌⊎◌, None, Some, map, string_bytes};
+ghost use Rattle.std.specs.Prelude.{◌≡◌, ◌≢◌, ◌⊎◌, ℕ, List, None, Some, map, string_bytes};
 ghost use Rattle.tn_answer.specs.AnswerText.{answer_line};
 ghost use Rattle.tn_names.specs.Names.{NameLists};
-ghost use Rattle.tn_answer.specs.Sayable.{IsSayable};
+ghost use Rattle.tn_answer.specs.Kept.{IsWithinClaims};
 ghost use Rattle.tn_io.specs.Sink.{Grows, GrowsByPrefix};
 ghost use Rattle.tn_run.specs.Answer.{MayBeSaid};
+ghost use Rattle.tn_run.specs.Complete.{AnswersAll, NoneCounted};
 ghost use Rattle.tn_run.specs.Run.{IsWritten, IsWrittenWhole, status_of};
 ghost use Rattle.tn_run.specs.Words.{command_of};
 ghost use Rattle.tn_run.specs.declared.command.Command.{Command};
@@ -57,8 +58,9 @@ fn write_line<K: Sink>(sink: &mut K, line: &[u8], said: Said) -> Run
 
 /// Writes an answer, or that memory ran out before its text was whole.
 fn tell<K: Sink>(alloc: Global, names: &Names, said: Said, sink: &mut K) -> Run
-    requires { IsSayable said }
+    requires { IsWithinClaims said }
     ensures said { (result.said ≡ said) ⊎ (result.said ≡ Said.NoMemory) }
+    ensures within { IsWithinClaims result.said }
     ensures written { IsWritten (K.written sink.old) (K.written sink.new) (K.faults sink.old) (K.faults sink.new) names.now result.said result.status }
 {
     match said {
@@ -83,6 +85,7 @@ fn run_with<S: Source, K: Sink>(
     ensures usage { command_of (map string_bytes words.now) ≡ None → (result.said ≡ Said.Usage) × (source.new ≡ source.old) }
     ensures answer { (command : Command) → command_of (map string_bytes words.now) ≡ Some command
         → MayBeSaid command (S.left source.old) (S.left source.new) (S.faults source.old) (S.faults source.new) names.new result.said }
+    ensures within { IsWithinClaims result.said }
     ensures written { IsWritten (K.written sink.old) (K.written sink.new) (K.faults sink.old) (K.faults sink.new) names.new result.said result.status }
 {
     match command_of(words) {
@@ -108,6 +111,11 @@ pub fn run_market<S: Source, K: Sink>(
         × ((command : Command) → command_of (map string_bytes words.now) ≡ Some command
         → MayBeSaid command (S.left source.old) (S.left source.new) (S.faults source.old) (S.faults source.new) names result.said)
         × IsWritten (K.written sink.old) (K.written sink.new) (K.faults sink.old) (K.faults sink.new) names result.said result.status }
+    // A source that tells its bytes, and no fault counted at either end: the defined answer for them, or want of memory.
+    ensures complete { (command : Command) (all : List ℕ) → command_of (map string_bytes words.now) ≡ Some command → S.left source.old ≡ Some all
+        → NoneCounted (S.faults source.old) (S.faults source.new) → NoneCounted (K.faults sink.old) (K.faults sink.new)
+        → (names : NameLists) × AnswersAll command all (K.written sink.old) (K.written sink.new) names result.said result.status }
+    ensures within { IsWithinClaims result.said }
 {
     let mut names = Names::empty(alloc);
     run_with(alloc, words, source, sink, &mut names)
@@ -126,6 +134,10 @@ pub fn run_steadily(
         × ((command : Command) → command_of (map string_bytes words.now) ≡ Some command
         → MayBeSaid command (Some source.old.unread) (Some source.new.unread) 0 0 names result.said)
         × IsWrittenWhole sink.old.told sink.new.told names result.said result.status }
+    // The answer is the defined one for all bytes, or want of memory.
+    ensures complete { (command : Command) → command_of (map string_bytes words.now) ≡ Some command
+        → (names : NameLists) × AnswersAll command source.old.unread sink.old.told sink.new.told names result.said result.status }
+    ensures within { IsWithinClaims result.said }
     ensures read { result.status ≢ 3 }
     ensures written { result.status ≢ 4 }
 {

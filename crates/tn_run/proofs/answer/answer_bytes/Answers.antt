@@ -12,7 +12,7 @@ returns-in_ok-said-in-Ok-clause-named c =
 
 pub returns-in_ok-said-in-Ok-clause-short : goal.returns-in_ok-said-in-Ok-clause-short
 returns-in_ok-said-in-Ok-clause-short c =
-    document_short c.args.command (document_view c.in-Ok.doc) c.in_ok-said-in-Ok.said c.in_ok-said-in-Ok.ensures.answer c.in_ok-said-in-Ok.ensures.sayable
+    document_short c.args.command (document_view c.in-Ok.doc) c.in_ok-said-in-Ok.said c.in_ok-said-in-Ok.ensures.answer c.in_ok-said-in-Ok.ensures.within
 
 pub returns-in-Err-Fault-clause-named : goal.returns-in-Err-Fault-clause-named
 returns-in-Err-Fault-clause-named c =

@@ -1,0 +1,31 @@
+//! The run as the end of a program.
+
+ghost use Rattle.std.specs.Prelude.{◌≡◌, None, Some, map, string_bytes};
+ghost use Rattle.std.specs.Process.{exit_status};
+ghost use Rattle.tn_market.specs.declared.said.Said.{Said};
+ghost use Rattle.tn_names.specs.Names.{NameLists};
+ghost use Rattle.tn_run.specs.Answer.{MayBeSaid};
+ghost use Rattle.tn_run.specs.Run.{IsWritten};
+ghost use Rattle.tn_run.specs.Words.{command_of};
+ghost use Rattle.tn_run.specs.declared.command.Command.{Command};
+
+use crate::top::run_market;
+use std::alloc::Global;
+use std::process::ExitCode;
+use tn_io::{Sink, Source};
+
+/// Runs the program on its words, and ends with the status of the run, whatever it is.
+pub fn run_to_exit<S: Source, K: Sink>(
+    alloc: Global,
+    words: &[String],
+    source: &mut S,
+    sink: &mut K,
+) -> ExitCode
+    ensures { (said : Said) × (names : NameLists)
+        × (command_of (map string_bytes words.now) ≡ None → (said ≡ Said.Usage) × (source.new ≡ source.old))
+        × ((command : Command) → command_of (map string_bytes words.now) ≡ Some command
+        → MayBeSaid command (S.left source.old) (S.left source.new) (S.faults source.old) (S.faults source.new) names said)
+        × IsWritten (K.written sink.old) (K.written sink.new) (K.faults sink.old) (K.faults sink.new) names said (exit_status result) }
+{
+    ExitCode::from(run_market(alloc, words, source, sink).status)
+}
