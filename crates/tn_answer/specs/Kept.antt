@@ -2,9 +2,9 @@
 use Rattle.std.specs.Prelude.{◌^◌, ℤ, IfSome}
 use Rattle.std.specs.List.Sorted.{IsStrictlyIncreasing}
 use Rattle.tn_base.specs.Arcs.{IsAtMost}
-use Rattle.tn_market.specs.declared.said.Shown.{Shown}
 use Rattle.tn_market.specs.declared.said.Said.{Said}
 use Rattle.tn_market.specs.declared.said.Said.TheVariants.{Usage, ReadFault, NoMemory, Fault as FaultIs, Equilibrium, Better, Impossible, Accepted, ExchangeFails}
+use Rattle.tn_names.specs.Named.{IsAscendingTriple}
 
 -- no number of a claim is above this size
 abbrev pub IsWithinClaim : ℤ → Type 0
@@ -21,11 +21,6 @@ IsWithinClaims (Better firm bundle gain) = IsWithinClaim gain
 IsWithinClaims (Impossible firm) = Unit {0}
 IsWithinClaims Accepted = Unit {0}
 IsWithinClaims (ExchangeFails firm x y at) = Unit {0}
-
--- the trades of both bundles ascend strictly
-pub record IsAscendingTriple (shown : Shown) : Type 0 where
-  pub x : IsStrictlyIncreasing shown.x
-  pub y : IsStrictlyIncreasing shown.y
 
 -- each list of trades in an answer ascends strictly
 abbrev pub HasAscendingTrades : Said → Type 0

@@ -46,7 +46,7 @@ module _ (trades : List (List ℕ)) (few : length trades ≤ 1024) (place : List
   }
 
   missing_told : (t : ℕ) → t < length trades → IsTold trades (fault PriceMissing (place ++ Trade t ∷ []))
-  missing_told t known = record { sayable = sayable; short = All-push HasShortIndex place (Trade t) (short_place place plain) tt; read = λ same. absurd (cc) }
+  missing_told t known = record { sayable = sayable; short = All-push HasShortIndex place (Trade t) (short_place place plain) tt; ascending = tt; read = λ same. absurd (cc) }
     where
       sayable : IsSayableFault trades (fault PriceMissing (place ++ Trade t ∷ []))
       sayable = record {

@@ -24,7 +24,8 @@ use Rattle.tn_market.specs.declared.place.PlaceStep.TheVariants.{Index, Word}
 use Rattle.tn_market.specs.declared.place.Word.TheVariants.{Trades, Sets, From, Values, Keep, Kind, Rows as RowsWord}
 use Rattle.tn_market.specs.declared.said.Fault.{Fault}
 use Rattle.tn_market.specs.Network.{own}
-use Rattle.tn_names.specs.Named.{IsSayableFault}
+use Rattle.tn_names.specs.Named.{IsAscendingTriple, IsSayableFault}
+use Rattle.tn_market.proofs.NetworkLemmas.{ascending_list}
 use Rattle.tn_shape.specs.declared.members.FirmKind.{FirmKind}
 use Rattle.tn_shape.specs.declared.members.FirmKind.TheVariants.{Table, Laminar, Middleman}
 use Rattle.tn_shape.specs.declared.members.ObjectKind.TheVariants.{Firm as FirmObject, LaminarSet as LaminarSetObject}
@@ -37,10 +38,10 @@ use Rattle.tn_kinds.specs.Tables.{Rows, filled, row_place, row_of, one_row, rows
 use Rattle.tn_kinds.specs.OwnNumbers.{no_numbers, own_numbers}
 use Rattle.tn_kinds.specs.Laminars.{amounts_list, bends, check_set, check_sets, checked_laminar, crosses, first_bend, laminar_of, low_at, one_set, one_value, set_of, set_place, sets_at, unless_bent, values_at}
 use Rattle.tn_kinds.specs.Middlemen.{costs_list, gains_list, keep_at, middle_of}
-use Rattle.tn_kinds.specs.Firms.{failure_of, unless_failing, exchange_of, tested_firm, firm_by, firm_of, one_firm}
+use Rattle.tn_kinds.specs.Firms.{shown_of, failure_of, unless_failing, exchange_of, tested_firm, firm_by, firm_of, one_firm}
 use Rattle.tn_kinds.specs.FirstFailure.{first_failure}
 use Rattle.tn_kinds.proofs.FailureLemmas.{first}
-use Rattle.tn_refer.proofs.NetworkLemmas.{own_within}
+use Rattle.tn_refer.proofs.NetworkLemmas.{own_ascends, own_within}
 use Rattle.tn_kinds.proofs.ShownLemmas.{own_position_of, triple_named}
 use Rattle.tn_kinds.proofs.RowLemmas.{filled-set, filled-none, filled_le}
 use Rattle.tn_shape.proofs.LeadLemmas.{Leads, le_from_test, leads_as, leads_bind, leads_both, leads_holds, leads_ok}
@@ -253,8 +254,14 @@ module _ (listed : Listed) (trades : AreTrades listed) where
   own_named f k below = subst (λ n. own listed.ends f k < n) (sym trades.named) (own_within (length listed.names.firms) f k listed.ends trades.order below)
 
   failure_told : (f : ℕ) (table : TableRows) (t : Triple) → f ≤ 1024 → table.sides ≡ sides_of listed.ends f → first_failure table ≡ Some t → IsToldHere (failure_of listed.ends f (length table.sides) t)
-  failure_told f table t near sides found = record { sayable = sayable; short = short_place (firm_place f) (tt, (near, tt)); read = λ same. absurd (cc) }
+  failure_told f table t near sides found = record { sayable = sayable; short = short_place (firm_place f) (tt, (near, tt)); ascending = ascending; read = λ same. absurd (cc) }
     where
+      ascend : (i j : ℕ) → i < j → j < length table.sides → own listed.ends f i < own listed.ends f j
+      ascend i j before below = own_ascends (length listed.names.firms) f i j listed.ends trades.order before (subst (λ (s : List Side). j < length s) sides below)
+
+      ascending : IsAscendingTriple (shown_of listed.ends f (length table.sides) t)
+      ascending = record { x = ascending_list listed.ends f (length table.sides) t.x ascend; y = ascending_list listed.ends f (length table.sides) t.y ascend }
+
       sayable : IsSayableFault listed.names.trades (failure_of listed.ends f (length table.sides) t)
       sayable = record {
         place = named_place listed.names.trades (firm_place f) (tt, (near, tt));

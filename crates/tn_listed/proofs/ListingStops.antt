@@ -35,7 +35,7 @@ pub no_names_are : AreNames no_names
 no_names_are = record { firms = none_named (omega arith); trades = none_named (omega arith) }
 
 pub told_stop : (names : NameLists) → AreNames names → (f : Fault) → IsTold names.trades f → IsStop (record { fault = f; names = names })
-told_stop names are f told = record { fault = told.sayable; short = told.short; firm_names = are.firms; trade_names = are.trades; read = told.read }
+told_stop names are f told = record { fault = told.sayable; short = told.short; ascending = told.ascending; firm_names = are.firms; trade_names = are.trades; read = told.read }
 
 pub plain_stop : (names : NameLists) → AreNames names → (f : Fault) → IsPlain f → IsStop (record { fault = f; names = names })
 plain_stop names are f plain = told_stop names are f (told_plain names.trades f plain)

@@ -1,11 +1,11 @@
 -- Reading that tells the names beside a fault.
-use Rattle.std.specs.Prelude.{◌≡◌, ◌≢◌, Result, Ok, Err, All}
+use Rattle.std.specs.Prelude.{◌≡◌, ◌≢◌, Result, Ok, Err, All, IfSome}
 use Rattle.tn_base.specs.declared.fault.FaultKind.TheVariants.{TooLong}
 use Rattle.tn_market.specs.declared.said.Fault.{Fault}
 use Rattle.tn_names.specs.Names.{NameLists, IsNameList}
 use Rattle.tn_shape.specs.declared.error.ReadError.{ReadError}
 use Rattle.tn_shape.specs.declared.error.ReadError.TheVariants.{Fault as FaultIs, OutOfMemory}
-use Rattle.tn_names.specs.Named.{HasShortIndex, IsSayableFault}
+use Rattle.tn_names.specs.Named.{HasShortIndex, IsAscendingTriple, IsSayableFault}
 
 -- where reading stops: a fault, and the names that were read until then
 pub record Stop : Type 0 where
@@ -26,11 +26,13 @@ abbrev pub GivesBeside : {X Y : Type 0} → NameLists → (X → Y) → Result X
 GivesBeside names view (Ok x) read = read ≡ Ok (view x)
 GivesBeside names view (Err e) read = FailsBeside names e read
 
--- a stop speaks only of trades with a name and shows a triple exactly where exchange fails, its numbers are short, the
--- names beside its fault keep the rules, and it isn't that the input is too long, of which no byte is read
+-- a stop speaks only of trades with a name and shows a triple, in ascending lists, exactly where exchange fails, its
+-- numbers are short, the names beside its fault keep the rules, and it isn't that the input is too long, of which no
+-- byte is read
 pub record IsStop (stop : Stop) : Type 0 where
   pub fault : IsSayableFault stop.names.trades stop.fault
   pub short : All HasShortIndex stop.fault.place
+  pub ascending : IfSome stop.fault.shown IsAscendingTriple
   pub firm_names : IsNameList stop.names.firms
   pub trade_names : IsNameList stop.names.trades
   pub read : stop.fault.kind ≢ TooLong

@@ -102,20 +102,19 @@ increasing-push xs y up above k inside =
           omega (arith, here, next, less)
     ]
 
-ascending_below : (firms : List Firm) (trades : List Ends) (f n x : ℕ) (firm : Firm) → HaveAscendingPositions firms trades → slice_get firms f ≡ Some firm
-    → n ≤ firm.count → IsStrictlyIncreasing (trades_of trades f n x)
-ascending_below firms trades f zero x firm ascend is own_ones = λ k inside. absurd (omega (arith, inside))
-ascending_below firms trades f (suc n) x firm ascend is own_ones =
-    let rest = ascending_below firms trades f n x firm ascend is (omega (arith, own_ones)) in
+-- the list of a bundle ascends strictly where the trades ascend with the firm's positions
+pub ascending_list : (trades : List Ends) (f n x : ℕ) → ((i j : ℕ) → i < j → j < n → own trades f i < own trades f j) → IsStrictlyIncreasing (trades_of trades f n x)
+ascending_list trades f zero x ascend = λ k inside. absurd (omega (arith, inside))
+ascending_list trades f (suc n) x ascend =
+    let rest = ascending_list trades f n x (λ i j before below. ascend i j before (omega (arith, below))) in
     elim (has x n) as (λ (b : Bool). IsStrictlyIncreasing (trades_of trades f n x ++ (if b then own trades f n ∷ [] else []))) [
       | true ↦ increasing-push (trades_of trades f n x) (own trades f n) rest (λ t listed.
           let found = own_from_list trades f n x t listed in
-          let less = ascend f found.at n firm is found.below own_ones in
+          let less = ascend found.at n found.below (omega arith) in
           omega (arith, less, found.is))
       | false ↦ subst IsStrictlyIncreasing (sym (append-nil (trades_of trades f n x))) rest
     ]
 
--- the list ascends strictly where the trades ascend with the positions
 pub ascending_trades : (firms : List Firm) (trades : List Ends) (f x : ℕ) (firm : Firm) → HaveAscendingPositions firms trades → slice_get firms f ≡ Some firm
     → IsStrictlyIncreasing (trades_of trades f firm.count x)
-ascending_trades firms trades f x firm ascend is = ascending_below firms trades f firm.count x firm ascend is (omega arith)
+ascending_trades firms trades f x firm ascend is = ascending_list trades f firm.count x (λ i j before below. ascend f i j firm is before below)

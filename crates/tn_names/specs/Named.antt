@@ -1,5 +1,6 @@
--- Which faults speak of named trades alone.
+-- Which faults speak of named trades alone, in ascending lists.
 use Rattle.std.specs.Prelude.{◌≡◌, ℕ, ◌<◌, ◌^◌, ◌↔◌, List, length, All, IsSome, IfSome}
+use Rattle.std.specs.List.Sorted.{IsStrictlyIncreasing}
 use Rattle.tn_base.specs.declared.fault.FaultKind.TheVariants.{ExchangeFails}
 use Rattle.tn_market.specs.declared.place.PlaceStep.{PlaceStep}
 use Rattle.tn_market.specs.declared.place.PlaceStep.TheVariants.{Word, Index, Trade}
@@ -25,6 +26,11 @@ pub record IsNamedTriple (trades : List (List ℕ)) (shown : Shown) : Type 0 whe
   pub x : All (IsNamed trades) shown.x
   pub y : All (IsNamed trades) shown.y
   pub at : IfSome shown.at (IsNamed trades)
+
+-- the trades of both bundles ascend strictly
+pub record IsAscendingTriple (shown : Shown) : Type 0 where
+  pub x : IsStrictlyIncreasing shown.x
+  pub y : IsStrictlyIncreasing shown.y
 
 pub record IsSayableFault (trades : List (List ℕ)) (fault : Fault) : Type 0 where
   pub place : All (IsNamedStep trades) fault.place

@@ -1,4 +1,4 @@
--- Faults that speak of named trades, and whose numbers are short.
+-- Faults that speak of named trades in ascending lists, and whose numbers are short.
 use Rattle.std.proofs.Common.{◌≢◌, ℕ, true, false, List, [], ◌∷◌, Option, Result, sym, ap, subst, ◌∙◌, arith, true≢false}
 use Rattle.std.specs.Prelude.{All, IfSome, IsSome}
 use Rattle.std.proofs.lemmas.List.Elements.{All-nil, All-cons}
@@ -7,7 +7,7 @@ use Rattle.tn_market.specs.declared.place.PlaceStep.{PlaceStep}
 use Rattle.tn_market.specs.declared.place.PlaceStep.TheVariants.{Word, Index, Trade}
 use Rattle.tn_market.specs.declared.said.Fault.{Fault}
 use Rattle.tn_market.specs.declared.said.Shown.{Shown}
-use Rattle.tn_names.specs.Named.{HasShortIndex, IsNamedStep, IsNamedTriple, IsSayableFault}
+use Rattle.tn_names.specs.Named.{HasShortIndex, IsAscendingTriple, IsNamedStep, IsNamedTriple, IsSayableFault}
 use Rattle.tn_shape.proofs.StopLemmas.{Stops, stops_as, is_plain_kind, IsPlainStep, IsPlainPlace, IsPlain, StopsPlainly}
 
 -- a plain place is named, whatever the names, and its numbers are short
@@ -29,10 +29,11 @@ pub short_place : (place : List PlaceStep) → IsPlainPlace place → All HasSho
 short_place [] plain = All-nil HasShortIndex
 short_place (step ∷ place) plain = All-cons HasShortIndex step place (short_step step plain.0) (short_place place plain.1)
 
--- a fault that speaks of named trades, and whose numbers are short
+-- a fault that speaks of named trades in ascending lists, and whose numbers are short
 pub record IsTold (trades : List (List ℕ)) (f : Fault) : Type 0 where
   pub sayable : IsSayableFault trades f
   pub short : All HasShortIndex f.place
+  pub ascending : IfSome f.shown IsAscendingTriple
   pub read : f.kind ≢ TooLong
 
 -- a plain fault speaks of no trade, whatever the names
@@ -44,6 +45,7 @@ told_plain trades f is = record {
     exactly = (λ there. absurd (true≢false (sym (subst IsSome is.none there))), λ same. absurd (true≢false (sym is.other ∙ ap is_plain_kind same)));
   };
   short = short_place f.place is.place;
+  ascending = subst (λ (shown : Option Shown). IfSome shown IsAscendingTriple) (sym is.none) tt;
   read = λ same. absurd (true≢false (sym is.other ∙ ap is_plain_kind same));
 }
 
