@@ -1,7 +1,10 @@
--- What is said of a document speaks only of firms and trades that have a name, and its numbers are short.
-use Rattle.std.proofs.Common.{◌≡◌, ℕ, ◌<◌, ℤ, pos, List, Option, sym, subst}
-use Rattle.std.specs.Prelude.{Some, Ok, Err, All, IfSome, slice_get}
+-- What is said of a document keeps the rules of answers: it speaks only of firms and trades that have a name, its
+-- numbers are short, and its lists of trades ascend.
+use Rattle.std.proofs.Common.{◌≡◌, ◌≢◌, ℕ, ◌<◌, ℤ, pos, List, Option, Result, sym, subst}
+use Rattle.std.specs.Prelude.{Some, Ok, Err, All, IfOk, IfSome, slice_get}
+use Rattle.std.specs.List.Sorted.{IsStrictlyIncreasing}
 use Rattle.std.proofs.lemmas.Option.{slice_get_within}
+use Rattle.tn_base.specs.declared.fault.FaultKind.TheVariants.{TooLong}
 use Rattle.tn_base.specs.Firm.{Firm}
 use Rattle.tn_market.specs.declared.said.Fault.{Fault as FaultIs}
 use Rattle.tn_market.specs.declared.said.Said.{Said}
@@ -9,10 +12,11 @@ use Rattle.tn_market.specs.declared.said.Said.TheVariants.{Equilibrium, Better, 
 use Rattle.tn_market.specs.Best.{price_at}
 use Rattle.tn_market.specs.Network.{own}
 use Rattle.tn_market.specs.Verdict.{Judges}
+use Rattle.tn_market.proofs.NetworkLemmas.{ascending_trades}
 use Rattle.tn_answer.specs.Apart.{HasShortNumbers, IsNamedAnswer}
 use Rattle.tn_names.specs.Names.{NameLists}
 use Rattle.tn_names.specs.Named.{IsNamed}
-use Rattle.tn_answer.specs.Kept.{IsWithinClaims}
+use Rattle.tn_answer.specs.Kept.{HasAscendingTrades, IsWithinClaims}
 use Rattle.tn_answer.proofs.LawLemmas.{within_sayable}
 use Rattle.tn_file.specs.declared.document.DocRefusal.{DocRefusal}
 use Rattle.tn_file.specs.declared.need.Need.{Need}
@@ -24,7 +28,7 @@ use Rattle.tn_file.proofs.DocumentLeads.{documents_are_networks}
 use Rattle.tn_file.proofs.DocumentStops.{faults_are_sayable}
 use Rattle.tn_kinds.proofs.ShownLemmas.{OwnAreNamed, own_position_of, trades_named, triple_named}
 use Rattle.tn_kinds.proofs.KindLemmas.{listed_own_bundles}
-use Rattle.tn_run.specs.Answer.{ChecksExtra, IsAnswerOf}
+use Rattle.tn_run.specs.Answer.{ChecksExtra, IsAnswerOf, KeepsRules}
 use Rattle.tn_run.specs.Tested.{IsFirstToFail, Tests}
 use Rattle.tn_run.specs.Words.{need_of}
 use Rattle.tn_run.specs.declared.command.Command.{Command}
@@ -82,8 +86,43 @@ module _ (need : Need) (doc : DocumentData) (is : IsDocument need doc) where
   tested_named ReadFault tests = absurd tests
   tested_named NoMemory tests = absurd tests
 
+  -- their lists of trades ascend
+  judged_ascends : (scale : ℤ) (on : ℕ) (prices : ℕ → ℤ) (said : Said) → Judges doc.firms doc.ends scale on prices said → HasAscendingTrades said
+  judged_ascends scale on prices (Equilibrium surplus) judges = tt
+  judged_ascends scale on prices (Better f bundle gain) judges =
+      let bettered = judges.1 in subst IsStrictlyIncreasing (sym judges.2) (ascending_trades doc.firms doc.ends f judges.0 bettered.firm is.ascending bettered.is)
+  judged_ascends scale on prices (Impossible f) judges = tt
+  judged_ascends scale on prices (Fault fault) judges = absurd judges
+  judged_ascends scale on prices Usage judges = tt
+  judged_ascends scale on prices ReadFault judges = tt
+  judged_ascends scale on prices NoMemory judges = tt
+  judged_ascends scale on prices Accepted judges = tt
+  judged_ascends scale on prices (ExchangeFails f x y at) judges = absurd judges
+
+  checked_ascends : (extra : ExtraData) (said : Said) → ChecksExtra doc extra said → HasAscendingTrades said
+  checked_ascends nothing said checks = absurd checks
+  checked_ascends (arrangement at) said checks = judged_ascends (pos 1) at.on (price_at at.prices) said checks.0
+
+  tested_ascends : (said : Said) → Tests doc.firms doc.ends said → HasAscendingTrades said
+  tested_ascends Accepted tests = tt
+  tested_ascends (ExchangeFails f x y at) tests = record {
+    x = subst IsStrictlyIncreasing (sym tests.x_is) (ascending_trades doc.firms doc.ends f tests.triple.x tests.firm is.ascending tests.is);
+    y = subst IsStrictlyIncreasing (sym tests.y_is) (ascending_trades doc.firms doc.ends f tests.triple.y tests.firm is.ascending tests.is);
+  }
+  tested_ascends (Equilibrium surplus) tests = tt
+  tested_ascends (Better f bundle gain) tests = absurd tests
+  tested_ascends (Impossible f) tests = tt
+  tested_ascends (Fault fault) tests = absurd tests
+  tested_ascends Usage tests = tt
+  tested_ascends ReadFault tests = tt
+  tested_ascends NoMemory tests = tt
+
 -- the answer of a command on a document
-pub document_named : (command : Command) (doc : DocumentData) → IsDocument (need_of command) doc → (said : Said) → IsAnswerOf command doc said → IsNamedAnswer doc.names said
+document_ascends : (command : Command) (doc : DocumentData) → IsDocument (need_of command) doc → (said : Said) → IsAnswerOf command doc said → HasAscendingTrades said
+document_ascends Check doc is said answer = checked_ascends (need_of Check) doc is doc.extra said answer
+document_ascends Test doc is said answer = tested_ascends (need_of Test) doc is said answer
+
+document_named : (command : Command) (doc : DocumentData) → IsDocument (need_of command) doc → (said : Said) → IsAnswerOf command doc said → IsNamedAnswer doc.names said
 document_named Check doc is said answer = checked_named (need_of Check) doc is doc.extra said answer
 document_named Test doc is said answer = tested_named (need_of Test) doc is said answer
 
@@ -97,7 +136,7 @@ no_fault Check doc fault answer = by_extra doc.extra answer
 no_fault Test doc fault answer = answer
 
 -- and its numbers are short within the limits of claims
-pub document_short : (command : Command) (doc : DocumentData) (said : Said) → IsAnswerOf command doc said → IsWithinClaims said → HasShortNumbers said
+document_short : (command : Command) (doc : DocumentData) (said : Said) → IsAnswerOf command doc said → IsWithinClaims said → HasShortNumbers said
 document_short command doc (Fault fault) answer within = absurd (no_fault command doc fault answer)
 document_short command doc (Equilibrium surplus) answer within = within_sayable (Equilibrium surplus) within
 document_short command doc (Better f bundle gain) answer within = within_sayable (Better f bundle gain) within
@@ -107,6 +146,33 @@ document_short command doc ReadFault answer within = tt
 document_short command doc NoMemory answer within = tt
 document_short command doc Accepted answer within = tt
 document_short command doc (ExchangeFails f x y at) answer within = tt
+
+-- it keeps the rules
+document_kept : (command : Command) (doc : DocumentData) → IsDocument (need_of command) doc → (said : Said) → IsAnswerOf command doc said → IsWithinClaims said → KeepsRules doc.names said
+document_kept command doc is said answer within = record {
+  named = document_named command doc is said answer;
+  short = document_short command doc said answer within;
+  ascending = document_ascends command doc is said answer;
+  not_too_long = λ fault same. absurd (no_fault command doc fault (subst (IsAnswerOf command doc) same answer));
+  firm_names = is.firm_names;
+  trade_names = is.trade_names;
+}
+
+pub kept_if_ok : {E : Type 0} (command : Command) (doc : DocumentData) → IsDocument (need_of command) doc → (result : Result Said E)
+    → IfOk result (IsAnswerOf command doc) → IfOk result IsWithinClaims → IfOk result (KeepsRules doc.names)
+kept_if_ok command doc is (Ok said) answer within = document_kept command doc is said answer within
+kept_if_ok command doc is (Err e) answer within = tt
+
+-- so does a fault
+pub stop_kept : (fault : FaultIs) (names : NameLists) → IsStop (record { fault = fault; names = names }) → KeepsRules names (Fault fault)
+stop_kept fault names stop = record {
+  named = (stop.fault.place, stop.fault.triple);
+  short = stop.short;
+  ascending = stop.ascending;
+  not_too_long = λ other same. let one : fault ≡ other = cc in subst (λ (f : FaultIs). f.kind ≢ TooLong) one stop.read;
+  firm_names = stop.firm_names;
+  trade_names = stop.trade_names;
+}
 
 -- a document that was read for a command
 pub document_read : (command : Command) (need : Need) (bytes : List ℕ) (doc : DocumentData) → need ≡ need_of command → reading_of need bytes ≡ Ok doc → IsDocument (need_of command) doc

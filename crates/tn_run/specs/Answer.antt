@@ -1,8 +1,9 @@
 -- What the program may say of what it read.
-use Rattle.std.specs.Prelude.{◌≡◌, ℕ, ◌+◌, ◌≤◌, ◌⊎◌, pos, List, [], length, Option, None, IfSome, Result, Ok, Err}
+use Rattle.std.specs.Prelude.{◌≡◌, ◌≢◌, ℕ, ◌+◌, ◌≤◌, ◌⊎◌, pos, List, [], length, Option, None, IfSome, Result, Ok, Err}
 use Rattle.std.specs.Io.KnownBytes.{Consumes, IsAtEnd}
 use Rattle.tn_base.specs.declared.fault.FaultKind.TheVariants.{TooLong}
 use Rattle.tn_base.specs.Firm.{Firm}
+use Rattle.tn_market.specs.declared.said.Fault.{Fault as FaultIs}
 use Rattle.tn_market.specs.declared.said.Said.{Said}
 use Rattle.tn_market.specs.declared.said.Said.TheVariants.{Usage, ReadFault, NoMemory, Fault, Equilibrium, Better, Impossible, Accepted, ExchangeFails}
 use Rattle.tn_market.specs.declared.ends.Ends.{Ends}
@@ -12,6 +13,7 @@ use Rattle.tn_market.specs.Verdict.{Judges}
 use Rattle.tn_io.specs.Counts.{Rose}
 use Rattle.tn_io.specs.Source.{TakesFirst, TakesAtMost}
 use Rattle.tn_answer.specs.Apart.{HasShortNumbers, IsNamedAnswer}
+use Rattle.tn_answer.specs.Kept.{HasAscendingTrades}
 use Rattle.tn_names.specs.Names.{NameLists, IsNameList}
 use Rattle.tn_listed.specs.Beside.{Stop}
 use Rattle.tn_file.specs.Document.{DocumentData, ExtraData, nothing, arrangement, reading_of}
@@ -51,6 +53,16 @@ abbrev pub IsAnswerTo : Command → Result DocumentData Stop → NameLists → S
 IsAnswerTo command (Ok doc) names said = IsAnswerOf command doc said × (names ≡ doc.names)
 IsAnswerTo command (Err stop) names said = (said ≡ Fault stop.fault) × (names ≡ stop.names)
 
+-- the answer speaks only of firms and trades that have a name, its numbers are short, its lists of trades ascend
+-- strictly, it isn't that the document is too long, and the names keep the rules
+pub record KeepsRules (names : NameLists) (said : Said) : Type 0 where
+  pub named : IsNamedAnswer names said
+  pub short : HasShortNumbers said
+  pub ascending : HasAscendingTrades said
+  pub not_too_long : (fault : FaultIs) → said ≡ Fault fault → fault.kind ≢ TooLong
+  pub firm_names : IsNameList names.firms
+  pub trade_names : IsNameList names.trades
+
 -- the source was taken to its end, and the answer is the defined one for the bytes that it gave
 pub record AnswersWhole (command : Command) (old new : Option (List ℕ)) (names : NameLists) (said : Said) : Type 0 where
   pub bytes : List ℕ
@@ -60,11 +72,7 @@ pub record AnswersWhole (command : Command) (old new : Option (List ℕ)) (names
   -- a source that tells its bytes told these
   pub told : IfSome old (λ all. bytes ≡ all)
   pub answer : IsAnswerTo command (reading_of (need_of command) bytes) names said
-  -- the answer speaks only of firms and trades that have a name, its numbers are short, and the names keep the rules
-  pub named : IsNamedAnswer names said
-  pub short : HasShortNumbers said
-  pub firm_names : IsNameList names.firms
-  pub trade_names : IsNameList names.trades
+  pub kept : KeepsRules names said
 
 -- that the document is too long
 abbrev pub too_long : Said

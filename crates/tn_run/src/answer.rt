@@ -1,13 +1,11 @@
 //! The answer to the bytes of a document.
 
 ghost use Rattle.std.specs.Prelude.{◌≡◌, ◌≤◌, IfOk};
-ghost use Rattle.tn_answer.specs.Apart.{HasShortNumbers, IsNamedAnswer};
-ghost use Rattle.tn_names.specs.Names.{IsNameList};
 ghost use Rattle.tn_answer.specs.Kept.{IsWithinClaims};
 ghost use Rattle.tn_file.specs.Document.{reading_of};
 ghost use Rattle.tn_file.specs.Laws.{IsDocument};
 ghost use Rattle.tn_file.specs.Refusal.{IsExtraFor, IsLoadedFor, document_view};
-ghost use Rattle.tn_run.specs.Answer.{IsAnswerOf, IsAnswerTo, MayBeSaid, too_long};
+ghost use Rattle.tn_run.specs.Answer.{IsAnswerOf, IsAnswerTo, KeepsRules, MayBeSaid, too_long};
 ghost use Rattle.tn_run.specs.Words.{need_of};
 
 use crate::checking::check;
@@ -75,17 +73,14 @@ fn answer_bytes(
     names: &mut Names,
 ) -> Result<Said, OutOfMemory>
     ensures answer { IfOk result (IsAnswerTo command (reading_of (need_of command) bytes.now) names.new) }
-    ensures named { IfOk result (IsNamedAnswer names.new) }
-    ensures short { IfOk result HasShortNumbers }
-    ensures firm_names { IfOk result (λ _. IsNameList names.new.firms) }
-    ensures trade_names { IfOk result (λ _. IsNameList names.new.trades) }
+    ensures kept { IfOk result (KeepsRules names.new) }
     ensures within { IfOk result IsWithinClaims }
 {
     match read_doc(alloc, need_of(command), bytes) {
         Ok(doc) => {
-            let said = answer_document(alloc, command, &doc)?;
+            let said = answer_document(alloc, command, &doc);
             *names = doc.names;
-            Ok(said)
+            said
         }
         Err(DocRefusal::Fault { fault, names: read }) => {
             *names = read;
