@@ -1,0 +1,3 @@
+pub mod MatrixLemmas
+pub mod StandLemmas
+pub mod ReadingLemmas

@@ -1,0 +1,10 @@
+use Rattle.std.proofs.Common.{◌+◌, ◌<◌, ◌≤◌, map, take}
+use Rattle.tn_market.specs.Graph.{graph_worths}
+use Rattle.tn_graph.specs.Reading.{IsRightFor}
+use Rattle.tn_graph.proofs.graph.Graph.fill.Given as goal
+
+abbrev pub invariant-loop-f : goal.invariant-loop-f
+invariant-loop-f g l = record {
+  right : IsRightFor (map g.V.Valuation.firm l.market.firms) l.market.trades l.on (λ k. k < l.f) l.self;
+  asked : l.steps ≤ l.initial.steps + graph_worths (take l.f (map g.V.Valuation.firm l.market.firms));
+}

@@ -1,0 +1,176 @@
+//! The reading of costs from worths: arc by arc, firm by firm, and the whole graph.
+
+ghost use Rattle.std.specs.Prelude.{◌≡◌, ℕ, ◌+◌, ◌*◌, ◌≤◌, ◌<◌, ◌^◌, ◌==◌, Some, length, map, slice_get};
+ghost use Rattle.tn_law.specs.Places.{level, CanRise};
+ghost use Rattle.tn_market.specs.Network.{IsNetwork};
+ghost use Rattle.tn_market.specs.ArcPlaces.{node_at, AreArcPlaces};
+ghost use Rattle.tn_market.specs.Graph.{exchange_arc, graph_worths, ArePossible};
+ghost use Rattle.tn_graph.specs.Matrix.{arcs_of};
+ghost use Rattle.tn_graph.specs.Reading.{AreForgotten, HasArcsOf, HasRow, Improves, IsExchangeGraph, IsStand, changed_worths, is_toggled};
+
+use crate::graph::Graph;
+use crate::stand::Stand;
+use tn_base::{Steps, TradeSet};
+use tn_market::{Market, Valuation};
+
+impl<V: Valuation, const W: usize> Stand<'_, V, W> {
+    /// Writes what the arc from place `i` to place `j` costs.
+    fn read_arc(&self, graph: &mut Graph, i: u32, j: u32, steps: &mut Steps<V::Mark>)
+        requires stand { IsStand (map V.firm self.now.market.now.firms) self.now.market.now.trades self.now.on.now self.now.f self.now.count
+            (V.firm self.now.firm.now) (V.limit self.now.firm.now) self.now.bundle self.now.worth }
+        requires sized { graph.old.nodes ≡ length self.now.market.now.trades + 1 }
+        requires places { AreArcPlaces (V.firm self.now.firm.now) self.now.bundle i j }
+        ensures improved { Improves (exchange_arc (map V.firm self.now.market.now.firms) self.now.market.now.trades self.now.on.now) graph.old graph.new }
+        ensures arc { arcs_of graph.new (node_at self.now.market.now.trades self.now.f self.now.count i) (node_at self.now.market.now.trades self.now.f self.now.count j)
+            ≡ exchange_arc (map V.firm self.now.market.now.firms) self.now.market.now.trades self.now.on.now
+            (node_at self.now.market.now.trades self.now.f self.now.count i) (node_at self.now.market.now.trades self.now.f self.now.count j) }
+        ensures asked { steps.new ≡ steps.old + 1 }
+    {
+        let cost = self.loss(i, j, steps);
+        graph.set(self.node(i), self.node(j), cost);
+    }
+
+    /// Writes what the arcs from place `i` cost.
+    fn read_row(&self, graph: &mut Graph, i: u32, steps: &mut Steps<V::Mark>)
+        requires stand { IsStand (map V.firm self.now.market.now.firms) self.now.market.now.trades self.now.on.now self.now.f self.now.count
+            (V.firm self.now.firm.now) (V.limit self.now.firm.now) self.now.bundle self.now.worth }
+        requires sized { graph.old.nodes ≡ length self.now.market.now.trades + 1 }
+        requires place { i ≤ self.now.count }
+        requires rises { CanRise self.now.count (level self.now.count (V.firm self.now.firm.now).buys self.now.bundle) i }
+        ensures improved { Improves (exchange_arc (map V.firm self.now.market.now.firms) self.now.market.now.trades self.now.on.now) graph.old graph.new }
+        ensures row { HasRow (map V.firm self.now.market.now.firms) self.now.market.now.trades self.now.on.now self.now.f self.now.count
+            (V.firm self.now.firm.now) self.now.bundle i graph.new }
+        ensures asked { steps.new ≤ steps.old + self.now.count }
+    {
+        for j in 0..self.count + 1 {
+            if j != i && self.can_fall(j) {
+                self.read_arc(graph, i, j, steps);
+            }
+        }
+    }
+
+    /// Writes what all arcs of the firm cost.
+    pub fn read_arcs(&self, graph: &mut Graph, steps: &mut Steps<V::Mark>)
+        requires stand { IsStand (map V.firm self.now.market.now.firms) self.now.market.now.trades self.now.on.now self.now.f self.now.count
+            (V.firm self.now.firm.now) (V.limit self.now.firm.now) self.now.bundle self.now.worth }
+        requires sized { graph.old.nodes ≡ length self.now.market.now.trades + 1 }
+        ensures improved { Improves (exchange_arc (map V.firm self.now.market.now.firms) self.now.market.now.trades self.now.on.now) graph.old graph.new }
+        ensures arcs { HasArcsOf (map V.firm self.now.market.now.firms) self.now.market.now.trades self.now.on.now self.now.f graph.new }
+        ensures asked { steps.new ≤ steps.old + (self.now.count + 1) * self.now.count }
+    {
+        for i in 0..self.count + 1 {
+            if self.can_rise(i) {
+                self.read_row(graph, i, steps);
+            }
+        }
+    }
+}
+
+impl Graph {
+    /// Writes what the arcs of firm `f` cost.
+    fn read<V: Valuation, const W: usize>(
+        &mut self,
+        market: &Market<V>,
+        f: u32,
+        on: &TradeSet<W>,
+        steps: &mut Steps<V::Mark>,
+    )
+        requires width { W ≤ 16 }
+        requires wide { length market.now.trades ≤ 64 * W }
+        requires network { IsNetwork (map V.firm market.now.firms) market.now.trades }
+        requires sized { self.old.nodes ≡ length market.now.trades + 1 }
+        requires firm { f < length market.now.firms }
+        requires possible { ArePossible (map V.firm market.now.firms) market.now.trades on.now }
+        requires small { (g : ℕ) (v : V) → slice_get market.now.firms g ≡ Some v → 2 * V.limit v ≤ 10 ^ 18 }
+        ensures improved { Improves (exchange_arc (map V.firm market.now.firms) market.now.trades on.now) self.old self.new }
+        ensures arcs { HasArcsOf (map V.firm market.now.firms) market.now.trades on.now f self.new }
+        ensures asked { (v : V) → slice_get market.now.firms f ≡ Some v → steps.new ≤ steps.old + ((V.firm v).count + 1) * ((V.firm v).count + 1) }
+    {
+        let firm = market.firm(f);
+        let bundle = market.bundle_of(f, on);
+        let worth = firm.value(bundle, steps).unwrap();
+        let stand = Stand {
+            market,
+            on,
+            f,
+            firm,
+            count: firm.trades(),
+            bundle,
+            worth,
+        };
+        stand.read_arcs(self, steps);
+    }
+
+    /// Makes it the exchange graph of a market at a set of trades (Candogan, Epitropou and Vohra, 2021): trade t is node
+    /// t, and the null node is the last one. It asks for a worth for each two places of a firm at most, and takes no
+    /// memory.
+    pub fn fill<V: Valuation, const W: usize>(
+        &mut self,
+        market: &Market<V>,
+        on: &TradeSet<W>,
+        steps: &mut Steps<V::Mark>,
+    )
+        requires width { W ≤ 16 }
+        requires wide { length market.now.trades ≤ 64 * W }
+        requires sized { self.old.nodes ≡ length market.now.trades + 1 }
+        requires possible { ArePossible (map V.firm market.now.firms) market.now.trades on.now }
+        requires small { (f : ℕ) (v : V) → slice_get market.now.firms f ≡ Some v → 2 * V.limit v ≤ 10 ^ 18 }
+        ensures graph { IsExchangeGraph (map V.firm market.now.firms) market.now.trades on.now self.new }
+        ensures asked { steps.new ≤ steps.old + graph_worths (map V.firm market.now.firms) }
+    {
+        self.clear();
+        for f in 0..market.firms() {
+            self.read(market, f, on, steps);
+        }
+    }
+
+    /// Takes the arcs from and to a node away.
+    fn detach(&mut self, t: u32)
+        requires { t < self.old.nodes }
+        ensures { AreForgotten (λ k. k == t) self.old self.new }
+    {
+        for u in 0..self.size() {
+            self.set(t, u, None);
+            self.set(u, t, None);
+        }
+    }
+
+    /// Takes the arcs from and to each trade away that is in one of the two sets alone.
+    fn forget<const W: usize>(&mut self, trades: u32, before: &TradeSet<W>, on: &TradeSet<W>)
+        requires width { W ≤ 16 }
+        requires wide { trades ≤ 64 * W }
+        requires sized { self.old.nodes ≡ trades + 1 }
+        ensures { AreForgotten (is_toggled trades before.now on.now) self.old self.new }
+    {
+        for t in 0..trades {
+            if before.has(t) != on.has(t) {
+                self.detach(t);
+            }
+        }
+    }
+
+    /// Turns the exchange graph at the set `before` into the one at the set `on`. It asks only the firms whose bundles
+    /// differ, for a worth for each two places of the firm at most, and takes no memory.
+    pub fn refresh<V: Valuation, const W: usize>(
+        &mut self,
+        market: &Market<V>,
+        before: &TradeSet<W>,
+        on: &TradeSet<W>,
+        steps: &mut Steps<V::Mark>,
+    )
+        requires width { W ≤ 16 }
+        requires wide { length market.now.trades ≤ 64 * W }
+        requires graph { IsExchangeGraph (map V.firm market.now.firms) market.now.trades before.now self.old }
+        requires possible { ArePossible (map V.firm market.now.firms) market.now.trades on.now }
+        requires small { (f : ℕ) (v : V) → slice_get market.now.firms f ≡ Some v → 2 * V.limit v ≤ 10 ^ 18 }
+        ensures graph { IsExchangeGraph (map V.firm market.now.firms) market.now.trades on.now self.new }
+        ensures asked { steps.new ≤ steps.old + changed_worths (map V.firm market.now.firms) market.now.trades before.now on.now }
+    {
+        self.forget(market.trades(), before, on);
+        for f in 0..market.firms() {
+            if market.bundle_of(f, before) != market.bundle_of(f, on) {
+                self.read(market, f, on, steps);
+            }
+        }
+    }
+}

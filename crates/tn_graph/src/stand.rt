@@ -1,0 +1,96 @@
+//! How a firm stands at a set of trades, and what its arcs cost.
+
+ghost use Rattle.std.specs.Prelude.{◌≡◌, ◌+◌, ◌≤◌, ◌<◌, ◌^◌, ◌==◌, ◌↔◌, IsTrue, IfSome, map};
+ghost use Rattle.tn_base.specs.Arcs.{IsAtMost};
+ghost use Rattle.tn_law.specs.Places.{trade_level, level, toggle_at, move, CanRise, CanFall};
+ghost use Rattle.tn_market.specs.ArcPlaces.{node_at};
+ghost use Rattle.tn_market.specs.Graph.{loss};
+ghost use Rattle.tn_graph.specs.Reading.{IsStand};
+
+use tn_base::{Bundle, Side, Steps, TradeSet};
+use tn_market::{Market, Valuation};
+
+/// A firm with its bundle of a set of trades, and what that is worth. The firm's places are its positions and, after
+/// them, null.
+#[derive(Drop)]
+pub struct Stand<'a, V: Valuation, const W: usize> {
+    pub market: &'a Market<V>,
+    pub on: &'a TradeSet<W>,
+    /// The number of the firm.
+    pub f: u32,
+    pub firm: &'a V,
+    /// How many trades are its own.
+    pub count: u32,
+    pub bundle: Bundle,
+    pub worth: i128,
+}
+
+/// A bundle of at most 64 positions toggled at a place: at null it stays.
+#[tactic(auto, unfolding(tn_law::specs::Places::toggle_at))]
+fn toggled(x: Bundle, count: u32, k: u32) -> Bundle
+    requires { count ≤ 64 }
+    ensures { result ≡ toggle_at count x k }
+{
+    if k < count { x.toggle(k) } else { x }
+}
+
+impl<V: Valuation, const W: usize> Stand<'_, V, W> {
+    /// The node of a place.
+    pub fn node(&self, k: u32) -> u32
+        requires stand { IsStand (map V.firm self.now.market.now.firms) self.now.market.now.trades self.now.on.now self.now.f self.now.count
+            (V.firm self.now.firm.now) (V.limit self.now.firm.now) self.now.bundle self.now.worth }
+        ensures { result ≡ node_at self.now.market.now.trades self.now.f self.now.count k }
+    {
+        if k < self.count {
+            self.market.own(self.f, k)
+        } else {
+            self.market.trades()
+        }
+    }
+
+    /// Whether a position has level 1.
+    #[tactic(auto, unfolding(tn_law::specs::Places::trade_level))]
+    fn is_high(&self, k: u32) -> bool
+        requires stand { IsStand (map V.firm self.now.market.now.firms) self.now.market.now.trades self.now.on.now self.now.f self.now.count
+            (V.firm self.now.firm.now) (V.limit self.now.firm.now) self.now.bundle self.now.worth }
+        requires own { k < self.now.count }
+        ensures { result ≡ (trade_level (V.firm self.now.firm.now).buys self.now.bundle k == 1) }
+    {
+        match self.firm.side(k) {
+            Side::Buy => self.bundle.has(k),
+            Side::Sell => !self.bundle.has(k),
+        }
+    }
+
+    /// Whether a place can be raised.
+    pub fn can_rise(&self, k: u32) -> bool
+        requires stand { IsStand (map V.firm self.now.market.now.firms) self.now.market.now.trades self.now.on.now self.now.f self.now.count
+            (V.firm self.now.firm.now) (V.limit self.now.firm.now) self.now.bundle self.now.worth }
+        ensures { IsTrue result ↔ CanRise self.now.count (level self.now.count (V.firm self.now.firm.now).buys self.now.bundle) k }
+    {
+        k >= self.count || !self.is_high(k)
+    }
+
+    /// Whether a place can be lowered.
+    pub fn can_fall(&self, k: u32) -> bool
+        requires stand { IsStand (map V.firm self.now.market.now.firms) self.now.market.now.trades self.now.on.now self.now.f self.now.count
+            (V.firm self.now.firm.now) (V.limit self.now.firm.now) self.now.bundle self.now.worth }
+        ensures { IsTrue result ↔ CanFall self.now.count (level self.now.count (V.firm self.now.firm.now).buys self.now.bundle) k }
+    {
+        k >= self.count || self.is_high(k)
+    }
+
+    /// What the firm loses by a move at two places, None where it makes its bundle impossible. It asks for one worth.
+    pub fn loss(&self, i: u32, j: u32, steps: &mut Steps<V::Mark>) -> Option<i128>
+        requires stand { IsStand (map V.firm self.now.market.now.firms) self.now.market.now.trades self.now.on.now self.now.f self.now.count
+            (V.firm self.now.firm.now) (V.limit self.now.firm.now) self.now.bundle self.now.worth }
+        ensures loss { result ≡ loss (V.firm self.now.firm.now) self.now.bundle (move self.now.count self.now.bundle i j) }
+        ensures small { IfSome result (λ c. IsAtMost c (10 ^ 18)) }
+        ensures asked { steps.new ≡ steps.old + 1 }
+    {
+        let raised = toggled(self.bundle, self.count, i);
+        let moved = toggled(raised, self.count, j);
+        let worth = self.firm.value(moved, steps)?;
+        Some(self.worth - worth)
+    }
+}
