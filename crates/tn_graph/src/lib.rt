@@ -5,5 +5,7 @@
 mod graph;
 mod reading;
 mod stand;
+#[cfg(test)]
+mod tests;
 
 pub use graph::Graph;
