@@ -1,0 +1,5 @@
+pub mod CellLemmas
+pub mod OrderLemmas
+pub mod WalkLemmas
+pub mod Rounds
+pub mod RoundLemmas
