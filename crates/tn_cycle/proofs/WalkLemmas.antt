@@ -82,7 +82,7 @@ pub found-shorter : (t : ℕ) (vs xs ys : List ℕ) → vs ≡ xs ++ t ∷ ys �
 found-shorter t vs xs ys split = omega (arith, ap length split, length-append xs (t ∷ ys))
 
 -- no number stands twice
-pub AreApart : List ℕ → Type 0
+unfoldable pub AreApart : List ℕ → Type 0
 AreApart [] = Unit {0}
 AreApart (x ∷ xs) = Avoids x xs × AreApart xs
 

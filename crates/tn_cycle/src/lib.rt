@@ -2,4 +2,12 @@
 #![tactic(auto)]
 
 mod cell;
+mod finder;
+mod graphs;
+mod path;
+mod read;
 mod search;
+mod through;
+
+pub use finder::{Finder, Labels};
+pub use path::Path;

@@ -1,0 +1,77 @@
+-- What the searches answer.
+use Rattle.std.specs.Prelude.{◌≡◌, ℕ, ◌+◌, ◌-◌, ◌*◌, ◌<◌, ◌≤◌, ◌⊎◌, ℤ, pos, neg_ℤ, ◌≤ℤ◌, ◌<ℤ◌, List, [], ◌∷◌, ◌++◌, length, All, Option, Some, None, slice_index_or}
+use Rattle.tn_base.specs.Arcs.{AreSmall}
+use Rattle.tn_base.specs.Walks.{AreDifferent, Avoids, CyclesCostAtLeast, HasNoNegativeCycle, IsCycle, IsLeastCycle, KeepsArcs, IsLeastWalk, IsUnreached}
+use Rattle.tn_cycle.specs.declared.path.Path.{Path}
+use Rattle.tn_cycle.specs.declared.path.Path.TheVariants as path
+use Rattle.tn_cycle.specs.declared.finder.Labels.{Labels}
+use Rattle.tn_cycle.specs.declared.finder.Labels.TheVariants.{Feasible, Negative}
+use Rattle.tn_cycle.specs.Reading.{Reading}
+
+-- the listed nodes are a least cycle from the node, of negative cost
+pub record IsFound (arc : ℕ → ℕ → Option ℤ) (node : ℕ) (listed : List ℕ) (cost : ℤ) (count : ℕ) : Type 0 where
+  pub rest : List ℕ
+  pub nodes_are : listed ≡ node ∷ rest
+  pub counted : count ≡ length listed
+  pub negative : cost <ℤ pos 0
+  pub least : IsLeastCycle arc node rest cost
+
+-- none where no cycle through the node is negative, and otherwise a least one
+abbrev pub AnswersCycle : (ℕ → ℕ → Option ℤ) → ℕ → List ℕ → Path → Type 0
+AnswersCycle arc node listed path.None = CyclesCostAtLeast arc node (pos 0) × (listed ≡ [])
+AnswersCycle arc node listed (path.Cycle cost count) = IsFound arc node listed cost count
+
+-- how many arcs an answer has
+abbrev pub arcs_of : Path → ℕ
+arcs_of path.None = 0
+arcs_of (path.Cycle cost count) = count
+
+-- numbers by node, 0 past the last node
+abbrev pub label_in : List ℤ → ℕ → ℤ
+label_in labels v = slice_index_or labels v (pos 0)
+
+-- the labels keep the arcs, and are between 0 and the least cost of a path
+pub record AreLabels (nodes : ℕ) (arc : ℕ → ℕ → Option ℤ) (labels : List ℤ) : Type 0 where
+  pub one_each : length labels ≡ nodes
+  pub keeps : KeepsArcs arc (label_in labels)
+  pub high : (v : ℕ) → v < nodes → label_in labels v ≤ℤ pos 0
+  pub low : (limit v : ℕ) → AreSmall arc limit → v < nodes → neg_ℤ (pos ((nodes - 1) * limit)) ≤ℤ label_in labels v
+
+-- a cycle begins with the last node, or it lacks that and begins with its lowest node
+abbrev pub BeginsWell : ℕ → ℕ → List ℕ → Type 0
+BeginsWell nodes first listed = (first + 1 ≡ nodes) ⊎ All (λ v. (first ≤ v) × (v + 1 < nodes)) listed
+
+-- the listed nodes are a cycle of negative cost without a node twice
+pub record IsNegative (nodes : ℕ) (arc : ℕ → ℕ → Option ℤ) (listed : List ℕ) (cost : ℤ) (count : ℕ) : Type 0 where
+  pub first : ℕ
+  pub rest : List ℕ
+  pub nodes_are : listed ≡ first ∷ rest
+  pub counted : count ≡ length listed
+  pub negative : cost <ℤ pos 0
+  pub cycle : IsCycle arc first rest cost
+  pub begins : BeginsWell nodes first listed
+
+-- labels, where no closed walk is negative, and otherwise a negative cycle
+abbrev pub AnswersLabels : ℕ → (ℕ → ℕ → Option ℤ) → Reading → Labels → Type 0
+AnswersLabels nodes arc reading Feasible = HasNoNegativeCycle arc × AreLabels nodes arc reading.labels × (reading.listed ≡ [])
+AnswersLabels nodes arc reading (Negative cost count) = IsNegative nodes arc reading.listed cost count × (reading.labels ≡ [])
+
+-- the nodes of a walk from u to w of least cost, in which no node stands twice but for the two ends, where they are one
+pub record IsLeastPath (arc : ℕ → ℕ → Option ℤ) (u w : ℕ) (listed : List ℕ) (cost : ℤ) : Type 0 where
+  pub inner : List ℕ
+  pub nodes_are : listed ≡ (u ∷ inner) ++ w ∷ []
+  pub least : IsLeastWalk arc u w inner cost
+  pub different : AreDifferent (u ∷ inner)
+  pub ends : Avoids w inner
+
+-- the least cost of a walk from u to w with such a walk's nodes, none where there is no walk
+abbrev pub LeadsLeast : (ℕ → ℕ → Option ℤ) → ℕ → ℕ → List ℕ → Option ℤ → Type 0
+LeadsLeast arc u w listed None = IsUnreached arc u w
+LeadsLeast arc u w listed (Some cost) = IsLeastPath arc u w listed cost
+
+-- the least cost for a node, and its walk
+abbrev pub distance_in : Reading → ℕ → Option ℤ
+distance_in reading v = slice_index_or reading.distances v None
+
+abbrev pub walk_in : Reading → ℕ → List ℕ
+walk_in reading v = slice_index_or reading.walks v []

@@ -1,0 +1,63 @@
+-- What a finder lets be read.
+use Rattle.std.specs.Prelude.{◌≡◌, ℕ, ◌+◌, ◌≤◌, ◌<◌, ℤ, List, [], ◌∷◌, ◌++◌, length, map, take, reverse, All, Option, None, slice_index_or, Bool, if◌then◌else◌}
+use Rattle.std.specs.List.{range_with_len}
+use Rattle.tn_cycle.specs.declared.cell.Cell.{Cell}
+use Rattle.tn_cycle.specs.Cells.{cell_at, trail}
+
+pub record Reading : Type 0 where
+  -- how many nodes the finder serves
+  pub nodes : ℕ
+  -- the nodes of the last cycle or walk, in order
+  pub listed : List ℕ
+  -- the label of each node, after a search for labels that has found some
+  pub labels : List ℤ
+  -- the least cost of a walk for each node, and that walk's nodes, after a search for least walks
+  pub distances : List (Option ℤ)
+  pub walks : List (List ℕ)
+
+-- nothing may be read
+abbrev pub nothing : ℕ → Reading
+nothing nodes = record { nodes = nodes; listed = []; labels = []; distances = []; walks = [] }
+
+-- nodes alone may be read
+pub record ListsOnly (nodes : ℕ) (reading : Reading) : Type 0 where
+  pub same_nodes : reading.nodes ≡ nodes
+  pub no_labels : reading.labels ≡ []
+  pub no_distances : reading.distances ≡ []
+  pub no_walks : reading.walks ≡ []
+
+-- the nodes from v on that the cells lead to, and the end
+abbrev pub way : ℕ → (ℕ → Cell) → ℕ → List ℕ
+way end cell v = (v ∷ trail cell (cell v).round v) ++ end ∷ []
+
+-- the nodes of a walk in order: from v to the end, or in the graph turned round from the end to v
+abbrev pub walk_nodes : Bool → ℕ → (ℕ → Cell) → ℕ → List ℕ
+walk_nodes turns end cell v = if turns then reverse (way end cell v) else way end cell v
+
+-- what the finder's parts let be read, the first so many of each
+abbrev pub reading_of : ℕ → ℕ → List ℕ → ℕ → List ℤ → ℕ → Bool → ℕ → List Cell → Reading
+reading_of nodes count path labelled labels reached turns end row = record {
+  nodes = nodes;
+  listed = take count path;
+  labels = take labelled labels;
+  distances = map (λ v. (cell_at row v).cost) (range_with_len 0 reached);
+  walks = map (walk_nodes turns end (cell_at row)) (range_with_len 0 reached);
+}
+
+-- the nodes that the cell of v leads to are nodes, and few enough to be listed
+pub record IsListable (places : ℕ) (row : List Cell) (v : ℕ) : Type 0 where
+  pub few : (cell_at row v).round + 2 ≤ places
+  pub inside : All (λ u. u < length row) (trail (cell_at row) (cell_at row v).round v)
+
+-- the finder's lists are long enough for its nodes
+pub record HasPlaces (nodes count labelled reached path labels row_places new_places : ℕ) (row : List Cell) : Type 0 where
+  pub some : 1 ≤ nodes
+  pub not_many : nodes ≤ 1025
+  pub row_sized : row_places ≡ nodes + 1
+  pub new_sized : new_places ≡ nodes + 1
+  pub path_sized : path ≡ nodes + 2
+  pub labels_sized : labels ≡ nodes
+  pub listed : count ≤ nodes + 2
+  pub labels_read : labelled ≤ nodes
+  pub walks_read : reached ≤ nodes
+  pub listable : (v : ℕ) → v < reached → IsListable (nodes + 2) row v

@@ -1,0 +1,132 @@
+ghost use Rattle.std.specs.Prelude.{◌≡◌, ◌+◌, ◌-◌, ◌*◌, ◌<◌, ◌≤◌, Some, None, length, slice_get, IfOk, IsTrue, is_some, true};
+ghost use Rattle.tn_base.specs.Walks.{arcs_among, HasNoNegativeCycle};
+ghost use Rattle.tn_cycle.specs.Graphs.{is_admitted, is_looked_at};
+ghost use Rattle.tn_cycle.specs.Searched.{HasNoNegativeCycleOff};
+
+use crate::cell::Cell;
+use crate::graphs::{Looked, Part, Sunk, Turned};
+use crate::path::Path;
+use crate::read::turn;
+use crate::search::search;
+use crate::through::least_cycle;
+use std::alloc::Global;
+use std::marker::Model;
+use tn_base::{Costs, OutOfMemory, TradeSet};
+
+/// What `Finder::labels` answers.
+#[derive(Clone, Copy, Debug, PartialEq, Eq)]
+pub enum Labels {
+    /// No cycle is negative, and the labels may be read.
+    Feasible,
+    /// A negative cycle.
+    Negative {
+        /// The sum of its arcs' costs.
+        cost: i128,
+        /// How many arcs it has, and as many nodes.
+        length: u32,
+    },
+}
+
+#[derive(Drop)]
+pub struct Finder {
+    nodes: u32,
+    row: Vec<Cell>,
+    after: Vec<Cell>,
+    path: Vec<u32>,
+    count: u32,
+    labels: Vec<i128>,
+    labelled: u32,
+    reached: u32,
+    turns: bool,
+    end: u32,
+}
+
+impl Model for Finder {
+    ghost use Rattle.std.specs.Prelude.{vec_len};
+    ghost use Rattle.tn_cycle.specs.Reading.{HasPlaces, Reading, reading_of};
+
+    ghost Value = { Reading };
+
+    ghost view = { λ f. reading_of f.nodes f.count f.path.items f.labelled f.labels.items f.reached f.turns f.end f.row.items };
+
+    ghost invariant = { λ f. HasPlaces f.nodes f.count f.labelled f.reached (vec_len f.path) (vec_len f.labels) (vec_len f.row) (vec_len f.after) f.row.items };
+}
+
+impl Finder {
+    ghost use Rattle.tn_cycle.specs.Reading.{ListsOnly, nothing};
+    ghost use Rattle.tn_cycle.specs.Answers.{AnswersCycle};
+
+    pub fn new(alloc: Global, nodes: u32) -> Result<Finder, OutOfMemory>
+        requires some { 1 ≤ nodes }
+        requires few { nodes ≤ 1025 }
+        ensures { IfOk result (λ finder. finder ≡ nothing nodes) }
+    {
+        let cell = Cell {
+            cost: None,
+            round: 0,
+            next: 0,
+        };
+        let places = nodes as usize;
+        Ok(Finder {
+            nodes,
+            row: vec![in alloc; cell; places + 1]?,
+            after: vec![in alloc; cell; places + 1]?,
+            path: vec![in alloc; 0; places + 2]?,
+            count: 0,
+            labels: vec![in alloc; 0; places]?,
+            labelled: 0,
+            reached: 0,
+            turns: false,
+            end: 0,
+        })
+    }
+
+    /// The `k`-th node of the last cycle or walk.
+    pub fn at(&self, k: u32) -> u32
+        requires { k < length self.now.listed }
+        ensures { slice_get self.now.listed k ≡ Some result }
+    {
+        self.path[k as usize]
+    }
+
+    /// A least cycle through the node, where one is negative.
+    fn cycle_through<C: Costs>(&mut self, costs: &C, node: u32) -> Path
+        requires sized { C.node_count costs.now ≡ self.old.nodes }
+        requires inside { node < self.old.nodes }
+        requires others { HasNoNegativeCycleOff (C.arc costs.now) node }
+        ensures answer { AnswersCycle (C.arc costs.now) node self.new.listed result }
+        ensures rest { ListsOnly self.old.nodes self.new }
+    {
+        self.labelled = 0;
+        self.reached = 0;
+        let found = least_cycle(costs, node, &mut self.row, &mut self.after, &mut self.path);
+        self.count = found.arcs();
+        found
+    }
+
+    pub fn through<C: Costs, const W: usize>(
+        &mut self,
+        costs: &C,
+        node: u32,
+        admitted: &TradeSet<W>,
+    ) -> Path
+        requires sized { C.node_count costs.now ≡ self.old.nodes }
+        requires wide { self.old.nodes ≤ 64 * W + 1 }
+        requires width { W ≤ 16 }
+        requires trade { node + 1 < self.old.nodes }
+        requires others { HasNoNegativeCycle (arcs_among (is_admitted (self.old.nodes - 1) admitted.now) (C.arc costs.now)) }
+        ensures answer { AnswersCycle (arcs_among (is_looked_at (self.old.nodes - 1) node admitted.now) (C.arc costs.now)) node self.new.listed result }
+        ensures rest { ListsOnly self.old.nodes self.new }
+    {
+        let null = self.nodes - 1;
+        self.cycle_through(
+            &Looked {
+                costs,
+                null,
+                node,
+                admitted,
+            },
+            node,
+        )
+    }
+}

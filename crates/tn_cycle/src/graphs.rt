@@ -1,0 +1,137 @@
+ghost use Rattle.std.specs.Prelude.{◌≡◌, ◌+◌, ◌*◌, ◌^◌, ◌<◌, ◌≤◌};
+ghost use Rattle.tn_base.specs.Walks.{arcs_among};
+ghost use Rattle.tn_cycle.specs.Graphs.{is_between, is_looked_at, turned, with_sink};
+ghost use Rattle.tn_cycle.specs.GraphLaws.{between-arcs_among, between-turned, between-with_sink, small-arcs_among, small-turned, small-with_sink};
+
+use tn_base::{Costs, TradeSet};
+
+/// A graph's node, its admitted trades and its null node, with the arcs among them.
+#[derive(Drop)]
+pub struct Looked<'a, C: Costs, const W: usize> {
+    pub costs: &'a C,
+    pub null: u32,
+    pub node: u32,
+    pub admitted: &'a TradeSet<W>,
+    ghost wide: { W ≤ 16 },
+    ghost fits: { null ≤ 64 * W },
+    ghost last: { C.node_count costs.now ≡ null + 1 },
+}
+
+impl<C: Costs, const W: usize> Looked<'_, C, W> {
+    /// Whether it has the node.
+    fn looks_at(&self, v: u32) -> bool
+        requires { v ≤ self.now.null }
+        ensures { result ≡ is_looked_at self.now.null self.now.node self.now.admitted.now v }
+    {
+        v == self.node || v == self.null || self.admitted.has(v)
+    }
+}
+
+impl<C: Costs, const W: usize> Costs for Looked<'_, C, W> {
+    ghost node_count = { λ it. C.node_count it.costs.now };
+
+    ghost arc = { λ it. arcs_among (is_looked_at it.null it.node it.admitted.now) (C.arc it.costs.now) };
+
+    fn nodes(&self) -> u32 {
+        self.costs.nodes()
+    }
+
+    fn cost(&self, a: u32, b: u32) -> Option<i128> {
+        if self.looks_at(a) && self.looks_at(b) {
+            self.costs.cost(a, b)
+        } else {
+            None
+        }
+    }
+
+    ghost between_nodes = { λ it. between-arcs_among (is_looked_at it.null it.node it.admitted.now) (C.node_count it.costs.now) (C.arc it.costs.now) (C.between_nodes it.costs.now) };
+
+    ghost small = { λ it. small-arcs_among (is_looked_at it.null it.node it.admitted.now) (10 ^ 18) (C.arc it.costs.now) (C.small it.costs.now) };
+}
+
+/// A graph's trades from the first one on, with the arcs among them.
+#[derive(Drop)]
+pub struct Part<'a, C> {
+    pub costs: &'a C,
+    pub null: u32,
+    pub first: u32,
+}
+
+impl<C: Costs> Costs for Part<'_, C> {
+    ghost node_count = { λ it. C.node_count it.costs.now };
+
+    ghost arc = { λ it. arcs_among (is_between it.first it.null) (C.arc it.costs.now) };
+
+    fn nodes(&self) -> u32 {
+        self.costs.nodes()
+    }
+
+    fn cost(&self, a: u32, b: u32) -> Option<i128> {
+        if self.first <= a && a < self.null && self.first <= b && b < self.null {
+            self.costs.cost(a, b)
+        } else {
+            None
+        }
+    }
+
+    ghost between_nodes = { λ it. between-arcs_among (is_between it.first it.null) (C.node_count it.costs.now) (C.arc it.costs.now) (C.between_nodes it.costs.now) };
+
+    ghost small = { λ it. small-arcs_among (is_between it.first it.null) (10 ^ 18) (C.arc it.costs.now) (C.small it.costs.now) };
+}
+
+/// A graph with one node more, to which an arc of cost 0 leads from each other node.
+#[derive(Drop)]
+pub struct Sunk<'a, C: Costs> {
+    pub costs: &'a C,
+    pub sink: u32,
+    ghost last: { C.node_count costs.now ≡ sink },
+    ghost few: { sink ≤ 1025 },
+}
+
+impl<C: Costs> Costs for Sunk<'_, C> {
+    ghost node_count = { λ it. C.node_count it.costs.now + 1 };
+
+    ghost arc = { λ it. with_sink (C.node_count it.costs.now) (C.arc it.costs.now) };
+
+    fn nodes(&self) -> u32 {
+        self.sink + 1
+    }
+
+    fn cost(&self, a: u32, b: u32) -> Option<i128> {
+        if a == self.sink {
+            None
+        } else if b == self.sink {
+            Some(0)
+        } else {
+            self.costs.cost(a, b)
+        }
+    }
+
+    ghost between_nodes = { λ it. between-with_sink (C.node_count it.costs.now) (C.arc it.costs.now) (C.between_nodes it.costs.now) };
+
+    ghost small = { λ it. small-with_sink (C.node_count it.costs.now) (10 ^ 18) (C.arc it.costs.now) (C.small it.costs.now) };
+}
+
+/// A graph with its arcs turned round.
+#[derive(Drop)]
+pub struct Turned<'a, C> {
+    pub costs: &'a C,
+}
+
+impl<C: Costs> Costs for Turned<'_, C> {
+    ghost node_count = { λ it. C.node_count it.costs.now };
+
+    ghost arc = { λ it. turned (C.arc it.costs.now) };
+
+    fn nodes(&self) -> u32 {
+        self.costs.nodes()
+    }
+
+    fn cost(&self, a: u32, b: u32) -> Option<i128> {
+        self.costs.cost(b, a)
+    }
+
+    ghost between_nodes = { λ it. between-turned (C.node_count it.costs.now) (C.arc it.costs.now) (C.between_nodes it.costs.now) };
+
+    ghost small = { λ it. small-turned (10 ^ 18) (C.arc it.costs.now) (C.small it.costs.now) };
+}

@@ -1,0 +1,34 @@
+ghost use Rattle.std.specs.Prelude.{◌≡◌, ℕ, ◌+◌, ◌<◌, ◌≤◌, ◌^◌, pos, neg_ℤ, ◌≤ℤ◌, ◌-ℤ◌, All, length, take, reverse, Option, Some, slice_index_or};
+ghost use Rattle.tn_base.specs.Arcs.{IsAtMost};
+ghost use Rattle.tn_cycle.specs.Cells.{HasRoom, cell_at};
+ghost use Rattle.tn_cycle.specs.Reading.{IsListable, way};
+
+use crate::cell::Cell;
+
+/// Lists the nodes of the walk from `v` to `end` that the cells lead along, both ends among them, and gives the number
+/// of its arcs.
+pub(crate) fn list_way(row: &[Cell], v: u32, end: u32, path: &mut [u32]) -> u32
+    requires inside { v < length row.now }
+    requires short { length path.old ≤ 2 ^ 31 }
+    requires listable { IsListable (length path.old) row.now v }
+    ensures nodes { take (result + 1) path.new ≡ way end (cell_at row.now) v }
+    ensures arcs { result ≡ (cell_at row.now v).round + 1 }
+{
+    let count = row[v as usize].round;
+    let mut at = v;
+    for k in 0..count {
+        path[k as usize] = at;
+        at = row[at as usize].next;
+    }
+    path[count as usize] = at;
+    path[count as usize + 1] = end;
+    count + 1
+}
+
+/// Turns the first nodes of the list round.
+pub(crate) fn turn(path: &mut [u32], count: u32)
+    requires { count ≤ length path.old }
+    ensures { take count path.new ≡ reverse (take count path.old) }
+{
+    path[..count as usize].reverse();
+}

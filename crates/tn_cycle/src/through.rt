@@ -1,0 +1,38 @@
+ghost use Rattle.std.specs.Prelude.{◌≡◌, ◌+◌, ◌≤◌, ◌<◌, take, length};
+ghost use Rattle.tn_cycle.specs.Searched.{HasNoNegativeCycleOff};
+ghost use Rattle.tn_cycle.specs.Answers.{AnswersCycle, arcs_of};
+
+use crate::cell::Cell;
+use crate::path::Path;
+use crate::read::list_way;
+use crate::search::search;
+use tn_base::Costs;
+
+/// A least cycle through the node, where one is negative. Its nodes then stand at the front of `path`.
+pub(crate) fn least_cycle<C: Costs>(
+    costs: &C,
+    node: u32,
+    row: &mut [Cell],
+    after: &mut [Cell],
+    path: &mut [u32],
+) -> Path
+    requires sized { C.node_count costs.now ≤ length row.old }
+    requires after_sized { length after.old ≡ length row.old }
+    requires path_sized { C.node_count costs.now + 1 ≤ length path.old }
+    requires few { C.node_count costs.now ≤ 1026 }
+    requires short { length path.old ≤ 2000 }
+    requires inside { node < C.node_count costs.now }
+    requires others { HasNoNegativeCycleOff (C.arc costs.now) node }
+    ensures answer { AnswersCycle (C.arc costs.now) node (take (arcs_of result) path.new) result }
+    ensures few_arcs { arcs_of result ≤ C.node_count costs.now }
+{
+    search(costs, node, row, after);
+    let least = row[node as usize];
+    match least.cost {
+        Some(cost) if cost < 0 => Path::Cycle {
+            cost,
+            length: list_way(row, node, node, path),
+        },
+        _ => Path::None,
+    }
+}
