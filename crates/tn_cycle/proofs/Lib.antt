@@ -2,6 +2,8 @@ pub mod CellLemmas
 pub mod ReadLemmas
 pub mod SettledLemmas
 pub mod GraphLemmas
+pub mod NegativeLemmas
+pub mod LabelLemmas
 pub mod OrderLemmas
 pub mod WalkLemmas
 pub mod Rounds

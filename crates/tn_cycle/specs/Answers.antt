@@ -1,7 +1,8 @@
 -- What the searches answer.
-use Rattle.std.specs.Prelude.{◌≡◌, ℕ, ◌+◌, ◌-◌, ◌*◌, ◌<◌, ◌≤◌, ◌⊎◌, ℤ, pos, neg_ℤ, ◌≤ℤ◌, ◌<ℤ◌, List, [], ◌∷◌, ◌++◌, length, All, Option, Some, None, slice_index_or}
+use Rattle.std.specs.Prelude.{◌≡◌, ℕ, ◌+◌, ◌-◌, ◌*◌, ◌<◌, ◌≤◌, ◌⊎◌, ℤ, pos, neg_ℤ, ◌≤ℤ◌, ◌<ℤ◌, List, [], ◌∷◌, ◌++◌, length, All, Option, Some, None, slice_index_or, unwrap_or}
 use Rattle.tn_base.specs.Arcs.{AreSmall}
 use Rattle.tn_base.specs.Walks.{AreDifferent, Avoids, CyclesCostAtLeast, HasNoNegativeCycle, IsCycle, IsLeastCycle, KeepsArcs, IsLeastWalk, IsUnreached}
+use Rattle.tn_cycle.specs.declared.cell.Cell.{Cell}
 use Rattle.tn_cycle.specs.declared.path.Path.{Path}
 use Rattle.tn_cycle.specs.declared.path.Path.TheVariants as path
 use Rattle.tn_cycle.specs.declared.finder.Labels.{Labels}
@@ -36,6 +37,12 @@ pub record AreLabels (nodes : ℕ) (arc : ℕ → ℕ → Option ℤ) (labels : 
   pub keeps : KeepsArcs arc (label_in labels)
   pub high : (v : ℕ) → v < nodes → label_in labels v ≤ℤ pos 0
   pub low : (limit v : ℕ) → AreSmall arc limit → v < nodes → neg_ℤ (pos ((nodes - 1) * limit)) ≤ℤ label_in labels v
+
+-- a number that is at most 0 and at most the costs of the first cells, and that no other such number is above
+pub record IsLowest (nodes : ℕ) (cell : ℕ → Cell) (lowest : ℤ) : Type 0 where
+  pub at_most_none : lowest ≤ℤ pos 0
+  pub at_most_each : (v : ℕ) → v < nodes → lowest ≤ℤ unwrap_or (cell v).cost (pos 0)
+  pub greatest : (bound : ℤ) → bound ≤ℤ pos 0 → ((v : ℕ) → v < nodes → bound ≤ℤ unwrap_or (cell v).cost (pos 0)) → bound ≤ℤ lowest
 
 -- a cycle begins with the last node, or it lacks that and begins with its lowest node
 abbrev pub BeginsWell : ℕ → ℕ → List ℕ → Type 0
@@ -75,3 +82,8 @@ distance_in reading v = slice_index_or reading.distances v None
 
 abbrev pub walk_in : Reading → ℕ → List ℕ
 walk_in reading v = slice_index_or reading.walks v []
+
+-- there is an answer, and the listed nodes are a cycle of negative cost
+abbrev pub AnswersNegative : ℕ → (ℕ → ℕ → Option ℤ) → List ℕ → Path → Type 0
+AnswersNegative nodes arc listed path.None = ⊥
+AnswersNegative nodes arc listed (path.Cycle cost count) = IsNegative nodes arc listed cost count

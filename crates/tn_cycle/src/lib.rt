@@ -4,6 +4,7 @@
 mod cell;
 mod finder;
 mod graphs;
+mod labels;
 mod path;
 mod read;
 mod search;

@@ -1,0 +1,6 @@
+use Rattle.tn_cycle.specs.Cells.{cell_at}
+use Rattle.tn_cycle.specs.Answers.{IsLowest}
+use Rattle.tn_cycle.proofs.labels.lowest_cost.Given as goal
+
+abbrev pub invariant-loop-v : goal.invariant-loop-v
+invariant-loop-v l = IsLowest l.v (cell_at l.row) l.lowest
