@@ -37,7 +37,8 @@ inside-next cell places count k v fewer inside =
     (All-tail (λ u. u < places) v (trail cell (count - k) v) inside)
 
 -- what was written to the front of a list is read there
-pub front-written : (written rest : List ℕ) (count places : ℕ) → count ≤ places → count ≤ length written → take count (take places (written ++ rest)) ≡ take count written
+pub front-written : {A : Type 0} (written rest : List A) (count places : ℕ) → count ≤ places → count ≤ length written
+    → take count (take places (written ++ rest)) ≡ take count written
 front-written written rest count places within inside = take-take count places (written ++ rest) within ∙ take-append-le count written rest inside
 
 -- the listed walk without its end

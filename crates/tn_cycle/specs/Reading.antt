@@ -26,6 +26,12 @@ pub record ListsOnly (nodes : ℕ) (reading : Reading) : Type 0 where
   pub no_distances : reading.distances ≡ []
   pub no_walks : reading.walks ≡ []
 
+-- no walks may be read
+pub record ListsNoWalks (nodes : ℕ) (reading : Reading) : Type 0 where
+  pub same_nodes : reading.nodes ≡ nodes
+  pub no_distances : reading.distances ≡ []
+  pub no_walks : reading.walks ≡ []
+
 -- the nodes from v on that the cells lead to, and the end
 abbrev pub way : ℕ → (ℕ → Cell) → ℕ → List ℕ
 way end cell v = (v ∷ trail cell (cell v).round v) ++ end ∷ []

@@ -5,10 +5,11 @@ ghost use Rattle.tn_cycle.specs.Searched.{HasNoNegativeCycleOff};
 
 use crate::cell::Cell;
 use crate::graphs::{Looked, Part, Sunk, Turned};
+use crate::labels::find_labels;
 use crate::path::Path;
 use crate::read::turn;
 use crate::search::search;
-use crate::through::least_cycle;
+use crate::through::{least_cycle, negative_cycle};
 use std::alloc::Global;
 use std::marker::Model;
 use tn_base::{Costs, OutOfMemory, TradeSet};
@@ -53,8 +54,8 @@ impl Model for Finder {
 }
 
 impl Finder {
-    ghost use Rattle.tn_cycle.specs.Reading.{ListsOnly, nothing};
-    ghost use Rattle.tn_cycle.specs.Answers.{AnswersCycle};
+    ghost use Rattle.tn_cycle.specs.Reading.{ListsNoWalks, ListsOnly, nothing};
+    ghost use Rattle.tn_cycle.specs.Answers.{AnswersCycle, AnswersLabels};
 
     pub fn new(alloc: Global, nodes: u32) -> Result<Finder, OutOfMemory>
         requires some { 1 ≤ nodes }
@@ -128,5 +129,33 @@ impl Finder {
             },
             node,
         )
+    }
+
+    pub fn labels<C: Costs>(&mut self, costs: &C) -> Labels
+        requires sized { C.node_count costs.now ≡ self.old.nodes }
+        ensures answer { AnswersLabels self.old.nodes (C.arc costs.now) self.new result }
+        ensures rest { ListsNoWalks self.old.nodes self.new }
+    {
+        self.reached = 0;
+        self.labelled = 0;
+        self.count = 0;
+        if find_labels(costs, &mut self.row, &mut self.after, &mut self.labels) {
+            self.labelled = self.nodes;
+            return Labels::Feasible;
+        }
+        let found = negative_cycle(costs, &mut self.row, &mut self.after, &mut self.path);
+        self.count = found.arcs();
+        match found {
+            Path::Cycle { cost, length } => Labels::Negative { cost, length },
+            Path::None => unreachable!(),
+        }
+    }
+
+    /// The label of a node.
+    pub fn label(&self, v: u32) -> i128
+        requires { v < length self.now.labels }
+        ensures { slice_get self.now.labels v ≡ Some result }
+    {
+        self.labels[v as usize]
     }
 }
