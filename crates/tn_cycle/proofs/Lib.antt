@@ -3,6 +3,8 @@ pub mod ReadLemmas
 pub mod SettledLemmas
 pub mod GraphLemmas
 pub mod NegativeLemmas
+pub mod TurnLemmas
+pub mod ViewLemmas
 pub mod LabelLemmas
 pub mod OrderLemmas
 pub mod WalkLemmas

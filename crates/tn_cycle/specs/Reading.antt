@@ -32,6 +32,13 @@ pub record ListsNoWalks (nodes : ℕ) (reading : Reading) : Type 0 where
   pub no_distances : reading.distances ≡ []
   pub no_walks : reading.walks ≡ []
 
+-- walks may be read, one for each node, and nothing is listed yet
+pub record ReadsWalks (nodes : ℕ) (reading : Reading) : Type 0 where
+  pub same_nodes : reading.nodes ≡ nodes
+  pub one_each : length reading.distances ≡ nodes
+  pub no_list : reading.listed ≡ []
+  pub no_labels : reading.labels ≡ []
+
 -- the nodes from v on that the cells lead to, and the end
 abbrev pub way : ℕ → (ℕ → Cell) → ℕ → List ℕ
 way end cell v = (v ∷ trail cell (cell v).round v) ++ end ∷ []

@@ -1,13 +1,13 @@
-ghost use Rattle.std.specs.Prelude.{◌≡◌, ◌+◌, ◌-◌, ◌*◌, ◌<◌, ◌≤◌, Some, None, length, slice_get, IfOk, IsTrue, is_some, true};
+ghost use Rattle.std.specs.Prelude.{◌≡◌, ℕ, ◌+◌, ◌-◌, ◌*◌, ◌<◌, ◌≤◌, Some, None, length, slice_get, IfOk, IsTrue, IsSome};
 ghost use Rattle.tn_base.specs.Walks.{arcs_among, HasNoNegativeCycle};
 ghost use Rattle.tn_cycle.specs.Graphs.{is_admitted, is_looked_at};
 ghost use Rattle.tn_cycle.specs.Searched.{HasNoNegativeCycleOff};
 
 use crate::cell::Cell;
-use crate::graphs::{Looked, Part, Sunk, Turned};
+use crate::graphs::{Looked, Turned};
 use crate::labels::find_labels;
 use crate::path::Path;
-use crate::read::turn;
+use crate::read::list_walk;
 use crate::search::search;
 use crate::through::{least_cycle, negative_cycle};
 use std::alloc::Global;
@@ -54,8 +54,8 @@ impl Model for Finder {
 }
 
 impl Finder {
-    ghost use Rattle.tn_cycle.specs.Reading.{ListsNoWalks, ListsOnly, nothing};
-    ghost use Rattle.tn_cycle.specs.Answers.{AnswersCycle, AnswersLabels};
+    ghost use Rattle.tn_cycle.specs.Reading.{ListsNoWalks, ListsOnly, ReadsWalks, nothing};
+    ghost use Rattle.tn_cycle.specs.Answers.{AnswersCycle, AnswersLabels, LeadsLeast, distance_in, walk_in};
 
     pub fn new(alloc: Global, nodes: u32) -> Result<Finder, OutOfMemory>
         requires some { 1 ≤ nodes }
@@ -157,5 +157,56 @@ impl Finder {
         ensures { slice_get self.now.labels v ≡ Some result }
     {
         self.labels[v as usize]
+    }
+
+    /// Finds the least walks from each node to the given one.
+    pub fn least_to<C: Costs>(&mut self, costs: &C, node: u32)
+        requires sized { C.node_count costs.now ≡ self.old.nodes }
+        requires inside { node < self.old.nodes }
+        requires none_negative { HasNoNegativeCycle (C.arc costs.now) }
+        ensures walks { (v : ℕ) → v < self.old.nodes → LeadsLeast (C.arc costs.now) v node (walk_in self.new v) (distance_in self.new v) }
+        ensures rest { ReadsWalks self.old.nodes self.new }
+    {
+        self.count = 0;
+        self.labelled = 0;
+        search(costs, node, &mut self.row, &mut self.after);
+        self.reached = self.nodes;
+        self.turns = false;
+        self.end = node;
+    }
+
+    /// Finds the least walks from the given node to each one.
+    pub fn least_from<C: Costs>(&mut self, costs: &C, node: u32)
+        requires sized { C.node_count costs.now ≡ self.old.nodes }
+        requires inside { node < self.old.nodes }
+        requires none_negative { HasNoNegativeCycle (C.arc costs.now) }
+        ensures walks { (v : ℕ) → v < self.old.nodes → LeadsLeast (C.arc costs.now) node v (walk_in self.new v) (distance_in self.new v) }
+        ensures rest { ReadsWalks self.old.nodes self.new }
+    {
+        self.count = 0;
+        self.labelled = 0;
+        search(&Turned { costs }, node, &mut self.row, &mut self.after);
+        self.reached = self.nodes;
+        self.turns = true;
+        self.end = node;
+    }
+
+    /// The least cost of a walk of the node.
+    pub fn distance(&self, v: u32) -> Option<i128>
+        requires { v < length self.now.distances }
+        ensures { result ≡ distance_in self.now v }
+    {
+        self.row[v as usize].cost
+    }
+
+    /// Lists the nodes of the node's least walk, its two ends among them, and gives their number.
+    pub fn walk(&mut self, v: u32) -> u32
+        requires inside { v < length self.old.distances }
+        requires reached { IsSome (distance_in self.old v) }
+        ensures listed { self.new ≡ record self.old { listed = walk_in self.old v } }
+        ensures count { result ≡ length self.new.listed }
+    {
+        self.count = list_walk(&self.row, v, self.end, self.turns, &mut self.path);
+        self.count
     }
 }

@@ -1,7 +1,7 @@
 ghost use Rattle.std.specs.Prelude.{◌≡◌, ℕ, ◌+◌, ◌<◌, ◌≤◌, ◌^◌, pos, neg_ℤ, ◌≤ℤ◌, ◌-ℤ◌, All, length, take, reverse, Option, Some, slice_index_or};
 ghost use Rattle.tn_base.specs.Arcs.{IsAtMost};
 ghost use Rattle.tn_cycle.specs.Cells.{HasRoom, cell_at};
-ghost use Rattle.tn_cycle.specs.Reading.{IsListable, way};
+ghost use Rattle.tn_cycle.specs.Reading.{IsListable, walk_nodes, way};
 
 use crate::cell::Cell;
 
@@ -26,9 +26,24 @@ pub(crate) fn list_way(row: &[Cell], v: u32, end: u32, path: &mut [u32]) -> u32
 }
 
 /// Turns the first nodes of the list round.
-pub(crate) fn turn(path: &mut [u32], count: u32)
+fn turn(path: &mut [u32], count: u32)
     requires { count ≤ length path.old }
     ensures { take count path.new ≡ reverse (take count path.old) }
 {
     path[..count as usize].reverse();
+}
+
+/// Lists the nodes of the walk of `v`, its two ends among them, from `v` on or turned round, and gives their number.
+pub(crate) fn list_walk(row: &[Cell], v: u32, end: u32, turns: bool, path: &mut [u32]) -> u32
+    requires inside { v < length row.now }
+    requires short { length path.old ≤ 2 ^ 31 }
+    requires listable { IsListable (length path.old) row.now v }
+    ensures nodes { take result path.new ≡ walk_nodes turns end (cell_at row.now) v }
+    ensures count { result ≡ (cell_at row.now v).round + 2 }
+{
+    let count = list_way(row, v, end, path) + 1;
+    if turns {
+        turn(path, count);
+    }
+    count
 }

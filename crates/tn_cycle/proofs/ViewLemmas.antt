@@ -1,0 +1,100 @@
+-- What the finder's parts let be read.
+use Rattle.std.proofs.Common.{◌≡◌, ℕ, ◌+◌, ◌<◌, ◌≤◌, refl, sym, ap, ◌∙◌, subst, arith, List, ◌++◌, length, take, drop, ℤ, Option, None, Bool, true, false}
+use Rattle.std.specs.Prelude.{All}
+use Rattle.std.proofs.lemmas.List.{take_all, length-take}
+use Rattle.std.proofs.lemmas.List.Elements.{All-weaker}
+use Rattle.std.proofs.lemmas.List.FromFn.{get_or-map-range_with_len, length-map-range_with_len}
+use Rattle.tn_base.specs.Arcs.{AreBetweenNodes}
+use Rattle.tn_base.specs.Walks.{HasNoNegativeCycle}
+use Rattle.tn_cycle.specs.declared.cell.Cell.{Cell}
+use Rattle.tn_cycle.specs.declared.finder.Finder.TheInside.{Inside}
+use Rattle.tn_cycle.specs.Cells.{cell_at, trail}
+use Rattle.tn_cycle.specs.Graphs.{turned}
+use Rattle.tn_cycle.specs.GraphLaws.{between-turned}
+use Rattle.tn_cycle.specs.Searched.{HasNoNegativeCycleOff, IsSettled}
+use Rattle.tn_cycle.specs.Reading.{HasPlaces, IsListable, Reading, reading_of, walk_nodes}
+use Rattle.tn_cycle.specs.Answers.{LeadsLeast, distance_in, walk_in}
+use Rattle.tn_cycle.proofs.ReadLemmas.{front-written}
+use Rattle.tn_cycle.proofs.SettledLemmas.{led_inside}
+use Rattle.tn_cycle.proofs.TurnLemmas.{leads_to, leads_from, none_negative-turned}
+
+-- a list that was lent whole and written is what was written
+pub written-back : {A : Type 0} (written old : List A) (places : ℕ) → length written ≡ places → take places (written ++ drop (length written) old) ≡ written
+written-back written old places whole =
+    sym (take-all-twice written old places whole) ∙ front-written written (drop (length written) old) places places (omega arith) (omega (arith, whole)) ∙ take_all places written (omega (arith, whole))
+  where
+    take-all-twice : {A : Type 0} (written old : List A) (places : ℕ) → length written ≡ places
+        → take places (take places (written ++ drop (length written) old)) ≡ take places (written ++ drop (length written) old)
+    take-all-twice written old places whole = take_all places (take places (written ++ drop (length written) old))
+        (omega (arith, length-take places (written ++ drop (length written) old)))
+
+-- the cost and the walk of a node
+pub distance-read : (nodes count : ℕ) (path : List ℕ) (labelled : ℕ) (labels : List ℤ) (reached : ℕ) (turns : Bool) (end : ℕ) (row : List Cell) (v : ℕ) → v < reached
+    → distance_in (reading_of nodes count path labelled labels reached turns end row) v ≡ (cell_at row v).cost
+distance-read nodes count path labelled labels reached turns end row v inside =
+    get_or-map-range_with_len (λ (u : ℕ). (cell_at row u).cost) 0 reached v v None inside (omega arith)
+
+pub walk-read : (nodes count : ℕ) (path : List ℕ) (labelled : ℕ) (labels : List ℤ) (reached : ℕ) (turns : Bool) (end : ℕ) (row : List Cell) (v : ℕ) → v < reached
+    → walk_in (reading_of nodes count path labelled labels reached turns end row) v ≡ walk_nodes turns end (cell_at row) v
+walk-read nodes count path labelled labels reached turns end row v inside =
+    get_or-map-range_with_len (walk_nodes turns end (cell_at row)) 0 reached v v _ inside (omega arith)
+
+-- how many nodes have a cost
+pub distances-count : (nodes count : ℕ) (path : List ℕ) (labelled : ℕ) (labels : List ℤ) (reached : ℕ) (turns : Bool) (end : ℕ) (row : List Cell)
+    → length (reading_of nodes count path labelled labels reached turns end row).distances ≡ reached
+distances-count nodes count path labelled labels reached turns end row = length-map-range_with_len (λ (u : ℕ). (cell_at row u).cost) 0 reached
+
+-- and that many are read off the finder
+pub reached-read : (f : Inside) (now : Reading)
+    → reading_of f.nodes f.count f.path.items f.labelled f.labels.items f.reached f.turns f.end f.row.items ≡ now → length now.distances ≡ f.reached
+reached-read f now view =
+    ap (λ (reading : Reading). length reading.distances) (sym view)
+    ∙ distances-count f.nodes f.count f.path.items f.labelled f.labels.items f.reached f.turns f.end f.row.items
+
+-- a settled search can be listed
+pub listable_all : (nodes : ℕ) (arc : ℕ → ℕ → Option ℤ) (end : ℕ) (row : List Cell) → AreBetweenNodes nodes arc → HasNoNegativeCycle arc
+    → IsSettled nodes arc end (cell_at row) → nodes ≤ length row → (v : ℕ) → v < nodes → IsListable (nodes + 2) row v
+listable_all nodes arc end row between none found places v inside =
+    let short : (cell_at row v).round < nodes = found.few v inside in
+    record {
+      few = omega (arith, short);
+      inside = All-weaker (λ u. u < nodes) (λ u. u < length row) (λ u h. omega (arith, h, places)) (trail (cell_at row) (cell_at row v).round v)
+          (led_inside nodes arc end (cell_at row) between (λ u vs z _ _ walk. none u vs z walk) found v inside);
+    }
+
+-- what is read after a search to a node
+pub reads_to : (nodes : ℕ) (arc : ℕ → ℕ → Option ℤ) (end : ℕ) (path : List ℕ) (labels : List ℤ) (row : List Cell) → AreBetweenNodes nodes arc → HasNoNegativeCycle arc
+    → IsSettled nodes arc end (cell_at row) → (v : ℕ) → v < nodes
+    → LeadsLeast arc v end (walk_in (reading_of nodes 0 path 0 labels nodes false end row) v) (distance_in (reading_of nodes 0 path 0 labels nodes false end row) v)
+reads_to nodes arc end path labels row between none found v inside =
+    let reading = reading_of nodes 0 path 0 labels nodes false end row in
+    subst (λ (xs : List ℕ). LeadsLeast arc v end xs (distance_in reading v)) (sym (walk-read nodes 0 path 0 labels nodes false end row v inside))
+    (subst (LeadsLeast arc v end (walk_nodes false end (cell_at row) v)) (sym (distance-read nodes 0 path 0 labels nodes false end row v inside))
+    (leads_to nodes arc end (cell_at row) between none found v inside))
+
+-- and after a search from it
+pub reads_from : (nodes : ℕ) (arc : ℕ → ℕ → Option ℤ) (end : ℕ) (path : List ℕ) (labels : List ℤ) (row : List Cell) → AreBetweenNodes nodes arc → HasNoNegativeCycle arc
+    → IsSettled nodes (turned arc) end (cell_at row) → (v : ℕ) → v < nodes
+    → LeadsLeast arc end v (walk_in (reading_of nodes 0 path 0 labels nodes true end row) v) (distance_in (reading_of nodes 0 path 0 labels nodes true end row) v)
+reads_from nodes arc end path labels row between none found v inside =
+    let reading = reading_of nodes 0 path 0 labels nodes true end row in
+    subst (λ (xs : List ℕ). LeadsLeast arc end v xs (distance_in reading v)) (sym (walk-read nodes 0 path 0 labels nodes true end row v inside))
+    (subst (LeadsLeast arc end v (walk_nodes true end (cell_at row) v)) (sym (distance-read nodes 0 path 0 labels nodes true end row v inside))
+    (leads_from nodes (turned arc) end (cell_at row) (between-turned nodes arc between) (none_negative-turned arc none) found v inside))
+
+-- the finder has places for all walks after a search
+pub places_after : (nodes count labelled reached path labels row_places after_places : ℕ) (row new : List Cell)
+    → HasPlaces nodes count labelled reached path labels row_places after_places row → ((v : ℕ) → v < nodes → IsListable (nodes + 2) new v)
+    → HasPlaces nodes 0 0 nodes path labels row_places after_places new
+places_after nodes count labelled reached path labels row_places after_places row new had listable = record {
+  some = had.some;
+  not_many = had.not_many;
+  row_sized = had.row_sized;
+  new_sized = had.new_sized;
+  path_sized = had.path_sized;
+  labels_sized = had.labels_sized;
+  listed = omega arith;
+  labels_read = omega arith;
+  walks_read = omega arith;
+  listable = listable;
+}
