@@ -1,0 +1,66 @@
+# An answer to a document, in sentences. They hold no numbers but those of the document and the answer. The input is the
+# answer; needs jq 1.6 or later:
+#   ./market check < FILE | jq -r --slurpfile document FILE -f explain.jq
+
+def listed: if length == 0 then "nothing" elif length == 1 then .[0] else (.[:-1] | join(", ")) + " and " + .[-1] end;
+def set: "{" + join(", ") + "}";
+def items: if type == "array" then .[] else empty end;
+
+($document[0] | if type == "object" then . else {} end) as $network
+| ($network.arrangement | if type == "object" then . else {} end) as $arrangement
+| (. as $said | ($said.on // $arrangement.on // [])) as $on
+| ((.prices // $arrangement.prices // []) | [items | arrays | {(.[0] | tostring): .[1]}] | add // {}) as $prices
+| def trade($name): first($network.trades | items | objects | select(.name == $name)) // {name: $name, seller: "?", buyer: "?"};
+  def at_price($name): if $prices[$name] == null then "" else " at \($prices[$name])" end;
+  # what a firm does by a trade, in two forms of the verb
+  def deal($firm; $name; $sells; $buys):
+    trade($name) | if .seller == $firm then "\($sells) \($name) to \(.buyer)\(at_price($name))" else "\($buys) \($name) from \(.seller)\(at_price($name))" end;
+  def does($firm; $names): if $names == [] then "trades nothing" else [$names[] as $t | deal($firm; $t; "sells"; "buys")] | listed end;
+  def do($firm; $names): if $names == [] then "trade nothing" else [$names[] as $t | deal($firm; $t; "sell"; "buy")] | listed end;
+  def own($firm; $names): [$network.trades | items | objects | select(.seller == $firm or .buyer == $firm) | .name | select(. as $n | $names | index($n))];
+  def names_of_firms: [$network.firms | items | objects | .name];
+  def earlier($firm): names_of_firms | .[:(index($firm) // 0)];
+  def contented($firm): earlier($firm) | if . == [] then empty elif length == 1 then "\(.[0]), which stands before \($firm) in the document, is content." else "\(listed), which stand before \($firm) in the document, are content." end;
+  def off: [$network.trades | items | objects | .name | select(. as $n | $on | index($n) | not)];
+  def sentence_of($name): trade($name) | "\(.seller) sells \($name) to \(.buyer)\(at_price($name)).";
+  def cause:
+    {"1": "the bytes are no JSON value", "2": "the document is too long", "3": "a value is missing, isn't of the wanted shape, or has a member that isn't allowed",
+     "4": "a name doesn't keep the rule", "5": "the name is taken already", "6": "there is no firm of this name", "7": "a firm would trade with itself",
+     "8": "there is no trade of this name", "9": "there are too many of something, or a number is beyond its limit", "10": "a number is out of its range",
+     "11": "the trade isn't one that the firm has there", "12": "an earlier row has the same bundle", "13": "the set has no number at the net count 0",
+     "14": "the set crosses an earlier one", "15": "the number is below the middle of its two neighbours", "16": "the table doesn't meet the exchange property",
+     "17": "the trade is named twice in one list", "18": "the trade has no price"}[.fault | tostring];
+  def way: if . == [] then "the document as a whole" else map(if type == "number" then "item \(.) (counted from 0)" else tostring end) | join(", then ") end;
+  def failing($firm):
+    "The two bundles of \($firm) to look at are x = \(.x | set) and y = \(.y | set), which are both possible.",
+    (if .at == null
+     then "y has more purchases less sales than x. No trade that y would give up, or take on, can be toggled in both of them so that both stay possible and are worth as much together as before."
+     else "To come one step closer to y, x would toggle \(.at), and y with it: alone, where x has more purchases less sales, or together with one other trade. In no way do both stay possible and worth as much together as before." end);
+  if .answer == "equilibrium" then
+    "This is an equilibrium: at these prices each firm has a bundle that is best for it, and nobody would rather do something else.",
+    ($on[] as $t | sentence_of($t)),
+    (if $on == [] then "Nothing is traded." else empty end),
+    (if off == [] then empty else "Their prices keep the other trades off: \([off[] as $t | $t + at_price($t)] | listed)." end),
+    "The worths of the firms sum to \(.surplus), and no other set of trades has more."
+  elif .answer == "better" then
+    "This is no equilibrium: \(.firm) would do better.",
+    "As it is, \(.firm) \(does(.firm; own(.firm; $on))).",
+    "At these prices it would rather \(do(.firm; .bundle)): its utility is then greater by \(.gain), and no bundle brings it more.",
+    contented(.firm)
+  elif .answer == "impossible" then
+    "This is no equilibrium: what \(.firm) has is impossible for it, whatever the prices.",
+    "It \(does(.firm; own(.firm; $on))), and gives this bundle no worth.",
+    contented(.firm)
+  elif .answer == "accepted" then
+    "Each firm meets the exchange property: its purchases are substitutes for each other, so are its sales, and a sale more never makes it want a purchase less."
+  elif .answer == "exchange_fails" then
+    .firm as $firm | "\($firm) doesn't meet the exchange property, on which the theory of equilibrium rests.", failing($firm),
+    (earlier($firm) | if . == [] then empty else "\(listed) \(if length == 1 then "meets" else "meet" end) it." end)
+  elif .answer == "fault" then
+    "The document has a fault, and nothing is said of its firms and prices: \(cause) (fault \(.fault), \(.name)).",
+    "It is found at \(.place | way).",
+    (if .fault == 16 then failing(names_of_firms[.place[1]]) else empty end)
+  elif .answer == "usage" then "The words after the program's name are no command. Nothing was read."
+  elif .answer == "read_fault" then "The document could not be read."
+  elif .answer == "no_memory" then "Memory ran out before there was an answer."
+  else "The answer is \(.answer)." end

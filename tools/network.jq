@@ -1,0 +1,54 @@
+# A document, with or without an answer to it, as a graph for Graphviz: a box for each firm, and an arrow for each trade
+# from its seller to its buyer, with its name and price. Trades that are on are bold, and the firms and bundles that the
+# answer names are in colour. Needs jq 1.6 or later, called without input:
+#   jq -n -r --slurpfile document FILE --slurpfile answer FILE -f network.jq
+# A document with a fault is drawn as far as it goes.
+
+def quoted: tostring | tojson; # (an escape of JSON is one of Graphviz)
+def listed: "{" + (map(tostring) | join(", ")) + "}";
+def items: if type == "array" then .[] else empty end;
+
+($document[0] | if type == "object" then . else {} end) as $network
+| ($answer[0] | if type == "object" then . else {} end) as $said
+| ($network.arrangement | if type == "object" then . else {} end) as $arrangement
+# (an answer's own trades and prices come before those of the document)
+| ($said.on // $arrangement.on) as $on
+| ($said.prices // $arrangement.prices
+   | [items | select(type == "array" and length == 2 and (.[0] | type) == "string") | {(.[0]): .[1]}] | add // {}) as $prices
+| ([$network.firms | items | objects]) as $firms
+| (if $said.place[0]? == "firms" and ($said.place[1]? | type) == "number" then $firms[$said.place[1]].name else null end) as $faulty
+| {x: "#b45309", y: "#1d4ed8", both: "#7e22ce"} as $colour
+| def in_list($name): [items | . == $name] | any;
+  def colour_of($name):
+    if ($said.bundle | in_list($name)) or ($said.keeps | in_list($name)) then $colour.x
+    elif ($said.x | in_list($name)) and ($said.y | in_list($name)) then $colour.both
+    elif $said.x | in_list($name) then $colour.x
+    elif $said.y | in_list($name) then $colour.y
+    else null end;
+  def caption:
+    if $said.answer == null then null
+    elif $said.answer == "equilibrium" then "equilibrium, surplus \($said.surplus)"
+    elif $said.answer == "better" then "\($said.firm) would gain \($said.gain) with \($said.bundle | listed)"
+    elif $said.answer == "impossible" then "what \($said.firm) has is impossible"
+    elif $said.answer == "accepted" then "every firm meets the exchange property"
+    elif $said.answer == "exchange_fails" then
+      "\($said.firm) fails the exchange property\(if $said.at then " at \($said.at)" else "" end)\nx = \($said.x | listed), y = \($said.y | listed)"
+    elif $said.answer == "fault" then
+      "fault \($said.fault), \($said.name)\(if $said.place == [] then "" else ", at \($said.place | map(tostring) | join(" / "))" end)"
+    else $said.answer end;
+  "digraph network {",
+  "  rankdir=LR; nodesep=0.4; ranksep=1.1; fontname=\"Helvetica\"; fontsize=13; labelloc=b;",
+  "  node [shape=box, style=\"rounded,filled\", fillcolor=\"#f8fafc\", color=\"#475569\", fontname=\"Helvetica\", fontsize=12];",
+  "  edge [color=\"#64748b\", fontname=\"Helvetica\", fontsize=10];",
+  (caption | values | "  label=\(quoted);"),
+  ($firms[]
+   | "  \(.name | quoted) [label=\("\(.name)\n\(.kind)" | quoted)"
+     + (if .name != null and (.name == $said.firm or .name == $faulty) then ", color=\"\($colour.x)\", fillcolor=\"#ffedd5\", penwidth=2" else "" end) + "];"),
+  ($network.trades | items | objects
+   | .name as $name
+   | (if ($name | type) == "string" then $prices[$name] else null end) as $price
+   | colour_of($name) as $ink
+   | "  \(.seller | quoted) -> \(.buyer | quoted) [label=\("\($name)\(if $price == null then "" else "\n\($price)" end)" | quoted)"
+     + (if $on | in_list($name) then ", penwidth=3" elif ($on | type) == "array" then ", style=dashed" else "" end)
+     + (if $ink then ", color=\"\($ink)\", fontcolor=\"\($ink)\"" else "" end) + "];"),
+  "}"
