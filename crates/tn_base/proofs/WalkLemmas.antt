@@ -1,9 +1,9 @@
 -- Walks: their arcs, and walks one after another.
-use Rattle.std.proofs.Common.{◌≡◌, ℕ, refl, sym, ap, ap₂, ◌∙◌, arith, ℤ, ◌+ℤ◌, List, [], ◌∷◌, ◌++◌, Option, Some, None}
+use Rattle.std.proofs.Common.{◌≡◌, ℕ, refl, sym, ap, ap₂, ◌∙◌, arith, ℤ, ◌+ℤ◌, List, [], ◌∷◌, ◌++◌, Bool, ◌&&◌, if◌then◌else◌, Option, Some, None}
 use Rattle.std.proofs.lemmas.Option.{same_Some}
 use Rattle.std.proofs.lemmas.Int.{ints}
 use Rattle.tn_base.specs.Options.{both}
-use Rattle.tn_base.specs.Walks.{walk_cost}
+use Rattle.tn_base.specs.Walks.{walk_cost, arcs_among, CyclesCostAtLeast, HasNoNegativeCycle, IsLeastCycle}
 
 -- two numbers whose sum is there
 pub record AreParts (o p : Option ℤ) (sum : ℤ) : Type 0 where
@@ -38,3 +38,29 @@ walk-joined arc u (x ∷ us) v vs w a b first second =
   where
     regrouped : (f s a b : ℤ) → a ≡ f +ℤ s → f +ℤ (s +ℤ b) ≡ a +ℤ b
     regrouped f s a b e = omega (arith, ints, e)
+
+-- ---- graphs with the same arcs
+
+abbrev pub SameArcs : (ℕ → ℕ → Option ℤ) → (ℕ → ℕ → Option ℤ) → Type 0
+SameArcs one other = (u v : ℕ) → one u v ≡ other u v
+
+pub walk-same : (one other : ℕ → ℕ → Option ℤ) → SameArcs one other → (u : ℕ) (vs : List ℕ) (w : ℕ) → walk_cost one u vs w ≡ walk_cost other u vs w
+walk-same one other same u [] w = same u w
+walk-same one other same u (v ∷ vs) w = ap₂ both (same u v) (walk-same one other same v vs w)
+
+pub least_cycle-same : (one other : ℕ → ℕ → Option ℤ) → SameArcs one other → (t : ℕ) (vs : List ℕ) (cost : ℤ) → IsLeastCycle other t vs cost → IsLeastCycle one t vs cost
+least_cycle-same one other same t vs cost cycle = record {
+  cycle = record { walk = walk-same one other same t vs t ∙ cycle.cycle.walk; different = cycle.cycle.different };
+  least = λ ws c avoids walk. cycle.least ws c avoids (sym (walk-same one other same t ws t) ∙ walk);
+  shortest = λ ws avoids walk. cycle.shortest ws avoids (sym (walk-same one other same t ws t) ∙ walk);
+}
+
+pub cycles-same : (one other : ℕ → ℕ → Option ℤ) → SameArcs one other → (t : ℕ) (least : ℤ) → CyclesCostAtLeast other t least → CyclesCostAtLeast one t least
+cycles-same one other same t least all vs cost avoids walk = all vs cost avoids (sym (walk-same one other same t vs t) ∙ walk)
+
+pub none_negative-same : (one other : ℕ → ℕ → Option ℤ) → SameArcs one other → HasNoNegativeCycle other → HasNoNegativeCycle one
+none_negative-same one other same none u vs cost walk = none u vs cost (sym (walk-same one other same u vs u) ∙ walk)
+
+-- the arcs among some nodes of graphs with the same arcs are the same
+pub among-same : (test : ℕ → Bool) (one other : ℕ → ℕ → Option ℤ) → SameArcs one other → SameArcs (arcs_among test one) (arcs_among test other)
+among-same test one other same u v = ap (λ (o : Option ℤ). if test u && test v then o else None) (same u v)

@@ -1,20 +1,21 @@
 -- The exchange graph of the market that some trades admit: the arcs among these trades and null.
-use Rattle.std.proofs.Common.{◌≡◌, ◌≢◌, ℕ, zero, suc, ◌+◌, ◌<◌, ◌≤◌, Bool, true, false, not, ◌==◌, ◌&&◌, ◌||◌, if◌then◌else◌, refl, sym, ap, ap₂, ◌∙◌, subst, arith, inl, inr, ◌⊎◌, ℤ, List, [], ◌∷◌, length, slice_get, Option, Some, None, option_map}
+use Rattle.std.proofs.Common.{◌+ℤ◌, ◌*ℤ◌, ◌≡◌, ◌≢◌, ℕ, zero, suc, ◌+◌, ◌^◌, ◌<◌, ◌≤◌, Bool, true, false, not, ◌==◌, ◌&&◌, ◌||◌, if◌then◌else◌, refl, sym, ap, ap₂, ◌∙◌, subst, arith, inl, inr, ◌⊎◌, ℤ, List, [], ◌∷◌, length, slice_get, Option, Some, None, option_map}
 use Rattle.std.specs.Prelude.{IsSome}
 use Rattle.std.proofs.lemmas.Bool.{cases_eq, cases_lt, cases_Bool, eq-eqb, eqb-true, and_parts, or_cases}
 use Rattle.std.proofs.lemmas.Option.{same_Some}
-use Rattle.tn_base.specs.Sets.{has, minus}
-use Rattle.tn_base.specs.Firm.{Firm, HasOwnBundles, among}
+use Rattle.tn_base.specs.Sets.{has, minus, sum_over}
+use Rattle.tn_base.specs.Firm.{Firm, HasOwnBundles, among, payments}
 use Rattle.tn_base.specs.Exchange.{MeetsExchange}
 use Rattle.tn_base.specs.Walks.{arcs_among, is_admitted}
 use Rattle.tn_base.proofs.SetLemmas.{has-toggle_same, has_from_minus-zero, minus-zero_from, has_below, set_of_within}
 use Rattle.tn_law.specs.Places.{toggle_at, move}
 use Rattle.tn_law.proofs.PlaceLemmas.{toggle_at-trade}
-use Rattle.tn_law.proofs.KeepLemmas.{has-toggle_at, meets-among}
+use Rattle.tn_law.proofs.KeepLemmas.{has-toggle_at, meets-among, option_map-some}
 use Rattle.tn_law.proofs.AdditiveLemmas.{move-within}
 use Rattle.tn_market.specs.declared.ends.Ends.{Ends}
 use Rattle.tn_market.specs.Network.{own, part, IsNetwork}
 use Rattle.tn_market.specs.Best.{IsSubset}
+use Rattle.tn_market.specs.Equilibrium.{prices_at, utility_at, HasBest, IsEquilibrium}
 use Rattle.tn_market.specs.Admitted.{admitted_from, admitted}
 use Rattle.tn_market.specs.Graph.{loss, exchange_arc, ArePossible}
 use Rattle.tn_market.specs.ArcPlaces.{node_at, AreArcPlaces}
@@ -267,3 +268,29 @@ arcs_admitted firms trades network allowed on inside u v = same_options _ _ fort
                 null at k i e above there =
                     let below = has_below _ at.firm.count k (move-within at.firm.count (part trades at.f at.firm.count on) at.from at.to (set_of_within (λ j. has on (own trades at.f j)) at.firm.count)) there in
                     omega (arith, below, e, above)
+
+-- where every trade is admitted, an equilibrium of the admitted market is one of the market
+pub equilibrium_of_all : (firms : List Firm) (trades : List Ends) (allowed : ℕ) → IsNetwork firms trades → MeetExchange firms
+    → ((t : ℕ) → t < length trades → has allowed t ≡ true) → (scale : ℤ) (on : ℕ) (prices : ℕ → ℤ)
+    → IsEquilibrium (admitted trades allowed firms) trades scale on prices → IsEquilibrium firms trades scale on prices
+equilibrium_of_all firms trades allowed network meet all scale on prices equilibrium f firm is = (
+  best.0,
+  record {
+    is = sym (same (part trades f firm.count on) (set_of_within (λ k. has on (own trades f k)) firm.count)) ∙ best.1.is;
+    most = λ y other other_is.
+        let worth = option_map-some (λ a. scale *ℤ a +ℤ paid y) (firm.worth y) other other_is in
+        best.1.most y other (same y ((meet f firm is).0 y worth.0 worth.1) ∙ other_is);
+  },
+)
+  where
+    paid : ℕ → ℤ
+    paid y = sum_over (payments firm.buys (prices_at trades prices f)) firm.count y
+
+    best : HasBest trades scale on prices f (among (part trades f firm.count allowed) firm)
+    best = equilibrium f (among (part trades f firm.count allowed) firm) (admitted_is trades allowed firms f firm is)
+
+    same : (y : ℕ) → y < 2 ^ firm.count → utility_at trades scale prices f (among (part trades f firm.count allowed) firm) y ≡ utility_at trades scale prices f firm y
+    same y below = ap (option_map (λ a. scale *ℤ a +ℤ sum_over (payments firm.buys (prices_at trades prices f)) firm.count y))
+        (among_inside (part trades f firm.count allowed) firm y (minus-zero_from y (part trades f firm.count allowed) (λ k there.
+        let inside = has_below y firm.count k below there in
+        has-part trades f firm.count allowed k inside ∙ all (own trades f k) (network.whole f k firm is inside))))

@@ -5,13 +5,12 @@ use Rattle.std.proofs.lemmas.Bool.{cases_eq, cases_lt, cases_Bool, eq-eqb, eqb-t
 use Rattle.std.proofs.lemmas.Nat.{pow_pos}
 use Rattle.std.proofs.lemmas.Int.{ints}
 use Rattle.std.proofs.lemmas.List.Elements.{All-head, All-tail, All-cons}
-use Rattle.tn_base.specs.Options.{both}
 use Rattle.tn_base.specs.Arcs.{AreBetweenNodes}
 use Rattle.tn_base.specs.Sets.{has, toggle}
 use Rattle.tn_base.specs.Firm.{Firm, MayAbstain}
 use Rattle.tn_base.specs.Walks.{walk_cost, arcs_among, is_admitted, is_looked_at, CyclesCostAtLeast, IsLeastCycle, HasNoNegativeCycle, KeepsArcs}
 use Rattle.tn_base.proofs.SetLemmas.{has-zero, has-toggle_same, has-toggle_other, same_below, set_of_within}
-use Rattle.tn_base.proofs.WalkLemmas.{walk_parts}
+use Rattle.tn_base.proofs.WalkLemmas.{walk_parts, SameArcs, walk-same, least_cycle-same}
 use Rattle.tn_law.proofs.LabelLemmas.{walk-kept, numbers_keep_arcs}
 use Rattle.tn_market.specs.declared.ends.Ends.{Ends}
 use Rattle.tn_market.specs.Network.{own, part, IsNetwork}
@@ -26,24 +25,10 @@ use Rattle.tn_network.specs.Along.{along}
 use Rattle.tn_network.specs.Kept.{IsKept}
 use Rattle.tn_network.specs.Rounds.{arcs_with, OneCycleForEachTrade}
 use Rattle.tn_network.proofs.SupportLemmas.{labels_are_supports}
-use Rattle.tn_network.proofs.AdmittedLemmas.{admitted_network, admitted_meet, admitted_possible, possible_from_admitted, arcs_admitted}
+use Rattle.tn_network.proofs.AdmittedLemmas.{admitted_network, admitted_meet, admitted_possible, possible_from_admitted, arcs_admitted, equilibrium_of_all}
 use Rattle.tn_network.proofs.RoundLemmas.{HasNumbers, KeepsArcsOff, IsRound, no_cycle, one_cycle}
 
--- ---- graphs with the same arcs
-
-abbrev SameArcs : (ℕ → ℕ → Option ℤ) → (ℕ → ℕ → Option ℤ) → Type 0
-SameArcs one other = (u v : ℕ) → one u v ≡ other u v
-
-walk-same : (one other : ℕ → ℕ → Option ℤ) → SameArcs one other → (u : ℕ) (vs : List ℕ) (w : ℕ) → walk_cost one u vs w ≡ walk_cost other u vs w
-walk-same one other same u [] w = same u w
-walk-same one other same u (v ∷ vs) w = ap₂ both (same u v) (walk-same one other same v vs w)
-
-least-same : (one other : ℕ → ℕ → Option ℤ) → SameArcs one other → (t : ℕ) (vs : List ℕ) (cost : ℤ) → IsLeastCycle other t vs cost → IsLeastCycle one t vs cost
-least-same one other same t vs cost cycle = record {
-  cycle = record { walk = walk-same one other same t vs t ∙ cycle.cycle.walk; different = cycle.cycle.different };
-  least = λ ws c avoids walk. cycle.least ws c avoids (sym (walk-same one other same t ws t) ∙ walk);
-  shortest = λ ws avoids walk. cycle.shortest ws avoids (sym (walk-same one other same t ws t) ∙ walk);
-}
+-- ---- walks and arcs
 
 -- numbers that keep the arcs leave no negative cycle
 no_cycle_from : (arc : ℕ → ℕ → Option ℤ) → HasNumbers arc → HasNoNegativeCycle arc
@@ -219,7 +204,7 @@ turned firms trades allowed on t network meet kept below out vs cost cycle gains
       inside = below;
       numbers = off.0;
       keeps = off.1;
-      cycle = least-same _ _ same t vs cost cycle;
+      cycle = least_cycle-same _ _ same t vs cost cycle;
       gains = gains;
     } in
     let next = one_cycle (admitted trades (toggle allowed t) firms) trades on t vs cost round in
@@ -243,4 +228,10 @@ ends firms trades allowed on network meet kept label keeps =
     (λ u v c is. keeps u v c (sym (arcs_admitted firms trades network allowed on kept.inside u v) ∙ is))
 
 pub one_cycle_for_each_trade : OneCycleForEachTrade
-one_cycle_for_each_trade = record { start = start; still = still; turned = turned; ends = ends }
+one_cycle_for_each_trade = record {
+  start = start;
+  still = still;
+  turned = turned;
+  ends = ends;
+  all = λ firms trades allowed on network meet all prices. equilibrium_of_all firms trades allowed network meet all (pos 1) on prices;
+}

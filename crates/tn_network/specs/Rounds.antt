@@ -1,5 +1,5 @@
 -- One trade after another is admitted, and one cycle for each restores an equilibrium.
-use Rattle.std.specs.Prelude.{◌≡◌, ℕ, ◌<◌, ℤ, pos, ◌-ℤ◌, ◌≤ℤ◌, List, ◌∷◌, length, slice_get, false, Option, Some}
+use Rattle.std.specs.Prelude.{◌≡◌, ℕ, ◌<◌, ℤ, pos, ◌-ℤ◌, ◌≤ℤ◌, List, ◌∷◌, length, slice_get, true, false, Option, Some}
 use Rattle.tn_base.specs.Sets.{has, toggle}
 use Rattle.tn_base.specs.Firm.{Firm, MayAbstain}
 use Rattle.tn_base.specs.Walks.{arcs_among, is_admitted, is_looked_at, CyclesCostAtLeast, IsLeastCycle, KeepsArcs}
@@ -31,3 +31,7 @@ pub record OneCycleForEachTrade : Type 0 where
   pub ends : (firms : List Firm) (trades : List Ends) (allowed on : ℕ) → IsNetwork firms trades → MeetExchange firms → IsKept firms trades allowed on
       → (label : ℕ → ℤ) → KeepsArcs (arcs_among (is_admitted (length trades) allowed) (exchange_arc firms trades on)) label
       → IsEquilibrium (admitted trades allowed firms) trades (pos 1) on (λ t. label t -ℤ label (length trades))
+  -- which is one of the market itself where every trade is admitted
+  pub all : (firms : List Firm) (trades : List Ends) (allowed on : ℕ) → IsNetwork firms trades → MeetExchange firms
+      → ((t : ℕ) → t < length trades → has allowed t ≡ true) → (prices : ℕ → ℤ)
+      → IsEquilibrium (admitted trades allowed firms) trades (pos 1) on prices → IsEquilibrium firms trades (pos 1) on prices
