@@ -53,7 +53,7 @@ stands_both trade f k (inr p) =
     either true = refl
     either false = refl
 
-seller_end : (firms : List Firm) (trades : List Ends) → IsNetwork firms trades → (t : ℕ) (trade : Ends) → slice_get trades t ≡ Some trade
+pub seller_end : (firms : List Firm) (trades : List Ends) → IsNetwork firms trades → (t : ℕ) (trade : Ends) → slice_get trades t ≡ Some trade
     → IsEnd firms trades t trade.seller trade.at_seller false
 seller_end firms trades network t trade there =
     let sold = network.sold t trade there in
@@ -65,7 +65,7 @@ seller_end firms trades network t trade there =
       side = sold.3;
     }
 
-buyer_end : (firms : List Firm) (trades : List Ends) → IsNetwork firms trades → (t : ℕ) (trade : Ends) → slice_get trades t ≡ Some trade
+pub buyer_end : (firms : List Firm) (trades : List Ends) → IsNetwork firms trades → (t : ℕ) (trade : Ends) → slice_get trades t ≡ Some trade
     → IsEnd firms trades t trade.buyer trade.at_buyer true
 buyer_end firms trades network t trade there =
     let bought = network.bought t trade there in

@@ -8,3 +8,7 @@ pub mod AlongLemmas
 pub mod RoundLemmas
 pub mod AdmittedLemmas
 pub mod KeptLemmas
+pub mod PoolLemmas
+pub mod PartLemmas
+pub mod StabilityLemmas
+pub mod BlockLemmas

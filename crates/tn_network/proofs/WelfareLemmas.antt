@@ -133,7 +133,7 @@ moved_at on prices f k bought s (trade ∷ trades) inside sided once = by_case (
 -- ---- what the firms pay and get
 
 -- the sum over a bundle is one over its positions
-sum_over-sum_to : (c : ℕ → ℤ) (n x : ℕ) → sum_over c n x ≡ sum_to (λ k. if has x k then c k else pos 0) n
+pub sum_over-sum_to : (c : ℕ → ℤ) (n x : ℕ) → sum_over c n x ≡ sum_to (λ k. if has x k then c k else pos 0) n
 unfolding sum_over
 sum_over-sum_to c zero x = refl
 sum_over-sum_to c (suc n) x = ap (λ (z : ℤ). z +ℤ (if has x n then c n else pos 0)) (sum_over-sum_to c n x)

@@ -7,6 +7,8 @@ use Rattle.tn_market.specs.declared.ends.Ends.{Ends}
 use Rattle.tn_market.specs.Network.{IsNetwork}
 use Rattle.tn_market.specs.Equilibrium.{IsEquilibrium, IsEfficient}
 use Rattle.tn_market.specs.Graph.{exchange_arc, ArePossible}
+use Rattle.tn_market.specs.declared.contract.Contract.{Contract}
+use Rattle.tn_market.specs.Choices.{contracts_of, Blocks}
 
 -- each firm has bundles of own trades alone, and meets exchange
 abbrev pub MeetExchange : List Firm → Type 0
@@ -38,3 +40,9 @@ abbrev pub NegativeCyclesForbidSupports : Type 0
 NegativeCyclesForbidSupports = (firms : List Firm) (trades : List Ends) (on u : ℕ) (vs : List ℕ) (cost : ℤ) → IsNetwork firms trades
     → walk_cost (exchange_arc firms trades on) u vs u ≡ Some cost → cost <ℤ pos 0
     → (scale : ℤ) (prices : ℕ → ℤ) → pos 1 ≤ℤ scale → IsEquilibrium firms trades scale on prices → ⊥
+
+-- no contracts over any denominator block the outcome of an equilibrium
+abbrev pub EquilibriaAreStable : Type 0
+EquilibriaAreStable = (firms : List Firm) (trades : List Ends) (scale : ℤ) (on : ℕ) (prices : ℕ → ℤ) → IsNetwork firms trades
+    → pos 1 ≤ℤ scale → IsEquilibrium firms trades scale on prices
+    → (over : ℤ) (offers : List Contract) → pos 1 ≤ℤ over → Blocks firms trades scale (contracts_of on prices (length trades)) over offers → ⊥

@@ -3,9 +3,11 @@
 #![tactic(auto)]
 
 mod rounds;
+mod stability;
 mod support;
 mod welfare;
 
 pub use rounds::one_cycle_for_each_trade;
+pub use stability::equilibria_are_stable;
 pub use support::{labels_are_supports, negative_cycles_forbid_supports, supports_keep_arcs};
 pub use welfare::equilibria_are_efficient;

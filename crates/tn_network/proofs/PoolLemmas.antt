@@ -1,0 +1,189 @@
+-- Offers and an outcome together: where each contract of the list comes from.
+use Rattle.std.proofs.Common.{◌≡◌, ℕ, zero, suc, ◌+◌, ◌<◌, ◌≤◌, Bool, true, false, if◌then◌else◌, List, [], ◌∷◌, ◌++◌, length, slice_get, Some, None, Option, option_map, refl, sym, ap, ◌∙◌, subst, arith, inl, inr, ◌⊎◌, ℤ, ◌*ℤ◌}
+use Rattle.std.proofs.lemmas.Bool.{cases_eq}
+use Rattle.std.proofs.lemmas.List.{length-map}
+use Rattle.std.proofs.lemmas.Option.{same_Some, slice_get-map}
+use Rattle.tn_base.specs.Sets.{has}
+use Rattle.tn_market.specs.declared.contract.Contract.{Contract}
+use Rattle.tn_market.specs.Choices.{counted, together, contracts_of}
+
+-- ---- two lists in a row
+
+-- an item of two lists in a row is one of the first, or one of the second
+pub record IsBehind {A : Type 0} (xs ys : List A) (k : ℕ) (x : A) : Type 0 where
+  pub place : ℕ
+  pub at : k ≡ length xs + place
+  pub is : slice_get ys place ≡ Some x
+
+pub append_cases : {A : Type 0} (xs ys : List A) (k : ℕ) (x : A) → slice_get (xs ++ ys) k ≡ Some x
+    → ((slice_get xs k ≡ Some x) × (k < length xs)) ⊎ IsBehind xs ys k x
+append_cases [] ys k x is = inr (record { place = k; at = omega arith; is = is })
+append_cases (first ∷ xs) ys zero x is = inl (is, omega arith)
+append_cases (first ∷ xs) ys (suc k) x is = elim (append_cases xs ys k x is) [
+  | inl front ↦ let below = front.1 in inl (front.0, omega (arith, below))
+  | inr behind ↦ let at = behind.at in inr (record { place = behind.place; at = omega (arith, at); is = behind.is })
+]
+
+pub append_front : {A : Type 0} (xs ys : List A) (k : ℕ) (x : A) → slice_get xs k ≡ Some x → slice_get (xs ++ ys) k ≡ Some x
+append_front [] ys k x is = absurd (cc is)
+append_front (first ∷ xs) ys zero x is = is
+append_front (first ∷ xs) ys (suc k) x is = append_front xs ys k x is
+
+pub append_behind : {A : Type 0} (xs ys : List A) (place k : ℕ) (x : A) → k ≡ length xs + place → slice_get ys place ≡ Some x → slice_get (xs ++ ys) k ≡ Some x
+append_behind [] ys place k x at is = let e : k ≡ place = omega (arith, at) in ap (slice_get ys) e ∙ is
+append_behind (first ∷ xs) ys place zero x at is = absurd (omega (arith, at))
+append_behind (first ∷ xs) ys place (suc k) x at is = append_behind xs ys place k x (omega (arith, at)) is
+
+-- ---- the contracts of an arrangement
+
+-- what one trade adds to them
+abbrev added : ℕ → (ℕ → ℤ) → ℕ → List Contract
+added on prices n = if has on n then record { trade = n; price = prices n } ∷ [] else []
+
+added_is : (on : ℕ) (prices : ℕ → ℤ) (n k : ℕ) (contract : Contract) → slice_get (added on prices n) k ≡ Some contract
+    → (has on n ≡ true) × (k ≡ 0) × (contract ≡ record { trade = n; price = prices n })
+added_is on prices n k contract is = by_case (has on n) refl k is
+  where
+    by_case : (b : Bool) → has on n ≡ b → (k : ℕ) → slice_get (if b then record { trade = n; price = prices n } ∷ [] else []) k ≡ Some contract
+        → (has on n ≡ true) × (k ≡ 0) × (contract ≡ record { trade = n; price = prices n })
+    by_case true e zero is = (e, refl, same_Some _ _ (sym is))
+    by_case true e (suc k) is = absurd (cc is)
+    by_case false e k is = absurd (cc is)
+
+-- a contract of an arrangement
+pub record IsSigned (on : ℕ) (prices : ℕ → ℤ) (n : ℕ) (contract : Contract) : Type 0 where
+  pub below : contract.trade < n
+  pub there : has on contract.trade ≡ true
+  pub price : contract.price ≡ prices contract.trade
+
+pub signed_at : (on : ℕ) (prices : ℕ → ℤ) (n k : ℕ) (contract : Contract) → slice_get (contracts_of on prices n) k ≡ Some contract → IsSigned on prices n contract
+signed_at on prices zero k contract is = absurd (cc is)
+signed_at on prices (suc n) k contract is = elim (append_cases (contracts_of on prices n) (added on prices n) k contract is) [
+  | inl front ↦
+      let earlier = signed_at on prices n k contract front.0 in
+      let below = earlier.below in
+      record { below = omega (arith, below); there = earlier.there; price = earlier.price }
+  | inr behind ↦
+      let new = added_is on prices n behind.place contract behind.is in
+      subst (IsSigned on prices (suc n)) (sym new.2) (record { below = omega arith; there = new.0; price = refl })
+]
+
+pub signed_found : (on : ℕ) (prices : ℕ → ℤ) (n t : ℕ) → t < n → has on t ≡ true
+    → (k : ℕ) × (slice_get (contracts_of on prices n) k ≡ Some (record { trade = t; price = prices t }))
+signed_found on prices zero t below there = absurd (omega (arith, below))
+signed_found on prices (suc n) t below there = elim (cases_eq t n) [
+  | inl e ↦ (
+    length (contracts_of on prices n),
+    append_behind (contracts_of on prices n) (added on prices n) 0 (length (contracts_of on prices n)) (record { trade = t; price = prices t }) (omega arith)
+        (subst (λ (m : ℕ). slice_get {X = Contract} (if has on m then record { trade = m; price = prices m } ∷ [] else []) 0 ≡ Some (record { trade = t; price = prices t })) e
+        (ap (λ (b : Bool). slice_get {X = Contract} (if b then record { trade = t; price = prices t } ∷ [] else []) 0) there)),
+  )
+  | inr d ↦
+      let earlier = signed_found on prices n t (omega (arith, below, d)) there in
+      (earlier.0, append_front (contracts_of on prices n) (added on prices n) earlier.0 _ earlier.1)
+]
+
+pub signed_once : (on : ℕ) (prices : ℕ → ℤ) (n j k : ℕ) (one other : Contract) → slice_get (contracts_of on prices n) j ≡ Some one
+    → slice_get (contracts_of on prices n) k ≡ Some other → one.trade ≡ other.trade → j ≡ k
+signed_once on prices zero j k one other one_is other_is same = absurd (cc one_is)
+signed_once on prices (suc n) j k one other one_is other_is same =
+    elim (append_cases (contracts_of on prices n) (added on prices n) j one one_is) [
+      | inl first ↦ elim (append_cases (contracts_of on prices n) (added on prices n) k other other_is) [
+        | inl second ↦ signed_once on prices n j k one other first.0 second.0 same
+        | inr second ↦
+            let earlier = (signed_at on prices n j one first.0).below in
+            let new = ap (λ (c : Contract). c.trade) (added_is on prices n second.place other second.is).2 in
+            absurd (omega (arith, earlier, new, same))
+      ]
+      | inr first ↦ elim (append_cases (contracts_of on prices n) (added on prices n) k other other_is) [
+        | inl second ↦
+            let earlier = (signed_at on prices n k other second.0).below in
+            let new = ap (λ (c : Contract). c.trade) (added_is on prices n first.place one first.is).2 in
+            absurd (omega (arith, earlier, new, same))
+        | inr second ↦
+            let a = first.at in
+            let b = second.at in
+            let c = (added_is on prices n first.place one first.is).1 in
+            let d = (added_is on prices n second.place other second.is).1 in
+            omega (arith, a, b, c, d)
+      ]
+    ]
+
+-- ---- the pool of offers and an outcome
+
+-- a list that has first the offers' trades and then, at prices by trade, the contracts of an arrangement
+pub record IsPool (count on : ℕ) (prices : ℕ → ℤ) (offers pool : List Contract) : Type 0 where
+  pub early : (k : ℕ) (contract : Contract) → slice_get pool k ≡ Some contract → k < length offers
+      → (offer : Contract) × (slice_get offers k ≡ Some offer) × (contract.trade ≡ offer.trade)
+  pub late : (k : ℕ) (contract : Contract) → slice_get pool k ≡ Some contract → length offers ≤ k → IsSigned on prices count contract
+  pub found : (t : ℕ) → t < count → has on t ≡ true → (k : ℕ) × (contract : Contract) × (length offers ≤ k) × (slice_get pool k ≡ Some contract) × (contract.trade ≡ t)
+  pub once : (j k : ℕ) (one other : Contract) → slice_get pool j ≡ Some one → slice_get pool k ≡ Some other → length offers ≤ j → length offers ≤ k
+      → one.trade ≡ other.trade → j ≡ k
+
+-- what stands at a place of counted contracts
+counted_at : (times : ℤ) (contracts : List Contract) (k : ℕ) (contract : Contract) → slice_get (counted times contracts) k ≡ Some contract
+    → (original : Contract) × (slice_get contracts k ≡ Some original) × (contract ≡ record { trade = original.trade; price = times *ℤ original.price })
+counted_at times contracts k contract is =
+    by_case (slice_get contracts k) refl (sym (slice_get-map (λ (c : Contract). record { trade = c.trade; price = times *ℤ c.price }) contracts k) ∙ is)
+  where
+    by_case : (o : Option Contract) → slice_get contracts k ≡ o → option_map (λ (c : Contract). record { trade = c.trade; price = times *ℤ c.price }) o ≡ Some contract
+        → (original : Contract) × (slice_get contracts k ≡ Some original) × (contract ≡ record { trade = original.trade; price = times *ℤ original.price })
+    by_case None there e = absurd (cc e)
+    by_case (Some original) there e = (original, there, same_Some _ _ (sym e))
+
+pub pool_together : (e d : ℤ) (count on : ℕ) (prices : ℕ → ℤ) (offers : List Contract)
+    → IsPool count on (λ t. e *ℤ prices t) offers (together e offers d (contracts_of on prices count))
+pool_together e d count on prices offers = record {
+  early = λ k contract is inside. elim (append_cases (counted d offers) (counted e (contracts_of on prices count)) k contract is) [
+    | inl front ↦ let from = counted_at d offers k contract front.0 in (from.0, from.1, ap (λ (c : Contract). c.trade) from.2)
+    | inr behind ↦ let at = behind.at in absurd (omega (arith, at, inside, wide))
+  ];
+  late = λ k contract is past. elim (append_cases (counted d offers) (counted e (contracts_of on prices count)) k contract is) [
+    | inl front ↦ let below = front.1 in absurd (omega (arith, below, past, wide))
+    | inr behind ↦ signed behind.place contract behind.is
+  ];
+  found = λ t below there.
+      let signed_there = signed_found on prices count t below there in
+      let at : slice_get (counted e (contracts_of on prices count)) signed_there.0 ≡ Some (record { trade = t; price = e *ℤ prices t }) =
+      slice_get-map (λ (c : Contract). record { trade = c.trade; price = e *ℤ c.price }) (contracts_of on prices count) signed_there.0
+      ∙ ap (option_map (λ (c : Contract). record { trade = c.trade; price = e *ℤ c.price })) signed_there.1 in (
+        length offers + signed_there.0,
+        record { trade = t; price = e *ℤ prices t },
+        omega arith,
+        append_behind (counted d offers) (counted e (contracts_of on prices count)) signed_there.0 (length offers + signed_there.0) _ (omega (arith, wide)) at,
+        refl,
+      );
+  once = λ j k one other one_is other_is j_past k_past same.
+      elim (append_cases (counted d offers) (counted e (contracts_of on prices count)) j one one_is) [
+        | inl front ↦ let below = front.1 in absurd (omega (arith, below, j_past, wide))
+        | inr first ↦ elim (append_cases (counted d offers) (counted e (contracts_of on prices count)) k other other_is) [
+          | inl front ↦ let below = front.1 in absurd (omega (arith, below, k_past, wide))
+          | inr second ↦
+              let one_from = counted_at e (contracts_of on prices count) first.place one first.is in
+              let other_from = counted_at e (contracts_of on prices count) second.place other second.is in
+              let trades : one_from.0.trade ≡ other_from.0.trade =
+              sym (ap (λ (c : Contract). c.trade) one_from.2) ∙ same ∙ ap (λ (c : Contract). c.trade) other_from.2 in
+              let places = signed_once on prices count first.place second.place one_from.0 other_from.0 one_from.1 other_from.1 trades in
+              let a = first.at in
+              let b = second.at in
+              omega (arith, a, b, places)
+        ]
+      ];
+}
+  where
+    wide : length (counted d offers) ≡ length offers
+    wide = length-map offers (λ (c : Contract). record { trade = c.trade; price = d *ℤ c.price })
+
+    signed : (place : ℕ) (contract : Contract) → slice_get (counted e (contracts_of on prices count)) place ≡ Some contract → IsSigned on (λ t. e *ℤ prices t) count contract
+    signed place contract is =
+        let from = counted_at e (contracts_of on prices count) place contract is in
+        let original = signed_at on prices count place from.0 from.1 in
+        subst (IsSigned on (λ t. e *ℤ prices t) count) (sym from.2)
+        (record { below = original.below; there = original.there; price = ap (λ (z : ℤ). e *ℤ z) original.price })
+
+-- and each offer has its place there
+pub offer_in_pool : (e d : ℤ) (offers outcome : List Contract) (k : ℕ) (offer : Contract) → slice_get offers k ≡ Some offer
+    → slice_get (together e offers d outcome) k ≡ Some (record { trade = offer.trade; price = d *ℤ offer.price })
+offer_in_pool e d offers outcome k offer is =
+    append_front (counted d offers) (counted e outcome) k _
+    (slice_get-map (λ (c : Contract). record { trade = c.trade; price = d *ℤ c.price }) offers k ∙ ap (option_map (λ (c : Contract). record { trade = c.trade; price = d *ℤ c.price })) is)
