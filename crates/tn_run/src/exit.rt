@@ -1,10 +1,11 @@
 //! The run as the end of a program.
 
-ghost use Rattle.std.specs.Prelude.{◌≡◌, None, Some, map, string_bytes};
+ghost use Rattle.std.specs.Prelude.{◌≡◌, ℕ, List, None, Some, map, string_bytes};
 ghost use Rattle.std.specs.Process.{exit_status};
 ghost use Rattle.tn_market.specs.declared.said.Said.{Said};
 ghost use Rattle.tn_names.specs.Names.{NameLists};
 ghost use Rattle.tn_run.specs.Answer.{MayBeSaid};
+ghost use Rattle.tn_run.specs.Complete.{AnswersAll, NoneCounted};
 ghost use Rattle.tn_run.specs.Run.{IsWritten};
 ghost use Rattle.tn_run.specs.Words.{command_of};
 ghost use Rattle.tn_run.specs.declared.command.Command.{Command};
@@ -21,11 +22,15 @@ pub fn run_to_exit<S: Source, K: Sink>(
     source: &mut S,
     sink: &mut K,
 ) -> ExitCode
-    ensures { (said : Said) × (names : NameLists)
+    ensures answer { (said : Said) × (names : NameLists)
         × (command_of (map string_bytes words.now) ≡ None → (said ≡ Said.Usage) × (source.new ≡ source.old))
         × ((command : Command) → command_of (map string_bytes words.now) ≡ Some command
         → MayBeSaid command (S.left source.old) (S.left source.new) (S.faults source.old) (S.faults source.new) names said)
         × IsWritten (K.written sink.old) (K.written sink.new) (K.faults sink.old) (K.faults sink.new) names said (exit_status result) }
+    // A source that tells its bytes, and no fault counted at either end: the defined answer for them, or want of memory.
+    ensures complete { (command : Command) (all : List ℕ) → command_of (map string_bytes words.now) ≡ Some command → S.left source.old ≡ Some all
+        → NoneCounted (S.faults source.old) (S.faults source.new) → NoneCounted (K.faults sink.old) (K.faults sink.new)
+        → (said : Said) × (names : NameLists) × AnswersAll command all (K.written sink.old) (K.written sink.new) names said (exit_status result) }
 {
     ExitCode::from(run_market(alloc, words, source, sink).status)
 }
