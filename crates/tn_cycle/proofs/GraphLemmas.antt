@@ -5,8 +5,8 @@ use Rattle.std.proofs.lemmas.Bool.{ne_eqb, eq-eqb, lt-ltb, le-ltb, lt-leb, le-le
 use Rattle.std.proofs.lemmas.List.Elements.{All-nil, All-cons, All-head}
 use Rattle.tn_base.specs.Arcs.{AreBetweenNodes}
 use Rattle.tn_base.specs.Options.{both}
-use Rattle.tn_base.specs.Walks.{walk_cost, arcs_among, Avoids, HasNoNegativeCycle}
-use Rattle.tn_cycle.specs.Graphs.{is_admitted, is_looked_at, is_between, with_sink}
+use Rattle.tn_base.specs.Walks.{is_admitted, is_looked_at, walk_cost, arcs_among, Avoids, HasNoNegativeCycle}
+use Rattle.tn_cycle.specs.Graphs.{is_between, with_sink}
 use Rattle.tn_cycle.specs.GraphLaws.{some_if}
 use Rattle.tn_cycle.specs.Searched.{HasNoNegativeCycleOff}
 use Rattle.tn_cycle.proofs.OrderLemmas.{parts}

@@ -1,14 +1,5 @@
 -- Graphs that are made from a graph.
-use Rattle.std.specs.Prelude.{◌≡◌, ℕ, Bool, ◌==◌, ◌&&◌, ◌||◌, nat_lt, nat_le, if◌then◌else◌, ℤ, pos, Option, Some, None}
-use Rattle.tn_base.specs.Sets.{has}
-
--- whether a node is a trade of the set or the null node
-abbrev pub is_admitted : ℕ → ℕ → ℕ → Bool
-is_admitted null admitted v = v == null || has admitted v
-
--- whether a node is the given one, a trade of the set or the null node
-abbrev pub is_looked_at : ℕ → ℕ → ℕ → ℕ → Bool
-is_looked_at null node admitted v = v == node || is_admitted null admitted v
+use Rattle.std.specs.Prelude.{◌≡◌, ℕ, Bool, ◌==◌, ◌&&◌, nat_lt, nat_le, if◌then◌else◌, ℤ, pos, Option, Some, None}
 
 -- whether a node is a trade from the first on
 abbrev pub is_between : ℕ → ℕ → ℕ → Bool

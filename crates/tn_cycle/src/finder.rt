@@ -1,6 +1,5 @@
 ghost use Rattle.std.specs.Prelude.{◌≡◌, ℕ, ◌+◌, ◌-◌, ◌*◌, ◌<◌, ◌≤◌, Some, None, length, slice_get, IfOk, IsTrue, IsSome};
-ghost use Rattle.tn_base.specs.Walks.{arcs_among, HasNoNegativeCycle};
-ghost use Rattle.tn_cycle.specs.Graphs.{is_admitted, is_looked_at};
+ghost use Rattle.tn_base.specs.Walks.{arcs_among, is_admitted, is_looked_at, HasNoNegativeCycle};
 ghost use Rattle.tn_cycle.specs.Searched.{HasNoNegativeCycleOff};
 
 use crate::cell::Cell;

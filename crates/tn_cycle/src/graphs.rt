@@ -1,9 +1,55 @@
 ghost use Rattle.std.specs.Prelude.{◌≡◌, ◌+◌, ◌*◌, ◌^◌, ◌<◌, ◌≤◌};
-ghost use Rattle.tn_base.specs.Walks.{arcs_among};
-ghost use Rattle.tn_cycle.specs.Graphs.{is_between, is_looked_at, turned, with_sink};
+ghost use Rattle.tn_base.specs.Walks.{arcs_among, is_admitted, is_looked_at};
+ghost use Rattle.tn_cycle.specs.Graphs.{is_between, turned, with_sink};
 ghost use Rattle.tn_cycle.specs.GraphLaws.{between-arcs_among, between-turned, between-with_sink, small-arcs_among, small-turned, small-with_sink};
 
 use tn_base::{Costs, TradeSet};
+
+/// A graph's admitted trades and its null node, with the arcs among them.
+#[derive(Drop)]
+pub struct Admitted<'a, C: Costs, const W: usize> {
+    /// The graph.
+    pub costs: &'a C,
+    /// The null node, which is the graph's last node.
+    pub null: u32,
+    /// The trades.
+    pub admitted: &'a TradeSet<W>,
+    ghost wide: { W ≤ 16 },
+    ghost fits: { null ≤ 64 * W },
+    ghost last: { C.node_count costs.now ≡ null + 1 },
+}
+
+impl<C: Costs, const W: usize> Admitted<'_, C, W> {
+    /// Whether it has the node.
+    fn admits(&self, v: u32) -> bool
+        requires { v ≤ self.now.null }
+        ensures { result ≡ is_admitted self.now.null self.now.admitted.now v }
+    {
+        v == self.null || self.admitted.has(v)
+    }
+}
+
+impl<C: Costs, const W: usize> Costs for Admitted<'_, C, W> {
+    ghost node_count = { λ it. C.node_count it.costs.now };
+
+    ghost arc = { λ it. arcs_among (is_admitted it.null it.admitted.now) (C.arc it.costs.now) };
+
+    fn nodes(&self) -> u32 {
+        self.costs.nodes()
+    }
+
+    fn cost(&self, a: u32, b: u32) -> Option<i128> {
+        if self.admits(a) && self.admits(b) {
+            self.costs.cost(a, b)
+        } else {
+            None
+        }
+    }
+
+    ghost between_nodes = { λ it. between-arcs_among (is_admitted it.null it.admitted.now) (C.node_count it.costs.now) (C.arc it.costs.now) (C.between_nodes it.costs.now) };
+
+    ghost small = { λ it. small-arcs_among (is_admitted it.null it.admitted.now) (10 ^ 18) (C.arc it.costs.now) (C.small it.costs.now) };
+}
 
 /// A graph's node, its admitted trades and its null node, with the arcs among them.
 #[derive(Drop)]

@@ -11,4 +11,5 @@ mod search;
 mod through;
 
 pub use finder::{Finder, Labels};
+pub use graphs::Admitted;
 pub use path::Path;

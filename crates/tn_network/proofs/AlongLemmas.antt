@@ -1,10 +1,10 @@
 -- What the firms have of a set of trades that was toggled along a tight cycle: the bundles after the shifts of its legs.
-use Rattle.std.proofs.Common.{◌≡◌, ◌≢◌, ℕ, ◌<◌, Bool, true, false, not, ◌==◌, if◌then◌else◌, refl, sym, ap, ap₂, ◌∙◌, subst, arith, inl, inr, ◌⊎◌, List, [], ◌∷◌, length, map, slice_get, Some}
+use Rattle.std.proofs.Common.{ltb, ◌≡◌, ◌≢◌, ℕ, ◌<◌, Bool, true, false, not, ◌==◌, if◌then◌else◌, refl, sym, ap, ap₂, ◌∙◌, subst, arith, inl, inr, ◌⊎◌, List, [], ◌∷◌, ◌++◌, length, map, slice_get, Some}
 use Rattle.std.proofs.lemmas.Bool.{cases_eq, cases_lt, eq-eqb, eqb-true, false_from_ne_true, lt-ltb, le-ltb}
 use Rattle.std.proofs.lemmas.Option.{same_Some}
 use Rattle.tn_base.specs.Sets.{has, toggle}
 use Rattle.tn_base.specs.Firm.{Firm}
-use Rattle.tn_base.proofs.SetLemmas.{has-toggle_same, has-toggle_other}
+use Rattle.tn_base.proofs.SetLemmas.{has-toggle_same, has-toggle_other, toggle_comm}
 use Rattle.tn_law.specs.Places.{trade_level, toggle_at, move}
 use Rattle.tn_law.specs.Ordered.{shifted}
 use Rattle.tn_law.proofs.PlaceLemmas.{level-trade, toggle_at-trade, toggle_at-null, trade_level-le}
@@ -240,3 +240,18 @@ member_along firms trades on t set f k firm is inside legs path =
         let most = trade_level-le firm.buys (part trades f firm.count on) k in
         closed_turns firms trades on t set (own trades f k) legs (has (part trades f firm.count on) k) path
         ∙ sym (high_member firms trades on t set f k firm is inside (omega (arith, most, other)) t legs t path)
+
+-- ---- one node more at the end of a list
+
+toggle_if : (b c : Bool) (x v w : ℕ) → (if b then toggle (if c then toggle x w else x) v else (if c then toggle x w else x))
+    ≡ (if c then toggle (if b then toggle x v else x) w else (if b then toggle x v else x))
+toggle_if true true x v w = toggle_comm x w v
+toggle_if true false x v w = refl
+toggle_if false true x v w = refl
+toggle_if false false x v w = refl
+
+-- the set along a list and one node more
+pub along-push : (count on : ℕ) (vs : List ℕ) (w : ℕ) → along count on (vs ++ w ∷ []) ≡ (if ltb w count then toggle (along count on vs) w else along count on vs)
+along-push count on [] w = refl
+along-push count on (v ∷ vs) w =
+    ap (λ (x : ℕ). if ltb v count then toggle x v else x) (along-push count on vs w) ∙ toggle_if (ltb v count) (ltb w count) (along count on vs) v w

@@ -1,6 +1,6 @@
 use Rattle.std.proofs.Common.{◌≡◌, ◌-◌, ap, sym, subst, ℕ}
 use Rattle.tn_base.specs.Walks.{arcs_among, HasNoNegativeCycle}
-use Rattle.tn_cycle.specs.Graphs.{is_admitted}
+use Rattle.tn_base.specs.Walks.{is_admitted}
 use Rattle.tn_cycle.specs.Reading.{Reading}
 use Rattle.tn_cycle.proofs.GraphLemmas.{none_off_node}
 use Rattle.tn_cycle.proofs.finder.Finder.through.Goals as goal

@@ -1,0 +1,17 @@
+use Rattle.std.proofs.Common.{rules, sym, ◌∙◌, map, arith}
+use Rattle.tn_flow.proofs.RoundLemmas.{search_asks, search_answers}
+use Rattle.tn_flow.proofs.rounds.Rounds.find.Goals as goal
+
+pub through-requires : goal.through-requires
+through-requires g c =
+    let way = c.requires.under_way in
+    let sized = way.sized in
+    let wide = c.requires.wide in
+    let trade = c.requires.trade in
+    (search rules, (way.arcs.nodes ∙ sym way.sized, (omega (arith, sized, wide), (c.requires.width, (omega (arith, sized, trade),
+    search_asks (map g.V.Valuation.firm c.args.market.now.firms) c.args.market.now.trades c.args.self.now.graph c.args.self.now.finder c.args.self.now.allowed c.args.self.now.on way)))))
+
+pub returns-clause-next : goal.returns-clause-next
+returns-clause-next g c =
+    search_answers (map g.V.Valuation.firm c.args.market.now.firms) c.args.market.now.trades c.args.self.now.graph c.args.self.now.finder c.args.self.now.allowed c.args.self.now.on c.args.t
+    c.through.new.self.listed c.through.result c.know.ensures.network c.know.ensures.meet c.requires.under_way c.requires.trade c.requires.out c.through.ensures.answer

@@ -1,0 +1,23 @@
+-- What a solver answers.
+use Rattle.std.specs.Prelude.{◌≡◌, ℕ, ◌*◌, ◌≤◌, ℤ, pos, List, length, All}
+use Rattle.tn_base.specs.Arcs.{IsAtMost}
+use Rattle.tn_base.specs.Firm.{Firm}
+use Rattle.tn_market.specs.declared.ends.Ends.{Ends}
+use Rattle.tn_market.specs.Best.{price_at, IsSubset}
+use Rattle.tn_market.specs.Equilibrium.{IsEquilibrium}
+use Rattle.tn_market.specs.Admitted.{admitted}
+
+-- a set of trades with a price for each trade
+pub record Solution : Type 0 where
+  pub on : ℕ
+  pub prices : List ℤ
+
+-- trades among the admitted ones, and prices of all trades, that are an equilibrium of the market that they admit
+pub record IsSolution (firms : List Firm) (trades : List Ends) (allowed : ℕ) (solution : Solution) : Type 0 where
+  pub inside : IsSubset solution.on allowed
+  pub one_each : length solution.prices ≡ length trades
+  pub equilibrium : IsEquilibrium (admitted trades allowed firms) trades (pos 1) solution.on (price_at solution.prices)
+
+-- no price is above so much in size
+abbrev pub ArePricesWithin : ℕ → List ℤ → Type 0
+ArePricesWithin limit prices = All (λ price. IsAtMost price limit) prices

@@ -1,0 +1,28 @@
+-- Where the rounds of a solver stand.
+use Rattle.std.specs.Prelude.{◌≡◌, ℕ, ◌+◌, List, length}
+use Rattle.tn_base.specs.Firm.{Firm}
+use Rattle.tn_base.specs.Sets.{toggle}
+use Rattle.tn_market.specs.declared.ends.Ends.{Ends}
+use Rattle.tn_graph.specs.Matrix.{Matrix}
+use Rattle.tn_graph.specs.Reading.{IsExchangeGraph}
+use Rattle.tn_cycle.specs.Reading.{Reading}
+use Rattle.tn_cycle.specs.declared.path.Path.{Path}
+use Rattle.tn_cycle.specs.declared.path.Path.TheVariants as path
+use Rattle.tn_network.specs.Along.{along}
+use Rattle.tn_network.specs.Kept.{IsKept}
+
+-- a graph and a finder have room for so many trades and null
+pub record HaveRoom (count : ℕ) (graph : Matrix) (finder : Reading) : Type 0 where
+  pub graph_sized : graph.nodes ≡ count + 1
+  pub finder_sized : finder.nodes ≡ count + 1
+
+-- the graph is the exchange graph at the set that is on, and the set is what a round leaves with the admitted trades
+pub record AreUnderWay (firms : List Firm) (trades : List Ends) (graph : Matrix) (finder : Reading) (allowed on : ℕ) : Type 0 where
+  pub arcs : IsExchangeGraph firms trades on graph
+  pub sized : finder.nodes ≡ length trades + 1
+  pub kept : IsKept firms trades allowed on
+
+-- what follows from the answer of a search: the set with the trade admitted, as it is or along the listed cycle
+abbrev pub IsNext : List Firm → List Ends → ℕ → ℕ → ℕ → List ℕ → Path → Type 0
+IsNext firms trades allowed on t listed path.None = IsKept firms trades (toggle allowed t) on
+IsNext firms trades allowed on t listed (path.Cycle cost count) = (count ≡ length listed) × IsKept firms trades (toggle allowed t) (along (length trades) on listed)

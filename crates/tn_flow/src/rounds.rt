@@ -1,0 +1,162 @@
+//! The rounds of a solver: trades are admitted one after another, and after each the set that is on is an equilibrium's.
+
+ghost use Rattle.std.specs.Prelude.{◌≡◌, ℕ, ◌+◌, ◌*◌, ◌≤◌, ◌<◌, ◌^◌, ltb, false, if◌then◌else◌, length, map, slice_get, IfOk};
+ghost use Rattle.tn_base.specs.Sets.{has, toggle};
+ghost use Rattle.tn_base.specs.Walks.{arcs_among, is_admitted};
+ghost use Rattle.tn_cycle.specs.Answers.{AreLabels};
+ghost use Rattle.tn_market.specs.Graph.{exchange_arc, graph_worths, ArePossible};
+ghost use Rattle.tn_network.specs.Along.{along};
+ghost use Rattle.tn_network.specs.Laws.{MeetExchange};
+ghost use Rattle.tn_market.specs.Network.{IsNetwork};
+ghost use Rattle.tn_network.specs.Kept.{IsKept};
+ghost use Rattle.tn_flow.specs.Underway.{HaveRoom, AreUnderWay, IsNext};
+
+use std::alloc::Global;
+use tn_base::{OutOfMemory, Steps, TradeSet};
+use tn_cycle::{Admitted, Finder, Labels, Path};
+use tn_graph::Graph;
+use tn_market::{Market, Valuation};
+
+/// The rounds of a solver over one market: which trades are admitted, which are on, and the exchange graph at these.
+#[derive(Drop)]
+pub struct Rounds<const W: usize> {
+    /// The exchange graph at the trades that are on.
+    pub graph: Graph,
+    /// What searches it.
+    pub finder: Finder,
+    /// The trades that are admitted so far.
+    pub allowed: TradeSet<W>,
+    /// The trades among these that are on.
+    pub on: TradeSet<W>,
+}
+
+/// What is known of every market: its firms meet exchange, and without any trade their bundles are possible.
+fn know<V: Valuation>(market: &Market<V>)
+    ensures network { IsNetwork (map V.firm market.now.firms) market.now.trades }
+    ensures meet { MeetExchange (map V.firm market.now.firms) }
+    ensures start { IsKept (map V.firm market.now.firms) market.now.trades 0 0 }
+{
+    let _trades = market.trades();
+}
+
+/// Toggles a node that is a trade.
+fn toggle_node<const W: usize>(on: &mut TradeSet<W>, node: u32, null: u32)
+    requires width { W ≤ 16 }
+    requires wide { null ≤ 64 * W }
+    ensures { on.new ≡ (if ltb node null then toggle on.old node else on.old) }
+{
+    if node < null {
+        on.toggle(node);
+    }
+}
+
+impl<const W: usize> Rounds<W> {
+    /// Takes all memory that the rounds over a market of so many trades need. No trade is admitted. It fails only where
+    /// memory runs out.
+    pub fn with_room(alloc: Global, trades: u32) -> Result<Rounds<W>, OutOfMemory>
+        requires width { W ≤ 16 }
+        requires few { trades ≤ 1024 }
+        ensures room { IfOk result (λ rounds. HaveRoom trades rounds.graph rounds.finder) }
+        ensures none_admitted { IfOk result (λ rounds. rounds.allowed ≡ 0) }
+        ensures none_on { IfOk result (λ rounds. rounds.on ≡ 0) }
+    {
+        Ok(Rounds {
+            graph: Graph::new(alloc, trades + 1)?,
+            finder: Finder::new(alloc, trades + 1)?,
+            allowed: TradeSet::empty(),
+            on: TradeSet::empty(),
+        })
+    }
+
+    /// Begins anew on a market: no trade is admitted, and none is on. It asks for at most a worth for each two places of
+    /// each firm.
+    pub fn begin<V: Valuation>(&mut self, market: &Market<V>, steps: &mut Steps<V::Mark>)
+        requires width { W ≤ 16 }
+        requires wide { length market.now.trades ≤ 64 * W }
+        requires room { HaveRoom (length market.now.trades) self.old.graph self.old.finder }
+        requires small { (f : ℕ) (v : V) → slice_get market.now.firms f ≡ Some v → 2 * V.limit v ≤ 10 ^ 18 }
+        ensures under_way { AreUnderWay (map V.firm market.now.firms) market.now.trades self.new.graph self.new.finder self.new.allowed self.new.on }
+        ensures none_admitted { self.new.allowed ≡ 0 }
+        ensures none_on { self.new.on ≡ 0 }
+        ensures asked { steps.new ≤ steps.old + graph_worths (map V.firm market.now.firms) }
+    {
+        know(market);
+        self.allowed = TradeSet::empty();
+        self.on = TradeSet::empty();
+        self.graph.fill(market, &self.on, steps);
+    }
+
+    /// Toggles the trades among the nodes of the cycle that was found.
+    fn toggle_nodes(&mut self, count: u32, null: u32)
+        requires width { W ≤ 16 }
+        requires wide { null ≤ 64 * W }
+        requires counted { count ≡ length self.old.finder.listed }
+        ensures along { self.new ≡ record self.old { on = along null self.old.on self.old.finder.listed } }
+    {
+        for k in 0..count {
+            let node = self.finder.at(k);
+            toggle_node(&mut self.on, node, null);
+        }
+    }
+
+    /// Looks for a cycle through a trade that is negative, over it, the admitted trades and null.
+    fn find<V: Valuation>(&mut self, market: &Market<V>, t: u32) -> Path
+        requires width { W ≤ 16 }
+        requires wide { length market.now.trades ≤ 64 * W }
+        requires under_way { AreUnderWay (map V.firm market.now.firms) market.now.trades self.old.graph self.old.finder self.old.allowed self.old.on }
+        requires trade { t < length market.now.trades }
+        requires out { has self.old.allowed t ≡ false }
+        ensures rest { self.new ≡ record self.old { finder = self.new.finder } }
+        ensures sized { self.new.finder.nodes ≡ self.old.finder.nodes }
+        ensures next { IsNext (map V.firm market.now.firms) market.now.trades self.old.allowed self.old.on t self.new.finder.listed result }
+    {
+        know(market);
+        self.finder.through(&self.graph, t, &self.allowed)
+    }
+
+    /// Admits a trade: one round of the solver. Where a cycle of the exchange graph through it is negative, the trades are
+    /// toggled along one of least cost and then of least arcs. It asks for at most a worth for each two places of each
+    /// firm, and takes no memory.
+    pub fn admit<V: Valuation>(&mut self, market: &Market<V>, t: u32, steps: &mut Steps<V::Mark>)
+        requires width { W ≤ 16 }
+        requires wide { length market.now.trades ≤ 64 * W }
+        requires small { (f : ℕ) (v : V) → slice_get market.now.firms f ≡ Some v → 2 * V.limit v ≤ 10 ^ 18 }
+        requires under_way { AreUnderWay (map V.firm market.now.firms) market.now.trades self.old.graph self.old.finder self.old.allowed self.old.on }
+        requires trade { t < length market.now.trades }
+        requires out { has self.old.allowed t ≡ false }
+        ensures under_way { AreUnderWay (map V.firm market.now.firms) market.now.trades self.new.graph self.new.finder self.new.allowed self.new.on }
+        ensures admitted { self.new.allowed ≡ toggle self.old.allowed t }
+        ensures asked { steps.new ≤ steps.old + graph_worths (map V.firm market.now.firms) }
+    {
+        let before = self.on;
+        let found = self.find(market, t);
+        self.allowed.toggle(t);
+        if let Path::Cycle { length, .. } = found {
+            self.toggle_nodes(length, market.trades());
+            self.graph.refresh(market, &before, &self.on, steps);
+        }
+    }
+
+    /// Numbers the admitted trades and null so that every arc among them is kept. The numbers less null's are prices at
+    /// which what is on is an equilibrium of the market that the admitted trades make.
+    pub fn settle<V: Valuation>(&mut self, market: &Market<V>)
+        requires width { W ≤ 16 }
+        requires wide { length market.now.trades ≤ 64 * W }
+        requires under_way { AreUnderWay (map V.firm market.now.firms) market.now.trades self.old.graph self.old.finder self.old.allowed self.old.on }
+        ensures under_way { AreUnderWay (map V.firm market.now.firms) market.now.trades self.new.graph self.new.finder self.new.allowed self.new.on }
+        ensures admitted { self.new.allowed ≡ self.old.allowed }
+        ensures on { self.new.on ≡ self.old.on }
+        ensures labels { AreLabels (length market.now.trades + 1) (arcs_among (is_admitted (length market.now.trades) self.old.allowed)
+            (exchange_arc (map V.firm market.now.firms) market.now.trades self.old.on)) self.new.finder.labels }
+    {
+        let admitted = Admitted {
+            costs: &self.graph,
+            null: market.trades(),
+            admitted: &self.allowed,
+        };
+        match self.finder.labels(&admitted) {
+            Labels::Feasible => {}
+            Labels::Negative { .. } => unreachable!(),
+        }
+    }
+}
