@@ -1,6 +1,8 @@
 -- What a round of the solver keeps.
-use Rattle.std.proofs.Common.{◌≡◌, ℕ, suc, ◌+◌, ◌-◌, ◌*◌, ◌<◌, ◌≤◌, Bool, true, false, ◌==◌, ltb, refl, sym, ap, ◌∙◌, subst, arith, if◌then◌else◌, ℤ, pos, List, [], ◌∷◌, ◌++◌, length, map, take, slice_get, Option, Some, None, option_map}
+use Rattle.std.proofs.Common.{◌≡◌, ◌≢◌, not, ◌&&◌, nat_lt, ap₂, inl, inr, ◌⊎◌, ℕ, suc, ◌+◌, ◌-◌, ◌*◌, ◌<◌, ◌≤◌, Bool, true, false, ◌==◌, ltb, refl, sym, ap, ◌∙◌, subst, arith, if◌then◌else◌, ℤ, pos, List, [], ◌∷◌, ◌++◌, length, map, take, slice_get, Option, Some, None, option_map}
 use Rattle.std.proofs.lemmas.Int.{ints}
+use Rattle.std.proofs.lemmas.Bool.{cases_eq, cases_lt, lt-ltb, le-ltb}
+use Rattle.tn_base.proofs.SetLemmas.{has-zero, has-toggle_same, has-toggle_other, same_set}
 use Rattle.std.proofs.Math.Seq.{take-suc}
 use Rattle.std.proofs.lemmas.Option.{same_Some, slice_get-map, get_or_from_slice_get}
 use Rattle.tn_base.specs.Sets.{has, toggle}
@@ -22,7 +24,7 @@ use Rattle.tn_network.specs.Laws.{MeetExchange}
 use Rattle.tn_network.specs.Kept.{IsKept}
 use Rattle.tn_network.specs.Rounds.{arcs_with}
 use Rattle.tn_network.proofs.KeptLemmas.{one_cycle_for_each_trade}
-use Rattle.tn_flow.specs.Underway.{AreUnderWay, IsNext}
+use Rattle.tn_flow.specs.Underway.{AreUnderWay, IsNext, AreAdmittedBelow}
 use Rattle.tn_network.specs.Along.{along}
 use Rattle.tn_network.proofs.AlongLemmas.{along-push}
 
@@ -41,7 +43,7 @@ along-next count on nodes k v below is =
 -- ---- what is known of a market
 
 -- what holds of each item's firm holds of each firm of the list
-each_firm : {V : Type 0} (firm_of : V → Firm) (P : Firm → Type 0) (firms : List V) → ((v : V) → P (firm_of v)) → (f : ℕ) (firm : Firm) → slice_get (map firm_of firms) f ≡ Some firm → P firm
+pub each_firm : {V : Type 0} (firm_of : V → Firm) (P : Firm → Type 0) (firms : List V) → ((v : V) → P (firm_of v)) → (f : ℕ) (firm : Firm) → slice_get (map firm_of firms) f ≡ Some firm → P firm
 each_firm {V} firm_of P firms each f firm is = by (slice_get firms f) (sym (slice_get-map firm_of firms f) ∙ is)
   where
     by : (o : Option V) → option_map firm_of o ≡ Some firm → P firm
@@ -143,3 +145,53 @@ none_negative firms trades graph finder allowed on count listed cost arcs way co
     ∙ ap (λ (m : ℕ). walk_cost (arcs_among (is_admitted m allowed) (arcs_of graph)) negative.first negative.rest negative.first) (sym counted) ∙ walk) in
     let below = negative.negative in
     omega (arith, ints, least, below)
+
+-- ---- one trade after another
+
+pub none_below : (wanted allowed : ℕ) → allowed ≡ 0 → AreAdmittedBelow wanted 0 allowed
+none_below wanted allowed none k = ap (λ (x : ℕ). has x k) none ∙ has-zero k ∙ sym (ap (λ (b : Bool). b && has wanted k) (le-ltb k 0 (omega arith)))
+
+pub not_yet : (wanted t allowed : ℕ) → AreAdmittedBelow wanted t allowed → has allowed t ≡ false
+not_yet wanted t allowed below = below t ∙ ap (λ (b : Bool). b && has wanted t) (le-ltb t t (omega arith))
+
+pub one_more_below : (wanted t allowed : ℕ) → AreAdmittedBelow wanted t allowed → AreAdmittedBelow wanted (t + 1) (if has wanted t then toggle allowed t else allowed)
+one_more_below wanted t allowed below k = elim (cases_eq k t) [
+  | inl e ↦
+      let in_range : nat_lt k (t + 1) ≡ true = lt-ltb k (t + 1) (omega (arith, e)) in
+      ap (has (if has wanted t then toggle allowed t else allowed)) e ∙ here (has wanted t) refl
+      ∙ sym (ap₂ (λ (a b : Bool). a && b) in_range (ap (has wanted) e))
+  | inr other ↦ there (has wanted t) other ∙ below k ∙ ap (λ (b : Bool). b && has wanted k) (same (cases_lt k t) other)
+]
+  where
+    here : (b : Bool) → has wanted t ≡ b → has (if b then toggle allowed t else allowed) t ≡ b
+    here true e = has-toggle_same allowed t ∙ ap not (not_yet wanted t allowed below)
+    here false e = not_yet wanted t allowed below
+
+    there : (b : Bool) → k ≢ t → has (if b then toggle allowed t else allowed) k ≡ has allowed k
+    there true other = has-toggle_other allowed t k other
+    there false other = refl
+
+    same : (k < t) ⊎ (t ≤ k) → k ≢ t → nat_lt k t ≡ nat_lt k (t + 1)
+    same (inl h) other = lt-ltb k t h ∙ sym (lt-ltb k (t + 1) (omega (arith, h)))
+    same (inr h) other = le-ltb k t h ∙ sym (le-ltb k (t + 1) (omega (arith, h, other)))
+
+-- in the end they are all trades of the set
+pub all_below : (wanted count allowed : ℕ) → ((t : ℕ) → has wanted t ≡ true → t < count) → AreAdmittedBelow wanted count allowed → allowed ≡ wanted
+all_below wanted count allowed inside below = same_set allowed wanted (λ k. below k ∙ by k (has wanted k) refl)
+  where
+    by : (k : ℕ) (b : Bool) → has wanted k ≡ b → (nat_lt k count && has wanted k) ≡ has wanted k
+    by k true e = ap₂ (λ (a c : Bool). a && c) (lt-ltb k count (inside k e)) e ∙ sym e
+    by k false e = ap (λ (c : Bool). nat_lt k count && c) e ∙ gone (nat_lt k count) ∙ sym e
+      where
+        gone : (a : Bool) → (a && false) ≡ false
+        gone true = refl
+        gone false = refl
+
+pub worths_step : (old before new worths t : ℕ) → before ≤ old + t * worths → new ≤ before + worths → new ≤ old + (t + 1) * worths
+worths_step old before new worths t first second = let e : (t + 1) * worths ≡ t * worths + worths = grind arith in omega (arith, first, second, e)
+
+pub worths_sum : (old first new worths t count : ℕ) → first ≤ old + worths → new ≤ first + t * worths → t ≡ count → new ≤ old + (count + 1) * worths
+worths_sum old first new worths t count begin all same =
+    let e : (t + 1) * worths ≡ t * worths + worths = grind arith in
+    let n = ap (λ (k : ℕ). (k + 1) * worths) same in
+    omega (arith, begin, all, e, n)

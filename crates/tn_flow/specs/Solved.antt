@@ -1,5 +1,5 @@
 -- What a solver answers.
-use Rattle.std.specs.Prelude.{◌≡◌, ℕ, ◌*◌, ◌≤◌, ℤ, pos, List, length, All}
+use Rattle.std.specs.Prelude.{◌≡◌, ℕ, ◌+◌, ℤ, pos, List, length, All}
 use Rattle.tn_base.specs.Arcs.{IsAtMost}
 use Rattle.tn_base.specs.Firm.{Firm}
 use Rattle.tn_market.specs.declared.ends.Ends.{Ends}
@@ -11,6 +11,17 @@ use Rattle.tn_market.specs.Admitted.{admitted}
 pub record Solution : Type 0 where
   pub on : ℕ
   pub prices : List ℤ
+
+-- nothing is on, and each of so many prices is 0
+pub record IsUnsolved (count : ℕ) (solution : Solution) : Type 0 where
+  pub none_on : solution.on ≡ 0
+  pub one_each : length solution.prices ≡ count
+  pub free : (t : ℕ) → price_at solution.prices t ≡ pos 0
+
+-- a graph and a finder have a node for each price and null
+pub record IsReady (graph_nodes finder_nodes : ℕ) (prices : List ℤ) : Type 0 where
+  pub graph_sized : graph_nodes ≡ length prices + 1
+  pub finder_sized : finder_nodes ≡ length prices + 1
 
 -- trades among the admitted ones, and prices of all trades, that are an equilibrium of the market that they admit
 pub record IsSolution (firms : List Firm) (trades : List Ends) (allowed : ℕ) (solution : Solution) : Type 0 where

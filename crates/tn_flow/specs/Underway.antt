@@ -1,7 +1,7 @@
 -- Where the rounds of a solver stand.
-use Rattle.std.specs.Prelude.{◌≡◌, ℕ, ◌+◌, List, length}
+use Rattle.std.specs.Prelude.{◌≡◌, ℕ, ◌+◌, nat_lt, ◌&&◌, List, length}
 use Rattle.tn_base.specs.Firm.{Firm}
-use Rattle.tn_base.specs.Sets.{toggle}
+use Rattle.tn_base.specs.Sets.{has, toggle}
 use Rattle.tn_market.specs.declared.ends.Ends.{Ends}
 use Rattle.tn_graph.specs.Matrix.{Matrix}
 use Rattle.tn_graph.specs.Reading.{IsExchangeGraph}
@@ -26,3 +26,7 @@ pub record AreUnderWay (firms : List Firm) (trades : List Ends) (graph : Matrix)
 abbrev pub IsNext : List Firm → List Ends → ℕ → ℕ → ℕ → List ℕ → Path → Type 0
 IsNext firms trades allowed on t listed path.None = IsKept firms trades (toggle allowed t) on
 IsNext firms trades allowed on t listed (path.Cycle cost count) = (count ≡ length listed) × IsKept firms trades (toggle allowed t) (along (length trades) on listed)
+
+-- the admitted trades are those of a set that are below t
+abbrev pub AreAdmittedBelow : ℕ → ℕ → ℕ → Type 0
+AreAdmittedBelow wanted t allowed = (k : ℕ) → has allowed k ≡ (nat_lt k t && has wanted k)

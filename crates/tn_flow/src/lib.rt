@@ -2,7 +2,7 @@
 #![tactic(auto)]
 
 mod rounds;
-
+mod solver;
 
 pub use rounds::Rounds;
-
+pub use solver::Solver;

@@ -1,6 +1,6 @@
 //! The rounds of a solver: trades are admitted one after another, and after each the set that is on is an equilibrium's.
 
-ghost use Rattle.std.specs.Prelude.{◌≡◌, ℕ, ◌+◌, ◌*◌, ◌≤◌, ◌<◌, ◌^◌, ltb, false, if◌then◌else◌, length, map, slice_get, IfOk};
+ghost use Rattle.std.specs.Prelude.{◌≡◌, ℕ, ◌+◌, ◌*◌, ◌≤◌, ◌<◌, ◌^◌, ltb, true, false, if◌then◌else◌, length, map, slice_get, IfOk};
 ghost use Rattle.tn_base.specs.Sets.{has, toggle};
 ghost use Rattle.tn_base.specs.Walks.{arcs_among, is_admitted};
 ghost use Rattle.tn_cycle.specs.Answers.{AreLabels};
@@ -134,6 +134,52 @@ impl<const W: usize> Rounds<W> {
         if let Path::Cycle { length, .. } = found {
             self.toggle_nodes(length, market.trades());
             self.graph.refresh(market, &before, &self.on, steps);
+        }
+    }
+
+    /// Admits a trade where it is wanted.
+    fn admit_if<V: Valuation>(
+        &mut self,
+        market: &Market<V>,
+        t: u32,
+        wanted: bool,
+        steps: &mut Steps<V::Mark>,
+    )
+        requires width { W ≤ 16 }
+        requires wide { length market.now.trades ≤ 64 * W }
+        requires small { (f : ℕ) (v : V) → slice_get market.now.firms f ≡ Some v → 2 * V.limit v ≤ 10 ^ 18 }
+        requires under_way { AreUnderWay (map V.firm market.now.firms) market.now.trades self.old.graph self.old.finder self.old.allowed self.old.on }
+        requires trade { t < length market.now.trades }
+        requires out { has self.old.allowed t ≡ false }
+        ensures under_way { AreUnderWay (map V.firm market.now.firms) market.now.trades self.new.graph self.new.finder self.new.allowed self.new.on }
+        ensures admitted { self.new.allowed ≡ (if wanted then toggle self.old.allowed t else self.old.allowed) }
+        ensures asked { steps.new ≤ steps.old + graph_worths (map V.firm market.now.firms) }
+    {
+        if wanted {
+            self.admit(market, t, steps);
+        }
+    }
+
+    /// Begins anew on a market, and admits some of its trades, one after another. It asks for at most a worth for each two
+    /// places of each firm, once and once more for each trade.
+    pub fn admit_all<V: Valuation>(
+        &mut self,
+        market: &Market<V>,
+        admitted: &TradeSet<W>,
+        steps: &mut Steps<V::Mark>,
+    )
+        requires width { W ≤ 16 }
+        requires wide { length market.now.trades ≤ 64 * W }
+        requires room { HaveRoom (length market.now.trades) self.old.graph self.old.finder }
+        requires small { (f : ℕ) (v : V) → slice_get market.now.firms f ≡ Some v → 2 * V.limit v ≤ 10 ^ 18 }
+        requires inside { (t : ℕ) → has admitted.now t ≡ true → t < length market.now.trades }
+        ensures under_way { AreUnderWay (map V.firm market.now.firms) market.now.trades self.new.graph self.new.finder self.new.allowed self.new.on }
+        ensures admitted { self.new.allowed ≡ admitted.now }
+        ensures asked { steps.new ≤ steps.old + (length market.now.trades + 1) * graph_worths (map V.firm market.now.firms) }
+    {
+        self.begin(market, steps);
+        for t in 0..market.trades() {
+            self.admit_if(market, t, admitted.has(t), steps);
         }
     }
 

@@ -1,17 +1,19 @@
 //! The solver.
 
-ghost use Rattle.std.specs.Prelude.{◌≡◌, ℕ, ◌+◌, ◌-◌, ◌*◌, ◌≤◌, ◌<◌, ◌^◌, ◌-ℤ◌, true, All, get_or, length, map, slice_get, IfOk};
-ghost use Rattle.tn_base.specs.Sets.{has};
+ghost use Rattle.std.specs.Prelude.{◌≡◌, ℕ, ◌+◌, ◌-◌, ◌*◌, ◌≤◌, ◌<◌, ◌^◌, ◌-ℤ◌, pos, true, Some, length, map, slice_get, IfOk};
+ghost use Rattle.tn_base.specs.Arcs.{IsAtMost};
+ghost use Rattle.tn_base.specs.Sets.{has, set_of};
 ghost use Rattle.tn_cycle.specs.Answers.{label_in};
 ghost use Rattle.tn_market.specs.Best.{price_at};
 ghost use Rattle.tn_market.specs.Equilibrium.{IsEquilibrium};
 ghost use Rattle.tn_market.specs.Graph.{graph_worths};
-ghost use Rattle.tn_flow.specs.Solved.{ArePricesWithin, HasRoom, IsSolution, IsUnsolved, Solution};
+ghost use Rattle.tn_flow.specs.Solved.{ArePricesWithin, IsSolution, IsUnsolved};
 
 use crate::rounds::Rounds;
 use std::alloc::Global;
 use std::marker::Model;
 use tn_base::{OutOfMemory, Steps, TradeSet};
+use tn_cycle::Finder;
 use tn_market::{Market, Valuation};
 
 /// Finds an equilibrium, by admitting one trade after another. All memory is taken in `with_room`.
@@ -33,10 +35,50 @@ impl<const W: usize> Model for Solver<W> {
     ghost invariant = { λ solver. IsReady solver.rounds.graph.nodes solver.rounds.finder.nodes solver.prices.items };
 }
 
+/// The label of a node less that of another.
+fn label_less(finder: &Finder, v: u32, null: u32) -> i128
+    requires node { v < length finder.now.labels }
+    requires last { null < length finder.now.labels }
+    requires small { (t : ℕ) → t < length finder.now.labels → IsAtMost (label_in finder.now.labels t) (2 ^ 100) }
+    ensures { result ≡ label_in finder.now.labels v -ℤ label_in finder.now.labels null }
+{
+    finder.label(v) - finder.label(null)
+}
+
+/// Writes the prices that the labels of a finder are: each trade's less null's.
+fn read_prices(finder: &Finder, prices: &mut Vec<i128>, count: u32)
+    requires counted { length prices.old.items ≡ count }
+    requires labelled { length finder.now.labels ≡ count + 1 }
+    requires small { (t : ℕ) → t < length finder.now.labels → IsAtMost (label_in finder.now.labels t) (2 ^ 100) }
+    ensures one_each { length prices.new.items ≡ count }
+    ensures prices { (t : ℕ) → t < count → price_at prices.new.items t ≡ label_in finder.now.labels t -ℤ label_in finder.now.labels count }
+{
+    for t in 0..count {
+        prices[t as usize] = label_less(finder, t, count);
+    }
+}
+
+/// The set of the first trades.
+#[tactic(auto, unfolding(tn_base::specs::Sets::set_of))]
+fn all_trades<const W: usize>(count: u32) -> TradeSet<W>
+    requires width { W ≤ 16 }
+    requires wide { count ≤ 64 * W }
+    ensures { result ≡ set_of (λ t. true) count }
+{
+    let mut all = TradeSet::empty();
+    for t in 0..count {
+        all.toggle(t);
+    }
+    all
+}
+
 impl<const W: usize> Solver<W> {
     /// A solver for markets of as many trades as this one has. Nothing is on, and each price is 0. It fails only where
     /// memory runs out.
-    pub fn with_room<V: Valuation>(alloc: Global, market: &Market<V>) -> Result<Solver<W>, OutOfMemory>
+    pub fn with_room<V: Valuation>(
+        alloc: Global,
+        market: &Market<V>,
+    ) -> Result<Solver<W>, OutOfMemory>
         requires width { W ≤ 16 }
         requires wide { length market.now.trades ≤ 64 * W }
         ensures { IfOk result (IsUnsolved (length market.now.trades)) }
@@ -63,19 +105,45 @@ impl<const W: usize> Solver<W> {
         self.prices[t as usize]
     }
 
-    /// Admits the given trades, one after another.
-    fn admit_all<V: Valuation>(
+    /// Finds an equilibrium of the market that the given trades admit: trades among these, and prices of all trades, at
+    /// which each firm's bundle is best among its bundles within the admitted trades. It has no refusal, takes no memory,
+    /// and asks for at most a worth for each two places of each firm, once and once more for each trade (existence:
+    /// Hatfield, Kominers, Nichifor, Ostrovsky and Westkamp, 2013).
+    pub fn solve_among<V: Valuation>(
         &mut self,
         market: &Market<V>,
         admitted: &TradeSet<W>,
         steps: &mut Steps<V::Mark>,
     )
+        requires width { W ≤ 16 }
+        requires wide { length market.now.trades ≤ 64 * W }
+        requires made_for { length self.old.prices ≡ length market.now.trades }
+        requires inside { (t : ℕ) → has admitted.now t ≡ true → t < length market.now.trades }
+        requires small { (f : ℕ) (v : V) → slice_get market.now.firms f ≡ Some v → 2 * V.limit v * (length market.now.trades + 1) ≤ 10 ^ 18 }
+        ensures solution { IsSolution (map V.firm market.now.firms) market.now.trades admitted.now self.new }
+        ensures prices { (bound : ℕ) → ((f : ℕ) (v : V) → slice_get market.now.firms f ≡ Some v → V.limit v ≤ bound)
+            → ArePricesWithin (2 * bound * length market.now.trades) self.new.prices }
+        ensures asked { steps.new ≤ steps.old + (length market.now.trades + 1) * graph_worths (map V.firm market.now.firms) }
     {
-        self.rounds.begin(market, steps);
-        for t in 0..market.trades() {
-            if admitted.has(t) {
-                self.rounds.admit(market, t, steps);
-            }
-        }
+        self.rounds.admit_all(market, admitted, steps);
+        self.rounds.settle(market);
+        read_prices(&self.rounds.finder, &mut self.prices, market.trades());
+    }
+
+    /// Finds an equilibrium of the market, at scale 1, within the bounds of `solve_among`.
+    pub fn solve_in<V: Valuation>(&mut self, market: &Market<V>, steps: &mut Steps<V::Mark>)
+        requires width { W ≤ 16 }
+        requires wide { length market.now.trades ≤ 64 * W }
+        requires made_for { length self.old.prices ≡ length market.now.trades }
+        requires small { (f : ℕ) (v : V) → slice_get market.now.firms f ≡ Some v → 2 * V.limit v * (length market.now.trades + 1) ≤ 10 ^ 18 }
+        ensures one_each { length self.new.prices ≡ length market.now.trades }
+        ensures equilibrium { IsEquilibrium (map V.firm market.now.firms) market.now.trades (pos 1) self.new.on (price_at self.new.prices) }
+        ensures inside { (t : ℕ) → has self.new.on t ≡ true → t < length market.now.trades }
+        ensures prices { (bound : ℕ) → ((f : ℕ) (v : V) → slice_get market.now.firms f ≡ Some v → V.limit v ≤ bound)
+            → ArePricesWithin (2 * bound * length market.now.trades) self.new.prices }
+        ensures asked { steps.new ≤ steps.old + (length market.now.trades + 1) * graph_worths (map V.firm market.now.firms) }
+    {
+        let all = all_trades(market.trades());
+        self.solve_among(market, &all, steps);
     }
 }

@@ -7,9 +7,22 @@ through-requires g c =
     let way = c.requires.under_way in
     let sized = way.sized in
     let wide = c.requires.wide in
-    let trade = c.requires.trade in
-    (search rules, (way.arcs.nodes ∙ sym way.sized, (omega (arith, sized, wide), (c.requires.width, (omega (arith, sized, trade),
-    search_asks (map g.V.Valuation.firm c.args.market.now.firms) c.args.market.now.trades c.args.self.now.graph c.args.self.now.finder c.args.self.now.allowed c.args.self.now.on way)))))
+    let trade = c.requires.trade in (
+      search rules,
+      (
+        way.arcs.nodes ∙ sym way.sized,
+        (
+          omega (arith, sized, wide),
+          (
+            c.requires.width,
+            (
+              omega (arith, sized, trade),
+              search_asks (map g.V.Valuation.firm c.args.market.now.firms) c.args.market.now.trades c.args.self.now.graph c.args.self.now.finder c.args.self.now.allowed c.args.self.now.on way,
+            ),
+          ),
+        ),
+      ),
+    )
 
 pub returns-clause-next : goal.returns-clause-next
 returns-clause-next g c =

@@ -1,4 +1,4 @@
-use Rattle.std.proofs.Common.{◌≡◌, ℕ, ltb, sym, ap, ◌∙◌, if◌then◌else◌, subst, arith, slice_get, Some, length}
+use Rattle.std.proofs.Common.{ℕ, ltb, sym, ap, ◌∙◌, if◌then◌else◌, arith, slice_get}
 use Rattle.tn_base.specs.Sets.{toggle}
 use Rattle.tn_flow.specs.declared.rounds.Rounds.{Rounds}
 use Rattle.tn_flow.proofs.RoundLemmas.{along-next}
