@@ -8,7 +8,6 @@ use Rattle.tn_base.specs.Firm.{Firm}
 use Rattle.tn_base.specs.Table.{buys_of}
 use Rattle.tn_base.specs.declared.side.Side.{Side}
 use Rattle.tn_base.specs.declared.fault.FaultKind.TheVariants.{Limit}
-use Rattle.tn_middle.specs.Sets.{meets}
 use Rattle.tn_market.specs.Network.{IsNetwork, own}
 use Rattle.tn_base.specs.Exchange.{MeetsExchange}
 use Rattle.tn_base.proofs.ExchangeLemmas.{exchange_from_none_fails}

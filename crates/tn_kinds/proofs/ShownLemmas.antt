@@ -1,6 +1,6 @@
 -- A firm's bundles, and a triple of it that fails, are shown by trades that have a name.
 use Rattle.std.proofs.Common.{◌≡◌, ℕ, zero, suc, ◌<◌, Bool, true, false, cond, List, [], ◌∷◌, ◌++◌, Option, Some, None, refl, subst, arith}
-use Rattle.std.specs.Prelude.{ℤ, ◌+ℤ◌, All, IfSome, option_map}
+use Rattle.std.specs.Prelude.{◌+ℤ◌, All, IfSome, option_map}
 use Rattle.std.proofs.lemmas.List.Elements.{All-nil, All-append, All-push}
 use Rattle.tn_base.specs.Exchange.{IsWrongAt}
 use Rattle.tn_base.specs.Firm.{Firm, HasOwnBundles}

@@ -8,7 +8,7 @@ use Rattle.tn_names.specs.Names.{NameLists}
 use Rattle.tn_shape.specs.declared.error.ReadError.{ReadError}
 use Rattle.tn_shape.specs.declared.error.ReadError.TheVariants.{Fault as FaultIs, OutOfMemory}
 use Rattle.tn_listed.specs.Beside.{Stop, FailsBeside, beside}
-use Rattle.tn_shape.specs.Reading.{each, fault}
+use Rattle.tn_shape.specs.Reading.{each}
 use Rattle.tn_shape.proofs.LeadLemmas.{Leads, leads_ok}
 use Rattle.tn_shape.proofs.EachLemmas.{each_stops_at}
 use Rattle.tn_shape.proofs.StopLemmas.{Stops, stops_ok, stops_err}

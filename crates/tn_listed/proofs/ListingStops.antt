@@ -11,7 +11,7 @@ use Rattle.tn_market.specs.declared.said.Fault.{Fault}
 use Rattle.tn_names.specs.Names.{NameLists, IsNameList, no_names}
 use Rattle.tn_shape.specs.declared.members.ObjectKind.TheVariants.{Top}
 use Rattle.tn_listed.specs.Beside.{beside, IsStop}
-use Rattle.tn_shape.specs.Reading.{each, fault, wanted}
+use Rattle.tn_shape.specs.Reading.{each, wanted}
 use Rattle.tn_shape.specs.Shapes.{few_at, object_of}
 use Rattle.tn_refer.specs.Ordered.{Listed}
 use Rattle.tn_listed.specs.Naming.{ends_at, firm_name, one_firm_name, one_trade, trade_name}

@@ -1,5 +1,5 @@
 -- Faults that speak of named trades in ascending lists, and whose numbers are short.
-use Rattle.std.proofs.Common.{◌≢◌, ℕ, true, false, List, [], ◌∷◌, Option, Result, sym, ap, subst, ◌∙◌, arith, true≢false}
+use Rattle.std.proofs.Common.{◌≢◌, ℕ, List, [], ◌∷◌, Option, Result, sym, ap, subst, ◌∙◌, arith, true≢false}
 use Rattle.std.specs.Prelude.{All, IfSome, IsSome}
 use Rattle.std.proofs.lemmas.List.Elements.{All-nil, All-cons}
 use Rattle.tn_base.specs.declared.fault.FaultKind.TheVariants.{TooLong}
