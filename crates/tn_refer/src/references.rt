@@ -25,7 +25,8 @@ fn trade(alloc: Global, names: &Names, value: &Value, place: &[PlaceStep]) -> Re
     found(alloc, names.trade_of(name), FaultKind::UnknownTrade, place)
 }
 
-/// A trade that a reference names, and that isn't a member of the set yet.
+/// The trade that a reference names, where it isn't a member of the set yet; the faults are, in this order, no text, no
+/// trade of the name, and a trade that is in the set.
 #[tactic(auto, unfolding(crate::specs::References::new_trade))]
 pub fn new_trade(
     alloc: Global,
@@ -44,7 +45,8 @@ pub fn new_trade(
     Ok(t)
 }
 
-/// The position of the own trade of firm `f` that a reference names, on one side if it is given.
+/// The position of the own trade of firm `f` that a reference names, on one side if it is given; the faults are, in this
+/// order, no text, no trade of the name, and a trade that isn't an own one on that side.
 #[tactic(auto, unfolding(crate::specs::References::own_position))]
 pub fn own_position(
     alloc: Global,
@@ -68,9 +70,13 @@ pub fn own_position(
 /// A part of an item of a list of a firm, which is a list of references.
 #[derive(Clone, Copy)]
 pub struct ItemPart {
+    /// The firm's number.
     pub firm: u32,
+    /// The member of the firm that is the list.
     pub list: PlaceStep,
+    /// The item's index in the list.
     pub item: u32,
+    /// The member or the index of the part in the item.
     pub part: PlaceStep,
 }
 

@@ -10,18 +10,26 @@ use serde_json::{Map, Value};
 /// The kinds of firms.
 #[derive(Clone, Copy)]
 pub enum FirmKind {
+    /// A number for each of some bundles.
     Table,
+    /// Amounts, and concave numbers over nested sets.
     Laminar,
+    /// Costs and gains, and the worth of what is kept.
     Middleman,
 }
 
 /// The objects of a document whose members are fixed.
 #[derive(Clone, Copy)]
 pub enum ObjectKind {
+    /// The document.
     Top,
+    /// A trade.
     Trade,
+    /// A firm of a kind.
     Firm(FirmKind),
+    /// A set of a laminar firm.
     LaminarSet,
+    /// The arrangement.
     Arrangement,
 }
 

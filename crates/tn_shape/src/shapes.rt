@@ -60,6 +60,7 @@ pub fn found<T: Copy>(
     }
 }
 
+/// A text; a value of another shape, or none, is a fault of shape.
 pub fn text<'a>(
     alloc: Global,
     value: Option<&'a Value>,
@@ -73,6 +74,7 @@ pub fn text<'a>(
     }
 }
 
+/// A list; a value of another shape, or none, is a fault of shape.
 pub fn list<'a>(
     alloc: Global,
     value: Option<&'a Value>,
@@ -86,7 +88,7 @@ pub fn list<'a>(
     }
 }
 
-/// A list, which is empty where it isn't there.
+/// A list, which is empty where it isn't there; a value of another shape is a fault of shape.
 pub fn optional_list<'a>(
     alloc: Global,
     value: Option<&'a Value>,
@@ -100,7 +102,7 @@ pub fn optional_list<'a>(
     }
 }
 
-/// A list of at most so many items.
+/// A list of at most so many items; more are a fault of the limit.
 #[tactic(auto, unfolding(crate::specs::Shapes::few_at), using(crate::proofs::ShapeLemmas::items_len_is))]
 pub fn few<'a>(
     alloc: Global,
@@ -122,14 +124,14 @@ pub fn few<'a>(
     Ok(items)
 }
 
-/// A value that is some object.
+/// Whether a value is some object; another is a fault of shape.
 pub fn object(alloc: Global, value: &Value, place: &[PlaceStep]) -> Result<(), ReadError>
     ensures { Gives (λ _. tt) result (object_at place.now (Some (view value.now))) }
 {
     check(alloc, value.is_object(), FaultKind::Shape, place)
 }
 
-/// An object with allowed members alone.
+/// Whether a value is an object with allowed members alone; another, or none, is a fault of shape.
 #[tactic(auto, unfolding(crate::specs::Shapes::object_of))]
 pub fn object_of(
     alloc: Global,
@@ -145,6 +147,7 @@ pub fn object_of(
     }
 }
 
+/// The two items of a list of two; another value is a fault of shape.
 #[tactic(auto, unfolding(crate::specs::Shapes::two_at))]
 pub fn two<'a>(
     alloc: Global,
@@ -171,7 +174,7 @@ fn two_of(items: &[Value]) -> Option<(&Value, &Value)>
     }
 }
 
-/// A whole number.
+/// A whole number, one that fits 64 bits with a sign; another value, or none, is a fault of shape.
 pub fn whole(alloc: Global, value: Option<&Value>, place: &[PlaceStep]) -> Result<i64, ReadError>
     ensures { Gives (λ z. z) result (whole_at place.now (option_map (λ v. view v.now) value.entry)) }
 {
@@ -181,7 +184,7 @@ pub fn whole(alloc: Global, value: Option<&Value>, place: &[PlaceStep]) -> Resul
     }
 }
 
-/// A whole number of at most this size.
+/// A whole number of at most this size; a larger one is out of range.
 #[tactic(auto, unfolding(crate::specs::Shapes::number_in))]
 pub fn number(
     alloc: Global,
@@ -203,7 +206,7 @@ pub fn number(
     Ok(number as i128)
 }
 
-/// A value that is there.
+/// A value that is there; none is a fault of shape.
 pub fn present<'a>(
     alloc: Global,
     value: Option<&'a Value>,

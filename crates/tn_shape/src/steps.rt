@@ -2,38 +2,56 @@
 
 use tn_market::{PlaceStep, Word};
 
+/// The member `version`.
 pub const VERSION: PlaceStep = PlaceStep::Word(Word::Version);
 
+/// The member `firms`.
 pub const FIRMS: PlaceStep = PlaceStep::Word(Word::Firms);
 
+/// The member `trades`.
 pub const TRADES: PlaceStep = PlaceStep::Word(Word::Trades);
 
+/// The member `arrangement`.
 pub const ARRANGEMENT: PlaceStep = PlaceStep::Word(Word::Arrangement);
 
+/// The member `name`.
 pub const NAME: PlaceStep = PlaceStep::Word(Word::Name);
 
+/// The member `seller`.
 pub const SELLER: PlaceStep = PlaceStep::Word(Word::Seller);
 
+/// The member `buyer`.
 pub const BUYER: PlaceStep = PlaceStep::Word(Word::Buyer);
 
+/// The member `kind`.
 pub const KIND: PlaceStep = PlaceStep::Word(Word::Kind);
 
+/// The member `rows`.
 pub const ROWS: PlaceStep = PlaceStep::Word(Word::Rows);
 
+/// The member `amounts`.
 pub const AMOUNTS: PlaceStep = PlaceStep::Word(Word::Amounts);
 
+/// The member `sets`.
 pub const SETS: PlaceStep = PlaceStep::Word(Word::Sets);
 
+/// The member `from`.
 pub const FROM: PlaceStep = PlaceStep::Word(Word::From);
 
+/// The member `values`.
 pub const VALUES: PlaceStep = PlaceStep::Word(Word::Values);
 
+/// The member `costs`.
 pub const COSTS: PlaceStep = PlaceStep::Word(Word::Costs);
 
+/// The member `gains`.
 pub const GAINS: PlaceStep = PlaceStep::Word(Word::Gains);
 
+/// The member `keep`.
 pub const KEEP: PlaceStep = PlaceStep::Word(Word::Keep);
 
+/// The member `on`.
 pub const ON: PlaceStep = PlaceStep::Word(Word::On);
 
+/// The member `prices`.
 pub const PRICES: PlaceStep = PlaceStep::Word(Word::Prices);
