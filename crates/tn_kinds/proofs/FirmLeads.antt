@@ -29,7 +29,7 @@ use Rattle.tn_kinds.specs.Middlemen.{middle_of}
 use Rattle.tn_kinds.specs.Firms.{unless_failing, exchange_of, tested_firm, firm_by, firm_of, one_firm}
 use Rattle.tn_kinds.specs.FirstFailure.{first_failure}
 use Rattle.tn_kinds.specs.Laws.{IsTableFirm, IsLaminarFirm, IsMiddlemanFirm, IsListedFirm, table as table_is, laminar, middleman}
-use Rattle.tn_refer.proofs.EndsLemmas.{push_cases}
+use Rattle.tn_names.proofs.NameLemmas.{push_cases}
 use Rattle.tn_kinds.proofs.FailureLemmas.{holds as none_fails}
 use Rattle.tn_kinds.proofs.KindLemmas.{laminar_meets, middleman_meets, listed_few_own}
 use Rattle.tn_kinds.proofs.TableLeads.{IsTableOf, table_leads}

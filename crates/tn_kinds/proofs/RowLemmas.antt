@@ -21,10 +21,6 @@ pub filled-none : (n : ℕ) → filled (replicate n None) ≡ 0
 filled-none zero = refl
 filled-none (suc n) = filled-none n
 
-pub length-replicate : (n : ℕ) (o : Option ℤ) → length (replicate n o) ≡ n
-length-replicate zero o = refl
-length-replicate (suc n) o = ap suc (length-replicate n o)
-
 -- a row for a bundle that had none
 pub filled-added : (table : TableRows) (new : TableRows) (x : ℕ) (amount : ℤ) → x < length table.rows → (HasRow table x → ⊥) → new ≡ with_row table x amount → filled new.rows ≡ filled table.rows + 1
 filled-added table new x amount h none is = ap (λ (t : TableRows). filled t.rows) is ∙ filled-set table.rows x amount h (absent (row_at table.rows x) none) ∙ sym (add-one (filled table.rows))

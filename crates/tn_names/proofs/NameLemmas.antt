@@ -48,12 +48,13 @@ name_at_number names name k e =
 pub has_name_at : (names : List (List ℕ)) (name : List ℕ) (k : ℕ) → slice_get names k ≡ Some name → has_name names name ≡ true
 has_name_at names name k e = any_passes_from_place (bytes_eq name) names k name e ((bytes_eq-Decides name name).1 refl)
 
-pub push_cases : (names : List (List ℕ)) (name x : List ℕ) (k : ℕ) → slice_get (names ++ name ∷ []) k ≡ Some x
-    → (slice_get names k ≡ Some x) ⊎ ((k ≡ length names) × (name ≡ x))
-push_cases [] name x zero e = inr (refl, same_Some _ _ e)
-push_cases [] name x (suc k) e = absurd (none-some _ e)
-push_cases (n ∷ ns) name x zero e = inl e
-push_cases (n ∷ ns) name x (suc k) e = elim (push_cases ns name x k e) [ inl h ↦ inl h | inr h ↦ inr (omega (arith, h.0), h.1) ]
+-- what stands in a list once an item is last
+pub push_cases : {A : Type 0} (xs : List A) (last x : A) (k : ℕ) → slice_get (xs ++ last ∷ []) k ≡ Some x
+    → (slice_get xs k ≡ Some x) ⊎ ((k ≡ length xs) × (last ≡ x))
+push_cases [] last x zero e = inr (refl, same_Some _ _ e)
+push_cases [] last x (suc k) e = absurd (none-some _ e)
+push_cases (y ∷ ys) last x zero e = inl e
+push_cases (y ∷ ys) last x (suc k) e = elim (push_cases ys last x k e) [ inl h ↦ inl h | inr h ↦ inr (omega (arith, h.0), h.1) ]
 
 module _ (names : List (List ℕ)) (name : List ℕ) (kept : IsNameList names) (new : has_name names name ≡ false) where
   absent : (k : ℕ) (x : List ℕ) → slice_get names k ≡ Some x → name ≡ x → ⊥

@@ -2,39 +2,24 @@
 use Rattle.std.proofs.Common.{◌≡◌, ℕ, zero, suc, ◌+◌, ◌<◌, Bool, true, false, List, [], ◌∷◌, ◌++◌, length, take, get_or, slice_get, Option, Some, None, is_some, ◌⊎◌, inl, inr, refl, sym, ap, subst, ◌∙◌, add-one, arith, length-append}
 use Rattle.std.specs.Prelude.{nat_eq, cond, IfOk, Result, Ok, Err}
 use Rattle.std.specs.List.{cons_option}
+use Rattle.std.proofs.lemmas.List.{take_at, take-append-le}
 use Rattle.std.proofs.lemmas.Option.{none-some, same_Some, slice_get_within}
 use Rattle.std.proofs.lemmas.Bool.{eqb-true}
 use Rattle.tn_base.specs.declared.side.Side.{Side}
 use Rattle.tn_base.specs.declared.side.Side.TheVariants.{Buy, Sell}
 use Rattle.tn_market.specs.declared.ends.Ends.{Ends}
 use Rattle.tn_shape.specs.declared.error.ReadError.{ReadError}
+use Rattle.tn_names.proofs.NameLemmas.{push_cases}
 use Rattle.tn_refer.specs.References.{position_in, position_on}
 use Rattle.tn_refer.specs.Ordered.{side_in, sides_of, ComesNext, AreInOrder}
-
--- what stands in a list once an item is last
-pub push_cases : {A : Type 0} (es : List A) (e x : A) (k : ℕ) → slice_get (es ++ e ∷ []) k ≡ Some x
-    → (slice_get es k ≡ Some x) ⊎ ((k ≡ length es) × (e ≡ x))
-push_cases [] e x zero is = inr (refl, same_Some _ _ is)
-push_cases [] e x (suc k) is = absurd (none-some _ is)
-push_cases (y ∷ ys) e x zero is = inl is
-push_cases (y ∷ ys) e x (suc k) is = elim (push_cases ys e x k is) [ inl h ↦ inl h | inr h ↦ inr (ap suc h.0, h.1) ]
-
-pub take-push : (es : List Ends) (e x : Ends) (k : ℕ) → slice_get es k ≡ Some x → take k (es ++ e ∷ []) ≡ take k es
-take-push [] e x k is = absurd (none-some _ is)
-take-push (y ∷ ys) e x zero is = refl
-take-push (y ∷ ys) e x (suc k) is = ap (λ zs. y ∷ zs) (take-push ys e x k is)
-
-pub take-whole_push : (es : List Ends) (e : Ends) → take (length es) (es ++ e ∷ []) ≡ es
-take-whole_push [] e = refl
-take-whole_push (y ∷ ys) e = ap (λ zs. y ∷ zs) (take-whole_push ys e)
 
 -- one more trade that comes next
 pub AreInOrder-push : (firms : ℕ) (es : List Ends) (e : Ends) → AreInOrder firms es → ComesNext firms es e → AreInOrder firms (es ++ e ∷ [])
 AreInOrder-push firms es e order next t trade is =
     elim (push_cases es e trade t is) [
-      | inl h ↦ subst (λ (before : List Ends). ComesNext firms before trade) (sym (take-push es e trade t h)) (order t trade h)
+      | inl h ↦ subst (λ (before : List Ends). ComesNext firms before trade) (sym (take-append-le t es (e ∷ []) (let within = slice_get_within es t trade h in omega (arith, within)))) (order t trade h)
       | inr h ↦ subst (λ (k : ℕ). ComesNext firms (take k (es ++ e ∷ [])) trade) (sym h.0)
-          (subst (λ (before : List Ends). ComesNext firms before trade) (sym (take-whole_push es e)) (subst (ComesNext firms es) h.1 next))
+          (subst (λ (before : List Ends). ComesNext firms before trade) (sym (take_at es (e ∷ []) (length es) refl)) (subst (ComesNext firms es) h.1 next))
     ]
 
 -- the sides of a firm in one trade more

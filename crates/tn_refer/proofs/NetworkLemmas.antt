@@ -2,6 +2,7 @@
 use Rattle.std.proofs.Common.{◌≡◌, ℕ, zero, suc, ◌+◌, ◌<◌, ◌≤◌, Bool, true, false, ◌&&◌, ◌||◌, List, [], ◌∷◌, length, take, get_or, slice_get, Option, Some, None, inl, inr, refl, sym, ap, subst, ◌∙◌, arith, add-one, length-append}
 use Rattle.std.specs.Prelude.{nat_eq, cond}
 use Rattle.std.proofs.lemmas.Bool.{cases_lt, cases_eq, cases_Bool, eqb-true, eq-eqb, ne_eqb}
+use Rattle.std.proofs.lemmas.List.{take_all}
 use Rattle.std.proofs.lemmas.Option.{none-some, same_Some, slice_get_within, slice_get-get_or}
 use Rattle.tn_base.specs.Sets.{has}
 use Rattle.tn_base.specs.Firm.{Firm}
@@ -137,14 +138,10 @@ own_at_most f k (x ∷ es) (suc t) e is stands = by_test (stands_at x f k) (own_
     by_test true most = omega arith
     by_test false most = omega (arith, most)
 
-take-whole : (es : List Ends) → take (length es) es ≡ es
-take-whole [] = refl
-take-whole (e ∷ es) = ap (λ zs. e ∷ zs) (take-whole es)
-
 -- a trade stands at each position of a firm
 pub own_within : (firms f k : ℕ) (es : List Ends) → AreInOrder firms es → k < length (sides_of es f) → own es f k < length es
 own_within firms f k es order below =
-    let r = found firms f es order (length es) k (omega arith) (subst (λ (front : List Ends). k < length (sides_of front f)) (sym (take-whole es)) below) in
+    let r = found firms f es order (length es) k (omega arith) (subst (λ (front : List Ends). k < length (sides_of front f)) (sym (take_all (length es) es (omega arith))) below) in
     omega (arith, own_at_most f k es r.t r.trade r.is r.stands, slice_get_within es r.t r.trade r.is)
 
 pub there : {A : Type 0} (xs : List A) (k : ℕ) → k < length xs → (x : A) × (slice_get xs k ≡ Some x)

@@ -1,4 +1,5 @@
 use Rattle.std.proofs.Common.{refl, ap, sym, ◌∙◌, ◌^◌, ◌≡◌, ◌≤◌, None, length, arith}
+use Rattle.std.proofs.lemmas.List.{length-replicate}
 use Rattle.std.proofs.lemmas.Result.{err_from_is_err_and}
 use Rattle.std.proofs.Math.Nat.{pow-le-pow_right}
 use Rattle.serde_json.specs.View.{items_view}
@@ -7,7 +8,7 @@ use Rattle.tn_shape.specs.Reading.{each}
 use Rattle.tn_refer.specs.Ordered.{sides_of}
 use Rattle.tn_kinds.specs.Tables.{filled, one_row, rows_of}
 use Rattle.tn_shape.proofs.EachLemmas.{each_goes_on, each_is_done, each_fails, fails_then}
-use Rattle.tn_kinds.proofs.RowLemmas.{filled_le, filled-none, length-replicate}
+use Rattle.tn_kinds.proofs.RowLemmas.{filled_le, filled-none}
 use Rattle.tn_kinds.proofs.rows.read_rows.Goals as goal
 
 pub loop-row-init : goal.loop-row-init
