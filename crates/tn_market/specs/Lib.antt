@@ -5,7 +5,7 @@ pub mod Graph
 pub mod ArcPlaces
 pub mod Admitted
 pub mod Choices
-pub mod Verdict
+pub mod Judged
 pub mod Valued
 pub mod Best
 pub mod Accepted

@@ -21,7 +21,7 @@ use Rattle.tn_market.specs.declared.ends.Ends.{Ends}
 use Rattle.tn_market.specs.Best.{price_at}
 use Rattle.tn_market.specs.Network.{own, part}
 use Rattle.tn_market.specs.Equilibrium.{prices_at, utility_at, HasBest, IsEquilibrium, surplus_from, surplus_of}
-use Rattle.tn_market.specs.Verdict.{AreBestBefore, IsFirstImpossible, IsFirstBettered}
+use Rattle.tn_market.specs.Judged.{AreBestBefore, IsFirstImpossible, IsFirstBettered}
 use Rattle.tn_price.specs.declared.standing.Standing.{Standing}
 use Rattle.tn_price.specs.declared.standing.Standing.TheVariants.{Best, Impossible, Bettered}
 use Rattle.tn_price.specs.Standings.{IsBestWorth, Stands, StandsAt, AreOwnPrices}

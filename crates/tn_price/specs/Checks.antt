@@ -3,7 +3,7 @@ use Rattle.std.specs.Prelude.{◌≡◌, ℕ, ℤ, List, Some}
 use Rattle.tn_base.specs.Firm.{Firm}
 use Rattle.tn_market.specs.declared.ends.Ends.{Ends}
 use Rattle.tn_market.specs.Equilibrium.{IsEquilibrium, surplus_of}
-use Rattle.tn_market.specs.Verdict.{IsFirstImpossible, IsFirstBettered}
+use Rattle.tn_market.specs.Judged.{IsFirstImpossible, IsFirstBettered}
 use Rattle.tn_price.specs.declared.check.Check.{Check}
 use Rattle.tn_price.specs.declared.check.Check.TheVariants.{Equilibrium, Impossible, Better}
 

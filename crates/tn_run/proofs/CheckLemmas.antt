@@ -16,7 +16,7 @@ use Rattle.tn_market.specs.declared.said.Said.TheVariants.{Equilibrium, Better, 
 use Rattle.tn_market.specs.Best.{price_at}
 use Rattle.tn_market.specs.Network.{IsNetwork, own, trades_of}
 use Rattle.tn_market.specs.Equilibrium.{surplus_of}
-use Rattle.tn_market.specs.Verdict.{IsFirstBettered, Judges}
+use Rattle.tn_market.specs.Judged.{IsFirstBettered, Judges}
 use Rattle.tn_network.proofs.WelfareLemmas.{equilibrium_is_efficient}
 use Rattle.tn_run.specs.Answer.{IsEfficientWhereSaid}
 use Rattle.tn_run.proofs.NumberLemmas.{AreSmallFirms, surplus_small, utility_small}

@@ -11,7 +11,7 @@ use Rattle.tn_market.specs.declared.said.Said.{Said}
 use Rattle.tn_market.specs.declared.said.Said.TheVariants.{Equilibrium, Better, Impossible, Fault, Usage, ReadFault, NoMemory, Accepted, ExchangeFails}
 use Rattle.tn_market.specs.Best.{price_at}
 use Rattle.tn_market.specs.Network.{own}
-use Rattle.tn_market.specs.Verdict.{Judges}
+use Rattle.tn_market.specs.Judged.{Judges}
 use Rattle.tn_market.proofs.NetworkLemmas.{ascending_trades}
 use Rattle.tn_answer.specs.Apart.{HasShortNumbers, IsNamedAnswer}
 use Rattle.tn_names.specs.Names.{NameLists}

@@ -9,7 +9,7 @@ use Rattle.tn_market.specs.declared.said.Said.TheVariants.{Usage, ReadFault, NoM
 use Rattle.tn_market.specs.declared.ends.Ends.{Ends}
 use Rattle.tn_market.specs.Best.{price_at}
 use Rattle.tn_market.specs.Equilibrium.{IsEfficient}
-use Rattle.tn_market.specs.Verdict.{Judges}
+use Rattle.tn_market.specs.Judged.{Judges}
 use Rattle.tn_io.specs.Counts.{Rose}
 use Rattle.tn_io.specs.Source.{TakesFirst, TakesAtMost}
 use Rattle.tn_answer.specs.Apart.{HasShortNumbers, IsNamedAnswer}

@@ -6,7 +6,7 @@ ghost use Rattle.tn_base.specs.Arcs.{IsAtMost};
 ghost use Rattle.tn_firm.specs.Firms.{firm_of};
 ghost use Rattle.tn_market.specs.Best.{price_at};
 ghost use Rattle.tn_market.specs.Network.{trades_of};
-ghost use Rattle.tn_market.specs.Verdict.{Judges};
+ghost use Rattle.tn_market.specs.Judged.{Judges};
 
 use std::alloc::Global;
 use tn_base::{Bundle, OutOfMemory};

@@ -4,7 +4,7 @@ use Rattle.std.proofs.lemmas.List.{length-map}
 use mir.Syntax.{w128}
 use mir.Val.{SFits, to_z, of_z}
 use Rattle.tn_market.specs.Best.{price_at}
-use Rattle.tn_market.specs.Verdict.{IsFirstBettered}
+use Rattle.tn_market.specs.Judged.{IsFirstBettered}
 use Rattle.tn_market.proofs.AscentLemmas.{smaller}
 use Rattle.tn_price.specs.Standings.{StandsAt}
 use Rattle.tn_price.specs.declared.standing.Standing.TheVariants.{Impossible, Bettered}

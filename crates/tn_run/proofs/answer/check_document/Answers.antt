@@ -2,7 +2,7 @@ use Rattle.std.proofs.Common.{pos, sym, subst}
 use Rattle.std.proofs.lemmas.Result.{IfOk-weaker}
 use Rattle.tn_market.specs.Best.{price_at}
 use Rattle.tn_market.specs.Network.{IsNetwork}
-use Rattle.tn_market.specs.Verdict.{Judges}
+use Rattle.tn_market.specs.Judged.{Judges}
 use Rattle.tn_file.specs.declared.document.Loaded.{Loaded}
 use Rattle.tn_file.specs.declared.extra.Extra.{Extra}
 use Rattle.tn_file.specs.Extra.{extra_view}
