@@ -1,5 +1,5 @@
 ghost use Rattle.tn_base.specs.ExchangeLaw.{ExchangeIsNoFailure};
-ghost use Rattle.tn_base.specs.SetLaws.{AreCounted, AreSets, AreSummed};
+ghost use Rattle.tn_base.specs.SetLaws.{AreSets, TogglesAreCounted, TogglesAreSummed};
 ghost use Rattle.tn_base.specs.TableLaws.{AreTables};
 
 /// The operations on numbers that the contracts of `Bundle` and `TradeSet` cite are those on sets.
@@ -9,8 +9,8 @@ pub fn bundles_are_sets()
 
 /// The number of members of a set, and a sum over it, follow each number that is moved in or out.
 pub fn sets_are_counted_and_summed()
-    ensures counted { AreCounted }
-    ensures summed { AreSummed }
+    ensures counted { TogglesAreCounted }
+    ensures summed { TogglesAreSummed }
 {}
 
 /// A table firm buys the positions whose side says so, and a listed bundle has the number of its first row.

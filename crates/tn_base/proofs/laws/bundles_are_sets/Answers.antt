@@ -1,5 +1,6 @@
 use Rattle.tn_base.proofs.SetLemmas.{same_set, has-zero, has-toggle_same, has-toggle_other, has-union, has-meet, has-minus, member_of_set}
 use Rattle.tn_base.proofs.SizeLemmas.{size_at}
+use Rattle.tn_base.proofs.LimbLemmas.{has-limb}
 use Rattle.tn_base.proofs.laws.bundles_are_sets.Goals as goal
 
 pub returns : goal.returns
@@ -13,4 +14,5 @@ returns c = record {
   without = has-minus;
   made = member_of_set;
   counted = size_at;
+  worded = has-limb;
 }
