@@ -90,7 +90,7 @@ places_after nodes count labelled reached path labels row_places after_places ro
   some = had.some;
   not_many = had.not_many;
   row_sized = had.row_sized;
-  new_sized = had.new_sized;
+  after_sized = had.after_sized;
   path_sized = had.path_sized;
   labels_sized = had.labels_sized;
   listed = omega arith;

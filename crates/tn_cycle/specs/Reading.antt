@@ -63,11 +63,11 @@ pub record IsListable (places : ℕ) (row : List Cell) (v : ℕ) : Type 0 where
   pub inside : All (λ u. u < length row) (trail (cell_at row) (cell_at row v).round v)
 
 -- the finder's lists are long enough for its nodes
-pub record HasPlaces (nodes count labelled reached path labels row_places new_places : ℕ) (row : List Cell) : Type 0 where
+pub record HasPlaces (nodes count labelled reached path labels row_places after_places : ℕ) (row : List Cell) : Type 0 where
   pub some : 1 ≤ nodes
   pub not_many : nodes ≤ 1025
   pub row_sized : row_places ≡ nodes + 1
-  pub new_sized : new_places ≡ nodes + 1
+  pub after_sized : after_places ≡ nodes + 1
   pub path_sized : path ≡ nodes + 2
   pub labels_sized : labels ≡ nodes
   pub listed : count ≤ nodes + 2

@@ -3,12 +3,12 @@ ghost use Rattle.tn_base.specs.Walks.{arcs_among, is_admitted, is_looked_at, Has
 ghost use Rattle.tn_cycle.specs.Searched.{HasNoNegativeCycleOff};
 
 use crate::cell::Cell;
+use crate::cycles::{least_cycle, negative_cycle};
 use crate::graphs::{Looked, Turned};
 use crate::labels::find_labels;
 use crate::path::Path;
 use crate::read::list_walk;
 use crate::search::search;
-use crate::through::{least_cycle, negative_cycle};
 use std::alloc::Global;
 use std::marker::Model;
 use tn_base::{Costs, OutOfMemory, TradeSet};

@@ -2,13 +2,13 @@
 #![tactic(auto)]
 
 mod cell;
+mod cycles;
 mod finder;
 mod graphs;
 mod labels;
 mod path;
 mod read;
 mod search;
-mod through;
 
 pub use finder::{Finder, Labels};
 pub use graphs::Admitted;

@@ -69,16 +69,16 @@ fn improved<C: Costs>(costs: &C, end: u32, round: u32, row: &[Cell], v: u32) -> 
 }
 
 /// One round: each node's cell after it.
-fn advance<C: Costs>(costs: &C, end: u32, round: u32, row: &[Cell], new: &mut [Cell])
+fn advance<C: Costs>(costs: &C, end: u32, round: u32, row: &[Cell], after: &mut [Cell])
     requires sized { C.node_count costs.now ≤ length row.now }
-    requires new_sized { C.node_count costs.now ≤ length new.old }
+    requires after_sized { C.node_count costs.now ≤ length after.old }
     requires counted { round < 2 ^ 31 }
     requires room { HasRoom (C.node_count costs.now) (cell_at row.now) }
     ensures { (v : ℕ) → v < C.node_count costs.now →
-        IsImproved (C.node_count costs.now) (C.arc costs.now) end round (cell_at row.now) v (cell_at new.new v) }
+        IsImproved (C.node_count costs.now) (C.arc costs.now) end round (cell_at row.now) v (cell_at after.new v) }
 {
     for v in 0..costs.nodes() {
-        new[v as usize] = improved(costs, end, round, row, v);
+        after[v as usize] = improved(costs, end, round, row, v);
     }
 }
 
@@ -115,9 +115,9 @@ fn has_none_of(row: &[Cell], nodes: u32, round: u32) -> bool
 /// arc more, at the front, and goes on only over nodes that the round before has changed; the search stops after the
 /// first round that changes none. Whether there was such a round: where there is none, some closed walk that doesn't
 /// meet `end` has a negative cost.
-pub(crate) fn search<C: Costs>(costs: &C, end: u32, row: &mut [Cell], new: &mut [Cell]) -> bool
+pub(crate) fn search<C: Costs>(costs: &C, end: u32, row: &mut [Cell], after: &mut [Cell]) -> bool
     requires sized { C.node_count costs.now ≤ length row.old }
-    requires new_sized { length new.old ≡ length row.old }
+    requires after_sized { length after.old ≡ length row.old }
     requires few { C.node_count costs.now ≤ 1026 }
     requires inside { end < C.node_count costs.now }
     ensures settled { result ≡ true → IsSettled (C.node_count costs.now) (C.arc costs.now) end (cell_at row.new) }
@@ -126,8 +126,8 @@ pub(crate) fn search<C: Costs>(costs: &C, end: u32, row: &mut [Cell], new: &mut 
     let nodes = costs.nodes();
     begin(costs, end, row);
     for round in 0..nodes {
-        advance(costs, end, round, row, new);
-        row.copy_from_slice(new);
+        advance(costs, end, round, row, after);
+        row.copy_from_slice(after);
         if has_none_of(row, nodes, round + 1) {
             return true;
         }

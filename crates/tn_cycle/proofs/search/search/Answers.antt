@@ -19,7 +19,7 @@ returns-then-has_none_of-clause-settled g c _ =
     let row = c.copy_from_slice.new.self in
     let next : IsRound nodes arc c.args.end (c.loop-round.round + 1) (cell_at row) =
     subst (λ (cells : List Cell). IsRound nodes arc c.args.end (c.loop-round.round + 1) (cell_at cells)) (sym c.copy_from_slice.ensures.after)
-    (next_round nodes arc c.args.end c.loop-round.round (cell_at c.loop-round.row) (cell_at c.advance.new.new) (g.met.C.Costs.between_nodes c.args.costs.now)
+    (next_round nodes arc c.args.end c.loop-round.round (cell_at c.loop-round.row) (cell_at c.advance.new.after) (g.met.C.Costs.between_nodes c.args.costs.now)
     c.loop-round.invariant.cells c.advance.ensures) in
     let few : c.loop-round.round + 1 ≤ nodes = omega (arith, c.loop-round-test.true, c.nodes-nodes.ensures) in
     let stays : (v : ℕ) → v < c.nodes-nodes.result → (cell_at row v).round ≢ c.loop-round.round + 1 =
@@ -33,7 +33,7 @@ loop-round-preserved g c =
     let arc = g.C.Costs.arc c.args.costs.now in
     let next : IsRound nodes arc c.args.end (c.loop-round.round + 1) (cell_at c.copy_from_slice.new.self) =
     subst (λ (row : List Cell). IsRound nodes arc c.args.end (c.loop-round.round + 1) (cell_at row)) (sym c.copy_from_slice.ensures.after)
-    (next_round nodes arc c.args.end c.loop-round.round (cell_at c.loop-round.row) (cell_at c.advance.new.new) (g.met.C.Costs.between_nodes c.args.costs.now)
+    (next_round nodes arc c.args.end c.loop-round.round (cell_at c.loop-round.row) (cell_at c.advance.new.after) (g.met.C.Costs.between_nodes c.args.costs.now)
     c.loop-round.invariant.cells c.advance.ensures) in
     record {
       cells = next;

@@ -7,7 +7,7 @@ use Rattle.tn_cycle.specs.Searched.{HasNoNegativeCycleOff}
 use Rattle.tn_cycle.proofs.WalkLemmas.{none_negative}
 use Rattle.tn_cycle.proofs.GraphLemmas.{none_past, none_off_first, none_off_null}
 use Rattle.tn_cycle.proofs.NegativeLemmas.{part_negative, whole_negative, none_there}
-use Rattle.tn_cycle.proofs.through.negative_cycle.Goals as goal
+use Rattle.tn_cycle.proofs.cycles.negative_cycle.Goals as goal
 
 -- the trades from the first on, off the first
 others : (null next first : ℕ) (arc : ℕ → ℕ → Option ℤ) → next ≡ first + 1 → HasNoNegativeCycle (arcs_among (is_between next null) arc)

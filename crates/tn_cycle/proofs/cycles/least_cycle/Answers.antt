@@ -9,7 +9,7 @@ use Rattle.tn_cycle.specs.Cells.{cell_at, trail}
 use Rattle.tn_cycle.specs.Searched.{IsSettled}
 use Rattle.tn_cycle.proofs.ReadLemmas.{way-front, length-trail}
 use Rattle.tn_cycle.proofs.SettledLemmas.{settles, led_inside, least_cycle, none_through}
-use Rattle.tn_cycle.proofs.through.least_cycle.Goals as goal
+use Rattle.tn_cycle.proofs.cycles.least_cycle.Goals as goal
 
 pub list_way-requires-clause-listable : goal.list_way-requires-clause-listable
 list_way-requires-clause-listable g c =
