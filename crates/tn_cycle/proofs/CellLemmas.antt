@@ -1,43 +1,35 @@
 -- How a cell is made within a round.
-use Rattle.std.proofs.Common.{◌≡◌, ◌≢◌, ℕ, ◌+◌, ◌<◌, refl, sym, subst, inl, inr, below_more, ℤ, Option}
+use Rattle.std.proofs.Common.{◌≡◌, ◌≢◌, ℕ, ◌+◌, ◌<◌, refl, sym, subst, inl, inr, below_more, ℤ, Option, List, get_or}
 use Rattle.tn_base.specs.Options.{both}
 use Rattle.tn_cycle.specs.declared.cell.Cell.{Cell}
 use Rattle.tn_cycle.specs.Order.{IsUpTo, IsBelow}
-use Rattle.tn_cycle.specs.Cells.{GoesOn, StaysOrGoesOn, CostsNoMore}
+use Rattle.tn_cycle.specs.Cells.{GoesOn, StaysOrGoesOn}
 use Rattle.tn_cycle.proofs.OrderLemmas.{up_to_itself, up_to-trans, below_up_to, below-up_to}
 
--- a cell of v after the nodes up to u
-abbrev pub IsMade : ℕ → (ℕ → ℕ → Option ℤ) → ℕ → ℕ → (ℕ → Cell) → ℕ → ℕ → Cell → Type 0
-IsMade nodes arc end round cell v u own = StaysOrGoesOn nodes arc end round cell v (cell v) own × CostsNoMore (u + 1) arc end round cell v own
+-- going on to the node at this place of the list costs no less
+abbrev pub CostsNoMoreAt : (ℕ → ℕ → Option ℤ) → (ℕ → Cell) → List ℕ → ℕ → Cell → ℕ → Type 0
+CostsNoMoreAt arc cell active v own j = IsUpTo own.cost (both (arc v (get_or active j 0)) (cell (get_or active j 0)).cost)
 
-module _ (nodes : ℕ) (arc : ℕ → ℕ → Option ℤ) (end round : ℕ) (cell : ℕ → Cell) (v u : ℕ) (best : Cell)
-    (step : StaysOrGoesOn nodes arc end round cell v (cell v) best) (least : CostsNoMore u arc end round cell v best) where
-  -- what going on to u says
-  Onward : Cell → ℕ → Type 0
-  Onward new w = w ≢ end → (cell w).round ≡ round → IsUpTo new.cost (both (arc v w) (cell w).cost)
+-- a cell of v after so many nodes of the list
+pub record IsMade (nodes : ℕ) (arc : ℕ → ℕ → Option ℤ) (end round : ℕ) (cell : ℕ → Cell) (active : List ℕ) (v count : ℕ) (own : Cell) : Type 0 where
+  pub step : StaysOrGoesOn nodes arc end round cell v (cell v) own
+  pub least : (j : ℕ) → j < count → CostsNoMoreAt arc cell active v own j
 
-  pub over_less : IsUpTo best.cost (both (arc v u) (cell u).cost) → IsMade nodes arc end round cell v u best
-  unfolding Onward
-  over_less less = (step, below_more (Onward best) u least (λ passes now. less))
+module _ (nodes : ℕ) (arc : ℕ → ℕ → Option ℤ) (end round : ℕ) (cell : ℕ → Cell) (active : List ℕ) (v count : ℕ) (best : Cell)
+    (made : IsMade nodes arc end round cell active v count best) where
+  -- the next node of the list is no better
+  pub kept : CostsNoMoreAt arc cell active v best count → IsMade nodes arc end round cell active v (count + 1) best
+  kept no_less = record { step = made.step; least = below_more (CostsNoMoreAt arc cell active v best) count made.least no_less }
 
-  pub over_end : u ≡ end → IsMade nodes arc end round cell v u best
-  unfolding Onward
-  over_end same = (step, below_more (Onward best) u least (λ passes now. absurd (passes same)))
-
-  pub over_other : (cell u).round ≢ round → IsMade nodes arc end round cell v u best
-  unfolding Onward
-  over_other other = (step, below_more (Onward best) u least (λ passes now. absurd (other now)))
-
-  -- the cell that goes on to u
-  pub over : (cost : Option ℤ) → u < nodes → u ≢ end → (cell u).round ≡ round → cost ≡ both (arc v u) (cell u).cost → IsBelow cost best.cost
-      → IsMade nodes arc end round cell v u (record { cost = cost; round = round + 1; next = u })
-  unfolding Onward
-  over cost inside passes now sum below = (
-    inr (record { inside = inside; passes = passes; last = now; counted = refl; sum = sum; less = under step }),
-    below_more (Onward (record { cost = cost; round = round + 1; next = u })) u
-        (λ w earlier w_passes w_now. up_to-trans cost best.cost (both (arc v w) (cell w).cost) (below_up_to cost best.cost below) (least w earlier w_passes w_now))
-        (λ _ _. subst (IsUpTo cost) sum (up_to_itself cost)),
-  )
+  -- it is
+  pub taken : (cost : Option ℤ) (u : ℕ) → u ≡ get_or active count 0 → u < nodes → u ≢ end → (cell u).round ≡ round → cost ≡ both (arc v u) (cell u).cost
+      → IsBelow cost best.cost → IsMade nodes arc end round cell active v (count + 1) (record { cost = cost; round = round + 1; next = u })
+  taken cost u at inside passes now sum below = record {
+    step = inr (record { inside = inside; passes = passes; last = now; counted = refl; sum = sum; less = under made.step });
+    least = below_more (CostsNoMoreAt arc cell active v (record { cost = cost; round = round + 1; next = u })) count
+        (λ j earlier. up_to-trans cost best.cost (both (arc v (get_or active j 0)) (cell (get_or active j 0)).cost) (below_up_to cost best.cost below) (made.least j earlier))
+        (subst (λ (w : ℕ). IsUpTo cost (both (arc v w) (cell w).cost)) at (subst (IsUpTo cost) sum (up_to_itself cost)));
+  }
     where
       under : StaysOrGoesOn nodes arc end round cell v (cell v) best → IsBelow cost (cell v).cost
       under (inl same) = subst (λ (own : Cell). IsBelow cost own.cost) same below

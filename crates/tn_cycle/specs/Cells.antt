@@ -1,5 +1,5 @@
 -- What the search keeps of each node.
-use Rattle.std.specs.Prelude.{◌≡◌, ◌≢◌, ℕ, zero, suc, ◌+◌, ◌^◌, ◌<◌, ℤ, ◌⊎◌, List, [], ◌∷◌, Option, None, slice_index_or}
+use Rattle.std.specs.Prelude.{◌≡◌, ◌≢◌, ℕ, zero, suc, ◌+◌, ◌^◌, ◌<◌, ℤ, ◌⊎◌, List, [], ◌∷◌, Option, None, slice_index_or, All, Contains}
 use Rattle.std.specs.Option.{ForSome}
 use Rattle.tn_base.specs.Arcs.{IsAtMost}
 use Rattle.tn_base.specs.Options.{both}
@@ -36,12 +36,13 @@ pub record GoesOn (nodes : ℕ) (arc : ℕ → ℕ → Option ℤ) (end round : 
 abbrev pub StaysOrGoesOn : ℕ → (ℕ → ℕ → Option ℤ) → ℕ → ℕ → (ℕ → Cell) → ℕ → Cell → Cell → Type 0
 StaysOrGoesOn nodes arc end round cell v old new = (new ≡ old) ⊎ GoesOn nodes arc end round cell v old new
 
--- going on to a node below the bound whose own cell is of this round costs no less
-abbrev pub CostsNoMore : ℕ → (ℕ → ℕ → Option ℤ) → ℕ → ℕ → (ℕ → Cell) → ℕ → Cell → Type 0
-CostsNoMore bound arc end round cell v new =
-    (u : ℕ) → u < bound → u ≢ end → (cell u).round ≡ round → IsUpTo new.cost (both (arc v u) (cell u).cost)
+-- the nodes below the bound, but for the end, whose cells are of this round
+pub record AreActive (bound end round : ℕ) (cell : ℕ → Cell) (active : List ℕ) : Type 0 where
+  pub each : All (λ u. (u < bound) × (u ≢ end) × ((cell u).round ≡ round)) active
+  pub all : (u : ℕ) → u < bound → u ≢ end → (cell u).round ≡ round → Contains active u
 
 -- the cell of v after a round
 pub record IsImproved (nodes : ℕ) (arc : ℕ → ℕ → Option ℤ) (end round : ℕ) (cell : ℕ → Cell) (v : ℕ) (new : Cell) : Type 0 where
   pub step : StaysOrGoesOn nodes arc end round cell v (cell v) new
-  pub least : CostsNoMore nodes arc end round cell v new
+  -- going on to another node whose cell is of this round costs no less
+  pub least : (u : ℕ) → u < nodes → u ≢ end → (cell u).round ≡ round → IsUpTo new.cost (both (arc v u) (cell u).cost)

@@ -28,7 +28,7 @@ pub(crate) fn least_cycle<C: Costs>(
     ensures answer { AnswersCycle (C.arc costs.now) node (take (arcs_of result) path.new) result }
     ensures few_arcs { arcs_of result ≤ C.node_count costs.now }
 {
-    search(costs, node, row, after);
+    search(costs, node, row, after, path);
     let least = row[node as usize];
     match least.cost {
         Some(cost) if cost < 0 => Path::Cycle {

@@ -138,7 +138,13 @@ impl Finder {
         self.reached = 0;
         self.labelled = 0;
         self.count = 0;
-        if find_labels(costs, &mut self.row, &mut self.after, &mut self.labels) {
+        if find_labels(
+            costs,
+            &mut self.row,
+            &mut self.after,
+            &mut self.path,
+            &mut self.labels,
+        ) {
             self.labelled = self.nodes;
             return Labels::Feasible;
         }
@@ -168,7 +174,7 @@ impl Finder {
     {
         self.count = 0;
         self.labelled = 0;
-        search(costs, node, &mut self.row, &mut self.after);
+        search(costs, node, &mut self.row, &mut self.after, &mut self.path);
         self.reached = self.nodes;
         self.turns = false;
         self.end = node;
@@ -184,7 +190,13 @@ impl Finder {
     {
         self.count = 0;
         self.labelled = 0;
-        search(&Turned { costs }, node, &mut self.row, &mut self.after);
+        search(
+            &Turned { costs },
+            node,
+            &mut self.row,
+            &mut self.after,
+            &mut self.path,
+        );
         self.reached = self.nodes;
         self.turns = true;
         self.end = node;

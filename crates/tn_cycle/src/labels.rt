@@ -58,17 +58,19 @@ pub(crate) fn find_labels<C: Costs>(
     costs: &C,
     row: &mut [Cell],
     after: &mut [Cell],
+    active: &mut [u32],
     labels: &mut [i128],
 ) -> bool
     requires sized { C.node_count costs.now + 1 ≤ length row.old }
     requires after_sized { length after.old ≡ length row.old }
+    requires places { C.node_count costs.now + 1 ≤ length active.old }
     requires labels_sized { length labels.old ≡ C.node_count costs.now }
     requires few { C.node_count costs.now ≤ 1025 }
     ensures found { result ≡ true → AreLabels (C.node_count costs.now) (C.arc costs.now) labels.new }
     ensures none { result ≡ false → HasNoNegativeCycle (C.arc costs.now) → ⊥ }
 {
     let sink = costs.nodes();
-    let settled = search(&Sunk { costs, sink }, sink, row, after);
+    let settled = search(&Sunk { costs, sink }, sink, row, after, active);
     if settled {
         write_labels(row, lowest_cost(row, sink), labels);
     }

@@ -1,9 +1,9 @@
-ghost use Rattle.std.specs.Prelude.{◌≡◌, ◌≢◌, ℕ, ◌+◌, ◌^◌, ◌<◌, ◌≤◌, true, false, length, IsTrue, ◌↔◌, ◌+ℤ◌};
+ghost use Rattle.std.specs.Prelude.{◌≡◌, ◌≢◌, ℕ, ◌+◌, ◌^◌, ◌<◌, ◌≤◌, true, false, take, length, IsTrue, ◌↔◌, ◌+ℤ◌};
 ghost use Rattle.std.specs.Option.{ForSome};
 ghost use Rattle.tn_base.specs.Arcs.{IsAtMost};
 ghost use Rattle.tn_base.specs.Options.{both};
 ghost use Rattle.tn_cycle.specs.Order.{IsBelow, IsUpTo};
-ghost use Rattle.tn_cycle.specs.Cells.{HasRoom, IsImproved, cell_at};
+ghost use Rattle.tn_cycle.specs.Cells.{AreActive, HasRoom, IsImproved, cell_at};
 ghost use Rattle.tn_cycle.specs.Searched.{HasNoNegativeCycleOff, IsSettled};
 
 use crate::cell::Cell;
@@ -42,43 +42,66 @@ fn is_below(first: Option<i128>, second: Option<i128>) -> bool
     }
 }
 
+/// Lists the nodes whose cells are of this round, but for the end, and gives their number.
+fn list_active(row: &[Cell], nodes: u32, end: u32, round: u32, active: &mut [u32]) -> u32
+    requires sized { nodes ≤ length row.now }
+    requires places { nodes ≤ length active.old }
+    ensures active { AreActive nodes end round (cell_at row.now) (take result active.new) }
+    ensures few { result ≤ nodes }
+{
+    let mut count = 0;
+    for u in 0..nodes {
+        if u != end && row[u as usize].round == round {
+            active[count as usize] = u;
+            count += 1;
+        }
+    }
+    count
+}
+
 /// The cell of `v` after a round: the best way on over a node whose own cell changed in the round before, where it
 /// costs less than the present way.
-fn improved<C: Costs>(costs: &C, end: u32, round: u32, row: &[Cell], v: u32) -> Cell
+fn improved<C: Costs>(costs: &C, end: u32, round: u32, row: &[Cell], active: &[u32], v: u32) -> Cell
     requires sized { C.node_count costs.now ≤ length row.now }
     requires inside { v < C.node_count costs.now }
     requires counted { round < 2 ^ 31 }
     requires room { HasRoom (C.node_count costs.now) (cell_at row.now) }
+    requires active { AreActive (C.node_count costs.now) end round (cell_at row.now) active.now }
     ensures { IsImproved (C.node_count costs.now) (C.arc costs.now) end round (cell_at row.now) v result }
 {
     let mut best = row[v as usize];
-    for u in 0..costs.nodes() {
-        let cell = row[u as usize];
-        if cell.round == round && u != end {
-            let cost = extended(costs.cost(v, u), cell.cost);
-            if is_below(cost, best.cost) {
-                best = Cell {
-                    cost,
-                    round: round + 1,
-                    next: u,
-                };
-            }
+    for &u in active {
+        let cost = extended(costs.cost(v, u), row[u as usize].cost);
+        if is_below(cost, best.cost) {
+            best = Cell {
+                cost,
+                round: round + 1,
+                next: u,
+            };
         }
     }
     best
 }
 
 /// One round: each node's cell after it.
-fn advance<C: Costs>(costs: &C, end: u32, round: u32, row: &[Cell], after: &mut [Cell])
+fn advance<C: Costs>(
+    costs: &C,
+    end: u32,
+    round: u32,
+    row: &[Cell],
+    active: &[u32],
+    after: &mut [Cell],
+)
     requires sized { C.node_count costs.now ≤ length row.now }
     requires after_sized { C.node_count costs.now ≤ length after.old }
     requires counted { round < 2 ^ 31 }
     requires room { HasRoom (C.node_count costs.now) (cell_at row.now) }
+    requires active { AreActive (C.node_count costs.now) end round (cell_at row.now) active.now }
     ensures { (v : ℕ) → v < C.node_count costs.now →
         IsImproved (C.node_count costs.now) (C.arc costs.now) end round (cell_at row.now) v (cell_at after.new v) }
 {
     for v in 0..costs.nodes() {
-        after[v as usize] = improved(costs, end, round, row, v);
+        after[v as usize] = improved(costs, end, round, row, active, v);
     }
 }
 
@@ -115,9 +138,16 @@ fn has_none_of(row: &[Cell], nodes: u32, round: u32) -> bool
 /// arc more, at the front, and goes on only over nodes that the round before has changed; the search stops after the
 /// first round that changes none. Whether there was such a round: where there is none, some closed walk that doesn't
 /// meet `end` has a negative cost.
-pub(crate) fn search<C: Costs>(costs: &C, end: u32, row: &mut [Cell], after: &mut [Cell]) -> bool
+pub(crate) fn search<C: Costs>(
+    costs: &C,
+    end: u32,
+    row: &mut [Cell],
+    after: &mut [Cell],
+    active: &mut [u32],
+) -> bool
     requires sized { C.node_count costs.now ≤ length row.old }
     requires after_sized { length after.old ≡ length row.old }
+    requires places { C.node_count costs.now ≤ length active.old }
     requires few { C.node_count costs.now ≤ 1026 }
     requires inside { end < C.node_count costs.now }
     ensures settled { result ≡ true → IsSettled (C.node_count costs.now) (C.arc costs.now) end (cell_at row.new) }
@@ -126,7 +156,8 @@ pub(crate) fn search<C: Costs>(costs: &C, end: u32, row: &mut [Cell], after: &mu
     let nodes = costs.nodes();
     begin(costs, end, row);
     for round in 0..nodes {
-        advance(costs, end, round, row, after);
+        let count = list_active(row, nodes, end, round, active);
+        advance(costs, end, round, row, &active[..count as usize], after);
         row.copy_from_slice(after);
         if has_none_of(row, nodes, round + 1) {
             return true;
