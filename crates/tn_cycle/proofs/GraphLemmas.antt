@@ -61,6 +61,10 @@ walk_among test arc u (v ∷ vs) w cost walk =
     ∙ ap (λ (z : Option ℤ). both (Some two.first) z) (walk_among test arc v vs w two.second two.second_is)
     ∙ ap (λ (z : ℤ). Some z) two.sum_is
 
+-- where no cycle is negative, none among some nodes is
+pub none_negative-arcs_among : (test : ℕ → Bool) (arc : ℕ → ℕ → Option ℤ) → HasNoNegativeCycle arc → HasNoNegativeCycle (arcs_among test arc)
+none_negative-arcs_among test arc none u vs cost walk = none u vs cost (walk_among test arc u vs u cost walk)
+
 -- such a walk's nodes are among them
 pub walk_passes : (test : ℕ → Bool) (arc : ℕ → ℕ → Option ℤ) (u : ℕ) (vs : List ℕ) (w : ℕ) (cost : ℤ)
     → walk_cost (arcs_among test arc) u vs w ≡ Some cost → All (λ v. test v ≡ true) (u ∷ vs)

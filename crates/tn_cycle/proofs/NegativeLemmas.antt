@@ -4,8 +4,8 @@ use Rattle.std.specs.Prelude.{All, nat_le, nat_lt}
 use Rattle.std.proofs.lemmas.Bool.{and_parts, leb-true, ltb-true}
 use Rattle.std.proofs.lemmas.List.Elements.{All-weaker}
 use Rattle.tn_base.specs.Walks.{arcs_among, CyclesCostAtLeast, HasNoNegativeCycle}
-use Rattle.tn_cycle.specs.declared.path.Path.{Path}
-use Rattle.tn_cycle.specs.declared.path.Path.TheVariants as path
+use Rattle.tn_cycle.specs.declared.answer.Path.{Path}
+use Rattle.tn_cycle.specs.declared.answer.Path.TheVariants as path
 use Rattle.tn_cycle.specs.Graphs.{is_between}
 use Rattle.tn_cycle.specs.Searched.{HasNoNegativeCycleOff}
 use Rattle.tn_cycle.specs.Answers.{AnswersCycle, AnswersNegative, arcs_of}

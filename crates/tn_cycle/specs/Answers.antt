@@ -3,10 +3,10 @@ use Rattle.std.specs.Prelude.{◌≡◌, ℕ, ◌+◌, ◌-◌, ◌*◌, ◌<◌
 use Rattle.tn_base.specs.Arcs.{AreSmall}
 use Rattle.tn_base.specs.Walks.{AreDifferent, Avoids, CyclesCostAtLeast, HasNoNegativeCycle, IsCycle, IsLeastCycle, KeepsArcs, IsLeastWalk, IsUnreached}
 use Rattle.tn_cycle.specs.declared.cell.Cell.{Cell}
-use Rattle.tn_cycle.specs.declared.path.Path.{Path}
-use Rattle.tn_cycle.specs.declared.path.Path.TheVariants as path
-use Rattle.tn_cycle.specs.declared.finder.Labels.{Labels}
-use Rattle.tn_cycle.specs.declared.finder.Labels.TheVariants.{Feasible, Negative}
+use Rattle.tn_cycle.specs.declared.answer.Path.{Path}
+use Rattle.tn_cycle.specs.declared.answer.Path.TheVariants as path
+use Rattle.tn_cycle.specs.declared.answer.Labels.{Labels}
+use Rattle.tn_cycle.specs.declared.answer.Labels.TheVariants.{Feasible, Negative}
 use Rattle.tn_cycle.specs.Reading.{Reading}
 
 -- the listed nodes are a least cycle from the node, of negative cost

@@ -3,9 +3,9 @@ ghost use Rattle.tn_base.specs.Walks.{HasNoNegativeCycle};
 ghost use Rattle.tn_cycle.specs.Searched.{HasNoNegativeCycleOff};
 ghost use Rattle.tn_cycle.specs.Answers.{AnswersCycle, AnswersNegative, arcs_of};
 
+use crate::answer::Path;
 use crate::cell::Cell;
 use crate::graphs::Part;
-use crate::path::Path;
 use crate::read::list_way;
 use crate::search::search;
 use tn_base::Costs;

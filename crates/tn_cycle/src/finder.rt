@@ -2,40 +2,39 @@ ghost use Rattle.std.specs.Prelude.{◌≡◌, ℕ, ◌+◌, ◌-◌, ◌*◌, �
 ghost use Rattle.tn_base.specs.Walks.{arcs_among, is_admitted, is_looked_at, HasNoNegativeCycle};
 ghost use Rattle.tn_cycle.specs.Searched.{HasNoNegativeCycleOff};
 
+use crate::answer::{Labels, Path};
 use crate::cell::Cell;
 use crate::cycles::{least_cycle, negative_cycle};
 use crate::graphs::{Looked, Turned};
 use crate::labels::find_labels;
-use crate::path::Path;
 use crate::read::list_walk;
 use crate::search::search;
 use std::alloc::Global;
 use std::marker::Model;
 use tn_base::{Costs, OutOfMemory, TradeSet};
 
-/// What `Finder::labels` answers.
-#[derive(Clone, Copy, Debug, PartialEq, Eq)]
-pub enum Labels {
-    /// No cycle is negative, and the labels may be read.
-    Feasible,
-    /// A negative cycle.
-    Negative {
-        /// The sum of its arcs' costs.
-        cost: i128,
-        /// How many arcs it has, and as many nodes.
-        length: u32,
-    },
-}
-
+/// Searches graphs of a fixed number of nodes, and keeps what the last search found. The last node of a graph is its
+/// null node, the others are trades.
+///
+/// `through` finds a least cycle through a trade, `labels` finds numbers of the nodes that keep all arcs or a negative
+/// cycle, and `least_to` and `least_from` find least walks. Then `at` reads the nodes of a cycle; `label` reads labels;
+/// `distance` reads the least cost for a node, and `walk` lists the nodes of its walk, which `at` reads. A search
+/// forgets what the one before it found. No search and no reader takes memory or refuses.
+///
+/// Contracts see what may be read: the nodes that `at` reads, the labels, the distances and their walks.
 #[derive(Drop)]
 pub struct Finder {
     nodes: u32,
+    /// The cells after the last round, and room for the next.
     row: Vec<Cell>,
     after: Vec<Cell>,
+    /// The nodes that may be read, and how many; while a search runs, the nodes that a round goes over.
     path: Vec<u32>,
     count: u32,
+    /// The labels, and how many may be read.
     labels: Vec<i128>,
     labelled: u32,
+    /// How many cells are those of least walks, whether these begin at the node asked for, and that node.
     reached: u32,
     turns: bool,
     end: u32,
@@ -56,6 +55,8 @@ impl Finder {
     ghost use Rattle.tn_cycle.specs.Reading.{ListsNoWalks, ListsOnly, ReadsWalks, nothing};
     ghost use Rattle.tn_cycle.specs.Answers.{AnswersCycle, AnswersLabels, LeadsLeast, distance_in, walk_in};
 
+    /// A finder for graphs of so many nodes, at least 1 and at most 1,025. Nothing may be read yet. It takes all memory
+    /// that the searches need, and refuses where that isn't there.
     pub fn new(alloc: Global, nodes: u32) -> Result<Finder, OutOfMemory>
         requires some { 1 ≤ nodes }
         requires few { nodes ≤ 1025 }
@@ -81,7 +82,8 @@ impl Finder {
         })
     }
 
-    /// The `k`-th node of the last cycle or walk.
+    /// The node at place `k`, counted from 0, of the cycle that the last search answered, which begins with the node
+    /// asked for, or of the walk that was listed since.
     pub fn at(&self, k: u32) -> u32
         requires { k < length self.now.listed }
         ensures { slice_get self.now.listed k ≡ Some result }
@@ -104,6 +106,10 @@ impl Finder {
         found
     }
 
+    /// Looks for a negative cycle through a trade, on the admitted trades, the null node and that trade. A cycle that it
+    /// answers is of least cost among the closed walks that meet the trade at their ends alone, has the fewest arcs
+    /// among those of that cost, and has no node twice. No cycle of the admitted trades and the null node may be
+    /// negative.
     pub fn through<C: Costs, const W: usize>(
         &mut self,
         costs: &C,
@@ -130,6 +136,10 @@ impl Finder {
         )
     }
 
+    /// Looks for labels: a number for each node, such that no arc costs less than the label of its end less that of its
+    /// begin. There are some exactly where no cycle is negative. Each is at most 0, and at least minus the largest size
+    /// of a cost times one less than the number of nodes. Otherwise it answers a negative cycle without a node twice,
+    /// which begins with the null node where it has that, and with its lowest node where it doesn't.
     pub fn labels<C: Costs>(&mut self, costs: &C) -> Labels
         requires sized { C.node_count costs.now ≡ self.old.nodes }
         ensures answer { AnswersLabels self.old.nodes (C.arc costs.now) self.new result }
@@ -156,7 +166,7 @@ impl Finder {
         }
     }
 
-    /// The label of a node.
+    /// The label of a node, where the last search found labels.
     pub fn label(&self, v: u32) -> i128
         requires { v < length self.now.labels }
         ensures { slice_get self.now.labels v ≡ Some result }
@@ -164,7 +174,8 @@ impl Finder {
         self.labels[v as usize]
     }
 
-    /// Finds the least walks from each node to the given one.
+    /// Finds, from each node, a walk to the given one of least cost, in which no node stands twice but for the two ends,
+    /// where they are one: a walk from the node to itself has at least one arc too. No cycle may be negative.
     pub fn least_to<C: Costs>(&mut self, costs: &C, node: u32)
         requires sized { C.node_count costs.now ≡ self.old.nodes }
         requires inside { node < self.old.nodes }
@@ -180,7 +191,8 @@ impl Finder {
         self.end = node;
     }
 
-    /// Finds the least walks from the given node to each one.
+    /// Finds, to each node, a walk from the given one of least cost, in which no node stands twice but for the two ends,
+    /// where they are one: a walk from the node to itself has at least one arc too. No cycle may be negative.
     pub fn least_from<C: Costs>(&mut self, costs: &C, node: u32)
         requires sized { C.node_count costs.now ≡ self.old.nodes }
         requires inside { node < self.old.nodes }
@@ -202,7 +214,8 @@ impl Finder {
         self.end = node;
     }
 
-    /// The least cost of a walk of the node.
+    /// The least cost of a walk between the node and the one asked for, None where there is no walk. The last search was
+    /// for least walks.
     pub fn distance(&self, v: u32) -> Option<i128>
         requires { v < length self.now.distances }
         ensures { result ≡ distance_in self.now v }
@@ -210,7 +223,8 @@ impl Finder {
         self.row[v as usize].cost
     }
 
-    /// Lists the nodes of the node's least walk, its two ends among them, and gives their number.
+    /// Lists the nodes of the node's least walk in order, its two ends among them, and gives their number; `at` reads
+    /// them. The last search was for least walks, and the node has one.
     pub fn walk(&mut self, v: u32) -> u32
         requires inside { v < length self.old.distances }
         requires reached { IsSome (distance_in self.old v) }

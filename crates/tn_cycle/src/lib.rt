@@ -1,15 +1,25 @@
-//! Shortest cycles, labels and least walks, for any `Costs`.
+//! Shortest cycles, labels and least walks in any graph that has `Costs`. Costs may be negative.
+//!
+//! One search serves all (Bellman 1958, Ford 1956): it finds, from every node, the walk to a given node of least cost
+//! and, of those, one with the fewest arcs. It goes by rounds, and each takes one arc more: after k rounds a node knows
+//! the least cost over the walks with at most k nodes inside, the round in which it found that cost, and the node that
+//! comes next. A round goes over those nodes alone that the round before has changed, and the search ends with the first
+//! round that changes none. The nodes that come next are then a least walk, and its length is the round that stands at
+//! its first node.
+//!
+//! A cycle through a node is a walk from it to itself. Labels are found by the walks to a sink, a node that all others
+//! have an arc of cost 0 to. Walks from a node are walks to it in the graph turned round.
 #![tactic(auto)]
 
+mod answer;
 mod cell;
 mod cycles;
 mod finder;
 mod graphs;
 mod labels;
-mod path;
 mod read;
 mod search;
 
-pub use finder::{Finder, Labels};
+pub use answer::{Labels, Path};
+pub use finder::Finder;
 pub use graphs::Admitted;
-pub use path::Path;

@@ -3,8 +3,8 @@ use Rattle.std.proofs.lemmas.Int.{to_z-of_z}
 use Rattle.std.proofs.lemmas.List.{take_all, length-take}
 use mir.Syntax.{w128}
 use mir.Val.{SFits}
-use Rattle.tn_cycle.specs.declared.path.Path.{Path}
-use Rattle.tn_cycle.specs.declared.path.Path.TheVariants as path
+use Rattle.tn_cycle.specs.declared.answer.Path.{Path}
+use Rattle.tn_cycle.specs.declared.answer.Path.TheVariants as path
 use Rattle.tn_cycle.specs.Reading.{Reading}
 use Rattle.tn_cycle.specs.Answers.{AreLabels, AnswersNegative, IsNegative, arcs_of, label_in}
 use Rattle.tn_cycle.proofs.ReadLemmas.{front-written}

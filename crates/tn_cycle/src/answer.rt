@@ -12,6 +12,20 @@ pub enum Path {
     },
 }
 
+/// What `Finder::labels` answers.
+#[derive(Clone, Copy, Debug, PartialEq, Eq)]
+pub enum Labels {
+    /// No cycle is negative, and the labels may be read.
+    Feasible,
+    /// A negative cycle.
+    Negative {
+        /// The sum of its arcs' costs.
+        cost: i128,
+        /// How many arcs it has, and as many nodes.
+        length: u32,
+    },
+}
+
 impl Path {
     ghost use Rattle.std.specs.Prelude.{◌≡◌};
     ghost use Rattle.tn_cycle.specs.Answers.{arcs_of};
