@@ -5,3 +5,4 @@ pub mod Graphs
 pub mod GraphLaws
 pub mod Reading
 pub mod Answers
+pub mod Ring

@@ -19,6 +19,8 @@ mod graphs;
 mod labels;
 mod read;
 mod search;
+#[cfg(test)]
+mod tests;
 
 pub use answer::{Labels, Path};
 pub use finder::Finder;

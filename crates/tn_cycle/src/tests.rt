@@ -1,0 +1,116 @@
+ghost use Rattle.std.specs.Prelude.{◌≡◌, ◌<◌, ◌≤◌, false};
+ghost use Rattle.tn_base.specs.Sets.{has};
+ghost use Rattle.tn_cycle.specs.Ring.{ring, between-ring, small-ring};
+
+use super::*;
+use std::process::Abort;
+use std::test::Fail;
+use tn_base::{Costs, TradeSet};
+
+/// A ring of nodes: from each to the next at 2, and from the last to the first at -10, where it gains, or at 1.
+#[derive(Clone, Copy, Debug)]
+struct Ring {
+    nodes: u32,
+    gains: bool,
+}
+
+impl Costs for Ring {
+    ghost node_count = { λ it. it.nodes };
+
+    ghost arc = { λ it. ring it.nodes it.gains };
+
+    fn nodes(&self) -> u32 {
+        self.nodes
+    }
+
+    fn cost(&self, a: u32, b: u32) -> Option<i128> {
+        let nodes = self.nodes;
+        if b == a + 1 {
+            Some(2)
+        } else if b == 0 && a + 1 == nodes {
+            Some(if self.gains { -10 } else { 1 })
+        } else {
+            None
+        }
+    }
+
+    ghost between_nodes = { λ it. between-ring it.nodes it.gains };
+
+    ghost small = { λ it. small-ring it.nodes it.gains };
+}
+
+/// The cycle through the first node goes all round.
+#[test]
+fn finds_the_ring(rt: HostRuntime) -> Result<(), Fail> {
+    let mut admitted = TradeSet::<1>::empty();
+    admitted.toggle(1);
+    admitted.toggle(2);
+    let ring = Ring {
+        nodes: 4,
+        gains: true,
+    };
+    let mut finder = Finder::new(rt.alloc(), 4)?;
+    let path = finder.through(&ring, 0, &admitted);
+    assert_eq!(rt;
+        path,
+        Path::Cycle {
+            cost: -4,
+            length: 4
+        }
+    );
+    assert_eq!(rt;
+        [finder.at(0), finder.at(1), finder.at(2), finder.at(3)],
+        [0, 1, 2, 3]
+    );
+    Ok(())
+}
+
+/// A ring that gains is the negative cycle, from its null node on.
+#[test]
+fn answers_the_negative_ring(rt: HostRuntime) -> Result<(), Fail> {
+    let ring = Ring {
+        nodes: 4,
+        gains: true,
+    };
+    let mut finder = Finder::new(rt.alloc(), 4)?;
+    let labels = finder.labels(&ring);
+    assert_eq!(rt;
+        labels,
+        Labels::Negative {
+            cost: -4,
+            length: 4
+        }
+    );
+    assert_eq!(rt;
+        [finder.at(0), finder.at(1), finder.at(2), finder.at(3)],
+        [3, 0, 1, 2]
+    );
+    Ok(())
+}
+
+/// A ring that doesn't gain has labels and least walks.
+#[test]
+fn finds_labels_and_walks(rt: HostRuntime) -> Result<(), Fail> {
+    let ring = Ring {
+        nodes: 4,
+        gains: false,
+    };
+    let mut finder = Finder::new(rt.alloc(), 4)?;
+    match finder.labels(&ring) {
+        Labels::Feasible => {
+            assert_eq!(rt; [finder.label(0), finder.label(3)], [0, 0]);
+            finder.least_to(&ring, 3);
+            assert_eq!(rt; finder.distance(1), Some(4));
+            finder.least_from(&ring, 3);
+            let distance = finder.distance(1);
+            assert_eq!(rt; distance, Some(3));
+            if distance.is_some() {
+                let count = finder.walk(1);
+                assert_eq!(rt; count, 3);
+                assert_eq!(rt; [finder.at(0), finder.at(1), finder.at(2)], [3, 0, 1]);
+            }
+            Ok(())
+        }
+        Labels::Negative { .. } => Err("the ring doesn't gain")?,
+    }
+}
