@@ -18,8 +18,8 @@ use Rattle.tn_graph.specs.Matrix.{Matrix, arcs_of}
 use Rattle.tn_graph.specs.Reading.{changed_worths_from}
 use Rattle.tn_cycle.specs.Reading.{Reading}
 use Rattle.tn_cycle.specs.Answers.{AnswersCycle, AreLabels, IsNegative}
-use Rattle.tn_cycle.specs.declared.path.Path.{Path}
-use Rattle.tn_cycle.specs.declared.path.Path.TheVariants as path
+use Rattle.tn_cycle.specs.declared.answer.Path.{Path}
+use Rattle.tn_cycle.specs.declared.answer.Path.TheVariants as path
 use Rattle.tn_network.specs.Laws.{MeetExchange}
 use Rattle.tn_network.specs.Kept.{IsKept}
 use Rattle.tn_network.specs.Rounds.{arcs_with}

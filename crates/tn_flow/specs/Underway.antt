@@ -6,8 +6,8 @@ use Rattle.tn_market.specs.declared.ends.Ends.{Ends}
 use Rattle.tn_graph.specs.Matrix.{Matrix}
 use Rattle.tn_graph.specs.Reading.{IsExchangeGraph}
 use Rattle.tn_cycle.specs.Reading.{Reading}
-use Rattle.tn_cycle.specs.declared.path.Path.{Path}
-use Rattle.tn_cycle.specs.declared.path.Path.TheVariants as path
+use Rattle.tn_cycle.specs.declared.answer.Path.{Path}
+use Rattle.tn_cycle.specs.declared.answer.Path.TheVariants as path
 use Rattle.tn_network.specs.Along.{along}
 use Rattle.tn_network.specs.Kept.{IsKept}
 
