@@ -1,9 +1,9 @@
 -- How a cell is made within a round.
-use Rattle.std.proofs.Common.{◌≡◌, ◌≢◌, ℕ, ◌+◌, ◌<◌, refl, sym, subst, inl, inr, below_more, ℤ, Option, List, get_or}
+use Rattle.std.proofs.Common.{◌≡◌, ◌≢◌, ℕ, ◌+◌, ◌<◌, refl, subst, inl, inr, below_more, ℤ, Option, List, get_or}
 use Rattle.tn_base.specs.Options.{both}
 use Rattle.tn_cycle.specs.declared.cell.Cell.{Cell}
 use Rattle.tn_cycle.specs.Order.{IsUpTo, IsBelow}
-use Rattle.tn_cycle.specs.Cells.{GoesOn, StaysOrGoesOn}
+use Rattle.tn_cycle.specs.Cells.{StaysOrGoesOn}
 use Rattle.tn_cycle.proofs.OrderLemmas.{up_to_itself, up_to-trans, below_up_to, below-up_to}
 
 -- going on to the node at this place of the list costs no less

@@ -1,11 +1,11 @@
 -- Walks in graphs that are made from a graph.
-use Rattle.std.proofs.Common.{◌≡◌, ◌≢◌, ℕ, ◌+◌, ◌-◌, ◌<◌, ◌≤◌, refl, sym, ap, ◌∙◌, subst, arith, inl, inr, ◌⊎◌, List, [], ◌∷◌, ℤ, pos, ◌≤ℤ◌, Option, Some, None, Bool, true, false, ◌&&◌, ◌||◌, ◌==◌, if◌then◌else◌, nat_lt}
+use Rattle.std.proofs.Common.{◌≡◌, ◌≢◌, ℕ, ◌+◌, ◌<◌, ◌≤◌, refl, sym, ap, ◌∙◌, arith, inl, inr, List, [], ◌∷◌, ℤ, pos, Option, Some, None, Bool, true, ◌&&◌, ◌||◌, ◌==◌, if◌then◌else◌, nat_lt}
 use Rattle.std.specs.Prelude.{All, nat_le}
 use Rattle.std.proofs.lemmas.Bool.{ne_eqb, eq-eqb, lt-ltb, le-ltb, lt-leb, le-leb, and_parts, ltb-true, leb-true, cases_lt, cond_both}
 use Rattle.std.proofs.lemmas.List.Elements.{All-nil, All-cons, All-head}
 use Rattle.tn_base.specs.Arcs.{AreBetweenNodes}
 use Rattle.tn_base.specs.Options.{both}
-use Rattle.tn_base.specs.Walks.{is_admitted, is_looked_at, walk_cost, arcs_among, Avoids, HasNoNegativeCycle}
+use Rattle.tn_base.specs.Walks.{is_admitted, is_looked_at, walk_cost, arcs_among, HasNoNegativeCycle}
 use Rattle.tn_cycle.specs.Graphs.{is_between, with_sink}
 use Rattle.tn_cycle.specs.GraphLaws.{some_if}
 use Rattle.tn_cycle.specs.Searched.{HasNoNegativeCycleOff}

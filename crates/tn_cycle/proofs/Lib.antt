@@ -10,3 +10,4 @@ pub mod OrderLemmas
 pub mod WalkLemmas
 pub mod Rounds
 pub mod RoundLemmas
+pub mod DifferenceLemmas

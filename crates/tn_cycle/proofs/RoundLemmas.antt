@@ -1,5 +1,5 @@
 -- The rounds of the search: the first, the next, the last.
-use Rattle.std.proofs.Common.{◌≡◌, ◌≢◌, ℕ, zero, suc, ◌+◌, ◌*◌, ◌^◌, ◌<◌, ◌≤◌, refl, sym, ap, ◌∙◌, subst, arith, inl, inr, ◌⊎◌, List, [], ◌∷◌, length, ℤ, pos, neg_ℤ, ◌+ℤ◌, ◌≤ℤ◌, Option, Some, None}
+use Rattle.std.proofs.Common.{◌≡◌, ◌≢◌, ℕ, zero, suc, ◌+◌, ◌*◌, ◌^◌, ◌<◌, ◌≤◌, refl, sym, ap, ◌∙◌, subst, arith, inl, inr, ◌⊎◌, List, [], ◌∷◌, length, ℤ, ◌+ℤ◌, Option, Some, None}
 use Rattle.std.specs.Option.{ForSome}
 use Rattle.std.proofs.lemmas.Int.{ints}
 use Rattle.std.proofs.lemmas.Bool.{cases_order}
@@ -10,10 +10,10 @@ use Rattle.tn_base.specs.Options.{both}
 use Rattle.tn_base.specs.Walks.{walk_cost, Avoids}
 use Rattle.tn_cycle.specs.declared.cell.Cell.{Cell}
 use Rattle.tn_cycle.specs.Order.{IsUpTo, IsBelow}
-use Rattle.tn_cycle.specs.Cells.{HasRoom, trail, GoesOn, StaysOrGoesOn, IsImproved}
+use Rattle.tn_cycle.specs.Cells.{HasRoom, trail, IsImproved}
 use Rattle.tn_cycle.specs.Searched.{HasNoNegativeCycleOff, IsSettled}
-use Rattle.tn_cycle.proofs.OrderLemmas.{up_to_itself, up_to-trans, below_up_to, below-up_to, up_to-below, not_below, below_some, both-up_to, both-below, Parts, parts, up_to_none}
-use Rattle.tn_cycle.proofs.WalkLemmas.{avoids-cons, avoids-head, avoids-tail, walk_inside, few_apart, IsCutApart, cut_apart}
+use Rattle.tn_cycle.proofs.OrderLemmas.{up_to_itself, up_to-trans, below_up_to, below-up_to, up_to-below, not_below, below_some, both-up_to, both-below, parts, up_to_none}
+use Rattle.tn_cycle.proofs.WalkLemmas.{avoids-cons, avoids-head, avoids-tail, walk_inside, few_apart, cut_apart}
 use Rattle.tn_cycle.proofs.Rounds.{IsBegun, GoesOnTo, IsTied, Reaches, IsRound}
 
 -- an arc is a walk

@@ -1,17 +1,16 @@
 -- What the cells of a search say once it has settled.
-use Rattle.std.proofs.Common.{◌≡◌, ◌≢◌, ℕ, zero, suc, ◌+◌, ◌<◌, ◌≤◌, refl, sym, ap, ◌∙◌, subst, arith, inl, inr, ◌⊎◌, List, [], ◌∷◌, length, ℤ, pos, ◌≤ℤ◌, Option, Some, None, Bool, true, false}
+use Rattle.std.proofs.Common.{◌≡◌, ◌≢◌, ℕ, ◌<◌, ◌≤◌, refl, sym, ◌∙◌, subst, arith, inl, inr, List, [], ◌∷◌, length, ℤ, pos, ◌≤ℤ◌, Option, Some, None, Bool, true, false}
 use Rattle.std.specs.Prelude.{All}
 use Rattle.std.proofs.lemmas.Int.{ints}
 use Rattle.std.proofs.lemmas.Bool.{cases_lt, cases_eq}
-use Rattle.std.proofs.lemmas.Option.{none-some, same_Some}
 use Rattle.std.proofs.lemmas.List.Elements.{All-nil}
 use Rattle.tn_base.specs.Arcs.{AreBetweenNodes}
-use Rattle.tn_base.specs.Walks.{walk_cost, Avoids, AreDifferent, CyclesCostAtLeast, IsCycle, IsLeastCycle}
+use Rattle.tn_base.specs.Walks.{walk_cost, Avoids, AreDifferent, CyclesCostAtLeast, IsLeastCycle}
 use Rattle.tn_cycle.specs.declared.cell.Cell.{Cell}
 use Rattle.tn_cycle.specs.Order.{IsUpTo, IsBelow}
 use Rattle.tn_cycle.specs.Cells.{trail}
 use Rattle.tn_cycle.specs.Searched.{HasNoNegativeCycleOff, IsSettled}
-use Rattle.tn_cycle.proofs.WalkLemmas.{AreApart, Found, found_or_not, IsShortened, cut, apart_or_shortened, different_from_apart, walk_inside}
+use Rattle.tn_cycle.proofs.WalkLemmas.{AreApart, found_or_not, IsShortened, cut, apart_or_shortened, different_from_apart, walk_inside}
 use Rattle.tn_cycle.proofs.ReadLemmas.{length-trail}
 
 module _ (nodes : ℕ) (arc : ℕ → ℕ → Option ℤ) (end : ℕ) (cell : ℕ → Cell) (between : AreBetweenNodes nodes arc)

@@ -1,5 +1,5 @@
 -- Walks in the graph turned round.
-use Rattle.std.proofs.Common.{◌≡◌, ◌≢◌, ℕ, suc, ◌+◌, ◌<◌, ◌≤◌, refl, sym, ap, ◌∙◌, subst, arith, inl, inr, List, [], ◌∷◌, ◌++◌, ℤ, pos, ◌≤ℤ◌, Option, Some, None, true, false}
+use Rattle.std.proofs.Common.{◌≡◌, ◌≢◌, ℕ, ◌<◌, refl, sym, ap, ◌∙◌, subst, arith, inl, inr, List, [], ◌∷◌, ◌++◌, ℤ, pos, ◌≤ℤ◌, Option, Some, None, true, false}
 use Rattle.std.specs.Prelude.{reverse}
 use Rattle.std.proofs.lemmas.Int.{ints}
 use Rattle.std.proofs.lemmas.Bool.{cases_eq}
@@ -12,13 +12,12 @@ use Rattle.tn_cycle.specs.declared.cell.Cell.{Cell}
 use Rattle.tn_cycle.specs.Order.{IsUpTo}
 use Rattle.tn_cycle.specs.Cells.{trail}
 use Rattle.tn_cycle.specs.Graphs.{turned}
-use Rattle.tn_cycle.specs.GraphLaws.{between-turned}
 use Rattle.tn_cycle.specs.Searched.{IsSettled}
-use Rattle.tn_cycle.specs.Reading.{way, walk_nodes}
-use Rattle.tn_cycle.specs.Answers.{IsLeastPath, LeadsLeast}
+use Rattle.tn_cycle.specs.Reading.{walk_nodes}
+use Rattle.tn_cycle.specs.Answers.{LeadsLeast}
 use Rattle.tn_cycle.proofs.OrderLemmas.{both-comm, up_to-trans}
-use Rattle.tn_cycle.proofs.WalkLemmas.{AreApart, Found, found_or_not, walk_parts, walk_cost-through, avoids-cons, avoids-head, avoids-tail, avoids-append, different_from_apart}
-use Rattle.tn_cycle.proofs.SettledLemmas.{led_walk, led_apart, led_once}
+use Rattle.tn_cycle.proofs.WalkLemmas.{AreApart, found_or_not, walk_parts, walk_cost-through, avoids-cons, avoids-head, avoids-tail, avoids-append, different_from_apart}
+use Rattle.tn_cycle.proofs.SettledLemmas.{led_apart, led_once}
 
 reverse-cons : (x : ℕ) (xs : List ℕ) → reverse (x ∷ xs) ≡ reverse xs ++ x ∷ []
 reverse-cons x xs = reverse-append (x ∷ []) xs

@@ -1,6 +1,5 @@
 -- What the finder's parts let be read.
-use Rattle.std.proofs.Common.{◌≡◌, ℕ, ◌+◌, ◌<◌, ◌≤◌, refl, sym, ap, ◌∙◌, subst, arith, List, ◌++◌, length, take, drop, ℤ, Option, None, Bool, true, false}
-use Rattle.std.specs.Prelude.{All}
+use Rattle.std.proofs.Common.{◌≡◌, ℕ, ◌+◌, ◌<◌, ◌≤◌, sym, ap, ◌∙◌, subst, arith, List, ◌++◌, length, take, drop, ℤ, Option, None, Bool, true, false}
 use Rattle.std.proofs.lemmas.List.{take_all, length-take}
 use Rattle.std.proofs.lemmas.List.Elements.{All-weaker}
 use Rattle.std.proofs.lemmas.List.FromFn.{get_or-map-range_with_len, length-map-range_with_len}
@@ -11,7 +10,7 @@ use Rattle.tn_cycle.specs.declared.finder.Finder.TheInside.{Inside}
 use Rattle.tn_cycle.specs.Cells.{cell_at, trail}
 use Rattle.tn_cycle.specs.Graphs.{turned}
 use Rattle.tn_cycle.specs.GraphLaws.{between-turned}
-use Rattle.tn_cycle.specs.Searched.{HasNoNegativeCycleOff, IsSettled}
+use Rattle.tn_cycle.specs.Searched.{IsSettled}
 use Rattle.tn_cycle.specs.Reading.{HasPlaces, IsListable, Reading, reading_of, walk_nodes}
 use Rattle.tn_cycle.specs.Answers.{LeadsLeast, distance_in, walk_in}
 use Rattle.tn_cycle.proofs.ReadLemmas.{front-written}

@@ -1,5 +1,5 @@
 -- Walks: joining, cutting, and how long one need be.
-use Rattle.std.proofs.Common.{◌≡◌, ◌≢◌, ℕ, zero, suc, ◌+◌, ◌<◌, ◌≤◌, refl, sym, ap, ◌∙◌, subst, arith, inl, inr, ◌⊎◌, List, [], ◌∷◌, ◌++◌, length, get_or, ℤ, pos, ◌+ℤ◌, ◌≤ℤ◌, Option, Some, None, Bool, true, false, eqb}
+use Rattle.std.proofs.Common.{◌≡◌, ◌≢◌, ℕ, zero, suc, ◌<◌, ◌≤◌, refl, sym, ap, ◌∙◌, subst, arith, inl, inr, ◌⊎◌, List, [], ◌∷◌, ◌++◌, length, ℤ, pos, ◌+ℤ◌, ◌≤ℤ◌, Option, Some, true, false, eqb}
 use Rattle.std.specs.Prelude.{All, slice_get}
 use Rattle.std.specs.List.{IsDistinct, list_any}
 use Rattle.std.proofs.lemmas.Int.{ints}
@@ -12,7 +12,7 @@ use Rattle.tn_base.specs.Arcs.{AreBetweenNodes}
 use Rattle.tn_base.specs.Options.{both}
 use Rattle.tn_base.specs.Walks.{walk_cost, Avoids, AreDifferent, HasNoNegativeCycle, CyclesCostAtLeast}
 use Rattle.tn_cycle.specs.Searched.{HasNoNegativeCycleOff}
-use Rattle.tn_cycle.proofs.OrderLemmas.{Parts, parts, both-assoc, both-comm}
+use Rattle.tn_cycle.proofs.OrderLemmas.{Parts, parts, both-assoc}
 
 -- a walk through v is a walk to v and one from v
 pub walk_cost-through : (arc : ℕ → ℕ → Option ℤ) (u : ℕ) (xs : List ℕ) (v : ℕ) (ys : List ℕ) (w : ℕ)

@@ -1,5 +1,5 @@
 -- Graphs that are made from a graph.
-use Rattle.std.specs.Prelude.{◌≡◌, ℕ, Bool, ◌==◌, ◌&&◌, nat_lt, nat_le, if◌then◌else◌, ℤ, pos, Option, Some, None}
+use Rattle.std.specs.Prelude.{ℕ, Bool, ◌==◌, ◌&&◌, nat_lt, nat_le, if◌then◌else◌, ℤ, pos, Option, Some, None}
 
 -- whether a node is a trade from the first on
 abbrev pub is_between : ℕ → ℕ → ℕ → Bool

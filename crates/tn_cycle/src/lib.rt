@@ -14,6 +14,7 @@
 mod answer;
 mod cell;
 mod cycles;
+mod differences;
 mod finder;
 mod graphs;
 mod labels;
@@ -23,5 +24,6 @@ mod search;
 mod tests;
 
 pub use answer::{Labels, Path};
+pub use differences::write_differences;
 pub use finder::Finder;
 pub use graphs::Admitted;

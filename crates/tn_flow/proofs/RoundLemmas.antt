@@ -1,18 +1,16 @@
 -- What a round of the solver keeps.
-use Rattle.std.proofs.Common.{◌≡◌, ◌≢◌, not, ◌&&◌, nat_lt, ap₂, inl, inr, ◌⊎◌, ℕ, suc, ◌+◌, ◌-◌, ◌*◌, ◌<◌, ◌≤◌, Bool, true, false, ◌==◌, ltb, refl, sym, ap, ◌∙◌, subst, arith, if◌then◌else◌, ℤ, pos, List, [], ◌∷◌, ◌++◌, length, map, take, slice_get, Option, Some, None, option_map}
+use Rattle.std.proofs.Common.{◌≡◌, ◌≢◌, not, ◌&&◌, nat_lt, ap₂, inl, inr, ◌⊎◌, ℕ, suc, ◌+◌, ◌-◌, ◌*◌, ◌<◌, ◌≤◌, Bool, true, false, ◌==◌, ltb, refl, sym, ap, ◌∙◌, subst, arith, if◌then◌else◌, ℤ, pos, List, [], ◌∷◌, ◌++◌, length, map, take, slice_get, Some}
 use Rattle.std.proofs.lemmas.Int.{ints}
 use Rattle.std.proofs.lemmas.Bool.{cases_eq, cases_lt, lt-ltb, le-ltb}
 use Rattle.tn_base.proofs.SetLemmas.{has-zero, has-toggle_same, has-toggle_other, same_set}
 use Rattle.std.proofs.Math.Seq.{take-suc}
-use Rattle.std.proofs.lemmas.Option.{same_Some, slice_get-map, get_or_from_slice_get}
+use Rattle.std.proofs.lemmas.Option.{get_or_from_slice_get}
 use Rattle.tn_base.specs.Sets.{has, toggle}
-use Rattle.tn_base.specs.Firm.{Firm, HasOwnBundles, MayAbstain}
-use Rattle.tn_base.specs.Exchange.{MeetsExchange}
+use Rattle.tn_base.specs.Firm.{Firm, MayAbstain}
 use Rattle.tn_base.specs.Walks.{walk_cost, arcs_among, is_admitted, is_looked_at, HasNoNegativeCycle}
 use Rattle.tn_base.proofs.WalkLemmas.{SameArcs, walk-same, least_cycle-same, cycles-same, none_negative-same, among-same}
 use Rattle.tn_market.specs.declared.ends.Ends.{Ends}
 use Rattle.tn_market.specs.Network.{part, IsNetwork}
-use Rattle.tn_market.specs.Valued.{ExchangesOne, ExchangesNet, meets_exchange}
 use Rattle.tn_market.specs.Graph.{exchange_arc, graph_worths, ArePossible}
 use Rattle.tn_graph.specs.Matrix.{Matrix, arcs_of}
 use Rattle.tn_graph.specs.Reading.{changed_worths_from}
@@ -27,6 +25,8 @@ use Rattle.tn_network.proofs.KeptLemmas.{one_cycle_for_each_trade}
 use Rattle.tn_flow.specs.Underway.{AreUnderWay, IsNext, AreAdmittedBelow}
 use Rattle.tn_network.specs.Along.{along}
 use Rattle.tn_network.proofs.AlongLemmas.{along-push}
+use Rattle.tn_cycle.proofs.DifferenceLemmas.{labels-same}
+use Rattle.tn_network.proofs.EachLemmas.{each_firm}
 
 -- the set along one node more
 pub along-next : (count on : ℕ) (nodes : List ℕ) (k v : ℕ) → k < length nodes → slice_get nodes k ≡ Some v
@@ -41,18 +41,6 @@ along-next count on nodes k v below is =
     next = one_more ∙ take-suc nodes k v below ∙ ap (λ (w : ℕ). take k nodes ++ w ∷ []) (get_or_from_slice_get nodes k v v is)
 
 -- ---- what is known of a market
-
--- what holds of each item's firm holds of each firm of the list
-pub each_firm : {V : Type 0} (firm_of : V → Firm) (P : Firm → Type 0) (firms : List V) → ((v : V) → P (firm_of v)) → (f : ℕ) (firm : Firm) → slice_get (map firm_of firms) f ≡ Some firm → P firm
-each_firm {V} firm_of P firms each f firm is = by (slice_get firms f) (sym (slice_get-map firm_of firms f) ∙ is)
-  where
-    by : (o : Option V) → option_map firm_of o ≡ Some firm → P firm
-    by None e = absurd (cc e)
-    by (Some v) e = subst P (same_Some _ _ e) (each v)
-
-pub meet_all : {V : Type 0} (firm_of : V → Firm) (firms : List V) → ((v : V) → HasOwnBundles (firm_of v)) → ((v : V) → ExchangesOne (firm_of v)) → ((v : V) → ExchangesNet (firm_of v))
-    → MeetExchange (map firm_of firms)
-meet_all firm_of firms own one net = each_firm firm_of (λ z. HasOwnBundles z × MeetsExchange z) firms (λ v. (own v, meets_exchange (firm_of v) (one v) (net v)))
 
 pub kept_start : {V : Type 0} (firm_of : V → Firm) (firms : List V) (trades : List Ends) → IsNetwork (map firm_of firms) trades → ((v : V) → MayAbstain (firm_of v)) → IsKept (map firm_of firms) trades 0 0
 kept_start firm_of firms trades network abstain = one_cycle_for_each_trade.start (map firm_of firms) trades network (each_firm firm_of MayAbstain firms abstain)
@@ -111,15 +99,6 @@ changed_le trades before on f (firm ∷ firms) =
     at false = omega arith
 
 -- ---- labels
-
--- labels that keep the arcs of a graph keep those of one with the same arcs, and are within the same bounds
-pub labels-same : (nodes : ℕ) (one other : ℕ → ℕ → Option ℤ) (labels : List ℤ) → SameArcs one other → AreLabels nodes other labels → AreLabels nodes one labels
-labels-same nodes one other labels same are = record {
-  one_each = are.one_each;
-  keeps = λ u v c is. are.keeps u v c (sym (same u v) ∙ is);
-  high = are.high;
-  low = λ limit v small below. are.low limit v (λ a b cost is. small a b cost (same a b ∙ is)) below;
-}
 
 -- the arcs among the admitted trades and null
 admitted_same : (firms : List Firm) (trades : List Ends) (graph : Matrix) (finder : Reading) (allowed on : ℕ) → AreUnderWay firms trades graph finder allowed on

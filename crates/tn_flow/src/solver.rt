@@ -1,9 +1,7 @@
 //! The solver.
 
 ghost use Rattle.std.specs.Prelude.{◌≡◌, ℕ, ◌+◌, ◌-◌, ◌*◌, ◌≤◌, ◌<◌, ◌^◌, ◌-ℤ◌, pos, true, Some, length, map, slice_get, IfOk};
-ghost use Rattle.tn_base.specs.Arcs.{IsAtMost};
 ghost use Rattle.tn_base.specs.Sets.{has, set_of};
-ghost use Rattle.tn_cycle.specs.Answers.{label_in};
 ghost use Rattle.tn_market.specs.Best.{price_at};
 ghost use Rattle.tn_market.specs.Equilibrium.{IsEquilibrium};
 ghost use Rattle.tn_market.specs.Graph.{graph_worths};
@@ -13,7 +11,7 @@ use crate::rounds::Rounds;
 use std::alloc::Global;
 use std::marker::Model;
 use tn_base::{OutOfMemory, Steps, TradeSet};
-use tn_cycle::Finder;
+use tn_cycle::write_differences;
 use tn_market::{Market, Valuation};
 
 /// Finds an equilibrium, by admitting one trade after another. All memory is taken in `with_room`.
@@ -33,29 +31,6 @@ impl<const W: usize> Model for Solver<W> {
     ghost view = { λ solver. record { on = solver.rounds.on; prices = solver.prices.items } };
 
     ghost invariant = { λ solver. IsReady solver.rounds.graph.nodes solver.rounds.finder.nodes solver.prices.items };
-}
-
-/// The label of a node less that of another.
-fn label_less(finder: &Finder, v: u32, null: u32) -> i128
-    requires node { v < length finder.now.labels }
-    requires last { null < length finder.now.labels }
-    requires small { (t : ℕ) → t < length finder.now.labels → IsAtMost (label_in finder.now.labels t) (2 ^ 100) }
-    ensures { result ≡ label_in finder.now.labels v -ℤ label_in finder.now.labels null }
-{
-    finder.label(v) - finder.label(null)
-}
-
-/// Writes the prices that the labels of a finder are: each trade's less null's.
-fn read_prices(finder: &Finder, prices: &mut Vec<i128>, count: u32)
-    requires counted { length prices.old.items ≡ count }
-    requires labelled { length finder.now.labels ≡ count + 1 }
-    requires small { (t : ℕ) → t < length finder.now.labels → IsAtMost (label_in finder.now.labels t) (2 ^ 100) }
-    ensures one_each { length prices.new.items ≡ count }
-    ensures prices { (t : ℕ) → t < count → price_at prices.new.items t ≡ label_in finder.now.labels t -ℤ label_in finder.now.labels count }
-{
-    for t in 0..count {
-        prices[t as usize] = label_less(finder, t, count);
-    }
 }
 
 /// The set of the first trades.
@@ -127,7 +102,7 @@ impl<const W: usize> Solver<W> {
     {
         self.rounds.admit_all(market, admitted, steps);
         self.rounds.settle(market);
-        read_prices(&self.rounds.finder, &mut self.prices, market.trades());
+        write_differences(&self.rounds.finder, &mut self.prices, market.trades());
     }
 
     /// Finds an equilibrium of the market, at scale 1, within the bounds of `solve_among`.

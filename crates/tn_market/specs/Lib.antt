@@ -2,6 +2,7 @@ pub mod Network
 pub mod NetworkLaws
 pub mod Equilibrium
 pub mod Graph
+pub mod Supported
 pub mod ArcPlaces
 pub mod Admitted
 pub mod Choices

@@ -12,3 +12,4 @@ pub mod PoolLemmas
 pub mod PartLemmas
 pub mod StabilityLemmas
 pub mod BlockLemmas
+pub mod EachLemmas

@@ -1,5 +1,5 @@
 -- Supporting prices are numbers of the nodes that keep every arc of the exchange graph.
-use Rattle.std.proofs.Common.{◌≡◌, ◌≢◌, ℕ, ◌<◌, ◌≤◌, Bool, true, false, if◌then◌else◌, ltb, List, [], ◌∷◌, length, slice_get, Some, None, Option, option_map, refl, sym, ap, ap₂, ◌∙◌, arith, inl, inr, ◌↔◌, ℤ, pos, ◌+ℤ◌, ◌-ℤ◌, neg_ℤ, ◌≤ℤ◌, ◌*ℤ◌}
+use Rattle.std.proofs.Common.{◌*◌, ◌≡◌, ◌≢◌, ℕ, ◌<◌, ◌≤◌, Bool, true, false, if◌then◌else◌, ltb, List, [], ◌∷◌, length, slice_get, Some, None, Option, option_map, refl, sym, ap, ap₂, ◌∙◌, arith, inl, inr, ◌↔◌, ℤ, pos, ◌+ℤ◌, ◌-ℤ◌, neg_ℤ, ◌≤ℤ◌, ◌*ℤ◌}
 use Rattle.std.specs.Prelude.{◌<ℤ◌, IsSome}
 use Rattle.std.proofs.lemmas.Int.{ints}
 use Rattle.std.proofs.lemmas.Bool.{cases_lt, lt-ltb, le-ltb}
@@ -8,7 +8,9 @@ use Rattle.tn_base.specs.Options.{both}
 use Rattle.tn_base.specs.Sets.{has, toggle, sum_over}
 use Rattle.tn_base.specs.Firm.{Firm, HasOwnBundles, payments, plus_sum}
 use Rattle.tn_base.specs.Exchange.{MeetsExchange}
+use Rattle.tn_base.specs.Arcs.{AreSmall}
 use Rattle.tn_base.specs.Walks.{walk_cost, KeepsArcs}
+use Rattle.tn_market.specs.Valued.{IsWorthAtMost}
 use Rattle.tn_base.proofs.SumLemmas.{sum_over-toggle_in, sum_over-toggle_out, times-plus}
 use Rattle.tn_law.specs.Places.{trade_level, level, toggle_at, move, CanRise, CanFall}
 use Rattle.tn_law.proofs.PlaceLemmas.{level-trade, toggle_at-trade, toggle_at-null}
@@ -299,3 +301,18 @@ labels_are_supports firms trades on label network meet possible keeps =
   where
     shift : (pu pv lu lv ln cost : ℤ) → pu ≡ lu -ℤ ln → pv ≡ lv -ℤ ln → lv ≤ℤ (lu +ℤ cost) → pv ≤ℤ (pu +ℤ cost)
     shift pu pv lu lv ln cost u v kept = omega (arith, ints, u, v, kept)
+
+-- no arc costs more than two worths
+pub arcs_small : (firms : List Firm) (trades : List Ends) → IsNetwork firms trades → (bound on : ℕ) → ((f : ℕ) (firm : Firm) → slice_get firms f ≡ Some firm → IsWorthAtMost bound firm)
+    → AreSmall (exchange_arc firms trades on) (2 * bound)
+arcs_small firms trades network bound on within u v cost is =
+    let at = arc_from firms trades network on u v cost is in
+    let loses = loss_parts at.firm _ _ cost at.costs in
+    let first = within at.f at.firm at.is _ loses.first loses.first_is in
+    let second = within at.f at.firm at.is _ loses.second loses.second_is in
+    let first_low = first.low in
+    let first_high = first.high in
+    let second_low = second.low in
+    let second_high = second.high in
+    let sum = loses.cost_is in
+    record { low = omega (arith, ints, first_low, first_high, second_low, second_high, sum); high = omega (arith, ints, first_low, first_high, second_low, second_high, sum) }

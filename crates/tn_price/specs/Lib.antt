@@ -1,2 +1,3 @@
 pub mod Checks
+pub mod Supports
 pub mod Standings

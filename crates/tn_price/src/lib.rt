@@ -1,10 +1,15 @@
-//! The judgement of arrangements. What an equilibrium is stands in `tn_market`; what the judgement says, in `specs/`.
+//! The judgement of arrangements, and prices for sets of trades. What an equilibrium is stands in `tn_market`; what is said,
+//! in `specs/`.
 #![tactic(auto)]
 
 mod check;
 mod firm;
 mod judge;
 mod standing;
+mod supported;
+mod supporting;
 
 pub use check::Check;
 pub use judge::judge_arrangement;
+pub use supported::Support;
+pub use supporting::support;

@@ -1,14 +1,11 @@
-use Rattle.std.proofs.Common.{◌≡◌, ◌+◌, ◌≤◌, ◌<◌, ◌≤ℤ◌, ◌<ℤ◌, ◌∙◌, ap, sym, refl, ℕ, ℤ, pos, Some, arith, length, rules}
-use Rattle.std.specs.Prelude.{All}
+use Rattle.std.proofs.Common.{◌<◌, ◌<ℤ◌, ap, pos, arith, length, rules}
 use Rattle.std.proofs.lemmas.Int.{ints, to_z-of_z}
-use Rattle.std.proofs.lemmas.Option.{none-some, same_Some}
 use Rattle.std.proofs.lemmas.List.Elements.{All-weaker}
 use mir.Syntax.{w128}
 use mir.Val.{SFits}
 use Rattle.tn_cycle.specs.Cells.{cell_at, trail}
-use Rattle.tn_cycle.specs.Searched.{IsSettled}
 use Rattle.tn_cycle.proofs.ReadLemmas.{way-front, length-trail}
-use Rattle.tn_cycle.proofs.SettledLemmas.{settles, led_inside, least_cycle, none_through}
+use Rattle.tn_cycle.proofs.SettledLemmas.{settles, led_inside, least_cycle}
 use Rattle.tn_cycle.proofs.cycles.least_cycle.Goals as goal
 
 pub list_way-requires-clause-listable : goal.list_way-requires-clause-listable

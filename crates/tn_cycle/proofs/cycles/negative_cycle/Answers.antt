@@ -1,4 +1,4 @@
-use Rattle.std.proofs.Common.{◌≡◌, ◌+◌, ◌-◌, ◌<◌, ◌≤◌, ℕ, ℤ, Option, sym, subst, arith, take}
+use Rattle.std.proofs.Common.{◌≡◌, ◌+◌, ◌-◌, ℕ, ℤ, Option, subst, arith, take}
 use Rattle.tn_base.specs.Arcs.{AreBetweenNodes}
 use Rattle.tn_base.specs.Walks.{arcs_among, HasNoNegativeCycle}
 use Rattle.tn_cycle.specs.Graphs.{is_between}

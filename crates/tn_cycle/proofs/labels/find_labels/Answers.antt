@@ -1,14 +1,12 @@
-use Rattle.std.proofs.Common.{◌≡◌, ◌+◌, ◌<◌, ◌^◌, ℕ, ℤ, pos, ◌-ℤ◌, subst, sym, ◌∙◌, arith, length, rules}
-use Rattle.std.specs.Prelude.{unwrap_or}
-use Rattle.std.proofs.lemmas.Int.{ints, to_z-of_z}
+use Rattle.std.proofs.Common.{◌+◌, ◌^◌, ℕ, subst, sym, arith, rules}
+use Rattle.std.proofs.lemmas.Int.{to_z-of_z}
 use mir.Syntax.{w128}
 use mir.Val.{SFits}
-use Rattle.tn_base.specs.Arcs.{IsAtMost}
-use Rattle.tn_cycle.specs.Cells.{HasRoom, cell_at}
+use Rattle.tn_cycle.specs.Cells.{cell_at}
 use Rattle.tn_cycle.specs.Graphs.{with_sink}
 use Rattle.tn_cycle.specs.GraphLaws.{small-with_sink}
 use Rattle.tn_cycle.specs.Searched.{HasNoNegativeCycleOff, IsSettled}
-use Rattle.tn_cycle.specs.Answers.{AreLabels, IsLowest, label_in}
+use Rattle.tn_cycle.specs.Answers.{IsLowest}
 use Rattle.tn_cycle.proofs.GraphLemmas.{none_off_sink}
 use Rattle.tn_cycle.proofs.LabelLemmas.{settled_room, lowest_small, are_labels}
 use Rattle.tn_cycle.proofs.labels.find_labels.Goals as goal

@@ -1,4 +1,4 @@
-use Rattle.std.proofs.Common.{◌≡◌, ℕ, ◌-◌, ◌<◌, ◌∷◌, ◌++◌, length, take}
+use Rattle.std.proofs.Common.{◌≡◌, ◌-◌, ◌<◌, ◌∷◌, ◌++◌, length, take}
 use Rattle.std.specs.Prelude.{All}
 use Rattle.tn_cycle.specs.Cells.{cell_at, trail}
 use Rattle.tn_cycle.proofs.read.list_way.Given as goal

@@ -1,4 +1,4 @@
-use Rattle.std.proofs.Common.{◌≡◌, ◌≢◌, ℕ, ◌<◌}
+use Rattle.std.proofs.Common.{◌≢◌, ℕ, ◌<◌}
 use Rattle.tn_cycle.specs.Cells.{cell_at}
 use Rattle.tn_cycle.proofs.search.has_none_of.Given as goal
 

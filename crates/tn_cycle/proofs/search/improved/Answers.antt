@@ -1,4 +1,4 @@
-use Rattle.std.proofs.Common.{◌≡◌, ◌≢◌, ◌∙◌, ◌<◌, ℕ, sym, subst, arith, length, get_or}
+use Rattle.std.proofs.Common.{◌≡◌, ◌∙◌, ◌<◌, ℕ, sym, subst, arith, get_or}
 use Rattle.std.proofs.lemmas.List.{get_or_default}
 use Rattle.tn_base.specs.Options.{both}
 use Rattle.tn_cycle.specs.Order.{IsUpTo}

@@ -1,4 +1,4 @@
-use Rattle.std.proofs.Common.{◌≡◌, ◌≢◌, ℕ, ◌<◌, length}
+use Rattle.std.proofs.Common.{◌≢◌, ℕ, ◌<◌}
 use Rattle.tn_cycle.specs.Cells.{cell_at}
 use Rattle.tn_cycle.proofs.Rounds.{IsRound}
 use Rattle.tn_cycle.proofs.search.search.Given as goal

@@ -1,4 +1,5 @@
-use Rattle.tn_flow.proofs.RoundLemmas.{meet_all, kept_start}
+use Rattle.tn_flow.proofs.RoundLemmas.{kept_start}
+use Rattle.tn_network.proofs.EachLemmas.{meet_all}
 use Rattle.tn_flow.proofs.rounds.know.Goals as goal
 
 pub returns-clause-meet : goal.returns-clause-meet

@@ -1,4 +1,4 @@
-use Rattle.std.proofs.Common.{◌≡◌, ◌+◌, ◌<◌, ◌≤◌, ◌∙◌, ℕ, ℤ, List, sym, ap, subst, refl, arith, length, true}
+use Rattle.std.proofs.Common.{◌≡◌, ◌+◌, ◌∙◌, ℕ, List, sym, ap, subst, refl, arith, length, true}
 use Rattle.tn_base.specs.Arcs.{AreBetweenNodes}
 use Rattle.tn_cycle.specs.declared.cell.Cell.{Cell}
 use Rattle.tn_cycle.specs.Cells.{cell_at}

@@ -2,7 +2,7 @@ use Rattle.std.proofs.Common.{◌≡◌, ℕ, ◌<◌, ◌≤◌, ◌-ℤ◌, �
 use Rattle.tn_cycle.specs.Answers.{label_in}
 use Rattle.tn_market.specs.Best.{price_at}
 use Rattle.tn_flow.specs.Solved.{IsSolution}
-use Rattle.tn_flow.proofs.RoundLemmas.{meet_all}
+use Rattle.tn_network.proofs.EachLemmas.{meet_all}
 use Rattle.tn_flow.proofs.SolverLemmas.{small_bound, labels_small, solution_from, prices_within}
 use Rattle.tn_flow.proofs.solver.Solver.solve_among.Goals as goal
 
@@ -28,8 +28,8 @@ admit_all-requires g c =
       ),
     )
 
-pub read_prices-requires-clause-small : goal.read_prices-requires-clause-small
-read_prices-requires-clause-small g c =
+pub write_differences-requires-clause-small : goal.write_differences-requires-clause-small
+write_differences-requires-clause-small g c =
     labels_small (map g.V.Valuation.firm c.args.market.now.firms) c.args.market.now.trades c.admit_all.new.self.graph c.admit_all.new.self.finder c.admit_all.new.self.allowed c.admit_all.new.self.on
     c.settle.new.self.finder.labels c.admit_all.ensures.under_way (subst (λ (n : ℕ). n ≤ 1024) c.trades.ensures.count c.trades.ensures.few) c.settle.ensures.labels
 
@@ -41,17 +41,17 @@ read prices labels n count same each = subst (λ (m : ℕ). (t : ℕ) → t < m 
 pub returns-clause-solution : goal.returns-clause-solution
 returns-clause-solution g c =
     let count = c.trades.ensures.count in
-    subst (λ (x : ℕ). IsSolution (map g.V.Valuation.firm c.args.market.now.firms) c.args.market.now.trades c.args.admitted.now (record { on = x; prices = c.read_prices.new.prices.items }))
+    subst (λ (x : ℕ). IsSolution (map g.V.Valuation.firm c.args.market.now.firms) c.args.market.now.trades c.args.admitted.now (record { on = x; prices = c.write_differences.new.into.items }))
     (sym c.settle.ensures.on)
     (solution_from (map g.V.Valuation.firm c.args.market.now.firms) c.args.market.now.trades c.admit_all.new.self.graph c.admit_all.new.self.finder c.admit_all.new.self.allowed c.args.admitted.now
-    c.admit_all.new.self.on c.settle.new.self.finder.labels c.read_prices.new.prices.items c.trades.ensures.network
+    c.admit_all.new.self.on c.settle.new.self.finder.labels c.write_differences.new.into.items c.trades.ensures.network
     (meet_all g.V.Valuation.firm c.args.market.now.firms g.met.V.Valuation.own_bundles g.met.V.Valuation.exchange_one g.met.V.Valuation.exchange_net)
-    c.admit_all.ensures.under_way c.admit_all.ensures.admitted c.settle.ensures.labels (c.read_prices.ensures.one_each ∙ count)
-    (read c.read_prices.new.prices.items c.settle.new.self.finder.labels c.trades.result (length c.args.market.now.trades) count c.read_prices.ensures.prices))
+    c.admit_all.ensures.under_way c.admit_all.ensures.admitted c.settle.ensures.labels (c.write_differences.ensures.one_each ∙ count)
+    (read c.write_differences.new.into.items c.settle.new.self.finder.labels c.trades.result (length c.args.market.now.trades) count c.write_differences.ensures.each))
 
 pub returns-clause-prices : goal.returns-clause-prices
 returns-clause-prices g c =
     let count = c.trades.ensures.count in
     prices_within g.V.Valuation.firm g.V.Valuation.limit c.args.market.now.firms c.args.market.now.trades c.admit_all.new.self.allowed c.admit_all.new.self.on
-    c.settle.new.self.finder.labels c.read_prices.new.prices.items c.trades.ensures.network g.met.V.Valuation.within c.settle.ensures.labels (c.read_prices.ensures.one_each ∙ count)
-    (read c.read_prices.new.prices.items c.settle.new.self.finder.labels c.trades.result (length c.args.market.now.trades) count c.read_prices.ensures.prices)
+    c.settle.new.self.finder.labels c.write_differences.new.into.items c.trades.ensures.network g.met.V.Valuation.within c.settle.ensures.labels (c.write_differences.ensures.one_each ∙ count)
+    (read c.write_differences.new.into.items c.settle.new.self.finder.labels c.trades.result (length c.args.market.now.trades) count c.write_differences.ensures.each)

@@ -4,7 +4,7 @@ use Rattle.tn_base.specs.Sets.{has, set_of}
 use Rattle.tn_base.proofs.SetLemmas.{has-set_of}
 use Rattle.tn_market.specs.Best.{price_at}
 use Rattle.tn_network.proofs.KeptLemmas.{one_cycle_for_each_trade}
-use Rattle.tn_flow.proofs.RoundLemmas.{meet_all}
+use Rattle.tn_network.proofs.EachLemmas.{meet_all}
 use Rattle.tn_flow.proofs.solver.Solver.solve_in.Goals as goal
 
 -- a member of the set of the first trades is one of them, and each of them is a member

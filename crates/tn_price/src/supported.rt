@@ -1,0 +1,23 @@
+use tn_market::{Nodes, Prices};
+
+/// What may be said of a set of trades for which prices are wanted.
+#[derive(Debug, Drop)]
+pub enum Support {
+    /// With these prices, one for each trade, the set is an equilibrium.
+    Supported {
+        /// The prices by trade number.
+        prices: Prices,
+    },
+    /// Some firm's bundle of the set is impossible.
+    Impossible {
+        /// The first such firm.
+        firm: u32,
+    },
+    /// No prices support the set, since toggling the trades along this cycle of the exchange graph would do better.
+    Cycle {
+        /// Its nodes, in order.
+        nodes: Nodes,
+        /// The sum of its arcs' costs, below 0.
+        cost: i128,
+    },
+}

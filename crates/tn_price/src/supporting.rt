@@ -1,0 +1,141 @@
+//! Prices for a set of trades.
+
+ghost use Rattle.std.specs.Prelude.{◌≡◌, ℕ, ◌+◌, ◌*◌, ◌≤◌, ◌<◌, ◌^◌, ◌-ℤ◌, length, map, slice_get, Some, IfOk, is_none};
+ghost use Rattle.tn_base.specs.Arcs.{IsAtMost};
+ghost use Rattle.tn_base.specs.Firm.{Firm};
+ghost use Rattle.tn_cycle.specs.Answers.{label_in};
+ghost use Rattle.tn_market.specs.Best.{price_at};
+ghost use Rattle.tn_market.specs.Graph.{graph_worths, ArePossible};
+ghost use Rattle.tn_market.specs.Network.{part};
+ghost use Rattle.tn_market.specs.Supported.{said_node};
+ghost use Rattle.tn_price.specs.Supports.{Supports, FindsUnable, IsPricedWithin};
+
+use crate::supported::Support;
+use std::alloc::Global;
+use tn_base::{OutOfMemory, Steps, TradeSet};
+use tn_cycle::{Finder, Labels, write_differences};
+use tn_graph::Graph;
+use tn_market::{Market, Nodes, Prices, Valuation};
+
+/// Whether firm `f` can't have its bundle of the set. It asks for one worth.
+fn is_unable<V: Valuation, const W: usize>(
+    market: &Market<V>,
+    on: &TradeSet<W>,
+    f: u32,
+    steps: &mut Steps<V::Mark>,
+) -> bool
+    requires width { W ≤ 16 }
+    requires wide { length market.now.trades ≤ 64 * W }
+    requires firm { f < length market.now.firms }
+    ensures found { (firm : Firm) → slice_get (map V.firm market.now.firms) f ≡ Some firm → result ≡ is_none (firm.worth (part market.now.trades f firm.count on.now)) }
+    ensures asked { steps.new ≡ steps.old + 1 }
+{
+    let bundle = market.bundle_of(f, on);
+    market.firm(f).value(bundle, steps).is_none()
+}
+
+/// The first firm whose bundle of the set is impossible, if there is one. It asks each firm for one worth at most.
+fn first_unable<V: Valuation, const W: usize>(
+    market: &Market<V>,
+    on: &TradeSet<W>,
+    steps: &mut Steps<V::Mark>,
+) -> Option<u32>
+    requires width { W ≤ 16 }
+    requires wide { length market.now.trades ≤ 64 * W }
+    ensures found { FindsUnable (map V.firm market.now.firms) market.now.trades on.now result }
+    ensures asked { steps.new ≤ steps.old + length market.now.firms }
+{
+    for f in 0..market.firms() {
+        if is_unable(market, on, f, steps) {
+            return Some(f);
+        }
+    }
+    None
+}
+
+/// The prices that the labels of a finder are. It fails only where memory runs out.
+fn prices_from(alloc: Global, finder: &Finder, trades: u32) -> Result<Prices, OutOfMemory>
+    requires few { trades ≤ 1024 }
+    requires labelled { length finder.now.labels ≡ trades + 1 }
+    requires small { (v : ℕ) → v < length finder.now.labels → IsAtMost (label_in finder.now.labels v) (2 ^ 100) }
+    ensures one_each { IfOk result (λ prices. length prices ≡ trades) }
+    ensures each { IfOk result (λ prices. (t : ℕ) → t < trades → price_at prices t ≡ label_in finder.now.labels t -ℤ label_in finder.now.labels trades) }
+{
+    let mut prices = vec![in alloc; 0; trades as usize]?;
+    write_differences(finder, &mut prices, trades);
+    Ok(Prices::from_vec(prices))
+}
+
+/// A node as it is said: the null node as none.
+fn said_node(node: u32, null: u32) -> Option<u32>
+    ensures { result ≡ said_node null node }
+{
+    if node == null { None } else { Some(node) }
+}
+
+/// The nodes of the cycle that a finder has found. It fails only where memory runs out.
+fn nodes_from(alloc: Global, finder: &Finder, count: u32, null: u32) -> Result<Nodes, OutOfMemory>
+    requires counted { count ≡ length finder.now.listed }
+    ensures { IfOk result (λ nodes. nodes ≡ map (said_node null) finder.now.listed) }
+{
+    let mut nodes = Vec::with_capacity(alloc, count as usize)?;
+    for k in 0..count {
+        nodes.push(said_node(finder.at(k), null))?;
+    }
+    Ok(Nodes::from_vec(nodes))
+}
+
+/// What the labels of the exchange graph say, where all bundles are possible.
+fn support_by_labels<V: Valuation, const W: usize>(
+    alloc: Global,
+    market: &Market<V>,
+    on: &TradeSet<W>,
+    steps: &mut Steps<V::Mark>,
+) -> Result<Support, OutOfMemory>
+    requires width { W ≤ 16 }
+    requires wide { length market.now.trades ≤ 64 * W }
+    requires small { (f : ℕ) (v : V) → slice_get market.now.firms f ≡ Some v → 2 * V.limit v ≤ 10 ^ 18 }
+    requires possible { ArePossible (map V.firm market.now.firms) market.now.trades on.now }
+    ensures answer { IfOk result (Supports (map V.firm market.now.firms) market.now.trades on.now) }
+    ensures prices { (bound : ℕ) → ((f : ℕ) (v : V) → slice_get market.now.firms f ≡ Some v → V.limit v ≤ bound)
+        → IfOk result (IsPricedWithin (2 * bound * length market.now.trades)) }
+    ensures asked { steps.new ≤ steps.old + graph_worths (map V.firm market.now.firms) }
+{
+    let trades = market.trades();
+    let mut graph = Graph::new(alloc, trades + 1)?;
+    let mut finder = Finder::new(alloc, trades + 1)?;
+    graph.fill(market, on, steps);
+    match finder.labels(&graph) {
+        Labels::Feasible => Ok(Support::Supported {
+            prices: prices_from(alloc, &finder, trades)?,
+        }),
+        Labels::Negative { cost, length } => Ok(Support::Cycle {
+            nodes: nodes_from(alloc, &finder, length, trades)?,
+            cost,
+        }),
+    }
+}
+
+/// Prices that support a set of trades, exactly where there are any: with them each firm's bundle of the set is best.
+/// Otherwise the first firm whose bundle is impossible; or, where all are possible, a cycle of the exchange graph of
+/// negative cost (Candogan, Epitropou and Vohra, 2021). It asks for at most two worths for each two places of each firm,
+/// and fails only where memory runs out.
+pub fn support<V: Valuation, const W: usize>(
+    alloc: Global,
+    market: &Market<V>,
+    on: &TradeSet<W>,
+    steps: &mut Steps<V::Mark>,
+) -> Result<Support, OutOfMemory>
+    requires width { W ≤ 16 }
+    requires wide { length market.now.trades ≤ 64 * W }
+    requires small { (f : ℕ) (v : V) → slice_get market.now.firms f ≡ Some v → 2 * V.limit v ≤ 10 ^ 18 }
+    ensures answer { IfOk result (Supports (map V.firm market.now.firms) market.now.trades on.now) }
+    ensures prices { (bound : ℕ) → ((f : ℕ) (v : V) → slice_get market.now.firms f ≡ Some v → V.limit v ≤ bound)
+        → IfOk result (IsPricedWithin (2 * bound * length market.now.trades)) }
+    ensures asked { steps.new ≤ steps.old + 2 * graph_worths (map V.firm market.now.firms) }
+{
+    match first_unable(market, on, steps) {
+        Some(firm) => Ok(Support::Impossible { firm }),
+        None => support_by_labels(alloc, market, on, steps),
+    }
+}
