@@ -13,7 +13,7 @@ use Rattle.tn_cycle.specs.declared.cell.Cell.{Cell}
 use Rattle.tn_cycle.specs.Order.{IsUpTo}
 use Rattle.tn_cycle.specs.Cells.{HasRoom, trail}
 use Rattle.tn_cycle.specs.Graphs.{with_sink}
-use Rattle.tn_cycle.specs.GraphLaws.{some_if, between-with_sink}
+use Rattle.tn_cycle.specs.GraphLaws.{small-with_sink, some_if, between-with_sink}
 use Rattle.tn_cycle.specs.Searched.{IsSettled}
 use Rattle.tn_cycle.specs.Answers.{AreLabels, IsLowest, label_in}
 use Rattle.tn_cycle.proofs.OrderLemmas.{parts}
@@ -39,7 +39,7 @@ none_negative_kept arc label keeps u vs cost walk =
     let round : label u ≤ℤ (label u +ℤ cost) = walk_kept arc label keeps u vs u cost walk in omega (arith, ints, round)
 
 -- the costs of settled cells are far from the limits of their type
-pub settled_room : (nodes : ℕ) (arc : ℕ → ℕ → Option ℤ) (end : ℕ) (cell : ℕ → Cell) → AreSmall arc (10 ^ 18) → nodes ≤ 1026 → IsSettled nodes arc end cell
+settled_room : (nodes : ℕ) (arc : ℕ → ℕ → Option ℤ) (end : ℕ) (cell : ℕ → Cell) → AreSmall arc (10 ^ 18) → nodes ≤ 1026 → IsSettled nodes arc end cell
     → HasRoom nodes cell
 settled_room nodes arc end cell small few found v inside cost is =
     let whole = walk_small arc (10 ^ 18) small v (trail cell (cell v).round v) end cost (found.leads v inside ∙ is) in
@@ -49,6 +49,13 @@ settled_room nodes arc end cell small few found v inside cost is =
       low = omega (arith, ints, whole.low, size, short, few);
       high = omega (arith, ints, whole.high, size, short, few);
     }
+
+-- what a search to the sink found, however the sink is written, and the room that its costs leave
+pub sunk_at : (nodes sink : ℕ) (arc : ℕ → ℕ → Option ℤ) (cell : ℕ → Cell) → AreSmall arc (10 ^ 18) → nodes ≤ 1025 → sink ≡ nodes
+    → IsSettled (nodes + 1) (with_sink nodes arc) sink cell → IsSettled (nodes + 1) (with_sink nodes arc) nodes cell × HasRoom (nodes + 1) cell
+sunk_at nodes sink arc cell small few same settled =
+    let found : IsSettled (nodes + 1) (with_sink nodes arc) nodes cell = subst (λ (k : ℕ). IsSettled (nodes + 1) (with_sink nodes arc) k cell) same settled in
+    (found, settled_room (nodes + 1) (with_sink nodes arc) nodes cell (small-with_sink nodes (10 ^ 18) arc small) (omega (arith, few)) found)
 
 -- a walk to the sink, by the number of its arcs before the last
 sunk_low : (nodes : ℕ) (arc : ℕ → ℕ → Option ℤ) (limit : ℕ) → AreSmall arc limit → (v : ℕ) (ws : List ℕ) (cost : ℤ) → Avoids nodes ws

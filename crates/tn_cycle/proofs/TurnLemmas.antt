@@ -1,5 +1,5 @@
 -- Walks in the graph turned round.
-use Rattle.std.proofs.Common.{◌≡◌, ◌≢◌, ℕ, ◌<◌, refl, sym, ap, ◌∙◌, subst, arith, inl, inr, List, [], ◌∷◌, ◌++◌, ℤ, pos, ◌≤ℤ◌, Option, Some, None, true, false}
+use Rattle.std.proofs.Common.{◌≡◌, ◌≢◌, ℕ, ◌<◌, refl, sym, ap, ◌∙◌, subst, arith, inl, inr, List, [], ◌∷◌, ◌++◌, ℤ, pos, ◌≤ℤ◌, Option, Some, None, true, false, Bool}
 use Rattle.std.specs.Prelude.{reverse}
 use Rattle.std.proofs.lemmas.Int.{ints}
 use Rattle.std.proofs.lemmas.Bool.{cases_eq}
@@ -14,7 +14,7 @@ use Rattle.tn_cycle.specs.Cells.{trail}
 use Rattle.tn_cycle.specs.Graphs.{turned}
 use Rattle.tn_cycle.specs.Searched.{IsSettled}
 use Rattle.tn_cycle.specs.Reading.{walk_nodes}
-use Rattle.tn_cycle.specs.Answers.{LeadsLeast}
+use Rattle.tn_cycle.specs.Answers.{LeadsAlong, LeadsLeast}
 use Rattle.tn_cycle.proofs.OrderLemmas.{both-comm, up_to-trans}
 use Rattle.tn_cycle.proofs.WalkLemmas.{AreApart, found_or_not, walk_parts, walk_cost-through, avoids-cons, avoids-head, avoids-tail, avoids-append, different_from_apart}
 use Rattle.tn_cycle.proofs.SettledLemmas.{led_apart, led_once}
@@ -90,7 +90,7 @@ module _ (nodes : ℕ) (arc : ℕ → ℕ → Option ℤ) (end : ℕ) (cell : �
   apart_inside : (v : ℕ) (cost : ℤ) → v < nodes → (cell v).cost ≡ Some cost → AreApart (trail cell (cell v).round v)
   apart_inside v cost inside is = led_apart nodes arc end cell between (λ u vs z _ _ walk. none u vs z walk) found v cost inside is
 
-  pub leads_to : (v : ℕ) → v < nodes → LeadsLeast arc v end (walk_nodes false end cell v) (cell v).cost
+  leads_to : (v : ℕ) → v < nodes → LeadsLeast arc v end (walk_nodes false end cell v) (cell v).cost
   unfolding AreApart
   leads_to v inside = by (cell v).cost refl
     where
@@ -105,7 +105,7 @@ module _ (nodes : ℕ) (arc : ℕ → ℕ → Option ℤ) (end : ℕ) (cell : �
       }
 
   -- the same walks in the graph turned round
-  pub leads_from : (v : ℕ) → v < nodes → LeadsLeast (turned arc) end v (walk_nodes true end cell v) (cell v).cost
+  leads_from : (v : ℕ) → v < nodes → LeadsLeast (turned arc) end v (walk_nodes true end cell v) (cell v).cost
   unfolding AreApart
   leads_from v inside = by (cell v).cost refl
     where
@@ -127,3 +127,7 @@ module _ (nodes : ℕ) (arc : ℕ → ℕ → Option ℤ) (end : ℕ) (cell : �
             different = different_from_apart (end ∷ reverse inner) (avoids-reverse end inner (found.avoids v inside), apart-reverse inner (apart_inside v cost inside e));
             ends = avoids-reverse v inner (apart_from_begin v cost inside e);
           }
+
+  pub leads_along : (turns : Bool) (v : ℕ) → v < nodes → LeadsAlong turns arc v end (walk_nodes turns end cell v) (cell v).cost
+  leads_along false = leads_to
+  leads_along true = leads_from

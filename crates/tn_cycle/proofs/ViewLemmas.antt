@@ -8,14 +8,12 @@ use Rattle.tn_base.specs.Walks.{HasNoNegativeCycle}
 use Rattle.tn_cycle.specs.declared.cell.Cell.{Cell}
 use Rattle.tn_cycle.specs.declared.finder.Finder.TheInside.{Inside}
 use Rattle.tn_cycle.specs.Cells.{cell_at, trail}
-use Rattle.tn_cycle.specs.Graphs.{turned}
-use Rattle.tn_cycle.specs.GraphLaws.{between-turned}
 use Rattle.tn_cycle.specs.Searched.{IsSettled}
 use Rattle.tn_cycle.specs.Reading.{HasPlaces, IsListable, Reading, reading_of, walk_nodes}
-use Rattle.tn_cycle.specs.Answers.{LeadsLeast, distance_in, walk_in}
+use Rattle.tn_cycle.specs.Answers.{LeadsAlong, distance_in, walk_in}
 use Rattle.tn_cycle.proofs.ReadLemmas.{front-written}
 use Rattle.tn_cycle.proofs.SettledLemmas.{led_inside}
-use Rattle.tn_cycle.proofs.TurnLemmas.{leads_to, leads_from, none_negative-turned}
+use Rattle.tn_cycle.proofs.TurnLemmas.{leads_along}
 
 -- a list that was lent whole and written is what was written
 pub written-back : {A : Type 0} (written old : List A) (places : ℕ) → length written ≡ places → take places (written ++ drop (length written) old) ≡ written
@@ -61,39 +59,30 @@ listable_all nodes arc end row between none found places v inside =
           (led_inside nodes arc end (cell_at row) between (λ u vs z _ _ walk. none u vs z walk) found v inside);
     }
 
--- what is read after a search to a node
-pub reads_to : (nodes : ℕ) (arc : ℕ → ℕ → Option ℤ) (end : ℕ) (path : List ℕ) (labels : List ℤ) (row : List Cell) → AreBetweenNodes nodes arc → HasNoNegativeCycle arc
-    → IsSettled nodes arc end (cell_at row) → (v : ℕ) → v < nodes
-    → LeadsLeast arc v end (walk_in (reading_of nodes 0 path 0 labels nodes false end row) v) (distance_in (reading_of nodes 0 path 0 labels nodes false end row) v)
-reads_to nodes arc end path labels row between none found v inside =
-    let reading = reading_of nodes 0 path 0 labels nodes false end row in
-    subst (λ (xs : List ℕ). LeadsLeast arc v end xs (distance_in reading v)) (sym (walk-read nodes 0 path 0 labels nodes false end row v inside))
-    (subst (LeadsLeast arc v end (walk_nodes false end (cell_at row) v)) (sym (distance-read nodes 0 path 0 labels nodes false end row v inside))
-    (leads_to nodes arc end (cell_at row) between none found v inside))
+-- what is read after a search
+pub reads_along : (turns : Bool) (nodes : ℕ) (arc : ℕ → ℕ → Option ℤ) (end : ℕ) (path : List ℕ) (labels : List ℤ) (row : List Cell) → AreBetweenNodes nodes arc
+    → HasNoNegativeCycle arc → IsSettled nodes arc end (cell_at row) → (v : ℕ) → v < nodes
+    → LeadsAlong turns arc v end (walk_in (reading_of nodes 0 path 0 labels nodes turns end row) v) (distance_in (reading_of nodes 0 path 0 labels nodes turns end row) v)
+reads_along turns nodes arc end path labels row between none found v inside =
+    let reading = reading_of nodes 0 path 0 labels nodes turns end row in
+    subst (λ (xs : List ℕ). LeadsAlong turns arc v end xs (distance_in reading v)) (sym (walk-read nodes 0 path 0 labels nodes turns end row v inside))
+    (subst (LeadsAlong turns arc v end (walk_nodes turns end (cell_at row) v)) (sym (distance-read nodes 0 path 0 labels nodes turns end row v inside))
+    (leads_along nodes arc end (cell_at row) between none found turns v inside))
 
--- and after a search from it
-pub reads_from : (nodes : ℕ) (arc : ℕ → ℕ → Option ℤ) (end : ℕ) (path : List ℕ) (labels : List ℤ) (row : List Cell) → AreBetweenNodes nodes arc → HasNoNegativeCycle arc
-    → IsSettled nodes (turned arc) end (cell_at row) → (v : ℕ) → v < nodes
-    → LeadsLeast arc end v (walk_in (reading_of nodes 0 path 0 labels nodes true end row) v) (distance_in (reading_of nodes 0 path 0 labels nodes true end row) v)
-reads_from nodes arc end path labels row between none found v inside =
-    let reading = reading_of nodes 0 path 0 labels nodes true end row in
-    subst (λ (xs : List ℕ). LeadsLeast arc end v xs (distance_in reading v)) (sym (walk-read nodes 0 path 0 labels nodes true end row v inside))
-    (subst (LeadsLeast arc end v (walk_nodes true end (cell_at row) v)) (sym (distance-read nodes 0 path 0 labels nodes true end row v inside))
-    (leads_from nodes (turned arc) end (cell_at row) (between-turned nodes arc between) (none_negative-turned arc none) found v inside))
-
--- the finder has places for all walks after a search
-pub places_after : (nodes count labelled reached path labels row_places after_places : ℕ) (row new : List Cell)
-    → HasPlaces nodes count labelled reached path labels row_places after_places row → ((v : ℕ) → v < nodes → IsListable (nodes + 2) new v)
-    → HasPlaces nodes 0 0 nodes path labels row_places after_places new
-places_after nodes count labelled reached path labels row_places after_places row new had listable = record {
+-- the finder keeps its places where others of its cells may be read
+pub places_kept : (nodes count labelled reached path labels row_places after_places : ℕ) (row : List Cell) (count' labelled' reached' : ℕ) (row' : List Cell)
+    → HasPlaces nodes count labelled reached path labels row_places after_places row → count' ≤ nodes + 2 → labelled' ≤ nodes → reached' ≤ nodes
+    → ((v : ℕ) → v < reached' → IsListable (nodes + 2) row' v)
+    → HasPlaces nodes count' labelled' reached' path labels row_places after_places row'
+places_kept nodes count labelled reached path labels row_places after_places row count' labelled' reached' row' had few few_labels few_walks listable = record {
   some = had.some;
   not_many = had.not_many;
   row_sized = had.row_sized;
   after_sized = had.after_sized;
   path_sized = had.path_sized;
   labels_sized = had.labels_sized;
-  listed = omega arith;
-  labels_read = omega arith;
-  walks_read = omega arith;
+  listed = few;
+  labels_read = few_labels;
+  walks_read = few_walks;
   listable = listable;
 }

@@ -1,5 +1,5 @@
 -- What the searches answer.
-use Rattle.std.specs.Prelude.{◌≡◌, ℕ, ◌+◌, ◌-◌, ◌*◌, ◌<◌, ◌≤◌, ◌⊎◌, ℤ, pos, neg_ℤ, ◌≤ℤ◌, ◌<ℤ◌, List, [], ◌∷◌, ◌++◌, length, All, Option, Some, None, slice_index_or, unwrap_or}
+use Rattle.std.specs.Prelude.{◌≡◌, ℕ, ◌+◌, ◌-◌, ◌*◌, ◌<◌, ◌≤◌, ◌⊎◌, ℤ, pos, neg_ℤ, ◌≤ℤ◌, ◌<ℤ◌, List, [], ◌∷◌, ◌++◌, length, All, Option, Some, None, slice_index_or, unwrap_or, Bool, true, false}
 use Rattle.tn_base.specs.Arcs.{AreSmall}
 use Rattle.tn_base.specs.Walks.{AreDifferent, Avoids, CyclesCostAtLeast, HasNoNegativeCycle, IsCycle, IsLeastCycle, KeepsArcs, IsLeastWalk, IsUnreached}
 use Rattle.tn_cycle.specs.declared.cell.Cell.{Cell}
@@ -7,6 +7,7 @@ use Rattle.tn_cycle.specs.declared.answer.Path.{Path}
 use Rattle.tn_cycle.specs.declared.answer.Path.TheVariants as path
 use Rattle.tn_cycle.specs.declared.answer.Labels.{Labels}
 use Rattle.tn_cycle.specs.declared.answer.Labels.TheVariants.{Feasible, Negative}
+use Rattle.tn_cycle.specs.Graphs.{turned}
 use Rattle.tn_cycle.specs.Reading.{Reading}
 
 -- the listed nodes are a least cycle from the node, of negative cost
@@ -75,6 +76,11 @@ pub record IsLeastPath (arc : ℕ → ℕ → Option ℤ) (u w : ℕ) (listed : 
 abbrev pub LeadsLeast : (ℕ → ℕ → Option ℤ) → ℕ → ℕ → List ℕ → Option ℤ → Type 0
 LeadsLeast arc u w listed None = IsUnreached arc u w
 LeadsLeast arc u w listed (Some cost) = IsLeastPath arc u w listed cost
+
+-- the same of walks from v to the end, or of the walks from the end to v in the graph turned round
+abbrev pub LeadsAlong : Bool → (ℕ → ℕ → Option ℤ) → ℕ → ℕ → List ℕ → Option ℤ → Type 0
+LeadsAlong false arc v end listed distance = LeadsLeast arc v end listed distance
+LeadsAlong true arc v end listed distance = LeadsLeast (turned arc) end v listed distance
 
 -- the least cost for a node, and its walk
 abbrev pub distance_in : Reading → ℕ → Option ℤ

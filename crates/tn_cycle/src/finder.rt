@@ -53,7 +53,7 @@ impl Model for Finder {
 
 impl Finder {
     ghost use Rattle.tn_cycle.specs.Reading.{ListsNoWalks, ListsOnly, ReadsWalks, nothing};
-    ghost use Rattle.tn_cycle.specs.Answers.{AnswersCycle, AnswersLabels, LeadsLeast, distance_in, walk_in};
+    ghost use Rattle.tn_cycle.specs.Answers.{AnswersCycle, AnswersLabels, LeadsAlong, LeadsLeast, distance_in, walk_in};
 
     /// A finder for graphs of so many nodes, at least 1 and at most 1,025. Nothing may be read yet. It takes all memory
     /// that the searches need, and refuses where that isn't there.
@@ -174,6 +174,22 @@ impl Finder {
         self.labels[v as usize]
     }
 
+    /// Finds the least walks to a node, which are said to be turned round or not.
+    fn least_walks<C: Costs>(&mut self, costs: &C, node: u32, turns: bool)
+        requires sized { C.node_count costs.now ≡ self.old.nodes }
+        requires inside { node < self.old.nodes }
+        requires none_negative { HasNoNegativeCycle (C.arc costs.now) }
+        ensures walks { (v : ℕ) → v < self.old.nodes → LeadsAlong turns (C.arc costs.now) v node (walk_in self.new v) (distance_in self.new v) }
+        ensures rest { ReadsWalks self.old.nodes self.new }
+    {
+        self.count = 0;
+        self.labelled = 0;
+        search(costs, node, &mut self.row, &mut self.after, &mut self.path);
+        self.reached = self.nodes;
+        self.turns = turns;
+        self.end = node;
+    }
+
     /// Finds, from each node, a walk to the given one of least cost, in which no node stands twice but for the two ends,
     /// where they are one: a walk from the node to itself has at least one arc too. No cycle may be negative.
     pub fn least_to<C: Costs>(&mut self, costs: &C, node: u32)
@@ -183,12 +199,7 @@ impl Finder {
         ensures walks { (v : ℕ) → v < self.old.nodes → LeadsLeast (C.arc costs.now) v node (walk_in self.new v) (distance_in self.new v) }
         ensures rest { ReadsWalks self.old.nodes self.new }
     {
-        self.count = 0;
-        self.labelled = 0;
-        search(costs, node, &mut self.row, &mut self.after, &mut self.path);
-        self.reached = self.nodes;
-        self.turns = false;
-        self.end = node;
+        self.least_walks(costs, node, false);
     }
 
     /// Finds, to each node, a walk from the given one of least cost, in which no node stands twice but for the two ends,
@@ -200,18 +211,7 @@ impl Finder {
         ensures walks { (v : ℕ) → v < self.old.nodes → LeadsLeast (C.arc costs.now) node v (walk_in self.new v) (distance_in self.new v) }
         ensures rest { ReadsWalks self.old.nodes self.new }
     {
-        self.count = 0;
-        self.labelled = 0;
-        search(
-            &Turned { costs },
-            node,
-            &mut self.row,
-            &mut self.after,
-            &mut self.path,
-        );
-        self.reached = self.nodes;
-        self.turns = true;
-        self.end = node;
+        self.least_walks(&Turned { costs }, node, true);
     }
 
     /// The least cost of a walk between the node and the one asked for, None where there is no walk. The last search was

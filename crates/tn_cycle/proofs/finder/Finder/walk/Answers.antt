@@ -5,7 +5,7 @@ use Rattle.tn_cycle.specs.Cells.{cell_at}
 use Rattle.tn_cycle.specs.Reading.{IsListable, Reading, reading_of, walk_nodes}
 use Rattle.tn_cycle.specs.Answers.{walk_in}
 use Rattle.tn_cycle.proofs.ReadLemmas.{front-written}
-use Rattle.tn_cycle.proofs.ViewLemmas.{walk-read, reached-read}
+use Rattle.tn_cycle.proofs.ViewLemmas.{places_kept, walk-read, reached-read}
 use Rattle.tn_cycle.proofs.finder.Finder.walk.Goals as goal
 
 pub list_walk-self-inside-requires-clause-inside : goal.list_walk-self-inside-requires-clause-inside
@@ -31,18 +31,8 @@ invariant_of-self c =
     let listable = had.listable c.args.v (omega (arith, many, c.requires.inside)) in
     let counted : c.list_walk-self-inside.result ≡ (cell_at f.row.items c.args.v).round + 2 =
     c.list_walk-self-inside.ensures.count ∙ ap (λ (row : List Cell). (cell_at row c.args.v).round + 2) c.deref.ensures.value in
-    record {
-      some = had.some;
-      not_many = had.not_many;
-      row_sized = had.row_sized;
-      after_sized = had.after_sized;
-      path_sized = had.path_sized;
-      labels_sized = had.labels_sized;
-      listed = omega (arith, listable.few, counted);
-      labels_read = had.labels_read;
-      walks_read = had.walks_read;
-      listable = had.listable;
-    }
+    places_kept f.nodes _ _ _ _ _ _ _ f.row.items c.list_walk-self-inside.result f.labelled f.reached f.row.items had (omega (arith, listable.few, counted))
+    had.labels_read had.walks_read had.listable
 
 pub returns-clause-listed : goal.returns-clause-listed
 returns-clause-listed c =
