@@ -5,7 +5,7 @@ ghost use Rattle.tn_cycle.specs.Searched.{HasNoNegativeCycleOff};
 use crate::answer::{Labels, Path};
 use crate::cell::Cell;
 use crate::cycles::{least_cycle, negative_cycle};
-use crate::graphs::{Looked, Turned};
+use crate::graphs::{Admitted, Looked, Turned};
 use crate::labels::find_labels;
 use crate::read::list_walk;
 use crate::search::search;
@@ -19,7 +19,8 @@ use tn_base::{Costs, OutOfMemory, TradeSet};
 /// `through` finds a least cycle through a trade, `labels` finds numbers of the nodes that keep all arcs or a negative
 /// cycle, and `least_to` and `least_from` find least walks. Then `at` reads the nodes of a cycle; `label` reads labels;
 /// `distance` reads the least cost for a node, and `walk` lists the nodes of its walk, which `at` reads. A search
-/// forgets what the one before it found. No search and no reader takes memory or refuses.
+/// forgets what the one before it found. A graph that is searched has as many nodes as the finder was made for. No
+/// search and no reader takes memory or refuses.
 ///
 /// Contracts see what may be read: the nodes that `at` reads, the labels, the distances and their walks.
 #[derive(Drop)]
@@ -109,7 +110,7 @@ impl Finder {
     /// Looks for a negative cycle through a trade, on the admitted trades, the null node and that trade. A cycle that it
     /// answers is of least cost among the closed walks that meet the trade at their ends alone, has the fewest arcs
     /// among those of that cost, and has no node twice. No cycle of the admitted trades and the null node may be
-    /// negative.
+    /// negative. There are at most 1,024 trades, and at most `64 * W`.
     pub fn through<C: Costs, const W: usize>(
         &mut self,
         costs: &C,
@@ -125,15 +126,12 @@ impl Finder {
         ensures rest { ListsOnly self.old.nodes self.new }
     {
         let null = self.nodes - 1;
-        self.cycle_through(
-            &Looked {
-                costs,
-                null,
-                node,
-                admitted,
-            },
-            node,
-        )
+        let among = Admitted {
+            costs,
+            null,
+            admitted,
+        };
+        self.cycle_through(&Looked { among, node }, node)
     }
 
     /// Looks for labels: a number for each node, such that no arc costs less than the label of its end less that of its

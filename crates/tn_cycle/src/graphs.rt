@@ -54,45 +54,40 @@ impl<C: Costs, const W: usize> Costs for Admitted<'_, C, W> {
 /// A graph's node, its admitted trades and its null node, with the arcs among them.
 #[derive(Drop)]
 pub struct Looked<'a, C: Costs, const W: usize> {
-    pub costs: &'a C,
-    pub null: u32,
+    pub among: Admitted<'a, C, W>,
     pub node: u32,
-    pub admitted: &'a TradeSet<W>,
-    ghost wide: { W ≤ 16 },
-    ghost fits: { null ≤ 64 * W },
-    ghost last: { C.node_count costs.now ≡ null + 1 },
 }
 
 impl<C: Costs, const W: usize> Looked<'_, C, W> {
     /// Whether it has the node.
     fn looks_at(&self, v: u32) -> bool
-        requires { v ≤ self.now.null }
-        ensures { result ≡ is_looked_at self.now.null self.now.node self.now.admitted.now v }
+        requires { v ≤ self.now.among.null }
+        ensures { result ≡ is_looked_at self.now.among.null self.now.node self.now.among.admitted.now v }
     {
-        v == self.node || v == self.null || self.admitted.has(v)
+        v == self.node || self.among.admits(v)
     }
 }
 
 impl<C: Costs, const W: usize> Costs for Looked<'_, C, W> {
-    ghost node_count = { λ it. C.node_count it.costs.now };
+    ghost node_count = { λ it. C.node_count it.among.costs.now };
 
-    ghost arc = { λ it. arcs_among (is_looked_at it.null it.node it.admitted.now) (C.arc it.costs.now) };
+    ghost arc = { λ it. arcs_among (is_looked_at it.among.null it.node it.among.admitted.now) (C.arc it.among.costs.now) };
 
     fn nodes(&self) -> u32 {
-        self.costs.nodes()
+        self.among.nodes()
     }
 
     fn cost(&self, a: u32, b: u32) -> Option<i128> {
         if self.looks_at(a) && self.looks_at(b) {
-            self.costs.cost(a, b)
+            self.among.costs.cost(a, b)
         } else {
             None
         }
     }
 
-    ghost between_nodes = { λ it. between-arcs_among (is_looked_at it.null it.node it.admitted.now) (C.node_count it.costs.now) (C.arc it.costs.now) (C.between_nodes it.costs.now) };
+    ghost between_nodes = { λ it. between-arcs_among (is_looked_at it.among.null it.node it.among.admitted.now) (C.node_count it.among.costs.now) (C.arc it.among.costs.now) (C.between_nodes it.among.costs.now) };
 
-    ghost small = { λ it. small-arcs_among (is_looked_at it.null it.node it.admitted.now) (10 ^ 18) (C.arc it.costs.now) (C.small it.costs.now) };
+    ghost small = { λ it. small-arcs_among (is_looked_at it.among.null it.node it.among.admitted.now) (10 ^ 18) (C.arc it.among.costs.now) (C.small it.among.costs.now) };
 }
 
 /// A graph's trades from the first one on, with the arcs among them.
