@@ -1,11 +1,10 @@
-use Rattle.std.proofs.Common.{◌+◌, ◌^◌, ℕ, subst, sym, arith, rules}
+use Rattle.std.proofs.Common.{ℕ, subst, sym, arith, rules}
 use Rattle.std.proofs.lemmas.Int.{to_z-of_z}
 use mir.Syntax.{w128}
 use mir.Val.{SFits}
 use Rattle.tn_cycle.specs.Cells.{cell_at}
 use Rattle.tn_cycle.specs.Graphs.{with_sink}
-use Rattle.tn_cycle.specs.GraphLaws.{small-with_sink}
-use Rattle.tn_cycle.specs.Searched.{HasNoNegativeCycleOff, IsSettled}
+use Rattle.tn_cycle.specs.Searched.{HasNoNegativeCycleOff}
 use Rattle.tn_cycle.specs.Answers.{IsLowest}
 use Rattle.tn_cycle.proofs.GraphLemmas.{none_off_sink}
 use Rattle.tn_cycle.proofs.LabelLemmas.{sunk_at, lowest_small, are_labels}

@@ -1,4 +1,4 @@
-use Rattle.std.proofs.Common.{◌≡◌, ◌+◌, ◌<◌, ◌∙◌, ℕ, List, sym, ap, subst, refl, arith, length, ℤ, Option, Bool, true, false}
+use Rattle.std.proofs.Common.{◌≡◌, ◌+◌, ◌∙◌, ℕ, List, sym, ap, subst, refl, arith, length, ℤ, Option, Bool, true, false}
 use Rattle.tn_base.specs.Arcs.{AreBetweenNodes}
 use Rattle.tn_base.specs.Walks.{HasNoNegativeCycle}
 use Rattle.tn_cycle.specs.declared.cell.Cell.{Cell}
