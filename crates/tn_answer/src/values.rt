@@ -42,12 +42,11 @@ fn fault_value(alloc: Global, names: &Names, fault: &Fault) -> Result<Value, All
 fn plain_fault_value(alloc: Global, names: &Names, fault: &Fault) -> Result<Value, AllocError>
     ensures { IfOk result (λ value. view value ≡ fault_data names.now.trades fault.now None) }
 {
-    let place = place_value(alloc, names, &fault.place)?;
     json!(in alloc; {
         "answer": "fault",
         "fault": fault.kind.number(),
         "name": kind_name(fault.kind),
-        "place": place,
+        "place": place_value(alloc, names, &fault.place)?,
     })
 }
 
@@ -90,10 +89,9 @@ fn better_value(
     ensures { IfOk result
         (λ value. view value ≡ answer_data names.now (Said.Better firm bundle.now gain)) }
 {
-    let bundle = trades_value(alloc, names, bundle)?;
     json!(in alloc; {
         "answer": "better",
-        "bundle": bundle,
+        "bundle": trades_value(alloc, names, bundle)?,
         "firm": firm_name(names, firm),
         "gain": gain as i64,
     })
