@@ -215,6 +215,11 @@ impossible_worth f None is = refl
 pub free_count : (n count : ℕ) → n ≡ count → count ≤ 32 → length (take n (replicate 32 (pos 0))) ≡ count
 free_count n count same few = simp (length-take, length-replicate) (omega (arith, same, few))
 
+pub free_small : (n : ℕ) → All (λ p. IsAtMost p (10 ^ 20)) (take n (replicate 32 (pos 0)))
+free_small n =
+    All-take (λ p. IsAtMost p (10 ^ 20)) n (replicate 32 (pos 0))
+    (All-replicate (λ p. IsAtMost p (10 ^ 20)) 32 (pos 0) (record { low = omega (arith, ints); high = omega (arith, ints) }))
+
 pub all_free : (n : ℕ) → All (λ p. p ≡ pos 0) (take n (replicate 32 (pos 0)))
 all_free n = All-take (λ p. p ≡ pos 0) n (replicate 32 (pos 0)) (All-replicate (λ p. p ≡ pos 0) 32 (pos 0) refl)
 

@@ -4,6 +4,22 @@ use Rattle.tn_market.specs.Traded.{ArePlaced, placed}
 use Rattle.tn_market.proofs.MarketLemmas.{one_placed, all_placed, placed_length, written_back}
 use Rattle.tn_market.proofs.market.own_trades.Goals as goal
 
+pub place-requires-clause-sold : goal.place-requires-clause-sold
+place-requires-clause-sold c = λ same.
+    let there = slice_get-get_or c.args.trades.now c.loop-t.t _ c.loop-t-test.true in
+    let inside = c.requires.placed.sold c.loop-t.t _ there same in
+    let counted = c.loop-t.invariant.counted in
+    let lent = ap length c.deref_mut.ensures.value in
+    omega (arith, inside, counted, lent)
+
+pub place-requires-clause-bought : goal.place-requires-clause-bought
+place-requires-clause-bought c = λ same.
+    let there = slice_get-get_or c.args.trades.now c.loop-t.t _ c.loop-t-test.true in
+    let inside = c.requires.placed.bought c.loop-t.t _ there same in
+    let counted = c.loop-t.invariant.counted in
+    let lent = ap length c.deref_mut.ensures.value in
+    omega (arith, inside, counted, lent)
+
 pub loop-t-preserved : goal.loop-t-preserved
 loop-t-preserved c =
     let there = slice_get-get_or c.args.trades.now c.loop-t.t _ c.loop-t-test.true in
