@@ -1,9 +1,10 @@
 -- Answers over the same names whose data are equal are written alike.
-use Rattle.std.proofs.Common.{◌≡◌, ℕ, ℤ, pos, negsuc, ◌+◌, ◌*◌, List, [], ◌∷◌, slice_get, get_or, Option, None, Some, is_some, true≢false, option_and_then, unwrap_or, find, All, IfSome, codes, bytes_eq, refl, sym, ap, ◌∙◌, arith}
+use Rattle.std.proofs.Common.{◌≡◌, ℕ, suc, ℤ, pos, negsuc, ◌+◌, ◌*◌, List, [], ◌∷◌, slice_get, get_or, Option, None, Some, is_some, true≢false, option_and_then, unwrap_or, find, All, IfSome, codes, bytes_eq, refl, sym, ap, ◌∙◌, arith}
 use Rattle.std.proofs.lemmas.List.Elements.{All-head, All-tail}
 use Rattle.std.proofs.lemmas.Option.{same_Some, slice_get-get_or, unwrap_or-slice_get}
 use Rattle.std.specs.List.{AllZip}
 use Rattle.serde_json.specs.Data.{Data, null, boolean, number, string, array, object, Items, no_items, item}
+use Rattle.serde_json.specs.View.{items_of}
 use Rattle.serde_json.specs.Events.{items_len}
 use Rattle.serde_json.specs.Find.{as_integer, as_u64, as_str, as_number, as_array, at, get}
 use Rattle.tn_base.specs.declared.fault.FaultKind.{FaultKind}
@@ -17,11 +18,11 @@ use Rattle.tn_market.specs.declared.place.Word.TheVariants.{Version, Firms, Trad
 use Rattle.tn_market.specs.declared.said.Fault.{Fault}
 use Rattle.tn_market.specs.declared.said.Shown.{Shown}
 use Rattle.tn_market.specs.declared.said.Said.{Said}
-use Rattle.tn_market.specs.declared.said.Said.TheVariants.{Usage, ReadFault, NoMemory, Fault as FaultIs, Equilibrium, Better, Impossible, Accepted, ExchangeFails}
+use Rattle.tn_market.specs.declared.said.Said.TheVariants.{Usage, ReadFault, NoMemory, Fault as FaultIs, Equilibrium, Better, Impossible, Accepted, ExchangeFails, Supported, Cycle, Solved}
 use Rattle.tn_names.specs.Names.{NameLists, IsNameList}
 use Rattle.tn_answer.specs.Words.{word_text}
 use Rattle.tn_names.specs.Named.{IsNamed, IsNamedStep, IsNamedTriple}
-use Rattle.tn_answer.specs.AnswerText.{name_data, names_data, option_data, integer_data, step_data, place_data, fault_data, answer_data, answer_line}
+use Rattle.tn_answer.specs.AnswerText.{name_data, names_data, option_data, prices_from, nodes_data, integer_data, step_data, place_data, fault_data, answer_data, answer_line}
 use Rattle.tn_answer.specs.Apart.{IsNamedAnswer, IsSameStep, IsSameFault, IsSameAnswer, AnswersAreToldApart}
 use Rattle.tn_answer.proofs.DataTexts.{clash, compact_text-tells}
 use Rattle.tn_answer.proofs.PlainAnswers.{answer_is_plain}
@@ -69,6 +70,16 @@ integer_back (negsuc n) = refl
 
 same_integer : (y z : ℤ) → integer_data y ≡ integer_data z → y ≡ z
 same_integer y z e = same_Some y z (sym (integer_back y) ∙ ap integer_in e ∙ integer_back z)
+
+-- the prices stand in their data, whatever the names
+same_prices : (names : List (List ℕ)) (k : ℕ) (xs ys : List ℤ) → array (items_of (prices_from names k xs)) ≡ array (items_of (prices_from names k ys)) → xs ≡ ys
+same_prices names k [] [] e = refl
+same_prices names k [] (y ∷ ys) e = absurd (omega (arith, ap (λ d. items_len (items_in d)) e))
+same_prices names k (x ∷ xs) [] e = absurd (omega (arith, ap (λ d. items_len (items_in d)) e))
+same_prices names k (x ∷ xs) (y ∷ ys) e =
+    let first = same_integer x y (ap (λ d. first_in (rest_in (first_in d))) e) in
+    let rest = same_prices names (suc k) xs ys (ap rest_in e) in
+    λ i. first i ∷ rest i
 
 -- ---- words
 
@@ -121,6 +132,16 @@ module _ (names : List (List ℕ)) (kept : IsNameList names) where
   same_option None (Some y) h k e = absurd (clash 0 3 refl (ap shape e))
   same_option (Some x) None h k e = absurd (clash 3 0 refl (ap shape e))
   same_option (Some x) (Some y) h k e = ap Some (same_name x y h k e)
+
+  same_nodes : (xs ys : List (Option ℕ)) → All (λ node. IfSome node (IsNamed names)) xs → All (λ node. IfSome node (IsNamed names)) ys → nodes_data names xs ≡ nodes_data names ys → xs ≡ ys
+  same_nodes [] [] h k e = refl
+  same_nodes [] (y ∷ ys) h k e = absurd (omega (arith, ap (λ d. items_len (items_in d)) e))
+  same_nodes (x ∷ xs) [] h k e = absurd (omega (arith, ap (λ d. items_len (items_in d)) e))
+  same_nodes (x ∷ xs) (y ∷ ys) h k e =
+      let named = λ (node : Option ℕ). IfSome node (IsNamed names) in
+      let first = same_option x y (All-head named x xs h) (All-head named y ys k) (ap first_in e) in
+      let rest = same_nodes xs ys (All-tail named x xs h) (All-tail named y ys k) (ap rest_in e) in
+      λ i. first i ∷ rest i
 
   same_step : (first second : PlaceStep) → IsNamedStep names first → IsNamedStep names second → step_data names first ≡ step_data names second → IsSameStep names first second
   same_step (Member v) (Member w) h k e = ap Member (same_word v w (ap text_in e))
@@ -179,6 +200,9 @@ answer_text (Better firm bundle gain) = codes "better"
 answer_text (Impossible firm) = codes "impossible"
 answer_text Accepted = codes "accepted"
 answer_text (ExchangeFails firm x y at) = codes "exchange_fails"
+answer_text (Supported prices) = codes "prices"
+answer_text (Cycle nodes cost) = codes "cycle"
+answer_text (Solved on prices surplus) = codes "solved"
 
 -- the first two bytes tell these texts apart
 abbrev mark : List ℕ → ℕ
@@ -198,6 +222,9 @@ answer_says names (Better firm bundle gain) = refl
 answer_says names (Impossible firm) = refl
 answer_says names Accepted = refl
 answer_says names (ExchangeFails firm x y at) = refl
+answer_says names (Supported prices) = refl
+answer_says names (Cycle nodes cost) = refl
+answer_says names (Solved on prices surplus) = refl
 
 module _ (names : NameLists) (firms : IsNameList names.firms) (trades : IsNameList names.trades) where
   same_mark : (first second : Said) → answer_data names first ≡ answer_data names second → mark (answer_text first) ≡ mark (answer_text second)
@@ -222,6 +249,16 @@ module _ (names : NameLists) (firms : IsNameList names.firms) (trades : IsNameLi
       let same_x = same_names names.trades trades x x' h.1.x k.1.x (ap (part (codes "x")) e) in
       let same_y = same_names names.trades trades y y' h.1.y k.1.y (ap (part (codes "y")) e) in
       λ i. ExchangeFails (same_firm i) (same_x i) (same_y i) (same_at i)
+  same_answer (Supported prices) (Supported others) h k e = ap Supported (same_prices names.trades 0 prices others (ap (part (codes "prices")) e))
+  same_answer (Cycle nodes cost) (Cycle others cost') h k e =
+      let same_cost = same_integer cost cost' (ap (part (codes "cost")) e) in
+      let same_list = same_nodes names.trades trades nodes others h k (ap (part (codes "nodes")) e) in
+      λ i. Cycle (same_list i) (same_cost i)
+  same_answer (Solved on prices surplus) (Solved on' prices' surplus') h k e =
+      let same_on = same_names names.trades trades on on' h.0 k.0 (ap (part (codes "on")) e) in
+      let same_list = same_prices names.trades 0 prices prices' (ap (part (codes "prices")) e) in
+      let same_surplus = same_integer surplus surplus' (ap (part (codes "surplus")) e) in
+      λ i. Solved (same_on i) (same_list i) (same_surplus i)
   same_answer first second h k e = absurd (clash (mark (answer_text first)) (mark (answer_text second)) refl (same_mark first second e))
 
 pub answers_told_apart : AnswersAreToldApart

@@ -1,14 +1,16 @@
 -- No answer has a float, so its text is the compact one.
-use Rattle.std.proofs.Common.{◌≡◌, ℕ, ℤ, pos, negsuc, Bool, false, ◌||◌, List, [], ◌∷◌, Option, None, Some, refl, ap, ◌∙◌}
+use Rattle.std.proofs.Common.{◌≡◌, ℕ, suc, ℤ, pos, negsuc, Bool, false, ◌||◌, List, [], ◌∷◌, Option, None, Some, refl, ap, ◌∙◌}
 use Rattle.serde_json.specs.Find.{is_float, of_integer}
 use Rattle.serde_json.specs.Written.{has_float}
+use Rattle.serde_json.specs.Data.{array}
+use Rattle.serde_json.specs.View.{items_of}
 use Rattle.tn_market.specs.declared.place.PlaceStep.{PlaceStep}
 use Rattle.tn_market.specs.declared.place.PlaceStep.TheVariants.{Word, Index, Trade}
 use Rattle.tn_market.specs.declared.said.Fault.{Fault}
 use Rattle.tn_market.specs.declared.said.Shown.{Shown}
 use Rattle.tn_market.specs.declared.said.Said.{Said}
-use Rattle.tn_market.specs.declared.said.Said.TheVariants.{Usage, ReadFault, NoMemory, Fault as FaultIs, Equilibrium, Better, Impossible, Accepted, ExchangeFails}
-use Rattle.tn_answer.specs.AnswerText.{names_data, option_data, step_data, place_data, fault_data, answer_data}
+use Rattle.tn_market.specs.declared.said.Said.TheVariants.{Usage, ReadFault, NoMemory, Fault as FaultIs, Equilibrium, Better, Impossible, Accepted, ExchangeFails, Supported, Cycle, Solved}
+use Rattle.tn_answer.specs.AnswerText.{names_data, option_data, prices_from, nodes_data, step_data, place_data, fault_data, answer_data}
 use Rattle.tn_names.specs.Names.{NameLists}
 
 neither : (a b : Bool) → a ≡ false → b ≡ false → (a || b) ≡ false
@@ -26,6 +28,14 @@ module _ (names : List (List ℕ)) where
   option_has_no_float : (o : Option ℕ) → has_float (option_data names o) ≡ false
   option_has_no_float None = refl
   option_has_no_float (Some k) = refl
+
+  prices_have_no_float : (k : ℕ) (prices : List ℤ) → has_float (array (items_of (prices_from names k prices))) ≡ false
+  prices_have_no_float k [] = refl
+  prices_have_no_float k (price ∷ prices) = neither _ _ (neither _ _ (integer_is_no_float price) refl) (prices_have_no_float (suc k) prices)
+
+  nodes_have_no_float : (nodes : List (Option ℕ)) → has_float (nodes_data names nodes) ≡ false
+  nodes_have_no_float [] = refl
+  nodes_have_no_float (node ∷ nodes) = neither _ _ (option_has_no_float node) (nodes_have_no_float nodes)
 
   step_has_no_float : (step : PlaceStep) → has_float (step_data names step) ≡ false
   step_has_no_float (Word word) = refl
@@ -52,3 +62,7 @@ answer_has_no_float names (Better firm bundle gain) = neither _ _ (names_have_no
 answer_has_no_float names (Impossible firm) = refl
 answer_has_no_float names Accepted = refl
 answer_has_no_float names (ExchangeFails firm x y at) = neither _ _ (option_has_no_float names.trades at) (neither _ _ (names_have_no_float names.trades x) (neither _ _ (names_have_no_float names.trades y) refl))
+answer_has_no_float names (Supported prices) = neither _ _ (prices_have_no_float names.trades 0 prices) refl
+answer_has_no_float names (Cycle nodes cost) = neither _ _ (integer_is_no_float cost) (neither _ _ (nodes_have_no_float names.trades nodes) refl)
+answer_has_no_float names (Solved on prices surplus) =
+    neither _ _ (names_have_no_float names.trades on) (neither _ _ (prices_have_no_float names.trades 0 prices) (neither _ _ (integer_is_no_float surplus) refl))

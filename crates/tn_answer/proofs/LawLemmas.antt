@@ -1,5 +1,5 @@
 -- Where an answer names no firm and no trade, names don't matter.
-use Rattle.std.proofs.Common.{◌≡◌, ℕ, Bool, true, false, ◌&&◌, List, [], ◌∷◌, ◌++◌, map, codes, Option, None, Some, is_none, refl, ap, true≢false, sym, arith, FitsSigned, ℤ}
+use Rattle.std.proofs.Common.{◌≡◌, ℕ, Bool, true, false, ◌&&◌, List, [], ◌∷◌, ◌++◌, map, codes, All, get_or, Option, None, Some, is_none, refl, ap, true≢false, sym, arith, FitsSigned, ℤ}
 use Rattle.std.specs.Int.{w64}
 use Rattle.std.proofs.lemmas.Int.{ints}
 use Rattle.std.specs.List.{list_all}
@@ -11,12 +11,12 @@ use Rattle.tn_market.specs.declared.place.PlaceStep.TheVariants.{Word, Index, Tr
 use Rattle.tn_market.specs.declared.said.Fault.{Fault}
 use Rattle.tn_market.specs.declared.said.Shown.{Shown}
 use Rattle.tn_market.specs.declared.said.Said.{Said}
-use Rattle.tn_market.specs.declared.said.Said.TheVariants.{Usage, ReadFault, NoMemory, Fault as FaultIs, Equilibrium, Better, Impossible, Accepted, ExchangeFails}
+use Rattle.tn_market.specs.declared.said.Said.TheVariants.{Usage, ReadFault, NoMemory, Fault as FaultIs, Equilibrium, Better, Impossible, Accepted, ExchangeFails, Supported, Cycle, Solved}
 use Rattle.tn_names.specs.Names.{NameLists}
-use Rattle.tn_answer.specs.AnswerText.{names_data, option_data, step_data, answer, fault_members, fault_data, answer_data, answer_line}
+use Rattle.tn_answer.specs.AnswerText.{names_data, option_data, integer_data, prices_data, nodes_data, step_data, answer, fault_members, fault_data, answer_data, answer_line}
 use Rattle.tn_answer.specs.Sayable.{IsSayable}
-use Rattle.tn_answer.specs.Kept.{IsWithinClaim, IsWithinClaims}
-use Rattle.tn_answer.specs.Laws.{are_none, names_no_trade_at, names_no_trade_in, names_nothing}
+use Rattle.tn_answer.specs.Kept.{IsWithinClaim, IsWithinPrices, IsWithinClaims}
+use Rattle.tn_answer.specs.Laws.{are_none, is_empty, names_no_trade_at, names_no_trade_in, names_nothing}
 
 both : (a b : Bool) → (a && b) ≡ true → (a ≡ true) × (b ≡ true)
 both true b e = (refl, e)
@@ -29,6 +29,19 @@ same_names trades others (k ∷ ks) e = absurd (true≢false (sym e))
 same_option : (trades others : List (List ℕ)) (o : Option ℕ) → is_none o ≡ true → option_data trades o ≡ option_data others o
 same_option trades others None e = refl
 same_option trades others (Some k) e = absurd (true≢false (sym e))
+
+same_prices : (trades others : List (List ℕ)) (prices : List ℤ) → is_empty prices ≡ true → prices_data trades prices ≡ prices_data others prices
+same_prices trades others [] e = refl
+same_prices trades others (price ∷ prices) e = absurd (true≢false (sym e))
+
+same_options : (trades others : List (List ℕ)) (nodes : List (Option ℕ)) → list_all is_none nodes ≡ true → map (option_data trades) nodes ≡ map (option_data others) nodes
+same_options trades others [] e = refl
+same_options trades others (node ∷ nodes) e =
+    let parts = both (is_none node) (list_all is_none nodes) e in
+    λ j. same_option trades others node parts.0 j ∷ same_options trades others nodes parts.1 j
+
+same_nodes : (trades others : List (List ℕ)) (nodes : List (Option ℕ)) → list_all is_none nodes ≡ true → nodes_data trades nodes ≡ nodes_data others nodes
+same_nodes trades others nodes e = ap (λ ds. array (items_of ds)) (same_options trades others nodes e)
 
 same_step : (trades others : List (List ℕ)) (step : PlaceStep) → names_no_trade_at step ≡ true → step_data trades step ≡ step_data others step
 same_step trades others (Word word) e = refl
@@ -64,6 +77,13 @@ same_data (Better firm bundle gain) names others e = absurd (true≢false (sym e
 same_data (Impossible firm) names others e = absurd (true≢false (sym e))
 same_data Accepted names others e = refl
 same_data (ExchangeFails firm x y at) names others e = absurd (true≢false (sym e))
+same_data (Supported prices) names others e = ap (λ d. answer (codes "prices") (member (codes "prices") d no_members)) (same_prices names.trades others.trades prices e)
+same_data (Cycle nodes cost) names others e = ap (λ d. answer (codes "cycle") (member (codes "cost") (integer_data cost) (member (codes "nodes") d no_members))) (same_nodes names.trades others.trades nodes e)
+same_data (Solved on prices surplus) names others e =
+    let parts = both (are_none on) (is_empty prices) e in
+    λ j. answer (codes "solved")
+    (member (codes "on") (same_names names.trades others.trades on parts.0 j)
+    (member (codes "prices") (same_prices names.trades others.trades prices parts.1 j) (member (codes "surplus") (integer_data surplus) no_members)))
 
 pub same_line : (said : Said) (names others : NameLists) → names_nothing said ≡ true → answer_line names said ≡ answer_line others said
 unfolding answer_line
@@ -73,6 +93,12 @@ same_line said names others e = ap (λ d. compact_text d ++ 10 ∷ []) (same_dat
 
 fits_from_within : (z : ℤ) → IsWithinClaim z → FitsSigned w64 z
 fits_from_within z within = omega (arith, ints, within.low, within.high)
+
+prices_fit : (prices : List ℤ) → All IsWithinPrices prices → All (FitsSigned w64) prices
+prices_fit prices within k d below = fits (get_or prices k d) (within k d below)
+  where
+    fits : (z : ℤ) → IsWithinPrices z → FitsSigned w64 z
+    fits z small = omega (arith, ints, small.low, small.high)
 
 pub within_sayable : (said : Said) → IsWithinClaims said → IsSayable said
 within_sayable Usage within = tt
@@ -84,3 +110,6 @@ within_sayable (Better firm bundle gain) within = fits_from_within gain within
 within_sayable (Impossible firm) within = tt
 within_sayable Accepted within = tt
 within_sayable (ExchangeFails firm x y at) within = tt
+within_sayable (Supported prices) within = prices_fit prices within
+within_sayable (Cycle nodes cost) within = fits_from_within cost within
+within_sayable (Solved on prices surplus) within = (prices_fit prices within.0, fits_from_within surplus within.1)

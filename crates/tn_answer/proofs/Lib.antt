@@ -4,3 +4,4 @@ pub mod LawLemmas
 pub mod DataTexts
 pub mod PlainAnswers
 pub mod ApartLemmas
+pub mod PriceLemmas

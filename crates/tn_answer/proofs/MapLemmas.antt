@@ -5,12 +5,12 @@ use Rattle.std.proofs.lemmas.List.{map-append}
 use Rattle.std.proofs.lemmas.Option.{none-some, same_Some}
 
 module _ {B : Type 0} where
-  take-suc-at : (xs : List B) (k : ℕ) (x : B) → slice_get xs k ≡ Some x → take (suc k) xs ≡ take k xs ++ x ∷ []
+  pub take-suc-at : (xs : List B) (k : ℕ) (x : B) → slice_get xs k ≡ Some x → take (suc k) xs ≡ take k xs ++ x ∷ []
   take-suc-at [] k x e = absurd (none-some x e)
   take-suc-at (y ∷ ys) zero x e = ap (λ z. z ∷ []) (same_Some y x e)
   take-suc-at (y ∷ ys) (suc k) x e = ap (λ zs. y ∷ zs) (take-suc-at ys k x e)
 
-  take-whole : (xs : List B) (k : ℕ) → length xs ≤ k → take k xs ≡ xs
+  pub take-whole : (xs : List B) (k : ℕ) → length xs ≤ k → take k xs ≡ xs
   take-whole xs k h = grind (arith, common_steps)
 
 module _ {A B C : Type 0} (v : A → C) (f : B → C) (done : List A) (xs : List B) (k : ℕ) (so_far : map v done ≡ map f (take k xs)) where

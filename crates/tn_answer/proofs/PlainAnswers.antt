@@ -1,5 +1,5 @@
 -- The data of an answer are plain: their texts have characters of names alone, and their numbers are short.
-use Rattle.std.proofs.Common.{◌≡◌, ℕ, ℤ, pos, negsuc, ◌<◌, ◌^◌, true, List, [], ◌∷◌, map, slice_get, All, Option, None, Some, unwrap_or, FitsSigned, refl, arith}
+use Rattle.std.proofs.Common.{◌≡◌, ℕ, suc, ℤ, pos, negsuc, ◌<◌, ◌^◌, true, List, [], ◌∷◌, map, slice_get, All, Option, None, Some, unwrap_or, FitsSigned, refl, arith}
 use Rattle.std.specs.Int.{w64}
 use Rattle.std.proofs.lemmas.Bool.{and_parts}
 use Rattle.std.proofs.lemmas.List.Elements.{All-head, All-tail}
@@ -15,10 +15,10 @@ use Rattle.tn_market.specs.declared.place.Word.TheVariants.{Version}
 use Rattle.tn_market.specs.declared.said.Fault.{Fault}
 use Rattle.tn_market.specs.declared.said.Shown.{Shown}
 use Rattle.tn_market.specs.declared.said.Said.{Said}
-use Rattle.tn_market.specs.declared.said.Said.TheVariants.{Usage, ReadFault, NoMemory, Fault as FaultIs, Equilibrium, Better, Impossible, Accepted, ExchangeFails}
+use Rattle.tn_market.specs.declared.said.Said.TheVariants.{Usage, ReadFault, NoMemory, Fault as FaultIs, Equilibrium, Better, Impossible, Accepted, ExchangeFails, Supported, Cycle, Solved}
 use Rattle.tn_names.specs.Names.{NameLists, IsNameList, is_name}
 use Rattle.tn_answer.specs.Words.{kind_name, word_text}
-use Rattle.tn_answer.specs.AnswerText.{name_data, option_data, step_data, fault_data, answer_data}
+use Rattle.tn_answer.specs.AnswerText.{name_data, option_data, prices_from, step_data, fault_data, answer_data}
 use Rattle.tn_names.specs.Named.{HasShortIndex}
 use Rattle.tn_answer.specs.Apart.{HasShortNumbers}
 use Rattle.tn_answer.proofs.DataTexts.{IsShort, HasNameBytes, IsPlain, ItemsArePlain}
@@ -54,6 +54,17 @@ module _ (names : List (List ℕ)) (kept : IsNameList names) where
   option_is_plain : (o : Option ℕ) → IsPlain (option_data names o)
   option_is_plain None = tt
   option_is_plain (Some k) = name_is_plain k
+
+  prices_are_plain : (k : ℕ) (prices : List ℤ) → All (FitsSigned w64) prices → ItemsArePlain (items_of (prices_from names k prices))
+  prices_are_plain k [] h = tt
+  prices_are_plain k (price ∷ prices) h = (
+    (name_is_plain k, (integer_is_short price (All-head (FitsSigned w64) price prices h), tt)),
+    prices_are_plain (suc k) prices (All-tail (FitsSigned w64) price prices h),
+  )
+
+  nodes_are_plain : (nodes : List (Option ℕ)) → ItemsArePlain (items_of (map (option_data names) nodes))
+  nodes_are_plain [] = tt
+  nodes_are_plain (node ∷ nodes) = (option_is_plain node, nodes_are_plain nodes)
 
   step_is_plain : (step : PlaceStep) → HasShortIndex step → IsPlain (step_data names step)
   step_is_plain (Member word) h = word_text_is_plain word
@@ -97,3 +108,7 @@ answer_is_plain names firms trades (Impossible firm) h = (refl, refl, (refl, nam
 answer_is_plain names firms trades Accepted h = (refl, refl, tt)
 answer_is_plain names firms trades (ExchangeFails firm x y at) h =
     (refl, refl, (refl, option_is_plain names.trades trades at, (refl, name_is_plain names.firms firms firm, (refl, names_are_plain names.trades trades x, (refl, names_are_plain names.trades trades y, tt)))))
+answer_is_plain names firms trades (Supported prices) h = (refl, refl, (refl, prices_are_plain names.trades trades 0 prices h, tt))
+answer_is_plain names firms trades (Cycle nodes cost) h = (refl, refl, (refl, integer_is_short cost h, (refl, nodes_are_plain names.trades trades nodes, tt)))
+answer_is_plain names firms trades (Solved on prices surplus) h =
+    (refl, refl, (refl, names_are_plain names.trades trades on, (refl, prices_are_plain names.trades trades 0 prices h.0, (refl, integer_is_short surplus h.1, tt))))

@@ -1,18 +1,18 @@
 -- Different answers over the same names have different texts.
-use Rattle.std.specs.Prelude.{◌≡◌, ℕ, List, All, IfSome, slice_get, Some, FitsSigned}
+use Rattle.std.specs.Prelude.{◌≡◌, ℕ, List, length, All, IfSome, slice_get, Some, FitsSigned}
 use Rattle.std.specs.Int.{w64}
 use Rattle.std.specs.List.{AllZip}
 use Rattle.tn_market.specs.declared.place.PlaceStep.{PlaceStep}
 use Rattle.tn_market.specs.declared.place.PlaceStep.TheVariants.{Word, Trade}
 use Rattle.tn_market.specs.declared.said.Fault.{Fault}
 use Rattle.tn_market.specs.declared.said.Said.{Said}
-use Rattle.tn_market.specs.declared.said.Said.TheVariants.{Usage, ReadFault, NoMemory, Fault as FaultIs, Equilibrium, Better, Impossible, Accepted, ExchangeFails}
+use Rattle.tn_market.specs.declared.said.Said.TheVariants.{Usage, ReadFault, NoMemory, Fault as FaultIs, Equilibrium, Better, Impossible, Accepted, ExchangeFails, Supported, Cycle, Solved}
 use Rattle.tn_names.specs.Names.{NameLists, IsNameList}
 use Rattle.tn_answer.specs.Words.{word_text}
 use Rattle.tn_names.specs.Named.{IsNamed, IsNamedStep, IsNamedTriple, HasShortIndex}
 use Rattle.tn_answer.specs.AnswerText.{answer_line}
 
--- an answer speaks only of firms and trades that have a name
+-- an answer speaks only of firms and trades that have a name, and prices are one for each name of a trade
 abbrev pub IsNamedAnswer : NameLists → Said → Type 0
 IsNamedAnswer names Usage = Unit {0}
 IsNamedAnswer names ReadFault = Unit {0}
@@ -23,6 +23,9 @@ IsNamedAnswer names (Better firm bundle gain) = IsNamed names.firms firm × All 
 IsNamedAnswer names (Impossible firm) = IsNamed names.firms firm
 IsNamedAnswer names Accepted = Unit {0}
 IsNamedAnswer names (ExchangeFails firm x y at) = IsNamed names.firms firm × IsNamedTriple names.trades (record { x = x; y = y; at = at })
+IsNamedAnswer names (Supported prices) = length prices ≡ length names.trades
+IsNamedAnswer names (Cycle nodes cost) = All (λ node. IfSome node (IsNamed names.trades)) nodes
+IsNamedAnswer names (Solved on prices surplus) = All (IsNamed names.trades) on × (length prices ≡ length names.trades)
 
 -- the numbers of an answer fit 64 bits
 abbrev pub HasShortNumbers : Said → Type 0
@@ -35,6 +38,9 @@ HasShortNumbers (Better firm bundle gain) = FitsSigned w64 gain
 HasShortNumbers (Impossible firm) = Unit {0}
 HasShortNumbers Accepted = Unit {0}
 HasShortNumbers (ExchangeFails firm x y at) = Unit {0}
+HasShortNumbers (Supported prices) = All (FitsSigned w64) prices
+HasShortNumbers (Cycle nodes cost) = FitsSigned w64 cost
+HasShortNumbers (Solved on prices surplus) = All (FitsSigned w64) prices × FitsSigned w64 surplus
 
 -- steps of a place are written alike: a trade and a member of the same name, or equal steps
 abbrev pub IsSameStep : List (List ℕ) → PlaceStep → PlaceStep → Type 0

@@ -1,14 +1,14 @@
 // Answers as JSON values. An object has its members in byte order, whatever order they are put in.
-ghost use Rattle.std.specs.Prelude.{◌≡◌, [], unwrap_or, slice_get, IfOk, FitsSigned};
+ghost use Rattle.std.specs.Prelude.{◌≡◌, [], All, unwrap_or, slice_get, IfOk, FitsSigned};
 ghost use Rattle.std.specs.Int.{w64};
 ghost use Rattle.serde_json.specs.View.{view};
-ghost use Rattle.tn_answer.specs.AnswerText.{answer_data, fault_data, name_data, names_data, option_data, place_data, step_data};
+ghost use Rattle.tn_answer.specs.AnswerText.{answer_data, fault_data, name_data, names_data, nodes_data, option_data, place_data, price_data, prices_data, step_data};
 ghost use Rattle.tn_answer.specs.Sayable.{IsSayable};
 
 use crate::words::{kind_name, word_text};
 use serde_json::{Value, json};
 use std::alloc::{AllocError, Global};
-use tn_market::{Fault, Place, PlaceStep, Said, Shown, Trades};
+use tn_market::{Fault, Nodes, Place, PlaceStep, Prices, Said, Shown, Trades};
 use tn_names::Names;
 
 pub(crate) fn answer_value(alloc: Global, names: &Names, said: &Said) -> Result<Value, AllocError>
@@ -27,6 +27,13 @@ pub(crate) fn answer_value(alloc: Global, names: &Names, said: &Said) -> Result<
         Said::ExchangeFails { firm, x, y, at } => {
             exchange_fails_value(alloc, names, *firm, x, y, *at)
         }
+        Said::Supported { prices } => supported_value(alloc, names, prices),
+        Said::Cycle { nodes, cost } => cycle_value(alloc, names, nodes, *cost),
+        Said::Solved {
+            on,
+            prices,
+            surplus,
+        } => solved_value(alloc, names, on, prices, *surplus),
     }
 }
 
@@ -123,6 +130,46 @@ fn exchange_fails_value(
     })
 }
 
+fn supported_value(alloc: Global, names: &Names, prices: &Prices) -> Result<Value, AllocError>
+    requires { All (FitsSigned w64) prices.now }
+    ensures { IfOk result
+        (λ value. view value ≡ answer_data names.now (Said.Supported prices.now)) }
+{
+    json!(in alloc; {"answer": "prices", "prices": prices_value(alloc, names, prices)?})
+}
+
+fn cycle_value(alloc: Global, names: &Names, nodes: &Nodes, cost: i128) -> Result<Value, AllocError>
+    requires { FitsSigned w64 cost }
+    ensures { IfOk result
+        (λ value. view value ≡ answer_data names.now (Said.Cycle nodes.now cost)) }
+{
+    json!(in alloc; {
+        "answer": "cycle",
+        "cost": cost as i64,
+        "nodes": nodes_value(alloc, names, nodes)?,
+    })
+}
+
+fn solved_value(
+    alloc: Global,
+    names: &Names,
+    on: &Trades,
+    prices: &Prices,
+    surplus: i128,
+) -> Result<Value, AllocError>
+    requires prices { All (FitsSigned w64) prices.now }
+    requires surplus { FitsSigned w64 surplus }
+    ensures { IfOk result
+        (λ value. view value ≡ answer_data names.now (Said.Solved on.now prices.now surplus)) }
+{
+    json!(in alloc; {
+        "answer": "solved",
+        "on": trades_value(alloc, names, on)?,
+        "prices": prices_value(alloc, names, prices)?,
+        "surplus": surplus as i64,
+    })
+}
+
 /// The name of a firm, empty where it has none.
 fn firm_name(names: &Names, firm: u32) -> &str
     ensures { result.now ≡ unwrap_or (slice_get names.now.firms firm) [] }
@@ -166,6 +213,45 @@ fn trades_value(alloc: Global, names: &Names, trades: &Trades) -> Result<Value, 
     let mut values = Vec::new(alloc);
     for k in 0..trades.len() {
         values.push(trade_value(alloc, names, trades.at(k))?)?;
+    }
+    Ok(Value::Array(values))
+}
+
+fn nodes_value(alloc: Global, names: &Names, nodes: &Nodes) -> Result<Value, AllocError>
+    ensures { IfOk result (λ value. view value ≡ nodes_data names.now.trades nodes.now) }
+{
+    let mut values = Vec::new(alloc);
+    for k in 0..nodes.len() {
+        values.push(option_value(alloc, names, nodes.at(k))?)?;
+    }
+    Ok(Value::Array(values))
+}
+
+/// The name of the trade at a place, empty where there is none.
+fn name_at(names: &Names, k: usize) -> &str
+    ensures { result.now ≡ unwrap_or (slice_get names.now.trades k) [] }
+{
+    if k < names.trades() as usize {
+        names.trade(k as u32)
+    } else {
+        ""
+    }
+}
+
+fn price_value(alloc: Global, names: &Names, k: usize, price: i128) -> Result<Value, AllocError>
+    requires { FitsSigned w64 price }
+    ensures { IfOk result (λ value. view value ≡ price_data names.now.trades k price) }
+{
+    json!(in alloc; [name_at(names, k), price as i64])
+}
+
+fn prices_value(alloc: Global, names: &Names, prices: &Prices) -> Result<Value, AllocError>
+    requires { All (FitsSigned w64) prices.now }
+    ensures { IfOk result (λ value. view value ≡ prices_data names.now.trades prices.now) }
+{
+    let mut values = Vec::new(alloc);
+    for k in 0..prices.len() {
+        values.push(price_value(alloc, names, k, prices.at(k))?)?;
     }
     Ok(Value::Array(values))
 }

@@ -1,15 +1,15 @@
 -- Where trades stand, and the list of a bundle's trades.
 use Rattle.std.proofs.Common.{◌≡◌, ℕ, zero, suc, ◌+◌, ◌<◌, Bool, true, false, if◌then◌else◌, List, [], ◌∷◌, ◌++◌, length, get_or, Some, refl, sym, ap, ◌∙◌, subst, arith, inl, inr, append-nil}
-use Rattle.std.specs.Prelude.{◌↔◌, Contains, slice_get}
+use Rattle.std.specs.Prelude.{◌↔◌, All, Contains, slice_get}
 use Rattle.std.specs.List.Sorted.{IsStrictlyIncreasing}
 use Rattle.std.proofs.lemmas.Bool.{cases_lt, cases_eq}
-use Rattle.std.proofs.lemmas.List.{length_push, get_or_push, get_or_append_left}
+use Rattle.std.proofs.lemmas.List.{length_push, get_or_default, get_or_push, get_or_append_left}
 use Rattle.std.proofs.lemmas.List.Elements.{Contains-get_or, Contains-push, Contains-push_cases, Contains-append_left}
 use Rattle.tn_base.specs.Sets.{has}
 use Rattle.tn_base.specs.Firm.{Firm}
 use Rattle.tn_base.proofs.SetLemmas.{member_of_set}
 use Rattle.tn_market.specs.declared.ends.Ends.{Ends}
-use Rattle.tn_market.specs.Network.{own, part, trades_of, IsNetwork, HaveAscendingPositions}
+use Rattle.tn_market.specs.Network.{own, part, trades_of, trades_on, IsNetwork, HaveAscendingPositions}
 use Rattle.tn_market.specs.NetworkLaws.{StandsThere, IsTradeOf}
 use Rattle.tn_market.proofs.MarketLemmas.{own_stands}
 
@@ -118,3 +118,32 @@ ascending_list trades f (suc n) x ascend =
 pub ascending_trades : (firms : List Firm) (trades : List Ends) (f x : ℕ) (firm : Firm) → HaveAscendingPositions firms trades → slice_get firms f ≡ Some firm
     → IsStrictlyIncreasing (trades_of trades f firm.count x)
 ascending_trades firms trades f x firm ascend is = ascending_list trades f firm.count x (λ i j before below. ascend f i j firm is before below)
+
+-- ---- the trades of a set
+
+on_inside : (on n t : ℕ) → Contains (trades_on on n) t → t < n
+on_inside on zero t found = let inside = found.1 in absurd (omega (arith, inside))
+on_inside on (suc n) t found = by_case (on_inside on n t) (has on n) found
+  where
+    by_case : (Contains (trades_on on n) t → t < n) → (b : Bool) → Contains (trades_on on n ++ (if b then n ∷ [] else [])) t → t < suc n
+    by_case rest true there = elim (Contains-push_cases (trades_on on n) n t there) [
+      | inl earlier ↦ let less = rest earlier in omega (arith, less)
+      | inr last ↦ omega (arith, last)
+    ]
+    by_case rest false there = let less = rest (subst (λ (list : List ℕ). Contains list t) (append-nil (trades_on on n)) there) in omega (arith, less)
+
+-- each is below n
+pub on_below : (on n : ℕ) → All (λ t. t < n) (trades_on on n)
+on_below on n k d inside =
+    let listed = on_inside on n (get_or (trades_on on n) k 0) (Contains-get_or (trades_on on n) k 0 inside) in
+    subst (λ t. t < n) (get_or_default (trades_on on n) k 0 d inside) listed
+
+-- and they ascend
+pub on_ascends : (on n : ℕ) → IsStrictlyIncreasing (trades_on on n)
+on_ascends on zero = λ k inside. absurd (omega (arith, inside))
+on_ascends on (suc n) =
+    let rest = on_ascends on n in
+    elim (has on n) as (λ (b : Bool). IsStrictlyIncreasing (trades_on on n ++ (if b then n ∷ [] else []))) [
+      | true ↦ increasing-push (trades_on on n) n rest (on_inside on n)
+      | false ↦ subst IsStrictlyIncreasing (sym (append-nil (trades_on on n))) rest
+    ]

@@ -3,7 +3,7 @@ use Rattle.std.specs.Prelude.{◌≡◌, ℕ, ◌<◌, ℤ, pos, ◌-ℤ◌, ◌
 use Rattle.tn_base.specs.Firm.{Firm, IsBest}
 use Rattle.tn_market.specs.declared.ends.Ends.{Ends}
 use Rattle.tn_market.specs.declared.said.Said.{Said}
-use Rattle.tn_market.specs.declared.said.Said.TheVariants.{Usage, ReadFault, NoMemory, Fault, Equilibrium, Better, Impossible, Accepted, ExchangeFails}
+use Rattle.tn_market.specs.declared.said.Said.TheVariants.{Usage, ReadFault, NoMemory, Fault, Equilibrium, Better, Impossible, Accepted, ExchangeFails, Supported, Cycle, Solved}
 use Rattle.tn_market.specs.Network.{part, trades_of}
 use Rattle.tn_market.specs.Equilibrium.{utility_at, HasBest, IsEquilibrium, surplus_of}
 
@@ -41,3 +41,6 @@ Judges firms trades scale on prices (Better f bundle gain) = (x : ℕ) × (at : 
 Judges firms trades scale on prices (Impossible f) = IsFirstImpossible firms trades scale on prices f
 Judges firms trades scale on prices Accepted = ⊥
 Judges firms trades scale on prices (ExchangeFails f x y at) = ⊥
+Judges firms trades scale on prices (Supported their_prices) = ⊥
+Judges firms trades scale on prices (Cycle nodes cost) = ⊥
+Judges firms trades scale on prices (Solved their_on their_prices surplus) = ⊥

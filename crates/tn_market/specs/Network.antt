@@ -23,6 +23,11 @@ abbrev pub trades_of : List Ends → ℕ → ℕ → ℕ → List ℕ
 trades_of trades f zero x = []
 trades_of trades f (suc n) x = trades_of trades f n x ++ (if has x n then own trades f n ∷ [] else [])
 
+-- the trades below n that are in a set, ascending
+abbrev pub trades_on : ℕ → ℕ → List ℕ
+trades_on on zero = []
+trades_on on (suc n) = trades_on on n ++ (if has on n then n ∷ [] else [])
+
 -- firms and trades fit together
 pub record IsNetwork (firms : List Firm) (trades : List Ends) : Type 0 where
   -- a trade has two different firms

@@ -1,4 +1,4 @@
-use crate::lists::{Place, Trades};
+use crate::lists::{Nodes, Place, Prices, Trades};
 use tn_base::FaultKind;
 
 /// Two bundles and a position, or none, at which the exchange property fails, in trade numbers.
@@ -65,5 +65,26 @@ pub enum Said {
         y: Trades,
         /// The trade that can't be exchanged, or none where the net count can't be.
         at: Option<u32>,
+    },
+    /// With these prices the set of trades is an equilibrium.
+    Supported {
+        /// The price of each trade, by trade number.
+        prices: Prices,
+    },
+    /// No prices support the set of trades: toggling the trades along this cycle of the exchange graph does better.
+    Cycle {
+        /// Its nodes, in order.
+        nodes: Nodes,
+        /// The sum of its arcs' costs, below 0.
+        cost: i128,
+    },
+    /// An equilibrium.
+    Solved {
+        /// The trades that are on, ascending.
+        on: Trades,
+        /// The price of each trade, by trade number.
+        prices: Prices,
+        /// The sum of the firms' worths.
+        surplus: i128,
     },
 }

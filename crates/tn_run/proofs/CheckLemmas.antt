@@ -12,13 +12,15 @@ use Rattle.tn_firm.specs.declared.value.FirmValue.{FirmValue}
 use Rattle.tn_firm.specs.Firms.{firm_of, firm_laws, firm_few}
 use Rattle.tn_market.specs.declared.ends.Ends.{Ends}
 use Rattle.tn_market.specs.declared.said.Said.{Said}
-use Rattle.tn_market.specs.declared.said.Said.TheVariants.{Equilibrium, Better, Impossible, Fault, Usage, ReadFault, NoMemory, Accepted, ExchangeFails}
+use Rattle.tn_market.specs.declared.said.Said.TheVariants.{Equilibrium, Better, Impossible, Fault, Usage, ReadFault, NoMemory, Accepted, ExchangeFails, Supported, Cycle, Solved}
 use Rattle.tn_market.specs.Best.{price_at}
 use Rattle.tn_market.specs.Network.{IsNetwork, own, trades_of}
-use Rattle.tn_market.specs.Equilibrium.{surplus_of}
+use Rattle.tn_market.specs.Equilibrium.{IsEquilibrium, surplus_of}
 use Rattle.tn_market.specs.Judged.{IsFirstBettered, Judges}
 use Rattle.tn_network.proofs.WelfareLemmas.{equilibrium_is_efficient}
-use Rattle.tn_run.specs.Answer.{IsEfficientWhereSaid}
+use Rattle.tn_network.proofs.BlockLemmas.{equilibrium_is_stable}
+use Rattle.tn_run.specs.Implied.{IsEfficientAndStable}
+use Rattle.tn_run.specs.Answer.{IsStableWhereSaid}
 use Rattle.tn_run.proofs.NumberLemmas.{AreSmallFirms, surplus_small, utility_small}
 
 -- what stands at a place of a mapped list comes from there
@@ -81,15 +83,25 @@ pub bettered_firm : (firms : List FirmValue) (trades : List Ends) (on : ℕ) (pr
 bettered_firm firms trades on prices f x gain bettered =
     let there = value_at firms f bettered.firm bettered.is in slice_get_within firms f there.0 there.1
 
--- an equilibrium of a network is efficient
-pub efficient_where_said : (firms : List Firm) (trades : List Ends) (on : ℕ) (prices : ℕ → ℤ) (said : Said) → IsNetwork firms trades
-    → Judges firms trades (pos 1) on prices said → IsEfficientWhereSaid firms trades on said
-efficient_where_said firms trades on prices (Equilibrium surplus) network judges = equilibrium_is_efficient firms trades (pos 1) on prices network (omega (arith, ints)) judges.0
-efficient_where_said firms trades on prices (Better f bundle gain) network judges = tt
-efficient_where_said firms trades on prices (Impossible f) network judges = tt
-efficient_where_said firms trades on prices (Fault fault) network judges = tt
-efficient_where_said firms trades on prices Usage network judges = tt
-efficient_where_said firms trades on prices ReadFault network judges = tt
-efficient_where_said firms trades on prices NoMemory network judges = tt
-efficient_where_said firms trades on prices Accepted network judges = tt
-efficient_where_said firms trades on prices (ExchangeFails f x y at) network judges = tt
+-- an equilibrium of a network is efficient and stable
+pub implied_by : (firms : List Firm) (trades : List Ends) (on : ℕ) (prices : ℕ → ℤ) → IsNetwork firms trades → IsEquilibrium firms trades (pos 1) on prices
+    → IsEfficientAndStable firms trades on prices
+implied_by firms trades on prices network equilibrium = record {
+  efficient = equilibrium_is_efficient firms trades (pos 1) on prices network (omega (arith, ints)) equilibrium;
+  stable = equilibrium_is_stable firms trades (pos 1) on prices network equilibrium;
+}
+
+pub stable_where_said : (firms : List Firm) (trades : List Ends) (on : ℕ) (prices : ℕ → ℤ) (said : Said) → IsNetwork firms trades
+    → Judges firms trades (pos 1) on prices said → IsStableWhereSaid firms trades on prices said
+stable_where_said firms trades on prices (Equilibrium surplus) network judges = implied_by firms trades on prices network judges.0
+stable_where_said firms trades on prices (Better f bundle gain) network judges = tt
+stable_where_said firms trades on prices (Impossible f) network judges = tt
+stable_where_said firms trades on prices (Fault fault) network judges = tt
+stable_where_said firms trades on prices Usage network judges = tt
+stable_where_said firms trades on prices ReadFault network judges = tt
+stable_where_said firms trades on prices NoMemory network judges = tt
+stable_where_said firms trades on prices Accepted network judges = tt
+stable_where_said firms trades on prices (ExchangeFails f x y at) network judges = tt
+stable_where_said firms trades on prices (Supported their_prices) network judges = tt
+stable_where_said firms trades on prices (Cycle nodes cost) network judges = tt
+stable_where_said firms trades on prices (Solved their_on their_prices surplus) network judges = tt

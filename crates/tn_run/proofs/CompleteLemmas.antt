@@ -1,13 +1,13 @@
 -- The answer of a run where nothing failed.
-use Rattle.std.proofs.Common.{◌≡◌, ℕ, ◌+◌, ◌<◌, ◌≤◌, List, length, sym, subst, refl, arith, ◌⊎◌, inl, inr}
+use Rattle.std.proofs.Common.{◌≡◌, ℕ, ◌+◌, ◌≤◌, List, length, subst, refl, arith, ◌⊎◌, inl, inr}
 use Rattle.std.specs.Prelude.{Option, Some, None}
 use Rattle.tn_market.specs.declared.said.Said.{Said}
-use Rattle.tn_market.specs.declared.said.Said.TheVariants.{Usage, ReadFault, NoMemory, Fault, Equilibrium, Better, Impossible, Accepted, ExchangeFails}
+use Rattle.tn_market.specs.declared.said.Said.TheVariants.{Usage, ReadFault, NoMemory, Fault, Equilibrium, Better, Impossible, Accepted, ExchangeFails, Supported, Cycle, Solved}
 use Rattle.tn_io.specs.Source.{TakesFirst}
 use Rattle.tn_names.specs.Names.{NameLists}
 use Rattle.tn_file.specs.Document.{reading_of}
 use Rattle.tn_run.specs.declared.command.Command.{Command}
-use Rattle.tn_run.specs.Answer.{document_limit, too_long, IsAnswerTo, AnswersBytes, MayBeSaid}
+use Rattle.tn_run.specs.Answer.{document_limit, IsAnswerTo, AnswersBytes, MayBeSaid}
 use Rattle.tn_run.specs.Complete.{NoneCounted, IsAnswerToAll, AnswersAll}
 use Rattle.tn_run.specs.Run.{IsWrittenWhole, IsWritten}
 use Rattle.tn_run.specs.Words.{need_of}
@@ -43,6 +43,9 @@ said_of_all command all new before after names (Better f bundle gain) quiet may 
 said_of_all command all new before after names (Impossible f) quiet may = inr (all_answered command all new names (Impossible f) may)
 said_of_all command all new before after names Accepted quiet may = inr (all_answered command all new names Accepted may)
 said_of_all command all new before after names (ExchangeFails f x y at) quiet may = inr (all_answered command all new names (ExchangeFails f x y at) may)
+said_of_all command all new before after names (Supported prices) quiet may = inr (all_answered command all new names (Supported prices) may)
+said_of_all command all new before after names (Cycle nodes cost) quiet may = inr (all_answered command all new names (Cycle nodes cost) may)
+said_of_all command all new before after names (Solved on prices surplus) quiet may = inr (all_answered command all new names (Solved on prices surplus) may)
 
 -- what was written is the whole text, where the sink counted no fault
 whole_written : (old new : Option (List ℕ)) (before after : ℕ) (names : NameLists) (said : Said) (status : ℕ)

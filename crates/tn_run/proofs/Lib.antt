@@ -4,3 +4,4 @@ pub mod TestLemmas
 pub mod TakenLemmas
 pub mod NamedLemmas
 pub mod CompleteLemmas
+pub mod SolveLemmas

@@ -1,6 +1,6 @@
 -- What is said of a document keeps the rules of answers: it speaks only of firms and trades that have a name, its
 -- numbers are short, and its lists of trades ascend.
-use Rattle.std.proofs.Common.{◌≡◌, ◌≢◌, ℕ, ◌<◌, ℤ, pos, List, Option, Result, sym, subst}
+use Rattle.std.proofs.Common.{◌≡◌, ◌≢◌, ℕ, ◌<◌, ℤ, pos, List, length, Option, Result, sym, subst, ◌∙◌}
 use Rattle.std.specs.Prelude.{Some, Ok, Err, All, IfOk, IfSome, slice_get}
 use Rattle.std.specs.List.Sorted.{IsStrictlyIncreasing}
 use Rattle.std.proofs.lemmas.Option.{slice_get_within}
@@ -8,11 +8,11 @@ use Rattle.tn_base.specs.declared.fault.FaultKind.TheVariants.{TooLong}
 use Rattle.tn_base.specs.Firm.{Firm}
 use Rattle.tn_market.specs.declared.said.Fault.{Fault as FaultIs}
 use Rattle.tn_market.specs.declared.said.Said.{Said}
-use Rattle.tn_market.specs.declared.said.Said.TheVariants.{Equilibrium, Better, Impossible, Fault, Usage, ReadFault, NoMemory, Accepted, ExchangeFails}
+use Rattle.tn_market.specs.declared.said.Said.TheVariants.{Equilibrium, Better, Impossible, Fault, Usage, ReadFault, NoMemory, Accepted, ExchangeFails, Supported, Cycle, Solved}
 use Rattle.tn_market.specs.Best.{price_at}
-use Rattle.tn_market.specs.Network.{own}
+use Rattle.tn_market.specs.Network.{own, trades_on}
 use Rattle.tn_market.specs.Judged.{Judges}
-use Rattle.tn_market.proofs.NetworkLemmas.{ascending_trades}
+use Rattle.tn_market.proofs.NetworkLemmas.{ascending_trades, on_below, on_ascends}
 use Rattle.tn_answer.specs.Apart.{HasShortNumbers, IsNamedAnswer}
 use Rattle.tn_names.specs.Names.{NameLists}
 use Rattle.tn_names.specs.Named.{IsNamed}
@@ -29,10 +29,11 @@ use Rattle.tn_file.proofs.DocumentStops.{faults_are_sayable}
 use Rattle.tn_kinds.proofs.ShownLemmas.{OwnAreNamed, own_position_of, trades_named, triple_named}
 use Rattle.tn_kinds.proofs.KindLemmas.{listed_own_bundles}
 use Rattle.tn_run.specs.Answer.{ChecksExtra, IsAnswerOf, KeepsRules}
+use Rattle.tn_run.specs.Solved.{Solves}
 use Rattle.tn_run.specs.Tested.{IsFirstToFail, Tests}
 use Rattle.tn_run.specs.Words.{need_of}
 use Rattle.tn_run.specs.declared.command.Command.{Command}
-use Rattle.tn_run.specs.declared.command.Command.TheVariants.{Check, Test}
+use Rattle.tn_run.specs.declared.command.Command.TheVariants.{Check, Solve, Test}
 
 module _ (need : Need) (doc : DocumentData) (is : IsDocument need doc) where
   -- a firm of the document has a name, and so have its own trades
@@ -57,6 +58,9 @@ module _ (need : Need) (doc : DocumentData) (is : IsDocument need doc) where
   judged_named scale on prices NoMemory judges = absurd judges
   judged_named scale on prices Accepted judges = absurd judges
   judged_named scale on prices (ExchangeFails f x y at) judges = absurd judges
+  judged_named scale on prices (Supported their_prices) judges = absurd judges
+  judged_named scale on prices (Cycle nodes cost) judges = absurd judges
+  judged_named scale on prices (Solved their_on their_prices surplus) judges = absurd judges
 
   checked_named : (extra : ExtraData) (said : Said) → ChecksExtra doc extra said → IsNamedAnswer doc.names said
   checked_named nothing said checks = absurd checks
@@ -85,6 +89,9 @@ module _ (need : Need) (doc : DocumentData) (is : IsDocument need doc) where
   tested_named Usage tests = absurd tests
   tested_named ReadFault tests = absurd tests
   tested_named NoMemory tests = absurd tests
+  tested_named (Supported prices) tests = absurd tests
+  tested_named (Cycle nodes cost) tests = absurd tests
+  tested_named (Solved on prices surplus) tests = absurd tests
 
   -- their lists of trades ascend
   judged_ascends : (scale : ℤ) (on : ℕ) (prices : ℕ → ℤ) (said : Said) → Judges doc.firms doc.ends scale on prices said → HasAscendingTrades said
@@ -98,6 +105,9 @@ module _ (need : Need) (doc : DocumentData) (is : IsDocument need doc) where
   judged_ascends scale on prices NoMemory judges = tt
   judged_ascends scale on prices Accepted judges = tt
   judged_ascends scale on prices (ExchangeFails f x y at) judges = absurd judges
+  judged_ascends scale on prices (Supported their_prices) judges = tt
+  judged_ascends scale on prices (Cycle nodes cost) judges = tt
+  judged_ascends scale on prices (Solved their_on their_prices surplus) judges = absurd judges
 
   checked_ascends : (extra : ExtraData) (said : Said) → ChecksExtra doc extra said → HasAscendingTrades said
   checked_ascends nothing said checks = absurd checks
@@ -116,14 +126,51 @@ module _ (need : Need) (doc : DocumentData) (is : IsDocument need doc) where
   tested_ascends Usage tests = tt
   tested_ascends ReadFault tests = tt
   tested_ascends NoMemory tests = tt
+  tested_ascends (Supported prices) tests = tt
+  tested_ascends (Cycle nodes cost) tests = tt
+  tested_ascends (Solved on prices surplus) tests = absurd tests
+
+  -- the answer of `solve`
+  solved_named : (said : Said) → Solves doc.firms doc.ends said → IsNamedAnswer doc.names said
+  solved_named (Solved on prices surplus) solves = (
+    subst (All (IsNamed doc.names.trades)) (sym solves.on_is) (subst (λ n. All (λ t. t < n) (trades_on solves.set (length doc.ends))) (sym is.trades_named) (on_below solves.set (length doc.ends))),
+    solves.one_each ∙ sym is.trades_named,
+  )
+  solved_named (Equilibrium surplus) solves = absurd solves
+  solved_named (Better f bundle gain) solves = absurd solves
+  solved_named (Impossible f) solves = absurd solves
+  solved_named (Fault fault) solves = absurd solves
+  solved_named Usage solves = absurd solves
+  solved_named ReadFault solves = absurd solves
+  solved_named NoMemory solves = absurd solves
+  solved_named Accepted solves = absurd solves
+  solved_named (ExchangeFails f x y at) solves = absurd solves
+  solved_named (Supported prices) solves = absurd solves
+  solved_named (Cycle nodes cost) solves = absurd solves
+
+  solved_ascends : (said : Said) → Solves doc.firms doc.ends said → HasAscendingTrades said
+  solved_ascends (Solved on prices surplus) solves = subst IsStrictlyIncreasing (sym solves.on_is) (on_ascends solves.set (length doc.ends))
+  solved_ascends (Equilibrium surplus) solves = absurd solves
+  solved_ascends (Better f bundle gain) solves = absurd solves
+  solved_ascends (Impossible f) solves = absurd solves
+  solved_ascends (Fault fault) solves = absurd solves
+  solved_ascends Usage solves = absurd solves
+  solved_ascends ReadFault solves = absurd solves
+  solved_ascends NoMemory solves = absurd solves
+  solved_ascends Accepted solves = absurd solves
+  solved_ascends (ExchangeFails f x y at) solves = absurd solves
+  solved_ascends (Supported prices) solves = absurd solves
+  solved_ascends (Cycle nodes cost) solves = absurd solves
 
 -- the answer of a command on a document
 document_ascends : (command : Command) (doc : DocumentData) → IsDocument (need_of command) doc → (said : Said) → IsAnswerOf command doc said → HasAscendingTrades said
 document_ascends Check doc is said answer = checked_ascends (need_of Check) doc is doc.extra said answer
+document_ascends Solve doc is said answer = solved_ascends (need_of Solve) doc is said answer
 document_ascends Test doc is said answer = tested_ascends (need_of Test) doc is said answer
 
 document_named : (command : Command) (doc : DocumentData) → IsDocument (need_of command) doc → (said : Said) → IsAnswerOf command doc said → IsNamedAnswer doc.names said
 document_named Check doc is said answer = checked_named (need_of Check) doc is doc.extra said answer
+document_named Solve doc is said answer = solved_named (need_of Solve) doc is said answer
 document_named Test doc is said answer = tested_named (need_of Test) doc is said answer
 
 -- what is said of a document is no fault
@@ -134,6 +181,7 @@ no_fault Check doc fault answer = by_extra doc.extra answer
     by_extra nothing checks = checks
     by_extra (arrangement at) checks = checks.0
 no_fault Test doc fault answer = answer
+no_fault Solve doc fault answer = answer
 
 -- and its numbers are short within the limits of claims
 document_short : (command : Command) (doc : DocumentData) (said : Said) → IsAnswerOf command doc said → IsWithinClaims said → HasShortNumbers said
@@ -146,6 +194,9 @@ document_short command doc ReadFault answer within = tt
 document_short command doc NoMemory answer within = tt
 document_short command doc Accepted answer within = tt
 document_short command doc (ExchangeFails f x y at) answer within = tt
+document_short command doc (Supported prices) answer within = within_sayable (Supported prices) within
+document_short command doc (Cycle nodes cost) answer within = within_sayable (Cycle nodes cost) within
+document_short command doc (Solved on prices surplus) answer within = within_sayable (Solved on prices surplus) within
 
 -- it keeps the rules
 document_kept : (command : Command) (doc : DocumentData) → IsDocument (need_of command) doc → (said : Said) → IsAnswerOf command doc said → IsWithinClaims said → KeepsRules doc.names said

@@ -2,7 +2,7 @@
 use Rattle.std.proofs.Common.{◌≡◌, ℕ, ◌+◌, ◌≤◌, List, length, sym, subst, arith, ◌⊎◌, inl, inr}
 use Rattle.std.specs.Prelude.{Option}
 use Rattle.tn_market.specs.declared.said.Said.{Said}
-use Rattle.tn_market.specs.declared.said.Said.TheVariants.{Equilibrium, Better, Impossible, Fault, Usage, ReadFault, NoMemory, Accepted, ExchangeFails}
+use Rattle.tn_market.specs.declared.said.Said.TheVariants.{Equilibrium, Better, Impossible, Fault, Usage, ReadFault, NoMemory, Accepted, ExchangeFails, Supported, Cycle, Solved}
 use Rattle.tn_io.specs.Source.{TakesAtMost}
 use Rattle.tn_io.proofs.Taken.{Consumes-TakesFirst}
 use Rattle.tn_names.specs.Names.{NameLists}
@@ -33,6 +33,9 @@ taken_at_most command old new before after names (Better f bundle gain) may = ta
 taken_at_most command old new before after names (Impossible f) may = taken_or_long command old new names (Impossible f) may
 taken_at_most command old new before after names Accepted may = taken_or_long command old new names Accepted may
 taken_at_most command old new before after names (ExchangeFails f x y at) may = taken_or_long command old new names (ExchangeFails f x y at) may
+taken_at_most command old new before after names (Supported prices) may = taken_or_long command old new names (Supported prices) may
+taken_at_most command old new before after names (Cycle nodes cost) may = taken_or_long command old new names (Cycle nodes cost) may
+taken_at_most command old new before after names (Solved on prices surplus) may = taken_or_long command old new names (Solved on prices surplus) may
 
 -- where something may be said, it may be said that memory ran out
 pub may_run_out : (command : Command) (old new : Option (List ℕ)) (before after : ℕ) (names : NameLists) (said told : Said)

@@ -1,14 +1,13 @@
 -- What the program may say of what it read.
-use Rattle.std.specs.Prelude.{◌≡◌, ◌≢◌, ℕ, ◌+◌, ◌≤◌, ◌⊎◌, pos, List, [], length, Option, None, IfSome, Result, Ok, Err}
+use Rattle.std.specs.Prelude.{◌≡◌, ◌≢◌, ℕ, ℤ, ◌+◌, ◌≤◌, ◌⊎◌, pos, List, [], length, Option, None, IfSome, Result, Ok, Err}
 use Rattle.std.specs.Io.KnownBytes.{Consumes, IsAtEnd}
 use Rattle.tn_base.specs.declared.fault.FaultKind.TheVariants.{TooLong}
 use Rattle.tn_base.specs.Firm.{Firm}
 use Rattle.tn_market.specs.declared.said.Fault.{Fault as FaultIs}
 use Rattle.tn_market.specs.declared.said.Said.{Said}
-use Rattle.tn_market.specs.declared.said.Said.TheVariants.{Usage, ReadFault, NoMemory, Fault, Equilibrium, Better, Impossible, Accepted, ExchangeFails}
+use Rattle.tn_market.specs.declared.said.Said.TheVariants.{Usage, ReadFault, NoMemory, Fault, Equilibrium, Better, Impossible, Accepted, ExchangeFails, Supported, Cycle, Solved}
 use Rattle.tn_market.specs.declared.ends.Ends.{Ends}
 use Rattle.tn_market.specs.Best.{price_at}
-use Rattle.tn_market.specs.Equilibrium.{IsEfficient}
 use Rattle.tn_market.specs.Judged.{Judges}
 use Rattle.tn_io.specs.Counts.{Rose}
 use Rattle.tn_io.specs.Source.{TakesFirst, TakesAtMost}
@@ -18,7 +17,9 @@ use Rattle.tn_names.specs.Names.{NameLists, IsNameList}
 use Rattle.tn_listed.specs.Beside.{Stop}
 use Rattle.tn_file.specs.Document.{DocumentData, ExtraData, nothing, arrangement, reading_of}
 use Rattle.tn_run.specs.declared.command.Command.{Command}
-use Rattle.tn_run.specs.declared.command.Command.TheVariants.{Check, Test}
+use Rattle.tn_run.specs.declared.command.Command.TheVariants.{Check, Solve, Test}
+use Rattle.tn_run.specs.Implied.{IsEfficientAndStable}
+use Rattle.tn_run.specs.Solved.{Solves}
 use Rattle.tn_run.specs.Tested.{Tests}
 use Rattle.tn_run.specs.Words.{need_of}
 
@@ -26,26 +27,30 @@ use Rattle.tn_run.specs.Words.{need_of}
 abbrev pub document_limit : ℕ
 document_limit = 4194304
 
--- where it is said to be an equilibrium, no set of trades has a greater surplus
-abbrev pub IsEfficientWhereSaid : List Firm → List Ends → ℕ → Said → Type 0
-IsEfficientWhereSaid firms trades on Usage = Unit {0}
-IsEfficientWhereSaid firms trades on ReadFault = Unit {0}
-IsEfficientWhereSaid firms trades on NoMemory = Unit {0}
-IsEfficientWhereSaid firms trades on (Fault fault) = Unit {0}
-IsEfficientWhereSaid firms trades on (Equilibrium surplus) = IsEfficient firms trades on
-IsEfficientWhereSaid firms trades on (Better f bundle gain) = Unit {0}
-IsEfficientWhereSaid firms trades on (Impossible f) = Unit {0}
-IsEfficientWhereSaid firms trades on Accepted = Unit {0}
-IsEfficientWhereSaid firms trades on (ExchangeFails f x y at) = Unit {0}
+-- where it is said to be an equilibrium, it is efficient and stable
+abbrev pub IsStableWhereSaid : List Firm → List Ends → ℕ → (ℕ → ℤ) → Said → Type 0
+IsStableWhereSaid firms trades on prices Usage = Unit {0}
+IsStableWhereSaid firms trades on prices ReadFault = Unit {0}
+IsStableWhereSaid firms trades on prices NoMemory = Unit {0}
+IsStableWhereSaid firms trades on prices (Fault fault) = Unit {0}
+IsStableWhereSaid firms trades on prices (Equilibrium surplus) = IsEfficientAndStable firms trades on prices
+IsStableWhereSaid firms trades on prices (Better f bundle gain) = Unit {0}
+IsStableWhereSaid firms trades on prices (Impossible f) = Unit {0}
+IsStableWhereSaid firms trades on prices Accepted = Unit {0}
+IsStableWhereSaid firms trades on prices (ExchangeFails f x y at) = Unit {0}
+IsStableWhereSaid firms trades on prices (Supported their_prices) = Unit {0}
+IsStableWhereSaid firms trades on prices (Cycle nodes cost) = Unit {0}
+IsStableWhereSaid firms trades on prices (Solved their_on their_prices surplus) = Unit {0}
 
 -- the verdict on the arrangement of a document, at scale 1
 abbrev pub ChecksExtra : DocumentData → ExtraData → Said → Type 0
 ChecksExtra doc nothing said = ⊥
-ChecksExtra doc (arrangement at) said = Judges doc.firms doc.ends (pos 1) at.on (price_at at.prices) said × IsEfficientWhereSaid doc.firms doc.ends at.on said
+ChecksExtra doc (arrangement at) said = Judges doc.firms doc.ends (pos 1) at.on (price_at at.prices) said × IsStableWhereSaid doc.firms doc.ends at.on (price_at at.prices) said
 
 -- the defined answer of a command on a document
 abbrev pub IsAnswerOf : Command → DocumentData → Said → Type 0
 IsAnswerOf Check doc said = ChecksExtra doc doc.extra said
+IsAnswerOf Solve doc said = Solves doc.firms doc.ends said
 IsAnswerOf Test doc said = Tests doc.firms doc.ends said
 
 -- the defined answer where the bytes read so, over the names that are read
@@ -99,3 +104,6 @@ MayBeSaid command old new faults_old faults_new names (Better f bundle gain) = A
 MayBeSaid command old new faults_old faults_new names (Impossible f) = AnswersBytes command old new names (Impossible f)
 MayBeSaid command old new faults_old faults_new names Accepted = AnswersBytes command old new names Accepted
 MayBeSaid command old new faults_old faults_new names (ExchangeFails f x y at) = AnswersBytes command old new names (ExchangeFails f x y at)
+MayBeSaid command old new faults_old faults_new names (Supported prices) = AnswersBytes command old new names (Supported prices)
+MayBeSaid command old new faults_old faults_new names (Cycle nodes cost) = AnswersBytes command old new names (Cycle nodes cost)
+MayBeSaid command old new faults_old faults_new names (Solved on prices surplus) = AnswersBytes command old new names (Solved on prices surplus)

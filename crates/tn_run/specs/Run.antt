@@ -1,7 +1,7 @@
 -- What a whole run comes to.
 use Rattle.std.specs.Prelude.{◌≡◌, ℕ, ◌⊎◌, List, Option}
 use Rattle.tn_market.specs.declared.said.Said.{Said}
-use Rattle.tn_market.specs.declared.said.Said.TheVariants.{Usage, ReadFault, NoMemory, Fault, Equilibrium, Better, Impossible, Accepted, ExchangeFails}
+use Rattle.tn_market.specs.declared.said.Said.TheVariants.{Usage, ReadFault, NoMemory, Fault, Equilibrium, Better, Impossible, Accepted, ExchangeFails, Supported, Cycle, Solved}
 use Rattle.tn_io.specs.Counts.{Rose}
 use Rattle.tn_io.specs.Sink.{Grows, GrowsByPrefix}
 use Rattle.tn_names.specs.Names.{NameLists}
@@ -18,6 +18,9 @@ status_of (Better firm bundle gain) = 6
 status_of (Impossible firm) = 6
 status_of Accepted = 0
 status_of (ExchangeFails firm x y at) = 6
+status_of (Supported prices) = 0
+status_of (Cycle nodes cost) = 6
+status_of (Solved on prices surplus) = 0
 
 -- the text of the answer was written whole
 pub record IsWrittenWhole (old new : Option (List ℕ)) (names : NameLists) (said : Said) (status : ℕ) : Type 0 where

@@ -5,7 +5,7 @@ use Rattle.tn_base.specs.Exchange.{MeetsExchange}
 use Rattle.tn_exchange.specs.TestOrder.{Triple, IsFirstFailure}
 use Rattle.tn_market.specs.declared.ends.Ends.{Ends}
 use Rattle.tn_market.specs.declared.said.Said.{Said}
-use Rattle.tn_market.specs.declared.said.Said.TheVariants.{Usage, ReadFault, NoMemory, Fault, Equilibrium, Better, Impossible, Accepted, ExchangeFails}
+use Rattle.tn_market.specs.declared.said.Said.TheVariants.{Usage, ReadFault, NoMemory, Fault, Equilibrium, Better, Impossible, Accepted, ExchangeFails, Supported, Cycle, Solved}
 use Rattle.tn_market.specs.Network.{own, trades_of}
 
 -- each firm before f meets exchange
@@ -33,3 +33,6 @@ Tests firms trades (Better f bundle gain) = ⊥
 Tests firms trades (Impossible f) = ⊥
 Tests firms trades Accepted = MeetBefore firms (length firms)
 Tests firms trades (ExchangeFails f x y at) = IsFirstToFail firms trades f x y at
+Tests firms trades (Supported prices) = ⊥
+Tests firms trades (Cycle nodes cost) = ⊥
+Tests firms trades (Solved on prices surplus) = ⊥

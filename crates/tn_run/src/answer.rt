@@ -10,6 +10,7 @@ ghost use Rattle.tn_run.specs.Words.{need_of};
 
 use crate::checking::check;
 use crate::command::{Command, need_of};
+use crate::solving::solve;
 use crate::testing::test;
 use std::alloc::Global;
 use tn_answer::Names;
@@ -38,6 +39,19 @@ fn check_document(alloc: Global, doc: &Document) -> Result<Said, OutOfMemory>
     }
 }
 
+/// The answer of `solve` on a document.
+fn solve_document(alloc: Global, doc: &Document) -> Result<Said, OutOfMemory>
+    requires document { IsDocument Need.Market (document_view doc.now) }
+    requires loaded { IsLoadedFor Need.Market doc.now.firms }
+    ensures answer { IfOk result (IsAnswerOf Command.Solve (document_view doc.now)) }
+    ensures within { IfOk result IsWithinClaims }
+{
+    match &doc.firms {
+        Loaded::Market(market) => solve(alloc, market),
+        Loaded::Raw(_) => unreachable!(),
+    }
+}
+
 /// The answer of `test` on a document.
 fn test_document(alloc: Global, doc: &Document) -> Result<Said, OutOfMemory>
     requires document { IsDocument Need.Raw (document_view doc.now) }
@@ -61,6 +75,7 @@ fn answer_document(alloc: Global, command: Command, doc: &Document) -> Result<Sa
 {
     match command {
         Command::Check => check_document(alloc, doc),
+        Command::Solve => solve_document(alloc, doc),
         Command::Test => test_document(alloc, doc),
     }
 }

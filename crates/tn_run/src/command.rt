@@ -8,6 +8,8 @@ use tn_file::Need;
 pub enum Command {
     /// To judge a document's arrangement.
     Check,
+    /// To find an equilibrium of a document's network.
+    Solve,
     /// To test whether the firms of a document meet the exchange property.
     Test,
 }
@@ -21,6 +23,8 @@ pub fn command_of(words: &[String]) -> Option<Command>
         [word] => {
             if word.as_str() == "check" {
                 Some(Command::Check)
+            } else if word.as_str() == "solve" {
+                Some(Command::Solve)
             } else if word.as_str() == "test" {
                 Some(Command::Test)
             } else {
@@ -37,6 +41,7 @@ pub fn need_of(command: Command) -> Need
 {
     match command {
         Command::Check => Need::Arrangement,
+        Command::Solve => Need::Market,
         Command::Test => Need::Raw,
     }
 }

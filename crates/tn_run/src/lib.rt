@@ -7,6 +7,7 @@ mod command;
 mod exit;
 #[cfg(test)]
 mod kind_tests;
+mod solving;
 mod testing;
 #[cfg(test)]
 mod tests;

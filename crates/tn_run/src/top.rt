@@ -32,12 +32,16 @@ fn status_of(said: &Said) -> u8
     ensures { result ≡ status_of said.now }
 {
     match said {
-        Said::Equilibrium { .. } | Said::Accepted => 0,
+        Said::Equilibrium { .. } | Said::Accepted | Said::Supported { .. } | Said::Solved { .. } =>
+            0,
         Said::Fault(_) => 1,
         Said::Usage => 2,
         Said::ReadFault => 3,
         Said::NoMemory => 5,
-        Said::Better { .. } | Said::Impossible { .. } | Said::ExchangeFails { .. } => 6,
+        Said::Better { .. }
+        | Said::Impossible { .. }
+        | Said::ExchangeFails { .. }
+        | Said::Cycle { .. } => 6,
     }
 }
 
