@@ -12,7 +12,7 @@ use Rattle.tn_shape.specs.Shapes.{list_at, object_of}
 use Rattle.tn_shape.proofs.LeadLemmas.{Leads, leads_ok, leads_bind, leads_after}
 use Rattle.tn_refer.proofs.EntryLeads.{AreNumbers}
 use Rattle.tn_extra.specs.Lists.{one_on, prices_of}
-use Rattle.tn_extra.specs.Arranged.{on_place, prices_place, on_of, arrangement_of, IsArrangement}
+use Rattle.tn_extra.specs.Arranged.{on_place, prices_place, on_of, trades_on_of, arrangement_of, IsArrangement}
 use Rattle.tn_extra.proofs.ListLeads.{IsSetOf, set_leads, prices_lead}
 
 module _ (trades : List (List ℕ)) where
@@ -27,6 +27,12 @@ module _ (trades : List (List ℕ)) where
       leads_after HasSet (list_at on_place (get (codes "on") part)) _ (λ references.
       leads_bind (IsSetOf trades on_place) HasSet (each (one_on trades on_place) 0 references) _ (set_leads trades on_place references) (λ on below.
       leads_ok HasSet (part, on) below))))
+
+  pub trades_on_leads : (top : Data) → Leads (IsSetOf trades on_place) (trades_on_of trades top)
+  unfolding trades_on_of
+  trades_on_leads top =
+      leads_bind HasSet (IsSetOf trades on_place) (on_of trades top) _ (on_leads top) (λ part below.
+      leads_ok (IsSetOf trades on_place) part.1 below)
 
   pub arrangement_leads : (top : Data) → Leads (IsArrangement (length trades)) (arrangement_of trades top)
   unfolding arrangement_of

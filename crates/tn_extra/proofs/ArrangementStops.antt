@@ -13,7 +13,7 @@ use Rattle.tn_shape.proofs.ShapeStops.{list_stops, object_stops}
 use Rattle.tn_shape.proofs.StopLemmas.{IsPlain, Stops, StopsPlainly, plain_wanted, stops_bind, stops_ok}
 use Rattle.tn_refer.proofs.ToldLemmas.{IsTold, told_from_plain}
 use Rattle.tn_extra.specs.Lists.{one_on, prices_of}
-use Rattle.tn_extra.specs.Arranged.{on_place, prices_place, on_of, arrangement_of}
+use Rattle.tn_extra.specs.Arranged.{on_place, prices_place, on_of, trades_on_of, arrangement_of}
 use Rattle.tn_extra.proofs.ListStops.{prices_stop, set_stops}
 
 module _ (trades : List (List ℕ)) (few : length trades ≤ 1024) where
@@ -25,6 +25,12 @@ module _ (trades : List (List ℕ)) (few : length trades ≤ 1024) where
       stops_bind IsPlain (list_at on_place (get (codes "on") part)) _ (list_stops on_place (tt, (tt, tt)) (get (codes "on") part)) (λ references.
       stops_bind IsPlain (each (one_on trades on_place) 0 references) _ (set_stops trades few on_place (tt, (tt, tt)) references) (λ on.
       stops_ok IsPlain (part, on)))))
+
+  pub trades_on_stop : (top : Data) → StopsPlainly (trades_on_of trades top)
+  unfolding trades_on_of
+  trades_on_stop top =
+      stops_bind IsPlain (on_of trades top) _ (on_stops top) (λ part.
+      stops_ok IsPlain part.1)
 
   pub arrangement_stops : (top : Data) → Stops (IsTold trades) (arrangement_of trades top)
   unfolding arrangement_of

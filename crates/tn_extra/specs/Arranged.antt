@@ -28,6 +28,12 @@ on_of trades top = do
   on ← each (one_on trades on_place) 0 references
   Ok (part, on)
 
+-- the trades that are on alone: the prices are unread, and may be absent
+unfoldable pub trades_on_of : List (List ℕ) → Data → Result ℕ Fault
+trades_on_of trades top = do
+  part ← on_of trades top
+  Ok part.1
+
 pub record Arranged : Type 0 where
   pub on : ℕ
   pub prices : List ℤ

@@ -1,7 +1,7 @@
 ghost use Rattle.std.specs.Prelude.{◌≤◌, length};
 ghost use Rattle.serde_json.specs.View.{view};
 ghost use Rattle.tn_shape.specs.Reading.{Gives};
-ghost use Rattle.tn_extra.specs.Arranged.{Arranged, arrangement_of, on_of};
+ghost use Rattle.tn_extra.specs.Arranged.{Arranged, arrangement_of, on_of, trades_on_of};
 
 use crate::lists::{ListAt, read_prices, read_trades};
 use serde_json::Value;
@@ -37,6 +37,16 @@ pub fn read_arrangement(
         on,
         prices: Prices::from_vec(prices),
     })
+}
+
+/// The trades that are on in a document's arrangement, whatever its prices are.
+#[tactic(auto, unfolding(crate::specs::Arranged::trades_on_of))]
+pub fn read_trades_on(alloc: Global, names: &Names, top: &Value) -> Result<TradeSet<2>, ReadError>
+    requires { length names.now.trades ≤ 128 }
+    ensures { Gives (λ on. on) result (trades_on_of names.now.trades (view top.now)) }
+{
+    let (_, on) = read_on(alloc, names, top)?;
+    Ok(on)
 }
 
 /// The part that is the arrangement, and the trades that are on.

@@ -4,4 +4,4 @@
 mod arrangement;
 mod lists;
 
-pub use arrangement::read_arrangement;
+pub use arrangement::{read_arrangement, read_trades_on};
