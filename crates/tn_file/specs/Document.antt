@@ -7,25 +7,28 @@ use Rattle.tn_market.specs.declared.ends.Ends.{Ends}
 use Rattle.tn_market.specs.declared.said.Fault.{Fault}
 use Rattle.tn_names.specs.Names.{NameLists, no_names}
 use Rattle.tn_file.specs.declared.need.Need.{Need}
-use Rattle.tn_file.specs.declared.need.Need.TheVariants.{Market, Raw, Arrangement}
+use Rattle.tn_file.specs.declared.need.Need.TheVariants.{Market, Raw, Arrangement, On}
 use Rattle.tn_refer.specs.Ordered.{Listed}
 use Rattle.tn_listed.specs.Beside.{Stop, beside}
 use Rattle.tn_shape.specs.Reading.{◌>>=◌, each, wanted}
 use Rattle.tn_file.specs.Json.{json_of}
 use Rattle.tn_kinds.specs.Firms.{one_firm}
-use Rattle.tn_extra.specs.Arranged.{Arranged, arrangement_of}
+use Rattle.tn_extra.specs.Arranged.{Arranged, arrangement_of, trades_on_of}
 use Rattle.tn_listed.specs.Listing.{listed_of}
 
 -- what a command reads beside the network
 pub data ExtraData : Type 0 where
   nothing : ExtraData
   arrangement : Arranged → ExtraData
+  -- the trades that are on
+  on_alone : ℕ → ExtraData
 
 -- each firm is to meet exchange, unless the network is read raw
 abbrev pub is_tested : Need → Bool
 is_tested Market = true
 is_tested Raw = false
 is_tested Arrangement = true
+is_tested On = true
 
 unfoldable pub extra_of : Need → List (List ℕ) → Data → Result ExtraData Fault
 extra_of Market trades top = Ok nothing
@@ -33,6 +36,9 @@ extra_of Raw trades top = Ok nothing
 extra_of Arrangement trades top = do
   arranged ← arrangement_of trades top
   Ok (arrangement arranged)
+extra_of On trades top = do
+  on ← trades_on_of trades top
+  Ok (on_alone on)
 
 -- the firms that are listed, and then the extra part
 unfoldable pub content_of : Need → Listed → Items → Data → Result (List Firm × ExtraData) Fault

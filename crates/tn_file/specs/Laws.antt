@@ -1,5 +1,5 @@
 -- What holds of every document that is read, and of every fault, in words that know nothing of the reading.
-use Rattle.std.specs.Prelude.{◌≡◌, ◌≢◌, ℕ, ◌≤◌, List, length, slice_get, true, Some, Ok, Err}
+use Rattle.std.specs.Prelude.{◌≡◌, ◌≢◌, ℕ, ◌≤◌, ◌<◌, ◌^◌, List, length, slice_get, true, Some, Ok, Err}
 use Rattle.tn_base.specs.declared.fault.FaultKind.TheVariants.{TooLong}
 use Rattle.tn_base.specs.Firm.{Firm, HasOwnBundles, MayAbstain}
 use Rattle.tn_market.specs.Accepted.{AreAccepted}
@@ -7,13 +7,14 @@ use Rattle.tn_market.specs.Network.{IsNetwork, HaveAscendingPositions}
 use Rattle.tn_names.specs.Names.{IsNameList}
 use Rattle.tn_file.specs.declared.need.Need.{Need}
 use Rattle.tn_listed.specs.Beside.{Stop, IsStop}
-use Rattle.tn_file.specs.Document.{DocumentData, ExtraData, nothing, arrangement, is_tested, reading_of}
+use Rattle.tn_file.specs.Document.{DocumentData, ExtraData, nothing, arrangement, on_alone, is_tested, reading_of}
 use Rattle.tn_kinds.specs.Laws.{IsListedFirm}
 use Rattle.tn_extra.specs.Arranged.{IsArrangement}
 
 abbrev pub IsExtra : ℕ → ExtraData → Type 0
 IsExtra trades nothing = Unit {0}
 IsExtra trades (arrangement part) = IsArrangement trades part
+IsExtra trades (on_alone on) = on < 2 ^ trades
 
 pub record IsDocument (need : Need) (doc : DocumentData) : Type 0 where
   -- different names that keep the rule, one for each firm and one for each trade

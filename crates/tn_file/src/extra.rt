@@ -8,7 +8,8 @@ ghost use Rattle.tn_file.specs.Refusal.{IsExtraFor};
 use crate::need::Need;
 use serde_json::Value;
 use std::alloc::Global;
-use tn_extra::read_arrangement;
+use tn_base::TradeSet;
+use tn_extra::{read_arrangement, read_trades_on};
 use tn_market::Arrangement;
 use tn_names::Names;
 use tn_shape::ReadError;
@@ -20,6 +21,8 @@ pub enum Extra {
     None,
     /// The arrangement.
     Arrangement(Arrangement<2>),
+    /// The trades that are on.
+    On(TradeSet<2>),
 }
 
 /// The part that is needed beside the network.
@@ -39,6 +42,10 @@ pub(crate) fn read_extra(
         Need::Arrangement => {
             let arrangement = read_arrangement(alloc, names, top)?;
             Ok(Extra::Arrangement(arrangement))
+        }
+        Need::On => {
+            let on = read_trades_on(alloc, names, top)?;
+            Ok(Extra::On(on))
         }
     }
 }

@@ -7,4 +7,6 @@ pub enum Need {
     Raw,
     /// The network, as for a market, and the arrangement.
     Arrangement,
+    /// The network, as for a market, and of the arrangement only the trades that are on.
+    On,
 }

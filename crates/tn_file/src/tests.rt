@@ -1,6 +1,6 @@
 //! Documents and their first faults.
 
-use crate::{DocRefusal, Need, read_doc};
+use crate::{DocRefusal, Extra, Need, read_doc};
 use std::alloc::Global;
 use std::test::Fail;
 use tn_base::FaultKind;
@@ -268,6 +268,54 @@ fn tells_the_first_fault(rt: HostRuntime) {
 /// Whether the document is read.
 fn is_read(alloc: Global, need: Need, bytes: &[u8]) -> bool {
     read_doc(alloc, need, bytes).is_ok()
+}
+
+/// How many trades are on, where the trades that are on are read alone.
+fn count_on(alloc: Global, bytes: &[u8]) -> Option<u32> {
+    let doc = read_doc(alloc, Need::On, bytes).ok()?;
+    match &doc.extra {
+        Extra::On(on) => Some(on.count()),
+        Extra::None | Extra::Arrangement(_) => None,
+    }
+}
+
+/// A document of one trade with this arrangement.
+fn arranged(alloc: Global, arrangement: &str) -> Result<String, Fail> {
+    let mut text = String::from_str(alloc, "{\"arrangement\":")?;
+    text.push_str(arrangement)?;
+    text.push_str(",")?;
+    text.push_str(
+        r#""version":1,"firms":[{"name":"S","kind":"table","rows":[[["a"],-3]]},{"name":"B","kind":"table","rows":[[["a"],5]]}],"trades":[{"name":"a","seller":"S","buyer":"B"}]}"#,
+    )?;
+    Ok(text)
+}
+
+#[test]
+fn reads_no_prices_with_the_trades_that_are_on_alone(rt: HostRuntime) -> Result<(), Fail> {
+    let alloc = rt.alloc();
+    for arrangement in [
+        r#"{"on":["a"]}"#,
+        r#"{"on":["a"],"prices":1}"#,
+        r#"{"on":["a"],"prices":[["z"]]}"#,
+    ] {
+        let text = arranged(alloc, arrangement)?;
+        assert!(rt;
+            count_on(alloc, text.as_bytes()) == Some(1),
+            "{arrangement}"
+        );
+    }
+    let twice = arranged(alloc, r#"{"on":["a","a"]}"#)?;
+    let place = [ARRANGEMENT, ON, Index(1)];
+    assert!(rt;
+        has_fault(
+            alloc,
+            Need::On,
+            twice.as_bytes(),
+            FaultKind::SameTrade,
+            &place
+        )
+    );
+    Ok(())
 }
 
 /// Firms in a ring, with so many trades from one to the next.
