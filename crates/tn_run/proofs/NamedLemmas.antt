@@ -20,7 +20,7 @@ use Rattle.tn_answer.specs.Kept.{HasAscendingTrades, IsWithinClaims}
 use Rattle.tn_answer.proofs.LawLemmas.{within_sayable}
 use Rattle.tn_file.specs.declared.document.DocRefusal.{DocRefusal}
 use Rattle.tn_file.specs.declared.need.Need.{Need}
-use Rattle.tn_file.specs.Document.{DocumentData, ExtraData, nothing, arrangement, reading_of}
+use Rattle.tn_file.specs.Document.{DocumentData, ExtraData, nothing, arrangement, on_alone, reading_of}
 use Rattle.tn_file.specs.Laws.{IsDocument}
 use Rattle.tn_listed.specs.Beside.{IsStop}
 use Rattle.tn_file.specs.Refusal.{Reads}
@@ -64,6 +64,7 @@ module _ (need : Need) (doc : DocumentData) (is : IsDocument need doc) where
 
   checked_named : (extra : ExtraData) (said : Said) → ChecksExtra doc extra said → IsNamedAnswer doc.names said
   checked_named nothing said checks = absurd checks
+  checked_named (on_alone on) said checks = absurd checks
   checked_named (arrangement at) said checks = judged_named (pos 1) at.on (price_at at.prices) said checks.0
 
   -- the answer of `test`
@@ -111,6 +112,7 @@ module _ (need : Need) (doc : DocumentData) (is : IsDocument need doc) where
 
   checked_ascends : (extra : ExtraData) (said : Said) → ChecksExtra doc extra said → HasAscendingTrades said
   checked_ascends nothing said checks = absurd checks
+  checked_ascends (on_alone on) said checks = absurd checks
   checked_ascends (arrangement at) said checks = judged_ascends (pos 1) at.on (price_at at.prices) said checks.0
 
   tested_ascends : (said : Said) → Tests doc.firms doc.ends said → HasAscendingTrades said
@@ -180,6 +182,7 @@ no_fault Check doc fault answer = by_extra doc.extra answer
     by_extra : (extra : ExtraData) → ChecksExtra doc extra (Fault fault) → ⊥
     by_extra nothing checks = checks
     by_extra (arrangement at) checks = checks.0
+    by_extra (on_alone on) checks = checks
 no_fault Test doc fault answer = answer
 no_fault Solve doc fault answer = answer
 

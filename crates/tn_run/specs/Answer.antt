@@ -15,7 +15,7 @@ use Rattle.tn_answer.specs.Apart.{HasShortNumbers, IsNamedAnswer}
 use Rattle.tn_answer.specs.Kept.{HasAscendingTrades}
 use Rattle.tn_names.specs.Names.{NameLists, IsNameList}
 use Rattle.tn_listed.specs.Beside.{Stop}
-use Rattle.tn_file.specs.Document.{DocumentData, ExtraData, nothing, arrangement, reading_of}
+use Rattle.tn_file.specs.Document.{DocumentData, ExtraData, nothing, arrangement, on_alone, reading_of}
 use Rattle.tn_run.specs.declared.command.Command.{Command}
 use Rattle.tn_run.specs.declared.command.Command.TheVariants.{Check, Solve, Test}
 use Rattle.tn_run.specs.Implied.{IsEfficientAndStable}
@@ -46,6 +46,7 @@ IsStableWhereSaid firms trades on prices (Solved their_on their_prices surplus) 
 abbrev pub ChecksExtra : DocumentData → ExtraData → Said → Type 0
 ChecksExtra doc nothing said = ⊥
 ChecksExtra doc (arrangement at) said = Judges doc.firms doc.ends (pos 1) at.on (price_at at.prices) said × IsStableWhereSaid doc.firms doc.ends at.on (price_at at.prices) said
+ChecksExtra doc (on_alone on) said = ⊥
 
 -- the defined answer of a command on a document
 abbrev pub IsAnswerOf : Command → DocumentData → Said → Type 0

@@ -33,7 +33,7 @@ fn check_document(alloc: Global, doc: &Document) -> Result<Said, OutOfMemory>
     match &doc.firms {
         Loaded::Market(market) => match &doc.extra {
             Extra::Arrangement(at) => check(alloc, market, at),
-            Extra::None => unreachable!(),
+            Extra::None | Extra::On(_) => unreachable!(),
         },
         Loaded::Raw(_) => unreachable!(),
     }
