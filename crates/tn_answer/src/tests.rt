@@ -1,6 +1,6 @@
 ghost use Rattle.tn_answer.specs.Sayable.{IsSayable};
 
-use crate::{Names, answer_text, no_memory_text, read_fault_text, usage_text};
+use crate::{Names, answer_text, is_name, no_memory_text, read_fault_text, usage_text};
 use std::alloc::Global;
 use std::process::Abort;
 use std::test::Fail;
