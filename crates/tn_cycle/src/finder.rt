@@ -1,4 +1,4 @@
-ghost use Rattle.std.specs.Prelude.{◌≡◌, ℕ, ◌+◌, ◌-◌, ◌*◌, ◌<◌, ◌≤◌, Some, None, length, slice_get, IfOk, IsTrue, IsSome};
+ghost use Rattle.std.specs.Prelude.{◌≡◌, ℕ, ◌+◌, ◌-◌, ◌*◌, ◌<◌, ◌≤◌, Some, length, slice_get, IfOk, IsSome};
 ghost use Rattle.tn_base.specs.Walks.{arcs_among, is_admitted, is_looked_at, HasNoNegativeCycle};
 ghost use Rattle.tn_cycle.specs.Searched.{HasNoNegativeCycleOff};
 

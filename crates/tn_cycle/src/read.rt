@@ -1,6 +1,5 @@
-ghost use Rattle.std.specs.Prelude.{◌≡◌, ℕ, ◌+◌, ◌<◌, ◌≤◌, ◌^◌, pos, neg_ℤ, ◌≤ℤ◌, ◌-ℤ◌, All, length, take, reverse, Option, Some, slice_index_or};
-ghost use Rattle.tn_base.specs.Arcs.{IsAtMost};
-ghost use Rattle.tn_cycle.specs.Cells.{HasRoom, cell_at};
+ghost use Rattle.std.specs.Prelude.{◌≡◌, ◌+◌, ◌<◌, ◌≤◌, ◌^◌, length, take, reverse};
+ghost use Rattle.tn_cycle.specs.Cells.{cell_at};
 ghost use Rattle.tn_cycle.specs.Reading.{IsListable, walk_nodes, way};
 
 use crate::cell::Cell;

@@ -1,9 +1,6 @@
-ghost use Rattle.std.specs.Prelude.{◌≡◌, ◌<◌, ◌≤◌, false};
-ghost use Rattle.tn_base.specs.Sets.{has};
 ghost use Rattle.tn_cycle.specs.Ring.{ring, between-ring, small-ring};
 
 use super::*;
-use std::process::Abort;
 use std::test::Fail;
 use tn_base::{Costs, TradeSet};
 
