@@ -23,6 +23,14 @@ def items: if type == "array" then .[] else empty end;
   def contented($firm): earlier($firm) | if . == [] then empty elif length == 1 then "\(.[0]), which stands before \($firm) in the document, is content." else "\(listed), which stand before \($firm) in the document, are content." end;
   def off: [$network.trades | items | objects | .name | select(. as $n | $on | index($n) | not)];
   def sentence_of($name): trade($name) | "\(.seller) sells \($name) to \(.buyer)\(at_price($name)).";
+  def trading: ($on[] as $t | sentence_of($t)), (if $on == [] then "Nothing is traded." else empty end);
+  def keeping_off: if off == [] then empty else "Their prices keep the other trades off: \([off[] as $t | $t + at_price($t)] | listed)." end;
+  def is_on($name): $on | index($name) != null;
+  # a cycle's arc from one node to the next: the firm that the one raises and the other lowers, and what it would do
+  def rise($name): trade($name) | if is_on($name) then {firm: .seller, act: "keep back \($name)"} else {firm: .buyer, act: "buy \($name) from \(.seller)"} end;
+  def fall($name): trade($name) | if is_on($name) then {firm: .buyer, act: "give up \($name)"} else {firm: .seller, act: "sell \($name) to \(.buyer)"} end;
+  def change($from; $to): [if $from == null then empty else rise($from) end, if $to == null then empty else fall($to) end]
+    | "\(.[0].firm) would \(map(.act) | join(" and ")).";
   def cause:
     {"1": "the bytes are no JSON value", "2": "the document is too long", "3": "a value is missing, isn't of the wanted shape, or has a member that isn't allowed",
      "4": "a name doesn't keep the rule", "5": "the name is taken already", "6": "there is no firm of this name", "7": "a firm would trade with itself",
@@ -38,19 +46,30 @@ def items: if type == "array" then .[] else empty end;
      else "To come one step closer to y, x would toggle \(.at), and y with it: alone, where x has more purchases less sales, or together with one other trade. In no way do both stay possible and worth as much together as before." end);
   if .answer == "equilibrium" then
     "This is an equilibrium: at these prices each firm has a bundle that is best for it, and nobody would rather do something else.",
-    ($on[] as $t | sentence_of($t)),
-    (if $on == [] then "Nothing is traded." else empty end),
-    (if off == [] then empty else "Their prices keep the other trades off: \([off[] as $t | $t + at_price($t)] | listed)." end),
+    trading, keeping_off,
     "The worths of the firms sum to \(.surplus), and no other set of trades has more."
+  elif .answer == "solved" then
+    "An equilibrium is found: at these prices each firm has a bundle that is best for it, and nobody would rather do something else.",
+    trading, keeping_off,
+    "The worths of the firms sum to \(.surplus), and no other set of trades has more."
+  elif .answer == "prices" then
+    "There are prices for these trades: at those below each firm has a bundle that is best for it, and nobody would rather do something else.",
+    trading, keeping_off,
+    "No other set of trades has a greater sum of worths."
+  elif .answer == "cycle" then
+    "No prices go with these trades. The reason is a round of changes, each by one firm:",
+    (.nodes as $nodes | range($nodes | length) as $k | change($nodes[$k]; $nodes[($k + 1) % ($nodes | length)])),
+    "What these firms would lose in worth sums to \(.cost), so in sum they would gain, and in the round each price is paid once and got once. So at any prices at least one of them would rather make its change."
   elif .answer == "better" then
     "This is no equilibrium: \(.firm) would do better.",
     "As it is, \(.firm) \(does(.firm; own(.firm; $on))).",
     "At these prices it would rather \(do(.firm; .bundle)): its utility is then greater by \(.gain), and no bundle brings it more.",
     contented(.firm)
   elif .answer == "impossible" then
-    "This is no equilibrium: what \(.firm) has is impossible for it, whatever the prices.",
+    "This is no equilibrium at any prices: what \(.firm) has is impossible for it.",
     "It \(does(.firm; own(.firm; $on))), and gives this bundle no worth.",
-    contented(.firm)
+    (earlier(.firm) as $others | .firm as $firm | if $others == [] then empty
+     else "What \($others | listed) \(if $others | length == 1 then "has is" else "have is" end) possible." end)
   elif .answer == "accepted" then
     "Each firm meets the exchange property: its purchases are substitutes for each other, so are its sales, and a sale more never makes it want a purchase less."
   elif .answer == "exchange_fails" then

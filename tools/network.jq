@@ -13,14 +13,14 @@ def items: if type == "array" then .[] else empty end;
 | ($network.arrangement | if type == "object" then . else {} end) as $arrangement
 # (an answer's own trades and prices come before those of the document)
 | ($said.on // $arrangement.on) as $on
-| ($said.prices // $arrangement.prices
+| (if $said.answer == "cycle" then null else $said.prices // $arrangement.prices end
    | [items | select(type == "array" and length == 2 and (.[0] | type) == "string") | {(.[0]): .[1]}] | add // {}) as $prices
 | ([$network.firms | items | objects]) as $firms
 | (if $said.place[0]? == "firms" and ($said.place[1]? | type) == "number" then $firms[$said.place[1]].name else null end) as $faulty
 | {x: "#b45309", y: "#1d4ed8", both: "#7e22ce"} as $colour
 | def in_list($name): [items | . == $name] | any;
   def colour_of($name):
-    if ($said.bundle | in_list($name)) or ($said.keeps | in_list($name)) then $colour.x
+    if ($said.bundle | in_list($name)) or ($said.keeps | in_list($name)) or ($said.nodes | in_list($name)) then $colour.x
     elif ($said.x | in_list($name)) and ($said.y | in_list($name)) then $colour.both
     elif $said.x | in_list($name) then $colour.x
     elif $said.y | in_list($name) then $colour.y
@@ -28,6 +28,9 @@ def items: if type == "array" then .[] else empty end;
   def caption:
     if $said.answer == null then null
     elif $said.answer == "equilibrium" then "equilibrium, surplus \($said.surplus)"
+    elif $said.answer == "solved" then "solved, surplus \($said.surplus)"
+    elif $said.answer == "prices" then "prices that support the trades"
+    elif $said.answer == "cycle" then "no prices: the cycle \($said.nodes | map(tostring) | join(", ")) costs \($said.cost)"
     elif $said.answer == "better" then "\($said.firm) would gain \($said.gain) with \($said.bundle | listed)"
     elif $said.answer == "impossible" then "what \($said.firm) has is impossible"
     elif $said.answer == "accepted" then "every firm meets the exchange property"
