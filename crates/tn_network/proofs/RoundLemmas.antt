@@ -83,7 +83,7 @@ setting firms trades on t vs cost round = record {
 }
 
 -- the inner nodes of a cycle avoid its first one
-cycle_avoids : (t : ℕ) (vs : List ℕ) → AreDifferent (t ∷ vs) → Avoids t vs
+pub cycle_avoids : (t : ℕ) (vs : List ℕ) → AreDifferent (t ∷ vs) → Avoids t vs
 cycle_avoids t vs different = λ k d h e.
     let same = different 0 (suc k) t refl (slice_get-get_or vs k d h ∙ ap (λ (z : ℕ). Some z) e) in
     absurd (omega (arith, same))

@@ -1,2 +1,3 @@
 pub mod JudgeLemmas
 pub mod SupportLemmas
+pub mod CycleLemmas

@@ -5,3 +5,4 @@ pub mod TakenLemmas
 pub mod NamedLemmas
 pub mod CompleteLemmas
 pub mod SolveLemmas
+pub mod SupportedLemmas

@@ -28,12 +28,14 @@ use Rattle.tn_file.proofs.DocumentLeads.{documents_are_networks}
 use Rattle.tn_file.proofs.DocumentStops.{faults_are_sayable}
 use Rattle.tn_kinds.proofs.ShownLemmas.{OwnAreNamed, own_position_of, trades_named, triple_named}
 use Rattle.tn_kinds.proofs.KindLemmas.{listed_own_bundles}
-use Rattle.tn_run.specs.Answer.{ChecksExtra, IsAnswerOf, KeepsRules}
+use Rattle.tn_run.specs.Answer.{ChecksExtra, SupportsExtra, IsAnswerOf, KeepsRules}
+use Rattle.tn_price.proofs.CycleLemmas.{nodes_inside}
 use Rattle.tn_run.specs.Solved.{Solves}
+use Rattle.tn_run.specs.Supported.{SupportsSet}
 use Rattle.tn_run.specs.Tested.{IsFirstToFail, Tests}
 use Rattle.tn_run.specs.Words.{need_of}
 use Rattle.tn_run.specs.declared.command.Command.{Command}
-use Rattle.tn_run.specs.declared.command.Command.TheVariants.{Check, Solve, Test}
+use Rattle.tn_run.specs.declared.command.Command.TheVariants.{Check, Solve, Support, Test}
 
 module _ (need : Need) (doc : DocumentData) (is : IsDocument need doc) where
   -- a firm of the document has a name, and so have its own trades
@@ -150,6 +152,46 @@ module _ (need : Need) (doc : DocumentData) (is : IsDocument need doc) where
   solved_named (Supported prices) solves = absurd solves
   solved_named (Cycle nodes cost) solves = absurd solves
 
+  -- the answer of `support`
+  supported_named : (on : ℕ) (said : Said) → SupportsSet doc.firms doc.ends on said → IsNamedAnswer doc.names said
+  supported_named on (Impossible f) supports = firm_named f supports.0.firm supports.0.is
+  supported_named on (Supported prices) supports = supports.0.one_each ∙ sym is.trades_named
+  supported_named on (Cycle nodes cost) supports =
+      subst (λ n. All (λ node. IfSome node (λ t. t < n)) nodes) (sym is.trades_named) (nodes_inside doc.firms doc.ends on nodes cost supports.0)
+  supported_named on (Equilibrium surplus) supports = absurd supports
+  supported_named on (Better f bundle gain) supports = absurd supports
+  supported_named on (Fault fault) supports = absurd supports
+  supported_named on Usage supports = absurd supports
+  supported_named on ReadFault supports = absurd supports
+  supported_named on NoMemory supports = absurd supports
+  supported_named on Accepted supports = absurd supports
+  supported_named on (ExchangeFails f x y at) supports = absurd supports
+  supported_named on (Solved their_on prices surplus) supports = absurd supports
+
+  priced_named : (extra : ExtraData) (said : Said) → SupportsExtra doc extra said → IsNamedAnswer doc.names said
+  priced_named nothing said supports = absurd supports
+  priced_named (arrangement at) said supports = absurd supports
+  priced_named (on_alone on) said supports = supported_named on said supports
+
+  supported_ascends : (on : ℕ) (said : Said) → SupportsSet doc.firms doc.ends on said → HasAscendingTrades said
+  supported_ascends on (Impossible f) supports = tt
+  supported_ascends on (Supported prices) supports = tt
+  supported_ascends on (Cycle nodes cost) supports = tt
+  supported_ascends on (Equilibrium surplus) supports = absurd supports
+  supported_ascends on (Better f bundle gain) supports = absurd supports
+  supported_ascends on (Fault fault) supports = absurd supports
+  supported_ascends on Usage supports = absurd supports
+  supported_ascends on ReadFault supports = absurd supports
+  supported_ascends on NoMemory supports = absurd supports
+  supported_ascends on Accepted supports = absurd supports
+  supported_ascends on (ExchangeFails f x y at) supports = absurd supports
+  supported_ascends on (Solved their_on prices surplus) supports = absurd supports
+
+  priced_ascends : (extra : ExtraData) (said : Said) → SupportsExtra doc extra said → HasAscendingTrades said
+  priced_ascends nothing said supports = absurd supports
+  priced_ascends (arrangement at) said supports = absurd supports
+  priced_ascends (on_alone on) said supports = supported_ascends on said supports
+
   solved_ascends : (said : Said) → Solves doc.firms doc.ends said → HasAscendingTrades said
   solved_ascends (Solved on prices surplus) solves = subst IsStrictlyIncreasing (sym solves.on_is) (on_ascends solves.set (length doc.ends))
   solved_ascends (Equilibrium surplus) solves = absurd solves
@@ -168,11 +210,13 @@ module _ (need : Need) (doc : DocumentData) (is : IsDocument need doc) where
 document_ascends : (command : Command) (doc : DocumentData) → IsDocument (need_of command) doc → (said : Said) → IsAnswerOf command doc said → HasAscendingTrades said
 document_ascends Check doc is said answer = checked_ascends (need_of Check) doc is doc.extra said answer
 document_ascends Solve doc is said answer = solved_ascends (need_of Solve) doc is said answer
+document_ascends Support doc is said answer = priced_ascends (need_of Support) doc is doc.extra said answer
 document_ascends Test doc is said answer = tested_ascends (need_of Test) doc is said answer
 
 document_named : (command : Command) (doc : DocumentData) → IsDocument (need_of command) doc → (said : Said) → IsAnswerOf command doc said → IsNamedAnswer doc.names said
 document_named Check doc is said answer = checked_named (need_of Check) doc is doc.extra said answer
 document_named Solve doc is said answer = solved_named (need_of Solve) doc is said answer
+document_named Support doc is said answer = priced_named (need_of Support) doc is doc.extra said answer
 document_named Test doc is said answer = tested_named (need_of Test) doc is said answer
 
 -- what is said of a document is no fault
@@ -183,6 +227,12 @@ no_fault Check doc fault answer = by_extra doc.extra answer
     by_extra nothing checks = checks
     by_extra (arrangement at) checks = checks.0
     by_extra (on_alone on) checks = checks
+no_fault Support doc fault answer = by_extra doc.extra answer
+  where
+    by_extra : (extra : ExtraData) → SupportsExtra doc extra (Fault fault) → ⊥
+    by_extra nothing supports = supports
+    by_extra (arrangement at) supports = supports
+    by_extra (on_alone on) supports = supports
 no_fault Test doc fault answer = answer
 no_fault Solve doc fault answer = answer
 

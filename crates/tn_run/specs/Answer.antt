@@ -17,9 +17,10 @@ use Rattle.tn_names.specs.Names.{NameLists, IsNameList}
 use Rattle.tn_listed.specs.Beside.{Stop}
 use Rattle.tn_file.specs.Document.{DocumentData, ExtraData, nothing, arrangement, on_alone, reading_of}
 use Rattle.tn_run.specs.declared.command.Command.{Command}
-use Rattle.tn_run.specs.declared.command.Command.TheVariants.{Check, Solve, Test}
+use Rattle.tn_run.specs.declared.command.Command.TheVariants.{Check, Solve, Support, Test}
 use Rattle.tn_run.specs.Implied.{IsEfficientAndStable}
 use Rattle.tn_run.specs.Solved.{Solves}
+use Rattle.tn_run.specs.Supported.{SupportsSet}
 use Rattle.tn_run.specs.Tested.{Tests}
 use Rattle.tn_run.specs.Words.{need_of}
 
@@ -48,10 +49,17 @@ ChecksExtra doc nothing said = ⊥
 ChecksExtra doc (arrangement at) said = Judges doc.firms doc.ends (pos 1) at.on (price_at at.prices) said × IsStableWhereSaid doc.firms doc.ends at.on (price_at at.prices) said
 ChecksExtra doc (on_alone on) said = ⊥
 
+-- prices for the trades of a document's arrangement that are on
+abbrev pub SupportsExtra : DocumentData → ExtraData → Said → Type 0
+SupportsExtra doc nothing said = ⊥
+SupportsExtra doc (arrangement at) said = ⊥
+SupportsExtra doc (on_alone on) said = SupportsSet doc.firms doc.ends on said
+
 -- the defined answer of a command on a document
 abbrev pub IsAnswerOf : Command → DocumentData → Said → Type 0
 IsAnswerOf Check doc said = ChecksExtra doc doc.extra said
 IsAnswerOf Solve doc said = Solves doc.firms doc.ends said
+IsAnswerOf Support doc said = SupportsExtra doc doc.extra said
 IsAnswerOf Test doc said = Tests doc.firms doc.ends said
 
 -- the defined answer where the bytes read so, over the names that are read

@@ -11,6 +11,7 @@ ghost use Rattle.tn_run.specs.Words.{need_of};
 use crate::checking::check;
 use crate::command::{Command, need_of};
 use crate::solving::solve;
+use crate::supporting::prices_for;
 use crate::testing::test;
 use std::alloc::Global;
 use tn_answer::Names;
@@ -52,6 +53,23 @@ fn solve_document(alloc: Global, doc: &Document) -> Result<Said, OutOfMemory>
     }
 }
 
+/// The answer of `support` on a document.
+fn support_document(alloc: Global, doc: &Document) -> Result<Said, OutOfMemory>
+    requires document { IsDocument Need.On (document_view doc.now) }
+    requires loaded { IsLoadedFor Need.On doc.now.firms }
+    requires extra { IsExtraFor Need.On doc.now.extra }
+    ensures answer { IfOk result (IsAnswerOf Command.Support (document_view doc.now)) }
+    ensures within { IfOk result IsWithinClaims }
+{
+    match &doc.firms {
+        Loaded::Market(market) => match &doc.extra {
+            Extra::On(on) => prices_for(alloc, market, on),
+            Extra::None | Extra::Arrangement(_) => unreachable!(),
+        },
+        Loaded::Raw(_) => unreachable!(),
+    }
+}
+
 /// The answer of `test` on a document.
 fn test_document(alloc: Global, doc: &Document) -> Result<Said, OutOfMemory>
     requires document { IsDocument Need.Raw (document_view doc.now) }
@@ -76,6 +94,7 @@ fn answer_document(alloc: Global, command: Command, doc: &Document) -> Result<Sa
     match command {
         Command::Check => check_document(alloc, doc),
         Command::Solve => solve_document(alloc, doc),
+        Command::Support => support_document(alloc, doc),
         Command::Test => test_document(alloc, doc),
     }
 }

@@ -10,6 +10,8 @@ pub enum Command {
     Check,
     /// To find an equilibrium of a document's network.
     Solve,
+    /// To find prices for the trades of a document's arrangement that are on.
+    Support,
     /// To test whether the firms of a document meet the exchange property.
     Test,
 }
@@ -25,6 +27,8 @@ pub fn command_of(words: &[String]) -> Option<Command>
                 Some(Command::Check)
             } else if word.as_str() == "solve" {
                 Some(Command::Solve)
+            } else if word.as_str() == "support" {
+                Some(Command::Support)
             } else if word.as_str() == "test" {
                 Some(Command::Test)
             } else {
@@ -42,6 +46,7 @@ pub fn need_of(command: Command) -> Need
     match command {
         Command::Check => Need::Arrangement,
         Command::Solve => Need::Market,
+        Command::Support => Need::On,
         Command::Test => Need::Raw,
     }
 }

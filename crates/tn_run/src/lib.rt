@@ -8,6 +8,7 @@ mod exit;
 #[cfg(test)]
 mod kind_tests;
 mod solving;
+mod supporting;
 mod testing;
 #[cfg(test)]
 mod tests;
