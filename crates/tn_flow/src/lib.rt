@@ -3,6 +3,8 @@
 
 mod rounds;
 mod solver;
+#[cfg(test)]
+mod tests;
 
 pub use rounds::Rounds;
 pub use solver::Solver;
