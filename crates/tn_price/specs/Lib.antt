@@ -1,3 +1,4 @@
 pub mod Checks
 pub mod Supports
 pub mod Standings
+pub mod PartStall

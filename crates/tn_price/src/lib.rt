@@ -8,6 +8,8 @@ mod judge;
 mod standing;
 mod supported;
 mod supporting;
+#[cfg(test)]
+mod tests;
 
 pub use check::Check;
 pub use judge::judge_arrangement;
