@@ -1,3 +1,2 @@
 pub mod Firms
 pub mod Raw
-mod Ring

@@ -1,18 +1,12 @@
-ghost use Rattle.std.specs.Prelude.{◌≡◌, ◌^◌, ◌<◌, List, [], ◌∷◌, length, IfOk};
-ghost use Rattle.tn_firm.specs.Ring.{HasTwoTrades, IsTrader};
-ghost use Rattle.tn_market.specs.Stall.{trade_between};
+ghost use Rattle.std.specs.Prelude.{◌≡◌, ◌^◌, ◌<◌, length};
 
 use super::*;
-use std::alloc::Global;
-use std::process::Abort;
 use std::test::Fail;
-use tn_base::{Asked, Bundle, OutOfMemory, Side, Steps, TradeSet};
+use tn_base::{Asked, Bundle, Side, Steps};
 use tn_exchange::{RawTable, Verdict};
 use tn_laminar::Laminar;
-use tn_market::{Arrangement, Ends, Market, Oracle, Prices, Room, Valuation};
+use tn_market::{Oracle, Room, Valuation};
 use tn_middle::Middle;
-use tn_price::{Check, judge_arrangement};
-use tn_table::Table;
 
 /// Adds a row, if there is an amount for it.
 fn add(table: &mut RawTable, bits: u64, amount: Option<i16>)
@@ -22,117 +16,6 @@ fn add(table: &mut RawTable, bits: u64, amount: Option<i16>)
     if let Some(amount) = amount {
         let _ = table.add(Bundle::from_bits(bits), i128::from(amount));
     }
-}
-
-/// A table that may buy at position 0 and sell at position 1.
-fn rows(
-    alloc: Global,
-    buy: Option<i16>,
-    sell: Option<i16>,
-    both: Option<i16>,
-) -> Result<RawTable, OutOfMemory>
-    ensures { IfOk result (λ table. table.sides ≡ Side.Buy ∷ Side.Sell ∷ []) }
-{
-    let sides = vec![in alloc; Side::Buy, Side::Sell]?;
-    let mut table = RawTable::new(alloc, sides)?;
-    add(&mut table, 1, buy);
-    add(&mut table, 2, sell);
-    add(&mut table, 3, both);
-    Ok(table)
-}
-
-/// The firm of a table that meets exchange.
-fn accepted(rt: &impl Abort, table: RawTable) -> FirmValue
-    requires { table.sides ≡ Side.Buy ∷ Side.Sell ∷ [] }
-    ensures { IsTrader result }
-{
-    match Table::new(table) {
-        Ok(table) => FirmValue::Table(table),
-        Err(refused) => panic!(rt; "fails at {}", refused.x.bits()),
-    }
-}
-
-/// A trade between the two firms of the ring.
-fn ends(seller: u32, buyer: u32) -> Ends
-    ensures { result ≡ trade_between seller buyer }
-{
-    Ends {
-        seller,
-        buyer,
-        at_seller: 1,
-        at_buyer: 0,
-    }
-}
-
-/// Two firms, of which each sells what the other buys: the first buys for up to 6 and sells from 1 on, each by itself;
-/// the second gets 5 from a purchase with a sale, and can't have one alone.
-fn ring(rt: &impl Abort, alloc: Global) -> Result<Market<FirmValue>, OutOfMemory>
-    ensures { IfOk result HasTwoTrades }
-{
-    let apart = accepted(rt, rows(alloc, Some(6), Some(-1), Some(5))?);
-    let together = accepted(rt, rows(alloc, None, None, Some(5))?);
-    let firms = vec![in alloc; apart, together]?;
-    let trades = vec![in alloc; ends(0, 1), ends(1, 0)]?;
-    Market::new(alloc, firms, trades)
-}
-
-/// What is said of the ring with these trades, at these prices.
-fn judged(
-    rt: &impl Abort,
-    alloc: Global,
-    on: [bool; 2],
-    prices: [i32; 2],
-) -> Result<Check, OutOfMemory> {
-    let market = ring(rt, alloc)?;
-    let mut set = TradeSet::<1>::empty();
-    if on[0] {
-        set.toggle(0);
-    }
-    if on[1] {
-        set.toggle(1);
-    }
-    let prices = vec![in alloc; i128::from(prices[0]), i128::from(prices[1])]?;
-    let at = Arrangement {
-        on: set,
-        prices: Prices::from_vec(prices),
-    };
-    let mut room = Room::new(alloc)?;
-    Ok(judge_arrangement(&market, &at, 1, &mut room))
-}
-
-/// No single toggle improves the second firm's empty bundle, since none is possible; yet both trades together gain.
-#[test]
-fn a_pair_is_better_where_no_single_toggle_is(rt: HostRuntime) {
-    let check = judged(&rt, rt.alloc(), [false, false], [0, 6]);
-    let better = Check::Better {
-        firm: 1,
-        bundle: Bundle::from_bits(3),
-        gain: 11,
-    };
-    assert!(rt; check == Ok(better));
-}
-
-#[test]
-fn an_equilibrium_has_its_surplus(rt: HostRuntime) {
-    let check = judged(&rt, rt.alloc(), [true, true], [1, 6]);
-    assert!(rt; check == Ok(Check::Equilibrium { surplus: 10 }));
-}
-
-#[test]
-fn a_price_too_high_moves_the_buyer(rt: HostRuntime) {
-    let check = judged(&rt, rt.alloc(), [true, true], [2, 7]);
-    let better = Check::Better {
-        firm: 0,
-        bundle: Bundle::from_bits(2),
-        gain: 1,
-    };
-    assert!(rt; check == Ok(better));
-}
-
-#[test]
-fn half_of_a_pair_is_impossible(rt: HostRuntime) {
-    let check = judged(&rt, rt.alloc(), [true, false], [2, 7]);
-    assert!(rt; check == Ok(Check::Impossible { firm: 1 }));
 }
 
 /// A table of complements on one side is refused, with the triple that shows it.

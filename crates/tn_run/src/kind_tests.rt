@@ -150,7 +150,7 @@ fn push_prices(alloc: Global, text: &mut String, trades: u32) -> Result<(), Fail
 }
 
 /// Pairs of laminar firms with trades between the two of each pair, one of them on, and all prices 0.
-fn pairs(alloc: Global, version: u32, pairs: u32, trades: u32) -> Result<String, Fail> {
+pub(crate) fn pairs(alloc: Global, version: u32, pairs: u32, trades: u32) -> Result<String, Fail> {
     let mut text = format!(in alloc; "{{\"version\":{version},\"firms\":[")?;
     push_firms(alloc, &mut text, pairs)?;
     text.push_str("],\"trades\":[")?;

@@ -7,6 +7,8 @@ mod command;
 mod exit;
 #[cfg(test)]
 mod kind_tests;
+#[cfg(test)]
+mod solve_tests;
 mod solving;
 mod supporting;
 mod testing;
