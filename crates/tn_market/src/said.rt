@@ -71,7 +71,7 @@ pub enum Said {
         /// The price of each trade, by trade number.
         prices: Prices,
     },
-    /// No prices support the set of trades: toggling the trades along this cycle of the exchange graph does better.
+    /// No prices support the set of trades, since this cycle of its exchange graph is negative.
     Cycle {
         /// Its nodes, in order.
         nodes: Nodes,

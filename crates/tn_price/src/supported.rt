@@ -13,7 +13,7 @@ pub enum Support {
         /// The first such firm.
         firm: u32,
     },
-    /// No prices support the set, since toggling the trades along this cycle of the exchange graph would do better.
+    /// No prices support the set, since this cycle of its exchange graph is negative.
     Cycle {
         /// Its nodes, in order.
         nodes: Nodes,
