@@ -112,7 +112,7 @@ fn tells_faults_of_each_kind(rt: HostRuntime) -> Result<(), Fail> {
     Ok(())
 }
 
-fn comma(k: u32) -> &'static str {
+pub(crate) fn comma(k: u32) -> &'static str {
     if k == 0 { "" } else { "," }
 }
 
