@@ -42,10 +42,12 @@ pub enum FaultKind {
     PriceMissing,
     /// A denominator is out of its range.
     BadOver,
+    /// An earlier pair of the dealer is of the same two trades.
+    SamePair,
 }
 
 impl FaultKind {
-    /// The number of the kind, 1 to 19.
+    /// The number of the kind, 1 to 20.
     pub fn number(self) -> u8
         ensures { result ≡ fault_number self }
     {

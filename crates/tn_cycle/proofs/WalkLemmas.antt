@@ -4,7 +4,7 @@ use Rattle.std.specs.Prelude.{All, slice_get}
 use Rattle.std.specs.List.{IsDistinct, list_any}
 use Rattle.std.proofs.lemmas.Int.{ints}
 use Rattle.std.proofs.lemmas.Bool.{cases_eq, ne_eqb, eqb-true, or_cases, false≢true}
-use Rattle.std.proofs.lemmas.Option.{none-some, same_Some, slice_get_within, get_or_from_slice_get}
+use Rattle.std.proofs.lemmas.Option.{none-some, same_Some, slice_get_within, slice_get-get_or, get_or_from_slice_get}
 use Rattle.std.proofs.lemmas.List.{length-append}
 use Rattle.std.proofs.lemmas.List.Elements.{All-nil, All-cons, All-head, All-tail, All-append, All-weaker, recursion_from_All}
 use Rattle.std.proofs.lemmas.Map.Steps.{length-le_from_distinct_below}
@@ -127,6 +127,14 @@ different_from_apart (x ∷ xs) h zero zero v p q = refl
 different_from_apart (x ∷ xs) h zero (suc k) v p q = absurd (get_avoids x xs h.0 k v q (sym (same_Some x v p)))
 different_from_apart (x ∷ xs) h (suc j) zero v p q = absurd (get_avoids x xs h.0 j v p (sym (same_Some x v q)))
 different_from_apart (x ∷ xs) h (suc j) (suc k) v p q = ap suc (different_from_apart xs h.1 j k v p q)
+
+pub apart_from_different : (xs : List ℕ) → AreDifferent xs → AreApart xs
+unfolding AreApart
+apart_from_different [] different = tt
+apart_from_different (x ∷ xs) different = (
+  (λ k d below e. let same = different 0 (suc k) x refl (slice_get-get_or xs k d below ∙ ap (λ (z : ℕ). Some z) e) in absurd (omega (arith, same))),
+  apart_from_different xs (λ j k v at_j at_k. let same = different (suc j) (suc k) v at_j at_k in omega (arith, same)),
+)
 
 -- a walk to the end with fewer nodes inside that costs no more
 pub record IsShortened (arc : ℕ → ℕ → Option ℤ) (t v : ℕ) (us : List ℕ) (cost : ℤ) : Type 0 where

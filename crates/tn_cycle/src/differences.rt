@@ -4,8 +4,8 @@ ghost use Rattle.tn_cycle.specs.Answers.{label_in};
 
 use crate::finder::Finder;
 
-/// The label of a node less that of another.
-fn label_less(finder: &Finder, v: u32, null: u32) -> i128
+/// The label of a node less that of another, where the last search found labels.
+pub fn label_less(finder: &Finder, v: u32, null: u32) -> i128
     requires node { v < length finder.now.labels }
     requires last { null < length finder.now.labels }
     requires small { (t : ℕ) → t < length finder.now.labels → IsAtMost (label_in finder.now.labels t) (2 ^ 100) }

@@ -92,6 +92,13 @@ impl Finder {
         self.path[k as usize]
     }
 
+    /// The nodes that `at` reads, in order.
+    pub fn listed(&self) -> &[u32]
+        ensures { result.now ≡ self.now.listed }
+    {
+        &self.path[..self.count as usize]
+    }
+
     /// A least cycle through the node, where one is negative.
     fn cycle_through<C: Costs>(&mut self, costs: &C, node: u32) -> Path
         requires sized { C.node_count costs.now ≡ self.old.nodes }

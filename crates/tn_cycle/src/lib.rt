@@ -24,6 +24,6 @@ mod search;
 mod tests;
 
 pub use answer::{Labels, Path};
-pub use differences::write_differences;
+pub use differences::{label_less, write_differences};
 pub use finder::Finder;
 pub use graphs::Admitted;

@@ -12,3 +12,4 @@ pub mod NestedFamilies
 pub mod NestedCounts
 pub mod NestedLemmas
 pub mod ConcaveLemmas
+pub mod BoundLemmas

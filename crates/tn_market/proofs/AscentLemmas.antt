@@ -1,8 +1,6 @@
 -- Steepest ascent: the values that it compares, how far a step has looked, and that what it stops at is best.
-use Rattle.std.proofs.Common.{◌≡◌, ◌≢◌, ℕ, ◌+◌, ◌*◌, ◌^◌, ◌<◌, ◌≤◌, Bool, true, false, not, ◌==◌, if◌then◌else◌, List, Option, Some, None, option_map, refl, sym, ap, ◌∙◌, subst, arith, inl, inr, ◌⊎◌, ℤ, pos, negsuc, ◌+ℤ◌, ◌*ℤ◌, ◌≤ℤ◌, add-one, IsSome}
-use Rattle.std.specs.Int.RustNames.{unsigned_abs}
-use Rattle.std.proofs.lemmas.Int.{ints, unsigned_abs-mul}
-use Rattle.std.proofs.lemmas.Nat.{mul-le}
+use Rattle.std.proofs.Common.{◌≡◌, ◌≢◌, ℕ, ◌+◌, ◌*◌, ◌^◌, ◌<◌, ◌≤◌, Bool, true, false, not, ◌==◌, if◌then◌else◌, List, Option, Some, None, option_map, refl, sym, ap, ◌∙◌, subst, arith, inl, inr, ◌⊎◌, ℤ, pos, ◌+ℤ◌, ◌*ℤ◌, ◌≤ℤ◌, add-one, IsSome}
+use Rattle.std.proofs.lemmas.Int.{ints}
 use Rattle.std.proofs.lemmas.Bool.{cases_eq, eq-eqb, eqb-true, cases_lt}
 use lib.Signed.{le_z}
 use mir.Syntax.{w128}
@@ -14,25 +12,12 @@ use Rattle.tn_base.specs.Exchange.{MeetsExchange}
 use Rattle.tn_base.proofs.SetLemmas.{has_above, has_from_minus-zero, minus-zero_from, has-zero, within_from, toggle_comm}
 use Rattle.tn_law.proofs.KeepLemmas.{meets-plus_sum, meets-among}
 use Rattle.tn_law.proofs.LocalLemmas.{local_to_global}
+use Rattle.tn_law.proofs.BoundLemmas.{times_small}
 use Rattle.tn_market.specs.Best.{price_at}
 use Rattle.tn_market.specs.declared.found.Found.{Found}
 use Rattle.tn_market.specs.Ascent.{aimed, IsBesideBest, IsNearbyBest, IsValued, IsNoWorse, TriesOne, TriesBeside, TriesNearby}
 
 -- ---- sizes
-
-abs_small : (z : ℤ) (limit : ℕ) → IsAtMost z limit → unsigned_abs z ≤ limit
-abs_small (pos n) limit small = omega (arith, ints, small.high)
-abs_small (negsuc n) limit small = omega (arith, ints, small.low)
-
-small_abs : (z : ℤ) (limit : ℕ) → unsigned_abs z ≤ limit → IsAtMost z limit
-small_abs (pos n) limit below = record { low = omega (arith, ints, below); high = omega (arith, ints, below) }
-small_abs (negsuc n) limit below = record { low = omega (arith, ints, below); high = omega (arith, ints, below) }
-
--- a product is at most the product of the sizes
-pub times_small : (a b : ℤ) (m n : ℕ) → IsAtMost a m → IsAtMost b n → IsAtMost (a *ℤ b) (m * n)
-times_small a b m n small_a small_b =
-    let size = mul-le (unsigned_abs a) (unsigned_abs b) m n (abs_small a m small_a) (abs_small b n small_b) in
-    small_abs (a *ℤ b) (m * n) (subst (λ (k : ℕ). k ≤ m * n) (sym (unsigned_abs-mul a b)) size)
 
 -- a scaled worth is at most 10^18 in size
 pub scaled_small : (scale worth : ℤ) → pos 1 ≤ℤ scale → scale ≤ℤ pos 10000000 → IsAtMost worth (10 ^ 11) → IsAtMost (scale *ℤ worth) (10 ^ 18)

@@ -1,5 +1,5 @@
 -- What an oracle says when it is asked for one bundle, or among all.
-use Rattle.std.proofs.Common.{rules, ◌≡◌, ℕ, zero, suc, ◌+◌, ◌*◌, ◌^◌, ◌<◌, ◌≤◌, Bool, true, false, ◌&&◌, ◌||◌, if◌then◌else◌, List, length, take, replicate, Some, None, Option, option_map, IsSome, refl, sym, ap, ap₂, ◌∙◌, subst, arith, inl, inr, ℤ, pos, ◌+ℤ◌, neg_ℤ, ◌≤ℤ◌, ◌*ℤ◌}
+use Rattle.std.proofs.Common.{rules, ◌≡◌, ℕ, zero, suc, ◌*◌, ◌^◌, ◌<◌, ◌≤◌, Bool, true, false, ◌&&◌, ◌||◌, if◌then◌else◌, List, length, take, replicate, Some, None, Option, option_map, IsSome, refl, sym, ap, ap₂, ◌∙◌, subst, arith, inl, inr, ℤ, pos, ◌+ℤ◌, neg_ℤ, ◌≤ℤ◌, ◌*ℤ◌}
 use Rattle.std.specs.List.{All}
 use Rattle.std.proofs.lemmas.Int.{ints}
 use Rattle.std.proofs.lemmas.Bool.{cases_Bool, lt-ltb}
@@ -11,6 +11,7 @@ use Rattle.tn_base.specs.Sets.{has, meet, union, set_of, sum_over}
 use Rattle.tn_base.specs.Arcs.{IsAtMost}
 use Rattle.tn_base.specs.Firm.{Firm, payments, utility, IsBest, HasOwnBundles, MayAbstain}
 use Rattle.tn_base.proofs.SetLemmas.{same_set, has-zero, has-meet, has-union, has-set_of, has_below, union_within, set_of_within}
+use Rattle.tn_law.proofs.BoundLemmas.{sum_over_small}
 use Rattle.tn_law.proofs.KeepLemmas.{option_map-some}
 use Rattle.tn_market.specs.Valued.{IsWorthAtMost}
 use Rattle.tn_market.specs.Best.{IsBetween, IsBestBetween, GivesBest, price_at}
@@ -110,26 +111,6 @@ some_greatest firm scale prices e all None abstains own none all_is gives =
     absurd (cc (is, isnt))
 
 -- ---- sizes
-
--- a sum over a set is no larger than the count of its terms allows
-pub sum_over_small : (c : ℕ → ℤ) (n x limit : ℕ) → ((k : ℕ) → k < n → IsAtMost (c k) limit) → IsAtMost (sum_over c n x) (n * limit)
-unfolding sum_over
-sum_over_small c zero x limit small = record { low = omega (arith, ints); high = omega (arith, ints) }
-sum_over_small c (suc n) x limit small =
-    let rest = sum_over_small c n x limit (λ k below. small k (omega (arith, below))) in
-    let last = small n (omega arith) in
-    next (has x n) (c n) (sum_over c n x) (n * limit) (suc n * limit) (omega arith) rest last
-  where
-    next : (b : Bool) (term sum : ℤ) (before after : ℕ) → after ≡ before + limit → IsAtMost sum before → IsAtMost term limit
-        → IsAtMost (sum +ℤ (if b then term else pos 0)) after
-    next true term sum before after step sum_small small = record {
-      low = omega (arith, ints, step, sum_small.low, small.low);
-      high = omega (arith, ints, step, sum_small.high, small.high);
-    }
-    next false term sum before after step sum_small small = record {
-      low = omega (arith, ints, step, sum_small.low);
-      high = omega (arith, ints, step, sum_small.high);
-    }
 
 pub payment_small : (buys : ℕ) (prices : ℕ → ℤ) (k limit : ℕ) → IsAtMost (prices k) limit → IsAtMost (payments buys prices k) limit
 payment_small buys prices k limit small = by_side (has buys k)

@@ -225,7 +225,7 @@ part_is trades f n on list list_is =
     ∙ set_of-same _ _ n (λ k inside. ap (has on) (own_element trades f n list k 0 list_is inside))
 
 -- an element of a list with one more is one of the list, or the new one
-push_cases : {X : Type 0} (xs : List X) (y : X) (k : ℕ) (x : X) → slice_get (xs ++ y ∷ []) k ≡ Some x
+pub push_cases : {X : Type 0} (xs : List X) (y : X) (k : ℕ) (x : X) → slice_get (xs ++ y ∷ []) k ≡ Some x
     → (slice_get xs k ≡ Some x) ⊎ ((k ≡ length xs) × (x ≡ y))
 push_cases [] y zero x at = inr (refl, sym (same_Some _ _ at))
 push_cases [] y (suc k) x at = absurd (cc at)

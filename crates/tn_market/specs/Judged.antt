@@ -3,7 +3,7 @@ use Rattle.std.specs.Prelude.{◌≡◌, ℕ, ◌<◌, ℤ, pos, ◌-ℤ◌, ◌
 use Rattle.tn_base.specs.Firm.{Firm, IsBest}
 use Rattle.tn_market.specs.declared.ends.Ends.{Ends}
 use Rattle.tn_market.specs.declared.said.Said.{Said}
-use Rattle.tn_market.specs.declared.said.Said.TheVariants.{Usage, ReadFault, NoMemory, Fault, Equilibrium, Better, Impossible, Accepted, ExchangeFails, Supported, Cycle, Solved}
+use Rattle.tn_market.specs.declared.said.Said.TheVariants.{Equilibrium, Better, Impossible}
 use Rattle.tn_market.specs.Network.{part, trades_of}
 use Rattle.tn_market.specs.Equilibrium.{utility_at, HasBest, IsEquilibrium, surplus_of}
 
@@ -30,17 +30,9 @@ pub record IsFirstBettered (firms : List Firm) (trades : List Ends) (scale : ℤ
   pub gain_is : gain ≡ best_value -ℤ own_value
   pub gains : pos 0 <ℤ gain
 
--- the answer of `check`
+-- the answer of `check`, none of another kind
 abbrev pub Judges : List Firm → List Ends → ℤ → ℕ → (ℕ → ℤ) → Said → Type 0
-Judges firms trades scale on prices Usage = ⊥
-Judges firms trades scale on prices ReadFault = ⊥
-Judges firms trades scale on prices NoMemory = ⊥
-Judges firms trades scale on prices (Fault fault) = ⊥
 Judges firms trades scale on prices (Equilibrium surplus) = IsEquilibrium firms trades scale on prices × (surplus_of firms trades on ≡ Some surplus)
 Judges firms trades scale on prices (Better f bundle gain) = (x : ℕ) × (at : IsFirstBettered firms trades scale on prices f x gain) × (bundle ≡ trades_of trades f at.firm.count x)
 Judges firms trades scale on prices (Impossible f) = IsFirstImpossible firms trades scale on prices f
-Judges firms trades scale on prices Accepted = ⊥
-Judges firms trades scale on prices (ExchangeFails f x y at) = ⊥
-Judges firms trades scale on prices (Supported their_prices) = ⊥
-Judges firms trades scale on prices (Cycle nodes cost) = ⊥
-Judges firms trades scale on prices (Solved their_on their_prices surplus) = ⊥
+Judges firms trades scale on prices said = ⊥

@@ -12,3 +12,18 @@ pub record IsLawful (limit : ℕ) (firm : Firm) : Type 0 where
   pub exchange_net : ExchangesNet firm
   pub within : IsWorthAtMost limit firm
   pub small_limit : limit ≤ 10 ^ 18
+
+-- what a type of firms shows one by one, for each of its firms
+pub lawful : {V : Type 0} (firm_of : V → Firm) (limit_of : V → ℕ) → ((v : V) → (firm_of v).count ≤ 64) → ((v : V) → (firm_of v).buys < 2 ^ (firm_of v).count)
+    → ((v : V) → HasOwnBundles (firm_of v)) → ((v : V) → MayAbstain (firm_of v)) → ((v : V) → ExchangesOne (firm_of v)) → ((v : V) → ExchangesNet (firm_of v))
+    → ((v : V) → IsWorthAtMost (limit_of v) (firm_of v)) → ((v : V) → limit_of v ≤ 10 ^ 18) → (v : V) → IsLawful (limit_of v) (firm_of v)
+lawful firm_of limit_of few own_purchases own_bundles empty one net_count within small v = record {
+  few_trades = few v;
+  own_purchases = own_purchases v;
+  own_bundles = own_bundles v;
+  empty_is_possible = empty v;
+  exchange_one = one v;
+  exchange_net = net_count v;
+  within = within v;
+  small_limit = small v;
+}

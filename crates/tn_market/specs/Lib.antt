@@ -1,11 +1,19 @@
 pub mod Network
 pub mod NetworkLaws
+pub mod InOrder
 pub mod Equilibrium
 pub mod Graph
 pub mod Supported
+pub mod Ranges
 pub mod ArcPlaces
 pub mod Admitted
 pub mod Choices
+pub mod OutcomeLimits
+pub mod ClaimLimits
+pub mod Edits
+pub mod Signed
+pub mod Reduced
+pub mod Limits
 pub mod Judged
 pub mod Valued
 pub mod Best
@@ -14,3 +22,7 @@ pub mod Traded
 pub mod Ascent
 pub mod Stall
 pub mod Lawful
+pub mod Levied
+pub mod Outside
+pub mod Parties
+pub mod Chains

@@ -2,6 +2,8 @@ ghost use Rattle.std.specs.Prelude.{◌≡◌, ◌<◌, Some, length, slice_get}
 
 use crate::contract::Contract;
 use crate::place::PlaceStep;
+use crate::range::Range;
+use crate::session::{Edit, State};
 use std::marker::Model;
 
 /// Trade numbers.
@@ -18,6 +20,13 @@ pub type Place = Listed<PlaceStep>;
 pub type Numbers = Listed<u32>;
 /// Whole numbers of worth.
 pub type Amounts = Listed<i128>;
+
+/// What the prices of each trade may be, by trade number.
+pub type Ranges = Lent<Range>;
+/// Changes of the admitted trades, in the order in which they are made.
+pub type Edits = Lent<Edit>;
+/// An equilibrium after each of some changes, in order.
+pub type States = Lent<State>;
 
 /// A list of items that can be made from a vector and read by place.
 #[derive(Debug, Drop)]
@@ -54,5 +63,43 @@ impl<T: Copy> Listed<T> {
         ensures { slice_get self.now k ≡ Some result }
     {
         self.items[k]
+    }
+}
+
+/// A list of items that can be made from a vector and lent by place.
+#[derive(Debug, Drop)]
+pub struct Lent<T> {
+    items: Vec<T>,
+}
+
+impl<T> Model for Lent<T> {
+    ghost use Rattle.std.specs.Prelude.{List};
+
+    ghost Value = { List T };
+
+    ghost view = { λ list. list.items.items };
+}
+
+impl<T> Lent<T> {
+    /// The list of these items. It takes no memory.
+    pub fn from_vec(items: Vec<T>) -> Self
+        ensures { result ≡ items.items }
+    {
+        Lent { items }
+    }
+
+    /// How many items there are.
+    pub fn len(&self) -> usize
+        ensures { result ≡ length self.now }
+    {
+        self.items.len()
+    }
+
+    /// The item at a place, counted from 0.
+    pub fn at(&self, k: usize) -> &T
+        requires { k < length self.now }
+        ensures { slice_get self.now k ≡ Some result.now }
+    {
+        &self.items[k]
     }
 }

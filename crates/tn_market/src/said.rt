@@ -1,4 +1,5 @@
-use crate::lists::{Nodes, Place, Prices, Trades};
+use crate::lists::{Contracts, Nodes, Numbers, Place, Prices, Ranges, States, Trades};
+use crate::reason::Reason;
 use tn_base::FaultKind;
 
 /// Two bundles and a position, or none, at which the exchange property fails, in trade numbers.
@@ -86,5 +87,73 @@ pub enum Said {
         prices: Prices,
         /// The sum of the firms' worths.
         surplus: i128,
+    },
+    /// An equilibrium, to be written as rows.
+    Rows {
+        /// The trades that are on, ascending.
+        on: Trades,
+        /// The price of each trade, by trade number.
+        prices: Prices,
+        /// The sum of the firms' worths.
+        surplus: i128,
+    },
+    /// What trade can bring at most in a network that is made from two numbers.
+    Drill {
+        /// The number of trades.
+        size: u32,
+        /// The number that the draws start from.
+        start: u32,
+        /// The number of firms.
+        firms: u32,
+        /// The greatest surplus of any set of trades.
+        surplus: i128,
+    },
+    /// How far each price may move.
+    Ranges {
+        /// The trades of an efficient set, ascending.
+        on: Trades,
+        /// The prices that each trade may have over all equilibria, by trade number.
+        ranges: Ranges,
+    },
+    /// What follows from changes of the admitted trades.
+    Session {
+        /// An equilibrium of the trades that are admitted after each change, in order.
+        edits: States,
+    },
+    /// A firm would rather drop some of its contracts.
+    Drops {
+        /// The first firm that would.
+        firm: u32,
+        /// The trades of contracts that it would keep, ascending: a choice of the firm from its contracts.
+        keeps: Trades,
+        /// What the firm's utility gains, none where its contracts together are an impossible bundle.
+        gain: Option<i128>,
+        /// The denominator of the gain, which is the outcome's.
+        over: i128,
+    },
+    /// With these prices the outcome is completed to an equilibrium.
+    Completes {
+        /// The price of each trade, by trade number.
+        prices: Prices,
+        /// The denominator, which is the outcome's.
+        over: i128,
+    },
+    /// These contracts block the outcome.
+    Blocks {
+        /// The contracts, each one's buyer the seller of the next.
+        contracts: Contracts,
+        /// Their denominator.
+        over: i128,
+    },
+    /// The claim is valid.
+    Valid,
+    /// A condition of the claim fails, the first one.
+    Invalid(Reason),
+    /// The program ran its own cases.
+    Cases {
+        /// How many there are.
+        count: u32,
+        /// The numbers, from 1, of those with another answer than they should have, ascending.
+        failed: Numbers,
     },
 }

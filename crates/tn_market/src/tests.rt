@@ -158,3 +158,27 @@ fn room_has_its_cells(rt: HostRuntime) {
     let last = cells[8191];
     assert!(rt; last == Some((Bundle::empty(), 7)));
 }
+
+#[test]
+fn levied_stall(rt: HostRuntime) {
+    let stall = Stall;
+    let firm = Levied::new(&stall, 2, Bundle::from_bits(1), 1);
+    let mut steps = Steps::new(Asked);
+    assert!(rt; firm.value(Bundle::from_bits(3), &mut steps) == Some(3));
+    assert!(rt; firm.value(Bundle::from_bits(2), &mut steps) == Some(10));
+    assert_eq!(rt; (firm.trades(), firm.bound()), (2, 80));
+}
+
+#[test]
+fn parties_beside_a_stall(rt: HostRuntime) {
+    let stall = Stall;
+    let mut steps = Steps::new(Asked);
+    let member = Party::Firm(Levied::new(&stall, 1, Bundle::empty(), 0));
+    assert!(rt; member.value(Bundle::from_bits(3), &mut steps) == Some(2));
+    let outside: Party<Stall> = Party::Outside(Outside::new(-7));
+    assert!(rt; outside.value(Bundle::from_bits(1), &mut steps) == Some(-7));
+    assert!(rt; outside.value(Bundle::from_bits(2), &mut steps) == Some(7));
+    assert!(rt; outside.value(Bundle::from_bits(3), &mut steps) == Some(0));
+    assert_eq!(rt; (outside.trades(), outside.bound()), (2, 7));
+    assert!(rt; (outside.side(0), outside.side(1)) == (Side::Buy, Side::Sell));
+}

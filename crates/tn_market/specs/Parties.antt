@@ -1,0 +1,25 @@
+-- The firms of a residual market.
+use Rattle.std.specs.Prelude.{ℕ, unsigned_abs}
+use Rattle.tn_base.specs.Firm.{Firm}
+use Rattle.tn_market.specs.Lawful.{IsLawful}
+use Rattle.tn_market.specs.Levied.{levied, levied_limit, levied_laws}
+use Rattle.tn_market.specs.Outside.{outside, outside_laws}
+use Rattle.tn_market.specs.declared.valuation.Valuation.{Ghosts}
+use Rattle.tn_market.specs.declared.party.Party.{Party}
+use Rattle.tn_market.specs.declared.party.Party.TheVariants.{Firm as Member, Outside}
+
+-- the firm that a party is: one of the market under its levy, or one outside it
+abbrev pub party_firm : {V M : Type 0} (market : Ghosts V M) → Party V M market → Firm
+party_firm market (Member v) = levied v.scale v.taxed v.tax (market.firm v.inner.now)
+party_firm market (Outside out) = outside out.price
+
+-- the size that none of its worths is above
+abbrev pub party_limit : {V M : Type 0} (market : Ghosts V M) → Party V M market → ℕ
+party_limit market (Member v) = levied_limit v.scale v.tax (market.limit v.inner.now)
+party_limit market (Outside out) = unsigned_abs out.price
+
+-- either is a firm that may be asked
+pub party_laws : {V M : Type 0} {market : Ghosts V M} → ((v : V) → IsLawful (market.limit v) (market.firm v)) → (party : Party V M market)
+    → IsLawful (party_limit market party) (party_firm market party)
+party_laws {V} {M} {market} laws (Member v) = levied_laws v.scale v.tax v.taxed (market.limit v.inner.now) (market.firm v.inner.now) v.levy (laws v.inner.now)
+party_laws {V} {M} {market} laws (Outside out) = outside_laws out.price out.small

@@ -1,0 +1,97 @@
+ghost use Rattle.std.specs.Prelude.{◌≡◌, ◌^◌, ◌≤◌, pos, ◌≤ℤ◌, ◌-ℤ◌, ◌*ℤ◌};
+ghost use Rattle.tn_base.specs.Arcs.{IsAtMost};
+ghost use Rattle.tn_market.specs.Levied.{levied, levied_limit, IsLevy};
+
+use crate::valuation::Valuation;
+use tn_base::{Bundle, Side, Steps};
+
+/// A firm under a levy: its worths count `scale` times, less a tax for each taxed position of a bundle.
+#[derive(Drop)]
+pub struct Levied<'a, V: Valuation> {
+    inner: &'a V,
+    scale: i128,
+    /// The bits of the bundle of the taxed positions.
+    taxed: u64,
+    tax: i128,
+    ghost levy: { IsLevy scale tax (V.limit inner.now) },
+}
+
+impl<'a, V: Valuation> Levied<'a, V> {
+    /// The firm whose worths are those of `inner`, counted `scale` times, less `tax` for each position of `taxed`.
+    pub fn new(inner: &'a V, scale: i128, taxed: Bundle, tax: i128) -> Levied<'a, V>
+        requires scaled { pos 1 ≤ℤ scale }
+        requires taxed { pos 0 ≤ℤ tax }
+        requires small { levied_limit scale tax (V.limit inner.now) ≤ 10 ^ 18 }
+        ensures firm { ⟦<Levied<'a, V> as Valuation>⟧.firm result ≡ levied scale taxed tax (V.firm inner.now) }
+        ensures limit { ⟦<Levied<'a, V> as Valuation>⟧.limit result ≡ levied_limit scale tax (V.limit inner.now) }
+    {
+        Levied {
+            inner,
+            scale,
+            taxed: taxed.bits(),
+            tax,
+        }
+    }
+}
+
+/// A worth counted `scale` times, less the tax for each of `count` positions.
+fn after_tax(scale: i128, worth: i128, tax: i128, count: u32) -> i128
+    requires worth { IsAtMost (scale *ℤ worth) (10 ^ 18) }
+    requires taxes { IsAtMost (tax *ℤ pos count) (10 ^ 18) }
+    ensures { result ≡ scale *ℤ worth -ℤ tax *ℤ pos count }
+{
+    scale * worth - tax * count as i128
+}
+
+impl<V: Valuation> Valuation for Levied<'_, V> {
+    ghost use Rattle.tn_market.specs.Lawful.{lawful};
+    ghost use Rattle.tn_market.specs.Levied.{levied_laws};
+
+    type Mark = V::Mark;
+
+    ghost firm = { λ v. levied v.scale v.taxed v.tax (V.firm v.inner.now) };
+
+    ghost limit = { λ v. levied_limit v.scale v.tax (V.limit v.inner.now) };
+
+    fn trades(&self) -> u32 {
+        self.inner.trades()
+    }
+
+    fn side(&self, k: u32) -> Side {
+        self.inner.side(k)
+    }
+
+    fn bound(&self) -> i128 {
+        self.scale * self.inner.bound() + 64 * self.tax
+    }
+
+    fn value(&self, x: Bundle, steps: &mut Steps<V::Mark>) -> Option<i128> {
+        let worth = self.inner.value(x, steps)?;
+        let taxed = x.meet(Bundle::from_bits(self.taxed));
+        Some(after_tax(self.scale, worth, self.tax, taxed.count()))
+    }
+
+    ghost few_trades = { λ v. (levied_laws v.scale v.tax v.taxed (V.limit v.inner.now) (V.firm v.inner.now) v.levy
+        (lawful V.firm V.limit V.few_trades V.own_purchases V.own_bundles V.empty_is_possible V.exchange_one V.exchange_net V.within V.small_limit v.inner.now)).few_trades };
+
+    ghost own_purchases = { λ v. (levied_laws v.scale v.tax v.taxed (V.limit v.inner.now) (V.firm v.inner.now) v.levy
+        (lawful V.firm V.limit V.few_trades V.own_purchases V.own_bundles V.empty_is_possible V.exchange_one V.exchange_net V.within V.small_limit v.inner.now)).own_purchases };
+
+    ghost own_bundles = { λ v. (levied_laws v.scale v.tax v.taxed (V.limit v.inner.now) (V.firm v.inner.now) v.levy
+        (lawful V.firm V.limit V.few_trades V.own_purchases V.own_bundles V.empty_is_possible V.exchange_one V.exchange_net V.within V.small_limit v.inner.now)).own_bundles };
+
+    ghost empty_is_possible = { λ v. (levied_laws v.scale v.tax v.taxed (V.limit v.inner.now) (V.firm v.inner.now) v.levy
+        (lawful V.firm V.limit V.few_trades V.own_purchases V.own_bundles V.empty_is_possible V.exchange_one V.exchange_net V.within V.small_limit v.inner.now)).empty_is_possible };
+
+    ghost exchange_one = { λ v. (levied_laws v.scale v.tax v.taxed (V.limit v.inner.now) (V.firm v.inner.now) v.levy
+        (lawful V.firm V.limit V.few_trades V.own_purchases V.own_bundles V.empty_is_possible V.exchange_one V.exchange_net V.within V.small_limit v.inner.now)).exchange_one };
+
+    ghost exchange_net = { λ v. (levied_laws v.scale v.tax v.taxed (V.limit v.inner.now) (V.firm v.inner.now) v.levy
+        (lawful V.firm V.limit V.few_trades V.own_purchases V.own_bundles V.empty_is_possible V.exchange_one V.exchange_net V.within V.small_limit v.inner.now)).exchange_net };
+
+    ghost within = { λ v. (levied_laws v.scale v.tax v.taxed (V.limit v.inner.now) (V.firm v.inner.now) v.levy
+        (lawful V.firm V.limit V.few_trades V.own_purchases V.own_bundles V.empty_is_possible V.exchange_one V.exchange_net V.within V.small_limit v.inner.now)).within };
+
+    ghost small_limit = { λ v. (levied_laws v.scale v.tax v.taxed (V.limit v.inner.now) (V.firm v.inner.now) v.levy
+        (lawful V.firm V.limit V.few_trades V.own_purchases V.own_bundles V.empty_is_possible V.exchange_one V.exchange_net V.within V.small_limit v.inner.now)).small_limit };
+}

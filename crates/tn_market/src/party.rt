@@ -1,0 +1,131 @@
+ghost use Rattle.std.specs.Prelude.{◌≡◌, ◌<◌, ◌^◌, pos, neg_ℤ, if◌then◌else◌, unsigned_abs};
+ghost use Rattle.tn_base.specs.Arcs.{IsAtMost};
+ghost use Rattle.tn_base.specs.Sets.{has};
+ghost use Rattle.tn_market.specs.Outside.{outside, outside_sum};
+ghost use Rattle.tn_market.specs.Valued.{side_at};
+
+use crate::levied::Levied;
+use crate::valuation::Valuation;
+use tn_base::{Bundle, Side, Steps};
+
+/// A firm outside the market that takes a contract over: at its price it buys from the contract's seller, at position 0,
+/// and sells to its buyer, at position 1.
+#[derive(Clone, Copy, Debug)]
+pub struct Outside {
+    price: i128,
+    ghost small: { IsAtMost price (10 ^ 17) },
+}
+
+impl Outside {
+    /// The firm that takes a contract over at this price.
+    pub fn new(price: i128) -> Outside
+        requires { IsAtMost price (10 ^ 17) }
+        ensures { result.price ≡ price }
+    {
+        Outside { price }
+    }
+
+    /// The side of a position.
+    #[tactic(auto, unfolding(tn_base::specs::Sets::has))]
+    fn side(&self, k: u32) -> Side
+        requires { k < 2 }
+        ensures { result ≡ side_at (outside self.now.price).buys k }
+    {
+        if k == 0 { Side::Buy } else { Side::Sell }
+    }
+
+    /// The size of the price.
+    fn bound(&self) -> i128
+        ensures { result ≡ pos (unsigned_abs self.now.price) }
+    {
+        if self.price < 0 {
+            -self.price
+        } else {
+            self.price
+        }
+    }
+
+    /// The worth of a bundle: the price if it has the purchase, less the price if it has the sale.
+    fn value(&self, x: Bundle) -> i128
+        ensures { result ≡ outside_sum self.now.price (has x 0) (has x 1) }
+    {
+        let bought = if x.has(0) { self.price } else { 0 };
+        let sold = if x.has(1) { self.price } else { 0 };
+        bought - sold
+    }
+}
+
+/// A firm of a residual market.
+#[derive(Drop)]
+pub enum Party<'a, V: Valuation> {
+    /// A firm of the market, under a levy.
+    Firm(Levied<'a, V>),
+    /// A firm outside the market, for one contract.
+    Outside(Outside),
+}
+
+impl<V: Valuation> Valuation for Party<'_, V> {
+    ghost use Rattle.tn_market.specs.Lawful.{lawful};
+    ghost use Rattle.tn_market.specs.Parties.{party_firm, party_limit, party_laws};
+
+    type Mark = V::Mark;
+
+    ghost firm = { party_firm V.Valuation };
+
+    ghost limit = { party_limit V.Valuation };
+
+    fn trades(&self) -> u32 {
+        match self {
+            Party::Firm(firm) => firm.trades(),
+            Party::Outside(_) => 2,
+        }
+    }
+
+    fn side(&self, k: u32) -> Side {
+        match self {
+            Party::Firm(firm) => firm.side(k),
+            Party::Outside(outside) => outside.side(k),
+        }
+    }
+
+    fn bound(&self) -> i128 {
+        match self {
+            Party::Firm(firm) => firm.bound(),
+            Party::Outside(outside) => outside.bound(),
+        }
+    }
+
+    fn value(&self, x: Bundle, steps: &mut Steps<V::Mark>) -> Option<i128> {
+        match self {
+            Party::Firm(firm) => firm.value(x, steps),
+            Party::Outside(outside) => {
+                steps.tick();
+                Some(outside.value(x))
+            }
+        }
+    }
+
+    ghost few_trades = { λ party. (party_laws
+        (lawful V.firm V.limit V.few_trades V.own_purchases V.own_bundles V.empty_is_possible V.exchange_one V.exchange_net V.within V.small_limit) party).few_trades };
+
+    ghost own_purchases = { λ party. (party_laws
+        (lawful V.firm V.limit V.few_trades V.own_purchases V.own_bundles V.empty_is_possible V.exchange_one V.exchange_net V.within V.small_limit) party).own_purchases };
+
+    ghost own_bundles = { λ party. (party_laws
+        (lawful V.firm V.limit V.few_trades V.own_purchases V.own_bundles V.empty_is_possible V.exchange_one V.exchange_net V.within V.small_limit) party).own_bundles };
+
+    ghost empty_is_possible = { λ party. (party_laws
+        (lawful V.firm V.limit V.few_trades V.own_purchases V.own_bundles V.empty_is_possible V.exchange_one V.exchange_net V.within V.small_limit) party).empty_is_possible };
+
+    ghost exchange_one = { λ party. (party_laws
+        (lawful V.firm V.limit V.few_trades V.own_purchases V.own_bundles V.empty_is_possible V.exchange_one V.exchange_net V.within V.small_limit) party).exchange_one };
+
+    ghost exchange_net = { λ party. (party_laws
+        (lawful V.firm V.limit V.few_trades V.own_purchases V.own_bundles V.empty_is_possible V.exchange_one V.exchange_net V.within V.small_limit) party).exchange_net };
+
+    ghost within = { λ party. (party_laws
+        (lawful V.firm V.limit V.few_trades V.own_purchases V.own_bundles V.empty_is_possible V.exchange_one V.exchange_net V.within V.small_limit) party).within };
+
+    ghost small_limit = { λ party. (party_laws
+        (lawful V.firm V.limit V.few_trades V.own_purchases V.own_bundles V.empty_is_possible V.exchange_one V.exchange_net V.within V.small_limit) party).small_limit };
+}
