@@ -73,17 +73,17 @@ admitted_meet firms trades allowed meet f other is =
 -- ---- bundles within the admitted trades
 
 -- the bundle of a set of admitted trades is within what the firm may have
-part_inside : (trades : List Ends) (f n allowed on : ℕ) → IsSubset on allowed → minus (part trades f n on) (part trades f n allowed) ≡ 0
+pub part_inside : (trades : List Ends) (f n allowed on : ℕ) → IsSubset on allowed → minus (part trades f n on) (part trades f n allowed) ≡ 0
 part_inside trades f n allowed on inside = minus-zero_from (part trades f n on) (part trades f n allowed) (λ k there.
     let below = has_below (part trades f n on) n k (set_of_within (λ j. has on (own trades f j)) n) there in
     has-part trades f n allowed k below ∙ inside (own trades f k) (sym (has-part trades f n on k below) ∙ there))
 
 -- a bundle within them is worth the same
-among_inside : (allowed : ℕ) (firm : Firm) (x : ℕ) → minus x allowed ≡ 0 → (among allowed firm).worth x ≡ firm.worth x
+pub among_inside : (allowed : ℕ) (firm : Firm) (x : ℕ) → minus x allowed ≡ 0 → (among allowed firm).worth x ≡ firm.worth x
 among_inside allowed firm x inside = ap (λ (b : Bool). if b then firm.worth x else None) (eq-eqb (minus x allowed) 0 inside)
 
 -- and one with a worth is within them
-among_parts : (allowed : ℕ) (firm : Firm) (x : ℕ) (a : ℤ) → (among allowed firm).worth x ≡ Some a → (minus x allowed ≡ 0) × (firm.worth x ≡ Some a)
+pub among_parts : (allowed : ℕ) (firm : Firm) (x : ℕ) (a : ℤ) → (among allowed firm).worth x ≡ Some a → (minus x allowed ≡ 0) × (firm.worth x ≡ Some a)
 among_parts allowed firm x a is = elim (cases_Bool (minus x allowed == 0)) [
   | inl e ↦ (eqb-true (minus x allowed) 0 e, sym (ap (λ (b : Bool). if b then firm.worth x else None) e) ∙ is)
   | inr e ↦ absurd (let none : (among allowed firm).worth x ≡ None = ap (λ (b : Bool). if b then firm.worth x else None) e in cc (none, is))
@@ -123,14 +123,14 @@ moved_member n x i j k there = elim (cases_eq k i) [
 ]
 
 -- at a place that is moved, the trade is a member before or after
-moved_one : (n x i j : ℕ) → i < n → i ≢ j → (has x i ≡ true) ⊎ (has (move n x i j) i ≡ true)
+pub moved_one : (n x i j : ℕ) → i < n → i ≢ j → (has x i ≡ true) ⊎ (has (move n x i j) i ≡ true)
 unfolding move
 moved_one n x i j below apart = elim (cases_Bool (has x i)) [
   | inl e ↦ inl e
   | inr e ↦ inr (has-toggle_at n (toggle_at n x i) j i apart ∙ ap (λ (y : ℕ). has y i) (toggle_at-trade n x i below) ∙ has-toggle_same x i ∙ ap not e)
 ]
 
-moved_other : (n x i j : ℕ) → j < n → i ≢ j → (has x j ≡ true) ⊎ (has (move n x i j) j ≡ true)
+pub moved_other : (n x i j : ℕ) → j < n → i ≢ j → (has x j ≡ true) ⊎ (has (move n x i j) j ≡ true)
 unfolding move
 moved_other n x i j below apart = elim (cases_Bool (has x j)) [
   | inl e ↦ inl e

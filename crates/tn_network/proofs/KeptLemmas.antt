@@ -31,11 +31,11 @@ use Rattle.tn_network.proofs.RoundLemmas.{HasNumbers, KeepsArcsOff, IsRound, no_
 -- ---- walks and arcs
 
 -- numbers that keep the arcs leave no negative cycle
-no_cycle_from : (arc : ℕ → ℕ → Option ℤ) → HasNumbers arc → HasNoNegativeCycle arc
+pub no_cycle_from : (arc : ℕ → ℕ → Option ℤ) → HasNumbers arc → HasNoNegativeCycle arc
 no_cycle_from arc found u vs cost walk = let kept = walk-kept arc found.0 found.1 u vs u cost walk in omega (arith, ints, kept)
 
 -- the nodes of a walk among some nodes are among them
-walk_among : (test : ℕ → Bool) (arc : ℕ → ℕ → Option ℤ) (u : ℕ) (vs : List ℕ) (w : ℕ) (cost : ℤ) → walk_cost (arcs_among test arc) u vs w ≡ Some cost → All (λ v. test v ≡ true) vs
+pub walk_among : (test : ℕ → Bool) (arc : ℕ → ℕ → Option ℤ) (u : ℕ) (vs : List ℕ) (w : ℕ) (cost : ℤ) → walk_cost (arcs_among test arc) u vs w ≡ Some cost → All (λ v. test v ≡ true) vs
 walk_among test arc u [] w cost walk = λ k d h. absurd (omega (arith, h))
 walk_among test arc u (v ∷ vs) w cost walk =
     let parts = walk_parts (arcs_among test arc) u v vs w cost walk in
@@ -50,7 +50,7 @@ walk_among test arc u (v ∷ vs) w cost walk =
 -- ---- one trade more
 
 -- the nodes that are looked at are those that are admitted with it
-looked_is_admitted : (null allowed t : ℕ) → has allowed t ≡ false → (v : ℕ) → is_looked_at null t allowed v ≡ is_admitted null (toggle allowed t) v
+pub looked_is_admitted : (null allowed t : ℕ) → has allowed t ≡ false → (v : ℕ) → is_looked_at null t allowed v ≡ is_admitted null (toggle allowed t) v
 looked_is_admitted null allowed t out v = elim (cases_eq v t) [
   | inl e ↦
       ap (λ (b : Bool). b || (v == null || has allowed v)) (eq-eqb v t e)
@@ -71,10 +71,10 @@ more_inside allowed on t out inside k there = elim (cases_eq k t) [
 ]
 
 -- the arcs of the market that they admit
-arcs_are : (firms : List Firm) (trades : List Ends) (allowed on t : ℕ) → IsNetwork firms trades → has allowed t ≡ false → IsSubset on allowed
+pub arcs_are : (firms : List Firm) (trades : List Ends) (allowed on t : ℕ) → IsNetwork firms trades → has allowed t ≡ false → IsSubset on (toggle allowed t)
     → SameArcs (exchange_arc (admitted trades (toggle allowed t) firms) trades on) (arcs_with firms trades allowed on t)
 arcs_are firms trades allowed on t network out inside u v =
-    arcs_admitted firms trades network (toggle allowed t) on (more_inside allowed on t out inside) u v
+    arcs_admitted firms trades network (toggle allowed t) on inside u v
     ∙ sym (ap₂ (λ (a b : Bool). if a && b then exchange_arc firms trades on u v else None)
     (looked_is_admitted (length trades) allowed t out u) (looked_is_admitted (length trades) allowed t out v))
 
@@ -86,19 +86,24 @@ nodes_of firms trades test on u v c is = elim (cases_Bool (test u && test v)) [
   | inr e ↦ absurd (let none = ap (λ (b : Bool). if b then exchange_arc firms trades on u v else None) e in cc (none, is))
 ]
 
+-- numbers that keep the arcs among the admitted trades and null
+pub numbers_kept : (firms : List Firm) (trades : List Ends) (allowed on : ℕ) → IsKept firms trades allowed on
+    → HasNumbers (arcs_among (is_admitted (length trades) allowed) (exchange_arc firms trades on))
+numbers_kept firms trades allowed on kept = (numbers_keep_arcs (suc (length trades)) (arcs_among (is_admitted (length trades) allowed) (exchange_arc firms trades on))
+    (nodes_of firms trades (is_admitted (length trades) allowed) on)).0 kept.no_cycle
+
 -- numbers that keep its arcs off the new trade
 numbers_off : (firms : List Firm) (trades : List Ends) (allowed on t : ℕ) → IsNetwork firms trades → has allowed t ≡ false → IsKept firms trades allowed on
     → (numbers : ℕ → ℤ) × KeepsArcsOff t (exchange_arc (admitted trades (toggle allowed t) firms) trades on) numbers
 numbers_off firms trades allowed on t network out kept = (
   found.0,
   λ u v c u_off v_off is.
-      let with_t : arcs_with firms trades allowed on t u v ≡ Some c = sym (arcs_are firms trades allowed on t network out kept.inside u v) ∙ is in
+      let with_t : arcs_with firms trades allowed on t u v ≡ Some c = sym (arcs_are firms trades allowed on t network out (more_inside allowed on t out kept.inside) u v) ∙ is in
       found.1 u v c (sym (ap₂ (λ (a b : Bool). if a && b then exchange_arc firms trades on u v else None) (off u u_off) (off v v_off)) ∙ with_t),
 )
   where
-    found : (numbers : ℕ → ℤ) × KeepsArcs (arcs_among (is_admitted (length trades) allowed) (exchange_arc firms trades on)) numbers
-    found = (numbers_keep_arcs (suc (length trades)) (arcs_among (is_admitted (length trades) allowed) (exchange_arc firms trades on))
-        (nodes_of firms trades (is_admitted (length trades) allowed) on)).0 kept.no_cycle
+    found : HasNumbers (arcs_among (is_admitted (length trades) allowed) (exchange_arc firms trades on))
+    found = numbers_kept firms trades allowed on kept
 
     off : (u : ℕ) → u ≢ t → is_looked_at (length trades) t allowed u ≡ is_admitted (length trades) allowed u
     off u other = ap (λ (b : Bool). b || (u == length trades || has allowed u)) (false_from_ne_true (u == t) (λ q. other (eqb-true u t q)))
@@ -160,7 +165,7 @@ start firms trades network abstain = record {
 still : (firms : List Firm) (trades : List Ends) (allowed on t : ℕ) → IsNetwork firms trades → MeetExchange firms → IsKept firms trades allowed on
     → t < length trades → has allowed t ≡ false → CyclesCostAtLeast (arcs_with firms trades allowed on t) t (pos 0) → IsKept firms trades (toggle allowed t) on
 still firms trades allowed on t network meet kept below out least =
-    let same = arcs_are firms trades allowed on t network out kept.inside in
+    let same = arcs_are firms trades allowed on t network out (more_inside allowed on t out kept.inside) in
     let off = numbers_off firms trades allowed on t network out kept in
     let found = no_cycle (admitted trades (toggle allowed t) firms) trades on t below off.0 off.1
     (λ vs c avoids walk. least vs c avoids (sym (walk-same _ _ same t vs t) ∙ walk)) in
@@ -172,7 +177,7 @@ still firms trades allowed on t network meet kept below out least =
     }
 
 -- the set along admitted nodes is admitted
-along_inside : (count allowed on : ℕ) (vs : List ℕ) → All (λ v. is_admitted count allowed v ≡ true) vs → IsSubset on allowed → IsSubset (along count on vs) allowed
+pub along_inside : (count allowed on : ℕ) (vs : List ℕ) → All (λ v. is_admitted count allowed v ≡ true) vs → IsSubset on allowed → IsSubset (along count on vs) allowed
 along_inside count allowed on [] all inside = inside
 along_inside count allowed on (v ∷ vs) all inside =
     by (cases_lt v count) (along_inside count allowed on vs (All-tail (λ x. is_admitted count allowed x ≡ true) v vs all) inside)
@@ -193,7 +198,7 @@ turned : (firms : List Firm) (trades : List Ends) (allowed on t : ℕ) → IsNet
     → t < length trades → has allowed t ≡ false → (vs : List ℕ) (cost : ℤ) → IsLeastCycle (arcs_with firms trades allowed on t) t vs cost → cost ≤ℤ pos 0
     → IsKept firms trades (toggle allowed t) (along (length trades) on (t ∷ vs))
 turned firms trades allowed on t network meet kept below out vs cost cycle gains =
-    let same = arcs_are firms trades allowed on t network out kept.inside in
+    let same = arcs_are firms trades allowed on t network out (more_inside allowed on t out kept.inside) in
     let off = numbers_off firms trades allowed on t network out kept in
     let inside = more_inside allowed on t out kept.inside in
     let firms' = admitted trades (toggle allowed t) firms in
@@ -205,9 +210,8 @@ turned firms trades allowed on t network meet kept below out vs cost cycle gains
       numbers = off.0;
       keeps = off.1;
       cycle = least_cycle-same _ _ same t vs cost cycle;
-      gains = gains;
     } in
-    let next = one_cycle (admitted trades (toggle allowed t) firms) trades on t vs cost round in
+    let next = one_cycle (admitted trades (toggle allowed t) firms) trades on t vs cost round gains in
     let nodes : All (λ v. is_admitted (length trades) (toggle allowed t) v ≡ true) (t ∷ vs) = All-cons (λ v. is_admitted (length trades) (toggle allowed t) v ≡ true) t vs
     (sym (looked_is_admitted (length trades) allowed t out t) ∙ ap (λ (b : Bool). b || (t == length trades || has allowed t)) (eq-eqb t t refl))
     (λ k d h. sym (looked_is_admitted (length trades) allowed t out _) ∙ walk_among (is_looked_at (length trades) t allowed) (exchange_arc firms trades on) t vs t cost cycle.cycle.walk k d h) in

@@ -8,8 +8,11 @@ pub mod AlongLemmas
 pub mod RoundLemmas
 pub mod AdmittedLemmas
 pub mod KeptLemmas
+pub mod WithoutLemmas
+pub mod BarLemmas
 pub mod PoolLemmas
 pub mod PartLemmas
 pub mod StabilityLemmas
 pub mod BlockLemmas
 pub mod EachLemmas
+pub mod BoundLemmas

@@ -1,11 +1,13 @@
 -- Offers and an outcome together: where each contract of the list comes from.
-use Rattle.std.proofs.Common.{◌≡◌, ℕ, zero, suc, ◌+◌, ◌<◌, ◌≤◌, Bool, true, false, if◌then◌else◌, List, [], ◌∷◌, ◌++◌, length, slice_get, Some, None, Option, option_map, refl, sym, ap, ◌∙◌, subst, arith, inl, inr, ◌⊎◌, ℤ, ◌*ℤ◌}
-use Rattle.std.proofs.lemmas.Bool.{cases_eq}
+use Rattle.std.proofs.Common.{◌≡◌, ℕ, zero, suc, ◌+◌, ◌<◌, ◌≤◌, true, List, [], ◌∷◌, ◌++◌, length, slice_get, Some, None, Option, option_map, refl, sym, ap, ◌∙◌, subst, arith, inl, inr, ◌⊎◌, ℤ, ◌*ℤ◌}
+use Rattle.std.proofs.lemmas.Bool.{cases_eq, cases_lt}
 use Rattle.std.proofs.lemmas.List.{length-map}
-use Rattle.std.proofs.lemmas.Option.{same_Some, slice_get-map}
+use Rattle.std.proofs.lemmas.List.Elements.{All-contains}
+use Rattle.std.proofs.lemmas.Option.{get_or_from_slice_get, same_Some, slice_get-get_or, slice_get-map, slice_get_within}
 use Rattle.tn_base.specs.Sets.{has}
 use Rattle.tn_market.specs.declared.contract.Contract.{Contract}
 use Rattle.tn_market.specs.Choices.{counted, together, contracts_of}
+use Rattle.tn_market.proofs.ContractLemmas.{contracts_are, contracts_ascend, contracts_have, contracts_increase}
 
 -- ---- two lists in a row
 
@@ -36,20 +38,6 @@ append_behind (first ∷ xs) ys place (suc k) x at is = append_behind xs ys plac
 
 -- ---- the contracts of an arrangement
 
--- what one trade adds to them
-abbrev added : ℕ → (ℕ → ℤ) → ℕ → List Contract
-added on prices n = if has on n then record { trade = n; price = prices n } ∷ [] else []
-
-added_is : (on : ℕ) (prices : ℕ → ℤ) (n k : ℕ) (contract : Contract) → slice_get (added on prices n) k ≡ Some contract
-    → (has on n ≡ true) × (k ≡ 0) × (contract ≡ record { trade = n; price = prices n })
-added_is on prices n k contract is = by_case (has on n) refl k is
-  where
-    by_case : (b : Bool) → has on n ≡ b → (k : ℕ) → slice_get (if b then record { trade = n; price = prices n } ∷ [] else []) k ≡ Some contract
-        → (has on n ≡ true) × (k ≡ 0) × (contract ≡ record { trade = n; price = prices n })
-    by_case true e zero is = (e, refl, same_Some _ _ (sym is))
-    by_case true e (suc k) is = absurd (cc is)
-    by_case false e k is = absurd (cc is)
-
 -- a contract of an arrangement
 pub record IsSigned (on : ℕ) (prices : ℕ → ℤ) (n : ℕ) (contract : Contract) : Type 0 where
   pub below : contract.trade < n
@@ -57,55 +45,26 @@ pub record IsSigned (on : ℕ) (prices : ℕ → ℤ) (n : ℕ) (contract : Cont
   pub price : contract.price ≡ prices contract.trade
 
 pub signed_at : (on : ℕ) (prices : ℕ → ℤ) (n k : ℕ) (contract : Contract) → slice_get (contracts_of on prices n) k ≡ Some contract → IsSigned on prices n contract
-signed_at on prices zero k contract is = absurd (cc is)
-signed_at on prices (suc n) k contract is = elim (append_cases (contracts_of on prices n) (added on prices n) k contract is) [
-  | inl front ↦
-      let earlier = signed_at on prices n k contract front.0 in
-      let below = earlier.below in
-      record { below = omega (arith, below); there = earlier.there; price = earlier.price }
-  | inr behind ↦
-      let new = added_is on prices n behind.place contract behind.is in
-      subst (IsSigned on prices (suc n)) (sym new.2) (record { below = omega arith; there = new.0; price = refl })
-]
+signed_at on prices n k contract is =
+    All-contains (IsSigned on prices n) (contracts_of on prices n) contract (contracts_are on prices (IsSigned on prices n) n (λ t below there. record { below = below; there = there; price = refl }))
+    (k, slice_get_within (contracts_of on prices n) k contract is, get_or_from_slice_get (contracts_of on prices n) k contract contract is)
 
 pub signed_found : (on : ℕ) (prices : ℕ → ℤ) (n t : ℕ) → t < n → has on t ≡ true
     → (k : ℕ) × (slice_get (contracts_of on prices n) k ≡ Some (record { trade = t; price = prices t }))
-signed_found on prices zero t below there = absurd (omega (arith, below))
-signed_found on prices (suc n) t below there = elim (cases_eq t n) [
-  | inl e ↦ (
-    length (contracts_of on prices n),
-    append_behind (contracts_of on prices n) (added on prices n) 0 (length (contracts_of on prices n)) (record { trade = t; price = prices t }) (omega arith)
-        (subst (λ (m : ℕ). slice_get {X = Contract} (if has on m then record { trade = m; price = prices m } ∷ [] else []) 0 ≡ Some (record { trade = t; price = prices t })) e
-        (ap (λ (b : Bool). slice_get {X = Contract} (if b then record { trade = t; price = prices t } ∷ [] else []) 0) there)),
-  )
-  | inr d ↦
-      let earlier = signed_found on prices n t (omega (arith, below, d)) there in
-      (earlier.0, append_front (contracts_of on prices n) (added on prices n) earlier.0 _ earlier.1)
-]
+signed_found on prices n t below there =
+    let found = contracts_have on prices n t below there in
+    (found.0, slice_get-get_or (contracts_of on prices n) found.0 (record { trade = t; price = prices t }) found.1 ∙ ap Some found.2)
 
 pub signed_once : (on : ℕ) (prices : ℕ → ℤ) (n j k : ℕ) (one other : Contract) → slice_get (contracts_of on prices n) j ≡ Some one
     → slice_get (contracts_of on prices n) k ≡ Some other → one.trade ≡ other.trade → j ≡ k
-signed_once on prices zero j k one other one_is other_is same = absurd (cc one_is)
-signed_once on prices (suc n) j k one other one_is other_is same =
-    elim (append_cases (contracts_of on prices n) (added on prices n) j one one_is) [
-      | inl first ↦ elim (append_cases (contracts_of on prices n) (added on prices n) k other other_is) [
-        | inl second ↦ signed_once on prices n j k one other first.0 second.0 same
-        | inr second ↦
-            let earlier = (signed_at on prices n j one first.0).below in
-            let new = ap (λ (c : Contract). c.trade) (added_is on prices n second.place other second.is).2 in
-            absurd (omega (arith, earlier, new, same))
-      ]
-      | inr first ↦ elim (append_cases (contracts_of on prices n) (added on prices n) k other other_is) [
-        | inl second ↦
-            let earlier = (signed_at on prices n k other second.0).below in
-            let new = ap (λ (c : Contract). c.trade) (added_is on prices n first.place one first.is).2 in
-            absurd (omega (arith, earlier, new, same))
-        | inr second ↦
-            let a = first.at in
-            let b = second.at in
-            let c = (added_is on prices n first.place one first.is).1 in
-            let d = (added_is on prices n second.place other second.is).1 in
-            omega (arith, a, b, c, d)
+signed_once on prices n j k one other one_is other_is same =
+    let contracts = contracts_of on prices n in
+    let up = contracts_increase on prices n in
+    elim (cases_lt j k) [
+      | inl before ↦ let less = contracts_ascend contracts up j k one other before one_is other_is in absurd (omega (arith, less, same))
+      | inr from ↦ elim (cases_eq j k) [
+        | inl e ↦ e
+        | inr apart ↦ let less = contracts_ascend contracts up k j other one (omega (arith, from, apart)) other_is one_is in absurd (omega (arith, less, same))
       ]
     ]
 
@@ -121,7 +80,7 @@ pub record IsPool (count on : ℕ) (prices : ℕ → ℤ) (offers pool : List Co
       → one.trade ≡ other.trade → j ≡ k
 
 -- what stands at a place of counted contracts
-counted_at : (times : ℤ) (contracts : List Contract) (k : ℕ) (contract : Contract) → slice_get (counted times contracts) k ≡ Some contract
+pub counted_at : (times : ℤ) (contracts : List Contract) (k : ℕ) (contract : Contract) → slice_get (counted times contracts) k ≡ Some contract
     → (original : Contract) × (slice_get contracts k ≡ Some original) × (contract ≡ record { trade = original.trade; price = times *ℤ original.price })
 counted_at times contracts k contract is =
     by_case (slice_get contracts k) refl (sym (slice_get-map (λ (c : Contract). record { trade = c.trade; price = times *ℤ c.price }) contracts k) ∙ is)

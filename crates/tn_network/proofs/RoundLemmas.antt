@@ -37,7 +37,7 @@ KeepsArcsOff t arc numbers = (u v : ℕ) (c : ℤ) → u ≢ t → v ≢ t → a
 
 -- ---- where no cycle through t is negative
 
-arcs_between : (firms : List Firm) (trades : List Ends) (on u v : ℕ) (c : ℤ) → exchange_arc firms trades on u v ≡ Some c → (u < suc (length trades)) × (v < suc (length trades))
+pub arcs_between : (firms : List Firm) (trades : List Ends) (on u v : ℕ) (c : ℤ) → exchange_arc firms trades on u v ≡ Some c → (u < suc (length trades)) × (v < suc (length trades))
 arcs_between firms trades on u v c is = let ends = arc_within firms trades on u v c is in (let a = ends.0 in omega (arith, a), let b = ends.1 in omega (arith, b))
 
 pub no_cycle : (firms : List Firm) (trades : List Ends) (on t : ℕ) → t < length trades → (numbers : ℕ → ℤ) → KeepsArcsOff t (exchange_arc firms trades on) numbers
@@ -58,9 +58,9 @@ no_cycle firms trades on t inside numbers keeps least = (two.number, kept)
       | inr other ↦ two.keeps u v c other is
     ]
 
--- ---- where one is
+-- ---- along a least cycle through t
 
--- a least cycle through t, and numbers off t
+-- a least cycle through t, whatever it costs, and numbers off t
 pub record IsRound (firms : List Firm) (trades : List Ends) (on t : ℕ) (vs : List ℕ) (cost : ℤ) : Type 0 where
   pub network : IsNetwork firms trades
   pub meet : MeetExchange firms
@@ -69,9 +69,8 @@ pub record IsRound (firms : List Firm) (trades : List Ends) (on t : ℕ) (vs : L
   pub numbers : ℕ → ℤ
   pub keeps : KeepsArcsOff t (exchange_arc firms trades on) numbers
   pub cycle : IsLeastCycle (exchange_arc firms trades on) t vs cost
-  pub gains : cost ≤ℤ pos 0
 
-setting : (firms : List Firm) (trades : List Ends) (on t : ℕ) (vs : List ℕ) (cost : ℤ) → IsRound firms trades on t vs cost → Setting firms trades on t
+pub setting : (firms : List Firm) (trades : List Ends) (on t : ℕ) (vs : List ℕ) (cost : ℤ) → IsRound firms trades on t vs cost → Setting firms trades on t
 setting firms trades on t vs cost round = record {
   network = round.network;
   meet = round.meet;
@@ -95,7 +94,7 @@ turns-avoid t (v ∷ vs) c avoids =
     ∙ turns-avoid t vs c (All-tail (λ x. x ≢ t) v vs avoids)
 
 -- the trade is toggled
-has-along-t : (count on t : ℕ) (vs : List ℕ) → t < count → Avoids t vs → has (along count on (t ∷ vs)) t ≡ not (has on t)
+pub has-along-t : (count on t : ℕ) (vs : List ℕ) → t < count → Avoids t vs → has (along count on (t ∷ vs)) t ≡ not (has on t)
 has-along-t count on t vs inside avoids =
     has-along count on (t ∷ vs) t inside
     ∙ ap (λ (b : Bool). if b then not (turns t vs (has on t)) else turns t vs (has on t)) (eq-eqb t t refl)
@@ -106,13 +105,23 @@ abbrev after : List Ends → ℕ → ℕ → List ℕ → ℕ
 after trades on t vs = along (length trades) on (t ∷ vs)
 
 -- what a round comes to at the two numbers
-record IsTurned (firms : List Firm) (trades : List Ends) (on t : ℕ) (vs : List ℕ) (s : Setting firms trades on t) : Type 0 where
-  legs : List Leg
-  shortest : IsShortest firms trades on t s legs
-  nodes : map (λ leg. leg.begin) legs ≡ t ∷ vs
-  joined : s.two.entering ≤ℤ s.two.number t
+pub record IsTurned (firms : List Firm) (trades : List Ends) (on t : ℕ) (vs : List ℕ) (s : Setting firms trades on t) : Type 0 where
+  pub legs : List Leg
+  pub shortest : IsShortest firms trades on t s legs
+  pub nodes : map (λ leg. leg.begin) legs ≡ t ∷ vs
 
-turned : (firms : List Firm) (trades : List Ends) (on t : ℕ) (vs : List ℕ) (cost : ℤ) (round : IsRound firms trades on t vs cost) → IsTurned firms trades on t vs (setting firms trades on t vs cost round)
+-- the two numbers of t differ by the cost of the cycle
+entering_is : (firms : List Firm) (trades : List Ends) (on t : ℕ) (vs : List ℕ) (cost : ℤ) (round : IsRound firms trades on t vs cost)
+    → (setting firms trades on t vs cost round).two.entering ≡ (setting firms trades on t vs cost round).two.number t +ℤ cost
+unfolding setting
+entering_is firms trades on t vs cost round =
+    let s = setting firms trades on t vs cost round in
+    let low = walk_low firms trades on t s t vs cost (cycle_avoids t vs round.cycle.cycle.different) round.cycle.cycle.walk in
+    let gap = s.two.gap in
+    let gain : s.gain ≡ neg_ℤ cost = refl in
+    omega (arith, ints, low, gap, gain)
+
+pub turned : (firms : List Firm) (trades : List Ends) (on t : ℕ) (vs : List ℕ) (cost : ℤ) (round : IsRound firms trades on t vs cost) → IsTurned firms trades on t vs (setting firms trades on t vs cost round)
 unfolding setting
 turned firms trades on t vs cost round = record {
   legs = walk.0;
@@ -126,7 +135,6 @@ turned firms trades on t vs cost round = record {
         omega (arith, least, short, counted);
   };
   nodes = walk.2;
-  joined = let gains = round.gains in let e = equal in omega (arith, ints, gains, e);
 }
   where
     s : Setting firms trades on t
@@ -136,11 +144,7 @@ turned firms trades on t vs cost round = record {
     avoids = cycle_avoids t vs round.cycle.cycle.different
 
     equal : (setting firms trades on t vs cost round).two.entering ≡ (setting firms trades on t vs cost round).two.number t +ℤ cost
-    equal =
-        let low = walk_low firms trades on t s t vs cost avoids round.cycle.cycle.walk in
-        let gap = s.two.gap in
-        let gain : s.gain ≡ neg_ℤ cost = refl in
-        omega (arith, ints, low, gap, gain)
+    equal = entering_is firms trades on t vs cost round
 
     from_equal : (e n c : ℤ) → e ≡ n +ℤ c → e -ℤ n ≡ c
     from_equal e n c q = omega (arith, ints, q)
@@ -149,11 +153,35 @@ turned firms trades on t vs cost round = record {
     walk = walk_legs firms trades on t s t vs cost avoids round.cycle.cycle.walk equal
 
 -- the prices after the round: the numbers less null's
-abbrev new_price : {firms : List Firm} {trades : List Ends} {on t : ℕ} → Setting firms trades on t → ℕ → ℤ
+abbrev pub new_price : {firms : List Firm} {trades : List Ends} {on t : ℕ} → Setting firms trades on t → ℕ → ℤ
 new_price {firms} {trades} {on} {t} s u = s.two.number u -ℤ s.two.number (length trades)
 
+-- they are what is paid at the places, but where a place of the trade can be lowered
+pub place_price-low : (firms : List Firm) (trades : List Ends) (on t : ℕ) (s : Setting firms trades on t) (f k : ℕ) (firm : Firm)
+    → trade_level firm.buys (part trades f firm.count on) k ≢ 1 → place_price s f firm k ≡ new_price s (own trades f k)
+place_price-low firms trades on t s f k firm low =
+    ap (λ (b : Bool). (if b then number_in s (own trades f k) else s.two.number (own trades f k)) -ℤ s.two.number (length trades))
+    (false_from_ne_true (trade_level firm.buys (part trades f firm.count on) k == 1) (λ q. low (eqb-true _ _ q)))
+
+pub place_price-other : (firms : List Firm) (trades : List Ends) (on t : ℕ) (s : Setting firms trades on t) (f k : ℕ) (firm : Firm)
+    → own trades f k ≢ t → place_price s f firm k ≡ new_price s (own trades f k)
+place_price-other firms trades on t s f k firm other =
+    either (trade_level firm.buys (part trades f firm.count on) k == 1) (number_in-other firms trades on t s (own trades f k) other)
+  where
+    either : (b : Bool) → number_in s (own trades f k) ≡ s.two.number (own trades f k)
+        → (if b then number_in s (own trades f k) else s.two.number (own trades f k)) -ℤ s.two.number (length trades) ≡ new_price s (own trades f k)
+    either true e = ap (λ (z : ℤ). z -ℤ s.two.number (length trades)) e
+    either false e = refl
+
+-- there it is the number of what enters it
+pub place_price-high : (firms : List Firm) (trades : List Ends) (on t : ℕ) (s : Setting firms trades on t) (f k : ℕ) (firm : Firm)
+    → own trades f k ≡ t → trade_level firm.buys (part trades f firm.count on) k ≡ 1 → place_price s f firm k ≡ s.two.entering -ℤ s.two.number (length trades)
+place_price-high firms trades on t s f k firm e high =
+    ap (λ (l : ℕ). (if l == 1 then number_in s (own trades f k) else s.two.number (own trades f k)) -ℤ s.two.number (length trades)) high
+    ∙ ap (λ (z : ℤ). z -ℤ s.two.number (length trades)) (number_in-t firms trades on t s (own trades f k) e)
+
 -- each firm's bundle after the round is best at the two numbers
-best_turned : (firms : List Firm) (trades : List Ends) (on t : ℕ) (vs : List ℕ) (s : Setting firms trades on t) → IsTurned firms trades on t vs s → (f : ℕ) (firm : Firm) → slice_get firms f ≡ Some firm
+pub best_turned : (firms : List Firm) (trades : List Ends) (on t : ℕ) (vs : List ℕ) (s : Setting firms trades on t) → IsTurned firms trades on t vs s → (f : ℕ) (firm : Firm) → slice_get firms f ≡ Some firm
     → (value : ℤ) × IsBest (priced s f firm).worth (part trades f firm.count (along (length trades) on (t ∷ vs))) value
 best_turned firms trades on t vs s turn f firm is = (
   at.value,
@@ -175,18 +203,15 @@ best_turned firms trades on t vs s turn f firm is = (
         (λ k inside. sym (member_along firms trades on t s f k firm is inside turn.legs turn.shortest.path)
         ∙ ap (λ (ns : List ℕ). has (part trades f firm.count (along (length trades) on ns)) k) turn.nodes)
 
--- one price for the trade, that of its begin, is in favour of both its firms
-favours : (firms : List Firm) (trades : List Ends) (on t : ℕ) (vs : List ℕ) (s : Setting firms trades on t) → IsTurned firms trades on t vs s → Avoids t vs → (f : ℕ) (firm : Firm) → slice_get firms f ≡ Some firm
+-- where the cycle costs nothing or gains, one price for the trade, that of its begin, is in favour of both its firms
+favours : (firms : List Firm) (trades : List Ends) (on t : ℕ) (vs : List ℕ) (s : Setting firms trades on t) → IsTurned firms trades on t vs s → s.two.entering ≤ℤ s.two.number t → Avoids t vs → (f : ℕ) (firm : Firm) → slice_get firms f ≡ Some firm
     → Favours firm.count (part trades f firm.count (along (length trades) on (t ∷ vs))) (payments firm.buys (prices_at trades (new_price s) f)) (payments firm.buys (place_price s f firm))
 unfolding trade_level
-favours firms trades on t vs s turn avoids f firm is k inside =
+favours firms trades on t vs s turn joined avoids f firm is k inside =
     subst (λ (b : Bool). IsFavoured b (payments firm.buys (prices_at trades (new_price s) f) k) (payments firm.buys (place_price s f firm) k))
     (sym (has-part trades f firm.count (along (length trades) on (t ∷ vs)) k inside))
     (by (cases_eq (own trades f k) t) (cases_eq (trade_level firm.buys (part trades f firm.count on) k) 1))
   where
-    level_price : ℕ → ℤ
-    level_price l = (if l == 1 then number_in s (own trades f k) else s.two.number (own trades f k)) -ℤ s.two.number (length trades)
-
     same : (b c : Bool) (p q : ℤ) → p ≡ q → IsFavoured b (if c then neg_ℤ q else q) (if c then neg_ℤ p else p)
     same true true p q e = omega (arith, ints, e)
     same true false p q e = omega (arith, ints, e)
@@ -214,36 +239,31 @@ favours firms trades on t vs s turn avoids f firm is k inside =
     by (inl e) (inl high) =
         moved (has (along (length trades) on (t ∷ vs)) (own trades f k)) (has firm.buys k) (has (part trades f firm.count on) k) (place_price s f firm k) (new_price s (own trades f k)) high
         (ap (has (along (length trades) on (t ∷ vs))) e ∙ has-along-t (length trades) on t vs s.inside avoids ∙ ap not (ap (has on) (sym e) ∙ sym (has-part trades f firm.count on k inside)))
-        (let old : place_price s f firm k ≡ s.two.entering -ℤ s.two.number (length trades) =
-        ap level_price high ∙ ap (λ (z : ℤ). z -ℤ s.two.number (length trades)) (number_in-t firms trades on t s (own trades f k) e) in
-        let joined = turn.joined in
+        (let old = place_price-high firms trades on t s f k firm e high in
         let here = ap s.two.number e in
         omega (arith, ints, old, joined, here))
     by (inl e) (inr low) = same (has (along (length trades) on (t ∷ vs)) (own trades f k)) (has firm.buys k) (place_price s f firm k) (new_price s (own trades f k))
-        (ap (λ (b : Bool). (if b then number_in s (own trades f k) else s.two.number (own trades f k)) -ℤ s.two.number (length trades))
-        (false_from_ne_true (trade_level firm.buys (part trades f firm.count on) k == 1) (λ q. low (eqb-true _ _ q))))
+        (place_price-low firms trades on t s f k firm low)
     by (inr other) level = same (has (along (length trades) on (t ∷ vs)) (own trades f k)) (has firm.buys k) (place_price s f firm k) (new_price s (own trades f k))
-        (either (trade_level firm.buys (part trades f firm.count on) k == 1) (number_in-other firms trades on t s (own trades f k) other))
-      where
-        either : (b : Bool) → number_in s (own trades f k) ≡ s.two.number (own trades f k)
-            → (if b then number_in s (own trades f k) else s.two.number (own trades f k)) -ℤ s.two.number (length trades) ≡ new_price s (own trades f k)
-        either true e = ap (λ (z : ℤ). z -ℤ s.two.number (length trades)) e
-        either false e = refl
+        (place_price-other firms trades on t s f k firm other)
 
 -- the set along the cycle is an equilibrium at the new prices
-pub round_equilibrium : (firms : List Firm) (trades : List Ends) (on t : ℕ) (vs : List ℕ) (cost : ℤ) (round : IsRound firms trades on t vs cost)
+pub round_equilibrium : (firms : List Firm) (trades : List Ends) (on t : ℕ) (vs : List ℕ) (cost : ℤ) (round : IsRound firms trades on t vs cost) → cost ≤ℤ pos 0
     → (prices : ℕ → ℤ) × IsEquilibrium firms trades (pos 1) (along (length trades) on (t ∷ vs)) prices
-round_equilibrium firms trades on t vs cost round = (
+round_equilibrium firms trades on t vs cost round gains = (
   new_price s,
   λ f firm is.
       let best = best_turned firms trades on t vs s (turned firms trades on t vs cost round) f firm is in
       favoured_best (pos 1) firm (payments firm.buys (prices_at trades (new_price s) f)) (payments firm.buys (place_price s f firm))
       (part trades f firm.count (along (length trades) on (t ∷ vs))) best.0 best.1
-      (favours firms trades on t vs s (turned firms trades on t vs cost round) (cycle_avoids t vs round.cycle.cycle.different) f firm is),
+      (favours firms trades on t vs s (turned firms trades on t vs cost round) joined (cycle_avoids t vs round.cycle.cycle.different) f firm is),
 )
   where
     s : Setting firms trades on t
     s = setting firms trades on t vs cost round
+
+    joined : (setting firms trades on t vs cost round).two.entering ≤ℤ (setting firms trades on t vs cost round).two.number t
+    joined = let equal = entering_is firms trades on t vs cost round in omega (arith, ints, gains, equal)
 
 -- an equilibrium's bundles are possible
 pub equilibrium_possible : (firms : List Firm) (trades : List Ends) (on : ℕ) (prices : ℕ → ℤ) → IsEquilibrium firms trades (pos 1) on prices → ArePossible firms trades on
@@ -257,10 +277,10 @@ equilibrium_possible firms trades on prices equilibrium f firm is =
     some None a e = absurd (cc e)
 
 -- one cycle keeps what the next round needs: possible bundles, and numbers that keep every arc
-pub one_cycle : (firms : List Firm) (trades : List Ends) (on t : ℕ) (vs : List ℕ) (cost : ℤ) → IsRound firms trades on t vs cost
+pub one_cycle : (firms : List Firm) (trades : List Ends) (on t : ℕ) (vs : List ℕ) (cost : ℤ) → IsRound firms trades on t vs cost → cost ≤ℤ pos 0
     → ArePossible firms trades (along (length trades) on (t ∷ vs)) × HasNumbers (exchange_arc firms trades (along (length trades) on (t ∷ vs)))
-one_cycle firms trades on t vs cost round =
-    let found = round_equilibrium firms trades on t vs cost round in (
+one_cycle firms trades on t vs cost round gains =
+    let found = round_equilibrium firms trades on t vs cost round gains in (
       equilibrium_possible firms trades (along (length trades) on (t ∷ vs)) found.0 found.1,
       (price_of_node (length trades) found.0, arcs_from_supports firms trades (along (length trades) on (t ∷ vs)) found.0 round.network found.1),
     )

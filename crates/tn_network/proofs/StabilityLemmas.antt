@@ -161,7 +161,7 @@ signed_is_part trades on prices offers pool is_pool f = record {
 }
 
 -- a trade that stands at a position of the firm is one of it
-own_is_of : (trades : List Ends) (f k : ℕ) (contract : Contract) → own trades f k < length trades → contract.trade ≡ own trades f k → is_of trades f contract ≡ true
+pub own_is_of : (trades : List Ends) (f k : ℕ) (contract : Contract) → own trades f k < length trades → contract.trade ≡ own trades f k → is_of trades f contract ≡ true
 own_is_of trades f k contract inside same =
     let found = own_stands trades f k inside in
     ap (λ (o : Option Ends). unwrap_or (option_map (is_end f) o) false) (ap (slice_get trades) same ∙ found.is) ∙ end found.trade found.stands

@@ -2,6 +2,7 @@
 use Rattle.std.proofs.Common.{◌≡◌, ◌≢◌, ℕ, zero, suc, ◌+◌, ◌<◌, ◌≤◌, Bool, ◌==◌, ◌&&◌, if◌then◌else◌, List, [], ◌∷◌, Some, slice_get, refl, sym, ap, ◌∙◌, subst, arith, inl, inr, ℤ, pos, ◌+ℤ◌}
 use Rattle.std.proofs.lemmas.Int.{ints}
 use Rattle.std.proofs.lemmas.Bool.{cases_eq, cases_Bool, eq-eqb, ne_eqb}
+use Rattle.std.proofs.lemmas.Option.{none-some, same_Some}
 use Rattle.tn_base.specs.Firm.{Firm}
 
 -- the sum of a term for each number below n
@@ -33,6 +34,11 @@ pub all_from : {A : Type 0} (P : ℕ → A → Type 0) (s : ℕ) (xs : List A) �
     → AllFrom P s xs
 all_from P s [] each = tt
 all_from P s (x ∷ xs) each = (each 0 s x (omega arith) refl, all_from P (s + 1) xs (λ i f y at is. each (suc i) f y (omega (arith, at)) is))
+
+pub all_at : {A : Type 0} (P : ℕ → A → Type 0) (s : ℕ) (xs : List A) → AllFrom P s xs → (i f : ℕ) (x : A) → f ≡ s + i → slice_get xs i ≡ Some x → P f x
+all_at P s [] all i f x at is = absurd (none-some x is)
+all_at P s (first ∷ xs) all zero f x at is = let here : s ≡ f = omega (arith, at) in subst (λ g. P g x) here (subst (P s) (same_Some first x is) all.0)
+all_at P s (first ∷ xs) all (suc i) f x at is = all_at P (s + 1) xs all.1 i f x (omega (arith, at)) is
 
 -- the sum of a term for each item of a list with its number, counted from s
 abbrev pub sum_list : {A : Type 0} → (ℕ → A → ℤ) → ℕ → List A → ℤ
@@ -79,11 +85,11 @@ over_all-zero s (firm ∷ firms) =
 abbrev pub placed_at : ℕ → ℕ → ℤ → ℕ → ℕ → ℤ
 placed_at a b v f k = if a == f && b == k then v else pos 0
 
-placed-here : (a b f k : ℕ) (v : ℤ) → a ≡ f → b ≡ k → placed_at a b v f k ≡ v
+pub placed-here : (a b f k : ℕ) (v : ℤ) → a ≡ f → b ≡ k → placed_at a b v f k ≡ v
 placed-here a b f k v same at =
     ap (λ (c : Bool). if c && b == k then v else pos 0) (eq-eqb a f same) ∙ ap (λ (c : Bool). if c then v else pos 0) (eq-eqb b k at)
 
-placed-other_firm : (a b f k : ℕ) (v : ℤ) → a ≢ f → placed_at a b v f k ≡ pos 0
+pub placed-other_firm : (a b f k : ℕ) (v : ℤ) → a ≢ f → placed_at a b v f k ≡ pos 0
 placed-other_firm a b f k v different = ap (λ (c : Bool). if c && b == k then v else pos 0) (ne_eqb a f different)
 
 placed-other_position : (a b f k : ℕ) (v : ℤ) → b ≢ k → placed_at a b v f k ≡ pos 0

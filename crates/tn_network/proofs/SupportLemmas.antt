@@ -1,5 +1,5 @@
 -- Supporting prices are numbers of the nodes that keep every arc of the exchange graph.
-use Rattle.std.proofs.Common.{◌*◌, ◌≡◌, ◌≢◌, ℕ, ◌<◌, ◌≤◌, Bool, true, false, if◌then◌else◌, ltb, List, [], ◌∷◌, length, slice_get, Some, None, Option, option_map, refl, sym, ap, ap₂, ◌∙◌, arith, inl, inr, ◌↔◌, ℤ, pos, ◌+ℤ◌, ◌-ℤ◌, neg_ℤ, ◌≤ℤ◌, ◌*ℤ◌}
+use Rattle.std.proofs.Common.{◌*◌, ◌≡◌, ℕ, ◌<◌, ◌≤◌, Bool, true, false, if◌then◌else◌, ltb, List, [], ◌∷◌, length, slice_get, Some, None, Option, option_map, refl, sym, ap, ap₂, ◌∙◌, arith, inl, inr, ◌↔◌, ℤ, pos, ◌+ℤ◌, ◌-ℤ◌, neg_ℤ, ◌≤ℤ◌, ◌*ℤ◌}
 use Rattle.std.specs.Prelude.{◌<ℤ◌, IsSome}
 use Rattle.std.proofs.lemmas.Int.{ints}
 use Rattle.std.proofs.lemmas.Bool.{cases_lt, lt-ltb, le-ltb}
@@ -16,7 +16,7 @@ use Rattle.tn_law.specs.Places.{trade_level, level, toggle_at, move, CanRise, Ca
 use Rattle.tn_law.proofs.PlaceLemmas.{level-trade, toggle_at-trade, toggle_at-null}
 use Rattle.tn_law.proofs.KeepLemmas.{has-toggle_at, option_map-some, meets-plus_sum}
 use Rattle.tn_law.proofs.ExchangeLemmas.{exchange_to_places}
-use Rattle.tn_law.proofs.LocalLemmas.{best_from_unmoved}
+use Rattle.tn_law.proofs.LocalLemmas.{IsUnmoved, best_from_unmoved}
 use Rattle.tn_market.specs.declared.ends.Ends.{Ends}
 use Rattle.tn_market.specs.Network.{own, part, IsNetwork}
 use Rattle.tn_market.specs.Equilibrium.{prices_at, HasBest, IsEquilibrium}
@@ -214,18 +214,21 @@ negative_cycles firms trades on u vs cost network walk negative scale prices fro
 
 -- ---- and prices that keep the arcs support
 
--- one firm's bundle is best
-firm_best : (firms : List Firm) (trades : List Ends) → IsNetwork firms trades → (on : ℕ) (prices : ℕ → ℤ)
+-- where prices keep the arcs, no move of a firm gains at them
+pub unmoved_from_arcs : (firms : List Firm) (trades : List Ends) → IsNetwork firms trades → (on : ℕ) (prices : ℕ → ℤ)
     → KeepsArcs (exchange_arc firms trades on) (price_of_node (length trades) prices)
-    → (f : ℕ) (firm : Firm) → slice_get firms f ≡ Some firm → HasOwnBundles firm → MeetsExchange firm → (a : ℤ) → firm.worth (part trades f firm.count on) ≡ Some a
-    → HasBest trades (pos 1) on prices f firm
-firm_best firms trades network on prices keeps f firm is own meets a x_is =
-    let priced = meets-plus_sum firm (pos 1) (payments firm.buys (prices_at trades prices f)) (omega (arith, ints)) own meets in (
-      value,
-      best_from_unmoved (plus_sum (pos 1) (payments firm.buys (prices_at trades prices f)) firm) priced.0
-          (exchange_to_places (plus_sum (pos 1) (payments firm.buys (prices_at trades prices f)) firm) priced.0 priced.1) x value
-          (ap (option_map (λ w. pos 1 *ℤ w +ℤ paid x)) x_is) unmoved,
-    )
+    → (f : ℕ) (firm : Firm) → slice_get firms f ≡ Some firm → (a : ℤ) → firm.worth (part trades f firm.count on) ≡ Some a
+    → IsUnmoved (plus_sum (pos 1) (payments firm.buys (prices_at trades prices f)) firm) (part trades f firm.count on)
+    (pos 1 *ℤ a +ℤ sum_over (payments firm.buys (prices_at trades prices f)) firm.count (part trades f firm.count on))
+unmoved_from_arcs firms trades network on prices keeps f firm is a x_is i j other i_within j_within apart rises falls y_is =
+    let places : AreArcPlaces firm x i j = record { from_within = i_within; to_within = j_within; apart = apart; rises = rises; falls = falls } in
+    let theirs = option_map-some (λ w. pos 1 *ℤ w +ℤ paid (move firm.count x i j)) (firm.worth (move firm.count x i j)) other y_is in
+    let arc = arc_at firms trades network on f firm is i j places ∙ loss_of firm x (move firm.count x i j) a theirs.0 x_is theirs.1 in
+    let kept = keeps _ _ (a +ℤ neg_ℤ theirs.0) arc in
+    let from_price = place_price firms trades network prices f firm is i in
+    let to_price = place_price firms trades network prices f firm is j in
+    let pays = paid_move firm (prices_at trades prices f) x i j places in
+    most a theirs.0 (paid x) (paid (move firm.count x i j)) other _ _ _ _ theirs.2 kept from_price to_price pays
   where
     x : ℕ
     x = part trades f firm.count on
@@ -233,25 +236,28 @@ firm_best firms trades network on prices keeps f firm is own meets a x_is =
     paid : ℕ → ℤ
     paid y = sum_over (payments firm.buys (prices_at trades prices f)) firm.count y
 
-    value : ℤ
-    value = pos 1 *ℤ a +ℤ paid x
+    most : (a b px py other pi pj pu pv : ℤ) → pos 1 *ℤ b +ℤ py ≡ other → pv ≤ℤ (pu +ℤ (a +ℤ neg_ℤ b)) → pu ≡ pi → pv ≡ pj → py ≡ (px -ℤ pi) +ℤ pj
+        → other ≤ℤ (pos 1 *ℤ a +ℤ px)
+    most a b px py other pi pj pu pv is kept from to pays = omega (arith, ints, is, kept, from, to, pays)
 
-    unmoved : (i j : ℕ) (other : ℤ) → i ≤ firm.count → j ≤ firm.count → i ≢ j
-        → CanRise firm.count (level firm.count firm.buys x) i → CanFall firm.count (level firm.count firm.buys x) j
-        → (plus_sum (pos 1) (payments firm.buys (prices_at trades prices f)) firm).worth (move firm.count x i j) ≡ Some other → other ≤ℤ value
-    unmoved i j other i_within j_within apart rises falls y_is =
-        let places : AreArcPlaces firm x i j = record { from_within = i_within; to_within = j_within; apart = apart; rises = rises; falls = falls } in
-        let theirs = option_map-some (λ w. pos 1 *ℤ w +ℤ paid (move firm.count x i j)) (firm.worth (move firm.count x i j)) other y_is in
-        let arc = arc_at firms trades network on f firm is i j places ∙ loss_of firm x (move firm.count x i j) a theirs.0 x_is theirs.1 in
-        let kept = keeps _ _ (a +ℤ neg_ℤ theirs.0) arc in
-        let from_price = place_price firms trades network prices f firm is i in
-        let to_price = place_price firms trades network prices f firm is j in
-        let pays = paid_move firm (prices_at trades prices f) x i j places in
-        most a theirs.0 (paid x) (paid (move firm.count x i j)) other _ _ _ _ theirs.2 kept from_price to_price pays
-      where
-        most : (a b px py other pi pj pu pv : ℤ) → pos 1 *ℤ b +ℤ py ≡ other → pv ≤ℤ (pu +ℤ (a +ℤ neg_ℤ b)) → pu ≡ pi → pv ≡ pj → py ≡ (px -ℤ pi) +ℤ pj
-            → other ≤ℤ (pos 1 *ℤ a +ℤ px)
-        most a b px py other pi pj pu pv is kept from to pays = omega (arith, ints, is, kept, from, to, pays)
+-- so its bundle is best
+firm_best : (firms : List Firm) (trades : List Ends) → IsNetwork firms trades → (on : ℕ) (prices : ℕ → ℤ)
+    → KeepsArcs (exchange_arc firms trades on) (price_of_node (length trades) prices)
+    → (f : ℕ) (firm : Firm) → slice_get firms f ≡ Some firm → HasOwnBundles firm → MeetsExchange firm → (a : ℤ) → firm.worth (part trades f firm.count on) ≡ Some a
+    → HasBest trades (pos 1) on prices f firm
+firm_best firms trades network on prices keeps f firm is own meets a x_is =
+    let priced = meets-plus_sum firm (pos 1) (payments firm.buys (prices_at trades prices f)) (omega (arith, ints)) own meets in (
+      pos 1 *ℤ a +ℤ paid x,
+      best_from_unmoved (plus_sum (pos 1) (payments firm.buys (prices_at trades prices f)) firm) priced.0
+          (exchange_to_places (plus_sum (pos 1) (payments firm.buys (prices_at trades prices f)) firm) priced.0 priced.1) x (pos 1 *ℤ a +ℤ paid x)
+          (ap (option_map (λ w. pos 1 *ℤ w +ℤ paid x)) x_is) (unmoved_from_arcs firms trades network on prices keeps f firm is a x_is),
+    )
+  where
+    x : ℕ
+    x = part trades f firm.count on
+
+    paid : ℕ → ℤ
+    paid y = sum_over (payments firm.buys (prices_at trades prices f)) firm.count y
 
 pub supports_from_arcs : (firms : List Firm) (trades : List Ends) (on : ℕ) (prices : ℕ → ℤ) → IsNetwork firms trades → MeetExchange firms
     → ArePossible firms trades on → KeepsArcs (exchange_arc firms trades on) (price_of_node (length trades) prices)
@@ -291,16 +297,21 @@ less_null count label u within = elim (cases_lt u count) [
     nothing : (a b : ℤ) → a ≡ b → pos 0 ≡ a -ℤ b
     nothing a b same = omega (arith, ints, same)
 
+-- these prices keep the arcs
+pub prices_keep : (firms : List Firm) (trades : List Ends) → IsNetwork firms trades → (on : ℕ) (label : ℕ → ℤ) → KeepsArcs (exchange_arc firms trades on) label
+    → KeepsArcs (exchange_arc firms trades on) (price_of_node (length trades) (λ t. label t -ℤ label (length trades)))
+prices_keep firms trades network on label keeps u v cost is =
+    let inside = arc_within firms trades on u v cost is in
+    shift _ _ (label u) (label v) (label (length trades)) cost (less_null (length trades) label u inside.0) (less_null (length trades) label v inside.1) (keeps u v cost is)
+  where
+    shift : (pu pv lu lv ln cost : ℤ) → pu ≡ lu -ℤ ln → pv ≡ lv -ℤ ln → lv ≤ℤ (lu +ℤ cost) → pv ≤ℤ (pu +ℤ cost)
+    shift pu pv lu lv ln cost u v kept = omega (arith, ints, u, v, kept)
+
 pub labels_are_supports : (firms : List Firm) (trades : List Ends) (on : ℕ) (label : ℕ → ℤ) → IsNetwork firms trades → MeetExchange firms
     → ArePossible firms trades on → KeepsArcs (exchange_arc firms trades on) label
     → IsEquilibrium firms trades (pos 1) on (λ t. label t -ℤ label (length trades))
 labels_are_supports firms trades on label network meet possible keeps =
-    supports_from_arcs firms trades on (λ t. label t -ℤ label (length trades)) network meet possible (λ u v cost is.
-    let inside = arc_within firms trades on u v cost is in
-    shift _ _ (label u) (label v) (label (length trades)) cost (less_null (length trades) label u inside.0) (less_null (length trades) label v inside.1) (keeps u v cost is))
-  where
-    shift : (pu pv lu lv ln cost : ℤ) → pu ≡ lu -ℤ ln → pv ≡ lv -ℤ ln → lv ≤ℤ (lu +ℤ cost) → pv ≤ℤ (pu +ℤ cost)
-    shift pu pv lu lv ln cost u v kept = omega (arith, ints, u, v, kept)
+    supports_from_arcs firms trades on (λ t. label t -ℤ label (length trades)) network meet possible (prices_keep firms trades network on label keeps)
 
 -- no arc costs more than two worths
 pub arcs_small : (firms : List Firm) (trades : List Ends) → IsNetwork firms trades → (bound on : ℕ) → ((f : ℕ) (firm : Firm) → slice_get firms f ≡ Some firm → IsWorthAtMost bound firm)

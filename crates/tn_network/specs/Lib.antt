@@ -1,4 +1,6 @@
 pub mod Laws
+pub mod Bounds
 pub mod Along
 pub mod Kept
 pub mod Rounds
+pub mod Barred

@@ -1,3 +1,4 @@
+ghost use Rattle.tn_network.specs.Barred.{OneCycleBarsATrade};
 ghost use Rattle.tn_network.specs.Rounds.{OneCycleForEachTrade};
 
 /// Where trades are admitted one after another, one cycle of the exchange graph through the new trade, of least cost and
@@ -6,4 +7,11 @@ ghost use Rattle.tn_network.specs.Rounds.{OneCycleForEachTrade};
 /// Nichifor, Ostrovsky and Westkamp, 2013; as a flow, Candogan, Epitropou and Vohra, 2021).
 pub fn one_cycle_for_each_trade()
     ensures { OneCycleForEachTrade }
+{}
+
+/// Where a trade is barred again, one cycle of the exchange graph through it leads from an equilibrium with it to one of
+/// the other trades: a cycle of least cost and then of least arcs, whatever it costs. There is one where the trade is on
+/// and every firm may do without any trade; where it is off, nothing has to change.
+pub fn one_cycle_bars_a_trade()
+    ensures { OneCycleBarsATrade }
 {}

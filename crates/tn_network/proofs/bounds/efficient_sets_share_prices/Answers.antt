@@ -1,0 +1,5 @@
+use Rattle.tn_network.proofs.WelfareLemmas.{efficient_sets_share_prices}
+use Rattle.tn_network.proofs.bounds.efficient_sets_share_prices.Goals as goal
+
+pub returns : goal.returns
+returns c = efficient_sets_share_prices

@@ -1,0 +1,5 @@
+use Rattle.tn_network.proofs.BoundLemmas.{price_bounds_are_distances}
+use Rattle.tn_network.proofs.bounds.price_bounds_are_distances.Goals as goal
+
+pub returns : goal.returns
+returns c = price_bounds_are_distances

@@ -1,0 +1,9 @@
+pub mod AddingLemmas
+pub mod ReducedLemmas
+pub mod SignedLemmas
+pub mod RationalLemmas
+pub mod MirrorLemmas
+pub mod SplitLemmas
+pub mod CompletionLemmas
+pub mod NoMoreLemmas
+pub mod ArcLemmas

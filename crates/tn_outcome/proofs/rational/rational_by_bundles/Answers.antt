@@ -1,0 +1,5 @@
+use Rattle.tn_outcome.proofs.RationalLemmas.{rational_by_bundles}
+use Rattle.tn_outcome.proofs.rational.rational_by_bundles.Goals as goal
+
+pub returns : goal.returns
+returns c = rational_by_bundles

@@ -1,0 +1,5 @@
+use Rattle.tn_outcome.proofs.ArcLemmas.{reduced_arcs_are_unsigned}
+use Rattle.tn_outcome.proofs.reduced.reduced_arcs_are_unsigned.Goals as goal
+
+pub returns : goal.returns
+returns c = reduced_arcs_are_unsigned

@@ -1,0 +1,12 @@
+//! The laws of outcomes: contracts over one denominator that firms of a trading network have signed. When prices for all
+//! trades complete an outcome, and what its unsigned trades can be worth beside its contracts. Each law is the contract
+//! of a function with an empty body: calling it proves nothing more, and costs nothing.
+#![tactic(auto)]
+
+mod completion;
+mod rational;
+mod reduced;
+
+pub use completion::completion_is_labels;
+pub use rational::rational_by_bundles;
+pub use reduced::{numbers_leave_no_more, reduced_arcs_are_unsigned, reduced_worths_are_greatest};

@@ -1,0 +1,8 @@
+pub mod HeldLemmas
+pub mod TradeLemmas
+pub mod ResidualLemmas
+pub mod MakingLemmas
+pub mod PositionLemmas
+pub mod CountLemmas
+pub mod SurplusLemmas
+pub mod ReachLemmas

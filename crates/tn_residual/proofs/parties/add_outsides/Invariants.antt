@@ -1,0 +1,11 @@
+use Rattle.std.proofs.Common.{◌≡◌, ◌≤◌, ◌++◌, map, take, ℕ}
+use Rattle.std.specs.List.{All}
+use Rattle.tn_market.specs.Parties.{party_firm, party_limit}
+use Rattle.tn_residual.specs.Residual.{outsides, residual_limit}
+use Rattle.tn_residual.proofs.parties.add_outsides.Given as goal
+
+abbrev pub invariant-loop-c : goal.invariant-loop-c
+invariant-loop-c g l =
+    (map (party_firm g.V.Valuation) l.parties.items ≡ map (party_firm g.V.Valuation) l.initial.parties.items ++ outsides l.fn.scale (take l.c l.outcome.contracts))
+    × ((limit : ℕ) → residual_limit l.fn.scale ≤ limit → All (λ party. party_limit g.V.Valuation party ≤ limit) l.initial.parties.items
+    → All (λ party. party_limit g.V.Valuation party ≤ limit) l.parties.items)

@@ -1,0 +1,45 @@
+use Rattle.std.proofs.Common.{rules, ◌∙◌, arith, ap, ◌++◌, ◌*ℤ◌, List}
+use Rattle.std.proofs.lemmas.Int.{ints, to_z-of_z}
+use mir.Syntax.{w128}
+use mir.Val.{SFits}
+use Rattle.tn_base.specs.Firm.{Firm}
+use Rattle.tn_residual.specs.Residual.{outsides, residual_limit}
+use Rattle.tn_residual.proofs.MakingLemmas.{scale_fits, limit_grows}
+use Rattle.tn_residual.proofs.parties.all_parties.Goals as goal
+
+pub add_outsides-requires-clause-from_one : goal.add_outsides-requires-clause-from_one
+add_outsides-requires-clause-from_one g c =
+    let fits : SFits w128 c.args.scale = c.ranges.scale in
+    let outcome = c.requires.outcome in
+    simp to_z-of_z (scale_fits c.args.outcome.now.over c.args.scale outcome.from_one c.requires.scaled c.requires.small_scale).0
+
+pub add_outsides-requires-clause-small_scale : goal.add_outsides-requires-clause-small_scale
+add_outsides-requires-clause-small_scale g c =
+    let fits : SFits w128 c.args.scale = c.ranges.scale in
+    let outcome = c.requires.outcome in
+    simp to_z-of_z (scale_fits c.args.outcome.now.over c.args.scale outcome.from_one c.requires.scaled c.requires.small_scale).1
+
+pub returns-clause-firms : goal.returns-clause-firms
+returns-clause-firms g c =
+    let over_fits : SFits w128 c.args.outcome.now.over = search rules in
+    let fits : SFits w128 c.args.scale = c.ranges.scale in
+    let tax_fits : SFits w128 c.args.tax = c.ranges.tax in
+    let low = c.requires.scaled in
+    let high = c.requires.small_scale in
+    let product_fits : SFits w128 (c.args.outcome.now.over *ℤ c.args.scale) = omega (arith, ints, low, high) in
+    let first = simp to_z-of_z at c.in_ok-parties.ensures.firms in
+    let second = simp to_z-of_z at c.in_ok-add_outsides.ensures.firms in
+    second ∙ ap (λ (xs : List Firm). xs ++ outsides c.args.scale c.args.outcome.now.contracts) first
+
+pub returns-clause-limits : goal.returns-clause-limits
+returns-clause-limits g c =
+    let over_fits : SFits w128 c.args.outcome.now.over = search rules in
+    let fits : SFits w128 c.args.scale = c.ranges.scale in
+    let low = c.requires.scaled in
+    let high = c.requires.small_scale in
+    let product_fits : SFits w128 (c.args.outcome.now.over *ℤ c.args.scale) = omega (arith, ints, low, high) in
+    let outcome = c.requires.outcome in
+    let from_one = (scale_fits c.args.outcome.now.over c.args.scale outcome.from_one low high).0 in
+    let first = simp to_z-of_z at c.in_ok-parties.ensures.limits in
+    let second = simp to_z-of_z at c.in_ok-add_outsides.ensures.limits in
+    second (residual_limit (c.args.outcome.now.over *ℤ c.args.scale)) (limit_grows c.args.outcome.now.over c.args.scale outcome.from_one from_one) first

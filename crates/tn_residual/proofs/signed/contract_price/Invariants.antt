@@ -1,0 +1,5 @@
+use Rattle.tn_residual.proofs.HeldLemmas.{NoneOn}
+use Rattle.tn_residual.proofs.signed.contract_price.Given as goal
+
+abbrev pub invariant-loop-k : goal.invariant-loop-k
+invariant-loop-k l = NoneOn l.contracts l.t l.k

@@ -1,0 +1,16 @@
+//! What the unsigned trades of an outcome are worth to its firms: reduced worths, and the residual market.
+#![tactic(auto)]
+
+mod halves;
+mod laws;
+mod parties;
+mod residual_market;
+mod signed;
+#[cfg(test)]
+mod tests;
+mod worth;
+
+pub use laws::surplus_is_reduced_worth;
+pub use residual_market::residual;
+pub use signed::{Held, contract_price, signed_by};
+pub use worth::reduced_best;

@@ -1,0 +1,110 @@
+//! The firms of a residual market.
+
+ghost use Rattle.std.specs.Prelude.{◌≡◌, ℕ, ◌++◌, ◌*◌, ◌+◌, ◌^◌, ◌<◌, ◌≤◌, All, IfOk, pos, ◌≤ℤ◌, ◌*ℤ◌, length, map, slice_get, Some};
+ghost use Rattle.tn_base.specs.Arcs.{IsAtMost};
+ghost use Rattle.tn_market.specs.Limits.{IsOutcomeOf, IsWithinLimits};
+ghost use Rattle.tn_market.specs.Network.{part};
+ghost use Rattle.tn_residual.specs.Residual.{levied_from, outsides, residual_limit, residual_of, unsigned};
+
+use crate::signed::contract_price;
+use std::alloc::Global;
+use tn_base::{Bundle, OutOfMemory};
+use tn_market::{Levied, Market, Outcome, Outside, Party, Valuation};
+
+/// The unsigned positions of firm `f`.
+fn unsigned_of<V: Valuation>(market: &Market<V>, f: u32, outcome: &Outcome) -> Bundle
+    requires firm { f < length market.now.firms }
+    ensures { (v : V) → slice_get market.now.firms f ≡ Some v
+        → result ≡ part market.now.trades f (V.firm v).count (unsigned (length market.now.trades) outcome.now.contracts) }
+{
+    let mut unsigned = Bundle::empty();
+    for k in 0..market.firm(f).trades() {
+        if contract_price(&outcome.contracts, market.own(f, k)).is_none() {
+            unsigned = unsigned.toggle(k);
+        }
+    }
+    unsigned
+}
+
+/// The firms of the market, their worths counted `scale` times, with a tax on each unsigned trade. It fails only where
+/// memory runs out.
+fn members<'a, V: Valuation>(
+    alloc: Global,
+    market: &'a Market<V>,
+    outcome: &Outcome,
+    scale: i128,
+    tax: i128,
+) -> Result<Vec<Party<'a, V>>, OutOfMemory>
+    requires limits { IsWithinLimits V.firm V.limit market.now }
+    requires scaled { pos 1 ≤ℤ scale }
+    requires small_scale { scale ≤ℤ pos 100000 }
+    requires taxed { pos 0 ≤ℤ tax }
+    requires small_tax { tax ≤ℤ pos 1 }
+    ensures firms { IfOk result (λ parties. map ⟦<Party<'a, V> as Valuation>⟧.firm parties.items
+        ≡ levied_from market.now.trades outcome.now.contracts scale tax 0 (map V.firm market.now.firms)) }
+    ensures limits { IfOk result (λ parties. All (λ party. ⟦<Party<'a, V> as Valuation>⟧.limit party ≤ residual_limit scale) parties.items) }
+{
+    let mut parties = Vec::with_capacity(alloc, market.firms() as usize)?;
+    for f in 0..market.firms() {
+        let taxed = unsigned_of(market, f, outcome);
+        parties.push(Party::Firm(Levied::new(market.firm(f), scale, taxed, tax)))?;
+    }
+    Ok(parties)
+}
+
+/// A price counted `scale` times.
+fn scaled_price(scale: i128, price: i128) -> i128
+    requires from_one { pos 1 ≤ℤ scale }
+    requires small_scale { scale ≤ℤ pos 100000 }
+    requires small { IsAtMost price (10 ^ 11) }
+    ensures value { result ≡ scale *ℤ price }
+    ensures small { IsAtMost result (10 ^ 17) }
+{
+    scale * price
+}
+
+/// Adds a firm outside the market for each contract. It fails only where memory runs out.
+fn add_outsides<'a, V: Valuation>(
+    parties: &mut Vec<Party<'a, V>>,
+    outcome: &Outcome,
+    scale: i128,
+) -> Result<(), OutOfMemory>
+    requires from_one { pos 1 ≤ℤ scale }
+    requires small_scale { scale ≤ℤ pos 100000 }
+    requires small { All (λ contract. IsAtMost contract.price (10 ^ 11)) outcome.now.contracts }
+    ensures firms { IfOk result (λ done. map ⟦<Party<'a, V> as Valuation>⟧.firm parties.new.items
+        ≡ map ⟦<Party<'a, V> as Valuation>⟧.firm parties.old.items ++ outsides scale outcome.now.contracts) }
+    ensures limits { IfOk result (λ done. (limit : ℕ) → residual_limit scale ≤ limit
+        → All (λ party. ⟦<Party<'a, V> as Valuation>⟧.limit party ≤ limit) parties.old.items
+        → All (λ party. ⟦<Party<'a, V> as Valuation>⟧.limit party ≤ limit) parties.new.items) }
+{
+    for c in 0..outcome.contracts.len() {
+        let price = scaled_price(scale, outcome.contracts.at(c).price);
+        parties.push(Party::Outside(Outside::new(price)))?;
+    }
+    Ok(())
+}
+
+/// The firms of the residual market: the market's under a levy, and then one outside for each contract. It fails only
+/// where memory runs out.
+pub fn all_parties<'a, V: Valuation>(
+    alloc: Global,
+    market: &'a Market<V>,
+    outcome: &Outcome,
+    scale: i128,
+    tax: i128,
+) -> Result<Vec<Party<'a, V>>, OutOfMemory>
+    requires limits { IsWithinLimits V.firm V.limit market.now }
+    requires outcome { IsOutcomeOf market.now.trades outcome.now.over outcome.now.contracts }
+    requires scaled { pos 1 ≤ℤ (outcome.now.over *ℤ scale) }
+    requires small_scale { (outcome.now.over *ℤ scale) ≤ℤ pos 100000 }
+    requires taxed { pos 0 ≤ℤ tax }
+    requires small_tax { tax ≤ℤ pos 1 }
+    ensures firms { IfOk result (λ parties. map ⟦<Party<'a, V> as Valuation>⟧.firm parties.items
+        ≡ residual_of (map V.firm market.now.firms) market.now.trades outcome.now.over outcome.now.contracts scale tax) }
+    ensures limits { IfOk result (λ parties. All (λ party. ⟦<Party<'a, V> as Valuation>⟧.limit party ≤ residual_limit (outcome.now.over *ℤ scale)) parties.items) }
+{
+    let mut parties = members(alloc, market, outcome, outcome.over * scale, tax)?;
+    add_outsides(&mut parties, outcome, scale)?;
+    Ok(parties)
+}

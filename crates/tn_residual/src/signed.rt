@@ -1,0 +1,44 @@
+ghost use Rattle.std.specs.Prelude.{◌≡◌, ◌<◌, length, map, slice_get, Some};
+ghost use Rattle.tn_market.specs.Limits.{IsOutcomeOf, IsWithinLimits};
+ghost use Rattle.tn_residual.specs.Held.{contract_price, HoldsSigned};
+
+use tn_base::Bundle;
+use tn_market::{Contracts, MOST_OWN, Market, Outcome, Valuation};
+
+/// The price of the contract on trade `t`, None exactly where the trade isn't signed.
+pub fn contract_price(contracts: &Contracts, t: u32) -> Option<i128>
+    ensures { result ≡ contract_price contracts.now t }
+{
+    for k in 0..contracts.len() {
+        let contract = contracts.at(k);
+        if contract.trade == t {
+            return Some(contract.price);
+        }
+    }
+    None
+}
+
+/// The signed positions of a firm, and the prices of all its positions: those of unsigned ones are 0.
+#[derive(Drop)]
+pub struct Held {
+    pub signed: Bundle,
+    pub prices: [i128; MOST_OWN],
+}
+
+/// What firm `f` has signed.
+pub fn signed_by<V: Valuation>(market: &Market<V>, f: u32, outcome: &Outcome) -> Held
+    requires limits { IsWithinLimits V.firm V.limit market.now }
+    requires outcome { IsOutcomeOf market.now.trades outcome.now.over outcome.now.contracts }
+    requires firm { f < length market.now.firms }
+    ensures { (v : V) → slice_get market.now.firms f ≡ Some v → HoldsSigned market.now.trades outcome.now.contracts f (V.firm v).count result.signed result.prices }
+{
+    let mut signed = Bundle::empty();
+    let mut prices = [0; MOST_OWN];
+    for k in 0..market.firm(f).trades() {
+        if let Some(price) = contract_price(&outcome.contracts, market.own(f, k)) {
+            signed = signed.toggle(k);
+            prices[k as usize] = price;
+        }
+    }
+    Held { signed, prices }
+}

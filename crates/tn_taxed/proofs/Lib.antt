@@ -1,0 +1,4 @@
+pub mod TaxLemmas
+pub mod CycleLemmas
+pub mod ScaleLemmas
+pub mod OfferLemmas

@@ -1,0 +1,2 @@
+pub mod Taxed
+pub mod Laws
