@@ -1,2 +1,2 @@
-mod RoundLemmas
-mod SolverLemmas
+pub mod RoundLemmas
+pub mod SolverLemmas

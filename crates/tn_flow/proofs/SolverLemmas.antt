@@ -4,7 +4,7 @@ use Rattle.std.specs.Prelude.{get_or}
 use Rattle.std.proofs.lemmas.List.{get_or_default}
 use Rattle.tn_base.specs.Arcs.{IsAtMost}
 use Rattle.tn_base.specs.Firm.{Firm}
-use Rattle.tn_base.specs.Walks.{arcs_among, is_admitted}
+use Rattle.tn_base.specs.Walks.{arcs_among, is_admitted, KeepsArcs}
 use Rattle.tn_market.specs.declared.ends.Ends.{Ends}
 use Rattle.tn_market.specs.Network.{IsNetwork}
 use Rattle.tn_market.specs.Best.{price_at}
@@ -42,16 +42,16 @@ labels_small firms trades graph finder allowed on labels way few are =
 -- what the rounds come to is a solution
 pub solution_from : (firms : List Firm) (trades : List Ends) (graph : Matrix) (finder : Reading) (allowed wanted on : ℕ) (labels prices : List ℤ) → IsNetwork firms trades → MeetExchange firms
     → AreUnderWay firms trades graph finder allowed on → allowed ≡ wanted
-    → AreLabels (length trades + 1) (arcs_among (is_admitted (length trades) allowed) (exchange_arc firms trades on)) labels → length prices ≡ length trades
+    → KeepsArcs (arcs_among (is_admitted (length trades) allowed) (exchange_arc firms trades on)) (label_in labels) → length prices ≡ length trades
     → ((t : ℕ) → t < length trades → price_at prices t ≡ label_in labels t -ℤ label_in labels (length trades))
     → IsSolution firms trades wanted (record { on = on; prices = prices })
-solution_from firms trades graph finder allowed wanted on labels prices network meet way same are counted priced =
+solution_from firms trades graph finder allowed wanted on labels prices network meet way same keeps counted priced =
     subst (λ (x : ℕ). IsSolution firms trades x (record { on = on; prices = prices })) same (record {
       inside = way.kept.inside;
       one_each = counted;
       equilibrium = same_prices (admitted trades allowed firms) trades (pos 1) on (price_at prices) (λ t. label_in labels t -ℤ label_in labels (length trades))
           (admitted_network firms trades allowed network) priced
-          (one_cycle_for_each_trade.ends firms trades allowed on network meet way.kept (label_in labels) are.keeps);
+          (one_cycle_for_each_trade.ends firms trades allowed on network meet way.kept (label_in labels) keeps);
     })
 
 -- and its prices are within the bound

@@ -86,8 +86,8 @@ impl<const W: usize> Rounds<W> {
         self.graph.fill(market, &self.on, steps);
     }
 
-    /// Toggles the trades among the nodes of the cycle that was found.
-    fn toggle_nodes(&mut self, count: u32, null: u32)
+    /// Toggles the trades among the nodes of the cycle that the finder found last.
+    pub fn toggle_nodes(&mut self, count: u32, null: u32)
         requires width { W ≤ 16 }
         requires wide { null ≤ 64 * W }
         requires counted { count ≡ length self.old.finder.listed }

@@ -1,14 +1,13 @@
 -- The judgement of an arrangement, firm by firm.
-use Rattle.std.proofs.Common.{◌≡◌, ℕ, zero, suc, ◌+◌, ◌*◌, ◌^◌, ◌<◌, ◌≤◌, if◌then◌else◌, List, [], ◌∷◌, ◌++◌, length, map, take, slice_get, Some, Option, option_map, refl, sym, ap, ◌∙◌, subst, arith, inl, inr, ℤ, pos, ◌+ℤ◌, neg_ℤ, ◌*ℤ◌, ◌≤ℤ◌, add-one}
-use Rattle.std.specs.Prelude.{option_and_then}
+use Rattle.std.proofs.Common.{◌≡◌, ℕ, zero, suc, ◌+◌, ◌*◌, ◌^◌, ◌<◌, ◌≤◌, if◌then◌else◌, List, [], ◌∷◌, length, map, take, slice_get, Some, Option, option_map, refl, sym, ap, ◌∙◌, subst, arith, inl, inr, ℤ, pos, ◌+ℤ◌, neg_ℤ, ◌*ℤ◌, ◌≤ℤ◌}
 use Rattle.std.specs.List.{All}
 use Rattle.std.proofs.lemmas.Int.{ints}
 use Rattle.std.proofs.lemmas.Bool.{cases_eq}
-use Rattle.std.proofs.lemmas.Option.{same_Some, option_and_then_some, slice_get-map, slice_get_within, get_or_from_slice_get}
-use Rattle.std.proofs.lemmas.List.{get_or-set_same, get_or-set_other, length-take-le}
+use Rattle.std.proofs.lemmas.Option.{same_Some, slice_get-map, slice_get_within, get_or_from_slice_get}
+use Rattle.std.proofs.lemmas.List.{get_or-set_same, get_or-set_other}
 use Rattle.std.proofs.lemmas.List.Elements.{All-set, All-get_or}
 use Rattle.std.proofs.Math.ListN.{set, length-set}
-use Rattle.std.proofs.Math.Seq.{take-suc, take-length}
+use Rattle.std.proofs.Math.Seq.{take-length}
 use mir.Syntax.{w128}
 use mir.Val.{SFits}
 use Rattle.tn_base.specs.Sets.{has}
@@ -16,7 +15,6 @@ use Rattle.tn_base.specs.Arcs.{IsAtMost}
 use Rattle.tn_base.specs.Firm.{Firm, payments, utility, IsBest}
 use Rattle.tn_base.proofs.SetLemmas.{set_of_within}
 use Rattle.tn_base.proofs.SumLemmas.{sum_over-same_terms}
-use Rattle.tn_law.proofs.KeepLemmas.{option_map-some}
 use Rattle.tn_market.specs.declared.ends.Ends.{Ends}
 use Rattle.tn_market.specs.Best.{price_at}
 use Rattle.tn_market.specs.Network.{own, part}
@@ -25,6 +23,7 @@ use Rattle.tn_market.specs.Judged.{AreBestBefore, IsFirstImpossible, IsFirstBett
 use Rattle.tn_price.specs.declared.standing.Standing.{Standing}
 use Rattle.tn_price.specs.declared.standing.Standing.TheVariants.{Best, Impossible, Bettered}
 use Rattle.tn_price.specs.Standings.{IsBestWorth, Stands, StandsAt, AreOwnPrices}
+use Rattle.tn_price.proofs.SurplusLemmas.{sum_more}
 
 -- ---- the prices of a firm
 
@@ -135,30 +134,6 @@ none_judged firms trades scale on prices = record {
   small = record { low = omega (arith, ints); high = omega (arith, ints) };
 }
 
-surplus_from-append : (trades : List Ends) (on s : ℕ) (firms : List Firm) (firm : Firm) (f : ℕ) (a b : ℤ) → f ≡ s + length firms
-    → surplus_from trades on s firms ≡ Some a → firm.worth (part trades f firm.count on) ≡ Some b
-    → surplus_from trades on s (firms ++ firm ∷ []) ≡ Some (a +ℤ b)
-surplus_from-append trades on s [] firm f a b at sum is =
-    let here : f ≡ s = omega (arith, at) in
-    let zero_is : pos 0 ≡ a = same_Some _ _ sum in
-    ap (option_and_then (λ worth. option_map (λ more. worth +ℤ more) (Some (pos 0))))
-    (ap (λ (g : ℕ). firm.worth (part trades g firm.count on)) (sym here) ∙ is)
-    ∙ ap (λ (z : ℤ). Some z) (swap a b zero_is)
-  where
-    swap : (a b : ℤ) → pos 0 ≡ a → b +ℤ pos 0 ≡ a +ℤ b
-    swap a b e = omega (arith, ints, e)
-surplus_from-append trades on s (first ∷ firms) firm f a b at sum is =
-    option_and_then_some (λ worth. option_map (λ more. worth +ℤ more) (surplus_from trades on (s + 1) firms))
-    (first.worth (part trades s first.count on)) a sum (λ worth worth_is rest_is.
-    let more = option_map-some (λ z. worth +ℤ z) (surplus_from trades on (s + 1) firms) a rest_is in
-    let rest = surplus_from-append trades on (s + 1) firms firm f more.0 b (omega (arith, at)) more.1 is in
-    ap (option_and_then (λ w. option_map (λ z. w +ℤ z) (surplus_from trades on (s + 1) (firms ++ firm ∷ [])))) worth_is
-    ∙ ap (option_map (λ z. worth +ℤ z)) rest
-    ∙ ap (λ (z : ℤ). Some z) (regroup worth more.0 a b more.2))
-  where
-    regroup : (w r a b : ℤ) → w +ℤ r ≡ a → w +ℤ (r +ℤ b) ≡ a +ℤ b
-    regroup w r a b e = omega (arith, ints, e)
-
 -- with one more firm
 pub one_judged : (firms : List Firm) (trades : List Ends) (scale : ℤ) (on : ℕ) (prices : ℕ → ℤ) (f : ℕ) (surplus amount : ℤ) (firm : Firm)
     → AreJudged firms trades scale on prices f surplus → slice_get firms f ≡ Some firm
@@ -172,13 +147,7 @@ one_judged firms trades scale on prices f surplus amount firm judged is best = r
         (subst (λ (h : ℕ). HasBest trades scale on prices h firm) (sym e) (best.value, best.best))
     | inr d ↦ judged.before g other (omega (arith, below, d)) other_is
   ];
-  sum =
-      let inside = slice_get_within firms f firm is in
-      let longer : take (f + 1) firms ≡ take f firms ++ firm ∷ [] =
-      ap (λ (n : ℕ). take n firms) (add-one f) ∙ take-suc firms f firm inside
-      ∙ ap (λ (x : Firm). take f firms ++ x ∷ []) (get_or_from_slice_get firms f firm firm is) in
-      ap (surplus_from trades on 0) longer
-      ∙ surplus_from-append trades on 0 (take f firms) firm f surplus amount (omega (arith, length-take-le f firms (omega (arith, inside)))) judged.sum best.worth_is;
+  sum = sum_more firms trades on f surplus amount firm judged.sum is best.worth_is;
   small = add _ _ judged.small best.small;
 }
   where

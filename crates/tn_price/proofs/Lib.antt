@@ -1,3 +1,4 @@
+pub mod SurplusLemmas
 pub mod JudgeLemmas
 pub mod SupportLemmas
 pub mod CycleLemmas

@@ -1,10 +1,8 @@
 -- From the exchange graph's labels to prices, and from its cycles to none.
-use Rattle.std.proofs.Common.{◌≡◌, ℕ, ◌+◌, ◌*◌, ◌^◌, ◌<◌, ◌≤◌, ◌⊎◌, inl, inr, Bool, not, true, false, suc, sym, ap, ◌∙◌, subst, arith, refl, ℤ, pos, ◌-ℤ◌, List, [], ◌∷◌, ◌++◌, length, map, take, slice_get, Option, Some, None, is_none}
+use Rattle.std.proofs.Common.{◌≡◌, ℕ, ◌+◌, ◌*◌, ◌^◌, ◌<◌, ◌≤◌, ◌⊎◌, inl, inr, Bool, not, true, false, sym, ap, ◌∙◌, subst, arith, refl, ℤ, pos, ◌-ℤ◌, List, [], ◌∷◌, length, map, slice_get, Option, Some, None, is_none}
 use Rattle.std.specs.Prelude.{is_some, All, IsSome, get_or}
 use Rattle.std.proofs.lemmas.Bool.{cases_eq}
-use Rattle.std.proofs.lemmas.List.{map-append, get_or_default}
-use Rattle.std.proofs.lemmas.Option.{slice_get_within, get_or_from_slice_get}
-use Rattle.std.proofs.Math.Seq.{take-suc}
+use Rattle.std.proofs.lemmas.List.{get_or_default}
 use Rattle.tn_base.specs.Arcs.{IsAtMost}
 use Rattle.tn_base.specs.Firm.{Firm}
 use Rattle.tn_base.proofs.WalkLemmas.{walk-same}
@@ -63,19 +61,6 @@ unable_unsupported firms trades on f unable prices equilibrium =
     let none = unable.impossible in
     let is = best.1.is in
     absurd (cc (none, is))
-
--- ---- nodes
-
-pub one_more : (null node k : ℕ) (listed : List ℕ) (said : List (Option ℕ)) → slice_get listed k ≡ Some node → said ≡ map (said_node null) (take k listed)
-    → said ++ said_node null node ∷ [] ≡ map (said_node null) (take (k + 1) listed)
-one_more null node k listed said is before =
-    ap (λ (xs : List (Option ℕ)). xs ++ said_node null node ∷ []) before
-    ∙ sym (map-append (said_node null) (take k listed) (node ∷ []))
-    ∙ ap (map (said_node null)) (sym next)
-  where
-    next : take (k + 1) listed ≡ take k listed ++ node ∷ []
-    next = ap (λ (n : ℕ). take n listed) (let e : k + 1 ≡ suc k = omega arith in e) ∙ take-suc listed k node (slice_get_within listed k node is)
-        ∙ ap (λ (v : ℕ). take k listed ++ v ∷ []) (get_or_from_slice_get listed k node node is)
 
 -- ---- labels
 

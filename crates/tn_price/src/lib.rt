@@ -8,6 +8,7 @@ mod judge;
 mod standing;
 mod supported;
 mod supporting;
+mod surplus;
 #[cfg(test)]
 mod tests;
 
@@ -15,3 +16,4 @@ pub use check::Check;
 pub use judge::judge_arrangement;
 pub use supported::Support;
 pub use supporting::support;
+pub use surplus::surplus_of;

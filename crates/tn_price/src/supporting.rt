@@ -7,15 +7,15 @@ ghost use Rattle.tn_cycle.specs.Answers.{label_in};
 ghost use Rattle.tn_market.specs.Best.{price_at};
 ghost use Rattle.tn_market.specs.Graph.{graph_worths, ArePossible};
 ghost use Rattle.tn_market.specs.Network.{part};
-ghost use Rattle.tn_market.specs.Supported.{said_node};
 ghost use Rattle.tn_price.specs.Supports.{Supports, FindsUnable, IsPricedWithin};
 
 use crate::supported::Support;
+use crate::surplus::worth_at;
 use std::alloc::Global;
 use tn_base::{OutOfMemory, Steps, TradeSet};
 use tn_cycle::{Finder, Labels, write_differences};
 use tn_graph::Graph;
-use tn_market::{Market, Nodes, Prices, Valuation};
+use tn_market::{Market, Prices, Valuation, said_nodes};
 
 /// Whether firm `f` can't have its bundle of the set. It asks for one worth.
 fn is_unable<V: Valuation, const W: usize>(
@@ -30,8 +30,7 @@ fn is_unable<V: Valuation, const W: usize>(
     ensures found { (firm : Firm) → slice_get (map V.firm market.now.firms) f ≡ Some firm → result ≡ is_none (firm.worth (part market.now.trades f firm.count on.now)) }
     ensures asked { steps.new ≡ steps.old + 1 }
 {
-    let bundle = market.bundle_of(f, on);
-    market.firm(f).value(bundle, steps).is_none()
+    worth_at(market, on, f, steps).is_none()
 }
 
 /// The first firm whose bundle of the set is impossible, if there is one. It asks each firm for one worth at most.
@@ -66,25 +65,6 @@ fn prices_from(alloc: Global, finder: &Finder, trades: u32) -> Result<Prices, Ou
     Ok(Prices::from_vec(prices))
 }
 
-/// A node as it is said: the null node as none.
-fn said_node(node: u32, null: u32) -> Option<u32>
-    ensures { result ≡ said_node null node }
-{
-    if node == null { None } else { Some(node) }
-}
-
-/// The nodes of the cycle that a finder has found. It fails only where memory runs out.
-fn nodes_from(alloc: Global, finder: &Finder, count: u32, null: u32) -> Result<Nodes, OutOfMemory>
-    requires counted { count ≡ length finder.now.listed }
-    ensures { IfOk result (λ nodes. nodes ≡ map (said_node null) finder.now.listed) }
-{
-    let mut nodes = Vec::with_capacity(alloc, count as usize)?;
-    for k in 0..count {
-        nodes.push(said_node(finder.at(k), null))?;
-    }
-    Ok(Nodes::from_vec(nodes))
-}
-
 /// What the labels of the exchange graph say, where all bundles are possible.
 fn support_by_labels<V: Valuation, const W: usize>(
     alloc: Global,
@@ -109,8 +89,8 @@ fn support_by_labels<V: Valuation, const W: usize>(
         Labels::Feasible => Ok(Support::Supported {
             prices: prices_from(alloc, &finder, trades)?,
         }),
-        Labels::Negative { cost, length } => Ok(Support::Cycle {
-            nodes: nodes_from(alloc, &finder, length, trades)?,
+        Labels::Negative { cost, .. } => Ok(Support::Cycle {
+            nodes: said_nodes(alloc, finder.listed(), trades)?,
             cost,
         }),
     }

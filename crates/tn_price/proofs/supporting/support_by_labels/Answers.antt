@@ -1,8 +1,8 @@
-use Rattle.std.proofs.Common.{rules, map, length, ◌≡◌, ◌+◌, ◌≤◌, ℕ, arith, sym, subst}
+use Rattle.std.proofs.Common.{rules, map, length, List, ◌≡◌, ◌+◌, ◌≤◌, ◌∙◌, ℕ, ap, arith, sym, subst}
 use Rattle.std.proofs.lemmas.Int.{to_z-of_z}
 use mir.Syntax.{w128}
 use mir.Val.{SFits}
-use Rattle.tn_market.specs.Supported.{IsNegativeCycle}
+use Rattle.tn_market.specs.Supported.{IsNegativeCycle, said_node}
 use Rattle.tn_network.proofs.EachLemmas.{meet_all}
 use Rattle.tn_price.proofs.SupportLemmas.{exchange_labels, exchange_small, read, labels_support, priced_within, exchange_cycle, cycle_unsupported}
 use Rattle.tn_price.proofs.supporting.support_by_labels.Goals as goal
@@ -38,9 +38,9 @@ returns-clause-answer g c =
     let firms = map g.V.Valuation.firm c.args.market.now.firms in
     let trades = c.args.market.now.trades in
     let network = c.trades-trades.ensures.network in
-    let found = exchange_cycle firms trades c.args.on.now c.in_ok-finder.finder.nodes c.in-Negative.length c.trades-trades.result c.fill.new.self c.labels.new.self.listed
-    c.in_ok-nodes_from-in-Negative.field-0 c.in-Negative.cost c.fill.ensures.graph (search rules) c.trades-trades.ensures.count c.requires.possible c.in-Negative.ensures.answer.0 c.in_ok-nodes_from-in-Negative.ensures in
+    let found = exchange_cycle firms trades c.args.on.now c.in_ok-finder.finder.nodes _ c.trades-trades.result c.fill.new.self c.labels.new.self.listed
+    c.in_ok-said_nodes-in-Negative.field-0 c.in-Negative.cost c.fill.ensures.graph (search rules) c.trades-trades.ensures.count c.requires.possible c.in-Negative.ensures.answer.0 (c.in_ok-said_nodes-in-Negative.ensures ∙ ap (λ (nodes : List ℕ). map (said_node c.trades-trades.result) nodes) c.listed.ensures) in
     let fits : SFits w128 c.in-Negative.cost = search rules in (
-      subst (IsNegativeCycle firms trades c.args.on.now c.in_ok-nodes_from-in-Negative.field-0) (sym (to_z-of_z w128 c.in-Negative.cost fits)) found,
-      cycle_unsupported firms trades c.args.on.now c.in_ok-nodes_from-in-Negative.field-0 c.in-Negative.cost network found,
+      subst (IsNegativeCycle firms trades c.args.on.now c.in_ok-said_nodes-in-Negative.field-0) (sym (to_z-of_z w128 c.in-Negative.cost fits)) found,
+      cycle_unsupported firms trades c.args.on.now c.in_ok-said_nodes-in-Negative.field-0 c.in-Negative.cost network found,
     )

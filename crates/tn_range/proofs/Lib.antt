@@ -1,0 +1,3 @@
+mod PathLemmas
+mod RangeLemmas
+mod StallLemmas

@@ -1,0 +1,41 @@
+use Rattle.std.proofs.Common.{◌≡◌, ◌∷◌, [], ℕ, List, length, map, lit<, lit≤, arith, IfOk, Result, refl, subst, sym, ap, ◌∙◌}
+use Rattle.tn_base.specs.Sets.{toggle}
+use Rattle.tn_market.specs.Traded.{Traded}
+use Rattle.tn_market.specs.Ranges.{IsSupported}
+use Rattle.tn_market.specs.declared.ends.Ends.{Ends}
+use Rattle.tn_market.specs.Stall.{stall, trade_between}
+use Rattle.tn_base.specs.declared.memory.OutOfMemory.{OutOfMemory}
+use Rattle.tn_range.specs.declared.tests.Stall.{Stall}
+use Rattle.tn_range.proofs.StallLemmas.{stalls-supported}
+use Rattle.tn_range.proofs.tests.ranges_of_two_stalls.Goals as goal
+
+abbrev two : Traded Stall
+two = record { firms = record {} ∷ record {} ∷ []; trades = trade_between 0 1 ∷ trade_between 1 0 ∷ [] }
+
+-- the set of the two trades
+both_on : toggle (toggle 0 0) 1 ≡ 3
+unfolding toggle
+both_on = refl
+
+pub range-requires : goal.range-requires
+range-requires g c =
+    let market_is : c.expect-market.result ≡ two =
+    subst (λ (r : Result (Traded Stall) OutOfMemory). IfOk r (λ market. market ≡ two)) c.expect-market.ensures c.two_stalls.ensures in
+    let trades : c.expect-market.result.trades ≡ trade_between 0 1 ∷ trade_between 1 0 ∷ [] = ap (λ (m : Traded Stall). m.trades) market_is in
+    let count : length c.expect-market.result.trades ≡ 2 = ap (λ (ts : List Ends). length ts) trades in
+    let on : c.toggle-2.new.self ≡ 3 =
+    c.toggle-2.ensures.toggled ∙ ap (λ (x : ℕ). toggle x 1) (c.toggle.ensures.toggled ∙ ap (λ (x : ℕ). toggle x 0) c.empty-on.ensures) ∙ both_on in
+    let firms = map (λ (v : Stall). stall) c.expect-market.result.firms in (
+      lit< tt,
+      (
+        lit≤ tt,
+        (
+          omega (arith, count),
+          (
+            (λ f v is. lit≤ tt),
+            subst (λ (x : ℕ). IsSupported firms c.expect-market.result.trades x) (sym on)
+                (subst (λ (ts : List Ends). IsSupported firms ts 3) (sym trades) (stalls-supported firms (ap (λ (m : Traded Stall). map (λ (v : Stall). stall) m.firms) market_is))),
+          ),
+        ),
+      ),
+    )

@@ -1,0 +1,9 @@
+//! The lowest and the highest price of each trade over all equilibria. What they are stands in `tn_market`.
+#![tactic(auto)]
+
+mod bounds;
+mod ranges;
+#[cfg(test)]
+mod tests;
+
+pub use ranges::range;

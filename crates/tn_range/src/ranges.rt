@@ -1,0 +1,64 @@
+//! The ranges of all trades.
+
+ghost use Rattle.std.specs.Prelude.{◌≡◌, ℕ, ◌+◌, ◌*◌, ◌≤◌, ◌<◌, ◌^◌, Some, length, map, slice_get, IfOk, IfSome};
+ghost use Rattle.tn_base.specs.Arcs.{IsAtMost};
+ghost use Rattle.tn_cycle.specs.Answers.{distance_in};
+ghost use Rattle.tn_market.specs.Graph.{graph_worths};
+ghost use Rattle.tn_market.specs.Ranges.{AreRanges, IsSupported};
+ghost use Rattle.tn_range.specs.Shown.{AreRangesBy};
+
+use crate::bounds::range_of;
+use std::alloc::Global;
+use tn_base::{OutOfMemory, Steps, TradeSet};
+use tn_cycle::Finder;
+use tn_graph::Graph;
+use tn_market::{Market, Ranges, Valuation};
+
+/// The ranges of all trades, where one finder has found the least walks from the null node and the other those to it.
+/// It fails only where memory runs out.
+fn ranges_from(
+    alloc: Global,
+    mut from_null: Finder,
+    mut to_null: Finder,
+    trades: u32,
+) -> Result<Ranges, OutOfMemory>
+    requires from_found { length from_null.distances ≡ trades + 1 }
+    requires to_found { length to_null.distances ≡ trades + 1 }
+    requires small { (t : ℕ) → t < trades → IfSome (distance_in to_null t) (λ c. IsAtMost c (2 ^ 100)) }
+    ensures { IfOk result (AreRangesBy trades trades from_null to_null) }
+{
+    let mut ranges = Vec::with_capacity(alloc, trades as usize)?;
+    for t in 0..trades {
+        ranges.push(range_of(alloc, &mut from_null, &mut to_null, t, trades)?)?;
+    }
+    Ok(Ranges::from_vec(ranges))
+}
+
+/// The lowest and the highest price of each trade over all equilibria, whatever trades are on in them, each with a path
+/// of the exchange graph at the given set that shows it: a highest price is the least cost of a walk from the null node
+/// to the trade, and a lowest one the negative of the least cost of a walk from the trade to the null node. None where
+/// there is no such price, and then its path is empty. Some prices support the set. It asks for at most a worth for each
+/// two places of each firm, and fails only where memory runs out (the lattice of prices: Gul and Stacchetti, 1999, and
+/// Hatfield, Kominers, Nichifor, Ostrovsky and Westkamp, 2013; by least walks, Murota, 2003).
+pub fn range<V: Valuation, const W: usize>(
+    alloc: Global,
+    market: &Market<V>,
+    on: &TradeSet<W>,
+    steps: &mut Steps<V::Mark>,
+) -> Result<Ranges, OutOfMemory>
+    requires width { W ≤ 16 }
+    requires wide { length market.now.trades ≤ 64 * W }
+    requires small { (f : ℕ) (v : V) → slice_get market.now.firms f ≡ Some v → 2 * V.limit v ≤ 10 ^ 18 }
+    requires supported { IsSupported (map V.firm market.now.firms) market.now.trades on.now }
+    ensures ranges { IfOk result (AreRanges (map V.firm market.now.firms) market.now.trades on.now) }
+    ensures asked { steps.new ≤ steps.old + graph_worths (map V.firm market.now.firms) }
+{
+    let trades = market.trades();
+    let mut graph = Graph::new(alloc, trades + 1)?;
+    let mut from_null = Finder::new(alloc, trades + 1)?;
+    let mut to_null = Finder::new(alloc, trades + 1)?;
+    graph.fill(market, on, steps);
+    from_null.least_from(&graph, trades);
+    to_null.least_to(&graph, trades);
+    ranges_from(alloc, from_null, to_null, trades)
+}

@@ -1,0 +1,3 @@
+pub mod StandingLemmas
+pub mod LoweredLemmas
+pub mod LeavingLemmas

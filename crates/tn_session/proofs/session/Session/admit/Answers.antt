@@ -1,0 +1,21 @@
+use Rattle.std.proofs.Common.{◌∙◌, ℕ, ◌==◌, ◌||◌, sym, ap, subst}
+use Rattle.tn_base.specs.Sets.{has}
+use Rattle.tn_session.specs.Standing.{Standing, HoldsEquilibrium, HasSmallPrices}
+use Rattle.tn_session.proofs.StandingLemmas.{laws_of, holds, small_prices, gained}
+use Rattle.tn_session.proofs.session.Session.admit.Goals as goal
+
+pub returns-then-has-clause-equilibrium : goal.returns-then-has-clause-equilibrium
+returns-then-has-clause-equilibrium g c = subst (HoldsEquilibrium g.V.Valuation.firm) c.self.view_is
+    (holds g.V.Valuation.firm g.V.Valuation.limit c.self.inside.market.now c.self.inside.rounds.graph c.self.inside.rounds.finder c.self.inside.rounds.allowed c.self.inside.rounds.on
+    (laws_of g.V.Valuation.firm g.V.Valuation.limit c.self.inside.market.now c.self.invariant.network g.met.V.Valuation.own_bundles g.met.V.Valuation.exchange_one g.met.V.Valuation.exchange_net
+    g.met.V.Valuation.empty_is_possible g.met.V.Valuation.within)
+    c.self.invariant.under_way c.self.invariant.settled)
+
+pub returns-then-has-clause-prices : goal.returns-then-has-clause-prices
+returns-then-has-clause-prices g c = subst (HasSmallPrices g.V.Valuation.limit) c.self.view_is
+    (small_prices g.V.Valuation.firm g.V.Valuation.limit c.self.inside.market.now c.self.inside.rounds.allowed c.self.inside.rounds.on c.self.inside.rounds.finder.labels c.self.invariant.settled)
+
+pub returns-clause-admitted : goal.returns-clause-admitted
+returns-clause-admitted g c k =
+    ap (λ (x : ℕ). has x k) (c.settle.ensures.admitted ∙ c.admit.ensures.admitted) ∙ gained c.self.inside.rounds.allowed c.args.t k (sym c.has.ensures ∙ c.if-has.false)
+    ∙ ap (λ (s : Standing g.row.V.Denot). k == c.args.t || has s.admitted k) c.self.view_is

@@ -1,0 +1,3 @@
+pub mod Lowered
+pub mod LoweredLaws
+pub mod Standing

@@ -1,0 +1,67 @@
+//! A trade that is on is barred: one round of the solver backward.
+
+ghost use Rattle.std.specs.Prelude.{◌≡◌, ℕ, ◌+◌, ◌*◌, ◌≤◌, ◌<◌, true, length, map};
+ghost use Rattle.tn_base.specs.Sets.{has, toggle};
+ghost use Rattle.tn_market.specs.Graph.{graph_worths};
+ghost use Rattle.tn_network.specs.Along.{along};
+ghost use Rattle.tn_network.specs.Kept.{IsKept};
+ghost use Rattle.tn_flow.specs.Underway.{AreUnderWay};
+ghost use Rattle.tn_session.specs.Standing.{AreFirmsSmall, IsLeaving};
+
+use crate::lowered::Lowered;
+use tn_base::Steps;
+use tn_cycle::Path;
+use tn_flow::Rounds;
+use tn_market::{Market, Valuation};
+
+/// Finds a least cycle through a trade that is on and admitted no longer, over it, the admitted trades and null, and
+/// answers how many nodes the finder lists of it. There is one, since every firm may do without any trade.
+fn find_cycle<V: Valuation, const W: usize>(
+    rounds: &mut Rounds<W>,
+    market: &Market<V>,
+    t: u32,
+) -> u32
+    requires width { W ≤ 16 }
+    requires wide { length market.now.trades ≤ 64 * W }
+    requires leaving { IsLeaving V.firm V.limit market.now rounds.old.graph rounds.old.finder rounds.old.allowed rounds.old.on t }
+    ensures rest { rounds.new ≡ record rounds.old { finder = rounds.new.finder } }
+    ensures sized { rounds.new.finder.nodes ≡ rounds.old.finder.nodes }
+    ensures counted { result ≡ length rounds.new.finder.listed }
+    ensures kept { IsKept (map V.firm market.now.firms) market.now.trades rounds.old.allowed (along (length market.now.trades) rounds.old.on rounds.new.finder.listed) }
+{
+    let _trades = market.trades();
+    let lowered = Lowered {
+        costs: &rounds.graph,
+        node: t,
+    };
+    match rounds.finder.through(&lowered, t, &rounds.allowed) {
+        Path::Cycle { length, .. } => length,
+        Path::None => unreachable!(),
+    }
+}
+
+/// Bars an admitted trade that is on: the trades are toggled along a cycle through it of least cost and then of least
+/// arcs. It asks for at most a worth for each two places of each firm, and takes no memory.
+pub fn switch_off<V: Valuation, const W: usize>(
+    rounds: &mut Rounds<W>,
+    market: &Market<V>,
+    t: u32,
+    steps: &mut Steps<V::Mark>,
+)
+    requires width { W ≤ 16 }
+    requires wide { length market.now.trades ≤ 64 * W }
+    requires small { AreFirmsSmall V.limit market.now }
+    requires under_way { AreUnderWay (map V.firm market.now.firms) market.now.trades rounds.old.graph rounds.old.finder rounds.old.allowed rounds.old.on }
+    requires trade { t < length market.now.trades }
+    requires admitted { has rounds.old.allowed t ≡ true }
+    requires on { has rounds.old.on t ≡ true }
+    ensures under_way { AreUnderWay (map V.firm market.now.firms) market.now.trades rounds.new.graph rounds.new.finder rounds.new.allowed rounds.new.on }
+    ensures barred { rounds.new.allowed ≡ toggle rounds.old.allowed t }
+    ensures asked { steps.new ≤ steps.old + graph_worths (map V.firm market.now.firms) }
+{
+    rounds.allowed.toggle(t);
+    let before = rounds.on;
+    let count = find_cycle(rounds, market, t);
+    rounds.toggle_nodes(count, market.trades());
+    rounds.graph.refresh(market, &before, &rounds.on, steps);
+}
