@@ -1,0 +1,9 @@
+pub mod MoveLemmas
+pub mod CostLemmas
+pub mod SeenLemmas
+pub mod NumberLemmas
+pub mod CycleLemmas
+pub mod SizeLemmas
+pub mod SolvedLemmas
+pub mod SearchLemmas
+pub mod ChainLemmas

@@ -1,0 +1,155 @@
+-- How large the residual market and its prices are.
+use Rattle.std.proofs.Common.{ap, subst, ◌≡◌, ℕ, zero, suc, ◌+◌, ◌-◌, ◌*◌, ◌^◌, ◌<◌, ◌≤◌, Bool, true, false, not, ◌&&◌, if◌then◌else◌, List, length, map, slice_get, get_or, Option, Some, None, option_map, refl, sym, ap₂, ◌∙◌, arith, inl, inr, ℤ, pos, ◌*ℤ◌, ◌≤ℤ◌}
+use Rattle.std.specs.Prelude.{unsigned_abs, All}
+use Rattle.std.proofs.lemmas.Int.{ints}
+use Rattle.std.proofs.lemmas.Nat.{mul-le}
+use Rattle.std.proofs.lemmas.Bool.{cases_lt, lt-ltb}
+use Rattle.std.proofs.lemmas.List.{length-append, length-map, get_or_past}
+use Rattle.std.proofs.lemmas.Option.{same_Some, slice_get-map, slice_get_cases, slice_get_within, get_or_from_slice_get}
+use Rattle.tn_base.specs.Arcs.{IsAtMost}
+use Rattle.tn_base.specs.Sets.{has, toggle, set_of, size}
+use Rattle.tn_base.specs.Firm.{Firm}
+use Rattle.tn_base.specs.Walks.{AreDifferent}
+use Rattle.tn_base.proofs.SetLemmas.{has_above, has-set_of, set_of_within}
+use Rattle.tn_base.proofs.SizeLemmas.{size-toggle_in, size-zero}
+use Rattle.tn_law.proofs.BoundLemmas.{abs_small, times_small}
+use Rattle.tn_market.specs.declared.ends.Ends.{Ends}
+use Rattle.tn_market.specs.declared.contract.Contract.{Contract}
+use Rattle.tn_market.specs.Best.{price_at}
+use Rattle.tn_market.specs.Choices.{IsFeasible}
+use Rattle.tn_market.specs.Limits.{IsOutcomeOf}
+use Rattle.tn_market.specs.Traded.{Traded}
+use Rattle.tn_market.specs.Signed.{is_signed, signed}
+use Rattle.tn_flow.specs.Solved.{ArePricesWithin}
+use Rattle.tn_outcome.proofs.SignedLemmas.{signed_by}
+use Rattle.tn_residual.specs.Residual.{residual_limit, residual_of, residual_trades, unsigned, unsigned_from, halves_from}
+use Rattle.tn_residual.proofs.MakingLemmas.{halves_few, outcome_feasible}
+use Rattle.tn_taxed.proofs.CycleLemmas.{few, visits-all}
+use Rattle.tn_chain.proofs.NumberLemmas.{numbers_all, unsigned_size}
+use Rattle.tn_chain.specs.Search.{chain_scale, IsResidual}
+
+-- signed and unsigned trades are all trades
+both_sizes : (contracts : List Contract) (n : ℕ) → size (signed n contracts) + size (unsigned n contracts) ≡ n
+unfolding set_of
+both_sizes contracts zero = let none = size-zero in omega (arith, none)
+both_sizes contracts (suc n) = by_case (is_signed contracts n) (both_sizes contracts n)
+  where
+    by_case : (s : Bool) → size (signed n contracts) + size (unsigned n contracts) ≡ n
+        → size (if s then toggle (set_of (is_signed contracts) n) n else set_of (is_signed contracts) n)
+        + size (if not s then toggle (set_of (λ t. not (is_signed contracts t)) n) n else set_of (λ t. not (is_signed contracts t)) n) ≡ suc n
+    by_case true rest =
+        let more = size-toggle_in (set_of (is_signed contracts) n) n (has_above (set_of (is_signed contracts) n) n n (set_of_within (is_signed contracts) n) (omega arith)) in
+        omega (arith, rest, more)
+    by_case false rest =
+        let more = size-toggle_in (set_of (λ t. not (is_signed contracts t)) n) n (has_above (set_of (λ t. not (is_signed contracts t)) n) n n (set_of_within (λ t. not (is_signed contracts t)) n) (omega arith)) in
+        omega (arith, rest, more)
+
+-- there are at most as many contracts as signed trades
+contracts_signed : (trades : List Ends) (contracts : List Contract) → IsFeasible trades contracts → length contracts ≤ size (signed (length trades) contracts)
+contracts_signed trades contracts feasible =
+    let counted = few (length trades) (map (λ (c : Contract). c.trade) contracts) (signed (length trades) contracts) different (λ k v is below. member k v is) in
+    let all = visits-all (length trades) (map (λ (c : Contract). c.trade) contracts) (λ k v is. (found k v is).2) in
+    let mapped : length (map (λ (c : Contract). c.trade) contracts) ≡ length contracts = length-map contracts (λ (c : Contract). c.trade) in
+    omega (arith, counted, all, mapped)
+  where
+    found : (k v : ℕ) → slice_get (map (λ (c : Contract). c.trade) contracts) k ≡ Some v → (contract : Contract) × (slice_get contracts k ≡ Some contract) × (v < length trades) × (contract.trade ≡ v)
+    found k v is = by (slice_get contracts k) refl (sym (slice_get-map (λ (c : Contract). c.trade) contracts k) ∙ is)
+      where
+        by : (o : Option Contract) → slice_get contracts k ≡ o → option_map (λ (c : Contract). c.trade) o ≡ Some v
+            → (contract : Contract) × (slice_get contracts k ≡ Some contract) × (v < length trades) × (contract.trade ≡ v)
+        by None there e = absurd (cc e)
+        by (Some contract) there e = let same = same_Some contract.trade v e in let known = feasible.known k contract there in (contract, there, omega (arith, same, known), same)
+
+    different : AreDifferent (map (λ (c : Contract). c.trade) contracts)
+    different j k v j_is k_is = let one = found j v j_is in let other = found k v k_is in feasible.once j k one.0 other.0 one.1 other.1 (one.3 ∙ sym other.3)
+
+    member : (k v : ℕ) → slice_get (map (λ (c : Contract). c.trade) contracts) k ≡ Some v → has (signed (length trades) contracts) v ≡ true
+    member k v is =
+        let one = found k v is in
+        has-set_of (is_signed contracts) (length trades) v
+        ∙ ap₂ (λ (a b : Bool). a && b) (lt-ltb v (length trades) one.2) (signed_by contracts k v one.0 one.1 one.3)
+
+-- the residual market has the unsigned trades and at most two for each contract
+pub made_few : (g : ℕ) (trades : List Ends) (contracts : List Contract) → IsFeasible trades contracts
+    → length (residual_trades g trades contracts) + size (unsigned (length trades) contracts) ≤ 2 * length trades
+made_few g trades contracts feasible =
+    let parts = length-append (unsigned_from contracts 0 trades) (halves_from trades g contracts) in
+    let halves = halves_few trades g contracts in
+    let free = numbers_all contracts 0 trades in
+    let counted = unsigned_size contracts (length trades) in
+    let both = both_sizes contracts (length trades) in
+    let some = contracts_signed trades contracts feasible in
+    omega (arith, parts, halves, free, counted, both, some)
+
+-- its worths are small enough to solve it
+pub made_small : (over : ℤ) (g : ℕ) (trades : List Ends) (contracts : List Contract) → IsFeasible trades contracts → length trades ≤ 128 → pos 1 ≤ℤ over → over ≤ℤ pos 100
+    → 2 * residual_limit (over *ℤ chain_scale (length trades) contracts) * (length (residual_trades g trades contracts) + 1) < 10 ^ 18
+made_small over g trades contracts feasible few_trades low high =
+    by (unsigned_abs (over *ℤ chain_scale (length trades) contracts)) (size (unsigned (length trades) contracts)) (length (residual_trades g trades contracts))
+    (made_few g trades contracts feasible) (let both = both_sizes contracts (length trades) in omega (arith, both, few_trades))
+    (abs_small (over *ℤ chain_scale (length trades) contracts) (100 * (2 * size (unsigned (length trades) contracts) + 1))
+    (times_small over (chain_scale (length trades) contracts) 100 (2 * size (unsigned (length trades) contracts) + 1)
+    (record { low = omega (arith, ints, low); high = high }) (record { low = omega (arith, ints); high = omega (arith, ints) })))
+  where
+    by : (s m l : ℕ) → l + m ≤ 2 * length trades → m ≤ 128 → s ≤ 100 * (2 * m + 1) → 2 * (s * 10 ^ 11 + 64) * (l + 1) < 10 ^ 18
+    by s m l made most scale = elim (cases_lt m 65) [
+      | inl low_m ↦
+          let product = mul-le (2 * (s * 10 ^ 11 + 64)) (l + 1) (2 * (12900 * 10 ^ 11 + 64)) 257 (omega (arith, scale, low_m)) (omega (arith, made, few_trades)) in
+          omega (arith, product)
+      | inr high_m ↦
+          let product = mul-le (2 * (s * 10 ^ 11 + 64)) (l + 1) (2 * (25700 * 10 ^ 11 + 64)) 192 (omega (arith, scale, most)) (omega (arith, made, few_trades, high_m)) in
+          omega (arith, product)
+    ]
+
+-- a price of a list of small prices
+pub price_small : (prices : List ℤ) (bound : ℕ) → ArePricesWithin bound prices → bound < 10 ^ 18 → (t : ℕ) → IsAtMost (price_at prices t) (10 ^ 18 - 1)
+price_small prices bound small below t = elim (slice_get_cases prices t).1 [
+  | inl found ↦ wider (get_or prices t (pos 0)) (small t (pos 0) found.1)
+  | inr past ↦ subst (λ (z : ℤ). IsAtMost z (10 ^ 18 - 1)) (sym (get_or_past prices t (pos 0) past.0)) (record { low = omega (arith, ints); high = omega (arith, ints) })
+]
+  where
+    wider : (z : ℤ) → IsAtMost z bound → IsAtMost z (10 ^ 18 - 1)
+    wider z h = record { low = omega (arith, ints, h.low, below); high = omega (arith, ints, h.high, below) }
+
+-- and it has at least the unsigned trades
+pub made_more : (g : ℕ) (trades : List Ends) (contracts : List Contract) → size (unsigned (length trades) contracts) ≤ length (residual_trades g trades contracts)
+made_more g trades contracts =
+    let parts = length-append (unsigned_from contracts 0 trades) (halves_from trades g contracts) in
+    let free = numbers_all contracts 0 trades in
+    let counted = unsigned_size contracts (length trades) in
+    omega (arith, parts, free, counted)
+
+-- the scale is small
+pub scale_bound : (over : ℤ) (n : ℕ) (contracts : List Contract) → n ≤ 128 → pos 1 ≤ℤ over → over ≤ℤ pos 100 → IsAtMost (over *ℤ chain_scale n contracts) 25700
+scale_bound over n contracts few_trades low high =
+    let both = both_sizes contracts n in
+    times_small over (chain_scale n contracts) 100 257 (record { low = omega (arith, ints, low); high = high })
+    (record { low = omega (arith, ints); high = omega (arith, ints, both, few_trades) })
+
+pub scale_small : (over : ℤ) (n : ℕ) (contracts : List Contract) → n ≤ 128 → pos 1 ≤ℤ over → over ≤ℤ pos 100 → (over *ℤ chain_scale n contracts) ≤ℤ pos 100000
+scale_small over n contracts few_trades low high = let most = (scale_bound over n contracts few_trades low high).high in omega (arith, ints, most)
+
+-- a residual market of an outcome within the limits is one that can be solved
+pub is_residual : {P : Type 0} (firm_of : P → Firm) (limit_of : P → ℕ) (firms : List Firm) (count : ℕ) (trades : List Ends) (over : ℤ) (contracts : List Contract) (scale : ℤ) → count ≡ length firms
+    → length trades ≤ 128 → IsOutcomeOf trades over contracts → scale ≡ chain_scale (length trades) contracts → (residual : Traded P)
+    → map firm_of residual.firms ≡ residual_of firms trades over contracts scale (pos 1) → residual.trades ≡ residual_trades count trades contracts
+    → All (λ party. limit_of party ≤ residual_limit (over *ℤ scale)) residual.firms → IsResidual firm_of limit_of firms trades over contracts residual
+is_residual {P} firm_of limit_of firms count trades over contracts scale count_is few_trades outcome scale_is residual parties ends limits = record {
+  parties = parties ∙ ap (λ (s : ℤ). residual_of firms trades over contracts s (pos 1)) scale_is;
+  ends = all_ends;
+  limits = λ f party is.
+      subst (λ (s : ℤ). limit_of party ≤ residual_limit (over *ℤ s)) scale_is
+      (subst (λ (p : P). limit_of p ≤ residual_limit (over *ℤ scale)) (get_or_from_slice_get residual.firms f party party is) (limits f party (slice_get_within residual.firms f party is)));
+  few =
+      let size_is = ap length all_ends in
+      let most = made_few (length firms) trades contracts feasible in
+      omega (arith, size_is, most, few_trades);
+  small = subst (λ (ts : List Ends). 2 * residual_limit (over *ℤ chain_scale (length trades) contracts) * (length ts + 1) < 10 ^ 18) (sym all_ends)
+      (made_small over (length firms) trades contracts feasible few_trades outcome.from_one outcome.small_over);
+}
+  where
+    feasible : IsFeasible trades contracts
+    feasible = outcome_feasible trades over contracts outcome
+
+    all_ends : residual.trades ≡ residual_trades (length firms) trades contracts
+    all_ends = ends ∙ ap (λ (n : ℕ). residual_trades n trades contracts) count_is

@@ -1,0 +1,31 @@
+use Rattle.std.proofs.Common.{ℕ, ◌+◌, ◌*◌, ◌^◌, map, length, arith, subst}
+use Rattle.tn_graph.specs.Reading.{IsWithoutArcs}
+use Rattle.tn_market.specs.Reduced.{reduced_arc, reduced_firms}
+use Rattle.tn_chain.proofs.MoveLemmas.{reduced_arcs_small}
+use Rattle.tn_chain.proofs.CostLemmas.{none_written, all_written, small_graph}
+use Rattle.tn_chain.proofs.graph.reduced_graph.Goals as goal
+
+pub loop-u-init : goal.loop-u-init
+loop-u-init g c =
+    let count = c.trades-nodes.ensures.count in
+    none_written (reduced_arc (map g.V.Valuation.firm c.args.market.now.firms) c.args.market.now.trades c.args.outcome.now.over c.args.outcome.now.contracts) (length c.args.market.now.trades + 1) c.in_ok-graph.graph
+    (subst (λ (n : ℕ). IsWithoutArcs (n + 1) c.in_ok-graph.graph) count c.in_ok-graph.ensures)
+
+pub write_row-requires-clause-written : goal.write_row-requires-clause-written
+write_row-requires-clause-written g c = c.loop-u.invariant
+
+pub loop-u-preserved : goal.loop-u-preserved
+loop-u-preserved g c = c.write_row.ensures
+
+pub returns-clause-graph : goal.returns-clause-graph
+returns-clause-graph g c =
+    let test = c.loop-u-test.false in
+    let count = c.trades-nodes.ensures.count in
+    all_written (reduced_firms c.args.market.now.trades c.args.outcome.now.over c.args.outcome.now.contracts (map g.V.Valuation.firm c.args.market.now.firms)) c.args.market.now.trades 0
+    c.loop-u.u c.loop-u.graph c.loop-u.invariant (omega (arith, test, count))
+
+pub returns-clause-small : goal.returns-clause-small
+returns-clause-small g c =
+    small_graph (reduced_arc (map g.V.Valuation.firm c.args.market.now.firms) c.args.market.now.trades c.args.outcome.now.over c.args.outcome.now.contracts) (3 * 10 ^ 13) c.loop-u.graph
+    (reduced_arcs_small g.V.Valuation.firm g.V.Valuation.limit c.args.market.now c.args.outcome.now.over c.args.outcome.now.contracts c.trades-nodes.ensures.network c.requires.limits
+    c.requires.outcome g.met.V.Valuation.within) (returns-clause-graph g c).arcs

@@ -1,0 +1,5 @@
+use Rattle.tn_chain.specs.Numbers.{AreNumbers}
+use Rattle.tn_chain.proofs.numbers.numbers_of.Given as goal
+
+abbrev pub invariant-loop-t : goal.invariant-loop-t
+invariant-loop-t l = AreNumbers l.contracts l.set l.t l.numbers

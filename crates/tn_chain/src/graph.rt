@@ -1,0 +1,141 @@
+//! The exchange graph of the reduced worths, where no unsigned trade is on.
+
+ghost use Rattle.std.specs.Prelude.{◌≡◌, ℕ, ◌+◌, ◌*◌, ◌^◌, ◌≤◌, ◌<◌, IfOk, IfSome, Some, length, map, slice_get};
+ghost use Rattle.tn_base.specs.Arcs.{AreSmall};
+ghost use Rattle.tn_base.specs.Sets.{meet};
+ghost use Rattle.tn_chain.specs.Moves.{AreWritten, move_between};
+ghost use Rattle.tn_graph.specs.Matrix.{arcs_of};
+ghost use Rattle.tn_graph.specs.Reading.{IsExchangeGraph};
+ghost use Rattle.tn_market.specs.Limits.{IsOutcomeOf, IsWithinLimits};
+ghost use Rattle.tn_market.specs.Graph.{loss};
+ghost use Rattle.tn_market.specs.Network.{IsNetwork};
+ghost use Rattle.tn_market.specs.Reduced.{reduced, reduced_arc, reduced_firms};
+ghost use Rattle.tn_market.specs.Signed.{signed_bundle};
+
+use std::alloc::Global;
+use tn_base::{Bundle, OutOfMemory};
+use tn_graph::Graph;
+use tn_market::{Ends, Market, Oracle, Outcome, Room, Valuation};
+use tn_residual::{contract_price, reduced_best};
+
+/// The ends of a node, None for the null node.
+fn ends_of<V: Valuation>(market: &Market<V>, node: u32) -> Option<Ends>
+    ensures ends { result ≡ slice_get market.now.trades node }
+    ensures positions { IfSome result (λ ends. (ends.at_seller < 64) × (ends.at_buyer < 64)) }
+{
+    if node < market.trades() {
+        Some(market.ends(node))
+    } else {
+        None
+    }
+}
+
+/// The firm that buys the one trade and sells the other, with the bundle of the two; either may be null.
+fn move_between(bought: Option<Ends>, sold: Option<Ends>) -> Option<(u32, Bundle)>
+    requires bought { IfSome bought (λ ends. ends.at_buyer < 64) }
+    requires sold { IfSome sold (λ ends. ends.at_seller < 64) }
+    ensures { result ≡ move_between bought sold }
+{
+    match (bought, sold) {
+        (Some(bought), Some(sold)) => {
+            if bought.buyer == sold.seller {
+                let bundle = Bundle::empty().toggle(bought.at_buyer);
+                Some((bought.buyer, bundle.toggle(sold.at_seller)))
+            } else {
+                None
+            }
+        }
+        (Some(bought), None) => Some((bought.buyer, Bundle::empty().toggle(bought.at_buyer))),
+        (None, Some(sold)) => Some((sold.seller, Bundle::empty().toggle(sold.at_seller))),
+        (None, None) => None,
+    }
+}
+
+/// What firm `f` loses of its reduced worth where it has a bundle of unsigned trades in place of none.
+fn reduced_loss<V: Oracle>(
+    market: &Market<V>,
+    outcome: &Outcome,
+    f: u32,
+    bundle: Bundle,
+    room: &mut Room,
+) -> Option<i128>
+    requires limits { IsWithinLimits V.firm V.limit market.now }
+    requires outcome { IsOutcomeOf market.now.trades outcome.now.over outcome.now.contracts }
+    requires firm { f < length market.now.firms }
+    requires own { (v : V) → slice_get market.now.firms f ≡ Some v → bundle < 2 ^ (V.firm v).count }
+    requires unsigned { (v : V) → slice_get market.now.firms f ≡ Some v → meet bundle (signed_bundle market.now.trades outcome.now.contracts f (V.firm v)) ≡ 0 }
+    ensures loss { (v : V) → slice_get market.now.firms f ≡ Some v → result ≡ loss (reduced market.now.trades outcome.now.over outcome.now.contracts f (V.firm v)) 0 bundle }
+{
+    let (_, before) = reduced_best(market, f, outcome, Bundle::empty(), room)?;
+    let (_, after) = reduced_best(market, f, outcome, bundle, room)?;
+    Some(before - after)
+}
+
+/// The cost of the arc from node `u` to node `v`.
+fn reduced_cost<V: Oracle>(
+    market: &Market<V>,
+    outcome: &Outcome,
+    u: u32,
+    v: u32,
+    room: &mut Room,
+) -> Option<i128>
+    requires network { IsNetwork (map V.firm market.now.firms) market.now.trades }
+    requires limits { IsWithinLimits V.firm V.limit market.now }
+    requires outcome { IsOutcomeOf market.now.trades outcome.now.over outcome.now.contracts }
+    requires from { u ≤ length market.now.trades }
+    requires to { v ≤ length market.now.trades }
+    ensures cost { result ≡ reduced_arc (map V.firm market.now.firms) market.now.trades outcome.now.over outcome.now.contracts u v }
+{
+    if contract_price(&outcome.contracts, u).is_some() {
+        return None;
+    }
+    if contract_price(&outcome.contracts, v).is_some() {
+        return None;
+    }
+    match move_between(ends_of(market, u), ends_of(market, v)) {
+        Some(moved) => reduced_loss(market, outcome, moved.0, moved.1, room),
+        None => None,
+    }
+}
+
+/// Writes the costs of the arcs from node `u`.
+fn write_row<V: Oracle>(
+    graph: &mut Graph,
+    market: &Market<V>,
+    outcome: &Outcome,
+    u: u32,
+    room: &mut Room,
+)
+    requires network { IsNetwork (map V.firm market.now.firms) market.now.trades }
+    requires limits { IsWithinLimits V.firm V.limit market.now }
+    requires outcome { IsOutcomeOf market.now.trades outcome.now.over outcome.now.contracts }
+    requires from { u ≤ length market.now.trades }
+    requires written { AreWritten (reduced_arc (map V.firm market.now.firms) market.now.trades outcome.now.over outcome.now.contracts) (length market.now.trades + 1) u 0 graph.old }
+    ensures { AreWritten (reduced_arc (map V.firm market.now.firms) market.now.trades outcome.now.over outcome.now.contracts) (length market.now.trades + 1) (u + 1) 0 graph.new }
+{
+    for v in 0..market.trades() + 1 {
+        let cost = reduced_cost(market, outcome, u, v, room);
+        graph.set(u, v, cost);
+    }
+}
+
+/// The exchange graph of an outcome's reduced worths, where no unsigned trade is on: trade t is node t, and the null node
+/// is the last one. No cost is above 3 * 10^13 in size. It fails only where memory runs out.
+pub fn reduced_graph<V: Oracle>(
+    alloc: Global,
+    market: &Market<V>,
+    outcome: &Outcome,
+) -> Result<Graph, OutOfMemory>
+    requires limits { IsWithinLimits V.firm V.limit market.now }
+    requires outcome { IsOutcomeOf market.now.trades outcome.now.over outcome.now.contracts }
+    ensures graph { IfOk result (IsExchangeGraph (reduced_firms market.now.trades outcome.now.over outcome.now.contracts (map V.firm market.now.firms)) market.now.trades 0) }
+    ensures small { IfOk result (λ graph. AreSmall (arcs_of graph) (3 * 10 ^ 13)) }
+{
+    let nodes = market.trades() + 1;
+    let mut graph = Graph::new(alloc, nodes)?;
+    let mut room = Room::new(alloc)?;
+    for u in 0..nodes {
+        write_row(&mut graph, market, outcome, u, &mut room);
+    }
+    Ok(graph)
+}

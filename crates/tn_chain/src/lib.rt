@@ -1,0 +1,12 @@
+//! Chains of contracts that block an outcome, and the exchange graph of its reduced worths.
+#![tactic(auto)]
+
+mod chain;
+mod cycle;
+mod graph;
+mod numbers;
+#[cfg(test)]
+mod tests;
+
+pub use chain::{chain_of, chain_scale};
+pub use graph::reduced_graph;

@@ -1,0 +1,121 @@
+ghost use Rattle.std.specs.Prelude.{◌≡◌, pos, if◌then◌else◌, length, IfOk, [], ◌∷◌};
+ghost use Rattle.tn_market.specs.Limits.{IsOutcomeOf};
+ghost use Rattle.tn_market.specs.Stall.{trade_between};
+
+use super::*;
+use std::alloc::Global;
+use tn_base::{Asked, Bundle, Costs, OutOfMemory, Side, Steps};
+use tn_market::{Contracts, Ends, Market, Oracle, Outcome, Room, Valuation, best_by_ascent};
+
+/// An amount, if it counts.
+fn counted(counts: bool, amount: i128) -> i128
+    ensures { result ≡ (if counts then amount else pos 0) }
+{
+    if counts { amount } else { 0 }
+}
+
+/// A stall that may buy one thing for 3, at position 0, and sell another for 5, at position 1.
+#[derive(Clone, Copy, Debug)]
+struct Stall;
+
+impl Valuation for Stall {
+    type Mark = Asked;
+
+    ghost use Rattle.std.proofs.Common.{refl, lit≤, lit<};
+    ghost use Rattle.tn_law.proofs.AdditiveLemmas.{meets-additive};
+    ghost use Rattle.tn_market.specs.Stall.{stall, amounts, stall-within, stall-exchanges_one, stall-exchanges_net};
+
+    ghost firm = { λ _. stall };
+
+    ghost limit = { λ _. 8 };
+
+    ghost few_trades = { λ _. lit≤ tt };
+
+    ghost own_purchases = { λ _. lit< tt };
+
+    ghost own_bundles = { λ _. (meets-additive 2 1 amounts).0 };
+
+    ghost empty_is_possible = { λ _. (_, refl) };
+
+    ghost exchange_one = { λ _. stall-exchanges_one };
+
+    ghost exchange_net = { λ _. stall-exchanges_net };
+
+    ghost within = { λ _. stall-within };
+
+    ghost small_limit = { λ _. lit≤ tt };
+
+    fn trades(&self) -> u32 {
+        2
+    }
+
+    #[tactic(auto, unfolding(tn_base::specs::Sets::has))]
+    fn side(&self, k: u32) -> Side {
+        if k == 0 { Side::Buy } else { Side::Sell }
+    }
+
+    fn bound(&self) -> i128 {
+        8
+    }
+
+    fn value(&self, x: Bundle, steps: &mut Steps<Asked>) -> Option<i128> {
+        steps.tick();
+        Some(counted(x.has(0), -3) + counted(x.has(1), 5))
+    }
+}
+
+impl Oracle for Stall {
+    fn best(
+        &self,
+        need: Bundle,
+        free: Bundle,
+        scale: i128,
+        prices: &[i128],
+        _room: &mut Room,
+    ) -> Option<(Bundle, i128)> {
+        best_by_ascent(self, need, free, scale, prices, &mut Steps::new(Asked))
+    }
+}
+
+/// A trade between two stalls.
+fn ends(seller: u32, buyer: u32) -> Ends
+    ensures { result ≡ trade_between seller buyer }
+{
+    Ends {
+        seller,
+        buyer,
+        at_seller: 1,
+        at_buyer: 0,
+    }
+}
+
+/// Two stalls, of which each sells what the other buys.
+fn two_stalls(alloc: Global) -> Result<Market<Stall>, OutOfMemory>
+    ensures firms { IfOk result (λ market. length market.firms ≡ 2) }
+    ensures trades { IfOk result (λ market. market.trades ≡ trade_between 0 1 ∷ trade_between 1 0 ∷ []) }
+{
+    let firms = vec![in alloc; Stall, Stall]?;
+    let trades = vec![in alloc; ends(0, 1), ends(1, 0)]?;
+    Market::new(alloc, firms, trades)
+}
+
+/// Nothing is signed.
+fn nothing_signed(alloc: Global) -> Outcome
+    ensures { IsOutcomeOf (trade_between 0 1 ∷ trade_between 1 0 ∷ []) result.over result.contracts }
+{
+    Outcome {
+        over: 1,
+        contracts: Contracts::from_vec(Vec::new(alloc)),
+    }
+}
+
+/// What each stall loses by selling, by buying and by both, where nothing is signed.
+#[test]
+fn reduced_graph_of_two_stalls(rt: HostRuntime) {
+    let market = two_stalls(rt.alloc()).expect(&rt, "memory");
+    let outcome = nothing_signed(rt.alloc());
+    assert_eq!(rt; chain_scale(&outcome.contracts, 2), 5);
+    let graph = reduced_graph(rt.alloc(), &market, &outcome).expect(&rt, "memory");
+    assert_eq!(rt; (graph.cost(2, 0), graph.cost(0, 2)), (Some(-5), Some(3)));
+    assert_eq!(rt; (graph.cost(0, 1), graph.cost(2, 2)), (Some(-2), None));
+}

@@ -1,0 +1,2 @@
+pub mod DropLemmas
+pub mod CompletionLemmas

@@ -1,0 +1,4 @@
+pub mod Verdict
+pub mod Drops
+pub mod Completion
+pub mod Judges

@@ -1,0 +1,112 @@
+//! The first firm that would drop contracts.
+
+ghost use Rattle.std.specs.Prelude.{◌≡◌, ℕ, ◌^◌, ◌<◌, ℤ, length, map, slice_get, IfSome, Some};
+ghost use Rattle.tn_base.specs.Arcs.{IsAtMost};
+ghost use Rattle.tn_base.specs.Firm.{Firm};
+ghost use Rattle.tn_judge.specs.Drops.{FindsDrop, FindsFirst, TellsDrop};
+ghost use Rattle.tn_market.specs.Best.{IsBestBetween};
+ghost use Rattle.tn_market.specs.Limits.{IsOutcomeOf, IsWithinLimits};
+ghost use Rattle.tn_market.specs.Network.{IsNetwork};
+ghost use Rattle.tn_market.specs.Signed.{contract_utility, signed_bundle};
+
+use tn_base::Bundle;
+use tn_market::{Market, Oracle, Outcome, Room, Valuation, utility_of};
+use tn_residual::{reduced_best, signed_by};
+
+/// What a firm would keep, and what it gains by that: None where its contracts are an impossible bundle.
+#[derive(Clone, Copy, Debug)]
+pub struct Kept {
+    pub keeps: Bundle,
+    pub gain: Option<i128>,
+}
+
+/// The utility of the contracts of firm `f`, None where they are an impossible bundle.
+fn own_utility<V: Oracle>(
+    market: &Market<V>,
+    f: u32,
+    outcome: &Outcome,
+    room: &mut Room,
+) -> Option<i128>
+    requires limits { IsWithinLimits V.firm V.limit market.now }
+    requires outcome { IsOutcomeOf market.now.trades outcome.now.over outcome.now.contracts }
+    requires firm { f < length market.now.firms }
+    ensures value { (v : V) → slice_get market.now.firms f ≡ Some v → result ≡ contract_utility market.now.trades outcome.now.over outcome.now.contracts f (V.firm v)
+        (signed_bundle market.now.trades outcome.now.contracts f (V.firm v)) }
+    ensures small { IfSome result (λ value. IsAtMost value (10 ^ 22)) }
+{
+    let held = signed_by(market, f, outcome);
+    let firm = market.firm(f);
+    let prices = &held.prices[..firm.trades() as usize];
+    utility_of(firm, held.signed, outcome.over, prices, room)
+}
+
+/// A choice of firm `f` from its contracts, with its utility.
+fn best_kept<V: Oracle>(
+    market: &Market<V>,
+    f: u32,
+    outcome: &Outcome,
+    room: &mut Room,
+) -> (Bundle, i128)
+    requires limits { IsWithinLimits V.firm V.limit market.now }
+    requires outcome { IsOutcomeOf market.now.trades outcome.now.over outcome.now.contracts }
+    requires firm { f < length market.now.firms }
+    ensures best { (v : V) → slice_get market.now.firms f ≡ Some v → IsBestBetween 0 (signed_bundle market.now.trades outcome.now.contracts f (V.firm v))
+        (contract_utility market.now.trades outcome.now.over outcome.now.contracts f (V.firm v)) result.0 result.1 }
+    ensures small { IsAtMost result.1 (10 ^ 18) }
+{
+    reduced_best(market, f, outcome, Bundle::empty(), room).unwrap()
+}
+
+/// A choice's utility less that of all contracts, if it is more; `own` is None where they are an impossible bundle.
+fn drop_from(keeps: Bundle, value: i128, own: Option<i128>) -> Option<Kept>
+    requires value { IsAtMost value (10 ^ 18) }
+    requires own { IfSome own (λ z. IsAtMost z (10 ^ 22)) }
+    ensures { TellsDrop keeps value own result }
+{
+    match own {
+        None => Some(Kept { keeps, gain: None }),
+        Some(own) => {
+            if own < value {
+                let gain = Some(value - own);
+                Some(Kept { keeps, gain })
+            } else {
+                None
+            }
+        }
+    }
+}
+
+/// What firm `f` would drop.
+fn drop_at<V: Oracle>(
+    market: &Market<V>,
+    f: u32,
+    outcome: &Outcome,
+    room: &mut Room,
+) -> Option<Kept>
+    requires limits { IsWithinLimits V.firm V.limit market.now }
+    requires outcome { IsOutcomeOf market.now.trades outcome.now.over outcome.now.contracts }
+    requires network { IsNetwork (map V.firm market.now.firms) market.now.trades }
+    requires firm { f < length market.now.firms }
+    ensures { (firm : Firm) → slice_get (map V.firm market.now.firms) f ≡ Some firm → FindsDrop market.now.trades outcome.now.over outcome.now.contracts f firm result }
+{
+    let (keeps, value) = best_kept(market, f, outcome, room);
+    drop_from(keeps, value, own_utility(market, f, outcome, room))
+}
+
+/// The first firm that would drop contracts, and what it would keep.
+pub fn first_drop<V: Oracle>(
+    market: &Market<V>,
+    outcome: &Outcome,
+    room: &mut Room,
+) -> Option<(u32, Kept)>
+    requires limits { IsWithinLimits V.firm V.limit market.now }
+    requires outcome { IsOutcomeOf market.now.trades outcome.now.over outcome.now.contracts }
+    ensures { FindsFirst (map V.firm market.now.firms) market.now.trades outcome.now.over outcome.now.contracts result }
+{
+    for f in 0..market.firms() {
+        if let Some(drop) = drop_at(market, f, outcome, room) {
+            return Some((f, drop));
+        }
+    }
+    None
+}
