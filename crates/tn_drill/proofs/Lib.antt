@@ -1,0 +1,4 @@
+pub mod DrawLemmas
+mod NumberLemmas
+mod FirmLemmas
+mod NetworkLemmas
