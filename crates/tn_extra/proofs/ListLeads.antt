@@ -12,7 +12,7 @@ use Rattle.tn_shape.proofs.LeadLemmas.{Leads, leads_ok, leads_bind, leads_after,
 use Rattle.tn_refer.specs.References.{new_trade}
 use Rattle.tn_refer.proofs.ReferenceLeads.{new_trade_leads}
 use Rattle.tn_refer.proofs.EntryLeads.{AreNumbers, zeros, entries_lead}
-use Rattle.tn_extra.specs.Lists.{one_on, one_price, prices_of, unless_missing, first_without}
+use Rattle.tn_extra.specs.Lists.{one_on, named_prices, prices_of, unless_missing, first_without}
 
 module _ (trades : List (List ℕ)) (place : List PlaceStep) where
   -- a set of these trades
@@ -28,9 +28,13 @@ module _ (trades : List (List ℕ)) (place : List PlaceStep) where
   pub set_leads : (references : Items) → Leads IsSetOf (each (one_on trades place) 0 references)
   set_leads references = leads_each IsSetOf (one_on trades place) one_on_leads 0 references (pow_pos (length trades))
 
+  pub named_lead : (limit : ℕ) (entries : Items) → Leads (λ end. AreNumbers (length trades) limit end.numbers) (named_prices trades place limit entries)
+  unfolding named_prices
+  named_lead limit entries =
+      entries_lead (new_trade trades) place (length trades) limit (record { named = 0; numbers = replicate (length trades) (pos 0) }) entries (zeros (length trades) limit)
+
   pub prices_lead : (limit : ℕ) (entries : Items) → Leads (AreNumbers (length trades) limit) (prices_of trades place limit entries)
   unfolding prices_of
   prices_lead limit entries =
-      leads_bind (λ end. AreNumbers (length trades) limit end.numbers) (AreNumbers (length trades) limit) (each (one_price trades place limit) (record { named = 0; numbers = replicate (length trades) (pos 0) }) entries) _
-      (entries_lead (new_trade trades) place (length trades) limit (record { named = 0; numbers = replicate (length trades) (pos 0) }) entries (zeros (length trades) limit)) (λ priced are.
+      leads_bind (λ end. AreNumbers (length trades) limit end.numbers) (AreNumbers (length trades) limit) (named_prices trades place limit entries) _ (named_lead limit entries) (λ priced are.
       leads_after (AreNumbers (length trades) limit) (unless_missing place (first_without priced.named 0 (length trades))) _ (λ u. leads_ok (AreNumbers (length trades) limit) priced.numbers are))

@@ -16,7 +16,7 @@ use Rattle.tn_refer.specs.References.{new_trade}
 use Rattle.tn_refer.proofs.ReferenceLeads.{new_trade_leads}
 use Rattle.tn_refer.proofs.ReferenceStops.{RefersPlainly, entries_stop, few_members, new_trade_stops}
 use Rattle.tn_refer.proofs.ToldLemmas.{IsTold, named_place, short_place, told_from_plain}
-use Rattle.tn_extra.specs.Lists.{first_without, one_on, one_price, prices_of, unless_missing}
+use Rattle.tn_extra.specs.Lists.{first_without, named_prices, one_on, prices_of, unless_missing}
 use Rattle.tn_extra.proofs.ListLeads.{IsSetOf, one_on_leads}
 
 -- the first number without a price is one of those that were asked
@@ -59,11 +59,14 @@ module _ (trades : List (List ℕ)) (few : length trades ≤ 1024) (place : List
   missing_stops None known = stops_ok (IsTold trades) tt
   missing_stops (Some t) known = stops_err (IsTold trades) (fault PriceMissing (place ++ Trade t ∷ [])) (missing_told t (known t refl))
 
+  pub named_stops : (limit : ℕ) (entries : Items) → StopsPlainly (named_prices trades place limit entries)
+  unfolding named_prices
+  named_stops limit entries = entries_stop (length trades) few (new_trade trades) trades_refer place plain limit (replicate (length trades) (pos 0)) entries
+
   pub prices_stop : (limit : ℕ) (entries : Items) → Stops (IsTold trades) (prices_of trades place limit entries)
   unfolding prices_of
   prices_stop limit entries =
-      stops_bind (IsTold trades) (each (one_price trades place limit) (record { named = 0; numbers = replicate (length trades) (pos 0) }) entries) _
-      (told_from_plain trades _ (entries_stop (length trades) few (new_trade trades) trades_refer place plain limit (replicate (length trades) (pos 0)) entries)) (λ priced.
+      stops_bind (IsTold trades) (named_prices trades place limit entries) _ (told_from_plain trades _ (named_stops limit entries)) (λ priced.
       stops_bind (IsTold trades) (unless_missing place (first_without priced.named 0 (length trades))) _
       (missing_stops (first_without priced.named 0 (length trades)) (λ t e. let below = first_without_within priced.named 0 (length trades) t e in omega (arith, below))) (λ complete.
       stops_ok (IsTold trades) priced.numbers))

@@ -1,2 +1,5 @@
 pub mod Lists
 pub mod Arranged
+pub mod Signed
+pub mod Edited
+pub mod Laws

@@ -3,6 +3,9 @@ use Rattle.std.specs.Prelude.{ℕ, zero, suc, ◌+◌, ◌++◌, [], ◌∷◌, 
 use Rattle.serde_json.specs.Data.{Data, Items}
 use Rattle.tn_base.specs.Sets.{has, toggle, size}
 use Rattle.tn_base.specs.declared.fault.FaultKind.TheVariants.{PriceMissing}
+use Rattle.tn_market.specs.Best.{price_at}
+use Rattle.tn_market.specs.Choices.{contracts_of}
+use Rattle.tn_market.specs.declared.contract.Contract.{Contract}
 use Rattle.tn_market.specs.declared.place.PlaceStep.{PlaceStep}
 use Rattle.tn_market.specs.declared.place.PlaceStep.TheVariants.{Index, Trade}
 use Rattle.tn_market.specs.declared.said.Fault.{Fault}
@@ -36,9 +39,19 @@ abbrev pub unless_missing : List PlaceStep → Option ℕ → Result (Unit {0}) 
 unless_missing place None = Ok tt
 unless_missing place (Some t) = Err (fault PriceMissing (place ++ Trade t ∷ []))
 
+-- the trades that the entries of a list name, and the prices by trade, 0 without an entry
+unfoldable pub named_prices : List (List ℕ) → List PlaceStep → ℕ → Items → Result Numbered Fault
+named_prices trades place limit entries = each (one_price trades place limit) (record { named = 0; numbers = replicate (length trades) (pos 0) }) entries
+
 -- the prices of all trades
 unfoldable pub prices_of : List (List ℕ) → List PlaceStep → ℕ → Items → Result (List ℤ) Fault
 prices_of trades place limit entries = do
-  priced ← each (one_price trades place limit) (record { named = 0; numbers = replicate (length trades) (pos 0) }) entries
+  priced ← named_prices trades place limit entries
   complete ← unless_missing place (first_without priced.named 0 (length trades))
   Ok priced.numbers
+
+-- the contracts of a list, ascending by trade whatever the order of the entries
+unfoldable pub contracts_at : List (List ℕ) → List PlaceStep → ℕ → Items → Result (List Contract) Fault
+contracts_at trades place limit entries = do
+  priced ← named_prices trades place limit entries
+  Ok (contracts_of priced.named (price_at priced.numbers) (length trades))

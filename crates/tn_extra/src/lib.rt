@@ -1,7 +1,15 @@
-//! The parts of a document beside its network: the arrangement.
+//! The parts of a document beside its network: the arrangement, the outcome, and the edits.
 #![tactic(auto)]
 
 mod arrangement;
+mod edits;
+mod laws;
 mod lists;
+mod outcome;
 
 pub use arrangement::{read_arrangement, read_trades_on};
+pub use edits::read_edits;
+pub use laws::{
+    arrangements_have_their_entries, edits_have_their_entries, outcomes_have_their_entries,
+};
+pub use outcome::read_outcome;

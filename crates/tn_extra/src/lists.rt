@@ -1,16 +1,18 @@
-//! Lists of an extra part: of trades, and of prices for trades.
+//! Lists of an extra part: of trades, of prices for trades, and of contracts.
 
 ghost use Rattle.std.specs.Prelude.{◌≡◌, ◌<◌, ◌≤◌, length, IfOk, Some};
 ghost use Rattle.serde_json.specs.View.{view, items_view};
+ghost use Rattle.tn_market.specs.Best.{price_at};
+ghost use Rattle.tn_market.specs.Choices.{contracts_of};
 ghost use Rattle.tn_shape.specs.Reading.{Gives, each};
 ghost use Rattle.tn_refer.specs.Entries.{Numbered};
-ghost use Rattle.tn_extra.specs.Lists.{first_without, list_place, one_on, one_price, price_of, prices_of, unless_missing};
+ghost use Rattle.tn_extra.specs.Lists.{contracts_at, first_without, list_place, named_prices, one_on, one_price, price_of, prices_of, unless_missing};
 
 use serde_json::Value;
 use std::alloc::Global;
-use tn_base::{FaultKind, TradeSet};
-use tn_market::PlaceStep;
+use tn_base::{FaultKind, OutOfMemory, TradeSet};
 use tn_market::PlaceStep::{Index, Trade};
+use tn_market::{Contract, Contracts, PlaceStep};
 use tn_names::Names;
 use tn_refer::new_trade;
 use tn_shape::{ReadError, fault, number, two};
@@ -72,10 +74,68 @@ pub(crate) fn read_prices(
     ensures { Gives (λ prices. prices.items) result
         (prices_of names.now.trades (list_place at) limit (items_view entries.now)) }
 {
-    let mut prices = vec![in alloc; 0; names.trades() as usize]?;
-    let named = read_entries(alloc, names, at, limit, entries, &mut prices)?;
+    let (named, prices) = named_prices(alloc, names, at, limit, entries)?;
     check_complete(alloc, at, &named, names.trades())?;
     Ok(prices)
+}
+
+/// The contracts of a list, ascending by trade whatever the order of the entries.
+#[tactic(auto, unfolding(crate::specs::Lists::contracts_at))]
+pub(crate) fn read_contracts(
+    alloc: Global,
+    names: &Names,
+    at: ListAt,
+    limit: u64,
+    entries: &[Value],
+) -> Result<Contracts, ReadError>
+    requires { length names.now.trades ≤ 128 }
+    ensures { Gives (λ contracts. contracts) result
+        (contracts_at names.now.trades (list_place at) limit (items_view entries.now)) }
+{
+    let (named, prices) = named_prices(alloc, names, at, limit, entries)?;
+    let contracts = contracts_of(alloc, &named, &prices)?;
+    Ok(Contracts::from_vec(contracts))
+}
+
+/// The contracts of the trades of a set at their prices, ascending.
+fn contracts_of(
+    alloc: Global,
+    named: &TradeSet<2>,
+    prices: &[i128],
+) -> Result<Vec<Contract>, OutOfMemory>
+    requires { length prices.now ≤ 128 }
+    ensures { IfOk result (λ contracts. contracts.items ≡ contracts_of named.now (price_at prices.now) (length prices.now)) }
+{
+    let mut contracts = Vec::new(alloc);
+    for (t, price) in prices.iter().enumerate() {
+        let trade = t as u32;
+        if named.has(trade) {
+            contracts.push(Contract {
+                trade,
+                price: *price,
+            })?;
+        }
+    }
+    Ok(contracts)
+}
+
+/// The trades that the entries of a list name, and the prices by trade number, 0 without an entry.
+#[tactic(auto, unfolding(crate::specs::Lists::named_prices))]
+fn named_prices(
+    alloc: Global,
+    names: &Names,
+    at: ListAt,
+    limit: u64,
+    entries: &[Value],
+) -> Result<(TradeSet<2>, Vec<i128>), ReadError>
+    requires { length names.now.trades ≤ 128 }
+    ensures gives { Gives (λ p. record { named = p.0; numbers = p.1.items }) result
+        (named_prices names.now.trades (list_place at) limit (items_view entries.now)) }
+    ensures places { IfOk result (λ p. length p.1.items ≡ length names.now.trades) }
+{
+    let mut prices = vec![in alloc; 0; names.trades() as usize]?;
+    let named = read_entries(alloc, names, at, limit, entries, &mut prices)?;
+    Ok((named, prices))
 }
 
 /// Puts the prices of the entries to their trades, and gives the trades that have one.
@@ -89,9 +149,10 @@ fn read_entries(
 ) -> Result<TradeSet<2>, ReadError>
     requires few { length names.now.trades ≤ 128 }
     requires places { length prices.old ≡ length names.now.trades }
-    ensures { Gives (λ named. record { named = named; numbers = prices.new }) result
+    ensures gives { Gives (λ named. record { named = named; numbers = prices.new }) result
         (each (one_price names.now.trades (list_place at) limit)
         (record { named = 0; numbers = prices.old }) (items_view entries.now)) }
+    ensures places { length prices.new ≡ length prices.old }
 {
     let mut named = TradeSet::empty();
     for entry in entries {

@@ -6,14 +6,18 @@ use Rattle.tn_base.specs.Firm.{Firm}
 use Rattle.tn_base.specs.declared.fault.FaultKind.TheVariants.{NotJson}
 use Rattle.tn_names.specs.Names.{no_names}
 use Rattle.tn_file.specs.declared.need.Need.{Need}
-use Rattle.tn_file.specs.declared.need.Need.TheVariants.{Market, Raw, Arrangement, On}
+use Rattle.tn_file.specs.declared.need.Need.TheVariants.{Market, Raw, Arrangement, On, Outcome, Edits}
 use Rattle.tn_listed.specs.Beside.{beside}
 use Rattle.tn_shape.specs.Reading.{each, wanted}
 use Rattle.tn_file.specs.Json.{json_of}
 use Rattle.tn_refer.specs.Ordered.{Listed}
 use Rattle.tn_kinds.specs.Firms.{one_firm}
 use Rattle.tn_extra.specs.Arranged.{arrangement_of, trades_on_of, IsArrangement}
-use Rattle.tn_file.specs.Document.{ExtraData, nothing, arrangement, on_alone, extra_of, content_of, document_of, is_tested, reading_of}
+use Rattle.tn_extra.specs.Signed.{outcome_of}
+use Rattle.tn_extra.specs.Edited.{edits_of}
+use Rattle.tn_market.specs.Edits.{AreEdits}
+use Rattle.tn_market.specs.OutcomeLimits.{IsOutcomeWithin}
+use Rattle.tn_file.specs.Document.{ExtraData, nothing, arrangement, on_alone, outcome, edits, extra_of, content_of, document_of, is_tested, reading_of}
 use Rattle.tn_listed.specs.Listing.{listed_of}
 use Rattle.tn_file.specs.Laws.{IsDocument, IsExtra, DocumentsAreNetworks}
 use Rattle.tn_shape.proofs.LeadLemmas.{Leads, leads_ok, leads_bind, leads_after, leads_both}
@@ -21,12 +25,16 @@ use Rattle.tn_listed.proofs.BesideLemmas.{leads_beside}
 use Rattle.tn_kinds.proofs.FirmLeads.{AreFirms, firms_are, firms_are_counted, network_of, positions_ascend}
 use Rattle.tn_kinds.proofs.KindLemmas.{listed_own_bundles, listed_may_abstain}
 use Rattle.tn_extra.proofs.ArrangementLeads.{arrangement_leads, trades_on_leads}
+use Rattle.tn_extra.proofs.OutcomeLeads.{outcome_leads}
+use Rattle.tn_extra.proofs.EditLeads.{edits_lead}
 use Rattle.tn_listed.proofs.ListingLeads.{IsListing, listed_leads}
 
 extra_leads : (need : Need) (trades : List (List ℕ)) (top : Data) → Leads (IsExtra (length trades)) (extra_of need trades top)
 unfolding extra_of
 extra_leads Arrangement trades top = leads_bind (IsArrangement (length trades)) (IsExtra (length trades)) (arrangement_of trades top) _ (arrangement_leads trades top) (λ part is. leads_ok (IsExtra (length trades)) (arrangement part) is)
 extra_leads On trades top = leads_bind (λ on. on < 2 ^ length trades) (IsExtra (length trades)) (trades_on_of trades top) _ (trades_on_leads trades top) (λ on below. leads_ok (IsExtra (length trades)) (on_alone on) below)
+extra_leads Outcome trades top = leads_bind (IsOutcomeWithin (length trades)) (IsExtra (length trades)) (outcome_of trades top) _ (outcome_leads trades top) (λ signed is. leads_ok (IsExtra (length trades)) (outcome signed) is)
+extra_leads Edits trades top = leads_bind (AreEdits (length trades)) (IsExtra (length trades)) (edits_of trades top) _ (edits_lead trades top) (λ listed are. leads_ok (IsExtra (length trades)) (edits listed) are)
 extra_leads Market trades top = leads_ok (IsExtra (length trades)) nothing tt
 extra_leads Raw trades top = leads_ok (IsExtra (length trades)) nothing tt
 

@@ -4,14 +4,16 @@ use Rattle.serde_json.specs.Data.{Data, Items}
 use Rattle.tn_base.specs.declared.fault.FaultKind.TheVariants.{NotJson}
 use Rattle.tn_names.specs.Names.{no_names}
 use Rattle.tn_file.specs.declared.need.Need.{Need}
-use Rattle.tn_file.specs.declared.need.Need.TheVariants.{Market, Raw, Arrangement, On}
+use Rattle.tn_file.specs.declared.need.Need.TheVariants.{Market, Raw, Arrangement, On, Outcome, Edits}
 use Rattle.tn_refer.specs.Ordered.{Listed}
 use Rattle.tn_listed.specs.Beside.{beside, IsStop}
 use Rattle.tn_shape.specs.Reading.{each, wanted}
 use Rattle.tn_file.specs.Json.{json_of}
 use Rattle.tn_extra.specs.Arranged.{arrangement_of, trades_on_of}
+use Rattle.tn_extra.specs.Signed.{outcome_of}
+use Rattle.tn_extra.specs.Edited.{edits_of}
 use Rattle.tn_kinds.specs.Firms.{one_firm}
-use Rattle.tn_file.specs.Document.{arrangement, nothing, on_alone, content_of, document_of, extra_of, is_tested, reading_of}
+use Rattle.tn_file.specs.Document.{arrangement, nothing, on_alone, outcome, edits, content_of, document_of, extra_of, is_tested, reading_of}
 use Rattle.tn_listed.specs.Listing.{listed_of}
 use Rattle.tn_file.specs.Laws.{FaultsAreSayable, ReadingsAreNeverTooLong}
 use Rattle.tn_listed.proofs.ListingLeads.{IsListing, listed_leads}
@@ -20,6 +22,8 @@ use Rattle.tn_refer.proofs.ToldLemmas.{IsTold, told_from_plain}
 use Rattle.tn_listed.proofs.BesideLemmas.{stops_beside}
 use Rattle.tn_kinds.proofs.FirmStops.{firms_stop}
 use Rattle.tn_extra.proofs.ArrangementStops.{arrangement_stops, trades_on_stop}
+use Rattle.tn_extra.proofs.OutcomeStops.{outcome_stops}
+use Rattle.tn_extra.proofs.EditStops.{edits_stop}
 use Rattle.tn_listed.proofs.ListingStops.{AreNames, no_names_are, told_stop, plain_stop, listed_stops}
 
 module _ (trades : List (List ℕ)) (few : length trades ≤ 1024) where
@@ -29,6 +33,8 @@ module _ (trades : List (List ℕ)) (few : length trades ≤ 1024) where
   extra_stops Raw top = stops_ok (IsTold trades) nothing
   extra_stops Arrangement top = stops_bind (IsTold trades) (arrangement_of trades top) _ (arrangement_stops trades few top) (λ part. stops_ok (IsTold trades) (arrangement part))
   extra_stops On top = stops_bind (IsTold trades) (trades_on_of trades top) _ (told_from_plain trades _ (trades_on_stop trades few top)) (λ on. stops_ok (IsTold trades) (on_alone on))
+  extra_stops Outcome top = stops_bind (IsTold trades) (outcome_of trades top) _ (told_from_plain trades _ (outcome_stops trades few top)) (λ signed. stops_ok (IsTold trades) (outcome signed))
+  extra_stops Edits top = stops_bind (IsTold trades) (edits_of trades top) _ (told_from_plain trades _ (edits_stop trades top)) (λ listed. stops_ok (IsTold trades) (edits listed))
 
 content_stops : (need : Need) (found : Listed × Items) → IsListing found → (top : Data) → Stops (IsTold found.0.names.trades) (content_of need found.0 found.1 top)
 unfolding content_of

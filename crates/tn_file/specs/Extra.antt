@@ -1,9 +1,11 @@
 -- What an extra part stands for.
 use Rattle.tn_file.specs.declared.extra.Extra.{Extra}
-use Rattle.tn_file.specs.declared.extra.Extra.TheVariants.{None, Arrangement, On}
-use Rattle.tn_file.specs.Document.{ExtraData, nothing, arrangement, on_alone}
+use Rattle.tn_file.specs.declared.extra.Extra.TheVariants.{None, Arrangement, On, Outcome, Edits}
+use Rattle.tn_file.specs.Document.{ExtraData, nothing, arrangement, on_alone, outcome, edits}
 
 abbrev pub extra_view : Extra → ExtraData
 extra_view None = nothing
 extra_view (Arrangement part) = arrangement (record { on = part.on; prices = part.prices })
 extra_view (On on) = on_alone on
+extra_view (Outcome signed) = outcome signed
+extra_view (Edits listed) = edits listed

@@ -3,18 +3,22 @@ use Rattle.std.specs.Prelude.{◌≡◌, ◌≢◌, ℕ, ◌≤◌, ◌<◌, ◌
 use Rattle.tn_base.specs.declared.fault.FaultKind.TheVariants.{TooLong}
 use Rattle.tn_base.specs.Firm.{Firm, HasOwnBundles, MayAbstain}
 use Rattle.tn_market.specs.Accepted.{AreAccepted}
+use Rattle.tn_market.specs.OutcomeLimits.{IsOutcomeWithin}
 use Rattle.tn_market.specs.Network.{IsNetwork, HaveAscendingPositions}
 use Rattle.tn_names.specs.Names.{IsNameList}
 use Rattle.tn_file.specs.declared.need.Need.{Need}
 use Rattle.tn_listed.specs.Beside.{Stop, IsStop}
-use Rattle.tn_file.specs.Document.{DocumentData, ExtraData, nothing, arrangement, on_alone, is_tested, reading_of}
+use Rattle.tn_file.specs.Document.{DocumentData, ExtraData, nothing, arrangement, on_alone, outcome, edits, is_tested, reading_of}
 use Rattle.tn_kinds.specs.Laws.{IsListedFirm}
 use Rattle.tn_extra.specs.Arranged.{IsArrangement}
+use Rattle.tn_market.specs.Edits.{AreEdits}
 
 abbrev pub IsExtra : ℕ → ExtraData → Type 0
 IsExtra trades nothing = Unit {0}
 IsExtra trades (arrangement part) = IsArrangement trades part
 IsExtra trades (on_alone on) = on < 2 ^ trades
+IsExtra trades (outcome signed) = IsOutcomeWithin trades signed
+IsExtra trades (edits listed) = AreEdits trades listed
 
 pub record IsDocument (need : Need) (doc : DocumentData) : Type 0 where
   -- different names that keep the rule, one for each firm and one for each trade

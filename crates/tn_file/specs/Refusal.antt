@@ -3,14 +3,14 @@ use Rattle.std.specs.Prelude.{◌≡◌, map, Result, Ok, Err}
 use Rattle.tn_firm.specs.Firms.{firm_of}
 use Rattle.tn_firm.specs.Raw.{raw_firm_of}
 use Rattle.tn_file.specs.declared.need.Need.{Need}
-use Rattle.tn_file.specs.declared.need.Need.TheVariants.{Market, Raw, Arrangement, On}
+use Rattle.tn_file.specs.declared.need.Need.TheVariants.{Market, Raw, Arrangement, On, Outcome, Edits}
 use Rattle.tn_file.specs.declared.document.Document.{Document}
 use Rattle.tn_file.specs.declared.document.Loaded.TheVariants.{Market as MarketIs, Raw as RawIs}
 use Rattle.tn_file.specs.declared.document.Loaded.{Loaded}
 use Rattle.tn_file.specs.declared.document.DocRefusal.{DocRefusal}
 use Rattle.tn_file.specs.declared.document.DocRefusal.TheVariants.{Fault, OutOfMemory}
 use Rattle.tn_file.specs.declared.extra.Extra.{Extra}
-use Rattle.tn_file.specs.declared.extra.Extra.TheVariants.{None as NothingIs, Arrangement as ArrangementIs, On as OnIs}
+use Rattle.tn_file.specs.declared.extra.Extra.TheVariants.{None as NothingIs, Arrangement as ArrangementIs, On as OnIs, Outcome as OutcomeIs, Edits as EditsIs}
 use Rattle.tn_listed.specs.Beside.{Stop}
 use Rattle.tn_file.specs.Document.{NetData, DocumentData}
 use Rattle.tn_file.specs.Extra.{extra_view}
@@ -40,18 +40,17 @@ IsLoadedFor Arrangement (MarketIs market) = Unit {0}
 IsLoadedFor Arrangement (RawIs net) = ⊥
 IsLoadedFor On (MarketIs market) = Unit {0}
 IsLoadedFor On (RawIs net) = ⊥
+IsLoadedFor Outcome (MarketIs market) = Unit {0}
+IsLoadedFor Outcome (RawIs net) = ⊥
+IsLoadedFor Edits (MarketIs market) = Unit {0}
+IsLoadedFor Edits (RawIs net) = ⊥
 
--- there is an arrangement, or the trades that are on alone, exactly where it is needed
+-- there is the part that the need names, and no other
 abbrev pub IsExtraFor : Need → Extra → Type 0
 IsExtraFor Market NothingIs = Unit {0}
-IsExtraFor Market (ArrangementIs part) = ⊥
-IsExtraFor Market (OnIs on) = ⊥
 IsExtraFor Raw NothingIs = Unit {0}
-IsExtraFor Raw (ArrangementIs part) = ⊥
-IsExtraFor Raw (OnIs on) = ⊥
-IsExtraFor Arrangement NothingIs = ⊥
 IsExtraFor Arrangement (ArrangementIs part) = Unit {0}
-IsExtraFor Arrangement (OnIs on) = ⊥
-IsExtraFor On NothingIs = ⊥
-IsExtraFor On (ArrangementIs part) = ⊥
 IsExtraFor On (OnIs on) = Unit {0}
+IsExtraFor Outcome (OutcomeIs signed) = Unit {0}
+IsExtraFor Edits (EditsIs listed) = Unit {0}
+IsExtraFor need extra = ⊥

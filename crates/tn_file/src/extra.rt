@@ -9,8 +9,8 @@ use crate::need::Need;
 use serde_json::Value;
 use std::alloc::Global;
 use tn_base::TradeSet;
-use tn_extra::{read_arrangement, read_trades_on};
-use tn_market::Arrangement;
+use tn_extra::{read_arrangement, read_edits, read_outcome, read_trades_on};
+use tn_market::{Arrangement, Edits, Outcome};
 use tn_names::Names;
 use tn_shape::ReadError;
 
@@ -23,6 +23,10 @@ pub enum Extra {
     Arrangement(Arrangement<2>),
     /// The trades that are on.
     On(TradeSet<2>),
+    /// The outcome.
+    Outcome(Outcome),
+    /// The edits.
+    Edits(Edits),
 }
 
 /// The part that is needed beside the network.
@@ -46,6 +50,14 @@ pub(crate) fn read_extra(
         Need::On => {
             let on = read_trades_on(alloc, names, top)?;
             Ok(Extra::On(on))
+        }
+        Need::Outcome => {
+            let outcome = read_outcome(alloc, names, top)?;
+            Ok(Extra::Outcome(outcome))
+        }
+        Need::Edits => {
+            let edits = read_edits(alloc, names, top)?;
+            Ok(Extra::Edits(edits))
         }
     }
 }

@@ -5,6 +5,8 @@
 mod document;
 mod extra;
 #[cfg(test)]
+mod extra_tests;
+#[cfg(test)]
 mod kind_tests;
 mod laws;
 mod need;
@@ -18,4 +20,7 @@ pub use extra::Extra;
 pub use laws::{documents_are_networks, faults_are_sayable, readings_are_never_too_long};
 pub use need::Need;
 pub use read::read_doc;
+pub use tn_extra::{
+    arrangements_have_their_entries, edits_have_their_entries, outcomes_have_their_entries,
+};
 pub use tn_kinds::first_failures_are_first;

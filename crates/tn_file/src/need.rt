@@ -9,4 +9,8 @@ pub enum Need {
     Arrangement,
     /// The network, as for a market, and of the arrangement only the trades that are on.
     On,
+    /// The network, as for a market, and the outcome.
+    Outcome,
+    /// The network, as for a market, and the edits.
+    Edits,
 }

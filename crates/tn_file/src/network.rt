@@ -71,7 +71,7 @@ fn read_network(
             let firms = Loaded::Raw(RawNet::new(firms, ends));
             Ok(Parts { firms, extra })
         }
-        Need::Market | Need::Arrangement | Need::On => {
+        Need::Market | Need::Arrangement | Need::On | Need::Outcome | Need::Edits => {
             let (firms, extra) = read_content::<FirmValue>(alloc, need, names, &ends, firms, top)?;
             let firms = Loaded::Market(Market::new(alloc, firms, ends)?);
             Ok(Parts { firms, extra })

@@ -35,7 +35,7 @@ use Rattle.tn_kinds.proofs.KindLemmas.{laminar_meets, middleman_meets, listed_fe
 use Rattle.tn_kinds.proofs.TableLeads.{IsTableOf, table_leads}
 use Rattle.tn_kinds.proofs.LaminarLeads.{laminar_leads}
 use Rattle.tn_kinds.proofs.MiddleLeads.{middle_leads}
-use Rattle.tn_refer.proofs.NetworkLemmas.{HaveSides, network, own_ascends, there}
+use Rattle.tn_market.proofs.InOrderNetworks.{HaveSides, network, own_ascends, there}
 use Rattle.tn_shape.proofs.LeadLemmas.{Leads, leads_ok, leads_bind, leads_after, leads_each, leads_count, leads_holds, leads_as, le_from_test}
 
 unless_failing_leads : (trades : List Ends) (f count : ℕ) (found : Option Triple) → Leads (λ _. found ≡ None) (unless_failing trades f count found)

@@ -41,7 +41,7 @@ use Rattle.tn_kinds.specs.Middlemen.{costs_list, gains_list, keep_at, middle_of}
 use Rattle.tn_kinds.specs.Firms.{shown_of, failure_of, unless_failing, exchange_of, tested_firm, firm_by, firm_of, one_firm}
 use Rattle.tn_kinds.specs.FirstFailure.{first_failure}
 use Rattle.tn_kinds.proofs.FailureLemmas.{first}
-use Rattle.tn_refer.proofs.NetworkLemmas.{own_ascends, own_within}
+use Rattle.tn_market.proofs.InOrderNetworks.{own_ascends, own_within}
 use Rattle.tn_kinds.proofs.ShownLemmas.{own_position_of, triple_named}
 use Rattle.tn_kinds.proofs.RowLemmas.{filled-set, filled-none, filled_le}
 use Rattle.tn_shape.proofs.LeadLemmas.{Leads, le_from_test, leads_as, leads_bind, leads_both, leads_holds, leads_ok}

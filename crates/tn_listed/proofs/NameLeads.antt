@@ -18,7 +18,7 @@ use Rattle.tn_shape.specs.Reading.{each, holds}
 use Rattle.tn_shape.specs.Shapes.{text_at, object_at, object_of}
 use Rattle.tn_listed.specs.Naming.{name_at, new_name, firm_name, one_firm_name, trade_name, firm_at, ends_at, one_trade}
 use Rattle.tn_refer.specs.Ordered.{Listed, ComesNext, AreInOrder, sides_of}
-use Rattle.tn_refer.proofs.EndsLemmas.{AreInOrder-push}
+use Rattle.tn_market.proofs.InOrderLemmas.{AreInOrder-push}
 use Rattle.tn_shape.proofs.LeadLemmas.{Leads, leads_ok, leads_bind, leads_after, leads_each, leads_count, leads_wanted, leads_holds, leads_as, is_true_not, apart_from_test}
 use Rattle.tn_listed.proofs.BesideLemmas.{leads_beside}
 

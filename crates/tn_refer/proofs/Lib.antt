@@ -1,5 +1,4 @@
 pub mod EndsLemmas
-pub mod NetworkLemmas
 pub mod ReferenceLeads
 pub mod EntryLeads
 pub mod ToldLemmas

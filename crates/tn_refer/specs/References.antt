@@ -15,6 +15,7 @@ use Rattle.tn_refer.specs.declared.references.ItemPart.{ItemPart}
 use Rattle.tn_shape.specs.Reading.{◌>>=◌, each, wanted, holds}
 use Rattle.tn_shape.specs.Shapes.{text_at, list_at}
 use Rattle.tn_refer.specs.Ordered.{Listed}
+pub use Rattle.tn_market.specs.InOrder.{position_in}
 
 abbrev pub firm_place : ℕ → List PlaceStep
 firm_place f = Word Firms ∷ Index f ∷ []
@@ -32,11 +33,7 @@ new_trade trades place named value = do
   new ← holds SameTrade place (not (has named t))
   Ok t
 
--- where a trade stands among the own trades of firm f
-abbrev pub position_in : ℕ → Ends → Option ℕ
-position_in f trade = if trade.seller == f then Some trade.at_seller else (if trade.buyer == f then Some trade.at_buyer else None)
-
--- the same where the firm stands on one side of it, if one is given
+-- the same on one side of the trade alone, where a side is given
 abbrev pub position_on : Option Side → ℕ → Ends → Option ℕ
 position_on None f trade = position_in f trade
 position_on (Some Sell) f trade = if trade.seller == f then Some trade.at_seller else None

@@ -3,7 +3,6 @@
 #![tactic(auto)]
 
 mod references;
-mod sides;
 
-pub use references::{ItemPart, new_trade, own_bundle, own_position};
-pub use sides::{count_own, sides_of};
+pub use references::{ItemPart, new_trade, own_bundle, own_position, trade};
+pub use tn_market::{count_own, sides_of};

@@ -15,9 +15,14 @@ use tn_names::Names;
 use tn_shape::steps::FIRMS;
 use tn_shape::{ReadError, check, found, list, text};
 
-/// The trade that a reference names.
+/// The trade that a reference names; the faults are, in this order, no text and no trade of the name.
 #[tactic(auto, unfolding(crate::specs::References::trade_at), using(std::proofs::lemmas::Option::slice_get_within))]
-fn trade(alloc: Global, names: &Names, value: &Value, place: &[PlaceStep]) -> Result<u32, ReadError>
+pub fn trade(
+    alloc: Global,
+    names: &Names,
+    value: &Value,
+    place: &[PlaceStep],
+) -> Result<u32, ReadError>
     ensures gives { Gives (λ t. t) result (trade_at names.now.trades place.now (view value.now)) }
     ensures known { IfOk result (λ t. t < length names.now.trades) }
 {

@@ -31,6 +31,8 @@ pub enum ObjectKind {
     LaminarSet,
     /// The arrangement.
     Arrangement,
+    /// The outcome.
+    Outcome,
 }
 
 /// Whether an object of a kind has allowed members alone.
@@ -60,6 +62,7 @@ fn allows(kind: ObjectKind, word: &str) -> bool
                 "arrangement",
                 "outcome",
                 "claim",
+                "edits",
                 "note",
             ],
         ),
@@ -73,6 +76,7 @@ fn allows(kind: ObjectKind, word: &str) -> bool
         }
         ObjectKind::LaminarSet => is_one_of(word, &["trades", "from", "values"]),
         ObjectKind::Arrangement => is_one_of(word, &["on", "prices"]),
+        ObjectKind::Outcome => is_one_of(word, &["over", "contracts"]),
     }
 }
 

@@ -14,6 +14,12 @@ pub const TRADES: PlaceStep = PlaceStep::Word(Word::Trades);
 /// The member `arrangement`.
 pub const ARRANGEMENT: PlaceStep = PlaceStep::Word(Word::Arrangement);
 
+/// The member `outcome`.
+pub const OUTCOME: PlaceStep = PlaceStep::Word(Word::Outcome);
+
+/// The member `edits`.
+pub const EDITS: PlaceStep = PlaceStep::Word(Word::Edits);
+
 /// The member `name`.
 pub const NAME: PlaceStep = PlaceStep::Word(Word::Name);
 
@@ -55,3 +61,9 @@ pub const ON: PlaceStep = PlaceStep::Word(Word::On);
 
 /// The member `prices`.
 pub const PRICES: PlaceStep = PlaceStep::Word(Word::Prices);
+
+/// The member `over`.
+pub const OVER: PlaceStep = PlaceStep::Word(Word::Over);
+
+/// The member `contracts`.
+pub const CONTRACTS: PlaceStep = PlaceStep::Word(Word::Contracts);

@@ -3,7 +3,7 @@ use Rattle.std.proofs.lemmas.Result.{err_from_is_err_and}
 use Rattle.tn_listed.specs.Naming.{one_trade}
 use Rattle.tn_shape.proofs.EachLemmas.{each_goes_on, each_is_done}
 use Rattle.tn_listed.proofs.BesideLemmas.{each_fails_beside}
-use Rattle.tn_refer.proofs.EndsLemmas.{AreInOrder-push}
+use Rattle.tn_market.proofs.InOrderLemmas.{AreInOrder-push}
 use Rattle.tn_listed.proofs.trades.read_trades.Goals as goal
 
 pub returns-in_err-next-clause-gives : goal.returns-in_err-next-clause-gives
