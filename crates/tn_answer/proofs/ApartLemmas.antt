@@ -1,5 +1,5 @@
 -- Answers over the same names whose data are equal are written alike.
-use Rattle.std.proofs.Common.{◌≡◌, ℕ, suc, ℤ, pos, negsuc, ◌+◌, ◌*◌, List, [], ◌∷◌, slice_get, get_or, Option, None, Some, is_some, true≢false, option_and_then, unwrap_or, find, All, IfSome, codes, bytes_eq, refl, sym, ap, ◌∙◌, arith}
+use Rattle.std.proofs.Common.{◌≡◌, ℕ, suc, ℤ, pos, negsuc, ◌+◌, ◌*◌, List, [], ◌∷◌, slice_get, get_or, Option, None, Some, is_some, true≢false, option_and_then, unwrap_or, find, All, IfSome, codes, bytes_eq, refl, sym, ap, ◌∙◌, subst, Bool, true, false, if◌then◌else◌, ◌++◌, arith}
 use Rattle.std.proofs.lemmas.List.Elements.{All-head, All-tail}
 use Rattle.std.proofs.lemmas.Option.{same_Some, slice_get-get_or, unwrap_or-slice_get}
 use Rattle.std.specs.List.{AllZip}
@@ -8,23 +8,33 @@ use Rattle.serde_json.specs.View.{items_of}
 use Rattle.serde_json.specs.Events.{items_len}
 use Rattle.serde_json.specs.Find.{as_integer, as_u64, as_str, as_number, as_array, at, get}
 use Rattle.tn_base.specs.declared.fault.FaultKind.{FaultKind}
-use Rattle.tn_base.specs.declared.fault.FaultKind.TheVariants.{NotJson, TooLong, Shape, BadName, SameName, UnknownFirm, SelfTrade, UnknownTrade, Limit, AmountRange, NotOwnTrade, SameBundle, NoEmpty, NotLaminar, NotConcave, SameTrade, PriceMissing, BadOver}
+use Rattle.tn_base.specs.declared.fault.FaultKind.TheVariants.{NotJson, TooLong, Shape, BadName, SameName, UnknownFirm, SelfTrade, UnknownTrade, Limit, AmountRange, NotOwnTrade, SameBundle, NoEmpty, NotLaminar, NotConcave, SameTrade, PriceMissing, BadOver, SamePair}
 use Rattle.tn_base.specs.declared.fault.FaultKind.TheVariants.{ExchangeFails as FailsExchange}
 use Rattle.tn_base.specs.Faults.{fault_number}
 use Rattle.tn_market.specs.declared.place.PlaceStep.{PlaceStep}
 use Rattle.tn_market.specs.declared.place.PlaceStep.TheVariants.{Word as Member, Index, Trade}
 use Rattle.tn_market.specs.declared.place.Word.{Word}
-use Rattle.tn_market.specs.declared.place.Word.TheVariants.{Version, Firms, Trades, Arrangement, Name, Seller, Buyer, Kind, Rows, Amounts, Sets, From, Values, Costs, Gains, Keep, On, Prices}
+use Rattle.tn_market.specs.declared.place.Word.TheVariants.{Version, Firms, Trades, Arrangement, Outcome, Claim, Edits, Name, Seller, Buyer, Kind, Rows, Amounts, Sets, From, Values, Costs, Gains, Keep, On, Prices, Over, Contracts, Answer, Surplus as SurplusWord, Firm, Bundle, Gain, X, Y, At, Nodes, Cost, Keeps}
+use Rattle.tn_market.specs.declared.reason.Reason.{Reason}
+use Rattle.tn_market.specs.declared.reason.Reason.TheVariants.{Impossible as ImpossibleIs, Better as BetterIs, Possible, Surplus as SurplusIs, Gain as GainIs, Exchange, Holds, Arc, Cost as CostIs, Contract as ContractIs, Over as OverIs, Price, Empty, Signed, Choice}
 use Rattle.tn_market.specs.declared.said.Fault.{Fault}
 use Rattle.tn_market.specs.declared.said.Shown.{Shown}
+use Rattle.tn_market.specs.declared.contract.Contract.{Contract}
+use Rattle.tn_market.specs.declared.range.Range.{Range}
+use Rattle.tn_market.specs.declared.session.State.{State}
 use Rattle.tn_market.specs.declared.said.Said.{Said}
-use Rattle.tn_market.specs.declared.said.Said.TheVariants.{Usage, ReadFault, NoMemory, Fault as FaultIs, Equilibrium, Better, Impossible, Accepted, ExchangeFails, Supported, Cycle, Solved}
+use Rattle.tn_market.specs.declared.said.Said.TheVariants.{Usage, ReadFault, NoMemory, Fault as FaultIs, Equilibrium, Better, Impossible, Accepted, ExchangeFails, Supported, Cycle, Solved, Rows, Drill, Ranges, Session, Drops, Completes, Blocks, Valid, Invalid, Cases}
 use Rattle.tn_names.specs.Names.{NameLists, IsNameList}
 use Rattle.tn_answer.specs.Words.{word_text}
 use Rattle.tn_names.specs.Named.{IsNamed, IsNamedStep, IsNamedTriple}
-use Rattle.tn_answer.specs.AnswerText.{name_data, names_data, option_data, prices_from, nodes_data, integer_data, step_data, place_data, fault_data, answer_data, answer_line}
-use Rattle.tn_answer.specs.Apart.{IsNamedAnswer, IsSameStep, IsSameFault, IsSameAnswer, AnswersAreToldApart}
-use Rattle.tn_answer.proofs.DataTexts.{clash, compact_text-tells}
+use Rattle.tn_answer.specs.Rows.{each_from}
+use Rattle.tn_answer.specs.AnswerText.{contracts_data, range_data, state_data, states_data, prices_from, nodes_data, step_data, place_data, fault_data, Layout, json, rows, answer_layout, data_in, layout_text, answer, answer_data, answer_line}
+use Rattle.tn_answer.specs.Values.{bound_data, name_data, names_data, option_data, integer_data, numbers_data}
+use Rattle.tn_answer.specs.ReasonText.{reason_members, IsNamedReason}
+use Rattle.tn_answer.specs.Apart.{HasNamedPaths, HasShortNumbers, IsNamedAnswer, IsNamedState, IsSameStep, IsSameFault, IsSameAnswer, AnswersAreToldApart}
+use Rattle.tn_answer.proofs.DataTexts.{IsPlain, clash, compact_text-tells}
+use Rattle.tn_answer.proofs.RowLemmas.{same_rows}
+use Rattle.serde_json.specs.Written.{compact_text}
 use Rattle.tn_answer.proofs.PlainAnswers.{answer_is_plain}
 
 -- ---- parts of data
@@ -85,7 +95,7 @@ same_prices names k (x ∷ xs) (y ∷ ys) e =
 
 -- each kind at its number
 kinds : List FaultKind
-kinds = NotJson ∷ NotJson ∷ TooLong ∷ Shape ∷ BadName ∷ SameName ∷ UnknownFirm ∷ SelfTrade ∷ UnknownTrade ∷ Limit ∷ AmountRange ∷ NotOwnTrade ∷ SameBundle ∷ NoEmpty ∷ NotLaminar ∷ NotConcave ∷ FailsExchange ∷ SameTrade ∷ PriceMissing ∷ BadOver ∷ []
+kinds = NotJson ∷ NotJson ∷ TooLong ∷ Shape ∷ BadName ∷ SameName ∷ UnknownFirm ∷ SelfTrade ∷ UnknownTrade ∷ Limit ∷ AmountRange ∷ NotOwnTrade ∷ SameBundle ∷ NoEmpty ∷ NotLaminar ∷ NotConcave ∷ FailsExchange ∷ SameTrade ∷ PriceMissing ∷ BadOver ∷ SamePair ∷ []
 
 kind_back : (kind : FaultKind) → get_or kinds (fault_number kind) NotJson ≡ kind
 unfolding kinds
@@ -96,7 +106,7 @@ same_kind : (first second : FaultKind) → fault_number first ≡ fault_number s
 same_kind first second e = sym (kind_back first) ∙ ap (λ n. get_or kinds n NotJson) e ∙ kind_back second
 
 words : List Word
-words = Version ∷ Firms ∷ Trades ∷ Arrangement ∷ Name ∷ Seller ∷ Buyer ∷ Kind ∷ Rows ∷ Amounts ∷ Sets ∷ From ∷ Values ∷ Costs ∷ Gains ∷ Keep ∷ On ∷ Prices ∷ []
+words = Version ∷ Firms ∷ Trades ∷ Arrangement ∷ Outcome ∷ Claim ∷ Edits ∷ Name ∷ Seller ∷ Buyer ∷ Kind ∷ Rows ∷ Amounts ∷ Sets ∷ From ∷ Values ∷ Costs ∷ Gains ∷ Keep ∷ On ∷ Prices ∷ Over ∷ Contracts ∷ Answer ∷ SurplusWord ∷ Firm ∷ Bundle ∷ Gain ∷ X ∷ Y ∷ At ∷ Nodes ∷ Cost ∷ Keeps ∷ []
 
 abbrev word_of : List ℕ → Option Word
 word_of text = find (λ word. bytes_eq text (word_text word)) words
@@ -142,6 +152,57 @@ module _ (names : List (List ℕ)) (kept : IsNameList names) where
       let first = same_option x y (All-head named x xs h) (All-head named y ys k) (ap first_in e) in
       let rest = same_nodes xs ys (All-tail named x xs h) (All-tail named y ys k) (ap rest_in e) in
       λ i. first i ∷ rest i
+
+  same_contracts : (xs ys : List Contract) → All (λ contract. IsNamed names contract.trade) xs → All (λ contract. IsNamed names contract.trade) ys → contracts_data names xs ≡ contracts_data names ys → xs ≡ ys
+  same_contracts [] [] h k e = refl
+  same_contracts [] (y ∷ ys) h k e = absurd (omega (arith, ap (λ d. items_len (items_in d)) e))
+  same_contracts (x ∷ xs) [] h k e = absurd (omega (arith, ap (λ d. items_len (items_in d)) e))
+  same_contracts (x ∷ xs) (y ∷ ys) h k e =
+      let named = λ (contract : Contract). IsNamed names contract.trade in
+      let trade = same_name x.trade y.trade (All-head named x xs h) (All-head named y ys k) (ap (λ d. first_in (first_in d)) e) in
+      let price = same_integer x.price y.price (ap (λ d. first_in (rest_in (first_in d))) e) in
+      let rest = same_contracts xs ys (All-tail named x xs h) (All-tail named y ys k) (ap rest_in e) in
+      λ i. record { trade = trade i; price = price i } ∷ rest i
+
+  same_bound : (first second : Option ℤ) → bound_data first ≡ bound_data second → first ≡ second
+  same_bound None None e = refl
+  same_bound None (Some y) e = absurd (clash 0 2 refl (ap shape e))
+  same_bound (Some x) None e = absurd (clash 2 0 refl (ap shape e))
+  same_bound (Some x) (Some y) e = ap Some (same_integer x y e)
+
+  same_range : (k : ℕ) (x y : Range) → HasNamedPaths names x → HasNamedPaths names y → range_data names k x ≡ range_data names k y → x ≡ y
+  same_range k x y h i e =
+      let high = same_bound x.high y.high (ap (part (codes "high")) e) in
+      let high_path = same_nodes x.high_path y.high_path h.high i.high (ap (part (codes "high_path")) e) in
+      let low = same_bound x.low y.low (ap (part (codes "low")) e) in
+      let low_path = same_nodes x.low_path y.low_path h.low i.low (ap (part (codes "low_path")) e) in
+      λ j. record { low = low j; low_path = low_path j; high = high j; high_path = high_path j }
+
+  same_ranges : (k : ℕ) (xs ys : List Range) → All (HasNamedPaths names) xs → All (HasNamedPaths names) ys
+      → array (items_of (each_from (range_data names) k xs)) ≡ array (items_of (each_from (range_data names) k ys)) → xs ≡ ys
+  same_ranges k [] [] h i e = refl
+  same_ranges k [] (y ∷ ys) h i e = absurd (omega (arith, ap (λ d. items_len (items_in d)) e))
+  same_ranges k (x ∷ xs) [] h i e = absurd (omega (arith, ap (λ d. items_len (items_in d)) e))
+  same_ranges k (x ∷ xs) (y ∷ ys) h i e =
+      let first = same_range k x y (All-head (HasNamedPaths names) x xs h) (All-head (HasNamedPaths names) y ys i) (ap first_in e) in
+      let rest = same_ranges (suc k) xs ys (All-tail (HasNamedPaths names) x xs h) (All-tail (HasNamedPaths names) y ys i) (ap rest_in e) in
+      λ j. first j ∷ rest j
+
+  same_state : (x y : State) → IsNamedState names x → IsNamedState names y → state_data names x ≡ state_data names y → x ≡ y
+  same_state x y h k e =
+      let on = same_names x.on y.on h.on k.on (ap (part (codes "on")) e) in
+      let prices = same_contracts x.prices y.prices h.prices k.prices (ap (part (codes "prices")) e) in
+      let surplus = same_integer x.surplus y.surplus (ap (part (codes "surplus")) e) in
+      λ j. record { on = on j; prices = prices j; surplus = surplus j }
+
+  same_states : (xs ys : List State) → All (IsNamedState names) xs → All (IsNamedState names) ys → states_data names xs ≡ states_data names ys → xs ≡ ys
+  same_states [] [] h k e = refl
+  same_states [] (y ∷ ys) h k e = absurd (omega (arith, ap (λ d. items_len (items_in d)) e))
+  same_states (x ∷ xs) [] h k e = absurd (omega (arith, ap (λ d. items_len (items_in d)) e))
+  same_states (x ∷ xs) (y ∷ ys) h k e =
+      let first = same_state x y (All-head (IsNamedState names) x xs h) (All-head (IsNamedState names) y ys k) (ap first_in e) in
+      let rest = same_states xs ys (All-tail (IsNamedState names) x xs h) (All-tail (IsNamedState names) y ys k) (ap rest_in e) in
+      λ j. first j ∷ rest j
 
   same_step : (first second : PlaceStep) → IsNamedStep names first → IsNamedStep names second → step_data names first ≡ step_data names second → IsSameStep names first second
   same_step (Member v) (Member w) h k e = ap Member (same_word v w (ap text_in e))
@@ -203,10 +264,20 @@ answer_text (ExchangeFails firm x y at) = codes "exchange_fails"
 answer_text (Supported prices) = codes "prices"
 answer_text (Cycle nodes cost) = codes "cycle"
 answer_text (Solved on prices surplus) = codes "solved"
+answer_text (Rows on prices surplus) = []
+answer_text (Drill size start firms surplus) = codes "drill"
+answer_text (Ranges on ranges) = codes "ranges"
+answer_text (Session edits) = codes "session"
+answer_text (Drops firm keeps gain over) = codes "drops"
+answer_text (Completes prices over) = codes "completes"
+answer_text (Blocks contracts over) = codes "blocks"
+answer_text Valid = codes "valid"
+answer_text (Invalid reason) = codes "invalid"
+answer_text (Cases count failed) = codes "cases"
 
--- the first two bytes tell these texts apart
+-- the first three bytes tell these texts apart
 abbrev mark : List ℕ → ℕ
-mark text = 256 * get_or text 0 0 + get_or text 1 0
+mark text = 65536 * get_or text 0 0 + 256 * get_or text 1 0 + get_or text 2 0
 
 fault_says : (names : List (List ℕ)) (fault : Fault) (shown : Option Shown) → text_in (part (codes "answer") (fault_data names fault shown)) ≡ codes "fault"
 fault_says names fault None = refl
@@ -225,45 +296,196 @@ answer_says names (ExchangeFails firm x y at) = refl
 answer_says names (Supported prices) = refl
 answer_says names (Cycle nodes cost) = refl
 answer_says names (Solved on prices surplus) = refl
+answer_says names (Rows on prices surplus) = refl
+answer_says names (Drill size start firms surplus) = refl
+answer_says names (Ranges on ranges) = refl
+answer_says names (Session edits) = refl
+answer_says names (Drops firm keeps gain over) = refl
+answer_says names (Completes prices over) = refl
+answer_says names (Blocks contracts over) = refl
+answer_says names Valid = refl
+answer_says names (Invalid reason) = refl
+answer_says names (Cases count failed) = refl
+
+same_numbers : (xs ys : List ℕ) → numbers_data xs ≡ numbers_data ys → xs ≡ ys
+same_numbers [] [] e = refl
+same_numbers [] (y ∷ ys) e = absurd (omega (arith, ap (λ d. items_len (items_in d)) e))
+same_numbers (x ∷ xs) [] e = absurd (omega (arith, ap (λ d. items_len (items_in d)) e))
+same_numbers (x ∷ xs) (y ∷ ys) e =
+    let first = ap (λ d. natural_in (first_in d)) e in
+    let rest = same_numbers xs ys (ap rest_in e) in
+    λ i. first i ∷ rest i
+
+abbrev invalid : NameLists → Reason → Data
+invalid names reason = answer (codes "invalid") (reason_members names reason)
+
+abbrev reason_text : Reason → List ℕ
+reason_text (ImpossibleIs firm) = codes "impossible"
+reason_text (BetterIs firm bundle) = codes "better"
+reason_text (Possible firm) = codes "possible"
+reason_text (SurplusIs surplus) = codes "surplus"
+reason_text (GainIs firm gain) = codes "gain"
+reason_text (Exchange firm x y at) = codes "exchange"
+reason_text Holds = codes "holds"
+reason_text (Arc index) = codes "arc"
+reason_text (CostIs cost) = codes "cost"
+reason_text (ContractIs trade) = codes "contract"
+reason_text (OverIs over) = codes "over"
+reason_text (Price trade) = codes "price"
+reason_text Empty = codes "empty"
+reason_text (Signed trade) = codes "signed"
+reason_text (Choice firm trade) = codes "choice"
+
+reason_says : (names : NameLists) (reason : Reason) → text_in (part (codes "reason") (invalid names reason)) ≡ reason_text reason
+reason_says names Holds = refl
+reason_says names reason = refl
+
+module _ (names : NameLists) (firms : IsNameList names.firms) (trades : IsNameList names.trades) where
+  same_reason_mark : (first second : Reason) → invalid names first ≡ invalid names second → mark (reason_text first) ≡ mark (reason_text second)
+  same_reason_mark first second e = ap mark (sym (reason_says names first) ∙ ap (λ d. text_in (part (codes "reason") d)) e ∙ reason_says names second)
+
+  same_firm : (firm other : ℕ) → IsNamed names.firms firm → IsNamed names.firms other → (first second : Reason) → invalid names first ≡ invalid names second
+      → part (codes "firm") (invalid names first) ≡ name_data names.firms firm → part (codes "firm") (invalid names second) ≡ name_data names.firms other → firm ≡ other
+  same_firm firm other h k first second e is is' = same_name names.firms firms firm other h k (sym is ∙ ap (part (codes "firm")) e ∙ is')
+
+  same_trade : (trade other : ℕ) → IsNamed names.trades trade → IsNamed names.trades other → (first second : Reason) → invalid names first ≡ invalid names second
+      → part (codes "trade") (invalid names first) ≡ name_data names.trades trade → part (codes "trade") (invalid names second) ≡ name_data names.trades other → trade ≡ other
+  same_trade trade other h k first second e is is' = same_name names.trades trades trade other h k (sym is ∙ ap (part (codes "trade")) e ∙ is')
+
+  same_reason : (first second : Reason) → IsNamedReason names first → IsNamedReason names second → invalid names first ≡ invalid names second → first ≡ second
+  same_reason (ImpossibleIs firm) (ImpossibleIs other) h k e = ap ImpossibleIs (same_firm firm other h k (ImpossibleIs firm) (ImpossibleIs other) e refl refl)
+  same_reason (BetterIs firm bundle) (BetterIs other bundle') h k e =
+      let firm_is = same_firm firm other h.0 k.0 (BetterIs firm bundle) (BetterIs other bundle') e refl refl in
+      let bundle_is = same_names names.trades trades bundle bundle' h.1 k.1 (ap (part (codes "bundle")) e) in
+      λ i. BetterIs (firm_is i) (bundle_is i)
+  same_reason (Possible firm) (Possible other) h k e = ap Possible (same_firm firm other h k (Possible firm) (Possible other) e refl refl)
+  same_reason (SurplusIs surplus) (SurplusIs other) h k e = ap SurplusIs (same_integer surplus other (ap (part (codes "surplus")) e))
+  same_reason (GainIs firm gain) (GainIs other gain') h k e =
+      let firm_is = same_firm firm other h k (GainIs firm gain) (GainIs other gain') e refl refl in
+      let gain_is = same_bound names.trades trades gain gain' (ap (part (codes "gain")) e) in
+      λ i. GainIs (firm_is i) (gain_is i)
+  same_reason (Exchange firm x y at) (Exchange other x' y' at') h k e =
+      let firm_is = same_firm firm other h.0 k.0 (Exchange firm x y at) (Exchange other x' y' at') e refl refl in
+      let at_is = same_option names.trades trades at at' h.1.at k.1.at (ap (part (codes "at")) e) in
+      let x_is = same_names names.trades trades x x' h.1.x k.1.x (ap (part (codes "x")) e) in
+      let y_is = same_names names.trades trades y y' h.1.y k.1.y (ap (part (codes "y")) e) in
+      λ i. Exchange (firm_is i) (x_is i) (y_is i) (at_is i)
+  same_reason Holds Holds h k e = refl
+  same_reason (Arc index) (Arc other) h k e = ap Arc (ap (λ d. natural_in (part (codes "index") d)) e)
+  same_reason (CostIs cost) (CostIs other) h k e = ap CostIs (same_integer cost other (ap (part (codes "cost")) e))
+  same_reason (ContractIs trade) (ContractIs other) h k e = ap ContractIs (same_trade trade other h k (ContractIs trade) (ContractIs other) e refl refl)
+  same_reason (OverIs over) (OverIs other) h k e = ap OverIs (same_integer over other (ap (part (codes "over")) e))
+  same_reason (Price trade) (Price other) h k e = ap Price (same_trade trade other h k (Price trade) (Price other) e refl refl)
+  same_reason Empty Empty h k e = refl
+  same_reason (Signed trade) (Signed other) h k e = ap Signed (same_trade trade other h k (Signed trade) (Signed other) e refl refl)
+  same_reason (Choice firm trade) (Choice other trade') h k e =
+      let firm_is = same_firm firm other h.0 k.0 (Choice firm trade) (Choice other trade') e refl refl in
+      let trade_is = same_trade trade trade' h.1 k.1 (Choice firm trade) (Choice other trade') e refl refl in
+      λ i. Choice (firm_is i) (trade_is i)
+  same_reason first second h k e = absurd (clash (mark (reason_text first)) (mark (reason_text second)) refl (same_reason_mark first second e))
 
 module _ (names : NameLists) (firms : IsNameList names.firms) (trades : IsNameList names.trades) where
   same_mark : (first second : Said) → answer_data names first ≡ answer_data names second → mark (answer_text first) ≡ mark (answer_text second)
   same_mark first second e = ap mark (sym (answer_says names first) ∙ ap (λ d. text_in (part (codes "answer") d)) e ∙ answer_says names second)
 
-  same_answer : (first second : Said) → IsNamedAnswer names first → IsNamedAnswer names second → answer_data names first ≡ answer_data names second → IsSameAnswer names first second
-  same_answer Usage Usage h k e = refl
-  same_answer ReadFault ReadFault h k e = refl
-  same_answer NoMemory NoMemory h k e = refl
-  same_answer (FaultIs first) (FaultIs second) h k e = same_fault names.trades trades first second first.shown second.shown refl refl h.0 k.0 h.1 k.1 e
-  same_answer (Equilibrium y) (Equilibrium z) h k e = ap Equilibrium (same_integer y z (ap (part (codes "surplus")) e))
-  same_answer (Better firm bundle gain) (Better other bundle' gain') h k e =
+  -- of rows the text is told, of others the data
+  same_answer : (first second : Said) → IsNamedAnswer names first → IsNamedAnswer names second → HasShortNumbers first → HasShortNumbers second
+      → layout_text (answer_layout names first) ≡ layout_text (answer_layout names second) → answer_data names first ≡ answer_data names second → IsSameAnswer names first second
+  same_answer Usage Usage h k short short' line e = refl
+  same_answer ReadFault ReadFault h k short short' line e = refl
+  same_answer NoMemory NoMemory h k short short' line e = refl
+  same_answer (FaultIs first) (FaultIs second) h k short short' line e = same_fault names.trades trades first second first.shown second.shown refl refl h.0 k.0 h.1 k.1 e
+  same_answer (Equilibrium y) (Equilibrium z) h k short short' line e = ap Equilibrium (same_integer y z (ap (part (codes "surplus")) e))
+  same_answer (Better firm bundle gain) (Better other bundle' gain') h k short short' line e =
       let same_bundle = same_names names.trades trades bundle bundle' h.1 k.1 (ap (part (codes "bundle")) e) in
       let same_firm = same_name names.firms firms firm other h.0 k.0 (ap (part (codes "firm")) e) in
       let same_gain = same_integer gain gain' (ap (part (codes "gain")) e) in
       λ i. Better (same_firm i) (same_bundle i) (same_gain i)
-  same_answer (Impossible firm) (Impossible other) h k e = ap Impossible (same_name names.firms firms firm other h k (ap (part (codes "firm")) e))
-  same_answer Accepted Accepted h k e = refl
-  same_answer (ExchangeFails firm x y at) (ExchangeFails other x' y' at') h k e =
+  same_answer (Impossible firm) (Impossible other) h k short short' line e = ap Impossible (same_name names.firms firms firm other h k (ap (part (codes "firm")) e))
+  same_answer Accepted Accepted h k short short' line e = refl
+  same_answer (ExchangeFails firm x y at) (ExchangeFails other x' y' at') h k short short' line e =
       let same_at = same_option names.trades trades at at' h.1.at k.1.at (ap (part (codes "at")) e) in
       let same_firm = same_name names.firms firms firm other h.0 k.0 (ap (part (codes "firm")) e) in
       let same_x = same_names names.trades trades x x' h.1.x k.1.x (ap (part (codes "x")) e) in
       let same_y = same_names names.trades trades y y' h.1.y k.1.y (ap (part (codes "y")) e) in
       λ i. ExchangeFails (same_firm i) (same_x i) (same_y i) (same_at i)
-  same_answer (Supported prices) (Supported others) h k e = ap Supported (same_prices names.trades 0 prices others (ap (part (codes "prices")) e))
-  same_answer (Cycle nodes cost) (Cycle others cost') h k e =
+  same_answer (Supported prices) (Supported others) h k short short' line e = ap Supported (same_prices names.trades 0 prices others (ap (part (codes "prices")) e))
+  same_answer (Cycle nodes cost) (Cycle others cost') h k short short' line e =
       let same_cost = same_integer cost cost' (ap (part (codes "cost")) e) in
       let same_list = same_nodes names.trades trades nodes others h k (ap (part (codes "nodes")) e) in
       λ i. Cycle (same_list i) (same_cost i)
-  same_answer (Solved on prices surplus) (Solved on' prices' surplus') h k e =
+  same_answer (Solved on prices surplus) (Solved on' prices' surplus') h k short short' line e =
       let same_on = same_names names.trades trades on on' h.0 k.0 (ap (part (codes "on")) e) in
       let same_list = same_prices names.trades 0 prices prices' (ap (part (codes "prices")) e) in
       let same_surplus = same_integer surplus surplus' (ap (part (codes "surplus")) e) in
       λ i. Solved (same_on i) (same_list i) (same_surplus i)
-  same_answer first second h k e = absurd (clash (mark (answer_text first)) (mark (answer_text second)) refl (same_mark first second e))
+  same_answer (Rows on prices surplus) (Rows others other_prices other_surplus) h k short short' line e = same_rows names.trades on others prices other_prices h.0 k.0 h.1 k.1 short.0 short'.0 line
+  same_answer (Drill size start firms surplus) (Drill size' start' firms' surplus') h k short short' line e =
+      let same_size = ap (λ d. natural_in (part (codes "size") d)) e in
+      let same_start = ap (λ d. natural_in (part (codes "start") d)) e in
+      let same_firms = ap (λ d. natural_in (part (codes "firms") d)) e in
+      let same_surplus = same_integer surplus surplus' (ap (part (codes "surplus")) e) in
+      λ i. Drill (same_size i) (same_start i) (same_firms i) (same_surplus i)
+  same_answer (Ranges on ranges) (Ranges others other_ranges) h k short short' line e =
+      let same_on = same_names names.trades trades on others h.0 k.0 (ap (part (codes "on")) e) in
+      let same_list = same_ranges names.trades trades 0 ranges other_ranges h.2 k.2 (ap (part (codes "ranges")) e) in
+      λ i. Ranges (same_on i) (same_list i)
+  same_answer (Session edits) (Session others) h k short short' line e = ap Session (same_states names.trades trades edits others h k (ap (part (codes "edits")) e))
+  same_answer (Drops firm keeps gain over) (Drops other keeps' gain' over') h k short short' line e =
+      let same_firm = same_name names.firms firms firm other h.0 k.0 (ap (part (codes "firm")) e) in
+      let same_keeps = same_names names.trades trades keeps keeps' h.1 k.1 (ap (part (codes "keeps")) e) in
+      let same_gain = same_bound names.trades trades gain gain' (ap (part (codes "gain")) e) in
+      let same_over = same_integer over over' (ap (part (codes "over")) e) in
+      λ i. Drops (same_firm i) (same_keeps i) (same_gain i) (same_over i)
+  same_answer (Completes prices over) (Completes prices' over') h k short short' line e =
+      let same_list = same_prices names.trades 0 prices prices' (ap (part (codes "prices")) e) in
+      let same_over = same_integer over over' (ap (part (codes "over")) e) in
+      λ i. Completes (same_list i) (same_over i)
+  same_answer (Blocks contracts over) (Blocks contracts' over') h k short short' line e =
+      let same_list = same_contracts names.trades trades contracts contracts' h k (ap (part (codes "contracts")) e) in
+      let same_over = same_integer over over' (ap (part (codes "over")) e) in
+      λ i. Blocks (same_list i) (same_over i)
+  same_answer Valid Valid h k short short' line e = refl
+  same_answer (Invalid reason) (Invalid other) h k short short' line e = ap Invalid (same_reason names firms trades reason other h k e)
+  same_answer (Cases count failed) (Cases count' failed') h k short short' line e =
+      let same_count = ap (λ d. natural_in (part (codes "count") d)) e in
+      let same_failed = same_numbers failed failed' (ap (part (codes "failed")) e) in
+      λ i. Cases (same_count i) (same_failed i)
+  same_answer first second h k short short' line e = absurd (clash (mark (answer_text first)) (mark (answer_text second)) refl (same_mark first second e))
+
+-- ---- layouts
+
+abbrev is_rows : Layout → Bool
+is_rows (json value) = false
+is_rows (rows fields) = true
+
+abbrev first_byte : List ℕ → ℕ
+first_byte text = get_or text 0 0
+
+-- a line of JSON begins with a brace, and rows with the head's first letter
+begins : (names : NameLists) (said : Said) → first_byte (layout_text (answer_layout names said)) ≡ (if is_rows (answer_layout names said) then 116 else 123)
+begins names (Rows on prices surplus) = refl
+begins names (FaultIs fault) = by fault.shown
+  where
+    by : (shown : Option Shown) → first_byte (compact_text (fault_data names.trades fault shown) ++ 10 ∷ []) ≡ 123
+    by None = refl
+    by (Some shown) = refl
+begins names said = refl
+
+module _ (names : NameLists) (first second : Said) where
+  starts : (said : Said) (l : Layout) → answer_layout names said ≡ l → first_byte (layout_text l) ≡ (if is_rows l then 116 else 123)
+  starts said l e = subst (λ l. first_byte (layout_text l) ≡ (if is_rows l then 116 else 123)) e (begins names said)
+
+  same_data : (l m : Layout) → answer_layout names first ≡ l → answer_layout names second ≡ m → IsPlain (data_in l) → IsPlain (data_in m) → layout_text l ≡ layout_text m → data_in l ≡ data_in m
+  same_data (json d) (json e) p q plain_d plain_e same = compact_text-tells d e 10 plain_d plain_e (λ h. omega (arith, h)) same
+  same_data (json d) (rows s) p q plain_d plain_e same = absurd (clash 123 116 refl (sym (starts first (json d) p) ∙ ap first_byte same ∙ starts second (rows s) q))
+  same_data (rows r) (json e) p q plain_d plain_e same = absurd (clash 116 123 refl (sym (starts first (rows r) p) ∙ ap first_byte same ∙ starts second (json e) q))
+  same_data (rows r) (rows s) p q plain_d plain_e same = refl
 
 pub answers_told_apart : AnswersAreToldApart
 unfolding answer_line
 answers_told_apart names first second firms trades named_first named_second short_first short_second same =
     let plain_first = answer_is_plain names firms trades first short_first in
     let plain_second = answer_is_plain names firms trades second short_second in
-    same_answer names firms trades first second named_first named_second (compact_text-tells _ _ 10 plain_first plain_second (λ h. omega (arith, h)) same)
+    same_answer names firms trades first second named_first named_second short_first short_second same
+    (same_data names first second (answer_layout names first) (answer_layout names second) refl refl plain_first plain_second same)

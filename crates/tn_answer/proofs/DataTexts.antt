@@ -99,7 +99,7 @@ first_digit : (ds r : List ℕ) → AllDigits 10 ds → 0 < length ds → (48 �
 first_digit [] r h some = absurd (omega arith)
 first_digit (d ∷ ds) r h some = digit_from_value d h.0
 
-first_of_decimal : (n : ℕ) (r : List ℕ) → n < 2 ^ 64 → (48 ≤ front (decimal n ++ r)) × (front (decimal n ++ r) ≤ 57)
+pub first_of_decimal : (n : ℕ) (r : List ℕ) → n < 2 ^ 64 → (48 ≤ front (decimal n ++ r)) × (front (decimal n ++ r) ≤ 57)
 first_of_decimal n r h = let numeral = (decimal_is_IsNumeral n h).0 in first_digit (decimal n) r numeral.1 numeral.0
 
 number_front : (n m : Num) (r s : List ℕ) → IsShort n → IsShort m → Ends r → Ends s → number_text n ++ r ≡ number_text m ++ s → (n ≡ m) × (r ≡ s)

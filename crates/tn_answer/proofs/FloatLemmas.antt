@@ -1,16 +1,24 @@
 -- No answer has a float, so its text is the compact one.
-use Rattle.std.proofs.Common.{◌≡◌, ℕ, suc, ℤ, pos, negsuc, Bool, false, ◌||◌, List, [], ◌∷◌, Option, None, Some, refl, ap, ◌∙◌}
+use Rattle.std.proofs.Common.{◌≡◌, ℕ, suc, ℤ, pos, negsuc, Bool, false, ◌||◌, List, [], ◌∷◌, Option, None, Some, refl, ap, ◌∙◌, codes}
 use Rattle.serde_json.specs.Find.{is_float, of_integer}
 use Rattle.serde_json.specs.Written.{has_float}
 use Rattle.serde_json.specs.Data.{array}
 use Rattle.serde_json.specs.View.{items_of}
 use Rattle.tn_market.specs.declared.place.PlaceStep.{PlaceStep}
 use Rattle.tn_market.specs.declared.place.PlaceStep.TheVariants.{Word, Index, Trade}
+use Rattle.tn_market.specs.declared.reason.Reason.{Reason}
+use Rattle.tn_market.specs.declared.reason.Reason.TheVariants.{Better as BetterIs, Surplus, Gain, Exchange, Cost, Over}
 use Rattle.tn_market.specs.declared.said.Fault.{Fault}
 use Rattle.tn_market.specs.declared.said.Shown.{Shown}
+use Rattle.tn_market.specs.declared.contract.Contract.{Contract}
+use Rattle.tn_market.specs.declared.range.Range.{Range}
+use Rattle.tn_market.specs.declared.session.State.{State}
 use Rattle.tn_market.specs.declared.said.Said.{Said}
-use Rattle.tn_market.specs.declared.said.Said.TheVariants.{Usage, ReadFault, NoMemory, Fault as FaultIs, Equilibrium, Better, Impossible, Accepted, ExchangeFails, Supported, Cycle, Solved}
-use Rattle.tn_answer.specs.AnswerText.{names_data, option_data, prices_from, nodes_data, step_data, place_data, fault_data, answer_data}
+use Rattle.tn_market.specs.declared.said.Said.TheVariants.{Usage, ReadFault, NoMemory, Fault as FaultIs, Equilibrium, Better, Impossible, Accepted, ExchangeFails, Supported, Cycle, Solved, Rows, Drill, Ranges, Session, Drops, Completes, Blocks, Valid, Invalid, Cases}
+use Rattle.tn_answer.specs.AnswerText.{prices_from, nodes_data, step_data, place_data, fault_data, contracts_data, range_data, states_data, answer, answer_data}
+use Rattle.tn_answer.specs.ReasonText.{reason_members}
+use Rattle.tn_answer.specs.Values.{names_data, option_data, bound_data, numbers_data}
+use Rattle.tn_answer.specs.Rows.{each_from}
 use Rattle.tn_names.specs.Names.{NameLists}
 
 neither : (a b : Bool) → a ≡ false → b ≡ false → (a || b) ≡ false
@@ -37,6 +45,29 @@ module _ (names : List (List ℕ)) where
   nodes_have_no_float [] = refl
   nodes_have_no_float (node ∷ nodes) = neither _ _ (option_has_no_float node) (nodes_have_no_float nodes)
 
+  contracts_have_no_float : (contracts : List Contract) → has_float (contracts_data names contracts) ≡ false
+  contracts_have_no_float [] = refl
+  contracts_have_no_float (contract ∷ contracts) = neither _ _ (neither _ _ (integer_is_no_float contract.price) refl) (contracts_have_no_float contracts)
+
+  bound_has_no_float : (bound : Option ℤ) → has_float (bound_data bound) ≡ false
+  bound_has_no_float None = refl
+  bound_has_no_float (Some price) = integer_is_no_float price
+
+  range_has_no_float : (k : ℕ) (range : Range) → has_float (range_data names k range) ≡ false
+  range_has_no_float k range =
+      neither _ _ (bound_has_no_float range.high)
+      (neither _ _ (nodes_have_no_float range.high_path) (neither _ _ (bound_has_no_float range.low) (neither _ _ (nodes_have_no_float range.low_path) refl)))
+
+  ranges_have_no_float : (k : ℕ) (ranges : List Range) → has_float (array (items_of (each_from (range_data names) k ranges))) ≡ false
+  ranges_have_no_float k [] = refl
+  ranges_have_no_float k (range ∷ ranges) = neither _ _ (range_has_no_float k range) (ranges_have_no_float (suc k) ranges)
+
+  states_have_no_float : (states : List State) → has_float (states_data names states) ≡ false
+  states_have_no_float [] = refl
+  states_have_no_float (state ∷ states) =
+      neither _ _ (neither _ _ (names_have_no_float state.on) (neither _ _ (contracts_have_no_float state.prices) (neither _ _ (integer_is_no_float state.surplus) refl)))
+      (states_have_no_float states)
+
   step_has_no_float : (step : PlaceStep) → has_float (step_data names step) ≡ false
   step_has_no_float (Word word) = refl
   step_has_no_float (Index k) = refl
@@ -52,6 +83,19 @@ module _ (names : List (List ℕ)) where
       neither _ _ (option_has_no_float shown.at)
       (neither _ _ (place_has_no_float fault.place) (neither _ _ (names_have_no_float shown.x) (neither _ _ (names_have_no_float shown.y) refl)))
 
+reason_has_no_float : (names : NameLists) (reason : Reason) → has_float (answer (codes "invalid") (reason_members names reason)) ≡ false
+reason_has_no_float names (Surplus surplus) = neither _ _ (integer_is_no_float surplus) refl
+reason_has_no_float names (Gain firm gain) = neither _ _ (bound_has_no_float names.trades gain) refl
+reason_has_no_float names (Cost cost) = neither _ _ (integer_is_no_float cost) refl
+reason_has_no_float names (Over over) = neither _ _ (integer_is_no_float over) refl
+reason_has_no_float names (BetterIs firm bundle) = neither _ _ (names_have_no_float names.trades bundle) refl
+reason_has_no_float names (Exchange firm x y at) = neither _ _ (option_has_no_float names.trades at) (neither _ _ (names_have_no_float names.trades x) (neither _ _ (names_have_no_float names.trades y) refl))
+reason_has_no_float names reason = refl
+
+numbers_have_no_float : (numbers : List ℕ) → has_float (numbers_data numbers) ≡ false
+numbers_have_no_float [] = refl
+numbers_have_no_float (n ∷ numbers) = numbers_have_no_float numbers
+
 pub answer_has_no_float : (names : NameLists) (said : Said) → has_float (answer_data names said) ≡ false
 answer_has_no_float names Usage = refl
 answer_has_no_float names ReadFault = refl
@@ -66,3 +110,13 @@ answer_has_no_float names (Supported prices) = neither _ _ (prices_have_no_float
 answer_has_no_float names (Cycle nodes cost) = neither _ _ (integer_is_no_float cost) (neither _ _ (nodes_have_no_float names.trades nodes) refl)
 answer_has_no_float names (Solved on prices surplus) =
     neither _ _ (names_have_no_float names.trades on) (neither _ _ (prices_have_no_float names.trades 0 prices) (neither _ _ (integer_is_no_float surplus) refl))
+answer_has_no_float names (Rows on prices surplus) = refl
+answer_has_no_float names (Drill size start firms surplus) = neither _ _ (integer_is_no_float surplus) refl
+answer_has_no_float names (Ranges on ranges) = neither _ _ (names_have_no_float names.trades on) (neither _ _ (ranges_have_no_float names.trades 0 ranges) refl)
+answer_has_no_float names (Session edits) = neither _ _ (states_have_no_float names.trades edits) refl
+answer_has_no_float names (Drops firm keeps gain over) = neither _ _ (bound_has_no_float names.trades gain) (neither _ _ (names_have_no_float names.trades keeps) (neither _ _ (integer_is_no_float over) refl))
+answer_has_no_float names (Completes prices over) = neither _ _ (integer_is_no_float over) (neither _ _ (prices_have_no_float names.trades 0 prices) refl)
+answer_has_no_float names Valid = refl
+answer_has_no_float names (Invalid reason) = reason_has_no_float names reason
+answer_has_no_float names (Cases count failed) = neither _ _ (numbers_have_no_float failed) refl
+answer_has_no_float names (Blocks contracts over) = neither _ _ (contracts_have_no_float names.trades contracts) (neither _ _ (integer_is_no_float over) refl)

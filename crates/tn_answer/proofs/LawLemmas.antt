@@ -1,22 +1,28 @@
 -- Where an answer names no firm and no trade, names don't matter.
-use Rattle.std.proofs.Common.{◌≡◌, ℕ, Bool, true, false, ◌&&◌, List, [], ◌∷◌, ◌++◌, map, codes, All, get_or, Option, None, Some, is_none, refl, ap, true≢false, sym, arith, FitsSigned, ℤ}
+use Rattle.std.proofs.Common.{◌≡◌, ℕ, Bool, true, false, ◌&&◌, List, [], ◌∷◌, map, codes, All, get_or, Option, None, Some, IfSome, is_none, refl, ap, true≢false, sym, arith, FitsSigned, ℤ, ◌<◌, ◌^◌}
 use Rattle.std.specs.Int.{w64}
 use Rattle.std.proofs.lemmas.Int.{ints}
 use Rattle.std.specs.List.{list_all}
-use Rattle.serde_json.specs.Data.{array, member, no_members}
+use Rattle.serde_json.specs.Data.{array, object, member, no_members}
 use Rattle.serde_json.specs.View.{items_of}
-use Rattle.serde_json.specs.Written.{compact_text}
 use Rattle.tn_market.specs.declared.place.PlaceStep.{PlaceStep}
 use Rattle.tn_market.specs.declared.place.PlaceStep.TheVariants.{Word, Index, Trade}
+use Rattle.tn_market.specs.declared.reason.Reason.{Reason}
+use Rattle.tn_market.specs.declared.reason.Reason.TheVariants.{Impossible as ImpossibleIs, Better as BetterIs, Possible, Surplus, Gain, Exchange, Holds, Arc, Cost, Contract as ContractIs, Over, Price, Empty, Signed, Choice}
 use Rattle.tn_market.specs.declared.said.Fault.{Fault}
 use Rattle.tn_market.specs.declared.said.Shown.{Shown}
+use Rattle.tn_market.specs.declared.contract.Contract.{Contract}
+use Rattle.tn_market.specs.declared.range.Range.{Range}
+use Rattle.tn_market.specs.declared.session.State.{State}
 use Rattle.tn_market.specs.declared.said.Said.{Said}
-use Rattle.tn_market.specs.declared.said.Said.TheVariants.{Usage, ReadFault, NoMemory, Fault as FaultIs, Equilibrium, Better, Impossible, Accepted, ExchangeFails, Supported, Cycle, Solved}
+use Rattle.tn_market.specs.declared.said.Said.TheVariants.{Usage, ReadFault, NoMemory, Fault as FaultIs, Equilibrium, Better, Impossible, Accepted, ExchangeFails, Supported, Cycle, Solved, Rows, Drill, Ranges, Session, Drops, Completes, Blocks, Valid, Invalid, Cases}
 use Rattle.tn_names.specs.Names.{NameLists}
-use Rattle.tn_answer.specs.AnswerText.{names_data, option_data, integer_data, prices_data, nodes_data, step_data, answer, fault_members, fault_data, answer_data, answer_line}
-use Rattle.tn_answer.specs.Sayable.{IsSayable}
-use Rattle.tn_answer.specs.Kept.{IsWithinClaim, IsWithinPrices, IsWithinClaims}
-use Rattle.tn_answer.specs.Laws.{are_none, is_empty, names_no_trade_at, names_no_trade_in, names_nothing}
+use Rattle.tn_answer.specs.AnswerText.{contracts_data, state_data, prices_data, nodes_data, step_data, answer, fault_members, fault_data, json, answer_layout, layout_text, answer_line}
+use Rattle.tn_answer.specs.Values.{names_data, option_data, integer_data}
+use Rattle.tn_answer.specs.ReasonText.{reason_members, reason_names_nothing, IsReasonWithin, IsShortReason}
+use Rattle.tn_answer.specs.Sayable.{HasShortBounds, IsSayable, IsShortState}
+use Rattle.tn_answer.specs.Kept.{HasWithinBounds, IsWithinState, IsWithinClaim, IsWithinPrices, IsWithinClaims}
+use Rattle.tn_answer.specs.Laws.{are_none, is_empty, state_names_nothing, names_no_trade_at, names_no_trade_in, names_nothing}
 
 both : (a b : Bool) → (a && b) ≡ true → (a ≡ true) × (b ≡ true)
 both true b e = (refl, e)
@@ -34,6 +40,10 @@ same_prices : (trades others : List (List ℕ)) (prices : List ℤ) → is_empty
 same_prices trades others [] e = refl
 same_prices trades others (price ∷ prices) e = absurd (true≢false (sym e))
 
+same_contracts : (trades others : List (List ℕ)) (contracts : List Contract) → is_empty contracts ≡ true → contracts_data trades contracts ≡ contracts_data others contracts
+same_contracts trades others [] e = refl
+same_contracts trades others (contract ∷ contracts) e = absurd (true≢false (sym e))
+
 same_options : (trades others : List (List ℕ)) (nodes : List (Option ℕ)) → list_all is_none nodes ≡ true → map (option_data trades) nodes ≡ map (option_data others) nodes
 same_options trades others [] e = refl
 same_options trades others (node ∷ nodes) e =
@@ -42,6 +52,19 @@ same_options trades others (node ∷ nodes) e =
 
 same_nodes : (trades others : List (List ℕ)) (nodes : List (Option ℕ)) → list_all is_none nodes ≡ true → nodes_data trades nodes ≡ nodes_data others nodes
 same_nodes trades others nodes e = ap (λ ds. array (items_of ds)) (same_options trades others nodes e)
+
+same_state : (trades others : List (List ℕ)) (state : State) → state_names_nothing state ≡ true → state_data trades state ≡ state_data others state
+same_state trades others state e =
+    let parts = both (are_none state.on) (is_empty state.prices) e in
+    λ j. object
+    (member (codes "on") (same_names trades others state.on parts.0 j)
+    (member (codes "prices") (same_contracts trades others state.prices parts.1 j) (member (codes "surplus") (integer_data state.surplus) no_members)))
+
+same_states : (trades others : List (List ℕ)) (states : List State) → list_all state_names_nothing states ≡ true → map (state_data trades) states ≡ map (state_data others) states
+same_states trades others [] e = refl
+same_states trades others (state ∷ states) e =
+    let parts = both (state_names_nothing state) (list_all state_names_nothing states) e in
+    λ j. same_state trades others state parts.0 j ∷ same_states trades others states parts.1 j
 
 same_step : (trades others : List (List ℕ)) (step : PlaceStep) → names_no_trade_at step ≡ true → step_data trades step ≡ step_data others step
 same_step trades others (Word word) e = refl
@@ -65,29 +88,52 @@ same_fault trades others fault (Some shown) place e =
     (fault_members fault.kind (array (items_of (same_steps trades others fault.place place j)))
     (member (codes "x") (same_names trades others shown.x lists.0 j) (member (codes "y") (same_names trades others shown.y lists.1 j) no_members))))
 
-same_data : (said : Said) (names others : NameLists) → names_nothing said ≡ true → answer_data names said ≡ answer_data others said
-same_data Usage names others e = refl
-same_data ReadFault names others e = refl
-same_data NoMemory names others e = refl
-same_data (FaultIs fault) names others e =
+same_reason : (reason : Reason) (names others : NameLists) → reason_names_nothing reason ≡ true → reason_members names reason ≡ reason_members others reason
+same_reason (Surplus surplus) names others e = refl
+same_reason Holds names others e = refl
+same_reason (Arc index) names others e = refl
+same_reason (Cost cost) names others e = refl
+same_reason (Over over) names others e = refl
+same_reason Empty names others e = refl
+same_reason reason names others e = absurd (true≢false (sym e))
+
+same_layout : (said : Said) (names others : NameLists) → names_nothing said ≡ true → answer_layout names said ≡ answer_layout others said
+same_layout Usage names others e = refl
+same_layout ReadFault names others e = refl
+same_layout NoMemory names others e = refl
+same_layout (FaultIs fault) names others e =
     let parts = both (list_all names_no_trade_at fault.place) (names_no_trade_in fault.shown) e in
-    same_fault names.trades others.trades fault fault.shown parts.0 parts.1
-same_data (Equilibrium surplus) names others e = refl
-same_data (Better firm bundle gain) names others e = absurd (true≢false (sym e))
-same_data (Impossible firm) names others e = absurd (true≢false (sym e))
-same_data Accepted names others e = refl
-same_data (ExchangeFails firm x y at) names others e = absurd (true≢false (sym e))
-same_data (Supported prices) names others e = ap (λ d. answer (codes "prices") (member (codes "prices") d no_members)) (same_prices names.trades others.trades prices e)
-same_data (Cycle nodes cost) names others e = ap (λ d. answer (codes "cycle") (member (codes "cost") (integer_data cost) (member (codes "nodes") d no_members))) (same_nodes names.trades others.trades nodes e)
-same_data (Solved on prices surplus) names others e =
+    ap json (same_fault names.trades others.trades fault fault.shown parts.0 parts.1)
+same_layout (Equilibrium surplus) names others e = refl
+same_layout (Better firm bundle gain) names others e = absurd (true≢false (sym e))
+same_layout (Impossible firm) names others e = absurd (true≢false (sym e))
+same_layout Accepted names others e = refl
+same_layout (ExchangeFails firm x y at) names others e = absurd (true≢false (sym e))
+same_layout (Supported prices) names others e = ap (λ d. json (answer (codes "prices") (member (codes "prices") d no_members))) (same_prices names.trades others.trades prices e)
+same_layout (Cycle nodes cost) names others e = ap (λ d. json (answer (codes "cycle") (member (codes "cost") (integer_data cost) (member (codes "nodes") d no_members)))) (same_nodes names.trades others.trades nodes e)
+same_layout (Solved on prices surplus) names others e =
     let parts = both (are_none on) (is_empty prices) e in
-    λ j. answer (codes "solved")
+    λ j. json (answer (codes "solved")
     (member (codes "on") (same_names names.trades others.trades on parts.0 j)
-    (member (codes "prices") (same_prices names.trades others.trades prices parts.1 j) (member (codes "surplus") (integer_data surplus) no_members)))
+    (member (codes "prices") (same_prices names.trades others.trades prices parts.1 j) (member (codes "surplus") (integer_data surplus) no_members))))
+same_layout (Rows on [] surplus) names others e = refl
+same_layout (Rows on (price ∷ prices) surplus) names others e = absurd (true≢false (sym e))
+same_layout (Drill size start firms surplus) names others e = refl
+same_layout (Ranges on []) names others e =
+    let parts = both (are_none on) true e in
+    ap (λ d. json (answer (codes "ranges") (member (codes "on") d (member (codes "ranges") (array (items_of [])) no_members)))) (same_names names.trades others.trades on parts.0)
+same_layout (Ranges on (range ∷ ranges)) names others e = absurd (true≢false (sym (both (are_none on) false e).1))
+same_layout (Session edits) names others e = ap (λ ds. json (answer (codes "session") (member (codes "edits") (array (items_of ds)) no_members))) (same_states names.trades others.trades edits e)
+same_layout (Drops firm keeps gain over) names others e = absurd (true≢false (sym e))
+same_layout (Completes prices over) names others e = ap (λ d. json (answer (codes "completes") (member (codes "over") (integer_data over) (member (codes "prices") d no_members)))) (same_prices names.trades others.trades prices e)
+same_layout (Blocks contracts over) names others e = ap (λ d. json (answer (codes "blocks") (member (codes "contracts") d (member (codes "over") (integer_data over) no_members)))) (same_contracts names.trades others.trades contracts e)
+same_layout Valid names others e = refl
+same_layout (Invalid reason) names others e = ap (λ ms. json (answer (codes "invalid") ms)) (same_reason reason names others e)
+same_layout (Cases count failed) names others e = refl
 
 pub same_line : (said : Said) (names others : NameLists) → names_nothing said ≡ true → answer_line names said ≡ answer_line others said
 unfolding answer_line
-same_line said names others e = ap (λ d. compact_text d ++ 10 ∷ []) (same_data said names others e)
+same_line said names others e = ap layout_text (same_layout said names others e)
 
 -- ---- within the limits of claims
 
@@ -99,6 +145,43 @@ prices_fit prices within k d below = fits (get_or prices k d) (within k d below)
   where
     fits : (z : ℤ) → IsWithinPrices z → FitsSigned w64 z
     fits z small = omega (arith, ints, small.low, small.high)
+
+bound_fits : (bound : Option ℤ) → IfSome bound IsWithinPrices → IfSome bound (FitsSigned w64)
+bound_fits None h = tt
+bound_fits (Some price) h = omega (arith, ints, h.low, h.high)
+
+gain_fits : (gain : Option ℤ) → IfSome gain IsWithinClaim → IfSome gain (FitsSigned w64)
+gain_fits None h = tt
+gain_fits (Some z) h = fits_from_within z h
+
+range_fits : (range : Range) → HasWithinBounds range → HasShortBounds range
+range_fits range within = record { high = bound_fits range.high within.high; low = bound_fits range.low within.low }
+
+state_fits : (state : State) → IsWithinState state → IsShortState state
+state_fits state within = record {
+  prices = λ k d below. fits (get_or state.prices k d).price (within.prices k d below);
+  surplus = fits_from_within state.surplus within.surplus;
+}
+  where
+    fits : (z : ℤ) → IsWithinPrices z → FitsSigned w64 z
+    fits z small = omega (arith, ints, small.low, small.high)
+
+reason_fits : (reason : Reason) → IsReasonWithin reason → IsShortReason reason
+reason_fits (Surplus surplus) within = fits_from_within surplus within
+reason_fits (Gain firm gain) within = gain_fits gain within
+reason_fits (Arc index) within = omega (arith, within)
+reason_fits (Cost cost) within = fits_from_within cost within
+reason_fits (Over over) within = fits_from_within over within
+reason_fits (ImpossibleIs firm) within = tt
+reason_fits (BetterIs firm bundle) within = tt
+reason_fits (Possible firm) within = tt
+reason_fits (Exchange firm x y at) within = tt
+reason_fits Holds within = tt
+reason_fits (ContractIs trade) within = tt
+reason_fits (Price trade) within = tt
+reason_fits Empty within = tt
+reason_fits (Signed trade) within = tt
+reason_fits (Choice firm trade) within = tt
 
 pub within_sayable : (said : Said) → IsWithinClaims said → IsSayable said
 within_sayable Usage within = tt
@@ -113,3 +196,16 @@ within_sayable (ExchangeFails firm x y at) within = tt
 within_sayable (Supported prices) within = prices_fit prices within
 within_sayable (Cycle nodes cost) within = fits_from_within cost within
 within_sayable (Solved on prices surplus) within = (prices_fit prices within.0, fits_from_within surplus within.1)
+within_sayable (Rows on prices surplus) within = (prices_fit prices within.0, fits_from_within surplus within.1)
+within_sayable (Drill size start firms surplus) within = (omega (arith, within.0), omega (arith, within.1), omega (arith, within.2), fits_from_within surplus within.3)
+within_sayable (Ranges on ranges) within = λ k d below. range_fits (get_or ranges k d) (within k d below)
+within_sayable (Session edits) within = λ k d below. state_fits (get_or edits k d) (within k d below)
+within_sayable (Drops firm keeps gain over) within = (gain_fits gain within.0, fits_from_within over within.1)
+within_sayable (Completes prices over) within = ((λ k d below. fits_from_within (get_or prices k d) (within.0 k d below)), fits_from_within over within.1)
+within_sayable Valid within = tt
+within_sayable (Invalid reason) within = reason_fits reason within
+within_sayable (Cases count failed) within = (omega (arith, within.0), λ k d below. wide (get_or failed k d) (within.1 k d below))
+  where
+    wide : (n : ℕ) → n < 2 ^ 32 → n < 2 ^ 64
+    wide n small = omega (arith, small)
+within_sayable (Blocks contracts over) within = ((λ k d below. fits_from_within (get_or contracts k d).price (within.0 k d below)), fits_from_within over within.1)

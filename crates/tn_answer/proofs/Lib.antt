@@ -1,7 +1,9 @@
+pub mod FitLemmas
 pub mod FloatLemmas
 pub mod MapLemmas
 pub mod LawLemmas
 pub mod DataTexts
 pub mod PlainAnswers
+pub mod EachLemmas
+pub mod RowLemmas
 pub mod ApartLemmas
-pub mod PriceLemmas

@@ -1,8 +1,9 @@
 -- The data of an answer are plain: their texts have characters of names alone, and their numbers are short.
-use Rattle.std.proofs.Common.{◌≡◌, ℕ, suc, ℤ, pos, negsuc, ◌<◌, ◌^◌, true, List, [], ◌∷◌, map, slice_get, All, Option, None, Some, unwrap_or, FitsSigned, refl, arith}
+use Rattle.std.proofs.Common.{◌≡◌, ℕ, suc, ℤ, pos, negsuc, ◌<◌, ◌^◌, true, List, [], ◌∷◌, map, slice_get, All, IfSome, Option, None, Some, unwrap_or, FitsSigned, refl, arith, codes}
 use Rattle.std.specs.Int.{w64}
 use Rattle.std.proofs.lemmas.Bool.{and_parts}
 use Rattle.std.proofs.lemmas.List.Elements.{All-head, All-tail}
+use Rattle.serde_json.specs.Data.{number, unsigned}
 use Rattle.serde_json.specs.Find.{of_integer}
 use Rattle.serde_json.specs.View.{items_of}
 use Rattle.tn_base.specs.declared.fault.FaultKind.{FaultKind}
@@ -12,13 +13,22 @@ use Rattle.tn_market.specs.declared.place.PlaceStep.{PlaceStep}
 use Rattle.tn_market.specs.declared.place.PlaceStep.TheVariants.{Word as Member, Index, Trade}
 use Rattle.tn_market.specs.declared.place.Word.{Word}
 use Rattle.tn_market.specs.declared.place.Word.TheVariants.{Version}
+use Rattle.tn_market.specs.declared.reason.Reason.{Reason}
+use Rattle.tn_market.specs.declared.reason.Reason.TheVariants.{Impossible as ImpossibleIs, Better as BetterIs, Possible, Surplus, Gain, Exchange, Holds, Arc, Cost, Contract as ContractIs, Over, Price, Empty, Signed, Choice}
 use Rattle.tn_market.specs.declared.said.Fault.{Fault}
 use Rattle.tn_market.specs.declared.said.Shown.{Shown}
+use Rattle.tn_market.specs.declared.contract.Contract.{Contract}
+use Rattle.tn_market.specs.declared.range.Range.{Range}
+use Rattle.tn_market.specs.declared.session.State.{State}
 use Rattle.tn_market.specs.declared.said.Said.{Said}
-use Rattle.tn_market.specs.declared.said.Said.TheVariants.{Usage, ReadFault, NoMemory, Fault as FaultIs, Equilibrium, Better, Impossible, Accepted, ExchangeFails, Supported, Cycle, Solved}
+use Rattle.tn_market.specs.declared.said.Said.TheVariants.{Usage, ReadFault, NoMemory, Fault as FaultIs, Equilibrium, Better, Impossible, Accepted, ExchangeFails, Supported, Cycle, Solved, Rows, Drill, Ranges, Session, Drops, Completes, Blocks, Valid, Invalid, Cases}
 use Rattle.tn_names.specs.Names.{NameLists, IsNameList, is_name}
 use Rattle.tn_answer.specs.Words.{kind_name, word_text}
-use Rattle.tn_answer.specs.AnswerText.{name_data, option_data, prices_from, step_data, fault_data, answer_data}
+use Rattle.tn_answer.specs.Rows.{each_from}
+use Rattle.tn_answer.specs.ReasonText.{reason_members, IsShortReason}
+use Rattle.tn_answer.specs.Sayable.{HasShortBounds, IsShortState}
+use Rattle.tn_answer.specs.AnswerText.{contract_data, range_data, state_data, prices_from, step_data, fault_data, answer, answer_data}
+use Rattle.tn_answer.specs.Values.{bound_data, name_data, option_data}
 use Rattle.tn_names.specs.Named.{HasShortIndex}
 use Rattle.tn_answer.specs.Apart.{HasShortNumbers}
 use Rattle.tn_answer.proofs.DataTexts.{IsShort, HasNameBytes, IsPlain, ItemsArePlain}
@@ -66,6 +76,31 @@ module _ (names : List (List ℕ)) (kept : IsNameList names) where
   nodes_are_plain [] = tt
   nodes_are_plain (node ∷ nodes) = (option_is_plain node, nodes_are_plain nodes)
 
+  contracts_are_plain : (contracts : List Contract) → All (λ contract. FitsSigned w64 contract.price) contracts → ItemsArePlain (items_of (map (contract_data names) contracts))
+  contracts_are_plain [] h = tt
+  contracts_are_plain (contract ∷ contracts) h =
+      let short = λ (contract : Contract). FitsSigned w64 contract.price in
+      ((name_is_plain contract.trade, (integer_is_short contract.price (All-head short contract contracts h), tt)), contracts_are_plain contracts (All-tail short contract contracts h))
+
+  bound_is_plain : (bound : Option ℤ) → IfSome bound (FitsSigned w64) → IsPlain (bound_data bound)
+  bound_is_plain None h = tt
+  bound_is_plain (Some price) h = integer_is_short price h
+
+  range_is_plain : (k : ℕ) (range : Range) → HasShortBounds range → IsPlain (range_data names k range)
+  range_is_plain k range h =
+      (refl, bound_is_plain range.high h.high, (refl, nodes_are_plain range.high_path, (refl, bound_is_plain range.low h.low, (refl, nodes_are_plain range.low_path, (refl, name_is_plain k, tt)))))
+
+  ranges_are_plain : (k : ℕ) (ranges : List Range) → All HasShortBounds ranges → ItemsArePlain (items_of (each_from (range_data names) k ranges))
+  ranges_are_plain k [] h = tt
+  ranges_are_plain k (range ∷ ranges) h = (range_is_plain k range (All-head HasShortBounds range ranges h), ranges_are_plain (suc k) ranges (All-tail HasShortBounds range ranges h))
+
+  state_is_plain : (state : State) → IsShortState state → IsPlain (state_data names state)
+  state_is_plain state h = (refl, names_are_plain state.on, (refl, contracts_are_plain state.prices h.prices, (refl, integer_is_short state.surplus h.surplus, tt)))
+
+  states_are_plain : (states : List State) → All IsShortState states → ItemsArePlain (items_of (map (state_data names) states))
+  states_are_plain [] h = tt
+  states_are_plain (state ∷ states) h = (state_is_plain state (All-head IsShortState state states h), states_are_plain states (All-tail IsShortState state states h))
+
   step_is_plain : (step : PlaceStep) → HasShortIndex step → IsPlain (step_data names step)
   step_is_plain (Member word) h = word_text_is_plain word
   step_is_plain (Index k) h = h
@@ -96,6 +131,32 @@ module _ (names : List (List ℕ)) (kept : IsNameList names) where
     ),
   )
 
+module _ (names : NameLists) (firms : IsNameList names.firms) (trades : IsNameList names.trades) where
+  firm_is_plain : (firm : ℕ) → IsPlain (name_data names.firms firm)
+  firm_is_plain = name_is_plain names.firms firms
+
+  reason_is_plain : (reason : Reason) → IsShortReason reason → IsPlain (answer (codes "invalid") (reason_members names reason))
+  reason_is_plain (ImpossibleIs firm) h = (refl, refl, (refl, firm_is_plain firm, (refl, refl, tt)))
+  reason_is_plain (BetterIs firm bundle) h = (refl, refl, (refl, names_are_plain names.trades trades bundle, (refl, firm_is_plain firm, (refl, refl, tt))))
+  reason_is_plain (Possible firm) h = (refl, refl, (refl, firm_is_plain firm, (refl, refl, tt)))
+  reason_is_plain (Surplus surplus) h = (refl, refl, (refl, refl, (refl, integer_is_short surplus h, tt)))
+  reason_is_plain (Gain firm gain) h = (refl, refl, (refl, firm_is_plain firm, (refl, bound_is_plain names.trades trades gain h, (refl, refl, tt))))
+  reason_is_plain (Exchange firm x y at) h =
+      (refl, refl, (refl, option_is_plain names.trades trades at, (refl, firm_is_plain firm, (refl, refl, (refl, names_are_plain names.trades trades x, (refl, names_are_plain names.trades trades y, tt))))))
+  reason_is_plain Holds h = (refl, refl, (refl, refl, tt))
+  reason_is_plain (Arc index) h = (refl, refl, (refl, h, (refl, refl, tt)))
+  reason_is_plain (Cost cost) h = (refl, refl, (refl, integer_is_short cost h, (refl, refl, tt)))
+  reason_is_plain (ContractIs trade) h = (refl, refl, (refl, refl, (refl, name_is_plain names.trades trades trade, tt)))
+  reason_is_plain (Over over) h = (refl, refl, (refl, integer_is_short over h, (refl, refl, tt)))
+  reason_is_plain (Price trade) h = (refl, refl, (refl, refl, (refl, name_is_plain names.trades trades trade, tt)))
+  reason_is_plain Empty h = (refl, refl, (refl, refl, tt))
+  reason_is_plain (Signed trade) h = (refl, refl, (refl, refl, (refl, name_is_plain names.trades trades trade, tt)))
+  reason_is_plain (Choice firm trade) h = (refl, refl, (refl, firm_is_plain firm, (refl, refl, (refl, name_is_plain names.trades trades trade, tt))))
+
+numbers_are_plain : (numbers : List ℕ) → All (λ n. n < 2 ^ 64) numbers → ItemsArePlain (items_of (map (λ n. number (unsigned n)) numbers))
+numbers_are_plain [] h = tt
+numbers_are_plain (n ∷ numbers) h = (All-head (λ n. n < 2 ^ 64) n numbers h, numbers_are_plain numbers (All-tail (λ n. n < 2 ^ 64) n numbers h))
+
 pub answer_is_plain : (names : NameLists) → IsNameList names.firms → IsNameList names.trades → (said : Said) → HasShortNumbers said → IsPlain (answer_data names said)
 answer_is_plain names firms trades Usage h = (refl, refl, tt)
 answer_is_plain names firms trades ReadFault h = (refl, refl, tt)
@@ -112,3 +173,15 @@ answer_is_plain names firms trades (Supported prices) h = (refl, refl, (refl, pr
 answer_is_plain names firms trades (Cycle nodes cost) h = (refl, refl, (refl, integer_is_short cost h, (refl, nodes_are_plain names.trades trades nodes, tt)))
 answer_is_plain names firms trades (Solved on prices surplus) h =
     (refl, refl, (refl, names_are_plain names.trades trades on, (refl, prices_are_plain names.trades trades 0 prices h.0, (refl, integer_is_short surplus h.1, tt))))
+answer_is_plain names firms trades (Rows on prices surplus) h = tt
+answer_is_plain names firms trades (Drill size start count surplus) h =
+    (refl, refl, (refl, h.2, (refl, h.0, (refl, h.1, (refl, integer_is_short surplus h.3, tt)))))
+answer_is_plain names firms trades (Ranges on ranges) h = (refl, refl, (refl, names_are_plain names.trades trades on, (refl, ranges_are_plain names.trades trades 0 ranges h, tt)))
+answer_is_plain names firms trades (Session edits) h = (refl, refl, (refl, states_are_plain names.trades trades edits h, tt))
+answer_is_plain names firms trades (Drops firm keeps gain over) h =
+    (refl, refl, (refl, name_is_plain names.firms firms firm, (refl, bound_is_plain names.trades trades gain h.0, (refl, names_are_plain names.trades trades keeps, (refl, integer_is_short over h.1, tt)))))
+answer_is_plain names firms trades (Completes prices over) h = (refl, refl, (refl, integer_is_short over h.1, (refl, prices_are_plain names.trades trades 0 prices h.0, tt)))
+answer_is_plain names firms trades Valid h = (refl, refl, tt)
+answer_is_plain names firms trades (Invalid reason) h = reason_is_plain names firms trades reason h
+answer_is_plain names firms trades (Cases count failed) h = (refl, refl, (refl, h.0, (refl, numbers_are_plain failed h.1, tt)))
+answer_is_plain names firms trades (Blocks contracts over) h = (refl, refl, (refl, contracts_are_plain names.trades trades contracts h.0, (refl, integer_is_short over h.1, tt)))

@@ -1,49 +1,59 @@
--- What is written for an answer: compact JSON, the members of an object in byte order, and one line end.
-use Rattle.std.specs.Prelude.{ℕ, suc, ℤ, List, [], ◌∷◌, ◌++◌, map, slice_get, Option, None, Some, unwrap_or, codes}
+-- What is written for an answer: compact JSON, the members of an object in byte order, and one line end; or rows.
+use Rattle.std.specs.Prelude.{ℕ, ℤ, List, [], ◌∷◌, ◌++◌, map, Option, None, Some, codes}
 use Rattle.serde_json.specs.Data.{Data, null, number, string, array, object, unsigned, no_items, item, Members, no_members, member}
-use Rattle.serde_json.specs.Find.{of_integer}
 use Rattle.serde_json.specs.View.{items_of}
 use Rattle.serde_json.specs.Written.{compact_text}
 use Rattle.tn_base.specs.declared.fault.FaultKind.{FaultKind}
 use Rattle.tn_base.specs.Faults.{fault_number}
 use Rattle.tn_market.specs.declared.place.PlaceStep.{PlaceStep}
 use Rattle.tn_market.specs.declared.place.PlaceStep.TheVariants.{Word, Index, Trade}
+use Rattle.tn_market.specs.declared.contract.Contract.{Contract}
+use Rattle.tn_market.specs.declared.range.Range.{Range}
+use Rattle.tn_market.specs.declared.session.State.{State}
 use Rattle.tn_market.specs.declared.said.Fault.{Fault}
 use Rattle.tn_market.specs.declared.said.Shown.{Shown}
 use Rattle.tn_market.specs.declared.said.Said.{Said}
-use Rattle.tn_market.specs.declared.said.Said.TheVariants.{Usage, ReadFault, NoMemory, Fault as FaultIs, Equilibrium, Better, Impossible, Accepted, ExchangeFails, Supported, Cycle, Solved}
+use Rattle.tn_market.specs.declared.said.Said.TheVariants.{Usage, ReadFault, NoMemory, Fault as FaultIs, Equilibrium, Better, Impossible, Accepted, ExchangeFails, Supported, Cycle, Solved, Rows, Drill, Ranges, Session, Drops, Completes, Blocks, Valid, Invalid, Cases}
 use Rattle.tn_names.specs.Names.{NameLists}
+use Rattle.tn_answer.specs.ReasonText.{reason_members}
+use Rattle.tn_answer.specs.Rows.{each_from, rows_text, table_of}
+use Rattle.tn_answer.specs.Values.{name_data, names_data, option_data, integer_data, bound_data, numbers_data}
 use Rattle.tn_answer.specs.Words.{kind_name, word_text}
-
--- the name with a number, and those with several
-abbrev pub name_data : List (List ℕ) → ℕ → Data
-name_data names k = string (unwrap_or (slice_get names k) [])
-
-abbrev pub names_data : List (List ℕ) → List ℕ → Data
-names_data names ks = array (items_of (map (name_data names) ks))
-
--- the name with a number, or null
-abbrev pub option_data : List (List ℕ) → Option ℕ → Data
-option_data names None = null
-option_data names (Some k) = name_data names k
-
-abbrev pub integer_data : ℤ → Data
-integer_data z = number (of_integer z)
 
 -- a price beside the name of its trade, and those of all trades from k on
 abbrev pub price_data : List (List ℕ) → ℕ → ℤ → Data
 price_data names k price = array (item (name_data names k) (item (integer_data price) no_items))
 
 abbrev pub prices_from : List (List ℕ) → ℕ → List ℤ → List Data
-prices_from names k [] = []
-prices_from names k (price ∷ prices) = price_data names k price ∷ prices_from names (suc k) prices
+prices_from names k prices = each_from (price_data names) k prices
 
 abbrev pub prices_data : List (List ℕ) → List ℤ → Data
 prices_data names prices = array (items_of (prices_from names 0 prices))
 
+-- contracts: each a price beside the name of its trade
+abbrev pub contract_data : List (List ℕ) → Contract → Data
+contract_data names contract = price_data names contract.trade contract.price
+
+abbrev pub contracts_data : List (List ℕ) → List Contract → Data
+contracts_data names contracts = array (items_of (map (contract_data names) contracts))
+
 -- nodes of an exchange graph: the names of trades, and null for the null node
 abbrev pub nodes_data : List (List ℕ) → List (Option ℕ) → Data
 nodes_data names nodes = array (items_of (map (option_data names) nodes))
+
+-- the prices that a trade may have, with its name, and those of all trades
+abbrev pub range_data : List (List ℕ) → ℕ → Range → Data
+range_data names k range = object (member (codes "high") (bound_data range.high) (member (codes "high_path") (nodes_data names range.high_path) (member (codes "low") (bound_data range.low) (member (codes "low_path") (nodes_data names range.low_path) (member (codes "trade") (name_data names k) no_members)))))
+
+abbrev pub ranges_data : List (List ℕ) → List Range → Data
+ranges_data names ranges = array (items_of (each_from (range_data names) 0 ranges))
+
+-- an equilibrium of the admitted trades, and those after each of some changes
+abbrev pub state_data : List (List ℕ) → State → Data
+state_data names state = object (member (codes "on") (names_data names state.on) (member (codes "prices") (contracts_data names state.prices) (member (codes "surplus") (integer_data state.surplus) no_members)))
+
+abbrev pub states_data : List (List ℕ) → List State → Data
+states_data names states = array (items_of (map (state_data names) states))
 
 abbrev pub step_data : List (List ℕ) → PlaceStep → Data
 step_data trades (Word word) = string (word_text word)
@@ -66,21 +76,49 @@ abbrev pub fault_data : List (List ℕ) → Fault → Option Shown → Data
 fault_data trades fault None = answer (codes "fault") (fault_members fault.kind (place_data trades fault.place) no_members)
 fault_data trades fault (Some shown) = answer (codes "fault") (member (codes "at") (option_data trades shown.at) (fault_members fault.kind (place_data trades fault.place) (member (codes "x") (names_data trades shown.x) (member (codes "y") (names_data trades shown.y) no_members))))
 
--- an answer as JSON
+-- how an answer is laid out: as one JSON value, or as rows of fields
+pub data Layout : Type 0 where
+  json : Data → Layout
+  rows : List (List (List ℕ)) → Layout
+
+-- the layout of an answer
+abbrev pub answer_layout : NameLists → Said → Layout
+answer_layout names Usage = json (answer (codes "usage") no_members)
+answer_layout names ReadFault = json (answer (codes "read_fault") no_members)
+answer_layout names NoMemory = json (answer (codes "no_memory") no_members)
+answer_layout names (FaultIs fault) = json (fault_data names.trades fault fault.shown)
+answer_layout names (Equilibrium surplus) = json (answer (codes "equilibrium") (member (codes "surplus") (integer_data surplus) no_members))
+answer_layout names (Better firm bundle gain) = json (answer (codes "better") (member (codes "bundle") (names_data names.trades bundle) (member (codes "firm") (name_data names.firms firm) (member (codes "gain") (integer_data gain) no_members))))
+answer_layout names (Impossible firm) = json (answer (codes "impossible") (member (codes "firm") (name_data names.firms firm) no_members))
+answer_layout names Accepted = json (answer (codes "accepted") no_members)
+answer_layout names (ExchangeFails firm x y at) = json (answer (codes "exchange_fails") (member (codes "at") (option_data names.trades at) (member (codes "firm") (name_data names.firms firm) (member (codes "x") (names_data names.trades x) (member (codes "y") (names_data names.trades y) no_members)))))
+answer_layout names (Supported prices) = json (answer (codes "prices") (member (codes "prices") (prices_data names.trades prices) no_members))
+answer_layout names (Cycle nodes cost) = json (answer (codes "cycle") (member (codes "cost") (integer_data cost) (member (codes "nodes") (nodes_data names.trades nodes) no_members)))
+answer_layout names (Solved on prices surplus) = json (answer (codes "solved") (member (codes "on") (names_data names.trades on) (member (codes "prices") (prices_data names.trades prices) (member (codes "surplus") (integer_data surplus) no_members))))
+answer_layout names (Rows on prices surplus) = rows (table_of names.trades on prices)
+answer_layout names (Drill size start firms surplus) = json (answer (codes "drill") (member (codes "firms") (number (unsigned firms)) (member (codes "size") (number (unsigned size)) (member (codes "start") (number (unsigned start)) (member (codes "surplus") (integer_data surplus) no_members)))))
+answer_layout names (Ranges on ranges) = json (answer (codes "ranges") (member (codes "on") (names_data names.trades on) (member (codes "ranges") (ranges_data names.trades ranges) no_members)))
+answer_layout names (Session edits) = json (answer (codes "session") (member (codes "edits") (states_data names.trades edits) no_members))
+answer_layout names (Drops firm keeps gain over) = json (answer (codes "drops") (member (codes "firm") (name_data names.firms firm) (member (codes "gain") (bound_data gain) (member (codes "keeps") (names_data names.trades keeps) (member (codes "over") (integer_data over) no_members)))))
+answer_layout names (Completes prices over) = json (answer (codes "completes") (member (codes "over") (integer_data over) (member (codes "prices") (prices_data names.trades prices) no_members)))
+answer_layout names (Blocks contracts over) = json (answer (codes "blocks") (member (codes "contracts") (contracts_data names.trades contracts) (member (codes "over") (integer_data over) no_members)))
+answer_layout names Valid = json (answer (codes "valid") no_members)
+answer_layout names (Invalid reason) = json (answer (codes "invalid") (reason_members names reason))
+answer_layout names (Cases count failed) = json (answer (codes "cases") (member (codes "count") (number (unsigned count)) (member (codes "failed") (numbers_data failed) no_members)))
+
+-- the JSON value of a layout, null where it is rows
+abbrev pub data_in : Layout → Data
+data_in (json value) = value
+data_in (rows fields) = null
+
 abbrev pub answer_data : NameLists → Said → Data
-answer_data names Usage = answer (codes "usage") no_members
-answer_data names ReadFault = answer (codes "read_fault") no_members
-answer_data names NoMemory = answer (codes "no_memory") no_members
-answer_data names (FaultIs fault) = fault_data names.trades fault fault.shown
-answer_data names (Equilibrium surplus) = answer (codes "equilibrium") (member (codes "surplus") (integer_data surplus) no_members)
-answer_data names (Better firm bundle gain) = answer (codes "better") (member (codes "bundle") (names_data names.trades bundle) (member (codes "firm") (name_data names.firms firm) (member (codes "gain") (integer_data gain) no_members)))
-answer_data names (Impossible firm) = answer (codes "impossible") (member (codes "firm") (name_data names.firms firm) no_members)
-answer_data names Accepted = answer (codes "accepted") no_members
-answer_data names (ExchangeFails firm x y at) = answer (codes "exchange_fails") (member (codes "at") (option_data names.trades at) (member (codes "firm") (name_data names.firms firm) (member (codes "x") (names_data names.trades x) (member (codes "y") (names_data names.trades y) no_members))))
-answer_data names (Supported prices) = answer (codes "prices") (member (codes "prices") (prices_data names.trades prices) no_members)
-answer_data names (Cycle nodes cost) = answer (codes "cycle") (member (codes "cost") (integer_data cost) (member (codes "nodes") (nodes_data names.trades nodes) no_members))
-answer_data names (Solved on prices surplus) = answer (codes "solved") (member (codes "on") (names_data names.trades on) (member (codes "prices") (prices_data names.trades prices) (member (codes "surplus") (integer_data surplus) no_members)))
+answer_data names said = data_in (answer_layout names said)
+
+-- a layout as text: a JSON value is one compact line
+abbrev pub layout_text : Layout → List ℕ
+layout_text (json value) = compact_text value ++ 10 ∷ []
+layout_text (rows fields) = rows_text fields
 
 -- an answer as text
 unfoldable pub answer_line : NameLists → Said → List ℕ
-answer_line names said = compact_text (answer_data names said) ++ 10 ∷ []
+answer_line names said = layout_text (answer_layout names said)

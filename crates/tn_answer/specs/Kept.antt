@@ -1,18 +1,30 @@
 -- What the program's answers keep to: how large their numbers are, and how their lists of trades are ordered.
-use Rattle.std.specs.Prelude.{◌^◌, ℤ, All, IfSome}
+use Rattle.std.specs.Prelude.{◌<◌, ◌^◌, ℤ, map, All, IfSome}
 use Rattle.std.specs.List.Sorted.{IsStrictlyIncreasing}
 use Rattle.tn_base.specs.Arcs.{IsAtMost}
+use Rattle.tn_market.specs.declared.range.Range.{Range}
+use Rattle.tn_market.specs.declared.session.State.{State}
 use Rattle.tn_market.specs.declared.said.Said.{Said}
-use Rattle.tn_market.specs.declared.said.Said.TheVariants.{Usage, ReadFault, NoMemory, Fault as FaultIs, Equilibrium, Better, Impossible, Accepted, ExchangeFails, Supported, Cycle, Solved}
+use Rattle.tn_market.specs.declared.said.Said.TheVariants.{Usage, ReadFault, NoMemory, Fault as FaultIs, Equilibrium, Better, Impossible, Accepted, ExchangeFails, Supported, Cycle, Solved, Rows, Drill, Ranges, Session, Drops, Completes, Blocks, Valid, Invalid, Cases}
 use Rattle.tn_names.specs.Named.{IsAscendingTriple}
+use Rattle.tn_answer.specs.ReasonText.{IsReasonWithin, HasAscendingBundles}
 
 -- no number of a claim is above this size
 abbrev pub IsWithinClaim : ℤ → Type 0
 IsWithinClaim z = IsAtMost z (10 ^ 18)
 
--- no price that is answered is above this size
+-- no price that `support`, `solve`, `range` and `session` answer is above this size
 abbrev pub IsWithinPrices : ℤ → Type 0
 IsWithinPrices z = IsAtMost z (10 ^ 14)
+
+-- the prices of a range, and the numbers of a state, are within the limits
+pub record HasWithinBounds (range : Range) : Type 0 where
+  pub high : IfSome range.high IsWithinPrices
+  pub low : IfSome range.low IsWithinPrices
+
+pub record IsWithinState (state : State) : Type 0 where
+  pub prices : All (λ contract. IsWithinPrices contract.price) state.prices
+  pub surplus : IsWithinClaim state.surplus
 
 -- the numbers of an answer are within the limits of claims
 abbrev pub IsWithinClaims : Said → Type 0
@@ -28,6 +40,21 @@ IsWithinClaims (ExchangeFails firm x y at) = Unit {0}
 IsWithinClaims (Supported prices) = All IsWithinPrices prices
 IsWithinClaims (Cycle nodes cost) = IsWithinClaim cost
 IsWithinClaims (Solved on prices surplus) = All IsWithinPrices prices × IsWithinClaim surplus
+IsWithinClaims (Rows on prices surplus) = All IsWithinPrices prices × IsWithinClaim surplus
+IsWithinClaims (Drill size start firms surplus) = (size < 2 ^ 32) × (start < 2 ^ 32) × (firms < 2 ^ 32) × IsWithinClaim surplus
+IsWithinClaims (Ranges on ranges) = All HasWithinBounds ranges
+IsWithinClaims (Session edits) = All IsWithinState edits
+IsWithinClaims (Drops firm keeps gain over) = IfSome gain IsWithinClaim × IsWithinClaim over
+IsWithinClaims (Completes prices over) = All IsWithinClaim prices × IsWithinClaim over
+IsWithinClaims (Blocks contracts over) = All (λ contract. IsWithinClaim contract.price) contracts × IsWithinClaim over
+IsWithinClaims Valid = Unit {0}
+IsWithinClaims (Invalid reason) = IsReasonWithin reason
+IsWithinClaims (Cases count failed) = (count < 2 ^ 32) × All (λ n. n < 2 ^ 32) failed
+
+-- the trades of a state that are on, and those that have a price, ascend strictly
+pub record IsAscendingState (state : State) : Type 0 where
+  pub on : IsStrictlyIncreasing state.on
+  pub prices : IsStrictlyIncreasing (map (λ contract. contract.trade) state.prices)
 
 -- each list of trades in an answer ascends strictly
 abbrev pub HasAscendingTrades : Said → Type 0
@@ -43,3 +70,13 @@ HasAscendingTrades (ExchangeFails firm x y at) = IsAscendingTriple (record { x =
 HasAscendingTrades (Supported prices) = Unit {0}
 HasAscendingTrades (Cycle nodes cost) = Unit {0}
 HasAscendingTrades (Solved on prices surplus) = IsStrictlyIncreasing on
+HasAscendingTrades (Rows on prices surplus) = IsStrictlyIncreasing on
+HasAscendingTrades (Drill size start firms surplus) = Unit {0}
+HasAscendingTrades (Ranges on ranges) = IsStrictlyIncreasing on
+HasAscendingTrades (Session edits) = All IsAscendingState edits
+HasAscendingTrades (Drops firm keeps gain over) = IsStrictlyIncreasing keeps
+HasAscendingTrades (Completes prices over) = Unit {0}
+HasAscendingTrades (Blocks contracts over) = Unit {0}
+HasAscendingTrades Valid = Unit {0}
+HasAscendingTrades (Invalid reason) = HasAscendingBundles reason
+HasAscendingTrades (Cases count failed) = IsStrictlyIncreasing failed

@@ -1,12 +1,14 @@
 -- What holds of every answer's text.
-use Rattle.std.specs.Prelude.{◌≡◌, ℕ, ℤ, Bool, true, false, ◌&&◌, List, [], ◌∷◌, Option, None, Some, is_none}
+use Rattle.std.specs.Prelude.{◌≡◌, ℕ, Bool, true, false, ◌&&◌, List, [], ◌∷◌, Option, None, Some, is_none}
 use Rattle.std.specs.List.{list_all}
 use Rattle.tn_market.specs.declared.place.PlaceStep.{PlaceStep}
 use Rattle.tn_market.specs.declared.place.PlaceStep.TheVariants.{Word, Index, Trade}
 use Rattle.tn_market.specs.declared.said.Shown.{Shown}
+use Rattle.tn_market.specs.declared.session.State.{State}
 use Rattle.tn_market.specs.declared.said.Said.{Said}
-use Rattle.tn_market.specs.declared.said.Said.TheVariants.{Usage, ReadFault, NoMemory, Fault as FaultIs, Equilibrium, Better, Impossible, Accepted, ExchangeFails, Supported, Cycle, Solved}
+use Rattle.tn_market.specs.declared.said.Said.TheVariants.{Usage, ReadFault, NoMemory, Fault as FaultIs, Equilibrium, Better, Impossible, Accepted, ExchangeFails, Supported, Cycle, Solved, Rows, Drill, Ranges, Session, Drops, Completes, Blocks, Valid, Invalid, Cases}
 use Rattle.tn_names.specs.Names.{NameLists}
+use Rattle.tn_answer.specs.ReasonText.{reason_names_nothing}
 use Rattle.tn_answer.specs.Sayable.{IsSayable}
 use Rattle.tn_answer.specs.Kept.{IsWithinClaims}
 use Rattle.tn_answer.specs.AnswerText.{answer_line}
@@ -20,9 +22,12 @@ abbrev pub are_none : List ℕ → Bool
 are_none [] = true
 are_none (k ∷ ks) = false
 
-abbrev pub is_empty : List ℤ → Bool
+abbrev pub is_empty : {A : Type 0} → List A → Bool
 is_empty [] = true
-is_empty (z ∷ zs) = false
+is_empty (x ∷ xs) = false
+
+abbrev pub state_names_nothing : State → Bool
+state_names_nothing state = are_none state.on && is_empty state.prices
 
 abbrev pub names_no_trade_in : Option Shown → Bool
 names_no_trade_in None = true
@@ -42,6 +47,16 @@ names_nothing (ExchangeFails firm x y at) = false
 names_nothing (Supported prices) = is_empty prices
 names_nothing (Cycle nodes cost) = list_all is_none nodes
 names_nothing (Solved on prices surplus) = are_none on && is_empty prices
+names_nothing (Rows on prices surplus) = is_empty prices
+names_nothing (Drill size start firms surplus) = true
+names_nothing (Ranges on ranges) = are_none on && is_empty ranges
+names_nothing (Session edits) = list_all state_names_nothing edits
+names_nothing (Drops firm keeps gain over) = false
+names_nothing (Completes prices over) = is_empty prices
+names_nothing (Blocks contracts over) = is_empty contracts
+names_nothing Valid = true
+names_nothing (Invalid reason) = reason_names_nothing reason
+names_nothing (Cases count failed) = true
 
 -- the text of such an answer is the same over any names
 abbrev pub NeedsNoNames : Type 0

@@ -1,6 +1,9 @@
 pub mod Words
+pub mod Values
+pub mod ReasonText
 pub mod Sayable
 pub mod Kept
+pub mod Rows
 pub mod AnswerText
 pub mod Laws
 pub mod Apart

@@ -1,8 +1,20 @@
 -- Which answers can be written: their numbers fit 64 bits.
-use Rattle.std.specs.Prelude.{All, FitsSigned}
+use Rattle.std.specs.Prelude.{◌<◌, ◌^◌, All, IfSome, FitsSigned}
 use Rattle.std.specs.Int.{w64}
+use Rattle.tn_market.specs.declared.range.Range.{Range}
+use Rattle.tn_market.specs.declared.session.State.{State}
 use Rattle.tn_market.specs.declared.said.Said.{Said}
-use Rattle.tn_market.specs.declared.said.Said.TheVariants.{Usage, ReadFault, NoMemory, Fault as FaultIs, Equilibrium, Better, Impossible, Accepted, ExchangeFails, Supported, Cycle, Solved}
+use Rattle.tn_market.specs.declared.said.Said.TheVariants.{Usage, ReadFault, NoMemory, Fault as FaultIs, Equilibrium, Better, Impossible, Accepted, ExchangeFails, Supported, Cycle, Solved, Rows, Drill, Ranges, Session, Drops, Completes, Blocks, Valid, Invalid, Cases}
+use Rattle.tn_answer.specs.ReasonText.{IsShortReason}
+
+-- the numbers of a range, and of a state, fit 64 bits
+pub record HasShortBounds (range : Range) : Type 0 where
+  pub high : IfSome range.high (FitsSigned w64)
+  pub low : IfSome range.low (FitsSigned w64)
+
+pub record IsShortState (state : State) : Type 0 where
+  pub prices : All (λ contract. FitsSigned w64 contract.price) state.prices
+  pub surplus : FitsSigned w64 state.surplus
 
 abbrev pub IsSayable : Said → Type 0
 IsSayable Usage = Unit {0}
@@ -17,3 +29,13 @@ IsSayable (ExchangeFails firm x y at) = Unit {0}
 IsSayable (Supported prices) = All (FitsSigned w64) prices
 IsSayable (Cycle nodes cost) = FitsSigned w64 cost
 IsSayable (Solved on prices surplus) = All (FitsSigned w64) prices × FitsSigned w64 surplus
+IsSayable (Rows on prices surplus) = All (FitsSigned w64) prices × FitsSigned w64 surplus
+IsSayable (Drill size start firms surplus) = (size < 2 ^ 64) × (start < 2 ^ 64) × (firms < 2 ^ 64) × FitsSigned w64 surplus
+IsSayable (Ranges on ranges) = All HasShortBounds ranges
+IsSayable (Session edits) = All IsShortState edits
+IsSayable (Drops firm keeps gain over) = IfSome gain (FitsSigned w64) × FitsSigned w64 over
+IsSayable (Completes prices over) = All (FitsSigned w64) prices × FitsSigned w64 over
+IsSayable (Blocks contracts over) = All (λ contract. FitsSigned w64 contract.price) contracts × FitsSigned w64 over
+IsSayable Valid = Unit {0}
+IsSayable (Invalid reason) = IsShortReason reason
+IsSayable (Cases count failed) = (count < 2 ^ 64) × All (λ n. n < 2 ^ 64) failed

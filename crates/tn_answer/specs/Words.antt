@@ -1,9 +1,9 @@
 -- The words of answers: the names of kinds of faults, and the names of a document's members.
 use Rattle.std.specs.Prelude.{ℕ, List, codes}
 use Rattle.tn_base.specs.declared.fault.FaultKind.{FaultKind}
-use Rattle.tn_base.specs.declared.fault.FaultKind.TheVariants.{NotJson, TooLong, Shape, BadName, SameName, UnknownFirm, SelfTrade, UnknownTrade, Limit, AmountRange, NotOwnTrade, SameBundle, NoEmpty, NotLaminar, NotConcave, ExchangeFails, SameTrade, PriceMissing, BadOver}
+use Rattle.tn_base.specs.declared.fault.FaultKind.TheVariants.{NotJson, TooLong, Shape, BadName, SameName, UnknownFirm, SelfTrade, UnknownTrade, Limit, AmountRange, NotOwnTrade, SameBundle, NoEmpty, NotLaminar, NotConcave, ExchangeFails, SameTrade, PriceMissing, BadOver, SamePair}
 use Rattle.tn_market.specs.declared.place.Word.{Word}
-use Rattle.tn_market.specs.declared.place.Word.TheVariants.{Version, Firms, Trades, Arrangement, Name, Seller, Buyer, Kind, Rows, Amounts, Sets, From, Values, Costs, Gains, Keep, On, Prices}
+use Rattle.tn_market.specs.declared.place.Word.TheVariants.{Version, Firms, Trades, Arrangement, Outcome, Claim, Edits, Name, Seller, Buyer, Kind, Rows, Amounts, Sets, From, Values, Costs, Gains, Keep, On, Prices, Over, Contracts, Answer, Surplus, Firm, Bundle, Gain, X, Y, At, Nodes, Cost, Keeps}
 
 -- the name of a kind of fault
 abbrev pub kind_name : FaultKind → List ℕ
@@ -26,6 +26,7 @@ kind_name ExchangeFails = codes "ExchangeFails"
 kind_name SameTrade = codes "SameTrade"
 kind_name PriceMissing = codes "PriceMissing"
 kind_name BadOver = codes "BadOver"
+kind_name SamePair = codes "SamePair"
 
 -- the name of a member of a document
 abbrev pub word_text : Word → List ℕ
@@ -33,6 +34,9 @@ word_text Version = codes "version"
 word_text Firms = codes "firms"
 word_text Trades = codes "trades"
 word_text Arrangement = codes "arrangement"
+word_text Outcome = codes "outcome"
+word_text Claim = codes "claim"
+word_text Edits = codes "edits"
 word_text Name = codes "name"
 word_text Seller = codes "seller"
 word_text Buyer = codes "buyer"
@@ -47,3 +51,16 @@ word_text Gains = codes "gains"
 word_text Keep = codes "keep"
 word_text On = codes "on"
 word_text Prices = codes "prices"
+word_text Over = codes "over"
+word_text Contracts = codes "contracts"
+word_text Answer = codes "answer"
+word_text Surplus = codes "surplus"
+word_text Firm = codes "firm"
+word_text Bundle = codes "bundle"
+word_text Gain = codes "gain"
+word_text X = codes "x"
+word_text Y = codes "y"
+word_text At = codes "at"
+word_text Nodes = codes "nodes"
+word_text Cost = codes "cost"
+word_text Keeps = codes "keeps"

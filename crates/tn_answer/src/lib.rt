@@ -2,6 +2,10 @@
 #![tactic(auto)]
 
 mod laws;
+mod ranges;
+mod reasons;
+mod rows;
+mod states;
 #[cfg(test)]
 mod tests;
 mod text;

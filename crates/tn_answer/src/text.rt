@@ -1,8 +1,10 @@
-ghost use Rattle.std.specs.Prelude.{◌≡◌, IfOk};
-ghost use Rattle.tn_answer.specs.AnswerText.{answer_line};
+ghost use Rattle.std.specs.Prelude.{◌≡◌, ◌++◌, ◌∷◌, [], IfOk};
+ghost use Rattle.serde_json.specs.Written.{compact_text};
+ghost use Rattle.tn_answer.specs.AnswerText.{answer_data, answer_line};
 ghost use Rattle.tn_names.specs.Names.{NameLists};
 ghost use Rattle.tn_answer.specs.Sayable.{IsSayable};
 
+use crate::rows::rows_text;
 use crate::values::answer_value;
 use std::alloc::Global;
 use tn_base::OutOfMemory;
@@ -10,10 +12,22 @@ use tn_market::Said;
 use tn_names::Names;
 
 /// The text of an answer over some names, with its line end. A firm or a trade without a name has an empty one.
-#[tactic(auto, using(crate::proofs::FloatLemmas::answer_has_no_float), unfolding(crate::specs::AnswerText::answer_line))]
+#[tactic(auto, unfolding(crate::specs::AnswerText::answer_line))]
 pub fn answer_text(alloc: Global, names: &Names, said: &Said) -> Result<Vec<u8>, OutOfMemory>
     requires { IsSayable said.now }
     ensures { IfOk result (λ text. text.items ≡ answer_line names.now said.now) }
+{
+    match said {
+        Said::Rows { on, prices, .. } => rows_text(alloc, names, on, prices),
+        said => line(alloc, names, said),
+    }
+}
+
+/// The line of an answer that is written as one JSON value.
+#[tactic(auto, using(crate::proofs::FloatLemmas::answer_has_no_float))]
+fn line(alloc: Global, names: &Names, said: &Said) -> Result<Vec<u8>, OutOfMemory>
+    requires { IsSayable said.now }
+    ensures { IfOk result (λ text. text.items ≡ compact_text (answer_data names.now said.now) ++ 10 ∷ []) }
 {
     let mut text = answer_value(alloc, names, said)?.to_vec(alloc)?;
     text.push(b'\n')?;

@@ -1,14 +1,21 @@
-// Answers as JSON values. An object has its members in byte order, whatever order they are put in.
-ghost use Rattle.std.specs.Prelude.{◌≡◌, [], All, unwrap_or, slice_get, IfOk, FitsSigned};
+// Answers as JSON values, null for one that is written as rows. An object has its members in byte order, whatever order
+// they are put in.
+ghost use Rattle.std.specs.Prelude.{◌≡◌, [], All, unwrap_or, slice_get, IfOk, IfSome, FitsSigned};
 ghost use Rattle.std.specs.Int.{w64};
 ghost use Rattle.serde_json.specs.View.{view};
-ghost use Rattle.tn_answer.specs.AnswerText.{answer_data, fault_data, name_data, names_data, nodes_data, option_data, place_data, price_data, prices_data, step_data};
-ghost use Rattle.tn_answer.specs.Sayable.{IsSayable};
+ghost use Rattle.tn_answer.specs.AnswerText.{answer_data, fault_data, nodes_data, place_data, price_data, prices_data, step_data};
+ghost use Rattle.tn_answer.specs.Values.{name_data, names_data, option_data};
+ghost use Rattle.tn_answer.specs.Sayable.{HasShortBounds, IsSayable, IsShortState};
 
+use crate::ranges::{bound_value, ranges_value};
+use crate::reasons::{invalid_value, numbers_value};
+use crate::states::{contracts_value, states_value};
 use crate::words::{kind_name, word_text};
 use serde_json::{Value, json};
 use std::alloc::{AllocError, Global};
-use tn_market::{Fault, Nodes, Place, PlaceStep, Prices, Said, Shown, Trades};
+use tn_market::{
+    Contracts, Fault, Nodes, Numbers, Place, PlaceStep, Prices, Ranges, Said, Shown, States, Trades,
+};
 use tn_names::Names;
 
 pub(crate) fn answer_value(alloc: Global, names: &Names, said: &Said) -> Result<Value, AllocError>
@@ -34,6 +41,27 @@ pub(crate) fn answer_value(alloc: Global, names: &Names, said: &Said) -> Result<
             prices,
             surplus,
         } => solved_value(alloc, names, on, prices, *surplus),
+        // (written as rows)
+        Said::Rows { .. } => Ok(Value::Null),
+        Said::Drill {
+            size,
+            start,
+            firms,
+            surplus,
+        } => drill_value(alloc, names, *size, *start, *firms, *surplus),
+        Said::Ranges { on, ranges } => ranged_value(alloc, names, on, ranges),
+        Said::Session { edits } => session_value(alloc, names, edits),
+        Said::Drops {
+            firm,
+            keeps,
+            gain,
+            over,
+        } => drops_value(alloc, names, *firm, keeps, *gain, *over),
+        Said::Completes { prices, over } => completes_value(alloc, names, prices, *over),
+        Said::Blocks { contracts, over } => blocks_value(alloc, names, contracts, *over),
+        Said::Valid => json!(in alloc; {"answer": "valid"}),
+        Said::Invalid(reason) => invalid_value(alloc, names, reason),
+        Said::Cases { count, failed } => cases_value(alloc, names, *count, failed),
     }
 }
 
@@ -170,8 +198,123 @@ fn solved_value(
     })
 }
 
+fn drill_value(
+    alloc: Global,
+    names: &Names,
+    size: u32,
+    start: u32,
+    firms: u32,
+    surplus: i128,
+) -> Result<Value, AllocError>
+    requires { FitsSigned w64 surplus }
+    ensures { IfOk result
+        (λ value. view value ≡ answer_data names.now (Said.Drill size start firms surplus)) }
+{
+    json!(in alloc; {
+        "answer": "drill",
+        "firms": firms,
+        "size": size,
+        "start": start,
+        "surplus": surplus as i64,
+    })
+}
+
+fn ranged_value(
+    alloc: Global,
+    names: &Names,
+    on: &Trades,
+    ranges: &Ranges,
+) -> Result<Value, AllocError>
+    requires { All HasShortBounds ranges.now }
+    ensures { IfOk result
+        (λ value. view value ≡ answer_data names.now (Said.Ranges on.now ranges.now)) }
+{
+    json!(in alloc; {
+        "answer": "ranges",
+        "on": trades_value(alloc, names, on)?,
+        "ranges": ranges_value(alloc, names, ranges)?,
+    })
+}
+
+fn session_value(alloc: Global, names: &Names, edits: &States) -> Result<Value, AllocError>
+    requires { All IsShortState edits.now }
+    ensures { IfOk result (λ value. view value ≡ answer_data names.now (Said.Session edits.now)) }
+{
+    json!(in alloc; {"answer": "session", "edits": states_value(alloc, names, edits)?})
+}
+
+fn drops_value(
+    alloc: Global,
+    names: &Names,
+    firm: u32,
+    keeps: &Trades,
+    gain: Option<i128>,
+    over: i128,
+) -> Result<Value, AllocError>
+    requires gain { IfSome gain (FitsSigned w64) }
+    requires over { FitsSigned w64 over }
+    ensures { IfOk result
+        (λ value. view value ≡ answer_data names.now (Said.Drops firm keeps.now gain over)) }
+{
+    json!(in alloc; {
+        "answer": "drops",
+        "firm": firm_name(names, firm),
+        "gain": bound_value(gain),
+        "keeps": trades_value(alloc, names, keeps)?,
+        "over": over as i64,
+    })
+}
+
+fn completes_value(
+    alloc: Global,
+    names: &Names,
+    prices: &Prices,
+    over: i128,
+) -> Result<Value, AllocError>
+    requires prices { All (FitsSigned w64) prices.now }
+    requires over { FitsSigned w64 over }
+    ensures { IfOk result
+        (λ value. view value ≡ answer_data names.now (Said.Completes prices.now over)) }
+{
+    json!(in alloc; {
+        "answer": "completes",
+        "over": over as i64,
+        "prices": prices_value(alloc, names, prices)?,
+    })
+}
+
+fn blocks_value(
+    alloc: Global,
+    names: &Names,
+    contracts: &Contracts,
+    over: i128,
+) -> Result<Value, AllocError>
+    requires contracts { All (λ contract. FitsSigned w64 contract.price) contracts.now }
+    requires over { FitsSigned w64 over }
+    ensures { IfOk result
+        (λ value. view value ≡ answer_data names.now (Said.Blocks contracts.now over)) }
+{
+    json!(in alloc; {
+        "answer": "blocks",
+        "contracts": contracts_value(alloc, names, contracts)?,
+        "over": over as i64,
+    })
+}
+
+fn cases_value(
+    alloc: Global,
+    names: &Names,
+    count: u32,
+    failed: &Numbers,
+) -> Result<Value, AllocError>
+    ensures { IfOk result
+        (λ value. view value ≡ answer_data names.now (Said.Cases count failed.now)) }
+{
+    json!(in alloc; {"answer": "cases", "count": count, "failed": numbers_value(alloc, failed)?})
+}
+
 /// The name of a firm, empty where it has none.
-fn firm_name(names: &Names, firm: u32) -> &str
+pub(crate) fn firm_name(names: &Names, firm: u32) -> &str
     ensures { result.now ≡ unwrap_or (slice_get names.now.firms firm) [] }
 {
     if firm < names.firms() {
@@ -182,7 +325,7 @@ fn firm_name(names: &Names, firm: u32) -> &str
 }
 
 /// The name of a trade, empty where it has none.
-fn trade_name(names: &Names, trade: u32) -> &str
+pub(crate) fn trade_name(names: &Names, trade: u32) -> &str
     ensures { result.now ≡ unwrap_or (slice_get names.now.trades trade) [] }
 {
     if trade < names.trades() {
@@ -198,7 +341,11 @@ fn trade_value(alloc: Global, names: &Names, trade: u32) -> Result<Value, AllocE
     Value::try_from_str(alloc, trade_name(names, trade))
 }
 
-fn option_value(alloc: Global, names: &Names, trade: Option<u32>) -> Result<Value, AllocError>
+pub(crate) fn option_value(
+    alloc: Global,
+    names: &Names,
+    trade: Option<u32>,
+) -> Result<Value, AllocError>
     ensures { IfOk result (λ value. view value ≡ option_data names.now.trades trade) }
 {
     match trade {
@@ -207,7 +354,11 @@ fn option_value(alloc: Global, names: &Names, trade: Option<u32>) -> Result<Valu
     }
 }
 
-fn trades_value(alloc: Global, names: &Names, trades: &Trades) -> Result<Value, AllocError>
+pub(crate) fn trades_value(
+    alloc: Global,
+    names: &Names,
+    trades: &Trades,
+) -> Result<Value, AllocError>
     ensures { IfOk result (λ value. view value ≡ names_data names.now.trades trades.now) }
 {
     let mut values = Vec::new(alloc);
@@ -217,7 +368,7 @@ fn trades_value(alloc: Global, names: &Names, trades: &Trades) -> Result<Value, 
     Ok(Value::Array(values))
 }
 
-fn nodes_value(alloc: Global, names: &Names, nodes: &Nodes) -> Result<Value, AllocError>
+pub(crate) fn nodes_value(alloc: Global, names: &Names, nodes: &Nodes) -> Result<Value, AllocError>
     ensures { IfOk result (λ value. view value ≡ nodes_data names.now.trades nodes.now) }
 {
     let mut values = Vec::new(alloc);
@@ -228,7 +379,7 @@ fn nodes_value(alloc: Global, names: &Names, nodes: &Nodes) -> Result<Value, All
 }
 
 /// The name of the trade at a place, empty where there is none.
-fn name_at(names: &Names, k: usize) -> &str
+pub(crate) fn name_at(names: &Names, k: usize) -> &str
     ensures { result.now ≡ unwrap_or (slice_get names.now.trades k) [] }
 {
     if k < names.trades() as usize {

@@ -28,6 +28,7 @@ pub(crate) fn kind_name(kind: FaultKind) -> &'static str
         FaultKind::SameTrade => "SameTrade",
         FaultKind::PriceMissing => "PriceMissing",
         FaultKind::BadOver => "BadOver",
+        FaultKind::SamePair => "SamePair",
     }
 }
 
@@ -40,6 +41,9 @@ pub(crate) fn word_text(word: Word) -> &'static str
         Word::Firms => "firms",
         Word::Trades => "trades",
         Word::Arrangement => "arrangement",
+        Word::Outcome => "outcome",
+        Word::Claim => "claim",
+        Word::Edits => "edits",
         Word::Name => "name",
         Word::Seller => "seller",
         Word::Buyer => "buyer",
@@ -54,5 +58,18 @@ pub(crate) fn word_text(word: Word) -> &'static str
         Word::Keep => "keep",
         Word::On => "on",
         Word::Prices => "prices",
+        Word::Over => "over",
+        Word::Contracts => "contracts",
+        Word::Answer => "answer",
+        Word::Surplus => "surplus",
+        Word::Firm => "firm",
+        Word::Bundle => "bundle",
+        Word::Gain => "gain",
+        Word::X => "x",
+        Word::Y => "y",
+        Word::At => "at",
+        Word::Nodes => "nodes",
+        Word::Cost => "cost",
+        Word::Keeps => "keeps",
     }
 }

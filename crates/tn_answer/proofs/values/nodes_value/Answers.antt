@@ -2,7 +2,7 @@ use Rattle.std.proofs.Common.{ap, map, ◌∙◌, arith}
 use Rattle.serde_json.specs.Data.{array}
 use Rattle.serde_json.proofs.Views.{view-Array}
 use Rattle.serde_json.specs.View.{view, items_of}
-use Rattle.tn_answer.specs.AnswerText.{option_data}
+use Rattle.tn_answer.specs.Values.{option_data}
 use Rattle.tn_answer.proofs.MapLemmas.{map-push, map-whole}
 use Rattle.tn_answer.proofs.values.nodes_value.Goals as goal
 

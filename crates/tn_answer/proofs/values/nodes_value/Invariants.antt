@@ -1,6 +1,6 @@
 use Rattle.std.proofs.Common.{◌≡◌, map, take}
 use Rattle.serde_json.specs.View.{view}
-use Rattle.tn_answer.specs.AnswerText.{option_data}
+use Rattle.tn_answer.specs.Values.{option_data}
 use Rattle.tn_answer.proofs.values.nodes_value.Given as goal
 
 abbrev pub invariant-loop-k : goal.invariant-loop-k

@@ -1,0 +1,7 @@
+use Rattle.std.proofs.Common.{◌≡◌, map, take}
+use Rattle.serde_json.specs.Data.{number, unsigned}
+use Rattle.serde_json.specs.View.{view}
+use Rattle.tn_answer.proofs.reasons.numbers_value.Given as goal
+
+abbrev pub invariant-loop-k : goal.invariant-loop-k
+invariant-loop-k l = map view l.values.items ≡ map (λ n. number (unsigned n)) (take l.k l.numbers)
