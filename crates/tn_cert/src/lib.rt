@@ -1,0 +1,2 @@
+//! Claims decided by the definitions alone. When a claim is valid, and why one isn't, stands in `specs/`.
+#![tactic(auto)]
