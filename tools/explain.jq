@@ -30,7 +30,22 @@ def items: if type == "array" then .[] else empty end;
   def rise($name): trade($name) | if is_on($name) then {firm: .seller, act: "keep back \($name)"} else {firm: .buyer, act: "buy \($name) from \(.seller)"} end;
   def fall($name): trade($name) | if is_on($name) then {firm: .buyer, act: "give up \($name)"} else {firm: .seller, act: "sell \($name) to \(.buyer)"} end;
   def change($from; $to): [if $from == null then empty else rise($from) end, if $to == null then empty else fall($to) end]
-    | "\(.[0].firm) would \(map(.act) | join(" and ")).";
+    | "\(.[0].firm) would \(map(.act) | join(" and "))";
+  # the changes along a path
+  def changes($path): [range($path | length - 1) as $k | change($path[$k]; $path[$k + 1])] | join("; ");
+  def extent:
+    if .low == null and .high == null then "any price"
+    elif .low == .high then "\(.low), and no other price"
+    elif .high == null then "\(.low) or more"
+    elif .low == null then "\(.high) or less"
+    else "\(.low) to \(.high)" end;
+  # what is on in a state, at its prices, and what its other prices keep off
+  def standing:
+    . as $state | ([$state.prices | items | {(.[0]): .[1]}] | add // {}) as $at
+    | (if .on == [] then "Nothing is traded." else [.on[] as $t | trade($t) | "\(.seller) sells \($t) to \(.buyer) at \($at[$t])"] | listed + "." end)
+      + ([.prices | items | .[0] | select(. as $t | $state.on | index($t) | not)]
+         | if . == [] then "" else " At these prices the other admitted trades are off: \(map("\(.) at \($at[.])") | listed)." end);
+  def edit: if .[0] == "admit" then "\(.[1]) is admitted" else "\(.[1]) is barred" end;
   def cause:
     {"1": "the bytes are no JSON value", "2": "the document is too long", "3": "a value is missing, isn't of the wanted shape, or has a member that isn't allowed",
      "4": "a name doesn't keep the rule", "5": "the name is taken already", "6": "there is no firm of this name", "7": "a firm would trade with itself",
@@ -58,7 +73,7 @@ def items: if type == "array" then .[] else empty end;
     "No other set of trades has a greater sum of worths."
   elif .answer == "cycle" then
     "No prices go with these trades. The reason is a round of changes, each by one firm:",
-    (.nodes as $nodes | range($nodes | length) as $k | change($nodes[$k]; $nodes[($k + 1) % ($nodes | length)])),
+    (.nodes as $nodes | range($nodes | length) as $k | change($nodes[$k]; $nodes[($k + 1) % ($nodes | length)]) + "."),
     "What these firms would lose in worth sums to \(.cost), so in sum they would gain, and in the round each price is paid once and got once. So at any prices at least one of them would rather make its change."
   elif .answer == "better" then
     "This is no equilibrium: \(.firm) would do better.",
@@ -79,6 +94,23 @@ def items: if type == "array" then .[] else empty end;
     "The document has a fault, and nothing is said of its firms and prices: \(cause) (fault \(.fault), \(.name)).",
     "It is found at \(.place | way).",
     (if .fault == 16 then failing(names_of_firms[.place[1]]) else empty end)
+  elif .answer == "ranges" then
+    "The prices of each trade over all equilibria. Beyond them, whatever the other prices are, one of the firms named beside would rather make its change.",
+    (.ranges[]
+     | "\(.trade), from \(trade(.trade).seller) to \(trade(.trade).buyer): \(extent).",
+       (if .low == null then empty else "  not below \(.low): \(changes(.low_path))." end),
+       (if .high == null then empty else "  not above \(.high): \(changes(.high_path))." end)),
+    (.on | "No set of trades has a greater sum of worths than \(if . == [] then "none at all" else listed end)."),
+    (if .ranges == [] then empty elif all(.ranges[]; .high != null) then "All highest prices together are an equilibrium with that." else empty end),
+    (if .ranges == [] then empty elif all(.ranges[]; .low != null) then "All lowest prices together are an equilibrium with that." else empty end)
+  elif .answer == "session" then
+    (if .edits == [] then "Nothing is admitted and nothing is barred."
+     else "An equilibrium after each edit. At first no trade is admitted.",
+       (.edits as $states | range($states | length) as $k
+        | "\($k + 1). \(($network.edits[$k]? // ["", "?"]) | edit). \($states[$k] | standing) The worths sum to \($states[$k].surplus), and no other set of admitted trades has more.")
+     end)
+  elif .answer == "drill" then
+    "The network of \(.firms) firms and \(.size) trades that is drawn from \(.start): the worths of its firms sum to \(.surplus) for some set of trades, and to no more for any."
   elif .answer == "usage" then "The words after the program's name are no command. Nothing was read."
   elif .answer == "read_fault" then "The document could not be read."
   elif .answer == "no_memory" then "Memory ran out before there was an answer."

@@ -2,7 +2,7 @@
 use Rattle.std.proofs.Common.{◌≡◌, ℕ, ◌+◌, ◌≤◌, List, length, subst, refl, arith, ◌⊎◌, inl, inr}
 use Rattle.std.specs.Prelude.{Option, Some, None}
 use Rattle.tn_market.specs.declared.said.Said.{Said}
-use Rattle.tn_market.specs.declared.said.Said.TheVariants.{Usage, ReadFault, NoMemory, Fault, Equilibrium, Better, Impossible, Accepted, ExchangeFails, Supported, Cycle, Solved}
+use Rattle.tn_market.specs.declared.said.Said.TheVariants.{Usage, ReadFault, NoMemory}
 use Rattle.tn_io.specs.Source.{TakesFirst}
 use Rattle.tn_names.specs.Names.{NameLists}
 use Rattle.tn_file.specs.Document.{reading_of}
@@ -37,15 +37,7 @@ said_of_all : (command : Command) (all : List ℕ) (new : Option (List ℕ)) (be
 said_of_all command all new before after names Usage quiet may = absurd may
 said_of_all command all new before after names ReadFault quiet may = absurd (quiet may.0)
 said_of_all command all new before after names NoMemory quiet may = inl refl
-said_of_all command all new before after names (Fault fault) quiet may = inr (all_answered command all new names (Fault fault) may)
-said_of_all command all new before after names (Equilibrium surplus) quiet may = inr (all_answered command all new names (Equilibrium surplus) may)
-said_of_all command all new before after names (Better f bundle gain) quiet may = inr (all_answered command all new names (Better f bundle gain) may)
-said_of_all command all new before after names (Impossible f) quiet may = inr (all_answered command all new names (Impossible f) may)
-said_of_all command all new before after names Accepted quiet may = inr (all_answered command all new names Accepted may)
-said_of_all command all new before after names (ExchangeFails f x y at) quiet may = inr (all_answered command all new names (ExchangeFails f x y at) may)
-said_of_all command all new before after names (Supported prices) quiet may = inr (all_answered command all new names (Supported prices) may)
-said_of_all command all new before after names (Cycle nodes cost) quiet may = inr (all_answered command all new names (Cycle nodes cost) may)
-said_of_all command all new before after names (Solved on prices surplus) quiet may = inr (all_answered command all new names (Solved on prices surplus) may)
+said_of_all command all new before after names said quiet may = inr (all_answered command all new names said may)
 
 -- what was written is the whole text, where the sink counted no fault
 whole_written : (old new : Option (List ℕ)) (before after : ℕ) (names : NameLists) (said : Said) (status : ℕ)

@@ -1,8 +1,6 @@
-pub mod NumberLemmas
-pub mod CheckLemmas
 pub mod TestLemmas
 pub mod TakenLemmas
 pub mod NamedLemmas
+pub mod OutcomeLemmas
 pub mod CompleteLemmas
-pub mod SolveLemmas
-pub mod SupportedLemmas
+pub mod NumberLemmas

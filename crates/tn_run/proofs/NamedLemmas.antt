@@ -1,14 +1,14 @@
 -- What is said of a document keeps the rules of answers: it speaks only of firms and trades that have a name, its
 -- numbers are short, and its lists of trades ascend.
-use Rattle.std.proofs.Common.{◌≡◌, ◌≢◌, ℕ, ◌<◌, ℤ, pos, List, length, Option, Result, sym, subst, ◌∙◌}
-use Rattle.std.specs.Prelude.{Some, Ok, Err, All, IfOk, IfSome, slice_get}
+use Rattle.std.proofs.Common.{◌≡◌, ◌≢◌, ℕ, ◌<◌, ℤ, pos, List, length, map, Option, Result, sym, subst, ◌∙◌, arith}
+use Rattle.std.specs.Prelude.{Some, Ok, Err, All, IfOk, IfSome, slice_get, get_or}
 use Rattle.std.specs.List.Sorted.{IsStrictlyIncreasing}
-use Rattle.std.proofs.lemmas.Option.{slice_get_within}
+use Rattle.std.proofs.lemmas.Option.{slice_get_within, slice_get-get_or}
 use Rattle.tn_base.specs.declared.fault.FaultKind.TheVariants.{TooLong}
 use Rattle.tn_base.specs.Firm.{Firm}
 use Rattle.tn_market.specs.declared.said.Fault.{Fault as FaultIs}
 use Rattle.tn_market.specs.declared.said.Said.{Said}
-use Rattle.tn_market.specs.declared.said.Said.TheVariants.{Equilibrium, Better, Impossible, Fault, Usage, ReadFault, NoMemory, Accepted, ExchangeFails, Supported, Cycle, Solved}
+use Rattle.tn_market.specs.declared.said.Said.TheVariants.{Equilibrium, Better, Impossible, Fault, Accepted, ExchangeFails, Supported, Cycle, Solved, Rows, Ranges, Session as SessionIs, Drops, Completes, Blocks}
 use Rattle.tn_market.specs.Best.{price_at}
 use Rattle.tn_market.specs.Network.{own, trades_on}
 use Rattle.tn_market.specs.Judged.{Judges}
@@ -20,7 +20,7 @@ use Rattle.tn_answer.specs.Kept.{HasAscendingTrades, IsWithinClaims}
 use Rattle.tn_answer.proofs.LawLemmas.{within_sayable}
 use Rattle.tn_file.specs.declared.document.DocRefusal.{DocRefusal}
 use Rattle.tn_file.specs.declared.need.Need.{Need}
-use Rattle.tn_file.specs.Document.{DocumentData, ExtraData, nothing, arrangement, on_alone, reading_of}
+use Rattle.tn_file.specs.Document.{DocumentData, ExtraData, arrangement, on_alone, outcome, edits, reading_of}
 use Rattle.tn_file.specs.Laws.{IsDocument}
 use Rattle.tn_listed.specs.Beside.{IsStop}
 use Rattle.tn_file.specs.Refusal.{Reads}
@@ -28,14 +28,22 @@ use Rattle.tn_file.proofs.DocumentLeads.{documents_are_networks}
 use Rattle.tn_file.proofs.DocumentStops.{faults_are_sayable}
 use Rattle.tn_kinds.proofs.ShownLemmas.{OwnAreNamed, own_position_of, trades_named, triple_named}
 use Rattle.tn_kinds.proofs.KindLemmas.{listed_own_bundles}
-use Rattle.tn_run.specs.Answer.{ChecksExtra, SupportsExtra, IsAnswerOf, KeepsRules}
+use Rattle.tn_run.specs.Answer.{ChecksExtra, EditsExtra, JudgesExtra, SupportsExtra, IsAnswerOf, KeepsRules}
 use Rattle.tn_price.proofs.CycleLemmas.{nodes_inside}
-use Rattle.tn_run.specs.Solved.{Solves}
-use Rattle.tn_run.specs.Supported.{SupportsSet}
+use Rattle.tn_command.specs.Edited.{TellsStates}
+use Rattle.tn_command.specs.Outcome.{JudgesOutcome}
+use Rattle.tn_command.specs.Ranged.{TellsRanges}
+use Rattle.tn_command.proofs.RangeLemmas.{high_inside, low_inside}
+use Rattle.tn_market.specs.declared.contract.Contract.{Contract}
+use Rattle.tn_market.specs.declared.session.Edit.{Edit}
+use Rattle.tn_market.specs.Choices.{contracts_of}
+use Rattle.tn_market.proofs.ContractLemmas.{contract_trades, contracts_are}
+use Rattle.tn_command.specs.Solved.{Solves, SolvesInRows}
+use Rattle.tn_command.specs.Supported.{SupportsSet}
 use Rattle.tn_run.specs.Tested.{IsFirstToFail, Tests}
 use Rattle.tn_run.specs.Words.{need_of}
 use Rattle.tn_run.specs.declared.command.Command.{Command}
-use Rattle.tn_run.specs.declared.command.Command.TheVariants.{Check, Solve, Support, Test}
+use Rattle.tn_run.specs.declared.command.Command.TheVariants.{Check, Judge, Range, Session, Solve, SolveRows, Support, Test}
 
 module _ (need : Need) (doc : DocumentData) (is : IsDocument need doc) where
   -- a firm of the document has a name, and so have its own trades
@@ -54,20 +62,11 @@ module _ (need : Need) (doc : DocumentData) (is : IsDocument need doc) where
         subst (All (IsNamed doc.names.trades)) (sym judges.2) (trades_named doc.names.trades doc.ends f bettered.firm.count judges.0 (own_named f bettered.firm bettered.is)),
       )
   judged_named scale on prices (Impossible f) judges = firm_named f judges.firm judges.is
-  judged_named scale on prices (Fault fault) judges = absurd judges
-  judged_named scale on prices Usage judges = absurd judges
-  judged_named scale on prices ReadFault judges = absurd judges
-  judged_named scale on prices NoMemory judges = absurd judges
-  judged_named scale on prices Accepted judges = absurd judges
-  judged_named scale on prices (ExchangeFails f x y at) judges = absurd judges
-  judged_named scale on prices (Supported their_prices) judges = absurd judges
-  judged_named scale on prices (Cycle nodes cost) judges = absurd judges
-  judged_named scale on prices (Solved their_on their_prices surplus) judges = absurd judges
+  judged_named scale on prices said judges = absurd judges
 
   checked_named : (extra : ExtraData) (said : Said) → ChecksExtra doc extra said → IsNamedAnswer doc.names said
-  checked_named nothing said checks = absurd checks
-  checked_named (on_alone on) said checks = absurd checks
   checked_named (arrangement at) said checks = judged_named (pos 1) at.on (price_at at.prices) said checks.0
+  checked_named extra said checks = absurd checks
 
   -- the answer of `test`
   failed_named : (f : ℕ) (x y : List ℕ) (at : Option ℕ) → IsFirstToFail doc.firms doc.ends f x y at → IsNamedAnswer doc.names (ExchangeFails f x y at)
@@ -85,16 +84,7 @@ module _ (need : Need) (doc : DocumentData) (is : IsDocument need doc) where
   tested_named : (said : Said) → Tests doc.firms doc.ends said → IsNamedAnswer doc.names said
   tested_named Accepted tests = tt
   tested_named (ExchangeFails f x y at) tests = failed_named f x y at tests
-  tested_named (Equilibrium surplus) tests = absurd tests
-  tested_named (Better f bundle gain) tests = absurd tests
-  tested_named (Impossible f) tests = absurd tests
-  tested_named (Fault fault) tests = absurd tests
-  tested_named Usage tests = absurd tests
-  tested_named ReadFault tests = absurd tests
-  tested_named NoMemory tests = absurd tests
-  tested_named (Supported prices) tests = absurd tests
-  tested_named (Cycle nodes cost) tests = absurd tests
-  tested_named (Solved on prices surplus) tests = absurd tests
+  tested_named said tests = absurd tests
 
   -- their lists of trades ascend
   judged_ascends : (scale : ℤ) (on : ℕ) (prices : ℕ → ℤ) (said : Said) → Judges doc.firms doc.ends scale on prices said → HasAscendingTrades said
@@ -102,20 +92,11 @@ module _ (need : Need) (doc : DocumentData) (is : IsDocument need doc) where
   judged_ascends scale on prices (Better f bundle gain) judges =
       let bettered = judges.1 in subst IsStrictlyIncreasing (sym judges.2) (ascending_trades doc.firms doc.ends f judges.0 bettered.firm is.ascending bettered.is)
   judged_ascends scale on prices (Impossible f) judges = tt
-  judged_ascends scale on prices (Fault fault) judges = absurd judges
-  judged_ascends scale on prices Usage judges = tt
-  judged_ascends scale on prices ReadFault judges = tt
-  judged_ascends scale on prices NoMemory judges = tt
-  judged_ascends scale on prices Accepted judges = tt
-  judged_ascends scale on prices (ExchangeFails f x y at) judges = absurd judges
-  judged_ascends scale on prices (Supported their_prices) judges = tt
-  judged_ascends scale on prices (Cycle nodes cost) judges = tt
-  judged_ascends scale on prices (Solved their_on their_prices surplus) judges = absurd judges
+  judged_ascends scale on prices said judges = absurd judges
 
   checked_ascends : (extra : ExtraData) (said : Said) → ChecksExtra doc extra said → HasAscendingTrades said
-  checked_ascends nothing said checks = absurd checks
-  checked_ascends (on_alone on) said checks = absurd checks
   checked_ascends (arrangement at) said checks = judged_ascends (pos 1) at.on (price_at at.prices) said checks.0
+  checked_ascends extra said checks = absurd checks
 
   tested_ascends : (said : Said) → Tests doc.firms doc.ends said → HasAscendingTrades said
   tested_ascends Accepted tests = tt
@@ -123,16 +104,7 @@ module _ (need : Need) (doc : DocumentData) (is : IsDocument need doc) where
     x = subst IsStrictlyIncreasing (sym tests.x_is) (ascending_trades doc.firms doc.ends f tests.triple.x tests.firm is.ascending tests.is);
     y = subst IsStrictlyIncreasing (sym tests.y_is) (ascending_trades doc.firms doc.ends f tests.triple.y tests.firm is.ascending tests.is);
   }
-  tested_ascends (Equilibrium surplus) tests = tt
-  tested_ascends (Better f bundle gain) tests = absurd tests
-  tested_ascends (Impossible f) tests = tt
-  tested_ascends (Fault fault) tests = absurd tests
-  tested_ascends Usage tests = tt
-  tested_ascends ReadFault tests = tt
-  tested_ascends NoMemory tests = tt
-  tested_ascends (Supported prices) tests = tt
-  tested_ascends (Cycle nodes cost) tests = tt
-  tested_ascends (Solved on prices surplus) tests = absurd tests
+  tested_ascends said tests = absurd tests
 
   -- the answer of `solve`
   solved_named : (said : Said) → Solves doc.firms doc.ends said → IsNamedAnswer doc.names said
@@ -140,17 +112,73 @@ module _ (need : Need) (doc : DocumentData) (is : IsDocument need doc) where
     subst (All (IsNamed doc.names.trades)) (sym solves.on_is) (subst (λ n. All (λ t. t < n) (trades_on solves.set (length doc.ends))) (sym is.trades_named) (on_below solves.set (length doc.ends))),
     solves.one_each ∙ sym is.trades_named,
   )
-  solved_named (Equilibrium surplus) solves = absurd solves
-  solved_named (Better f bundle gain) solves = absurd solves
-  solved_named (Impossible f) solves = absurd solves
-  solved_named (Fault fault) solves = absurd solves
-  solved_named Usage solves = absurd solves
-  solved_named ReadFault solves = absurd solves
-  solved_named NoMemory solves = absurd solves
-  solved_named Accepted solves = absurd solves
-  solved_named (ExchangeFails f x y at) solves = absurd solves
-  solved_named (Supported prices) solves = absurd solves
-  solved_named (Cycle nodes cost) solves = absurd solves
+  solved_named said solves = absurd solves
+
+  -- the answer of `range`
+  set_named : (set : ℕ) (on : List ℕ) → on ≡ trades_on set (length doc.ends) → All (IsNamed doc.names.trades) on
+  set_named set on is_on =
+      subst (All (IsNamed doc.names.trades)) (sym is_on) (subst (λ n. All (λ t. t < n) (trades_on set (length doc.ends))) (sym is.trades_named) (on_below set (length doc.ends)))
+
+  ranged_named : (said : Said) → TellsRanges doc.firms doc.ends said → IsNamedAnswer doc.names said
+  ranged_named (Ranges on ranges) tells = (
+    set_named tells.set on tells.on_is,
+    tells.each.one_each ∙ sym is.trades_named,
+    (λ k d below.
+        let range = tells.each.each k (get_or ranges k d) (slice_get-get_or ranges k d below) in
+        let one_each = tells.each.one_each in
+        let inside : k < length doc.ends = omega (arith, below, one_each) in
+        record {
+          high = subst (λ n. All (λ node. IfSome node (λ t. t < n)) (get_or ranges k d).high_path) (sym is.trades_named)
+              (high_inside doc.firms doc.ends tells.set is.network k (get_or ranges k d).high (get_or ranges k d).high_path inside range.high_shown);
+          low = subst (λ n. All (λ node. IfSome node (λ t. t < n)) (get_or ranges k d).low_path) (sym is.trades_named)
+              (low_inside doc.firms doc.ends tells.set is.network k (get_or ranges k d).low (get_or ranges k d).low_path inside range.low_shown);
+        }),
+  )
+  ranged_named said tells = absurd tells
+
+  ranged_ascends : (said : Said) → TellsRanges doc.firms doc.ends said → HasAscendingTrades said
+  ranged_ascends (Ranges on ranges) tells = subst IsStrictlyIncreasing (sym tells.on_is) (on_ascends tells.set (length doc.ends))
+  ranged_ascends said tells = absurd tells
+
+  -- the answer of `session`
+  states_named : (listed : List Edit) (said : Said) → TellsStates doc.firms doc.ends listed said → IsNamedAnswer doc.names said
+  states_named listed (SessionIs states) tells = λ k d below.
+      let state = (tells.each k (get_or states k d) (slice_get-get_or states k d below)).is in
+      let allowed = (tells.each k (get_or states k d) (slice_get-get_or states k d below)).allowed in
+      record {
+        on = set_named state.set (get_or states k d).on state.on_is;
+        prices = subst (All (λ contract. IsNamed doc.names.trades contract.trade)) (sym state.prices_are)
+            (subst (λ n. All (λ contract. contract.trade < n) (contracts_of allowed (price_at state.prices) (length doc.ends))) (sym is.trades_named)
+            (contracts_are allowed (price_at state.prices) (λ contract. contract.trade < length doc.ends) (length doc.ends) (λ t inside there. inside)));
+      }
+  states_named listed said tells = absurd tells
+
+  edited_named : (extra : ExtraData) (said : Said) → EditsExtra doc extra said → IsNamedAnswer doc.names said
+  edited_named (edits listed) said tells = states_named listed said tells
+  edited_named extra said tells = absurd tells
+
+  states_ascend : (listed : List Edit) (said : Said) → TellsStates doc.firms doc.ends listed said → HasAscendingTrades said
+  states_ascend listed (SessionIs states) tells = λ k d below.
+      let after = tells.each k (get_or states k d) (slice_get-get_or states k d below) in
+      record {
+        on = subst IsStrictlyIncreasing (sym after.is.on_is) (on_ascends after.is.set (length doc.ends));
+        prices = subst (λ (contracts : List Contract). IsStrictlyIncreasing (map (λ (contract : Contract). contract.trade) contracts)) (sym after.is.prices_are)
+            (subst IsStrictlyIncreasing (sym (contract_trades after.allowed (price_at after.is.prices) (length doc.ends))) (on_ascends after.allowed (length doc.ends)));
+      }
+  states_ascend listed said tells = absurd tells
+
+  edited_ascends : (extra : ExtraData) (said : Said) → EditsExtra doc extra said → HasAscendingTrades said
+  edited_ascends (edits listed) said tells = states_ascend listed said tells
+  edited_ascends extra said tells = absurd tells
+
+  -- the answer of `solve --csv`
+  rows_named : (said : Said) → SolvesInRows doc.firms doc.ends said → IsNamedAnswer doc.names said
+  rows_named (Rows on prices surplus) solves = solved_named (Solved on prices surplus) solves
+  rows_named said solves = absurd solves
+
+  rows_ascend : (said : Said) → SolvesInRows doc.firms doc.ends said → HasAscendingTrades said
+  rows_ascend (Rows on prices surplus) solves = subst IsStrictlyIncreasing (sym solves.on_is) (on_ascends solves.set (length doc.ends))
+  rows_ascend said solves = absurd solves
 
   -- the answer of `support`
   supported_named : (on : ℕ) (said : Said) → SupportsSet doc.firms doc.ends on said → IsNamedAnswer doc.names said
@@ -158,64 +186,71 @@ module _ (need : Need) (doc : DocumentData) (is : IsDocument need doc) where
   supported_named on (Supported prices) supports = supports.0.one_each ∙ sym is.trades_named
   supported_named on (Cycle nodes cost) supports =
       subst (λ n. All (λ node. IfSome node (λ t. t < n)) nodes) (sym is.trades_named) (nodes_inside doc.firms doc.ends on nodes cost supports.0)
-  supported_named on (Equilibrium surplus) supports = absurd supports
-  supported_named on (Better f bundle gain) supports = absurd supports
-  supported_named on (Fault fault) supports = absurd supports
-  supported_named on Usage supports = absurd supports
-  supported_named on ReadFault supports = absurd supports
-  supported_named on NoMemory supports = absurd supports
-  supported_named on Accepted supports = absurd supports
-  supported_named on (ExchangeFails f x y at) supports = absurd supports
-  supported_named on (Solved their_on prices surplus) supports = absurd supports
+  supported_named on said supports = absurd supports
 
   priced_named : (extra : ExtraData) (said : Said) → SupportsExtra doc extra said → IsNamedAnswer doc.names said
-  priced_named nothing said supports = absurd supports
-  priced_named (arrangement at) said supports = absurd supports
   priced_named (on_alone on) said supports = supported_named on said supports
+  priced_named extra said supports = absurd supports
 
   supported_ascends : (on : ℕ) (said : Said) → SupportsSet doc.firms doc.ends on said → HasAscendingTrades said
   supported_ascends on (Impossible f) supports = tt
   supported_ascends on (Supported prices) supports = tt
   supported_ascends on (Cycle nodes cost) supports = tt
-  supported_ascends on (Equilibrium surplus) supports = absurd supports
-  supported_ascends on (Better f bundle gain) supports = absurd supports
-  supported_ascends on (Fault fault) supports = absurd supports
-  supported_ascends on Usage supports = absurd supports
-  supported_ascends on ReadFault supports = absurd supports
-  supported_ascends on NoMemory supports = absurd supports
-  supported_ascends on Accepted supports = absurd supports
-  supported_ascends on (ExchangeFails f x y at) supports = absurd supports
-  supported_ascends on (Solved their_on prices surplus) supports = absurd supports
+  supported_ascends on said supports = absurd supports
 
   priced_ascends : (extra : ExtraData) (said : Said) → SupportsExtra doc extra said → HasAscendingTrades said
-  priced_ascends nothing said supports = absurd supports
-  priced_ascends (arrangement at) said supports = absurd supports
   priced_ascends (on_alone on) said supports = supported_ascends on said supports
+  priced_ascends extra said supports = absurd supports
 
   solved_ascends : (said : Said) → Solves doc.firms doc.ends said → HasAscendingTrades said
   solved_ascends (Solved on prices surplus) solves = subst IsStrictlyIncreasing (sym solves.on_is) (on_ascends solves.set (length doc.ends))
-  solved_ascends (Equilibrium surplus) solves = absurd solves
-  solved_ascends (Better f bundle gain) solves = absurd solves
-  solved_ascends (Impossible f) solves = absurd solves
-  solved_ascends (Fault fault) solves = absurd solves
-  solved_ascends Usage solves = absurd solves
-  solved_ascends ReadFault solves = absurd solves
-  solved_ascends NoMemory solves = absurd solves
-  solved_ascends Accepted solves = absurd solves
-  solved_ascends (ExchangeFails f x y at) solves = absurd solves
-  solved_ascends (Supported prices) solves = absurd solves
-  solved_ascends (Cycle nodes cost) solves = absurd solves
+  solved_ascends said solves = absurd solves
+
+  -- the answer of `judge`
+  outcome_named : (over : ℤ) (contracts : List Contract) (said : Said) → JudgesOutcome doc.firms doc.ends over contracts said → IsNamedAnswer doc.names said
+  outcome_named over contracts (Drops f keeps gain told) judges =
+      let first = judges.1 in (
+        firm_named f first.firm first.is,
+        subst (All (IsNamed doc.names.trades)) (sym judges.2) (trades_named doc.names.trades doc.ends f first.firm.count judges.0 (own_named f first.firm first.is)),
+      )
+  outcome_named over contracts (Completes prices told) judges = judges.1.one_each ∙ sym is.trades_named
+  outcome_named over contracts (Blocks offers told) judges = λ k d below.
+      subst (λ n. (get_or offers k d).trade < n) (sym is.trades_named) (judges.chain.blocks.feasible.known k (get_or offers k d) (slice_get-get_or offers k d below))
+  outcome_named over contracts said judges = absurd judges
+
+  judged_outcome_named : (extra : ExtraData) (said : Said) → JudgesExtra doc extra said → IsNamedAnswer doc.names said
+  judged_outcome_named (outcome signed) said judges = outcome_named signed.over signed.contracts said judges
+  judged_outcome_named extra said judges = absurd judges
+
+  outcome_ascends : (over : ℤ) (contracts : List Contract) (said : Said) → JudgesOutcome doc.firms doc.ends over contracts said → HasAscendingTrades said
+  outcome_ascends over contracts (Drops f keeps gain told) judges =
+      let first = judges.1 in subst IsStrictlyIncreasing (sym judges.2) (ascending_trades doc.firms doc.ends f judges.0 first.firm is.ascending first.is)
+  outcome_ascends over contracts (Completes prices told) judges = tt
+  outcome_ascends over contracts (Blocks offers told) judges = tt
+  outcome_ascends over contracts said judges = absurd judges
+
+  judged_outcome_ascends : (extra : ExtraData) (said : Said) → JudgesExtra doc extra said → HasAscendingTrades said
+  judged_outcome_ascends (outcome signed) said judges = outcome_ascends signed.over signed.contracts said judges
+  judged_outcome_ascends extra said judges = absurd judges
 
 -- the answer of a command on a document
 document_ascends : (command : Command) (doc : DocumentData) → IsDocument (need_of command) doc → (said : Said) → IsAnswerOf command doc said → HasAscendingTrades said
 document_ascends Check doc is said answer = checked_ascends (need_of Check) doc is doc.extra said answer
+document_ascends Judge doc is said answer = judged_outcome_ascends (need_of Judge) doc is doc.extra said answer
+document_ascends Range doc is said answer = ranged_ascends (need_of Range) doc is said answer
+document_ascends Session doc is said answer = edited_ascends (need_of Session) doc is doc.extra said answer
 document_ascends Solve doc is said answer = solved_ascends (need_of Solve) doc is said answer
+document_ascends SolveRows doc is said answer = rows_ascend (need_of SolveRows) doc is said answer
 document_ascends Support doc is said answer = priced_ascends (need_of Support) doc is doc.extra said answer
 document_ascends Test doc is said answer = tested_ascends (need_of Test) doc is said answer
 
 document_named : (command : Command) (doc : DocumentData) → IsDocument (need_of command) doc → (said : Said) → IsAnswerOf command doc said → IsNamedAnswer doc.names said
 document_named Check doc is said answer = checked_named (need_of Check) doc is doc.extra said answer
+document_named Judge doc is said answer = judged_outcome_named (need_of Judge) doc is doc.extra said answer
+document_named Range doc is said answer = ranged_named (need_of Range) doc is said answer
+document_named Session doc is said answer = edited_named (need_of Session) doc is doc.extra said answer
 document_named Solve doc is said answer = solved_named (need_of Solve) doc is said answer
+document_named SolveRows doc is said answer = rows_named (need_of SolveRows) doc is said answer
 document_named Support doc is said answer = priced_named (need_of Support) doc is doc.extra said answer
 document_named Test doc is said answer = tested_named (need_of Test) doc is said answer
 
@@ -224,32 +259,32 @@ no_fault : (command : Command) (doc : DocumentData) (fault : FaultIs) → IsAnsw
 no_fault Check doc fault answer = by_extra doc.extra answer
   where
     by_extra : (extra : ExtraData) → ChecksExtra doc extra (Fault fault) → ⊥
-    by_extra nothing checks = checks
     by_extra (arrangement at) checks = checks.0
-    by_extra (on_alone on) checks = checks
+    by_extra extra checks = checks
+no_fault Judge doc fault answer = by_extra doc.extra answer
+  where
+    by_extra : (extra : ExtraData) → JudgesExtra doc extra (Fault fault) → ⊥
+    by_extra (outcome signed) judges = judges
+    by_extra extra judges = judges
 no_fault Support doc fault answer = by_extra doc.extra answer
   where
     by_extra : (extra : ExtraData) → SupportsExtra doc extra (Fault fault) → ⊥
-    by_extra nothing supports = supports
-    by_extra (arrangement at) supports = supports
     by_extra (on_alone on) supports = supports
+    by_extra extra supports = supports
 no_fault Test doc fault answer = answer
 no_fault Solve doc fault answer = answer
+no_fault Range doc fault answer = answer
+no_fault Session doc fault answer = by_extra doc.extra answer
+  where
+    by_extra : (extra : ExtraData) → EditsExtra doc extra (Fault fault) → ⊥
+    by_extra (edits listed) states = states
+    by_extra extra states = states
+no_fault SolveRows doc fault answer = answer
 
 -- and its numbers are short within the limits of claims
 document_short : (command : Command) (doc : DocumentData) (said : Said) → IsAnswerOf command doc said → IsWithinClaims said → HasShortNumbers said
 document_short command doc (Fault fault) answer within = absurd (no_fault command doc fault answer)
-document_short command doc (Equilibrium surplus) answer within = within_sayable (Equilibrium surplus) within
-document_short command doc (Better f bundle gain) answer within = within_sayable (Better f bundle gain) within
-document_short command doc (Impossible f) answer within = tt
-document_short command doc Usage answer within = tt
-document_short command doc ReadFault answer within = tt
-document_short command doc NoMemory answer within = tt
-document_short command doc Accepted answer within = tt
-document_short command doc (ExchangeFails f x y at) answer within = tt
-document_short command doc (Supported prices) answer within = within_sayable (Supported prices) within
-document_short command doc (Cycle nodes cost) answer within = within_sayable (Cycle nodes cost) within
-document_short command doc (Solved on prices surplus) answer within = within_sayable (Solved on prices surplus) within
+document_short command doc said answer within = within_sayable said within
 
 -- it keeps the rules
 document_kept : (command : Command) (doc : DocumentData) → IsDocument (need_of command) doc → (said : Said) → IsAnswerOf command doc said → IsWithinClaims said → KeepsRules doc.names said

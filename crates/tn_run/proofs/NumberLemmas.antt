@@ -1,52 +1,41 @@
--- The numbers of a verdict fit an answer.
-use Rattle.std.proofs.Common.{◌≡◌, ℕ, ◌+◌, ◌*◌, ◌^◌, ◌≤◌, ℤ, pos, ◌+ℤ◌, ◌*ℤ◌, List, [], ◌∷◌, length, refl, sym, ap, ◌∙◌, arith}
-use Rattle.std.specs.Prelude.{Option, Some, None, option_map, option_and_then}
-use Rattle.std.proofs.lemmas.Int.{ints}
-use Rattle.std.proofs.lemmas.Option.{none-some, same_Some}
-use Rattle.tn_base.specs.Arcs.{IsAtMost}
-use Rattle.tn_base.specs.Sets.{sum_over}
-use Rattle.tn_base.specs.Firm.{Firm, payments, utility}
-use Rattle.tn_law.proofs.KeepLemmas.{option_map-some}
-use Rattle.tn_market.specs.declared.ends.Ends.{Ends}
-use Rattle.tn_market.specs.Network.{part}
-use Rattle.tn_market.specs.Equilibrium.{surplus_from}
-use Rattle.tn_market.specs.Valued.{IsWorthAtMost}
-use Rattle.tn_market.proofs.AskLemmas.{sum_over_small, payment_small}
+-- A numeral that isn't read as a number of 32 bits is beyond them.
+use Rattle.std.proofs.Common.{◌≡◌, ℕ, ◌<◌, ◌≤◌, ◌^◌, Bool, true, false, not, ◌==◌, ◌&&◌, ◌||◌, List, [], ◌∷◌, length, nat_le, if◌then◌else◌, Some, None, Result, get_or, refl, sym, subst, arith, true≢false, inl, inr}
+use Rattle.std.specs.Prelude.{Err}
+use Rattle.std.specs.Char.{is_ascii_digit}
+use Rattle.std.specs.List.{list_all}
+use Rattle.std.specs.Result.{OkIff}
+use Rattle.std.specs.Str.{all_ascii_digits}
+use Rattle.std.specs.Str.Parse.{ParsesUnsigned, digits_value}
+use Rattle.std.proofs.lemmas.Bool.{and_parts, cases_lt, lt-leb}
+use Rattle.std.proofs.lemmas.Str.Parse.{numerals_by_value, parse_digits, tells_all_ascii_digits}
+use Rattle.tn_run.specs.Words.{is_numeral, number_within}
 
--- each firm of a list has worths of at most 10^11 in size
-abbrev pub AreSmallFirms : List Firm → Type 0
-AreSmallFirms [] = Unit {0}
-AreSmallFirms (firm ∷ firms) = IsWorthAtMost (10 ^ 11) firm × AreSmallFirms firms
+all_digits : (word : List ℕ) → list_all is_ascii_digit word ≡ true → all_ascii_digits word ≡ true
+all_digits [] e = refl
+all_digits (c ∷ cs) e = let parts = and_parts (is_ascii_digit c) (list_all is_ascii_digit cs) e in λ i. parts.0 i && all_digits cs parts.1 i
 
--- a surplus is at most 10^11 for each firm
-pub surplus_small : (trades : List Ends) (on f : ℕ) (firms : List Firm) (s : ℤ) → AreSmallFirms firms → surplus_from trades on f firms ≡ Some s → IsAtMost s (length firms * 10 ^ 11)
-surplus_small trades on f [] s small is = let e : pos 0 ≡ s = same_Some (pos 0) s is in record { low = omega (arith, ints, e); high = omega (arith, ints, e) }
-surplus_small trades on f (firm ∷ firms) s small is = with_worth (λ rest e. surplus_small trades on (f + 1) firms rest small.1 e) (firm.worth (part trades f firm.count on)) refl
+some_digit : (word : List ℕ) → not (length word == 0) ≡ true → 0 < length word
+some_digit [] e = absurd (true≢false (sym e))
+some_digit (c ∷ cs) e = omega arith
+
+beyond : {E : Type 0} (word : List ℕ) (r : Result ℕ E) (e : E) → ParsesUnsigned 32 10 word r → r ≡ Err e → is_numeral word ≡ true → 2 ^ 32 ≤ digits_value 10 word
+beyond {E} word r e parsed refused numeral =
+    let both = and_parts (not (length word == 0) && list_all is_ascii_digit word) (length word == 1 || not (get_or word 0 0 == 48)) numeral in
+    let digits = and_parts (not (length word == 0)) (list_all is_ascii_digit word) both.0 in
+    let iff = parse_digits (numerals_by_value (λ ds. all_ascii_digits ds ≡ true) tells_all_ascii_digits) 32 word r parsed (all_digits word digits.1) in
+    let never = subst (λ (o : Result ℕ E). OkIff o ((0 < length word) × (digits_value 10 word < 2 ^ 32)) (digits_value 10 word)) refused iff in
+    by_size (some_digit word digits.0) never
   where
-    sum : ℤ → Option ℤ
-    sum w = option_map (λ rest. w +ℤ rest) (surplus_from trades on (f + 1) firms)
+    by_size : 0 < length word → ((0 < length word) × (digits_value 10 word < 2 ^ 32) → ⊥) → 2 ^ 32 ≤ digits_value 10 word
+    by_size some never = elim (cases_lt (digits_value 10 word) (2 ^ 32)) [ inl below ↦ absurd (never (some, below)) | inr above ↦ above ]
 
-    with_worth : ((rest : ℤ) → surplus_from trades on (f + 1) firms ≡ Some rest → IsAtMost rest (length firms * 10 ^ 11)) → (o : Option ℤ) → firm.worth (part trades f firm.count on) ≡ o → IsAtMost s (length (firm ∷ firms) * 10 ^ 11)
-    with_worth later None e = absurd (none-some s (sym (ap (option_and_then sum) e) ∙ is))
-    with_worth later (Some w) e =
-        let rest = option_map-some (λ rest. w +ℤ rest) (surplus_from trades on (f + 1) firms) s (sym (ap (option_and_then sum) e) ∙ is) in
-        let below = later rest.0 rest.1 in
-        let here = small.0 (part trades f firm.count on) w e in
-        let total = rest.2 in
-        record {
-          low = omega (arith, ints, total, below.low, here.low);
-          high = omega (arith, ints, total, below.high, here.high);
-        }
-
--- the utility of a bundle of at most 32 trades at prices of at most 10^14
-pub utility_small : (firm : Firm) (prices : ℕ → ℤ) (x : ℕ) (value : ℤ) → firm.count ≤ 32 → IsWorthAtMost (10 ^ 11) firm → ((k : ℕ) → IsAtMost (prices k) (10 ^ 14))
-    → utility (pos 1) prices firm x ≡ Some value → IsAtMost value (4 * 10 ^ 15)
-utility_small firm prices x value few worths small is =
-    let worth = option_map-some (λ a. pos 1 *ℤ a +ℤ sum_over (payments firm.buys prices) firm.count x) (firm.worth x) value is in
-    let amount = worths x worth.0 worth.1 in
-    let paid = sum_over_small (payments firm.buys prices) firm.count x (10 ^ 14) (λ k below. payment_small firm.buys prices k (10 ^ 14) (small k)) in
-    let total = worth.2 in
-    record {
-      low = omega (arith, ints, total, few, amount.low, paid.low);
-      high = omega (arith, ints, total, few, amount.high, paid.high);
-    }
+pub none_within : {E : Type 0} (least most : ℕ) (word : List ℕ) (r : Result ℕ E) (e : E) → ParsesUnsigned 32 10 word r → r ≡ Err e → is_numeral word ≡ true → most < 2 ^ 32
+    → None ≡ number_within least most word
+none_within least most word r e parsed refused numeral small =
+    let above = beyond word r e parsed refused numeral in
+    let not_most : nat_le (digits_value 10 word) most ≡ false = lt-leb (digits_value 10 word) most (omega (arith, above, small)) in
+    rw (numeral, not_most) (by (nat_le least (digits_value 10 word)))
+  where
+    by : (b : Bool) → None ≡ (if true && b && false then Some (digits_value 10 word) else None)
+    by true = refl
+    by false = refl

@@ -2,7 +2,7 @@
 use Rattle.std.proofs.Common.{◌≡◌, ℕ, ◌+◌, ◌≤◌, List, length, sym, subst, arith, ◌⊎◌, inl, inr}
 use Rattle.std.specs.Prelude.{Option}
 use Rattle.tn_market.specs.declared.said.Said.{Said}
-use Rattle.tn_market.specs.declared.said.Said.TheVariants.{Equilibrium, Better, Impossible, Fault, Usage, ReadFault, NoMemory, Accepted, ExchangeFails, Supported, Cycle, Solved}
+use Rattle.tn_market.specs.declared.said.Said.TheVariants.{Usage, ReadFault, NoMemory}
 use Rattle.tn_io.specs.Source.{TakesAtMost}
 use Rattle.tn_io.proofs.Taken.{Consumes-TakesFirst}
 use Rattle.tn_names.specs.Names.{NameLists}
@@ -27,15 +27,7 @@ taken_at_most : (command : Command) (old new : Option (List ℕ)) (before after 
 taken_at_most command old new before after names Usage may = absurd may
 taken_at_most command old new before after names ReadFault may = one_past old new may.1
 taken_at_most command old new before after names NoMemory may = may
-taken_at_most command old new before after names (Fault fault) may = taken_or_long command old new names (Fault fault) may
-taken_at_most command old new before after names (Equilibrium surplus) may = taken_or_long command old new names (Equilibrium surplus) may
-taken_at_most command old new before after names (Better f bundle gain) may = taken_or_long command old new names (Better f bundle gain) may
-taken_at_most command old new before after names (Impossible f) may = taken_or_long command old new names (Impossible f) may
-taken_at_most command old new before after names Accepted may = taken_or_long command old new names Accepted may
-taken_at_most command old new before after names (ExchangeFails f x y at) may = taken_or_long command old new names (ExchangeFails f x y at) may
-taken_at_most command old new before after names (Supported prices) may = taken_or_long command old new names (Supported prices) may
-taken_at_most command old new before after names (Cycle nodes cost) may = taken_or_long command old new names (Cycle nodes cost) may
-taken_at_most command old new before after names (Solved on prices surplus) may = taken_or_long command old new names (Solved on prices surplus) may
+taken_at_most command old new before after names said may = taken_or_long command old new names said may
 
 -- where something may be said, it may be said that memory ran out
 pub may_run_out : (command : Command) (old new : Option (List ℕ)) (before after : ℕ) (names : NameLists) (said told : Said)

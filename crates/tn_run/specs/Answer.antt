@@ -2,11 +2,9 @@
 use Rattle.std.specs.Prelude.{◌≡◌, ◌≢◌, ℕ, ℤ, ◌+◌, ◌≤◌, ◌⊎◌, pos, List, [], length, Option, None, IfSome, Result, Ok, Err}
 use Rattle.std.specs.Io.KnownBytes.{Consumes, IsAtEnd}
 use Rattle.tn_base.specs.declared.fault.FaultKind.TheVariants.{TooLong}
-use Rattle.tn_base.specs.Firm.{Firm}
 use Rattle.tn_market.specs.declared.said.Fault.{Fault as FaultIs}
 use Rattle.tn_market.specs.declared.said.Said.{Said}
-use Rattle.tn_market.specs.declared.said.Said.TheVariants.{Usage, ReadFault, NoMemory, Fault, Equilibrium, Better, Impossible, Accepted, ExchangeFails, Supported, Cycle, Solved}
-use Rattle.tn_market.specs.declared.ends.Ends.{Ends}
+use Rattle.tn_market.specs.declared.said.Said.TheVariants.{Usage, ReadFault, NoMemory, Fault, Equilibrium}
 use Rattle.tn_market.specs.Best.{price_at}
 use Rattle.tn_market.specs.Judged.{Judges}
 use Rattle.tn_io.specs.Counts.{Rose}
@@ -15,12 +13,15 @@ use Rattle.tn_answer.specs.Apart.{HasShortNumbers, IsNamedAnswer}
 use Rattle.tn_answer.specs.Kept.{HasAscendingTrades}
 use Rattle.tn_names.specs.Names.{NameLists, IsNameList}
 use Rattle.tn_listed.specs.Beside.{Stop}
-use Rattle.tn_file.specs.Document.{DocumentData, ExtraData, nothing, arrangement, on_alone, reading_of}
+use Rattle.tn_file.specs.Document.{DocumentData, ExtraData, arrangement, on_alone, outcome, edits, reading_of}
 use Rattle.tn_run.specs.declared.command.Command.{Command}
-use Rattle.tn_run.specs.declared.command.Command.TheVariants.{Check, Solve, Support, Test}
-use Rattle.tn_run.specs.Implied.{IsEfficientAndStable}
-use Rattle.tn_run.specs.Solved.{Solves}
-use Rattle.tn_run.specs.Supported.{SupportsSet}
+use Rattle.tn_run.specs.declared.command.Command.TheVariants.{Check, Judge, Range, Session, Solve, SolveRows, Support, Test}
+use Rattle.tn_command.specs.Implied.{IsEfficientAndStable}
+use Rattle.tn_command.specs.Edited.{TellsStates}
+use Rattle.tn_command.specs.Outcome.{JudgesOutcome}
+use Rattle.tn_command.specs.Ranged.{TellsRanges}
+use Rattle.tn_command.specs.Solved.{Solves, SolvesInRows}
+use Rattle.tn_command.specs.Supported.{SupportsSet}
 use Rattle.tn_run.specs.Tested.{Tests}
 use Rattle.tn_run.specs.Words.{need_of}
 
@@ -28,37 +29,35 @@ use Rattle.tn_run.specs.Words.{need_of}
 abbrev pub document_limit : ℕ
 document_limit = 4194304
 
--- where it is said to be an equilibrium, it is efficient and stable
-abbrev pub IsStableWhereSaid : List Firm → List Ends → ℕ → (ℕ → ℤ) → Said → Type 0
-IsStableWhereSaid firms trades on prices Usage = Unit {0}
-IsStableWhereSaid firms trades on prices ReadFault = Unit {0}
-IsStableWhereSaid firms trades on prices NoMemory = Unit {0}
-IsStableWhereSaid firms trades on prices (Fault fault) = Unit {0}
-IsStableWhereSaid firms trades on prices (Equilibrium surplus) = IsEfficientAndStable firms trades on prices
-IsStableWhereSaid firms trades on prices (Better f bundle gain) = Unit {0}
-IsStableWhereSaid firms trades on prices (Impossible f) = Unit {0}
-IsStableWhereSaid firms trades on prices Accepted = Unit {0}
-IsStableWhereSaid firms trades on prices (ExchangeFails f x y at) = Unit {0}
-IsStableWhereSaid firms trades on prices (Supported their_prices) = Unit {0}
-IsStableWhereSaid firms trades on prices (Cycle nodes cost) = Unit {0}
-IsStableWhereSaid firms trades on prices (Solved their_on their_prices surplus) = Unit {0}
-
--- the verdict on the arrangement of a document, at scale 1
+-- the verdict on the arrangement of a document, at scale 1; where that is an equilibrium, what it implies
 abbrev pub ChecksExtra : DocumentData → ExtraData → Said → Type 0
-ChecksExtra doc nothing said = ⊥
-ChecksExtra doc (arrangement at) said = Judges doc.firms doc.ends (pos 1) at.on (price_at at.prices) said × IsStableWhereSaid doc.firms doc.ends at.on (price_at at.prices) said
-ChecksExtra doc (on_alone on) said = ⊥
+ChecksExtra doc (arrangement at) said = Judges doc.firms doc.ends (pos 1) at.on (price_at at.prices) said
+    × ((surplus : ℤ) → said ≡ Equilibrium surplus → IsEfficientAndStable doc.firms doc.ends at.on (price_at at.prices))
+ChecksExtra doc extra said = ⊥
+
+-- the verdict on a document's outcome
+abbrev pub JudgesExtra : DocumentData → ExtraData → Said → Type 0
+JudgesExtra doc (outcome signed) said = JudgesOutcome doc.firms doc.ends signed.over signed.contracts said
+JudgesExtra doc extra said = ⊥
 
 -- prices for the trades of a document's arrangement that are on
 abbrev pub SupportsExtra : DocumentData → ExtraData → Said → Type 0
-SupportsExtra doc nothing said = ⊥
-SupportsExtra doc (arrangement at) said = ⊥
 SupportsExtra doc (on_alone on) said = SupportsSet doc.firms doc.ends on said
+SupportsExtra doc extra said = ⊥
+
+-- the states after the edits of a document
+abbrev pub EditsExtra : DocumentData → ExtraData → Said → Type 0
+EditsExtra doc (edits listed) said = TellsStates doc.firms doc.ends listed said
+EditsExtra doc extra said = ⊥
 
 -- the defined answer of a command on a document
 abbrev pub IsAnswerOf : Command → DocumentData → Said → Type 0
 IsAnswerOf Check doc said = ChecksExtra doc doc.extra said
+IsAnswerOf Judge doc said = JudgesExtra doc doc.extra said
+IsAnswerOf Range doc said = TellsRanges doc.firms doc.ends said
+IsAnswerOf Session doc said = EditsExtra doc doc.extra said
 IsAnswerOf Solve doc said = Solves doc.firms doc.ends said
+IsAnswerOf SolveRows doc said = SolvesInRows doc.firms doc.ends said
 IsAnswerOf Support doc said = SupportsExtra doc doc.extra said
 IsAnswerOf Test doc said = Tests doc.firms doc.ends said
 
@@ -107,12 +106,4 @@ abbrev pub MayBeSaid : Command → Option (List ℕ) → Option (List ℕ) → �
 MayBeSaid command old new faults_old faults_new names Usage = ⊥
 MayBeSaid command old new faults_old faults_new names ReadFault = Rose faults_old faults_new × TakesAtMost old new document_limit
 MayBeSaid command old new faults_old faults_new names NoMemory = TakesAtMost old new (document_limit + 1)
-MayBeSaid command old new faults_old faults_new names (Fault fault) = AnswersBytes command old new names (Fault fault)
-MayBeSaid command old new faults_old faults_new names (Equilibrium surplus) = AnswersBytes command old new names (Equilibrium surplus)
-MayBeSaid command old new faults_old faults_new names (Better f bundle gain) = AnswersBytes command old new names (Better f bundle gain)
-MayBeSaid command old new faults_old faults_new names (Impossible f) = AnswersBytes command old new names (Impossible f)
-MayBeSaid command old new faults_old faults_new names Accepted = AnswersBytes command old new names Accepted
-MayBeSaid command old new faults_old faults_new names (ExchangeFails f x y at) = AnswersBytes command old new names (ExchangeFails f x y at)
-MayBeSaid command old new faults_old faults_new names (Supported prices) = AnswersBytes command old new names (Supported prices)
-MayBeSaid command old new faults_old faults_new names (Cycle nodes cost) = AnswersBytes command old new names (Cycle nodes cost)
-MayBeSaid command old new faults_old faults_new names (Solved on prices surplus) = AnswersBytes command old new names (Solved on prices surplus)
+MayBeSaid command old new faults_old faults_new names said = AnswersBytes command old new names said

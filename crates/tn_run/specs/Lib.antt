@@ -1,8 +1,6 @@
 pub mod Words
 pub mod Tested
-pub mod Implied
-pub mod Solved
-pub mod Supported
+pub mod Drilled
 pub mod Answer
 pub mod Run
 pub mod Complete

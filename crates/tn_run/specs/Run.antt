@@ -1,7 +1,7 @@
 -- What a whole run comes to.
-use Rattle.std.specs.Prelude.{◌≡◌, ℕ, ◌⊎◌, List, Option}
+use Rattle.std.specs.Prelude.{◌≡◌, ℕ, ◌⊎◌, List, [], ◌∷◌, Option}
 use Rattle.tn_market.specs.declared.said.Said.{Said}
-use Rattle.tn_market.specs.declared.said.Said.TheVariants.{Usage, ReadFault, NoMemory, Fault, Equilibrium, Better, Impossible, Accepted, ExchangeFails, Supported, Cycle, Solved}
+use Rattle.tn_market.specs.declared.said.Said.TheVariants.{Usage, ReadFault, NoMemory, Fault, Equilibrium, Better, Impossible, Accepted, ExchangeFails, Supported, Cycle, Solved, Rows, Drill, Ranges, Session, Drops, Completes, Blocks, Valid, Invalid, Cases}
 use Rattle.tn_io.specs.Counts.{Rose}
 use Rattle.tn_io.specs.Sink.{Grows, GrowsByPrefix}
 use Rattle.tn_names.specs.Names.{NameLists}
@@ -21,6 +21,17 @@ status_of (ExchangeFails firm x y at) = 6
 status_of (Supported prices) = 0
 status_of (Cycle nodes cost) = 6
 status_of (Solved on prices surplus) = 0
+status_of (Rows on prices surplus) = 0
+status_of (Drill size start firms surplus) = 0
+status_of (Ranges on ranges) = 0
+status_of (Session edits) = 0
+status_of (Drops firm keeps gain over) = 6
+status_of (Completes prices over) = 0
+status_of (Blocks contracts over) = 6
+status_of Valid = 0
+status_of (Invalid reason) = 6
+status_of (Cases count []) = 0
+status_of (Cases count (number ∷ numbers)) = 6
 
 -- the text of the answer was written whole
 pub record IsWrittenWhole (old new : Option (List ℕ)) (names : NameLists) (said : Said) (status : ℕ) : Type 0 where

@@ -5,7 +5,7 @@ use Rattle.tn_base.specs.Exchange.{MeetsExchange}
 use Rattle.tn_exchange.specs.TestOrder.{Triple, IsFirstFailure}
 use Rattle.tn_market.specs.declared.ends.Ends.{Ends}
 use Rattle.tn_market.specs.declared.said.Said.{Said}
-use Rattle.tn_market.specs.declared.said.Said.TheVariants.{Usage, ReadFault, NoMemory, Fault, Equilibrium, Better, Impossible, Accepted, ExchangeFails, Supported, Cycle, Solved}
+use Rattle.tn_market.specs.declared.said.Said.TheVariants.{Accepted, ExchangeFails}
 use Rattle.tn_market.specs.Network.{own, trades_of}
 
 -- each firm before f meets exchange
@@ -24,15 +24,6 @@ pub record IsFirstToFail (firms : List Firm) (trades : List Ends) (f : ℕ) (x y
   pub at_is : at ≡ option_map (own trades f) triple.at
 
 abbrev pub Tests : List Firm → List Ends → Said → Type 0
-Tests firms trades Usage = ⊥
-Tests firms trades ReadFault = ⊥
-Tests firms trades NoMemory = ⊥
-Tests firms trades (Fault fault) = ⊥
-Tests firms trades (Equilibrium surplus) = ⊥
-Tests firms trades (Better f bundle gain) = ⊥
-Tests firms trades (Impossible f) = ⊥
 Tests firms trades Accepted = MeetBefore firms (length firms)
 Tests firms trades (ExchangeFails f x y at) = IsFirstToFail firms trades f x y at
-Tests firms trades (Supported prices) = ⊥
-Tests firms trades (Cycle nodes cost) = ⊥
-Tests firms trades (Solved on prices surplus) = ⊥
+Tests firms trades said = ⊥

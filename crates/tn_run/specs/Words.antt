@@ -1,18 +1,52 @@
 -- Which words are a command, and what a command reads.
-use Rattle.std.specs.Prelude.{ℕ, List, [], ◌∷◌, codes, Option, Some, None, if◌then◌else◌}
+use Rattle.std.specs.Prelude.{ℕ, List, [], ◌∷◌, length, codes, Bool, not, ◌==◌, ◌&&◌, ◌||◌, nat_le, get_or, Option, Some, None, if◌then◌else◌}
+use Rattle.std.specs.List.{list_all}
+use Rattle.std.specs.Char.{is_ascii_digit}
 use Rattle.std.specs.Str.{bytes_eq}
+use Rattle.std.specs.Str.Parse.{digits_value}
 use Rattle.tn_file.specs.declared.need.Need.{Need}
-use Rattle.tn_file.specs.declared.need.Need.TheVariants.{Market, Raw, Arrangement, On}
+use Rattle.tn_file.specs.declared.need.Need.TheVariants.{Market, Raw, Arrangement, On, Outcome, Edits}
 use Rattle.tn_run.specs.declared.command.Command.{Command}
-use Rattle.tn_run.specs.declared.command.Command.TheVariants.{Check, Solve, Support, Test}
+use Rattle.tn_run.specs.declared.command.Command.TheVariants.{Check, Judge, Range, Session, Solve, SolveRows, Support, Test}
 
+-- the command that reads a document, by its words
 abbrev pub command_of : List (List ℕ) → Option Command
 command_of [] = None
-command_of (word ∷ []) = if bytes_eq word (codes "check") then Some Check else (if bytes_eq word (codes "solve") then Some Solve else (if bytes_eq word (codes "support") then Some Support else (if bytes_eq word (codes "test") then Some Test else None)))
-command_of (word ∷ next ∷ words) = None
+command_of (word ∷ []) =
+    if bytes_eq word (codes "check") then Some Check
+    else if bytes_eq word (codes "judge") then Some Judge
+    else if bytes_eq word (codes "range") then Some Range
+    else if bytes_eq word (codes "session") then Some Session
+    else if bytes_eq word (codes "solve") then Some Solve
+    else if bytes_eq word (codes "support") then Some Support
+    else if bytes_eq word (codes "test") then Some Test
+    else None
+command_of (word ∷ next ∷ []) = if bytes_eq word (codes "solve") && bytes_eq next (codes "--csv") then Some SolveRows else None
+command_of (word ∷ next ∷ third ∷ words) = None
 
 abbrev pub need_of : Command → Need
 need_of Check = Arrangement
+need_of Judge = Outcome
+need_of Range = Market
+need_of Session = Edits
 need_of Solve = Market
+need_of SolveRows = Market
 need_of Support = On
 need_of Test = Raw
+
+-- a number's text: digits, and no zero before others
+abbrev pub is_numeral : List ℕ → Bool
+is_numeral word = not (length word == 0) && list_all is_ascii_digit word && (length word == 1 || not (get_or word 0 0 == 48))
+
+-- the number whose text a word is, none where it isn't one from the least to the most
+abbrev pub number_within : ℕ → ℕ → List ℕ → Option ℕ
+number_within least most word = if is_numeral word && nat_le least (digits_value 10 word) && nat_le (digits_value 10 word) most then Some (digits_value 10 word) else None
+
+abbrev pub two_numbers : Option ℕ → Option ℕ → Option (ℕ × ℕ)
+two_numbers (Some size) (Some start) = Some (size, start)
+two_numbers size start = None
+
+-- the size and the start of a drill, by the words
+abbrev pub drill_of : List (List ℕ) → Option (ℕ × ℕ)
+drill_of (word ∷ size ∷ start ∷ []) = if bytes_eq word (codes "drill") then two_numbers (number_within 1 64 size) (number_within 0 2147483647 start) else None
+drill_of words = None

@@ -8,14 +8,14 @@ ghost use Rattle.tn_file.specs.Refusal.{IsExtraFor, IsLoadedFor, document_view};
 ghost use Rattle.tn_run.specs.Answer.{IsAnswerOf, IsAnswerTo, KeepsRules, MayBeSaid, too_long};
 ghost use Rattle.tn_run.specs.Words.{need_of};
 
-use crate::checking::check;
 use crate::command::{Command, need_of};
-use crate::solving::solve;
-use crate::supporting::prices_for;
 use crate::testing::test;
 use std::alloc::Global;
 use tn_answer::Names;
 use tn_base::{FaultKind, OutOfMemory};
+use tn_command::{
+    check, judge_outcome, price_ranges, prices_for, solve, solve_in_rows, states_after,
+};
 use tn_file::{DocRefusal, Document, Extra, Loaded, Need, read_doc};
 use tn_io::{ReadStop, Source, read_all};
 use tn_market::{Fault, Place, Said};
@@ -34,7 +34,58 @@ fn check_document(alloc: Global, doc: &Document) -> Result<Said, OutOfMemory>
     match &doc.firms {
         Loaded::Market(market) => match &doc.extra {
             Extra::Arrangement(at) => check(alloc, market, at),
-            Extra::None | Extra::On(_) => unreachable!(),
+            Extra::None | Extra::On(_) | Extra::Outcome(_) | Extra::Edits(_) => unreachable!(),
+        },
+        Loaded::Raw(_) => unreachable!(),
+    }
+}
+
+/// The answer of `judge` on a document.
+fn judge_document(alloc: Global, doc: &Document) -> Result<Said, OutOfMemory>
+    requires document { IsDocument Need.Outcome (document_view doc.now) }
+    requires loaded { IsLoadedFor Need.Outcome doc.now.firms }
+    requires extra { IsExtraFor Need.Outcome doc.now.extra }
+    ensures answer { IfOk result (IsAnswerOf Command.Judge (document_view doc.now)) }
+    ensures within { IfOk result IsWithinClaims }
+{
+    match &doc.firms {
+        Loaded::Market(market) => match &doc.extra {
+            Extra::Outcome(outcome) => judge_outcome(alloc, market, outcome),
+            Extra::None | Extra::Arrangement(_) | Extra::On(_) | Extra::Edits(_) => {
+                unreachable!()
+            }
+        },
+        Loaded::Raw(_) => unreachable!(),
+    }
+}
+
+/// The answer of `range` on a document.
+fn range_document(alloc: Global, doc: &Document) -> Result<Said, OutOfMemory>
+    requires document { IsDocument Need.Market (document_view doc.now) }
+    requires loaded { IsLoadedFor Need.Market doc.now.firms }
+    ensures answer { IfOk result (IsAnswerOf Command.Range (document_view doc.now)) }
+    ensures within { IfOk result IsWithinClaims }
+{
+    match &doc.firms {
+        Loaded::Market(market) => price_ranges(alloc, market),
+        Loaded::Raw(_) => unreachable!(),
+    }
+}
+
+/// The answer of `session` on a document.
+fn session_document(alloc: Global, doc: &Document) -> Result<Said, OutOfMemory>
+    requires document { IsDocument Need.Edits (document_view doc.now) }
+    requires loaded { IsLoadedFor Need.Edits doc.now.firms }
+    requires extra { IsExtraFor Need.Edits doc.now.extra }
+    ensures answer { IfOk result (IsAnswerOf Command.Session (document_view doc.now)) }
+    ensures within { IfOk result IsWithinClaims }
+{
+    match &doc.firms {
+        Loaded::Market(market) => match &doc.extra {
+            Extra::Edits(edits) => states_after(alloc, market, edits),
+            Extra::None | Extra::Arrangement(_) | Extra::On(_) | Extra::Outcome(_) => {
+                unreachable!()
+            }
         },
         Loaded::Raw(_) => unreachable!(),
     }
@@ -53,6 +104,19 @@ fn solve_document(alloc: Global, doc: &Document) -> Result<Said, OutOfMemory>
     }
 }
 
+/// The answer of `solve --csv` on a document.
+fn solve_rows_document(alloc: Global, doc: &Document) -> Result<Said, OutOfMemory>
+    requires document { IsDocument Need.Market (document_view doc.now) }
+    requires loaded { IsLoadedFor Need.Market doc.now.firms }
+    ensures answer { IfOk result (IsAnswerOf Command.SolveRows (document_view doc.now)) }
+    ensures within { IfOk result IsWithinClaims }
+{
+    match &doc.firms {
+        Loaded::Market(market) => solve_in_rows(alloc, market),
+        Loaded::Raw(_) => unreachable!(),
+    }
+}
+
 /// The answer of `support` on a document.
 fn support_document(alloc: Global, doc: &Document) -> Result<Said, OutOfMemory>
     requires document { IsDocument Need.On (document_view doc.now) }
@@ -64,7 +128,9 @@ fn support_document(alloc: Global, doc: &Document) -> Result<Said, OutOfMemory>
     match &doc.firms {
         Loaded::Market(market) => match &doc.extra {
             Extra::On(on) => prices_for(alloc, market, on),
-            Extra::None | Extra::Arrangement(_) => unreachable!(),
+            Extra::None | Extra::Arrangement(_) | Extra::Outcome(_) | Extra::Edits(_) => {
+                unreachable!()
+            }
         },
         Loaded::Raw(_) => unreachable!(),
     }
@@ -93,7 +159,11 @@ fn answer_document(alloc: Global, command: Command, doc: &Document) -> Result<Sa
 {
     match command {
         Command::Check => check_document(alloc, doc),
+        Command::Judge => judge_document(alloc, doc),
+        Command::Range => range_document(alloc, doc),
+        Command::Session => session_document(alloc, doc),
         Command::Solve => solve_document(alloc, doc),
+        Command::SolveRows => solve_rows_document(alloc, doc),
         Command::Support => support_document(alloc, doc),
         Command::Test => test_document(alloc, doc),
     }

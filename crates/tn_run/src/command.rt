@@ -1,15 +1,24 @@
-ghost use Rattle.std.specs.Prelude.{◌≡◌, map, string_bytes};
-ghost use Rattle.tn_run.specs.Words.{command_of, need_of};
+ghost use Rattle.std.specs.Prelude.{◌≡◌, ◌≤◌, map, string_bytes, IfSome};
+ghost use Rattle.tn_run.specs.Words.{command_of, drill_of, need_of, two_numbers};
 
+use crate::numbers::number_within;
 use tn_file::Need;
 
-/// What the program is asked to do.
+/// What the program is asked to do with a document.
 #[derive(Clone, Copy)]
 pub enum Command {
     /// To judge a document's arrangement.
     Check,
+    /// To give the verdict on a document's outcome.
+    Judge,
+    /// To find how far each price of a document's network may move.
+    Range,
+    /// To find an equilibrium after each of a document's edits.
+    Session,
     /// To find an equilibrium of a document's network.
     Solve,
+    /// To find one, and to write it as rows.
+    SolveRows,
     /// To find prices for the trades of a document's arrangement that are on.
     Support,
     /// To test whether the firms of a document meet the exchange property.
@@ -25,6 +34,12 @@ pub fn command_of(words: &[String]) -> Option<Command>
         [word] => {
             if word.as_str() == "check" {
                 Some(Command::Check)
+            } else if word.as_str() == "judge" {
+                Some(Command::Judge)
+            } else if word.as_str() == "range" {
+                Some(Command::Range)
+            } else if word.as_str() == "session" {
+                Some(Command::Session)
             } else if word.as_str() == "solve" {
                 Some(Command::Solve)
             } else if word.as_str() == "support" {
@@ -35,7 +50,14 @@ pub fn command_of(words: &[String]) -> Option<Command>
                 None
             }
         }
-        [_, _, ..] => None,
+        [word, next] => {
+            if word.as_str() == "solve" && next.as_str() == "--csv" {
+                Some(Command::SolveRows)
+            } else {
+                None
+            }
+        }
+        [_, _, _, ..] => None,
     }
 }
 
@@ -45,8 +67,40 @@ pub fn need_of(command: Command) -> Need
 {
     match command {
         Command::Check => Need::Arrangement,
-        Command::Solve => Need::Market,
+        Command::Judge => Need::Outcome,
+        Command::Range | Command::Solve | Command::SolveRows => Need::Market,
+        Command::Session => Need::Edits,
         Command::Support => Need::On,
         Command::Test => Need::Raw,
+    }
+}
+
+/// The size and the start of the drill that the words are, None where they are none.
+pub fn drill_of(words: &[String]) -> Option<(u32, u32)>
+    ensures drill { result ≡ drill_of (map string_bytes words.now) }
+    ensures within { IfSome result (λ drill. (1 ≤ drill.0) × (drill.0 ≤ 64) × (drill.1 ≤ 2147483647)) }
+{
+    match words {
+        [word, size, start] => {
+            if word.as_str() == "drill" {
+                two_numbers(
+                    number_within(size, 1, 64),
+                    number_within(start, 0, 2_147_483_647),
+                )
+            } else {
+                None
+            }
+        }
+        [] | [_] | [_, _] | [_, _, _, _, ..] => None,
+    }
+}
+
+/// Two numbers, if both are there.
+fn two_numbers(size: Option<u32>, start: Option<u32>) -> Option<(u32, u32)>
+    ensures { result ≡ two_numbers size start }
+{
+    match (size, start) {
+        (Some(size), Some(start)) => Some((size, start)),
+        (None, _) | (_, None) => None,
     }
 }

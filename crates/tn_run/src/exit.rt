@@ -7,7 +7,8 @@ ghost use Rattle.tn_names.specs.Names.{NameLists};
 ghost use Rattle.tn_run.specs.Answer.{MayBeSaid};
 ghost use Rattle.tn_run.specs.Complete.{AnswersAll, NoneCounted};
 ghost use Rattle.tn_run.specs.Run.{IsWritten};
-ghost use Rattle.tn_run.specs.Words.{command_of};
+ghost use Rattle.tn_run.specs.Drilled.{MayBeDrilled};
+ghost use Rattle.tn_run.specs.Words.{command_of, drill_of};
 ghost use Rattle.tn_run.specs.declared.command.Command.{Command};
 
 use crate::top::run_market;
@@ -23,7 +24,8 @@ pub fn run_to_exit<S: Source, K: Sink>(
     sink: &mut K,
 ) -> ExitCode
     ensures answer { (said : Said) × (names : NameLists)
-        × (command_of (map string_bytes words.now) ≡ None → (said ≡ Said.Usage) × (source.new ≡ source.old))
+        × (command_of (map string_bytes words.now) ≡ None → drill_of (map string_bytes words.now) ≡ None → (said ≡ Said.Usage) × (source.new ≡ source.old))
+        × ((size start : ℕ) → drill_of (map string_bytes words.now) ≡ Some (size, start) → (source.new ≡ source.old) × MayBeDrilled size start said)
         × ((command : Command) → command_of (map string_bytes words.now) ≡ Some command
         → MayBeSaid command (S.left source.old) (S.left source.new) (S.faults source.old) (S.faults source.new) names said)
         × IsWritten (K.written sink.old) (K.written sink.new) (K.faults sink.old) (K.faults sink.new) names said (exit_status result) }

@@ -2,15 +2,15 @@
 #![tactic(auto)]
 
 mod answer;
-mod checking;
 mod command;
 mod exit;
 #[cfg(test)]
 mod kind_tests;
+mod numbers;
+#[cfg(test)]
+mod ranged_tests;
 #[cfg(test)]
 mod solve_tests;
-mod solving;
-mod supporting;
 mod testing;
 #[cfg(test)]
 mod tests;

@@ -138,7 +138,7 @@ const FAULTS: [Case; 8] = [
         6,
         r#"{"answer":"better","bundle":[],"firm":"B","gain":99999999999995}"#,
     ),
-    ("judge", r#"{"version":1}"#, 2, r#"{"answer":"usage"}"#),
+    ("juge", r#"{"version":1}"#, 2, r#"{"answer":"usage"}"#),
 ];
 
 #[test]

@@ -1,6 +1,6 @@
 //! The top call: words, reading, the answer, writing.
 
-ghost use Rattle.std.specs.Prelude.{◌≡◌, ◌≢◌, ◌⊎◌, ℕ, List, None, Some, map, string_bytes};
+ghost use Rattle.std.specs.Prelude.{◌≡◌, ◌≢◌, ◌≤◌, ◌⊎◌, ℕ, List, None, Some, map, string_bytes};
 ghost use Rattle.tn_answer.specs.AnswerText.{answer_line};
 ghost use Rattle.tn_names.specs.Names.{NameLists};
 ghost use Rattle.tn_answer.specs.Kept.{IsWithinClaims};
@@ -8,14 +8,16 @@ ghost use Rattle.tn_io.specs.Sink.{Grows, GrowsByPrefix};
 ghost use Rattle.tn_run.specs.Answer.{MayBeSaid};
 ghost use Rattle.tn_run.specs.Complete.{AnswersAll, NoneCounted};
 ghost use Rattle.tn_run.specs.Run.{IsWritten, IsWrittenWhole, status_of};
-ghost use Rattle.tn_run.specs.Words.{command_of};
+ghost use Rattle.tn_run.specs.Drilled.{MayBeDrilled};
+ghost use Rattle.tn_run.specs.Words.{command_of, drill_of};
 ghost use Rattle.tn_run.specs.declared.command.Command.{Command};
 
 use crate::answer::answer_source;
-use crate::command::command_of;
+use crate::command::{command_of, drill_of};
 use std::alloc::Global;
 use tn_answer::{Names, answer_text, no_memory_text, read_fault_text, usage_text};
 use tn_base::OutOfMemory;
+use tn_command::drill_surplus;
 use tn_io::{Sink, Source, SteadySink, SteadySource, WriteFailed, write_all};
 use tn_market::Said;
 
@@ -32,8 +34,16 @@ fn status_of(said: &Said) -> u8
     ensures { result ≡ status_of said.now }
 {
     match said {
-        Said::Equilibrium { .. } | Said::Accepted | Said::Supported { .. } | Said::Solved { .. } =>
-            0,
+        Said::Equilibrium { .. }
+        | Said::Accepted
+        | Said::Supported { .. }
+        | Said::Solved { .. }
+        | Said::Rows { .. }
+        | Said::Drill { .. }
+        | Said::Ranges { .. }
+        | Said::Session { .. }
+        | Said::Completes { .. }
+        | Said::Valid => 0,
         Said::Fault(_) => 1,
         Said::Usage => 2,
         Said::ReadFault => 3,
@@ -41,7 +51,11 @@ fn status_of(said: &Said) -> u8
         Said::Better { .. }
         | Said::Impossible { .. }
         | Said::ExchangeFails { .. }
-        | Said::Cycle { .. } => 6,
+        | Said::Cycle { .. }
+        | Said::Drops { .. }
+        | Said::Blocks { .. }
+        | Said::Invalid(_) => 6,
+        Said::Cases { failed, .. } => { if failed.len() == 0 { 0 } else { 6 } }
     }
 }
 
@@ -78,6 +92,36 @@ fn tell<K: Sink>(alloc: Global, names: &Names, said: Said, sink: &mut K) -> Run
     }
 }
 
+/// The answer of `drill`, or that memory ran out.
+fn drilled(alloc: Global, size: u32, start: u32) -> Said
+    requires some { 1 ≤ size }
+    requires few { size ≤ 64 }
+    requires start { start ≤ 2147483647 }
+    ensures drill { MayBeDrilled size start result }
+    ensures within { IsWithinClaims result }
+{
+    match drill_surplus(alloc, size, start) {
+        Ok(said) => said,
+        Err(OutOfMemory) => Said::NoMemory,
+    }
+}
+
+/// The run on words that ask for no document: a drill, or no command.
+fn run_without_reading<K: Sink>(alloc: Global, words: &[String], sink: &mut K, names: &Names) -> Run
+    ensures usage { drill_of (map string_bytes words.now) ≡ None → result.said ≡ Said.Usage }
+    ensures drill { (size start : ℕ) → drill_of (map string_bytes words.now) ≡ Some (size, start) → MayBeDrilled size start result.said }
+    ensures within { IsWithinClaims result.said }
+    ensures written { IsWritten (K.written sink.old) (K.written sink.new) (K.faults sink.old) (K.faults sink.new) names.now result.said result.status }
+{
+    match drill_of(words) {
+        None => write_line(sink, usage_text(), Said::Usage),
+        Some((size, start)) => {
+            let said = drilled(alloc, size, start);
+            tell(alloc, names, said, sink)
+        }
+    }
+}
+
 /// The run, with the names that the answer's text is over.
 fn run_with<S: Source, K: Sink>(
     alloc: Global,
@@ -86,14 +130,15 @@ fn run_with<S: Source, K: Sink>(
     sink: &mut K,
     names: &mut Names,
 ) -> Run
-    ensures usage { command_of (map string_bytes words.now) ≡ None → (result.said ≡ Said.Usage) × (source.new ≡ source.old) }
+    ensures usage { command_of (map string_bytes words.now) ≡ None → drill_of (map string_bytes words.now) ≡ None → (result.said ≡ Said.Usage) × (source.new ≡ source.old) }
+    ensures drill { (size start : ℕ) → drill_of (map string_bytes words.now) ≡ Some (size, start) → (source.new ≡ source.old) × MayBeDrilled size start result.said }
     ensures answer { (command : Command) → command_of (map string_bytes words.now) ≡ Some command
         → MayBeSaid command (S.left source.old) (S.left source.new) (S.faults source.old) (S.faults source.new) names.new result.said }
     ensures within { IsWithinClaims result.said }
     ensures written { IsWritten (K.written sink.old) (K.written sink.new) (K.faults sink.old) (K.faults sink.new) names.new result.said result.status }
 {
     match command_of(words) {
-        None => write_line(sink, usage_text(), Said::Usage),
+        None => run_without_reading(alloc, words, sink, names),
         Some(command) => {
             let said = answer_source(alloc, command, source, names);
             tell(alloc, names, said, sink)
@@ -101,7 +146,8 @@ fn run_with<S: Source, K: Sink>(
     }
 }
 
-/// Runs the program on its words: reads the source, answers, and writes the answer's text to the sink.
+/// Runs the program on its words: reads the source, unless they are no command or a drill, answers, and writes the
+/// answer's text to the sink.
 pub fn run_market<S: Source, K: Sink>(
     alloc: Global,
     words: &[String],
@@ -109,7 +155,8 @@ pub fn run_market<S: Source, K: Sink>(
     sink: &mut K,
 ) -> Run
     // Words that are no command: the source is as at entry.
-    ensures usage { command_of (map string_bytes words.now) ≡ None → (result.said ≡ Said.Usage) × (source.new ≡ source.old) }
+    ensures usage { command_of (map string_bytes words.now) ≡ None → drill_of (map string_bytes words.now) ≡ None → (result.said ≡ Said.Usage) × (source.new ≡ source.old) }
+    ensures drill { (size start : ℕ) → drill_of (map string_bytes words.now) ≡ Some (size, start) → (source.new ≡ source.old) × MayBeDrilled size start result.said }
     // Words that are a command: what the source gave is answered. What was written is the answer's text, or a prefix.
     ensures answer { (names : NameLists)
         × ((command : Command) → command_of (map string_bytes words.now) ≡ Some command
@@ -132,7 +179,8 @@ pub fn run_steadily(
     source: &mut SteadySource,
     sink: &mut SteadySink,
 ) -> Run
-    ensures usage { command_of (map string_bytes words.now) ≡ None → (result.said ≡ Said.Usage) × (source.new ≡ source.old) }
+    ensures usage { command_of (map string_bytes words.now) ≡ None → drill_of (map string_bytes words.now) ≡ None → (result.said ≡ Said.Usage) × (source.new ≡ source.old) }
+    ensures drill { (size start : ℕ) → drill_of (map string_bytes words.now) ≡ Some (size, start) → (source.new ≡ source.old) × MayBeDrilled size start result.said }
     // Words that are a command: what the source gave is answered. The answer's text was written whole.
     ensures answer { (names : NameLists)
         × ((command : Command) → command_of (map string_bytes words.now) ≡ Some command

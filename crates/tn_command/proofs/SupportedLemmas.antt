@@ -1,0 +1,40 @@
+-- From what the search for prices says to the answer about it.
+use Rattle.std.proofs.Common.{◌≡◌, ℕ, ◌+◌, ◌*◌, ◌^◌, ◌≤◌, ℤ, List, length, map, subst, arith, to_z, of_z}
+use Rattle.std.specs.Prelude.{Option, Some, slice_get}
+use Rattle.std.specs.Int.{w128}
+use Rattle.std.proofs.lemmas.Int.{ints}
+use Rattle.tn_base.specs.Arcs.{IsAtMost}
+use Rattle.tn_base.specs.Firm.{Firm}
+use Rattle.tn_firm.specs.declared.value.FirmValue.{FirmValue}
+use Rattle.tn_firm.specs.Firms.{firm_of, firm_laws}
+use Rattle.tn_market.specs.declared.ends.Ends.{Ends}
+use Rattle.tn_market.specs.Best.{price_at}
+use Rattle.tn_market.specs.Network.{IsNetwork}
+use Rattle.tn_market.specs.Supported.{AreSupports, IsNegativeCycle}
+use Rattle.tn_market.specs.Valued.{IsWorthAtMost}
+use Rattle.tn_price.proofs.CycleLemmas.{cycle_small}
+use Rattle.tn_command.specs.Implied.{IsEfficientAndStable}
+use Rattle.tn_command.proofs.CheckLemmas.{implied_by, value_at}
+
+-- supporting prices are those of an equilibrium
+pub supports_imply : (firms : List Firm) (trades : List Ends) (on : ℕ) (prices : List ℤ) → IsNetwork firms trades → AreSupports firms trades on prices
+    → AreSupports firms trades on prices × IsEfficientAndStable firms trades on (price_at prices)
+supports_imply firms trades on prices network supports = (supports, implied_by firms trades on (price_at prices) network supports.equilibrium)
+
+-- the worths of firms of any kind are small
+small_firms : (firms : List FirmValue) (f : ℕ) (firm : Firm) → slice_get (map firm_of firms) f ≡ Some firm → IsWorthAtMost (10 ^ 11) firm
+small_firms firms f firm is =
+    let there = value_at firms f firm is in subst (IsWorthAtMost (10 ^ 11)) there.2 (firm_laws there.0).within
+
+-- a cycle's cost fits an answer
+pub cycle_fits : (firms : List FirmValue) (trades : List Ends) (on : ℕ) (nodes : List (Option ℕ)) (cost : ℤ) → IsNetwork (map firm_of firms) trades → length trades ≤ 128
+    → IsNegativeCycle (map firm_of firms) trades on nodes cost → IsAtMost cost (10 ^ 14)
+cycle_fits firms trades on nodes cost network few cycle =
+    wider (length trades) cost few (cycle_small (map firm_of firms) trades on nodes cost network (10 ^ 11) (small_firms firms) cycle)
+  where
+    wider : (n : ℕ) (z : ℤ) → n ≤ 128 → IsAtMost z ((n + 1) * (2 * 10 ^ 11)) → IsAtMost z (10 ^ 14)
+    wider n z few small = let low = small.low in let high = small.high in record { low = omega (arith, ints, few, low, high); high = omega (arith, ints, few, low, high) }
+
+-- and so it does as it is stored
+pub cost_fits : (cost : ℤ) → IsAtMost cost (10 ^ 14) → IsAtMost (to_z w128 (of_z w128 cost)) (10 ^ 18)
+cost_fits cost small = let low = small.low in let high = small.high in record { low = omega (arith, ints, low, high); high = omega (arith, ints, low, high) }

@@ -1,0 +1,7 @@
+use Rattle.std.proofs.Common.{◌≡◌}
+use Rattle.tn_market.specs.Best.{price_at}
+use Rattle.tn_market.specs.Choices.{contracts_of}
+use Rattle.tn_command.proofs.editing.admitted_prices.Given as goal
+
+abbrev pub invariant-loop-t : goal.invariant-loop-t
+invariant-loop-t l = l.contracts.items ≡ contracts_of l.session.admitted (price_at l.session.solution.prices) l.t

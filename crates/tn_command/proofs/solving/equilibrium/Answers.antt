@@ -1,0 +1,29 @@
+use Rattle.std.proofs.Common.{ℕ, ℤ, ◌+◌, ◌*◌, ◌^◌, ◌≤◌, List, pos, rules, arith, length, map, sym, subst, ap, ◌∙◌}
+use Rattle.std.specs.Prelude.{All}
+use Rattle.tn_base.specs.Arcs.{IsAtMost}
+use Rattle.tn_firm.specs.Firms.{firm_of}
+use Rattle.tn_market.specs.Best.{price_at}
+use Rattle.tn_market.specs.Equilibrium.{IsEquilibrium}
+use Rattle.tn_command.proofs.SolveLemmas.{small_prices}
+use Rattle.tn_command.proofs.solving.equilibrium.Goals as goal
+
+few : (trades : ℕ) → trades ≤ 128 → 2 * 10 ^ 11 * (trades + 1) ≤ 10 ^ 18
+few trades most = omega (arith, most)
+
+pub solve_in-requires : goal.solve_in-requires
+solve_in-requires c = (omega arith, (search rules, (c.requires, (c.in_ok-solver.ensures.one_each, (λ f v is. few (length c.args.market.now.trades) c.requires)))))
+
+pub returns-clause-equilibrium : goal.returns-clause-equilibrium
+returns-clause-equilibrium c =
+    let firms = map firm_of c.args.market.now.firms in
+    let trades = c.args.market.now.trades in
+    subst (λ (on : ℕ). IsEquilibrium firms trades (pos 1) on (price_at c.in_ok-prices_of.field-0)) (sym c.on.ensures)
+    (subst (λ (prices : List ℤ). IsEquilibrium firms trades (pos 1) c.solve_in.new.self.on (price_at prices)) (sym c.in_ok-prices_of.ensures) c.solve_in.ensures.equilibrium)
+
+pub returns-clause-one_each : goal.returns-clause-one_each
+returns-clause-one_each c = ap length c.in_ok-prices_of.ensures ∙ c.solve_in.ensures.one_each
+
+pub returns-clause-small : goal.returns-clause-small
+returns-clause-small c =
+    subst (λ (prices : List ℤ). All (λ p. IsAtMost p (10 ^ 14)) prices) (sym c.in_ok-prices_of.ensures)
+    (small_prices (length c.args.market.now.trades) c.solve_in.new.self.prices c.requires (c.solve_in.ensures.prices (10 ^ 11) (λ f v is. omega arith)))

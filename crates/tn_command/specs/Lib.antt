@@ -1,0 +1,7 @@
+pub mod Implied
+pub mod Solved
+pub mod Supported
+pub mod Outcome
+pub mod Ranged
+pub mod Edited
+pub mod Drilled

@@ -1,0 +1,29 @@
+-- The answer of `solve`: an equilibrium.
+use Rattle.std.specs.Prelude.{◌≡◌, ℕ, ℤ, pos, List, length, Some}
+use Rattle.tn_base.specs.Firm.{Firm}
+use Rattle.tn_market.specs.declared.ends.Ends.{Ends}
+use Rattle.tn_market.specs.declared.said.Said.{Said}
+use Rattle.tn_market.specs.declared.said.Said.TheVariants.{Solved, Rows}
+use Rattle.tn_market.specs.Best.{price_at}
+use Rattle.tn_market.specs.Network.{trades_on}
+use Rattle.tn_market.specs.Equilibrium.{IsEquilibrium, surplus_of}
+use Rattle.tn_command.specs.Implied.{IsEfficientAndStable}
+
+-- the trades of some set, ascending, with a price for each trade, at which the set is an equilibrium; its surplus; and
+-- what that implies
+pub record IsSolved (firms : List Firm) (trades : List Ends) (on : List ℕ) (prices : List ℤ) (surplus : ℤ) : Type 0 where
+  pub set : ℕ
+  pub on_is : on ≡ trades_on set (length trades)
+  pub one_each : length prices ≡ length trades
+  pub equilibrium : IsEquilibrium firms trades (pos 1) set (price_at prices)
+  pub surplus_is : surplus_of firms trades set ≡ Some surplus
+  pub implied : IsEfficientAndStable firms trades set (price_at prices)
+
+abbrev pub Solves : List Firm → List Ends → Said → Type 0
+Solves firms trades (Solved on prices surplus) = IsSolved firms trades on prices surplus
+Solves firms trades said = ⊥
+
+-- the same, to be written as rows
+abbrev pub SolvesInRows : List Firm → List Ends → Said → Type 0
+SolvesInRows firms trades (Rows on prices surplus) = IsSolved firms trades on prices surplus
+SolvesInRows firms trades said = ⊥

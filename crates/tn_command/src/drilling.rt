@@ -1,0 +1,30 @@
+//! The answer of `drill`.
+
+ghost use Rattle.std.specs.Prelude.{◌≤◌, IfOk};
+ghost use Rattle.tn_answer.specs.Kept.{IsWithinClaims};
+ghost use Rattle.tn_command.specs.Drilled.{TellsDrill};
+
+use crate::solving::{equilibrium, surplus};
+use std::alloc::Global;
+use tn_base::OutOfMemory;
+use tn_drill::drill;
+use tn_market::Said;
+
+/// The greatest surplus of the drill network of this many trades that is drawn from a number.
+pub fn drill_surplus(alloc: Global, size: u32, start: u32) -> Result<Said, OutOfMemory>
+    requires some { 1 ≤ size }
+    requires few { size ≤ 64 }
+    requires start { start ≤ 2147483647 }
+    ensures answer { IfOk result (TellsDrill size start) }
+    ensures within { IfOk result IsWithinClaims }
+{
+    let market = drill(alloc, size, start)?;
+    let _count = market.trades();
+    let at = equilibrium(alloc, &market)?;
+    Ok(Said::Drill {
+        size,
+        start,
+        firms: market.firms(),
+        surplus: surplus(&market, &at.on),
+    })
+}

@@ -1,0 +1,44 @@
+//! The answer of `judge`.
+
+ghost use Rattle.std.specs.Prelude.{◌≤◌, IfOk, length, map};
+ghost use Rattle.tn_answer.specs.Kept.{IsWithinClaims};
+ghost use Rattle.tn_command.specs.Outcome.{JudgesOutcome};
+ghost use Rattle.tn_firm.specs.Firms.{firm_of};
+ghost use Rattle.tn_market.specs.Limits.{IsOutcomeOf};
+
+use crate::checking::trades_in;
+use std::alloc::Global;
+use tn_base::{Asked, OutOfMemory, Steps};
+use tn_firm::FirmValue;
+use tn_judge::{Judged, judge};
+use tn_market::{Market, Outcome, Said};
+
+/// The verdict on an outcome: a firm that would drop contracts, prices that complete it, or a chain that blocks it.
+pub fn judge_outcome(
+    alloc: Global,
+    market: &Market<FirmValue>,
+    outcome: &Outcome,
+) -> Result<Said, OutOfMemory>
+    requires few_firms { length market.now.firms ≤ 128 }
+    requires wide { length market.now.trades ≤ 128 }
+    requires outcome { IsOutcomeOf market.now.trades outcome.now.over outcome.now.contracts }
+    ensures answer { IfOk result (JudgesOutcome (map firm_of market.now.firms) market.now.trades outcome.now.over outcome.now.contracts) }
+    ensures within { IfOk result IsWithinClaims }
+{
+    match judge(alloc, market, outcome, &mut Steps::new(Asked))? {
+        Judged::Drops { firm, keeps, gain } => {
+            let keeps = trades_in(alloc, market, firm, keeps)?;
+            Ok(Said::Drops {
+                firm,
+                keeps,
+                gain,
+                over: outcome.over,
+            })
+        }
+        Judged::Completes { prices } => Ok(Said::Completes {
+            prices,
+            over: outcome.over,
+        }),
+        Judged::Blocks { contracts, over } => Ok(Said::Blocks { contracts, over }),
+    }
+}

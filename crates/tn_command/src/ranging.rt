@@ -1,0 +1,27 @@
+//! The answer of `range`.
+
+ghost use Rattle.std.specs.Prelude.{◌≤◌, IfOk, length, map};
+ghost use Rattle.tn_answer.specs.Kept.{IsWithinClaims};
+ghost use Rattle.tn_command.specs.Ranged.{TellsRanges};
+ghost use Rattle.tn_firm.specs.Firms.{firm_of};
+
+use crate::solving::{equilibrium, trades_on};
+use std::alloc::Global;
+use tn_base::{Asked, OutOfMemory, Steps};
+use tn_firm::FirmValue;
+use tn_market::{Market, Said};
+use tn_range::range;
+
+/// The lowest and the highest price of each trade over all equilibria of a market.
+pub fn price_ranges(alloc: Global, market: &Market<FirmValue>) -> Result<Said, OutOfMemory>
+    requires wide { length market.now.trades ≤ 128 }
+    ensures answer { IfOk result (TellsRanges (map firm_of market.now.firms) market.now.trades) }
+    ensures within { IfOk result IsWithinClaims }
+{
+    let at = equilibrium(alloc, market)?;
+    let ranges = range(alloc, market, &at.on, &mut Steps::new(Asked))?;
+    Ok(Said::Ranges {
+        on: trades_on(alloc, &at.on, market.trades())?,
+        ranges,
+    })
+}

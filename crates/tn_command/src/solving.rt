@@ -1,0 +1,106 @@
+//! The answer of `solve`.
+
+ghost use Rattle.std.specs.Prelude.{◌≡◌, ◌^◌, ◌≤◌, pos, All, IfOk, Some, length, map};
+ghost use Rattle.tn_answer.specs.Kept.{IsWithinClaim, IsWithinClaims};
+ghost use Rattle.tn_base.specs.Arcs.{IsAtMost};
+ghost use Rattle.tn_firm.specs.Firms.{firm_of};
+ghost use Rattle.tn_market.specs.Best.{price_at};
+ghost use Rattle.tn_market.specs.Equilibrium.{IsEquilibrium, surplus_of};
+ghost use Rattle.tn_market.specs.Graph.{ArePossible};
+ghost use Rattle.tn_market.specs.Network.{trades_on};
+ghost use Rattle.tn_command.specs.Solved.{Solves, SolvesInRows};
+
+use std::alloc::Global;
+use tn_base::{Asked, OutOfMemory, Steps, TradeSet};
+use tn_firm::FirmValue;
+use tn_flow::Solver;
+use tn_market::{Arrangement, Market, Prices, Said, Trades};
+use tn_price::surplus_of;
+
+/// The trades of a set, ascending.
+pub(crate) fn trades_on(alloc: Global, on: &TradeSet<2>, count: u32) -> Result<Trades, OutOfMemory>
+    requires { count ≤ 128 }
+    ensures { IfOk result (λ trades. trades ≡ trades_on on.now count) }
+{
+    let mut trades = Vec::new(alloc);
+    for t in 0..count {
+        if on.has(t) {
+            trades.push(t)?;
+        }
+    }
+    Ok(Trades::from_vec(trades))
+}
+
+/// The prices that a solver has found.
+fn prices_of(alloc: Global, solver: &Solver<2>, count: u32) -> Result<Prices, OutOfMemory>
+    requires { length solver.now.prices ≡ count }
+    ensures { IfOk result (λ prices. prices ≡ solver.now.prices) }
+{
+    let mut prices = Vec::with_capacity(alloc, count as usize)?;
+    for t in 0..count {
+        prices.push(solver.price(t))?;
+    }
+    Ok(Prices::from_vec(prices))
+}
+
+/// An equilibrium of a market.
+pub(crate) fn equilibrium(
+    alloc: Global,
+    market: &Market<FirmValue>,
+) -> Result<Arrangement<2>, OutOfMemory>
+    requires { length market.now.trades ≤ 128 }
+    ensures equilibrium { IfOk result (λ at. IsEquilibrium (map firm_of market.now.firms) market.now.trades (pos 1) at.on (price_at at.prices)) }
+    ensures one_each { IfOk result (λ at. length at.prices ≡ length market.now.trades) }
+    ensures small { IfOk result (λ at. All (λ price. IsAtMost price (10 ^ 14)) at.prices) }
+{
+    let mut solver = Solver::<2>::with_room(alloc, market)?;
+    solver.solve_in(market, &mut Steps::new(Asked));
+    Ok(Arrangement {
+        on: *solver.on(),
+        prices: prices_of(alloc, &solver, market.trades())?,
+    })
+}
+
+/// The surplus of a set of trades whose bundles are possible.
+pub(crate) fn surplus(market: &Market<FirmValue>, on: &TradeSet<2>) -> i128
+    requires wide { length market.now.trades ≤ 128 }
+    requires possible { ArePossible (map firm_of market.now.firms) market.now.trades on.now }
+    ensures surplus { surplus_of (map firm_of market.now.firms) market.now.trades on.now ≡ Some result }
+    ensures within { IsWithinClaim result }
+{
+    let _count = market.firms();
+    match surplus_of(market, on, &mut Steps::new(Asked)) {
+        Some(surplus) => surplus,
+        None => unreachable!(),
+    }
+}
+
+/// An equilibrium of a market, with its surplus.
+pub fn solve(alloc: Global, market: &Market<FirmValue>) -> Result<Said, OutOfMemory>
+    requires wide { length market.now.trades ≤ 128 }
+    ensures answer { IfOk result (Solves (map firm_of market.now.firms) market.now.trades) }
+    ensures within { IfOk result IsWithinClaims }
+{
+    let at = equilibrium(alloc, market)?;
+    let surplus = surplus(market, &at.on);
+    Ok(Said::Solved {
+        on: trades_on(alloc, &at.on, market.trades())?,
+        prices: at.prices,
+        surplus,
+    })
+}
+
+/// The same, to be written as rows.
+pub fn solve_in_rows(alloc: Global, market: &Market<FirmValue>) -> Result<Said, OutOfMemory>
+    requires wide { length market.now.trades ≤ 128 }
+    ensures answer { IfOk result (SolvesInRows (map firm_of market.now.firms) market.now.trades) }
+    ensures within { IfOk result IsWithinClaims }
+{
+    let at = equilibrium(alloc, market)?;
+    let surplus = surplus(market, &at.on);
+    Ok(Said::Rows {
+        on: trades_on(alloc, &at.on, market.trades())?,
+        prices: at.prices,
+        surplus,
+    })
+}

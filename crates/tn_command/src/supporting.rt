@@ -1,0 +1,30 @@
+//! The answer of `support`.
+
+ghost use Rattle.std.specs.Prelude.{◌≤◌, IfOk, length, map};
+ghost use Rattle.tn_answer.specs.Kept.{IsWithinClaims};
+ghost use Rattle.tn_firm.specs.Firms.{firm_of};
+ghost use Rattle.tn_command.specs.Supported.{SupportsSet};
+
+use std::alloc::Global;
+use tn_base::{Asked, OutOfMemory, Steps, TradeSet};
+use tn_firm::FirmValue;
+use tn_market::{Market, Said};
+use tn_price::{Support, support};
+
+/// Prices that support a set of trades, or why there are none.
+pub fn prices_for(
+    alloc: Global,
+    market: &Market<FirmValue>,
+    on: &TradeSet<2>,
+) -> Result<Said, OutOfMemory>
+    requires wide { length market.now.trades ≤ 128 }
+    ensures answer { IfOk result (SupportsSet (map firm_of market.now.firms) market.now.trades on.now) }
+    ensures within { IfOk result IsWithinClaims }
+{
+    let _count = market.trades();
+    match support(alloc, market, on, &mut Steps::new(Asked))? {
+        Support::Supported { prices } => Ok(Said::Supported { prices }),
+        Support::Impossible { firm } => Ok(Said::Impossible { firm }),
+        Support::Cycle { nodes, cost } => Ok(Said::Cycle { nodes, cost }),
+    }
+}

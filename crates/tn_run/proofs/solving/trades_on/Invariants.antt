@@ -1,6 +1,0 @@
-use Rattle.std.proofs.Common.{◌≡◌}
-use Rattle.tn_market.specs.Network.{trades_on}
-use Rattle.tn_run.proofs.solving.trades_on.Given as goal
-
-abbrev pub invariant-loop-t : goal.invariant-loop-t
-invariant-loop-t l = l.trades.items ≡ trades_on l.on l.t

@@ -1,0 +1,32 @@
+# The network of `drill SIZE START` as a document, drawn as docs/ANSWERS.md says; its trades are t0, t1 and so on. Needs jq
+# 1.6 or later, called without input:
+#   jq -n -c --argjson size 3 --argjson start 1 -f drill.jq
+
+def over($n): . / $n | floor;
+# (products stay below 2^53, up to which jq counts exactly: the multiplier is taken in two parts)
+def next: (. * 16838 % 2147483648 * 65536 + . * 20077 + 12345) % 2147483648;
+# a number below $n, after what was drawn before
+def draw($n): .state |= next | .drawn += [.state | over(65536) % $n];
+
+def draws($i): draw(2) | draw(if $i % 2 == 0 then 50 else 100 end) | draw(10);
+# trade $i: from a producer to a middleman, or from a middleman to a consumer
+def trade($i; $step; $amount; $number):
+  "t\($i)" as $name | ($i | over(2)) as $turn | "M\(($turn + $step) % 8)" as $middleman
+  | if $i % 2 == 0
+    then {name: $name, seller: "P\($turn % 4)", buyer: $middleman, numbers: [-(1 + $amount), $number]}
+    else {name: $name, seller: $middleman, buyer: "C\($turn % 4)", numbers: [$number, 50 + $amount]} end;
+
+reduce range($size) as $i ({state: $start, trades: []};
+    .drawn = [] | draws($i) | .trades += [trade($i; .drawn[0]; .drawn[1]; .drawn[2])])
+| .trades as $trades
+| def sales($firm): [$trades[] | select(.seller == $firm)];
+  def purchases($firm): [$trades[] | select(.buyer == $firm)];
+  def laminar($own; $at; $from; $values):
+    {kind: "laminar", amounts: ($own | map([.name, .numbers[$at]])), sets: [{trades: ($own | map(.name)), from: $from, values: $values}]};
+  {version: 1,
+   firms: (
+     [range(4) | "P\(.)" | {name: .} + laminar(sales(.); 0; -3; [-9, -4, -1, 0])]
+     + [range(8) | "M\(.)" | {name: ., kind: "middleman",
+          costs: (purchases(.) | map([.name, .numbers[1]])), gains: (sales(.) | map([.name, .numbers[0]]))}]
+     + [range(4) | "C\(.)" | {name: .} + laminar(purchases(.); 1; 0; [0, -1, -4, -9])]),
+   trades: ($trades | map({name, seller, buyer}))}
