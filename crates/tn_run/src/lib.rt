@@ -5,6 +5,8 @@ mod answer;
 mod command;
 mod exit;
 #[cfg(test)]
+mod judged_tests;
+#[cfg(test)]
 mod kind_tests;
 mod numbers;
 #[cfg(test)]
