@@ -181,11 +181,76 @@ fn finds_equilibria_and_prices(rt: HostRuntime) -> Result<(), Fail> {
 #[test]
 fn solves_networks_up_to_the_limits(rt: HostRuntime) -> Result<(), Fail> {
     let alloc = rt.alloc();
-    for (version, firms, trades) in [(1, 2, 64), (2, 4, 128)] {
+    let none = b",\"surplus\":0}\n".as_slice();
+    let limit = b"\"name\":\"Limit\",\"place\":[\"trades\"]}\n".as_slice();
+    for (version, firms, trades, status, end) in [
+        (1, 2, 64, 0, none),
+        (2, 4, 128, 0, none),
+        (1, 4, 128, 1, limit),
+        (2, 4, 129, 1, limit),
+    ] {
         let document = pairs(alloc, version, firms, trades)?;
-        let (status, written) = run_on(alloc, &["solve"], document.into_bytes())?;
+        let (found, written) = run_on(alloc, &["solve"], document.into_bytes())?;
+        assert_eq!(rt; found, status);
+        assert!(rt; written.ends_with(end));
+    }
+    Ok(())
+}
+
+/// The row of a bundle of the first so many trades: n of them are worth n times 20 - n.
+fn push_row(alloc: Global, text: &mut String, trades: u32, bundle: u32) -> Result<(), Fail> {
+    let begin = if bundle == 1 { "[[" } else { ",[[" };
+    text.push_str(begin)?;
+    let mut count = 0u32;
+    for k in 0..trades {
+        if bundle >> k & 1 == 1 {
+            let comma = comma(count);
+            let name = format!(in alloc; "{comma}\"t{k}\"")?;
+            text.push_str(&name)?;
+            count = count.wrapping_add(1);
+        }
+    }
+    let value = count.wrapping_mul(20u32.wrapping_sub(count));
+    let end = format!(in alloc; "],{value}]")?;
+    text.push_str(&end)?;
+    Ok(())
+}
+
+/// So many trades from a laminar firm to a table, which has a row for each bundle.
+fn table_of(alloc: Global, trades: u32) -> Result<String, Fail> {
+    let mut text = format!(in alloc;
+        "{{\"version\":1,\"firms\":[{{\"name\":\"L\",\"kind\":\"laminar\"}},{{\"name\":\"B\",\"kind\":\"table\",\"rows\":["
+    )?;
+    for bundle in 1..1u32 << trades {
+        push_row(alloc, &mut text, trades, bundle)?;
+    }
+    text.push_str("]}],\"trades\":[")?;
+    for k in 0..trades {
+        let comma = comma(k);
+        let trade = format!(in alloc;
+            "{comma}{{\"name\":\"t{k}\",\"seller\":\"L\",\"buyer\":\"B\"}}"
+        )?;
+        text.push_str(&trade)?;
+    }
+    text.push_str("]}")?;
+    Ok(text)
+}
+
+/// A table of ten trades, which wants all of them.
+#[test]
+fn buys_for_a_table_of_ten_trades(rt: HostRuntime) -> Result<(), Fail> {
+    let alloc = rt.alloc();
+    let accepted = br#"{"answer":"accepted"}"#.as_slice();
+    let all =
+        br#"{"answer":"solved","on":["t0","t1","t2","t3","t4","t5","t6","t7","t8","t9"],"#.as_slice();
+    for (command, begin, end) in [
+        ("test", accepted, b"}\n".as_slice()),
+        ("solve", all, b",\"surplus\":100}\n"),
+    ] {
+        let document = table_of(alloc, 10)?;
+        let (status, written) = run_on(alloc, &[command], document.into_bytes())?;
         assert_eq!(rt; status, 0);
-        assert!(rt; written.ends_with(b",\"surplus\":0}\n"));
+        assert!(rt; written.starts_with(begin) && written.ends_with(end));
     }
     Ok(())
 }
