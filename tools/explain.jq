@@ -5,11 +5,17 @@
 def listed: if length == 0 then "nothing" elif length == 1 then .[0] else (.[:-1] | join(", ")) + " and " + .[-1] end;
 def set: "{" + join(", ") + "}";
 def items: if type == "array" then .[] else empty end;
+# a numerator over a denominator, as a whole number where it is one
+def over($over): if $over == 1 or $over == 0 then . elif . % $over == 0 then . / $over else "\(.)/\($over)" end;
 
 ($document[0] | if type == "object" then . else {} end) as $network
 | ($network.arrangement | if type == "object" then . else {} end) as $arrangement
-| (. as $said | ($said.on // $arrangement.on // [])) as $on
-| ((.prices // $arrangement.prices // []) | [items | arrays | {(.[0] | tostring): .[1]}] | add // {}) as $prices
+| ($network.outcome | if type == "object" then . else {} end) as $outcome
+| (.answer | . == "drops" or . == "completes" or . == "blocks") as $judged
+# what takes place, and at which prices: of an outcome, what is signed
+| (if $judged then [$outcome.contracts | items | .[0]] else .on // $arrangement.on // [] end) as $on
+| (if $judged then [.prices // $outcome.contracts | items | [.[0], (.[1] | over($outcome.over))]] else .prices // $arrangement.prices // [] end
+   | [items | arrays | {(.[0] | tostring): .[1]}] | add // {}) as $prices
 | def trade($name): first($network.trades | items | objects | select(.name == $name)) // {name: $name, seller: "?", buyer: "?"};
   def at_price($name): if $prices[$name] == null then "" else " at \($prices[$name])" end;
   # what a firm does by a trade, in two forms of the verb
@@ -21,6 +27,8 @@ def items: if type == "array" then .[] else empty end;
   def names_of_firms: [$network.firms | items | objects | .name];
   def earlier($firm): names_of_firms | .[:(index($firm) // 0)];
   def contented($firm): earlier($firm) | if . == [] then empty elif length == 1 then "\(.[0]), which stands before \($firm) in the document, is content." else "\(listed), which stand before \($firm) in the document, are content." end;
+  def keeping($firm): earlier($firm) | if . == [] then empty else "\(listed), which \(if length == 1 then "stands" else "stand" end) before \($firm) in the document, would keep all." end;
+  def signed: if $on == [] then "Nothing is signed." else "Signed: \([$on[] as $t | trade($t) | "\(.seller) sells \($t) to \(.buyer)\(at_price($t))"] | listed)." end;
   def off: [$network.trades | items | objects | .name | select(. as $n | $on | index($n) | not)];
   def sentence_of($name): trade($name) | "\(.seller) sells \($name) to \(.buyer)\(at_price($name)).";
   def trading: ($on[] as $t | sentence_of($t)), (if $on == [] then "Nothing is traded." else empty end);
@@ -109,6 +117,21 @@ def items: if type == "array" then .[] else empty end;
        (.edits as $states | range($states | length) as $k
         | "\($k + 1). \(($network.edits[$k]? // ["", "?"]) | edit). \($states[$k] | standing) The worths sum to \($states[$k].surplus), and no other set of admitted trades has more.")
      end)
+  elif .answer == "drops" then
+    "This outcome isn't kept: \(.firm) would rather drop \(if .keeps == [] then "its contracts" else "some of its contracts" end).",
+    "By what is signed \(.firm) \(does(.firm; own(.firm; $on))).",
+    (if .gain == null then "It can't do that: it gives this bundle no worth. Of all that it may keep, it is best to keep \(.keeps | listed)."
+     else "It would rather keep \(.keeps | listed): its utility is then greater by \(.over as $over | .gain | over($over)), and to keep others brings it no more." end),
+    keeping(.firm)
+  elif .answer == "completes" then
+    "This outcome can stand: each firm would keep all its contracts, and there are prices for all trades at which nobody would rather do something else.",
+    signed, keeping_off
+  elif .answer == "blocks" then
+    "This outcome is blocked: each firm would keep all its contracts, but some would rather sign others.",
+    signed,
+    "They would sign:",
+    (.over as $over | .contracts[] | . as $contract | trade($contract[0]) | "\(.seller) sells \(.name) to \(.buyer) at \($contract[1] | over($over))."),
+    "Each firm named there, whatever it keeps of what it has signed, would rather have all of these that are its own. So no prices go with what is signed."
   elif .answer == "drill" then
     "The network of \(.firms) firms and \(.size) trades that is drawn from \(.start): the worths of its firms sum to \(.surplus) for some set of trades, and to no more for any."
   elif .answer == "usage" then "The words after the program's name are no command. Nothing was read."

@@ -9,14 +9,21 @@
 def quoted: tostring | tojson; # (an escape of JSON is one of Graphviz)
 def listed: "{" + (map(tostring) | join(", ")) + "}";
 def items: if type == "array" then .[] else empty end;
+# a numerator over a denominator, as a whole number where it is one
+def over($over): if $over == 1 or $over == 0 then . elif . % $over == 0 then . / $over else "\(.)/\($over)" end;
 
 ($document[0] | if type == "object" then . else {} end) as $network
 | ($answer[0] | if type == "object" then . else {} end) as $said
 | ($network.arrangement | if type == "object" then . else {} end) as $arrangement
 | (if $said.answer == "session" then $said.edits[-1] // {on: [], prices: [], surplus: 0} else null end) as $state
-# (an answer's own trades and prices come before those of the document)
-| ($state.on // $said.on // $arrangement.on) as $on
-| (if $said.answer == "ranges" then
+| ($network.outcome | if type == "object" then . else {} end) as $outcome
+| ($said.answer | . == "drops" or . == "completes" or . == "blocks") as $judged
+# (an answer's own trades and prices come before those of the document; of an outcome those are on that are signed)
+| (if $judged then [$outcome.contracts | items | .[0]] else $state.on // $said.on // $arrangement.on end) as $on
+| (if $judged then
+     [($said.prices // $outcome.contracts | items | [.[0], (.[1] | over($outcome.over))]),
+      ($said.contracts | items | [.[0], (.[1] | over($said.over))])]
+   elif $said.answer == "ranges" then
      [$said.ranges[] | [.trade,
         if .low == null and .high == null then "any price"
         elif .low == .high then .low
@@ -34,7 +41,8 @@ def items: if type == "array" then .[] else empty end;
 | {x: "#b45309", y: "#1d4ed8", both: "#7e22ce"} as $colour
 | def in_list($name): [items | . == $name] | any;
   def colour_of($name):
-    if ($said.bundle | in_list($name)) or ($said.keeps | in_list($name)) or ($said.nodes | in_list($name)) then $colour.x
+    if ($said.bundle | in_list($name)) or ($said.keeps | in_list($name)) or ($said.nodes | in_list($name))
+      or ([$said.contracts | items | .[0]] | in_list($name)) then $colour.x
     elif ($x | in_list($name)) and ($y | in_list($name)) then $colour.both
     elif $x | in_list($name) then $colour.x
     elif $y | in_list($name) then $colour.y
@@ -59,6 +67,10 @@ def items: if type == "array" then .[] else empty end;
     elif $said.answer == "session" then
       if $said.edits == [] then "no edits"
       else "after the last edit, \($network.edits[-1]? // [] | join(" ")): surplus \($state.surplus)" end
+    elif $said.answer == "drops" then
+      "\($said.firm) would keep \($said.keeps | listed)\(if $said.gain == null then ": what it has signed is impossible" else " and gain \($said.gain | over($said.over))" end)"
+    elif $said.answer == "completes" then "prices that complete what is signed"
+    elif $said.answer == "blocks" then "blocked by the chain \([$said.contracts | items | .[0]] | path)"
     elif $said.answer == "fault" then
       "fault \($said.fault), \($said.name)\(if $said.place == [] then "" else ", at \($said.place | map(tostring) | join(" / "))" end)"
     else $said.answer end;
