@@ -5,7 +5,7 @@ use std::alloc::Global;
 use std::process::Abort;
 use std::test::Fail;
 use tn_base::FaultKind;
-use tn_market::{Fault, Numbers, Place, PlaceStep, Reason, Said, Shown, Trades, Word};
+use tn_market::{Fault, Place, PlaceStep, Reason, Said, Shown, Trades, Word};
 
 fn two_of_each(alloc: Global) -> Result<Names, Fail> {
     let mut names = Names::empty(alloc);
@@ -177,44 +177,18 @@ fn writes_a_failing_triple(rt: HostRuntime) -> Result<(), Fail> {
 }
 
 #[test]
-fn writes_what_is_said_of_a_claim(rt: HostRuntime) -> Result<(), Fail> {
+fn writes_a_reason(rt: HostRuntime) -> Result<(), Fail> {
     let names = two_of_each(rt.alloc())?;
-    assert!(rt; names.firms() == 2 && names.trades() == 2);
-    for (said, content) in [
-        (Said::Valid, r#"{"answer":"valid"}"#),
-        (
-            Said::Invalid(Reason::Choice { firm: 0, trade: 1 }),
-            r#"{"answer":"invalid","firm":"S","reason":"choice","trade":"b"}"#,
-        ),
-        (
-            Said::Invalid(Reason::Gain {
-                firm: 1,
-                gain: None,
-            }),
-            r#"{"answer":"invalid","firm":"B","gain":null,"reason":"gain"}"#,
-        ),
-        (
-            Said::Invalid(Reason::Arc { index: 1 }),
-            r#"{"answer":"invalid","index":1,"reason":"arc"}"#,
-        ),
-        (
-            Said::Invalid(Reason::Empty),
-            r#"{"answer":"invalid","reason":"empty"}"#,
-        ),
-    ] {
-        assert_line(&rt, rt.alloc(), &names, &said, content)?;
-    }
-    let mut failed = Vec::new(rt.alloc());
-    failed.push(3u32)?;
-    let cases = Said::Cases {
-        count: 12,
-        failed: Numbers::from_vec(failed),
+    assert!(rt; names.firms() == 2);
+    let reason = Reason::Gain {
+        firm: 1,
+        gain: None,
     };
     assert_line(
         &rt,
         rt.alloc(),
         &names,
-        &cases,
-        r#"{"answer":"cases","count":12,"failed":[3]}"#,
+        &Said::Invalid(reason),
+        r#"{"answer":"invalid","firm":"B","gain":null,"reason":"gain"}"#,
     )
 }
