@@ -1,3 +1,4 @@
 pub mod Reading
 pub mod Shapes
+pub mod Claims
 pub mod Members

@@ -4,7 +4,8 @@ use Rattle.std.specs.Str.{bytes_eq}
 use Rattle.serde_json.specs.Data.{Members, no_members, member}
 use Rattle.tn_shape.specs.declared.members.ObjectKind.{ObjectKind}
 use Rattle.tn_shape.specs.declared.members.FirmKind.TheVariants.{Table, Laminar, Middleman}
-use Rattle.tn_shape.specs.declared.members.ObjectKind.TheVariants.{Top, Trade, Firm, LaminarSet, Arrangement, Outcome}
+use Rattle.tn_shape.specs.declared.members.ObjectKind.TheVariants.{Top, Trade, Firm, LaminarSet, Arrangement, Outcome, Claim}
+use Rattle.tn_shape.specs.Claims.{allows_in_claim}
 
 -- the members that an object may have; a note is never read
 unfoldable pub allows : ObjectKind → List ℕ → Bool
@@ -16,6 +17,7 @@ allows (Firm Middleman) k = bytes_eq k (codes "name") || bytes_eq k (codes "kind
 allows LaminarSet k = bytes_eq k (codes "trades") || bytes_eq k (codes "from") || bytes_eq k (codes "values")
 allows Arrangement k = bytes_eq k (codes "on") || bytes_eq k (codes "prices")
 allows Outcome k = bytes_eq k (codes "over") || bytes_eq k (codes "contracts")
+allows (Claim kind) k = allows_in_claim kind k
 
 abbrev pub allows_all : ObjectKind → Members → Bool
 allows_all kind no_members = true

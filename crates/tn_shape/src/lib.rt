@@ -2,11 +2,13 @@
 //! has which shape, and what reading in order is, stands in `specs/`.
 #![tactic(auto)]
 
+mod claims;
 mod error;
 mod members;
 mod shapes;
 pub mod steps;
 
+pub use claims::{ClaimKind, claim_named};
 pub use error::ReadError;
 pub use members::{FirmKind, ObjectKind};
 pub use shapes::{

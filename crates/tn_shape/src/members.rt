@@ -1,10 +1,11 @@
 //! The members that an object may have.
 
-ghost use Rattle.std.specs.Prelude.{◌≡◌, map, string_bytes, bytes_eq};
-ghost use Rattle.std.specs.List.{list_all, list_any};
+ghost use Rattle.std.specs.Prelude.{◌≡◌, map, string_bytes};
+ghost use Rattle.std.specs.List.{list_all};
 ghost use Rattle.serde_json.specs.View.{members_view};
 ghost use Rattle.tn_shape.specs.Members.{allows, allows_all};
 
+use crate::claims::{ClaimKind, allows_in_claim, is_one_of};
 use serde_json::{Map, Value};
 
 /// The kinds of firms.
@@ -33,6 +34,8 @@ pub enum ObjectKind {
     Arrangement,
     /// The outcome.
     Outcome,
+    /// A claim of a kind.
+    Claim(ClaimKind),
 }
 
 /// Whether an object of a kind has allowed members alone.
@@ -77,11 +80,6 @@ fn allows(kind: ObjectKind, word: &str) -> bool
         ObjectKind::LaminarSet => is_one_of(word, &["trades", "from", "values"]),
         ObjectKind::Arrangement => is_one_of(word, &["on", "prices"]),
         ObjectKind::Outcome => is_one_of(word, &["over", "contracts"]),
+        ObjectKind::Claim(kind) => allows_in_claim(kind, word),
     }
-}
-
-fn is_one_of(word: &str, words: &[&str]) -> bool
-    ensures { result ≡ list_any (λ w. bytes_eq word.now w.now) words.now }
-{
-    words.iter().any(|one| word == *one)
 }

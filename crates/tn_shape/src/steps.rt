@@ -17,6 +17,9 @@ pub const ARRANGEMENT: PlaceStep = PlaceStep::Word(Word::Arrangement);
 /// The member `outcome`.
 pub const OUTCOME: PlaceStep = PlaceStep::Word(Word::Outcome);
 
+/// The member `claim`.
+pub const CLAIM: PlaceStep = PlaceStep::Word(Word::Claim);
+
 /// The member `edits`.
 pub const EDITS: PlaceStep = PlaceStep::Word(Word::Edits);
 
@@ -67,3 +70,36 @@ pub const OVER: PlaceStep = PlaceStep::Word(Word::Over);
 
 /// The member `contracts`.
 pub const CONTRACTS: PlaceStep = PlaceStep::Word(Word::Contracts);
+
+/// The member `answer`.
+pub const ANSWER: PlaceStep = PlaceStep::Word(Word::Answer);
+
+/// The member `surplus`.
+pub const SURPLUS: PlaceStep = PlaceStep::Word(Word::Surplus);
+
+/// The member `firm`.
+pub const FIRM: PlaceStep = PlaceStep::Word(Word::Firm);
+
+/// The member `bundle`.
+pub const BUNDLE: PlaceStep = PlaceStep::Word(Word::Bundle);
+
+/// The member `gain`.
+pub const GAIN: PlaceStep = PlaceStep::Word(Word::Gain);
+
+/// The member `x`.
+pub const X: PlaceStep = PlaceStep::Word(Word::X);
+
+/// The member `y`.
+pub const Y: PlaceStep = PlaceStep::Word(Word::Y);
+
+/// The member `at`.
+pub const AT: PlaceStep = PlaceStep::Word(Word::At);
+
+/// The member `nodes`.
+pub const NODES: PlaceStep = PlaceStep::Word(Word::Nodes);
+
+/// The member `cost`.
+pub const COST: PlaceStep = PlaceStep::Word(Word::Cost);
+
+/// The member `keeps`.
+pub const KEEPS: PlaceStep = PlaceStep::Word(Word::Keeps);

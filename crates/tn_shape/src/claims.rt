@@ -1,0 +1,89 @@
+//! The kinds of claims: the word of each, and the members that it may have.
+
+ghost use Rattle.std.specs.Prelude.{◌≡◌, bytes_eq};
+ghost use Rattle.std.specs.List.{list_any};
+ghost use Rattle.tn_shape.specs.Claims.{allows_in_claim, claim_named};
+
+/// The kinds of claims, one for each answer that can be claimed.
+#[derive(Clone, Copy)]
+pub enum ClaimKind {
+    /// An arrangement is an equilibrium.
+    Equilibrium,
+    /// A firm has more by another bundle.
+    Better,
+    /// A firm's bundle is impossible.
+    Impossible,
+    /// Every firm meets the exchange property.
+    Accepted,
+    /// A firm doesn't.
+    ExchangeFails,
+    /// Prices support a set of trades.
+    Supported,
+    /// A cycle shows that no prices do.
+    Cycle,
+    /// The claim's own arrangement is an equilibrium.
+    Solved,
+    /// A firm has more where it drops contracts.
+    Drops,
+    /// Prices complete an outcome.
+    Completes,
+    /// Contracts block an outcome.
+    Blocks,
+}
+
+/// The kind of claim that a text names.
+pub fn claim_named(text: &str) -> Option<ClaimKind>
+    ensures { result ≡ claim_named text.now }
+{
+    if text == "equilibrium" {
+        Some(ClaimKind::Equilibrium)
+    } else if text == "better" {
+        Some(ClaimKind::Better)
+    } else if text == "impossible" {
+        Some(ClaimKind::Impossible)
+    } else if text == "accepted" {
+        Some(ClaimKind::Accepted)
+    } else if text == "exchange_fails" {
+        Some(ClaimKind::ExchangeFails)
+    } else if text == "prices" {
+        Some(ClaimKind::Supported)
+    } else if text == "cycle" {
+        Some(ClaimKind::Cycle)
+    } else if text == "solved" {
+        Some(ClaimKind::Solved)
+    } else if text == "drops" {
+        Some(ClaimKind::Drops)
+    } else if text == "completes" {
+        Some(ClaimKind::Completes)
+    } else if text == "blocks" {
+        Some(ClaimKind::Blocks)
+    } else {
+        None
+    }
+}
+
+/// Whether a claim of a kind may have a member of this name.
+#[tactic(auto, unfolding(crate::specs::Claims::allows_in_claim))]
+pub(crate) fn allows_in_claim(kind: ClaimKind, word: &str) -> bool
+    ensures { result ≡ allows_in_claim kind word.now }
+{
+    match kind {
+        ClaimKind::Equilibrium => is_one_of(word, &["answer", "surplus"]),
+        ClaimKind::Better => is_one_of(word, &["answer", "bundle", "firm", "gain"]),
+        ClaimKind::Impossible => is_one_of(word, &["answer", "firm"]),
+        ClaimKind::Accepted => is_one_of(word, &["answer"]),
+        ClaimKind::ExchangeFails => is_one_of(word, &["answer", "at", "firm", "x", "y"]),
+        ClaimKind::Supported => is_one_of(word, &["answer", "prices"]),
+        ClaimKind::Cycle => is_one_of(word, &["answer", "cost", "nodes"]),
+        ClaimKind::Solved => is_one_of(word, &["answer", "on", "prices", "surplus"]),
+        ClaimKind::Drops => is_one_of(word, &["answer", "firm", "gain", "keeps", "over"]),
+        ClaimKind::Completes => is_one_of(word, &["answer", "over", "prices"]),
+        ClaimKind::Blocks => is_one_of(word, &["answer", "contracts", "over"]),
+    }
+}
+
+pub(crate) fn is_one_of(word: &str, words: &[&str]) -> bool
+    ensures { result ≡ list_any (λ w. bytes_eq word.now w.now) words.now }
+{
+    words.iter().any(|one| word == *one)
+}
