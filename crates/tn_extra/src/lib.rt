@@ -12,4 +12,5 @@ pub use edits::read_edits;
 pub use laws::{
     arrangements_have_their_entries, edits_have_their_entries, outcomes_have_their_entries,
 };
-pub use outcome::read_outcome;
+pub use lists::{ListAt, price_of, read_prices, read_trades};
+pub use outcome::{read_outcome, read_over};

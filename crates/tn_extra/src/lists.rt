@@ -19,13 +19,15 @@ use tn_shape::{ReadError, fault, number, two};
 
 /// A list that is a member of an extra part.
 #[derive(Clone, Copy)]
-pub(crate) struct ListAt {
-    pub(crate) part: PlaceStep,
-    pub(crate) member: PlaceStep,
+pub struct ListAt {
+    /// The part.
+    pub part: PlaceStep,
+    /// The member.
+    pub member: PlaceStep,
 }
 
 /// The set of the trades that a list names.
-pub(crate) fn read_trades(
+pub fn read_trades(
     alloc: Global,
     names: &Names,
     at: ListAt,
@@ -63,7 +65,7 @@ fn add_trade(
 
 /// The prices of all trades, by trade number.
 #[tactic(auto, unfolding(crate::specs::Lists::prices_of))]
-pub(crate) fn read_prices(
+pub fn read_prices(
     alloc: Global,
     names: &Names,
     at: ListAt,
@@ -185,9 +187,9 @@ fn add_price(
     Ok(())
 }
 
-/// The price that one more entry gives to a trade.
+/// The price that one more entry gives to a trade, which no earlier entry names.
 #[tactic(auto, unfolding(tn_refer::specs::Entries::entry_of))]
-fn price_of(
+pub fn price_of(
     alloc: Global,
     names: &Names,
     at: ListAt,

@@ -38,7 +38,7 @@ pub fn read_outcome(alloc: Global, names: &Names, top: &Value) -> Result<Outcome
 
 /// A denominator, from 1 to the limit.
 #[tactic(auto, unfolding(crate::specs::Signed::over_at))]
-fn read_over(
+pub fn read_over(
     alloc: Global,
     limit: u32,
     value: Option<&Value>,

@@ -18,7 +18,7 @@ use tn_laminar::{Laminar, LaminarRefusal, LaminarSet};
 use tn_market::PlaceStep::Index;
 use tn_market::{Amounts, Ends, PlaceStep};
 use tn_names::Names;
-use tn_refer::{ItemPart, own_bundle, sides_of};
+use tn_refer::{OwnPart, PartAt, own_bundle, sides_of};
 use tn_shape::steps::{AMOUNTS, FIRMS, FROM, SETS, TRADES, VALUES};
 use tn_shape::{ObjectKind, ReadError, check, fault, few, number, object_of, optional_list, whole};
 
@@ -181,12 +181,12 @@ fn set_of(
 {
     let place = [FIRMS, Index(f), SETS, Index(s)];
     object_of(alloc, ObjectKind::LaminarSet, Some(set), &place)?;
-    let part = ItemPart {
-        firm: f,
+    let at = PartAt::Item {
         list: SETS,
         item: s,
         part: TRADES,
     };
+    let part = OwnPart { firm: f, at };
     let members = own_bundle(alloc, names, ends, part, set.get("trades"))?;
     let place = [FIRMS, Index(f), SETS, Index(s), FROM];
     let low = low(alloc, set.get("from"), &place)?;

@@ -12,7 +12,7 @@ use tn_exchange::{RawTable, RowRefusal};
 use tn_market::Ends;
 use tn_market::PlaceStep::Index;
 use tn_names::Names;
-use tn_refer::{ItemPart, own_bundle, sides_of};
+use tn_refer::{OwnPart, PartAt, own_bundle, sides_of};
 use tn_shape::steps::{FIRMS, ROWS};
 use tn_shape::{ReadError, fault, number, two};
 
@@ -94,12 +94,12 @@ fn row_of(
 {
     let (f_step, r_step) = (Index(f), Index(r));
     let (references, amount) = two(alloc, row, &[FIRMS, f_step, ROWS, r_step])?;
-    let part = ItemPart {
-        firm: f,
+    let at = PartAt::Item {
         list: ROWS,
         item: r,
         part: Index(0),
     };
+    let part = OwnPart { firm: f, at };
     let bundle = own_bundle(alloc, names, ends, part, Some(references))?;
     let place = [FIRMS, f_step, ROWS, r_step, Index(1)];
     let amount = number(alloc, AMOUNT_LIMIT, Some(amount), &place)?;

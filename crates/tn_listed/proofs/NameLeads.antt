@@ -1,25 +1,27 @@
 -- What the names and the trades are that reading gives.
 use Rattle.std.proofs.Common.{◌≡◌, ℕ, ◌+◌, ◌<◌, ◌≤◌, true, false, List, [], ◌∷◌, ◌++◌, length, Option, Some, refl, sym, ap, subst, ◌∙◌, arith, length-append}
 use Rattle.std.specs.Prelude.{nat_eq, not, codes}
-use Rattle.std.proofs.lemmas.Option.{none-some, slice_get_within}
+use Rattle.std.proofs.lemmas.Option.{none-some}
 use Rattle.serde_json.specs.Data.{Data, Items}
 use Rattle.serde_json.specs.Events.{items_len}
 use Rattle.serde_json.specs.Find.{get}
-use Rattle.tn_base.specs.declared.fault.FaultKind.TheVariants.{BadName, SameName, UnknownFirm, SelfTrade}
+use Rattle.tn_base.specs.declared.fault.FaultKind.TheVariants.{BadName, SameName, SelfTrade}
 use Rattle.tn_market.specs.declared.ends.Ends.{Ends}
 use Rattle.tn_market.specs.declared.place.PlaceStep.{PlaceStep}
 use Rattle.tn_market.specs.declared.place.PlaceStep.TheVariants.{Index, Word}
 use Rattle.tn_market.specs.declared.place.Word.TheVariants.{Firms, Trades, Name, Seller, Buyer}
-use Rattle.tn_names.specs.Names.{NameLists, IsNameList, MAX_NAMES, has_name, is_name, number_of, with_firm, with_trade}
-use Rattle.tn_names.proofs.NameLemmas.{IsNameList-push, name_at_number}
+use Rattle.tn_names.specs.Names.{NameLists, IsNameList, MAX_NAMES, has_name, is_name, with_firm, with_trade}
+use Rattle.tn_names.proofs.NameLemmas.{IsNameList-push}
 use Rattle.tn_shape.specs.declared.members.ObjectKind.TheVariants.{Trade as TradeObject}
 use Rattle.tn_listed.specs.Beside.{beside}
 use Rattle.tn_shape.specs.Reading.{each, holds}
 use Rattle.tn_shape.specs.Shapes.{text_at, object_at, object_of}
-use Rattle.tn_listed.specs.Naming.{name_at, new_name, firm_name, one_firm_name, trade_name, firm_at, ends_at, one_trade}
+use Rattle.tn_listed.specs.Naming.{name_at, new_name, firm_name, one_firm_name, trade_name, ends_at, one_trade}
+use Rattle.tn_refer.specs.References.{firm_at}
+use Rattle.tn_refer.proofs.ReferenceLeads.{firm_at_leads}
 use Rattle.tn_refer.specs.Ordered.{Listed, ComesNext, AreInOrder, sides_of}
 use Rattle.tn_market.proofs.InOrderLemmas.{AreInOrder-push}
-use Rattle.tn_shape.proofs.LeadLemmas.{Leads, leads_ok, leads_bind, leads_after, leads_each, leads_count, leads_wanted, leads_holds, leads_as, is_true_not, apart_from_test}
+use Rattle.tn_shape.proofs.LeadLemmas.{Leads, leads_ok, leads_bind, leads_after, leads_each, leads_count, leads_holds, leads_as, is_true_not, apart_from_test}
 use Rattle.tn_listed.proofs.BesideLemmas.{leads_beside}
 
 name_leads : (place : List PlaceStep) (value : Option Data) → Leads (λ n. is_name n ≡ true) (name_at place value)
@@ -87,10 +89,6 @@ firms_count start firms =
     leads_count (λ (names : NameLists). length names.firms) one_firm_name
     (λ names firm. leads_beside _ names (firm_name names firm) (leads_as (λ next. IsMore names.firms next.firms × (next.trades ≡ names.trades)) _ _ (λ next more. more_count names.firms next.firms more.0) (firm_name_leads names firm)))
     start firms
-
-firm_at_leads : (firms : List (List ℕ)) (place : List PlaceStep) (value : Option Data) → Leads (λ f. f < length firms) (firm_at firms place value)
-unfolding firm_at
-firm_at_leads firms place value = leads_after _ (text_at place value) _ (λ name. leads_as (λ f. number_of firms name ≡ Some f) _ _ (λ f e. slice_get_within firms f name (name_at_number firms name f e)) (leads_wanted UnknownFirm place (number_of firms name)))
 
 ends_lead : (firms : List (List ℕ)) (before : List Ends) (t : ℕ) (trade : Data) → Leads (ComesNext (length firms) before) (ends_at firms before t trade)
 unfolding ends_at

@@ -3,18 +3,20 @@ use Rattle.std.proofs.Common.{ℕ, ◌≤◌, List, [], ◌∷◌, length, Optio
 use Rattle.std.specs.Prelude.{codes, nat_eq, not}
 use Rattle.serde_json.specs.Data.{Data}
 use Rattle.serde_json.specs.Find.{get}
-use Rattle.tn_base.specs.declared.fault.FaultKind.TheVariants.{BadName, SameName, UnknownFirm, SelfTrade}
+use Rattle.tn_base.specs.declared.fault.FaultKind.TheVariants.{BadName, SameName, SelfTrade}
 use Rattle.tn_market.specs.declared.ends.Ends.{Ends}
 use Rattle.tn_market.specs.declared.place.PlaceStep.{PlaceStep}
 use Rattle.tn_market.specs.declared.place.PlaceStep.TheVariants.{Index, Word}
 use Rattle.tn_market.specs.declared.place.Word.TheVariants.{Firms, Trades, Name, Seller, Buyer}
-use Rattle.tn_names.specs.Names.{NameLists, has_name, is_name, number_of, with_firm, with_trade}
+use Rattle.tn_names.specs.Names.{NameLists, has_name, is_name, with_firm, with_trade}
 use Rattle.tn_shape.specs.declared.members.ObjectKind.TheVariants.{Trade as TradeObject}
 use Rattle.tn_shape.specs.Reading.{holds}
 use Rattle.tn_shape.specs.Shapes.{text_at, object_at, object_of}
-use Rattle.tn_listed.specs.Naming.{name_at, new_name, firm_name, trade_name, firm_at, ends_at}
+use Rattle.tn_listed.specs.Naming.{name_at, new_name, firm_name, trade_name, ends_at}
+use Rattle.tn_refer.specs.References.{firm_at}
+use Rattle.tn_refer.proofs.ReferenceStops.{firm_at_stops}
 use Rattle.tn_refer.specs.Ordered.{sides_of}
-use Rattle.tn_shape.proofs.StopLemmas.{StopsPlainly, IsPlain, IsPlainPlace, stops_ok, stops_bind, plain_wanted, plain_holds}
+use Rattle.tn_shape.proofs.StopLemmas.{StopsPlainly, IsPlain, IsPlainPlace, stops_ok, stops_bind, plain_holds}
 use Rattle.tn_shape.proofs.ShapeStops.{text_stops, object_at_stops, object_stops}
 
 module _ (place : List PlaceStep) (plain : IsPlainPlace place) where
@@ -29,10 +31,6 @@ module _ (place : List PlaceStep) (plain : IsPlainPlace place) where
   new_name_stops names value =
       stops_bind IsPlain (name_at place value) _ (name_stops value) (λ name.
       stops_bind IsPlain (holds SameName place (not (has_name names name))) _ (plain_holds SameName place (not (has_name names name)) refl plain) (λ new. stops_ok IsPlain name))
-
-  pub firm_at_stops : (firms : List (List ℕ)) (value : Option Data) → StopsPlainly (firm_at firms place value)
-  unfolding firm_at
-  firm_at_stops firms value = stops_bind IsPlain (text_at place value) _ (text_stops place plain value) (λ name. plain_wanted UnknownFirm place (number_of firms name) refl plain)
 
 -- the name of a firm, and that of a trade
 pub firm_name_stops : (names : NameLists) (firm : Data) → length names.firms ≤ 1024 → StopsPlainly (firm_name names firm)

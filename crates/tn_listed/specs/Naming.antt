@@ -1,11 +1,11 @@
 -- The names of firms and of trades, and the two ends of each trade.
 use Rattle.std.specs.Prelude.{ℕ, List, codes, Option, Some, Result, Ok, ◌++◌, [], ◌∷◌, length, not, ◌==◌}
-use Rattle.tn_base.specs.declared.fault.FaultKind.TheVariants.{BadName, SameName, UnknownFirm, SelfTrade}
+use Rattle.tn_base.specs.declared.fault.FaultKind.TheVariants.{BadName, SameName, SelfTrade}
 use Rattle.tn_market.specs.declared.place.PlaceStep.{PlaceStep}
 use Rattle.tn_market.specs.declared.said.Fault.{Fault}
 use Rattle.serde_json.specs.Data.{Data}
-use Rattle.tn_names.specs.Names.{is_name, NameLists, has_name, number_of, with_firm, with_trade}
-use Rattle.tn_shape.specs.Reading.{◌>>=◌, wanted, holds}
+use Rattle.tn_names.specs.Names.{is_name, NameLists, has_name, with_firm, with_trade}
+use Rattle.tn_shape.specs.Reading.{◌>>=◌, holds}
 use Rattle.serde_json.specs.Find.{get}
 use Rattle.tn_market.specs.declared.ends.Ends.{Ends}
 use Rattle.tn_market.specs.declared.place.PlaceStep.TheVariants.{Index, Word}
@@ -14,6 +14,7 @@ use Rattle.tn_shape.specs.declared.members.ObjectKind.TheVariants.{Trade as Trad
 use Rattle.tn_listed.specs.Beside.{Stop, beside}
 use Rattle.tn_shape.specs.Shapes.{text_at, object_at, object_of}
 use Rattle.tn_refer.specs.Ordered.{sides_of, Listed}
+use Rattle.tn_refer.specs.References.{firm_at}
 
 -- a text that keeps the rule for names
 unfoldable pub name_at : List PlaceStep → Option Data → Result (List ℕ) Fault
@@ -45,12 +46,6 @@ trade_name names trade = do
   object ← object_of TradeObject (Word Trades ∷ Index (length names.trades) ∷ []) (Some trade)
   name ← new_name names.trades (Word Trades ∷ Index (length names.trades) ∷ Word Name ∷ []) (get (codes "name") trade)
   Ok (with_trade names name)
-
--- the firm that a member names
-unfoldable pub firm_at : List (List ℕ) → List PlaceStep → Option Data → Result ℕ Fault
-firm_at firms place value = do
-  name ← text_at place value
-  wanted UnknownFirm place (number_of firms name)
 
 -- the two ends of trade t, which comes after others
 unfoldable pub ends_at : List (List ℕ) → List Ends → ℕ → Data → Result Ends Fault

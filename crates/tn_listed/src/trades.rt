@@ -1,10 +1,10 @@
-ghost use Rattle.std.specs.Prelude.{◌≡◌, ◌+◌, ◌<◌, ◌≤◌, ◌++◌, [], ◌∷◌, length, option_map, IfOk, OnOk};
+ghost use Rattle.std.specs.Prelude.{◌≡◌, ◌+◌, ◌<◌, ◌≤◌, ◌++◌, [], ◌∷◌, length, IfOk, OnOk};
 ghost use Rattle.serde_json.specs.View.{view, items_view};
 ghost use Rattle.tn_names.specs.Names.{NameLists};
 ghost use Rattle.tn_shape.specs.Reading.{Gives, each};
 ghost use Rattle.tn_refer.specs.Ordered.{AreInOrder, ComesNext, Listed};
 ghost use Rattle.tn_listed.specs.Beside.{GivesBeside};
-ghost use Rattle.tn_listed.specs.Naming.{ends_at, firm_at, one_trade};
+ghost use Rattle.tn_listed.specs.Naming.{ends_at, one_trade};
 
 use crate::names::read_trade_name;
 use serde_json::Value;
@@ -12,9 +12,9 @@ use std::alloc::Global;
 use tn_base::FaultKind;
 use tn_market::{Ends, PlaceStep};
 use tn_names::Names;
-use tn_refer::count_own;
+use tn_refer::{count_own, firm};
 use tn_shape::steps::{BUYER, SELLER, TRADES};
-use tn_shape::{ReadError, check, found, text};
+use tn_shape::{ReadError, check};
 
 /// Reads the trades, and puts their names to the names.
 pub(crate) fn read_trades(
@@ -83,20 +83,4 @@ fn read_ends(
         at_seller: count_own(before, seller),
         at_buyer: count_own(before, buyer),
     })
-}
-
-/// The firm that a member names.
-#[tactic(auto, unfolding(crate::specs::Naming::firm_at), using(std::proofs::lemmas::Option::slice_get_within))]
-fn firm(
-    alloc: Global,
-    names: &Names,
-    value: Option<&Value>,
-    place: &[PlaceStep],
-) -> Result<u32, ReadError>
-    ensures gives { Gives (λ f. f) result
-        (firm_at names.now.firms place.now (option_map (λ v. view v.now) value.entry)) }
-    ensures known { IfOk result (λ f. f < length names.now.firms) }
-{
-    let name = text(alloc, value, place)?;
-    found(alloc, names.firm_of(name), FaultKind::UnknownFirm, place)
 }

@@ -7,16 +7,20 @@ use Rattle.serde_json.specs.Data.{Data}
 use Rattle.tn_base.specs.Sets.{has, toggle}
 use Rattle.tn_base.proofs.SetLemmas.{toggle_within}
 use Rattle.tn_base.specs.declared.side.Side.{Side}
-use Rattle.tn_base.specs.declared.fault.FaultKind.TheVariants.{SameTrade}
+use Rattle.tn_base.specs.declared.fault.FaultKind.TheVariants.{SameTrade, UnknownFirm}
 use Rattle.tn_market.specs.declared.place.PlaceStep.{PlaceStep}
 use Rattle.tn_names.specs.Names.{number_of}
 use Rattle.tn_names.proofs.NameLemmas.{name_at_number}
 use Rattle.tn_shape.specs.Reading.{holds}
-use Rattle.tn_shape.specs.Shapes.{list_at}
+use Rattle.tn_shape.specs.Shapes.{list_at, text_at}
 use Rattle.tn_refer.specs.Ordered.{Listed, sides_of, AreTrades}
-use Rattle.tn_refer.specs.References.{position_on, trade_at, new_trade, own_position, new_own, own_reference, bundle_at}
+use Rattle.tn_refer.specs.References.{position_on, firm_at, trade_at, new_trade, own_position, new_own, own_reference, bundle_at}
 use Rattle.tn_refer.proofs.EndsLemmas.{position_on-within}
 use Rattle.tn_shape.proofs.LeadLemmas.{Leads, leads_ok, leads_bind, leads_after, leads_each, leads_wanted, leads_as}
+
+pub firm_at_leads : (firms : List (List ℕ)) (place : List PlaceStep) (value : Option Data) → Leads (λ f. f < length firms) (firm_at firms place value)
+unfolding firm_at
+firm_at_leads firms place value = leads_after _ (text_at place value) _ (λ name. leads_as (λ f. number_of firms name ≡ Some f) _ _ (λ f e. slice_get_within firms f name (name_at_number firms name f e)) (leads_wanted UnknownFirm place (number_of firms name)))
 
 pub trade_leads : (trades : List (List ℕ)) (place : List PlaceStep) (value : Data) → Leads (λ t. t < length trades) (trade_at trades place value)
 unfolding trade_at

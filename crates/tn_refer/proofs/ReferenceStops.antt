@@ -7,14 +7,14 @@ use Rattle.tn_base.specs.Sets.{has, size, toggle}
 use Rattle.tn_base.proofs.SetLemmas.{toggle_within}
 use Rattle.tn_base.proofs.SizeLemmas.{size_le}
 use Rattle.tn_base.specs.declared.side.Side.{Side}
-use Rattle.tn_base.specs.declared.fault.FaultKind.TheVariants.{UnknownTrade, NotOwnTrade, SameTrade}
+use Rattle.tn_base.specs.declared.fault.FaultKind.TheVariants.{UnknownFirm, UnknownTrade, NotOwnTrade, SameTrade}
 use Rattle.tn_market.specs.declared.place.PlaceStep.{PlaceStep}
 use Rattle.tn_market.specs.declared.place.PlaceStep.TheVariants.{Index}
 use Rattle.tn_names.specs.Names.{number_of}
 use Rattle.tn_shape.specs.Reading.{each, holds}
 use Rattle.tn_shape.specs.Shapes.{text_at, list_at, two_at, number_at}
 use Rattle.tn_refer.specs.Ordered.{Listed, sides_of, AreTrades}
-use Rattle.tn_refer.specs.References.{position_on, trade_at, new_trade, own_position, new_own, own_reference, bundle_at}
+use Rattle.tn_refer.specs.References.{position_on, firm_at, trade_at, new_trade, own_position, new_own, own_reference, bundle_at}
 use Rattle.tn_refer.specs.Entries.{Numbered, Refers, entry_of, one_entry}
 use Rattle.tn_shape.proofs.LeadLemmas.{Leads, leads_ok, leads_bind, leads_after}
 use Rattle.tn_refer.proofs.ReferenceLeads.{reference_leads}
@@ -22,6 +22,10 @@ use Rattle.tn_shape.proofs.StopLemmas.{StopsPlainly, IsPlain, IsPlainPlace, stop
 use Rattle.tn_shape.proofs.ShapeStops.{text_stops, list_stops, two_stops, number_stops}
 
 module _ (place : List PlaceStep) (plain : IsPlainPlace place) where
+  pub firm_at_stops : (firms : List (List ℕ)) (value : Option Data) → StopsPlainly (firm_at firms place value)
+  unfolding firm_at
+  firm_at_stops firms value = stops_bind IsPlain (text_at place value) _ (text_stops place plain value) (λ name. plain_wanted UnknownFirm place (number_of firms name) refl plain)
+
   pub trade_at_stops : (trades : List (List ℕ)) (value : Data) → StopsPlainly (trade_at trades place value)
   unfolding trade_at
   trade_at_stops trades value = stops_bind IsPlain (text_at place (Some value)) _ (text_stops place plain (Some value)) (λ name. plain_wanted UnknownTrade place (number_of trades name) refl plain)

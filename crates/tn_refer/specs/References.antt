@@ -1,17 +1,18 @@
--- References: texts that name a trade, or an own trade of a firm.
+-- References: texts that name a firm, a trade, or an own trade of a firm.
 use Rattle.std.specs.Prelude.{ℕ, ◌++◌, [], ◌∷◌, List, slice_get, not, ◌==◌, if◌then◌else◌, Option, Some, None, option_and_then, Result, Ok}
 use Rattle.serde_json.specs.Data.{Data}
 use Rattle.tn_base.specs.Sets.{has, toggle, size}
 use Rattle.tn_base.specs.declared.side.Side.{Side}
 use Rattle.tn_base.specs.declared.side.Side.TheVariants.{Buy, Sell}
-use Rattle.tn_base.specs.declared.fault.FaultKind.TheVariants.{UnknownTrade, NotOwnTrade, SameTrade}
+use Rattle.tn_base.specs.declared.fault.FaultKind.TheVariants.{UnknownFirm, UnknownTrade, NotOwnTrade, SameTrade}
 use Rattle.tn_market.specs.declared.ends.Ends.{Ends}
 use Rattle.tn_market.specs.declared.place.PlaceStep.{PlaceStep}
 use Rattle.tn_market.specs.declared.place.PlaceStep.TheVariants.{Index, Word}
 use Rattle.tn_market.specs.declared.place.Word.TheVariants.{Firms}
 use Rattle.tn_market.specs.declared.said.Fault.{Fault}
 use Rattle.tn_names.specs.Names.{number_of}
-use Rattle.tn_refer.specs.declared.references.ItemPart.{ItemPart}
+use Rattle.tn_refer.specs.declared.own_lists.PartAt.{PartAt}
+use Rattle.tn_refer.specs.declared.own_lists.PartAt.TheVariants.{Item, Member}
 use Rattle.tn_shape.specs.Reading.{◌>>=◌, each, wanted, holds}
 use Rattle.tn_shape.specs.Shapes.{text_at, list_at}
 use Rattle.tn_refer.specs.Ordered.{Listed}
@@ -19,6 +20,12 @@ pub use Rattle.tn_market.specs.InOrder.{position_in}
 
 abbrev pub firm_place : ℕ → List PlaceStep
 firm_place f = Word Firms ∷ Index f ∷ []
+
+-- the firm that a value names
+unfoldable pub firm_at : List (List ℕ) → List PlaceStep → Option Data → Result ℕ Fault
+firm_at firms place value = do
+  name ← text_at place value
+  wanted UnknownFirm place (number_of firms name)
 
 -- the trade that a reference names
 unfoldable pub trade_at : List (List ℕ) → List PlaceStep → Data → Result ℕ Fault
@@ -58,9 +65,10 @@ own_reference listed f place bundle value = do
   k ← new_own listed f None (place ++ Index (size bundle) ∷ []) bundle value
   Ok (toggle bundle k)
 
--- where a list of references is a part of an item of a firm's list
-abbrev pub part_place : ItemPart → List PlaceStep
-part_place part = Word Firms ∷ Index part.firm ∷ part.list ∷ Index part.item ∷ part.part ∷ []
+-- where a list of references to own trades of firm f is
+abbrev pub part_place : ℕ → PartAt → List PlaceStep
+part_place f (Item list item part) = Word Firms ∷ Index f ∷ list ∷ Index item ∷ part ∷ []
+part_place f (Member part member) = part ∷ member ∷ []
 
 -- the bundle of own trades that a list of references names
 unfoldable pub bundle_at : Listed → ℕ → List PlaceStep → Option Data → Result ℕ Fault

@@ -1,8 +1,10 @@
-//! References: texts that name a trade, or an own trade of a firm. The listed trades with their positions, and the lists
+//! References: texts that name a firm, a trade, or an own trade of a firm. The listed trades with their positions, and the lists
 //! of references and of entries, stand in `specs/`.
 #![tactic(auto)]
 
+mod own_lists;
 mod references;
 
-pub use references::{ItemPart, new_trade, own_bundle, own_position, trade};
+pub use own_lists::{OwnPart, PartAt, own_bundle};
+pub use references::{firm, new_trade, own_position, trade};
 pub use tn_market::{count_own, sides_of};

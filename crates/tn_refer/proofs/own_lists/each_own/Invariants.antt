@@ -3,10 +3,10 @@ use Rattle.serde_json.specs.View.{items_view}
 use Rattle.tn_shape.specs.Reading.{each}
 use Rattle.tn_refer.specs.Ordered.{sides_of}
 use Rattle.tn_refer.specs.References.{own_reference, part_place}
-use Rattle.tn_refer.proofs.references.each_own.Given as goal
+use Rattle.tn_refer.proofs.own_lists.each_own.Given as goal
 
 abbrev pub invariant-loop-reference : goal.invariant-loop-reference
 invariant-loop-reference l = record {
   own : l.bundle < 2 ^ length (sides_of l.ends l.part.firm);
-  rest : each (own_reference (record { names = l.names; ends = l.ends }) l.part.firm (part_place l.part)) l.bundle (items_view (drop l.reference-index l.references)) ≡ each (own_reference (record { names = l.names; ends = l.ends }) l.part.firm (part_place l.part)) 0 (items_view l.references);
+  rest : each (own_reference (record { names = l.names; ends = l.ends }) l.part.firm (part_place l.part.firm l.part.at)) l.bundle (items_view (drop l.reference-index l.references)) ≡ each (own_reference (record { names = l.names; ends = l.ends }) l.part.firm (part_place l.part.firm l.part.at)) 0 (items_view l.references);
 }
