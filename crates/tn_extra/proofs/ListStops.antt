@@ -39,7 +39,7 @@ module _ (trades : List (List ℕ)) (few : length trades ≤ 1024) (place : List
   pub set_stops : (references : Items) → StopsPlainly (each (one_on trades place) 0 references)
   set_stops references = stops_each IsPlain (IsSetOf trades place) (one_on trades place) (one_on_leads trades place) one_on_stops 0 references (pow_pos (length trades))
 
-  trades_refer : RefersPlainly (length trades) (new_trade trades)
+  pub trades_refer : RefersPlainly (length trades) (new_trade trades)
   trades_refer = record {
     stops = λ at named value plainly. new_trade_stops at plainly trades named value;
     below = λ at named value. new_trade_leads trades at named value;

@@ -33,7 +33,7 @@ new_trade_leads trades place named value =
     leads_after (λ t. t < length trades) (holds SameTrade place (not (has named t))) _ (λ u. leads_ok (λ t. t < length trades) t known))
 
 module _ (listed : Listed) (trades : AreTrades listed) (f : ℕ) where
-  position_leads : (side : Option Side) (place : List PlaceStep) (value : Data) → Leads (λ k. k < length (sides_of listed.ends f)) (own_position listed f side place value)
+  pub position_leads : (side : Option Side) (place : List PlaceStep) (value : Data) → Leads (λ k. k < length (sides_of listed.ends f)) (own_position listed f side place value)
   unfolding own_position
   position_leads side place value = leads_after _ _ _ (λ t. leads_as (λ k. option_and_then (position_on side f) (slice_get listed.ends t) ≡ Some k) _ _ (within t) (leads_wanted _ _ _))
     where

@@ -74,7 +74,7 @@ pub record RefersPlainly (n : ℕ) (refer : Refers) : Type 0 where
   pub below : (place : List PlaceStep) (named : ℕ) (value : Data) → Leads (λ k. k < n) (refer place named value)
 
 module _ (n : ℕ) (few : n ≤ 1024) (refer : Refers) (refers : RefersPlainly n refer) (place : List PlaceStep) (plain : IsPlainPlace place) (limit : ℕ) where
-  entry_stops : (named : ℕ) (entry : Data) → named < 2 ^ n → StopsPlainly (entry_of refer place limit named entry)
+  pub entry_stops : (named : ℕ) (entry : Data) → named < 2 ^ n → StopsPlainly (entry_of refer place limit named entry)
   unfolding entry_of
   entry_stops named entry below =
       let few_before : size named ≤ 1024 = few_members n named below few in
@@ -85,7 +85,7 @@ module _ (n : ℕ) (few : n ≤ 1024) (refer : Refers) (refers : RefersPlainly n
       (number_stops (place ++ Index (size named) ∷ Index 1 ∷ []) (plain_within place (Index (size named) ∷ Index 1 ∷ []) plain (few_before, (omega arith, tt))) limit (Some two.1)) (λ number.
       stops_ok IsPlain (k, number))))
 
-  entry_below : (named : ℕ) (entry : Data) → Leads (λ next. next.0 < n) (entry_of refer place limit named entry)
+  pub entry_below : (named : ℕ) (entry : Data) → Leads (λ next. next.0 < n) (entry_of refer place limit named entry)
   unfolding entry_of
   entry_below named entry =
       leads_after (λ next. next.0 < n) (two_at (place ++ Index (size named) ∷ []) entry) _ (λ two.

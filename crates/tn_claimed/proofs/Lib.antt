@@ -1,0 +1,6 @@
+pub mod MemberLeads
+pub mod OwnCounts
+pub mod ClaimLeads
+pub mod KindLeads
+pub mod MemberStops
+pub mod ClaimStops

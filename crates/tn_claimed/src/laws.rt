@@ -1,0 +1,17 @@
+ghost use Rattle.tn_claimed.specs.Laws.{ClaimsAreWithin, NodesAreFew, RawClaimsAreTold};
+
+/// A claim that is read of a network's document speaks of its firms, trades and positions, and its numbers keep the limits
+/// of claims. Of its contracts no two are on one trade.
+pub fn claims_are_within()
+    ensures { ClaimsAreWithin }
+{}
+
+/// A claimed cycle has at most 65 nodes in a document of version 1, and at most 129 in one of version 2.
+pub fn nodes_are_few()
+    ensures { NodesAreFew }
+{}
+
+/// Whether the claim that is read is one on exchange is told by the text of its answer.
+pub fn raw_claims_are_told()
+    ensures { RawClaimsAreTold }
+{}
