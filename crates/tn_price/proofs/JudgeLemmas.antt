@@ -72,6 +72,13 @@ utility-same firm scale p q same x =
     (sum_over-same_terms (payments firm.buys p) (payments firm.buys q) x firm.count (λ k below there.
     ap (λ (z : ℤ). if has firm.buys k then neg_ℤ z else z) (same k below)))
 
+-- the utility at the prices that are listed for a firm is that at the prices by trade
+pub utility_there : (trades : List Ends) (scale : ℤ) (prices : ℕ → ℤ) (f n : ℕ) (list : List ℤ) (firm : Firm) → n ≡ firm.count → AreOwnPrices trades prices f n list
+    → (x : ℕ) → utility scale (price_at (take n list)) firm x ≡ utility_at trades scale prices f firm x
+utility_there trades scale prices f n list firm counted listed =
+    utility-same firm scale (price_at (take n list)) (prices_at trades prices f)
+    (λ k below. price_at-take n k list (omega (arith, below, counted)) ∙ listed.each k (omega (arith, below, counted)))
+
 best-same : (value_of other_of : ℕ → Option ℤ) → ((x : ℕ) → value_of x ≡ other_of x) → (x : ℕ) (value : ℤ) → IsBest value_of x value → IsBest other_of x value
 best-same value_of other_of same x value best = record { is = sym (same x) ∙ best.is; most = λ y other is. best.most y other (same y ∙ is) }
 
@@ -106,8 +113,7 @@ stands_there firm_of firms trades scale on prices f n own list standing v is cou
     let same : firm_of v ≡ firm = same_Some _ _ (sym (firm_is firm_of firms f v is) ∙ there) in
     subst (λ (x : Firm). Stands x.worth (utility_at trades scale prices f x) (part trades f x.count on) standing) same
     (stands-same (firm_of v).worth (utility scale (price_at (take n list)) (firm_of v)) (utility_at trades scale prices f (firm_of v))
-    (utility-same (firm_of v) scale (price_at (take n list)) (prices_at trades prices f)
-    (λ k below. price_at-take n k list (omega (arith, below, counted)) ∙ listed.each k (omega (arith, below, counted))))
+    (utility_there trades scale prices f n list (firm_of v) counted listed)
     (part trades f (firm_of v).count on) standing
     (subst (λ (x : ℕ). Stands (firm_of v).worth (utility scale (price_at (take n list)) (firm_of v)) x standing) own_is stands))
 

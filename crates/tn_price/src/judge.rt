@@ -7,10 +7,16 @@ ghost use Rattle.tn_price.specs.Standings.{AreOwnPrices, StandsAt};
 use crate::check::Check;
 use crate::firm::standing;
 use crate::standing::Standing;
+use tn_base::TradeSet;
 use tn_market::{Arrangement, MOST_OWN, Market, Oracle, Prices, Room, Valuation};
 
 /// The prices of the `n` trades of firm `f`, by position.
-fn own_prices<V: Valuation>(market: &Market<V>, prices: &Prices, f: u32, n: u32) -> [i128; MOST_OWN]
+pub fn own_prices<V: Valuation>(
+    market: &Market<V>,
+    prices: &Prices,
+    f: u32,
+    n: u32,
+) -> [i128; MOST_OWN]
     requires firm { f < length market.now.firms }
     requires own { (v : V) → slice_get market.now.firms f ≡ Some v → n ≡ (V.firm v).count }
     requires few { n ≤ 32 }
@@ -28,27 +34,64 @@ fn own_prices<V: Valuation>(market: &Market<V>, prices: &Prices, f: u32, n: u32)
 /// How firm `f` stands.
 fn standing_of<V: Oracle, const W: usize>(
     market: &Market<V>,
-    at: &Arrangement<W>,
+    on: &TradeSet<W>,
+    prices: &Prices,
     over: i128,
     f: u32,
     room: &mut Room,
 ) -> Standing
     requires width { W ≤ 16 }
     requires wide { length market.now.trades ≤ 64 * W }
-    requires priced { length at.now.prices ≡ length market.now.trades }
-    requires small_prices { All (λ p. IsAtMost p (10 ^ 18)) at.now.prices }
+    requires priced { length prices.now ≡ length market.now.trades }
+    requires small_prices { All (λ p. IsAtMost p (10 ^ 18)) prices.now }
     requires from_one { pos 1 ≤ℤ over }
     requires small_over { over ≤ℤ pos 100000 }
     requires firm { f < length market.now.firms }
     requires few_own { (v : V) → slice_get market.now.firms f ≡ Some v → (V.firm v).count ≤ 32 }
     requires small_worths { (v : V) → slice_get market.now.firms f ≡ Some v → V.limit v ≤ 10 ^ 11 }
-    ensures { StandsAt (map V.firm market.now.firms) market.now.trades over at.now.on (price_at at.now.prices) f result }
+    ensures { StandsAt (map V.firm market.now.firms) market.now.trades over on.now (price_at prices.now) f result }
 {
     let firm = market.firm(f);
     let n = firm.trades();
-    let prices = own_prices(market, &at.prices, f, n);
-    let own = market.bundle_of(f, &at.on);
-    standing(firm, own, over, &prices[..n as usize], room)
+    let own_prices = own_prices(market, prices, f, n);
+    let own = market.bundle_of(f, on);
+    standing(firm, own, over, &own_prices[..n as usize], room)
+}
+
+/// Judges a set of trades with prices at scale `over`: the first firm whose bundle is impossible or not best, or that
+/// they are an equilibrium. It takes no memory.
+pub fn judge_at<V: Oracle, const W: usize>(
+    market: &Market<V>,
+    on: &TradeSet<W>,
+    prices: &Prices,
+    over: i128,
+    room: &mut Room,
+) -> Check
+    requires width { W ≤ 16 }
+    requires wide { length market.now.trades ≤ 64 * W }
+    requires priced { length prices.now ≡ length market.now.trades }
+    requires small_prices { All (λ p. IsAtMost p (10 ^ 18)) prices.now }
+    requires from_one { pos 1 ≤ℤ over }
+    requires small_over { over ≤ℤ pos 100000 }
+    requires few_own { (f : ℕ) (v : V) → slice_get market.now.firms f ≡ Some v → (V.firm v).count ≤ 32 }
+    requires small_worths { (f : ℕ) (v : V) → slice_get market.now.firms f ≡ Some v → V.limit v ≤ 10 ^ 11 }
+    ensures { Checks (map V.firm market.now.firms) market.now.trades over on.now (price_at prices.now) result }
+{
+    let mut surplus = 0;
+    for f in 0..market.firms() {
+        match standing_of(market, on, prices, over, f, room) {
+            Standing::Best(worth) => surplus += worth,
+            Standing::Impossible => return Check::Impossible { firm: f },
+            Standing::Bettered(bundle, gain) => {
+                return Check::Better {
+                    firm: f,
+                    bundle,
+                    gain,
+                };
+            }
+        }
+    }
+    Check::Equilibrium { surplus }
 }
 
 /// Judges an arrangement at scale `over`: the first firm whose bundle is impossible or not best, or that the
@@ -69,19 +112,5 @@ pub fn judge_arrangement<V: Oracle, const W: usize>(
     requires small_worths { (f : ℕ) (v : V) → slice_get market.now.firms f ≡ Some v → V.limit v ≤ 10 ^ 11 }
     ensures { Checks (map V.firm market.now.firms) market.now.trades over at.now.on (price_at at.now.prices) result }
 {
-    let mut surplus = 0;
-    for f in 0..market.firms() {
-        match standing_of(market, at, over, f, room) {
-            Standing::Best(worth) => surplus += worth,
-            Standing::Impossible => return Check::Impossible { firm: f },
-            Standing::Bettered(bundle, gain) => {
-                return Check::Better {
-                    firm: f,
-                    bundle,
-                    gain,
-                };
-            }
-        }
-    }
-    Check::Equilibrium { surplus }
+    judge_at(market, &at.on, &at.prices, over, room)
 }

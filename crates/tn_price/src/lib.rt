@@ -2,6 +2,7 @@
 //! in `specs/`.
 #![tactic(auto)]
 
+mod bundle;
 mod check;
 mod firm;
 mod judge;
@@ -12,8 +13,9 @@ mod surplus;
 #[cfg(test)]
 mod tests;
 
+pub use bundle::trades_in;
 pub use check::Check;
-pub use judge::judge_arrangement;
+pub use judge::{judge_arrangement, judge_at, own_prices};
 pub use supported::Support;
-pub use supporting::support;
-pub use surplus::surplus_of;
+pub use supporting::{first_unable, support};
+pub use surplus::{surplus_of, worth_at};

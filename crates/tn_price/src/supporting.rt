@@ -34,7 +34,7 @@ fn is_unable<V: Valuation, const W: usize>(
 }
 
 /// The first firm whose bundle of the set is impossible, if there is one. It asks each firm for one worth at most.
-fn first_unable<V: Valuation, const W: usize>(
+pub fn first_unable<V: Valuation, const W: usize>(
     market: &Market<V>,
     on: &TradeSet<W>,
     steps: &mut Steps<V::Mark>,

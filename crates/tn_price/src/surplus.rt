@@ -10,7 +10,7 @@ use tn_base::{Steps, TradeSet};
 use tn_market::{Market, Valuation};
 
 /// The worth of the bundle that firm `f` has of a set of trades, None where it is impossible.
-pub(crate) fn worth_at<V: Valuation, const W: usize>(
+pub fn worth_at<V: Valuation, const W: usize>(
     market: &Market<V>,
     on: &TradeSet<W>,
     f: u32,

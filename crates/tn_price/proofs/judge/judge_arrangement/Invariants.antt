@@ -1,7 +1,0 @@
-use Rattle.std.proofs.Common.{map}
-use Rattle.tn_market.specs.Best.{price_at}
-use Rattle.tn_price.proofs.JudgeLemmas.{AreJudged}
-use Rattle.tn_price.proofs.judge.judge_arrangement.Given as goal
-
-abbrev pub invariant-loop-f : goal.invariant-loop-f
-invariant-loop-f g l = AreJudged (map g.V.Valuation.firm l.market.firms) l.market.trades l.over l.at.on (price_at l.at.prices) l.f l.surplus
