@@ -1,0 +1,10 @@
+use tn_market::Reason;
+
+/// What the replay of a claim says.
+#[derive(Debug, Drop)]
+pub enum Replayed {
+    /// Each condition of the claim holds.
+    Valid,
+    /// This is the first of its conditions that fails.
+    Invalid(Reason),
+}
