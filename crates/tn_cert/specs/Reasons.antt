@@ -1,10 +1,9 @@
 -- Why a claim isn't valid: the first of its conditions that fails, in an order that is stated here.
-use Rattle.std.specs.Prelude.{◌≡◌, ◌≢◌, ◌⊎◌, ℕ, ◌+◌, ◌<◌, ◌≤◌, ℤ, pos, ◌*ℤ◌, ◌<ℤ◌, List, [], ◌∷◌, length, map, slice_get, ◌==◌, if◌then◌else◌, true, false, Option, Some, None, option_and_then, option_map, IsSome, IfSome}
+use Rattle.std.specs.Prelude.{◌≡◌, ◌≢◌, ◌⊎◌, ℕ, ◌+◌, ◌<◌, ◌≤◌, ℤ, pos, ◌*ℤ◌, ◌<ℤ◌, List, [], length, map, slice_get, ◌==◌, if◌then◌else◌, true, false, Option, Some, None, option_and_then, option_map, IsSome, IfSome}
 use Rattle.tn_base.specs.Sets.{has}
 use Rattle.tn_base.specs.Firm.{Firm}
 use Rattle.tn_base.specs.Exchange.{MeetsExchange, Fails}
 use Rattle.tn_exchange.specs.TestOrder.{Triple, IsFirstFailure}
-use Rattle.tn_market.specs.declared.arrangement.Arrangement.{Arrangement}
 use Rattle.tn_market.specs.declared.claim.Claim.{Claim}
 use Rattle.tn_market.specs.declared.claim.Claim.TheVariants.{Equilibrium, Better, Impossible, Accepted, ExchangeFails, Supported, Cycle, Solved, Drops, Completes as CompletesIs, Blocks as BlocksIs}
 use Rattle.tn_market.specs.declared.contract.Contract.{Contract}
@@ -15,7 +14,7 @@ use Rattle.tn_market.specs.declared.reason.Reason.TheVariants.{Impossible as Imp
 use Rattle.tn_market.specs.Best.{price_at}
 use Rattle.tn_market.specs.Choices.{is_of, IsChoice, together}
 use Rattle.tn_market.specs.ClaimLimits.{IsFirmWith}
-use Rattle.tn_market.specs.Equilibrium.{utility_at, IsEquilibrium, surplus_of}
+use Rattle.tn_market.specs.Equilibrium.{IsEquilibrium, surplus_of}
 use Rattle.tn_market.specs.Graph.{exchange_arc, ArePossible}
 use Rattle.tn_market.specs.Judged.{IsFirstImpossible, IsFirstBettered}
 use Rattle.tn_market.specs.Network.{own, part, trades_of}

@@ -1,0 +1,6 @@
+use Rattle.std.proofs.Common.{◌≡◌}
+use Rattle.tn_market.specs.Network.{trades_on}
+use Rattle.tn_cert.proofs.exchange.positions_in.Given as goal
+
+abbrev pub invariant-loop-k : goal.invariant-loop-k
+invariant-loop-k l = l.positions.items ≡ trades_on l.bundle l.k

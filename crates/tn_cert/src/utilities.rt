@@ -1,0 +1,86 @@
+//! Claims on what a firm gains by another bundle, and on a bundle that it can't have.
+
+ghost use Rattle.std.specs.Prelude.{◌≡◌, ◌^◌, ◌<◌, ◌≤◌, All, IfOk, length, map};
+ghost use Rattle.tn_base.specs.Arcs.{IsAtMost};
+ghost use Rattle.tn_market.specs.Best.{price_at};
+ghost use Rattle.tn_market.specs.ClaimLimits.{IsFirmWith};
+ghost use Rattle.tn_market.specs.Limits.{IsWithinLimits};
+ghost use Rattle.tn_cert.specs.Replays.{Replays, TellsGain};
+
+use crate::replayed::Replayed;
+use std::alloc::Global;
+use tn_base::{Bundle, OutOfMemory, Steps, TradeSet};
+use tn_market::{Arrangement, Claim, Market, Oracle, Reason, Room, Valuation, utility_of};
+use tn_price::{own_prices, worth_at};
+
+/// What firm `f` gains at an arrangement where it has another bundle in place of its own, None where one of the two is
+/// impossible.
+fn gain_by<V: Oracle>(
+    market: &Market<V>,
+    at: &Arrangement<2>,
+    f: u32,
+    other: Bundle,
+    room: &mut Room,
+) -> Option<i128>
+    requires limits { IsWithinLimits V.firm V.limit market.now }
+    requires priced { length at.now.prices ≡ length market.now.trades }
+    requires small_prices { All (λ p. IsAtMost p (10 ^ 14)) at.now.prices }
+    requires own { IsFirmWith (map V.firm market.now.firms) f (λ firm. other < 2 ^ firm.count) }
+    ensures { TellsGain (map V.firm market.now.firms) market.now.trades at.now.on (price_at at.now.prices) f other result }
+{
+    let firm = market.firm(f);
+    let n = firm.trades();
+    let prices = own_prices(market, &at.prices, f, n);
+    let held = market.bundle_of(f, &at.on);
+    let value = utility_of(firm, held, 1, &prices[..n as usize], room)?;
+    let other_value = utility_of(firm, other, 1, &prices[..n as usize], room)?;
+    Some(other_value - value)
+}
+
+/// Whether the firm gains so much by another bundle, and that is more than nothing, or the first condition that fails.
+pub(crate) fn replay_better<V: Oracle>(
+    alloc: Global,
+    market: &Market<V>,
+    at: &Arrangement<2>,
+    firm: u32,
+    bundle: Bundle,
+    gain: i128,
+) -> Result<Replayed, OutOfMemory>
+    requires limits { IsWithinLimits V.firm V.limit market.now }
+    requires priced { length at.now.prices ≡ length market.now.trades }
+    requires small_prices { All (λ p. IsAtMost p (10 ^ 14)) at.now.prices }
+    requires own { IsFirmWith (map V.firm market.now.firms) firm (λ it. bundle < 2 ^ it.count) }
+    ensures { IfOk result (Replays (map V.firm market.now.firms) market.now.trades (Claim.Better at.now firm bundle gain)) }
+{
+    let mut room = Room::new(alloc)?;
+    match gain_by(market, at, firm, bundle, &mut room) {
+        None => Ok(Replayed::Invalid(Reason::Impossible { firm })),
+        Some(actual) => {
+            if actual > 0 && actual == gain {
+                Ok(Replayed::Valid)
+            } else {
+                Ok(Replayed::Invalid(Reason::Gain {
+                    firm,
+                    gain: Some(actual),
+                }))
+            }
+        }
+    }
+}
+
+/// Whether the firm's bundle of a set of trades is impossible, or that it isn't.
+pub(crate) fn replay_impossible<V: Valuation>(
+    market: &Market<V>,
+    on: &TradeSet<2>,
+    firm: u32,
+    steps: &mut Steps<V::Mark>,
+) -> Replayed
+    requires few_trades { length market.now.trades ≤ 128 }
+    requires known { firm < length market.now.firms }
+    ensures { Replays (map V.firm market.now.firms) market.now.trades (Claim.Impossible on.now firm) result }
+{
+    match worth_at(market, on, firm, steps) {
+        None => Replayed::Valid,
+        Some(_) => Replayed::Invalid(Reason::Possible { firm }),
+    }
+}
