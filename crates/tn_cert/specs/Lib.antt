@@ -1,3 +1,5 @@
 pub mod Claims
 pub mod Reasons
 pub mod Replays
+pub mod Least
+pub mod Outcomes

@@ -2,8 +2,11 @@
 #![tactic(auto)]
 
 mod cycles;
+mod dropping;
 mod equilibria;
 mod exchange;
+mod gains;
+mod least;
 mod replayed;
 mod utilities;
 
