@@ -8,6 +8,8 @@ mod exchange;
 mod gains;
 mod least;
 mod replayed;
+mod replaying;
 mod utilities;
 
 pub use replayed::Replayed;
+pub use replaying::{is_on_exchange, replay_exchange};
