@@ -1,7 +1,7 @@
 -- A firm that keeps a bundle of its contracts: the first trade without one, and what the firm gains.
 use Rattle.std.proofs.Common.{◌≡◌, ℕ, ◌^◌, ◌<◌, Bool, true, false, ◌&&◌, not, List, length, map, slice_get, Option, Some, None, option_map, refl, sym, ap, ◌∙◌, subst, arith, inl, inr, ℤ, ◌+ℤ◌, ◌-ℤ◌, ◌*ℤ◌}
 use Rattle.std.proofs.lemmas.Bool.{cases_lt, and_parts}
-use Rattle.std.proofs.lemmas.Option.{slice_get_cases, slice_get-map}
+use Rattle.std.proofs.lemmas.Option.{same_Some, slice_get_cases, slice_get-map}
 use Rattle.tn_base.specs.Sets.{has, sum_over}
 use Rattle.tn_base.specs.Firm.{Firm, payments}
 use Rattle.tn_base.proofs.SetLemmas.{has_below}
@@ -98,4 +98,12 @@ pub firm_at : {V : Type 0} (firms : List V) (f : ℕ) → f < length firms → (
 firm_at firms f inside = elim (slice_get_cases firms f).1 [
   | inr past ↦ absurd (let above = past.0 in omega (arith, above, inside))
   | inl item ↦ (item.0, item.2)
+]
+
+-- what holds of the firm at a place holds of the firm that the definitions see there
+pub for_firm : {V : Type 0} (firm_of : V → Firm) (firms : List V) (f : ℕ) (P : Firm → Type 0) → ((v : V) → slice_get firms f ≡ Some v → P (firm_of v))
+    → (firm : Firm) → slice_get (map firm_of firms) f ≡ Some firm → P firm
+for_firm firm_of firms f P each firm is = elim (slice_get_cases firms f).1 [
+  | inr past ↦ absurd (let none = sym is ∙ slice_get-map firm_of firms f ∙ ap (option_map firm_of) past.1 in cc none)
+  | inl item ↦ subst P (same_Some (firm_of item.0) firm (sym (listed firm_of firms f item.0 item.2) ∙ is)) (each item.0 item.2)
 ]

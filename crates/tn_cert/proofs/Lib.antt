@@ -1,8 +1,13 @@
-pub mod RoundLemmas
-pub mod RefutedLemmas
-pub mod ExchangeLemmas
-pub mod UtilityLemmas
-pub mod WeighLemmas
-pub mod KeptLemmas
-pub mod LeastLemmas
+mod RoundLemmas
+mod RefutedLemmas
+mod ExchangeLemmas
+mod UtilityLemmas
+mod WeighLemmas
+mod LeastLemmas
+mod KeptLemmas
+mod TermLemmas
+mod ChoiceLemmas
+mod CountedLemmas
+mod LeaveLemmas
+mod BlockingLemmas
 pub mod OutcomeRefuted

@@ -1,11 +1,12 @@
 -- A claim on an outcome that has a reason against it isn't valid.
-use Rattle.std.proofs.Common.{◌≡◌, ℕ, List, Option, Some, None, option_map, refl, sym, ap, ◌∙◌, subst, ℤ, ◌+ℤ◌, ◌*ℤ◌}
+use Rattle.std.proofs.Common.{◌≡◌, ℕ, List, length, Option, Some, None, option_map, refl, sym, ap, ◌∙◌, subst, ℤ, ◌+ℤ◌, ◌*ℤ◌, arith}
 use Rattle.std.specs.Prelude.{IfSome, is_some, ◌-ℤ◌}
 use Rattle.std.proofs.lemmas.Bool.{true≢false}
 use Rattle.std.proofs.lemmas.Option.{same_Some}
 use Rattle.tn_base.specs.Sets.{sum_over}
 use Rattle.tn_base.specs.Firm.{Firm, payments}
-use Rattle.tn_market.specs.declared.claim.Claim.TheVariants.{Drops}
+use Rattle.tn_market.specs.declared.claim.Claim.TheVariants.{Drops, Blocks as BlocksIs}
+use Rattle.tn_market.specs.declared.contract.Contract.{Contract as ContractOf}
 use Rattle.tn_market.specs.declared.contract.Outcome.{Outcome}
 use Rattle.tn_market.specs.declared.ends.Ends.{Ends}
 use Rattle.tn_market.specs.declared.reason.Reason.{Reason}
@@ -14,7 +15,7 @@ use Rattle.tn_market.specs.ClaimLimits.{IsFirmWith}
 use Rattle.tn_market.specs.Equilibrium.{prices_at}
 use Rattle.tn_market.specs.Signed.{is_signed, signed_price, signed_bundle, contract_utility}
 use Rattle.tn_cert.specs.Claims.{GainsByKeeping, IsPositive, IsValid}
-use Rattle.tn_cert.specs.Reasons.{RefutesDrops}
+use Rattle.tn_cert.specs.Reasons.{RefutesBlocks, RefutesDrops}
 
 -- ---- keeping some contracts
 
@@ -72,3 +73,27 @@ drops_refuted firms trades outcome f keeps gain over (Price t) refutes valid = a
 drops_refuted firms trades outcome f keeps gain over Empty refutes valid = absurd refutes
 drops_refuted firms trades outcome f keeps gain over (Signed t) refutes valid = absurd refutes
 drops_refuted firms trades outcome f keeps gain over (Choice g t) refutes valid = absurd refutes
+
+-- ---- contracts that block
+
+pub blocks_refuted : (firms : List Firm) (trades : List Ends) (outcome : Outcome) (offers : List ContractOf) (e : ℤ) (reason : Reason)
+    → RefutesBlocks firms trades outcome offers e reason → IsValid firms trades (BlocksIs outcome offers e) → ⊥
+blocks_refuted firms trades outcome offers e Empty refutes valid = let some = valid.some in let none = ap length refutes in absurd (omega (arith, some, none))
+blocks_refuted firms trades outcome offers e (Signed t) refutes valid =
+    let same = refutes.same in
+    valid.unsigned refutes.at same.at refutes.offer same.contract refutes.is same.is same.trade same.price
+blocks_refuted firms trades outcome offers e (Choice f t) refutes valid =
+    let first = refutes.2 in
+    true≢false (sym (valid.chosen f first.firm first.choice first.is first.chosen first.at first.offer first.offered first.own) ∙ first.without)
+blocks_refuted firms trades outcome offers e (Over told) refutes valid = absurd refutes
+blocks_refuted firms trades outcome offers e (Contract t) refutes valid = absurd refutes
+blocks_refuted firms trades outcome offers e (Impossible g) refutes valid = absurd refutes
+blocks_refuted firms trades outcome offers e (Gain g told) refutes valid = absurd refutes
+blocks_refuted firms trades outcome offers e (Better g bundle) refutes valid = absurd refutes
+blocks_refuted firms trades outcome offers e (Possible g) refutes valid = absurd refutes
+blocks_refuted firms trades outcome offers e (Surplus surplus) refutes valid = absurd refutes
+blocks_refuted firms trades outcome offers e (Exchange g x y at) refutes valid = absurd refutes
+blocks_refuted firms trades outcome offers e Holds refutes valid = absurd refutes
+blocks_refuted firms trades outcome offers e (Arc index) refutes valid = absurd refutes
+blocks_refuted firms trades outcome offers e (Cost cost) refutes valid = absurd refutes
+blocks_refuted firms trades outcome offers e (Price t) refutes valid = absurd refutes

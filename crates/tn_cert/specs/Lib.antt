@@ -1,5 +1,7 @@
 pub mod Claims
-pub mod Reasons
-pub mod Replays
+pub mod Greatest
 pub mod Least
 pub mod Outcomes
+pub mod Reasons
+pub mod Replays
+pub mod Terms

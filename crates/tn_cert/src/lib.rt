@@ -1,14 +1,18 @@
 //! Claims decided by the definitions alone. When a claim is valid, and why one isn't, stands in `specs/`.
 #![tactic(auto)]
 
+mod blocking;
+mod choosing;
 mod cycles;
 mod dropping;
 mod equilibria;
 mod exchange;
 mod gains;
 mod least;
+mod pool;
 mod replayed;
 mod replaying;
+mod terms;
 mod utilities;
 
 pub use replayed::Replayed;

@@ -1,0 +1,6 @@
+use Rattle.std.proofs.Common.{◌≡◌, ◌++◌, take}
+use Rattle.tn_market.specs.Choices.{counted}
+use Rattle.tn_cert.proofs.pool.add_counted.Given as goal
+
+abbrev pub invariant-loop-k : goal.invariant-loop-k
+invariant-loop-k l = l.pool.items ≡ l.fn.pool.items ++ counted l.times (take l.k l.contracts)

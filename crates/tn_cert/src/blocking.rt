@@ -1,0 +1,128 @@
+//! Claims that contracts block an outcome.
+
+ghost use Rattle.std.specs.Prelude.{◌≡◌, ◌^◌, ◌<◌, ◌≤◌, pos, ◌*ℤ◌, ◌≤ℤ◌, length, map, All, IfOk};
+ghost use Rattle.tn_base.specs.Arcs.{IsAtMost};
+ghost use Rattle.tn_cert.specs.Greatest.{DecidesContract, DecidesEqual, FindsLeaver, FindsSigned, HaveTradesOnce};
+ghost use Rattle.tn_cert.specs.Replays.{Replays};
+ghost use Rattle.tn_market.specs.declared.claim.Claim.TheVariants.{Blocks};
+ghost use Rattle.tn_market.specs.ClaimLimits.{AreOffersWithin, IsOverWithin};
+ghost use Rattle.tn_market.specs.Limits.{IsOutcomeOf, IsWithinLimits};
+
+use crate::choosing::first_left;
+use crate::least::earlier;
+use crate::pool::together;
+use crate::replayed::Replayed;
+use std::alloc::Global;
+use tn_base::OutOfMemory;
+use tn_market::{Contract, Contracts, Market, Oracle, Outcome, Reason, Room};
+use tn_residual::contract_price;
+
+/// Whether two products are equal.
+fn are_equal(a: i128, b: i128, c: i128, d: i128) -> bool
+    requires small_a { IsAtMost a (10 ^ 18) }
+    requires small_b { IsAtMost b (10 ^ 5) }
+    requires small_c { IsAtMost c (10 ^ 18) }
+    requires small_d { IsAtMost d (10 ^ 5) }
+    ensures { DecidesEqual (a *ℤ b) (c *ℤ d) result }
+{
+    a * b == c * d
+}
+
+/// Whether an offer is one of the outcome's contracts.
+fn is_contract(outcome: &Outcome, over: i128, offer: Contract) -> bool
+    requires outcome_least { pos 1 ≤ℤ outcome.now.over }
+    requires outcome_most { outcome.now.over ≤ℤ pos 100 }
+    requires small_outcome { All (λ contract. IsAtMost contract.price (10 ^ 11)) outcome.now.contracts }
+    requires once { HaveTradesOnce outcome.now.contracts }
+    requires over { IsOverWithin over }
+    requires small { IsAtMost offer.price (10 ^ 18) }
+    ensures { DecidesContract outcome.now over offer result }
+{
+    match contract_price(&outcome.contracts, offer.trade) {
+        Some(price) => are_equal(offer.price, outcome.over, price, over),
+        None => false,
+    }
+}
+
+/// The first trade of the offers that are the outcome's contracts.
+fn first_signed(outcome: &Outcome, over: i128, offers: &Contracts) -> Option<u32>
+    requires outcome_least { pos 1 ≤ℤ outcome.now.over }
+    requires outcome_most { outcome.now.over ≤ℤ pos 100 }
+    requires small_outcome { All (λ contract. IsAtMost contract.price (10 ^ 11)) outcome.now.contracts }
+    requires once { HaveTradesOnce outcome.now.contracts }
+    requires over { IsOverWithin over }
+    requires small { All (λ contract. IsAtMost contract.price (10 ^ 18)) offers.now }
+    ensures { FindsSigned outcome.now over offers.now result }
+{
+    let mut first = None;
+    for k in 0..offers.len() {
+        if is_contract(outcome, over, offers.at(k)) {
+            first = Some(earlier(first, offers.at(k).trade));
+        }
+    }
+    first
+}
+
+/// The product of the denominators of an outcome and of offers.
+fn common(outcome_over: i128, over: i128) -> i128
+    requires outcome_least { pos 1 ≤ℤ outcome_over }
+    requires outcome_most { outcome_over ≤ℤ pos 100 }
+    requires over { IsOverWithin over }
+    ensures product { result ≡ outcome_over *ℤ over }
+    ensures least { pos 1 ≤ℤ result }
+    ensures most { result ≤ℤ pos 10000000 }
+{
+    outcome_over * over
+}
+
+/// The first firm with an own offer that some choice of it from offers and outcome lacks, and the first trade of these
+/// offers. It fails only where memory runs out.
+fn first_to_leave<V: Oracle>(
+    alloc: Global,
+    market: &Market<V>,
+    outcome: &Outcome,
+    over: i128,
+    offers: &Contracts,
+) -> Result<Option<(u32, u32)>, OutOfMemory>
+    requires limits { IsWithinLimits V.firm V.limit market.now }
+    requires outcome { IsOutcomeOf market.now.trades outcome.now.over outcome.now.contracts }
+    requires offers { AreOffersWithin market.now.trades offers.now }
+    requires over { IsOverWithin over }
+    ensures { IfOk result (FindsLeaver (map V.firm market.now.firms) market.now.trades outcome.now over offers.now) }
+{
+    let mut room = Room::new(alloc)?;
+    let pool = together(alloc, over, offers, outcome)?;
+    let scale = common(outcome.over, over);
+    for f in 0..market.firms() {
+        if let Some(trade) = first_left(market, &pool, scale, offers.len(), f, &mut room) {
+            return Ok(Some((f, trade)));
+        }
+    }
+    Ok(None)
+}
+
+/// Decides a claim that contracts over a denominator block an outcome. It fails only where memory runs out.
+pub(crate) fn replay_blocks<V: Oracle>(
+    alloc: Global,
+    market: &Market<V>,
+    outcome: &Outcome,
+    offers: &Contracts,
+    over: i128,
+) -> Result<Replayed, OutOfMemory>
+    requires limits { IsWithinLimits V.firm V.limit market.now }
+    requires outcome { IsOutcomeOf market.now.trades outcome.now.over outcome.now.contracts }
+    requires offers { AreOffersWithin market.now.trades offers.now }
+    requires over { IsOverWithin over }
+    ensures { IfOk result (Replays (map V.firm market.now.firms) market.now.trades (Blocks outcome.now offers.now over)) }
+{
+    if offers.len() == 0 {
+        return Ok(Replayed::Invalid(Reason::Empty));
+    }
+    if let Some(trade) = first_signed(outcome, over, offers) {
+        return Ok(Replayed::Invalid(Reason::Signed { trade }));
+    }
+    match first_to_leave(alloc, market, outcome, over, offers)? {
+        Some((firm, trade)) => Ok(Replayed::Invalid(Reason::Choice { firm, trade })),
+        None => Ok(Replayed::Valid),
+    }
+}

@@ -1,0 +1,118 @@
+//! The contracts that a firm takes whatever it chooses.
+
+ghost use Rattle.std.specs.Prelude.{◌≡◌, ◌^◌, ◌<◌, ◌≤◌, pos, ◌≤ℤ◌, length, map, slice_get, All, Some, None};
+ghost use Rattle.tn_base.specs.Arcs.{IsAtMost};
+ghost use Rattle.tn_cert.specs.Greatest.{DecidesLeave, DecidesOwn, FindsLeft, IsGreatest};
+ghost use Rattle.tn_market.specs.Choices.{is_end};
+ghost use Rattle.tn_market.specs.Limits.{IsWithinLimits};
+ghost use Rattle.tn_market.specs.Network.{IsNetwork};
+
+use crate::least::earlier;
+use crate::terms::terms_of;
+use tn_base::Bundle;
+use tn_market::{Contracts, Ends, Market, Oracle, Room};
+
+/// The greatest utility that firm `f` has by a part of the contracts without the one that is left out. It takes no memory.
+fn greatest_utility<V: Oracle>(
+    market: &Market<V>,
+    contracts: &Contracts,
+    scale: i128,
+    left_out: Option<usize>,
+    f: u32,
+    room: &mut Room,
+) -> i128
+    requires limits { IsWithinLimits V.firm V.limit market.now }
+    requires network { IsNetwork (map V.firm market.now.firms) market.now.trades }
+    requires firm { f < length market.now.firms }
+    requires small { All (λ contract. IsAtMost contract.price (10 ^ 20)) contracts.now }
+    requires from_one { pos 1 ≤ℤ scale }
+    requires small_scale { scale ≤ℤ pos 10000000 }
+    ensures greatest { (v : V) → slice_get market.now.firms f ≡ Some v → IsGreatest market.now.trades scale f (V.firm v) contracts.now left_out result }
+    ensures size { IsAtMost result (10 ^ 22) }
+{
+    let terms = terms_of(market, contracts, left_out, f);
+    let firm = market.firm(f);
+    let prices = &terms.prices[..firm.trades() as usize];
+    let best = firm.best(Bundle::empty(), terms.free, scale, prices, room);
+    best.unwrap().1
+}
+
+/// Whether some choice of firm `f` lacks the contract with index `k`. It takes no memory.
+fn may_leave<V: Oracle>(
+    market: &Market<V>,
+    contracts: &Contracts,
+    scale: i128,
+    k: usize,
+    f: u32,
+    room: &mut Room,
+) -> bool
+    requires limits { IsWithinLimits V.firm V.limit market.now }
+    requires network { IsNetwork (map V.firm market.now.firms) market.now.trades }
+    requires firm { f < length market.now.firms }
+    requires small { All (λ contract. IsAtMost contract.price (10 ^ 20)) contracts.now }
+    requires from_one { pos 1 ≤ℤ scale }
+    requires small_scale { scale ≤ℤ pos 10000000 }
+    ensures { (v : V) → slice_get market.now.firms f ≡ Some v → DecidesLeave market.now.trades scale f (V.firm v) contracts.now k result }
+{
+    let best = greatest_utility(market, contracts, scale, None, f, room);
+    best == greatest_utility(market, contracts, scale, Some(k), f, room)
+}
+
+/// Whether firm `f` is one of the two ends.
+fn is_end(f: u32, trade: Ends) -> bool
+    ensures { result ≡ is_end f trade }
+{
+    trade.seller == f || trade.buyer == f
+}
+
+/// Whether the contract with index `k` is one of firm `f` that some choice of it lacks. It takes no memory.
+fn leaves<V: Oracle>(
+    market: &Market<V>,
+    contracts: &Contracts,
+    scale: i128,
+    k: usize,
+    f: u32,
+    room: &mut Room,
+) -> bool
+    requires limits { IsWithinLimits V.firm V.limit market.now }
+    requires network { IsNetwork (map V.firm market.now.firms) market.now.trades }
+    requires firm { f < length market.now.firms }
+    requires known { All (λ contract. contract.trade < length market.now.trades) contracts.now }
+    requires small { All (λ contract. IsAtMost contract.price (10 ^ 20)) contracts.now }
+    requires inside { k < length contracts.now }
+    requires from_one { pos 1 ≤ℤ scale }
+    requires small_scale { scale ≤ℤ pos 10000000 }
+    ensures { (v : V) → slice_get market.now.firms f ≡ Some v → DecidesOwn market.now.trades scale f (V.firm v) contracts.now k result }
+{
+    let trade = contracts.at(k).trade;
+    is_end(f, market.ends(trade)) && may_leave(market, contracts, scale, k, f, room)
+}
+
+/// The first trade of those of the first `n` contracts that are contracts of firm `f` and that some choice of it lacks. It
+/// takes no memory.
+pub(crate) fn first_left<V: Oracle>(
+    market: &Market<V>,
+    contracts: &Contracts,
+    scale: i128,
+    n: usize,
+    f: u32,
+    room: &mut Room,
+) -> Option<u32>
+    requires limits { IsWithinLimits V.firm V.limit market.now }
+    requires network { IsNetwork (map V.firm market.now.firms) market.now.trades }
+    requires firm { f < length market.now.firms }
+    requires known { All (λ contract. contract.trade < length market.now.trades) contracts.now }
+    requires small { All (λ contract. IsAtMost contract.price (10 ^ 20)) contracts.now }
+    requires first { n ≤ length contracts.now }
+    requires from_one { pos 1 ≤ℤ scale }
+    requires small_scale { scale ≤ℤ pos 10000000 }
+    ensures { (v : V) → slice_get market.now.firms f ≡ Some v → FindsLeft market.now.trades scale f (V.firm v) contracts.now n result }
+{
+    let mut first = None;
+    for k in 0..n {
+        if leaves(market, contracts, scale, k, f, room) {
+            first = Some(earlier(first, contracts.at(k).trade));
+        }
+    }
+    first
+}
