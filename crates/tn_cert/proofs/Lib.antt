@@ -10,4 +10,5 @@ mod ChoiceLemmas
 mod CountedLemmas
 mod LeaveLemmas
 mod BlockingLemmas
+mod CompletedLemmas
 pub mod OutcomeRefuted

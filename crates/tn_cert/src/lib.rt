@@ -3,6 +3,7 @@
 
 mod blocking;
 mod choosing;
+mod completing;
 mod cycles;
 mod dropping;
 mod equilibria;

@@ -1,0 +1,6 @@
+use Rattle.tn_market.specs.Best.{price_at}
+use Rattle.tn_cert.specs.Reasons.{AgreeBefore}
+use Rattle.tn_cert.proofs.completing.first_mispriced.Given as goal
+
+abbrev pub invariant-loop-k : goal.invariant-loop-k
+invariant-loop-k l = AgreeBefore l.contracts (price_at l.prices) l.k
