@@ -12,3 +12,5 @@ mod LeaveLemmas
 mod BlockingLemmas
 mod CompletedLemmas
 pub mod OutcomeRefuted
+mod RefutedClaims
+mod ReplayLemmas

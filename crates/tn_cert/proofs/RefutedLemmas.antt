@@ -1,19 +1,24 @@
 -- A claim that is refuted isn't valid.
-use Rattle.std.proofs.Common.{◌≡◌, ◌⊎◌, ℕ, inl, inr, sym, ap, ◌∙◌, subst, arith, List, ℤ, pos, ◌+ℤ◌, ◌*ℤ◌, Option, Some, None, option_map}
+use Rattle.std.proofs.Common.{◌≡◌, ◌⊎◌, ℕ, inl, inr, sym, ap, ◌∙◌, subst, arith, List, length, map, ℤ, pos, ◌+ℤ◌, ◌*ℤ◌, Option, Some, None, option_map}
 use Rattle.std.specs.Prelude.{IsSome, ◌<ℤ◌}
 use Rattle.std.proofs.lemmas.Int.{ints}
 use Rattle.std.proofs.lemmas.Option.{same_Some}
 use Rattle.tn_base.specs.Firm.{Firm, payments}
 use Rattle.tn_base.specs.Sets.{sum_over}
+use Rattle.tn_base.specs.Exchange.{Fails}
+use Rattle.tn_base.proofs.ExchangeLemmas.{none_fails_from_exchange}
+use Rattle.tn_market.specs.declared.claim.Claim.{Claim}
+use Rattle.tn_market.specs.declared.claim.Claim.TheVariants.{Equilibrium, Better, Impossible, Accepted, ExchangeFails, Supported, Cycle, Solved, Drops, Completes as CompletesIs, Blocks as BlocksIs}
 use Rattle.tn_market.specs.declared.ends.Ends.{Ends}
 use Rattle.tn_market.specs.declared.reason.Reason.{Reason}
-use Rattle.tn_market.specs.declared.reason.Reason.TheVariants.{Impossible as ImpossibleIs, Better as BetterIs, Surplus, Gain, Arc, Cost}
+use Rattle.tn_market.specs.declared.reason.Reason.TheVariants.{Impossible as ImpossibleIs, Better as BetterIs, Possible, Surplus, Gain, Exchange, Holds, Arc, Cost}
+use Rattle.tn_market.specs.Best.{price_at}
 use Rattle.tn_market.specs.ClaimLimits.{IsFirmWith}
 use Rattle.tn_market.specs.Equilibrium.{prices_at, utility_at, IsEquilibrium, surplus_of}
 use Rattle.tn_market.specs.Graph.{exchange_arc, ArePossible}
 use Rattle.tn_market.specs.Network.{part}
-use Rattle.tn_cert.specs.Claims.{Gains, IsPositive, GoesRound}
-use Rattle.tn_cert.specs.Reasons.{LacksBest, RefutesEquilibrium, RefutesBetter, RefutesCycle}
+use Rattle.tn_cert.specs.Claims.{Gains, IsPositive, GoesRound, IsValid, node_of}
+use Rattle.tn_cert.specs.Reasons.{LacksBest, RefutesEquilibrium, RefutesBetter, RefutesCycle, Refutes}
 use Rattle.tn_cert.proofs.RoundLemmas.{round_unbroken, round_cost-same}
 
 -- a number isn't none
@@ -57,12 +62,12 @@ lack_refuted firms trades scale on prices (BetterIs f bundle) (x, gain, first, _
     absurd (omega (arith, ints, same, most, gain_is, gains))
 lack_refuted firms trades scale on prices reason lacks equilibrium = absurd lacks
 
-equilibrium_refuted : (firms : List Firm) (trades : List Ends) (on : ℕ) (prices : ℕ → ℤ) (claimed : ℤ) (reason : Reason) → RefutesEquilibrium firms trades on prices claimed reason
+pub equilibrium_refuted : (firms : List Firm) (trades : List Ends) (on : ℕ) (prices : ℕ → ℤ) (claimed : ℤ) (reason : Reason) → RefutesEquilibrium firms trades on prices claimed reason
     → IsEquilibrium firms trades (pos 1) on prices × (surplus_of firms trades on ≡ Some claimed) → ⊥
 equilibrium_refuted firms trades on prices claimed (Surplus surplus) refutes valid = refutes.2 (same_Some surplus claimed (sym refutes.1 ∙ valid.1))
 equilibrium_refuted firms trades on prices claimed reason refutes valid = lack_refuted firms trades (pos 1) on prices reason refutes valid.0
 
-better_refuted : (firms : List Firm) (trades : List Ends) (on : ℕ) (prices : ℕ → ℤ) (f x : ℕ) (claimed : ℤ) (reason : Reason) → RefutesBetter firms trades on prices f x claimed reason
+pub better_refuted : (firms : List Firm) (trades : List Ends) (on : ℕ) (prices : ℕ → ℤ) (f x : ℕ) (claimed : ℤ) (reason : Reason) → RefutesBetter firms trades on prices f x claimed reason
     → IsFirmWith firms f (λ firm. Gains trades (pos 1) prices f firm x (part trades f firm.count on) claimed) × IsPositive claimed → ⊥
 better_refuted firms trades on prices f x claimed (ImpossibleIs g) (_, (firm, is, none)) ((other, other_is, gains), _) =
     let same = same_Some firm other (sym is ∙ other_is) in
@@ -77,7 +82,7 @@ better_refuted firms trades on prices f x claimed (Gain g (Some gain)) (_, (firm
     differs (subst IsPositive (sym true_gain) positive) true_gain
 better_refuted firms trades on prices f x claimed reason refutes valid = absurd refutes
 
-cycle_refuted : (firms : List Firm) (trades : List Ends) (on : ℕ) (nodes : List ℕ) (claimed : ℤ) (reason : Reason) → RefutesCycle firms trades on nodes claimed reason
+pub cycle_refuted : (firms : List Firm) (trades : List Ends) (on : ℕ) (nodes : List ℕ) (claimed : ℤ) (reason : Reason) → RefutesCycle firms trades on nodes claimed reason
     → ArePossible firms trades on × GoesRound (exchange_arc firms trades on) nodes claimed × (claimed <ℤ pos 0) → ⊥
 cycle_refuted firms trades on nodes claimed (ImpossibleIs f) first valid = some_none _ (valid.0 f first.firm first.is) first.impossible
 cycle_refuted firms trades on nodes claimed (Arc index) refutes valid = round_unbroken (exchange_arc firms trades on) nodes claimed valid.1 index refutes.1
@@ -85,3 +90,19 @@ cycle_refuted firms trades on nodes claimed (Cost cost) refutes valid =
     let same = round_cost-same (exchange_arc firms trades on) nodes cost claimed refutes.1 valid.1 in
     refutes.2 (subst (λ (z : ℤ). z <ℤ pos 0) (sym same) valid.2) same
 cycle_refuted firms trades on nodes claimed reason refutes valid = absurd refutes
+
+pub impossible_refuted : (firms : List Firm) (trades : List Ends) (on f : ℕ) (reason : Reason) → Refutes firms trades (Impossible on f) reason → IsValid firms trades (Impossible on f) → ⊥
+impossible_refuted firms trades on f (Possible g) (_, (firm, is, some)) (other, other_is, none) =
+    some_none _ (subst (λ (it : Firm). IsSome (it.worth (part trades f it.count on))) (same_Some firm other (sym is ∙ other_is)) some) none
+impossible_refuted firms trades on f reason refutes valid = absurd refutes
+
+pub accepted_refuted : (firms : List Firm) (trades : List Ends) (reason : Reason) → Refutes firms trades Accepted reason → IsValid firms trades Accepted → ⊥
+accepted_refuted firms trades (Exchange f x y at) fails valid =
+    none_fails_from_exchange fails.firm (valid f fails.firm fails.is) fails.triple.x fails.triple.y fails.triple.at fails.first.fails
+accepted_refuted firms trades reason refutes valid = absurd refutes
+
+pub failure_refuted : (firms : List Firm) (trades : List Ends) (f x y : ℕ) (at : Option ℕ) (reason : Reason) → Refutes firms trades (ExchangeFails f x y at) reason
+    → IsValid firms trades (ExchangeFails f x y at) → ⊥
+failure_refuted firms trades f x y at Holds (firm, is, holds) (other, other_is, fails) =
+    holds (subst (λ (it : Firm). Fails it x y at) (same_Some other firm (sym other_is ∙ is)) fails)
+failure_refuted firms trades f x y at reason refutes valid = absurd refutes

@@ -5,3 +5,4 @@ pub mod Outcomes
 pub mod Reasons
 pub mod Replays
 pub mod Terms
+pub mod RefutedLaw

@@ -9,12 +9,16 @@ mod dropping;
 mod equilibria;
 mod exchange;
 mod gains;
+mod laws;
 mod least;
 mod pool;
 mod replayed;
 mod replaying;
 mod terms;
+#[cfg(test)]
+mod tests;
 mod utilities;
 
+pub use laws::refuted_is_not_valid;
 pub use replayed::Replayed;
-pub use replaying::{is_on_exchange, replay_exchange};
+pub use replaying::{is_on_exchange, replay, replay_exchange};

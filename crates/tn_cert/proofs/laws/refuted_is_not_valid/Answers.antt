@@ -1,0 +1,5 @@
+use Rattle.tn_cert.proofs.RefutedClaims.{refuted}
+use Rattle.tn_cert.proofs.laws.refuted_is_not_valid.Goals as goal
+
+pub returns : goal.returns
+returns c = record { never = refuted }
