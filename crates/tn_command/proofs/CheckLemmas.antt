@@ -32,7 +32,7 @@ pub value_at : (firms : List FirmValue) (f : ℕ) (firm : Firm) → slice_get (m
 value_at firms f firm e = from_map firm_of (slice_get firms f) firm (sym (slice_get-map firm_of firms f) ∙ e)
 
 -- each price is small, and so is that of a trade that isn't there
-price_small : (prices : List ℤ) (t limit : ℕ) → All (λ p. IsAtMost p limit) prices → IsAtMost (price_at prices t) limit
+pub price_small : (prices : List ℤ) (t limit : ℕ) → All (λ p. IsAtMost p limit) prices → IsAtMost (price_at prices t) limit
 price_small prices t limit small = elim (cases_lt t (length prices)) [
   | inl h ↦ All-get_or (λ p. IsAtMost p limit) prices t (pos 0) h small
   | inr h ↦ subst (λ (z : ℤ). IsAtMost z limit) (sym (get_or_past prices t (pos 0) h)) (record { low = omega (arith, ints); high = omega (arith, ints) })

@@ -6,3 +6,4 @@ pub mod SupportedLemmas
 pub mod RangeLemmas
 pub mod EditLemmas
 pub mod DrillLemmas
+pub mod ReasonLemmas

@@ -22,7 +22,7 @@ pub supports_imply : (firms : List Firm) (trades : List Ends) (on : ℕ) (prices
 supports_imply firms trades on prices network supports = (supports, implied_by firms trades on (price_at prices) network supports.equilibrium)
 
 -- the worths of firms of any kind are small
-small_firms : (firms : List FirmValue) (f : ℕ) (firm : Firm) → slice_get (map firm_of firms) f ≡ Some firm → IsWorthAtMost (10 ^ 11) firm
+pub small_firms : (firms : List FirmValue) (f : ℕ) (firm : Firm) → slice_get (map firm_of firms) f ≡ Some firm → IsWorthAtMost (10 ^ 11) firm
 small_firms firms f firm is =
     let there = value_at firms f firm is in subst (IsWorthAtMost (10 ^ 11)) there.2 (firm_laws there.0).within
 

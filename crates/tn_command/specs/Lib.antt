@@ -5,3 +5,4 @@ pub mod Outcome
 pub mod Ranged
 pub mod Edited
 pub mod Drilled
+pub mod Claimed

@@ -7,6 +7,7 @@ mod drilling;
 mod editing;
 mod judging;
 mod ranging;
+mod replaying;
 mod solving;
 mod supporting;
 
@@ -15,5 +16,6 @@ pub use drilling::drill_surplus;
 pub use editing::states_after;
 pub use judging::judge_outcome;
 pub use ranging::price_ranges;
+pub use replaying::replay_claim;
 pub use solving::{solve, solve_in_rows};
 pub use supporting::prices_for;

@@ -1,23 +1,29 @@
 -- Every document that is read is a network with its names.
-use Rattle.std.proofs.Common.{◌≡◌, ℕ, ◌<◌, ◌^◌, List, [], length, subst, arith}
+use Rattle.std.proofs.Common.{◌≡◌, ℕ, ◌<◌, ◌^◌, List, [], length, Ok, refl, sym, ap, subst, ◌∙◌, arith}
+use Rattle.std.specs.Prelude.{not}
 use Rattle.serde_json.specs.Data.{Data, Items}
 use Rattle.serde_json.specs.Events.{items_len}
 use Rattle.tn_base.specs.Firm.{Firm}
 use Rattle.tn_base.specs.declared.fault.FaultKind.TheVariants.{NotJson}
 use Rattle.tn_names.specs.Names.{no_names}
 use Rattle.tn_file.specs.declared.need.Need.{Need}
-use Rattle.tn_file.specs.declared.need.Need.TheVariants.{Market, Raw, Arrangement, On, Outcome, Edits}
+use Rattle.tn_file.specs.declared.need.Need.TheVariants.{Market, Raw, Arrangement, On, Outcome, Edits, Claim}
 use Rattle.tn_listed.specs.Beside.{beside}
 use Rattle.tn_shape.specs.Reading.{each, wanted}
 use Rattle.tn_file.specs.Json.{json_of}
-use Rattle.tn_refer.specs.Ordered.{Listed}
+use Rattle.tn_refer.specs.Ordered.{AreTrades, Listed}
 use Rattle.tn_kinds.specs.Firms.{one_firm}
 use Rattle.tn_extra.specs.Arranged.{arrangement_of, trades_on_of, IsArrangement}
 use Rattle.tn_extra.specs.Signed.{outcome_of}
 use Rattle.tn_extra.specs.Edited.{edits_of}
 use Rattle.tn_market.specs.Edits.{AreEdits}
+use Rattle.tn_market.specs.ClaimLimits.{IsClaimWithin}
+use Rattle.tn_market.specs.Network.{IsNetwork}
 use Rattle.tn_market.specs.OutcomeLimits.{IsOutcomeWithin}
-use Rattle.tn_file.specs.Document.{ExtraData, nothing, arrangement, on_alone, outcome, edits, extra_of, content_of, document_of, is_tested, reading_of}
+use Rattle.tn_claimed.specs.Claimed.{claim_of, claims_raw, is_raw, kind_is}
+use Rattle.tn_claimed.proofs.ClaimLeads.{claim_leads}
+use Rattle.tn_claimed.proofs.KindLeads.{raw_claims_are_told}
+use Rattle.tn_file.specs.Document.{ExtraData, nothing, arrangement, on_alone, outcome, edits, claim, extra_of, content_of, document_of, is_accepted, is_tested, reading_of}
 use Rattle.tn_listed.specs.Listing.{listed_of}
 use Rattle.tn_file.specs.Laws.{IsDocument, IsExtra, DocumentsAreNetworks}
 use Rattle.tn_shape.proofs.LeadLemmas.{Leads, leads_ok, leads_bind, leads_after, leads_both}
@@ -29,34 +35,66 @@ use Rattle.tn_extra.proofs.OutcomeLeads.{outcome_leads}
 use Rattle.tn_extra.proofs.EditLeads.{edits_lead}
 use Rattle.tn_listed.proofs.ListingLeads.{IsListing, listed_leads}
 
-extra_leads : (need : Need) (trades : List (List ℕ)) (top : Data) → Leads (IsExtra (length trades)) (extra_of need trades top)
+module _ (listed : Listed) (trades : AreTrades listed) (firms : List Firm) (named : length listed.names.firms ≡ length firms) (network : IsNetwork firms listed.ends) where
+  -- what is said of the count of names is said of the count of trades
+  counted : (P : ℕ → Type 0) → P (length listed.names.trades) → P (length listed.ends)
+  counted P said = subst P trades.named said
+
+  abbrev IsRead : ExtraData → Type 0
+  IsRead extra = IsExtra firms listed.ends extra
+
+  extra_leads : (need : Need) (top : Data) → Leads IsRead (extra_of need listed top)
+  unfolding extra_of
+  extra_leads Market top = leads_ok IsRead nothing tt
+  extra_leads Raw top = leads_ok IsRead nothing tt
+  extra_leads Arrangement top = leads_bind (IsArrangement (length listed.names.trades)) IsRead (arrangement_of listed.names.trades top) _ (arrangement_leads listed.names.trades top) (λ part is. leads_ok IsRead (arrangement part) (counted (λ n. IsArrangement n part) is))
+  extra_leads On top = leads_bind (λ on. on < 2 ^ length listed.names.trades) IsRead (trades_on_of listed.names.trades top) _ (trades_on_leads listed.names.trades top) (λ on below. leads_ok IsRead (on_alone on) (counted (λ n. on < 2 ^ n) below))
+  extra_leads Outcome top = leads_bind (IsOutcomeWithin (length listed.names.trades)) IsRead (outcome_of listed.names.trades top) _ (outcome_leads listed.names.trades top) (λ signed is. leads_ok IsRead (outcome signed) (counted (λ n. IsOutcomeWithin n signed) is))
+  extra_leads Edits top = leads_bind (AreEdits (length listed.names.trades)) IsRead (edits_of listed.names.trades top) _ (edits_lead listed.names.trades top) (λ changes are. leads_ok IsRead (edits changes) (counted (λ n. AreEdits n changes) are))
+  extra_leads Claim top = leads_bind (IsClaimWithin firms listed.ends) IsRead (claim_of listed top) _ (claim_leads listed trades firms named network top) (λ read is. leads_ok IsRead (claim read) is)
+
+-- whether firms are tested is told before the claim is read
+accepted_leads : (need : Need) (listed : Listed) (top : Data) → Leads (λ extra. is_accepted need extra ≡ is_tested need top) (extra_of need listed top)
 unfolding extra_of
-extra_leads Arrangement trades top = leads_bind (IsArrangement (length trades)) (IsExtra (length trades)) (arrangement_of trades top) _ (arrangement_leads trades top) (λ part is. leads_ok (IsExtra (length trades)) (arrangement part) is)
-extra_leads On trades top = leads_bind (λ on. on < 2 ^ length trades) (IsExtra (length trades)) (trades_on_of trades top) _ (trades_on_leads trades top) (λ on below. leads_ok (IsExtra (length trades)) (on_alone on) below)
-extra_leads Outcome trades top = leads_bind (IsOutcomeWithin (length trades)) (IsExtra (length trades)) (outcome_of trades top) _ (outcome_leads trades top) (λ signed is. leads_ok (IsExtra (length trades)) (outcome signed) is)
-extra_leads Edits trades top = leads_bind (AreEdits (length trades)) (IsExtra (length trades)) (edits_of trades top) _ (edits_lead trades top) (λ listed are. leads_ok (IsExtra (length trades)) (edits listed) are)
-extra_leads Market trades top = leads_ok (IsExtra (length trades)) nothing tt
-extra_leads Raw trades top = leads_ok (IsExtra (length trades)) nothing tt
+accepted_leads Market listed top = record { at = λ extra e. refl }
+accepted_leads Raw listed top = record { at = λ extra e. refl }
+accepted_leads Arrangement listed top = record { at = λ extra e. refl }
+accepted_leads On listed top = record { at = λ extra e. refl }
+accepted_leads Outcome listed top = record { at = λ extra e. refl }
+accepted_leads Edits listed top = record { at = λ extra e. refl }
+accepted_leads Claim listed top =
+    leads_bind (λ read. claims_raw top ≡ is_raw (kind_is read)) (λ extra. is_accepted Claim extra ≡ is_tested Claim top) (claim_of listed top) _ (record { at = raw_claims_are_told listed top }) (λ read told.
+    leads_ok (λ extra. is_accepted Claim extra ≡ is_tested Claim top) (claim read) (ap not (sym told)))
+
+pub accepted_as_tested : (need : Need) (listed : Listed) (top : Data) (extra : ExtraData) → extra_of need listed top ≡ Ok extra → is_accepted need extra ≡ is_tested need top
+accepted_as_tested need listed top extra e = (accepted_leads need listed top).at extra e
 
 -- what the content of a listing is
-abbrev IsContent : (need : Need) (found : Listed × Items) → IsListing found → List Firm × ExtraData → Type 0
-IsContent need found listing content = (AreFirms (is_tested need) found.0 listing.trades content.0 × (length content.0 ≡ items_len found.1)) × IsExtra (length found.0.names.trades) content.1
+record IsContent (need : Need) (top : Data) (found : Listed × Items) (listing : IsListing found) (content : List Firm × ExtraData) : Type 0 where
+  are : AreFirms (is_tested need top) found.0 listing.trades content.0
+  count : length content.0 ≡ items_len found.1
+  extra : IsExtra content.0 found.0.ends content.1
+  accepted : is_accepted need content.1 ≡ is_tested need top
 
-content_leads : (need : Need) (found : Listed × Items) (listing : IsListing found) (top : Data) → Leads (IsContent need found listing) (content_of need found.0 found.1 top)
+content_leads : (need : Need) (found : Listed × Items) (listing : IsListing found) (top : Data) → Leads (IsContent need top found listing) (content_of need found.0 found.1 top)
 unfolding content_of
 content_leads need found listing top =
-    leads_bind (λ firms. AreFirms (is_tested need) found.0 listing.trades firms × (length firms ≡ items_len found.1)) (IsContent need found listing)
-    (each (one_firm (is_tested need) found.0) [] found.1) _
-    (leads_both _ _ _ (firms_are (is_tested need) found.0 listing.trades found.1) (firms_are_counted (is_tested need) found.0 listing.trades found.1)) (λ firms are.
-    leads_bind (IsExtra (length found.0.names.trades)) (IsContent need found listing) (extra_of need found.0.names.trades top) _
-    (extra_leads need found.0.names.trades top) (λ extra is_extra.
-    leads_ok (IsContent need found listing) (firms, extra) (are, is_extra)))
+    let tested = is_tested need top in
+    leads_bind (λ firms. AreFirms tested found.0 listing.trades firms × (length firms ≡ items_len found.1)) (IsContent need top found listing)
+    (each (one_firm tested found.0) [] found.1) _
+    (leads_both _ _ _ (firms_are tested found.0 listing.trades found.1) (firms_are_counted tested found.0 listing.trades found.1)) (λ firms are.
+    let count = are.1 in
+    let named : length found.0.names.firms ≡ length firms = omega (arith, listing.count, count) in
+    let network = network_of tested found.0 listing.trades firms are.0 named in
+    leads_bind (λ extra. IsExtra firms found.0.ends extra × (is_accepted need extra ≡ tested)) (IsContent need top found listing) (extra_of need found.0 top) _
+    (leads_both (IsExtra firms found.0.ends) (λ extra. is_accepted need extra ≡ tested) (extra_of need found.0 top) (extra_leads found.0 listing.trades firms named network need top) (accepted_leads need found.0 top)) (λ extra is.
+    leads_ok (IsContent need top found listing) (firms, extra) (record { are = are.0; count = are.1; extra = is.0; accepted = is.1 })))
 
-is_document : (need : Need) (found : Listed × Items) (content : List Firm × ExtraData) (listing : IsListing found) → IsContent need found listing content
+is_document : (need : Need) (top : Data) (found : Listed × Items) (content : List Firm × ExtraData) (listing : IsListing found) → IsContent need top found listing content
     → IsDocument need (record { names = found.0.names; firms = content.0; ends = found.0.ends; extra = content.1 })
-is_document need found content listing is =
-    let are = is.0.0 in
-    let count = is.0.1 in
+is_document need top found content listing is =
+    let tested = is_tested need top in
+    let count = is.count in
     let named : length found.0.names.firms ≡ length content.0 = omega (arith, listing.count, count) in
     record {
       firm_names = listing.firm_names;
@@ -65,22 +103,22 @@ is_document need found content listing is =
       trades_named = listing.trades.named;
       few_firms = omega (arith, count, listing.few);
       few_trades = listing.trades.few;
-      listed = λ f firm at. (are f firm at).listed;
-      network = network_of (is_tested need) found.0 listing.trades content.0 are named;
-      ascending = λ f i j firm at before below. (positions_ascend (is_tested need) found.0 listing.trades content.0 are f i j firm at before below);
-      own_bundles = λ f firm at. listed_own_bundles found.0.ends f firm (are f firm at).listed;
-      abstain = λ f firm at. listed_may_abstain found.0.ends f firm (are f firm at).listed;
-      accepted = λ tested f firm at. (record { abstains = listed_may_abstain found.0.ends f firm (are f firm at).listed; exchanges = (are f firm at).meets tested });
-      extra = subst (λ n. IsExtra n content.1) listing.trades.named is.1;
+      listed = λ f firm at. (is.are f firm at).listed;
+      network = network_of tested found.0 listing.trades content.0 is.are named;
+      ascending = λ f i j firm at before below. (positions_ascend tested found.0 listing.trades content.0 is.are f i j firm at before below);
+      own_bundles = λ f firm at. listed_own_bundles found.0.ends f firm (is.are f firm at).listed;
+      abstain = λ f firm at. listed_may_abstain found.0.ends f firm (is.are f firm at).listed;
+      accepted = λ accepted f firm at. (record { abstains = listed_may_abstain found.0.ends f firm (is.are f firm at).listed; exchanges = (is.are f firm at).meets (sym is.accepted ∙ accepted) });
+      extra = is.extra;
     }
 
 document_leads : (need : Need) (top : Data) → Leads (IsDocument need) (document_of need top)
 unfolding document_of
 document_leads need top =
     leads_bind IsListing (IsDocument need) (listed_of top) _ (listed_leads top) (λ found listing.
-    leads_bind (IsContent need found listing) (IsDocument need) (beside found.0.names (content_of need found.0 found.1 top)) _
+    leads_bind (IsContent need top found listing) (IsDocument need) (beside found.0.names (content_of need found.0 found.1 top)) _
     (leads_beside _ found.0.names (content_of need found.0 found.1 top) (content_leads need found listing top)) (λ content is.
-    leads_ok (IsDocument need) (record { names = found.0.names; firms = content.0; ends = found.0.ends; extra = content.1 }) (is_document need found content listing is)))
+    leads_ok (IsDocument need) (record { names = found.0.names; firms = content.0; ends = found.0.ends; extra = content.1 }) (is_document need top found content listing is)))
 
 reading_leads : (need : Need) (bytes : List ℕ) → Leads (IsDocument need) (reading_of need bytes)
 unfolding reading_of

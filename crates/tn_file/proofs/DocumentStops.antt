@@ -1,11 +1,17 @@
 -- Wherever reading stops, its fault speaks of named trades, and the names beside it keep the rules.
-use Rattle.std.proofs.Common.{ℕ, ◌≤◌, List, [], length, refl}
+use Rattle.std.proofs.Common.{◌≡◌, ℕ, ◌<◌, ◌≤◌, List, [], length, refl, arith}
 use Rattle.serde_json.specs.Data.{Data, Items}
+use Rattle.serde_json.specs.Events.{items_len}
+use Rattle.tn_market.specs.declared.said.Fault.{Fault}
+use Rattle.tn_claimed.specs.Claimed.{claim_of}
+use Rattle.tn_claimed.proofs.ClaimStops.{claim_stops}
+use Rattle.tn_kinds.proofs.FirmLeads.{AreFirms, firms_are, firms_are_counted, few_own_firm}
+use Rattle.tn_shape.proofs.LeadLemmas.{leads_both}
 use Rattle.tn_base.specs.declared.fault.FaultKind.TheVariants.{NotJson}
 use Rattle.tn_names.specs.Names.{no_names}
 use Rattle.tn_file.specs.declared.need.Need.{Need}
-use Rattle.tn_file.specs.declared.need.Need.TheVariants.{Market, Raw, Arrangement, On, Outcome, Edits}
-use Rattle.tn_refer.specs.Ordered.{Listed}
+use Rattle.tn_file.specs.declared.need.Need.TheVariants.{Market, Raw, Arrangement, On, Outcome, Edits, Claim}
+use Rattle.tn_refer.specs.Ordered.{AreTrades, Listed, sides_of}
 use Rattle.tn_listed.specs.Beside.{beside, IsStop}
 use Rattle.tn_shape.specs.Reading.{each, wanted}
 use Rattle.tn_file.specs.Json.{json_of}
@@ -13,7 +19,7 @@ use Rattle.tn_extra.specs.Arranged.{arrangement_of, trades_on_of}
 use Rattle.tn_extra.specs.Signed.{outcome_of}
 use Rattle.tn_extra.specs.Edited.{edits_of}
 use Rattle.tn_kinds.specs.Firms.{one_firm}
-use Rattle.tn_file.specs.Document.{arrangement, nothing, on_alone, outcome, edits, content_of, document_of, extra_of, is_tested, reading_of}
+use Rattle.tn_file.specs.Document.{arrangement, nothing, on_alone, outcome, edits, claim, content_of, document_of, extra_of, is_tested, reading_of}
 use Rattle.tn_listed.specs.Listing.{listed_of}
 use Rattle.tn_file.specs.Laws.{FaultsAreSayable, ReadingsAreNeverTooLong}
 use Rattle.tn_listed.proofs.ListingLeads.{IsListing, listed_leads}
@@ -26,22 +32,31 @@ use Rattle.tn_extra.proofs.OutcomeStops.{outcome_stops}
 use Rattle.tn_extra.proofs.EditStops.{edits_stop}
 use Rattle.tn_listed.proofs.ListingStops.{AreNames, no_names_are, told_stop, plain_stop, listed_stops}
 
-module _ (trades : List (List ℕ)) (few : length trades ≤ 1024) where
-  extra_stops : (need : Need) (top : Data) → Stops (IsTold trades) (extra_of need trades top)
+module _ (listed : Listed) (trades : AreTrades listed) (few : length listed.names.trades ≤ 1024) (few_own : (f : ℕ) → f < length listed.names.firms → length (sides_of listed.ends f) ≤ 32) where
+  abbrev Told : Fault → Type 0
+  Told = IsTold listed.names.trades
+
+  extra_stops : (need : Need) (top : Data) → Stops Told (extra_of need listed top)
   unfolding extra_of
-  extra_stops Market top = stops_ok (IsTold trades) nothing
-  extra_stops Raw top = stops_ok (IsTold trades) nothing
-  extra_stops Arrangement top = stops_bind (IsTold trades) (arrangement_of trades top) _ (arrangement_stops trades few top) (λ part. stops_ok (IsTold trades) (arrangement part))
-  extra_stops On top = stops_bind (IsTold trades) (trades_on_of trades top) _ (told_from_plain trades _ (trades_on_stop trades few top)) (λ on. stops_ok (IsTold trades) (on_alone on))
-  extra_stops Outcome top = stops_bind (IsTold trades) (outcome_of trades top) _ (told_from_plain trades _ (outcome_stops trades few top)) (λ signed. stops_ok (IsTold trades) (outcome signed))
-  extra_stops Edits top = stops_bind (IsTold trades) (edits_of trades top) _ (told_from_plain trades _ (edits_stop trades top)) (λ listed. stops_ok (IsTold trades) (edits listed))
+  extra_stops Market top = stops_ok Told nothing
+  extra_stops Raw top = stops_ok Told nothing
+  extra_stops Arrangement top = stops_bind Told (arrangement_of listed.names.trades top) _ (arrangement_stops listed.names.trades few top) (λ part. stops_ok Told (arrangement part))
+  extra_stops On top = stops_bind Told (trades_on_of listed.names.trades top) _ (told_from_plain listed.names.trades _ (trades_on_stop listed.names.trades few top)) (λ on. stops_ok Told (on_alone on))
+  extra_stops Outcome top = stops_bind Told (outcome_of listed.names.trades top) _ (told_from_plain listed.names.trades _ (outcome_stops listed.names.trades few top)) (λ signed. stops_ok Told (outcome signed))
+  extra_stops Edits top = stops_bind Told (edits_of listed.names.trades top) _ (told_from_plain listed.names.trades _ (edits_stop listed.names.trades top)) (λ changes. stops_ok Told (edits changes))
+  extra_stops Claim top = stops_bind Told (claim_of listed top) _ (claim_stops listed trades few few_own top) (λ read. stops_ok Told (claim read))
 
 content_stops : (need : Need) (found : Listed × Items) → IsListing found → (top : Data) → Stops (IsTold found.0.names.trades) (content_of need found.0 found.1 top)
 unfolding content_of
 content_stops need found listing top =
     let told = IsTold found.0.names.trades in
-    stops_bind told (each (one_firm (is_tested need) found.0) [] found.1) _ (firms_stop found.0 listing.trades (is_tested need) found.1 listing.few) (λ firms.
-    stops_bind told (extra_of need found.0.names.trades top) _ (extra_stops found.0.names.trades listing.trade_names.few need top) (λ extra.
+    let tested = is_tested need top in
+    stops_after told (λ firms. AreFirms tested found.0 listing.trades firms × (length firms ≡ items_len found.1)) (each (one_firm tested found.0) [] found.1) _
+    (leads_both _ _ _ (firms_are tested found.0 listing.trades found.1) (firms_are_counted tested found.0 listing.trades found.1))
+    (firms_stop found.0 listing.trades tested found.1 listing.few) (λ firms are.
+    let count = are.1 in
+    stops_bind told (extra_of need found.0 top) _
+    (extra_stops found.0 listing.trades listing.trade_names.few (λ f known. few_own_firm tested found.0 listing.trades firms are.0 f (omega (arith, known, listing.count, count))) need top) (λ extra.
     stops_ok told (firms, extra)))
 
 document_stops : (need : Need) (top : Data) → Stops IsStop (document_of need top)

@@ -1,15 +1,16 @@
 -- The reading of a document: what it stands for, or the first fault.
-use Rattle.std.specs.Prelude.{ℕ, [], List, Bool, true, false, Result, Ok}
+use Rattle.std.specs.Prelude.{ℕ, [], List, Bool, true, false, not, Result, Ok}
 use Rattle.serde_json.specs.Data.{Data, Items}
 use Rattle.tn_base.specs.declared.fault.FaultKind.TheVariants.{NotJson}
 use Rattle.tn_base.specs.Firm.{Firm}
+use Rattle.tn_market.specs.declared.claim.Claim.{Claim as ClaimIs}
 use Rattle.tn_market.specs.declared.contract.Outcome.{Outcome as OutcomeIs}
 use Rattle.tn_market.specs.declared.ends.Ends.{Ends}
 use Rattle.tn_market.specs.declared.said.Fault.{Fault}
 use Rattle.tn_market.specs.declared.session.Edit.{Edit}
 use Rattle.tn_names.specs.Names.{NameLists, no_names}
 use Rattle.tn_file.specs.declared.need.Need.{Need}
-use Rattle.tn_file.specs.declared.need.Need.TheVariants.{Market, Raw, Arrangement, On, Outcome, Edits}
+use Rattle.tn_file.specs.declared.need.Need.TheVariants.{Market, Raw, Arrangement, On, Outcome, Edits, Claim}
 use Rattle.tn_refer.specs.Ordered.{Listed}
 use Rattle.tn_listed.specs.Beside.{Stop, beside}
 use Rattle.tn_shape.specs.Reading.{◌>>=◌, each, wanted}
@@ -18,6 +19,7 @@ use Rattle.tn_kinds.specs.Firms.{one_firm}
 use Rattle.tn_extra.specs.Arranged.{Arranged, arrangement_of, trades_on_of}
 use Rattle.tn_extra.specs.Signed.{outcome_of}
 use Rattle.tn_extra.specs.Edited.{edits_of}
+use Rattle.tn_claimed.specs.Claimed.{claim_of, claims_raw, is_raw, kind_is}
 use Rattle.tn_listed.specs.Listing.{listed_of}
 
 -- what a command reads beside the network
@@ -28,37 +30,61 @@ pub data ExtraData : Type 0 where
   on_alone : ℕ → ExtraData
   outcome : OutcomeIs → ExtraData
   edits : List Edit → ExtraData
+  claim : ClaimIs → ExtraData
 
--- each firm is to meet exchange, unless the network is read raw
-abbrev pub is_tested : Need → Bool
-is_tested Market = true
-is_tested Raw = false
-is_tested Arrangement = true
-is_tested On = true
-is_tested Outcome = true
-is_tested Edits = true
+-- each firm is to meet exchange, unless the network is read raw, as it is for a claim on exchange
+abbrev pub is_tested : Need → Data → Bool
+is_tested Market top = true
+is_tested Raw top = false
+is_tested Arrangement top = true
+is_tested On top = true
+is_tested Outcome top = true
+is_tested Edits top = true
+is_tested Claim top = not (claims_raw top)
 
-unfoldable pub extra_of : Need → List (List ℕ) → Data → Result ExtraData Fault
-extra_of Market trades top = Ok nothing
-extra_of Raw trades top = Ok nothing
-extra_of Arrangement trades top = do
-  arranged ← arrangement_of trades top
+-- whether a claim was read that is made of firms which meet exchange
+abbrev pub claims_market : ExtraData → Bool
+claims_market nothing = false
+claims_market (arrangement part) = false
+claims_market (on_alone on) = false
+claims_market (outcome signed) = false
+claims_market (edits listed) = false
+claims_market (claim read) = not (is_raw (kind_is read))
+
+-- each firm has met exchange, by the need and what was read beside the network
+abbrev pub is_accepted : Need → ExtraData → Bool
+is_accepted Market extra = true
+is_accepted Raw extra = false
+is_accepted Arrangement extra = true
+is_accepted On extra = true
+is_accepted Outcome extra = true
+is_accepted Edits extra = true
+is_accepted Claim extra = claims_market extra
+
+unfoldable pub extra_of : Need → Listed → Data → Result ExtraData Fault
+extra_of Market listed top = Ok nothing
+extra_of Raw listed top = Ok nothing
+extra_of Arrangement listed top = do
+  arranged ← arrangement_of listed.names.trades top
   Ok (arrangement arranged)
-extra_of On trades top = do
-  on ← trades_on_of trades top
+extra_of On listed top = do
+  on ← trades_on_of listed.names.trades top
   Ok (on_alone on)
-extra_of Outcome trades top = do
-  signed ← outcome_of trades top
+extra_of Outcome listed top = do
+  signed ← outcome_of listed.names.trades top
   Ok (outcome signed)
-extra_of Edits trades top = do
-  listed ← edits_of trades top
-  Ok (edits listed)
+extra_of Edits listed top = do
+  changes ← edits_of listed.names.trades top
+  Ok (edits changes)
+extra_of Claim listed top = do
+  read ← claim_of listed top
+  Ok (claim read)
 
 -- the firms that are listed, and then the extra part
 unfoldable pub content_of : Need → Listed → Items → Data → Result (List Firm × ExtraData) Fault
 content_of need listed items top = do
-  firms ← each (one_firm (is_tested need) listed) [] items
-  extra ← extra_of need listed.names.trades top
+  firms ← each (one_firm (is_tested need top) listed) [] items
+  extra ← extra_of need listed top
   Ok (firms, extra)
 
 -- firms, and the ends of the trades in file order

@@ -1,7 +1,7 @@
 -- What an extra part stands for.
 use Rattle.tn_file.specs.declared.extra.Extra.{Extra}
-use Rattle.tn_file.specs.declared.extra.Extra.TheVariants.{None, Arrangement, On, Outcome, Edits}
-use Rattle.tn_file.specs.Document.{ExtraData, nothing, arrangement, on_alone, outcome, edits}
+use Rattle.tn_file.specs.declared.extra.Extra.TheVariants.{None, Arrangement, On, Outcome, Edits, Claim}
+use Rattle.tn_file.specs.Document.{ExtraData, nothing, arrangement, on_alone, outcome, edits, claim}
 
 abbrev pub extra_view : Extra → ExtraData
 extra_view None = nothing
@@ -9,3 +9,4 @@ extra_view (Arrangement part) = arrangement (record { on = part.on; prices = par
 extra_view (On on) = on_alone on
 extra_view (Outcome signed) = outcome signed
 extra_view (Edits listed) = edits listed
+extra_view (Claim read) = claim read

@@ -3,22 +3,25 @@ use Rattle.std.specs.Prelude.{◌≡◌, ◌≢◌, ℕ, ◌≤◌, ◌<◌, ◌
 use Rattle.tn_base.specs.declared.fault.FaultKind.TheVariants.{TooLong}
 use Rattle.tn_base.specs.Firm.{Firm, HasOwnBundles, MayAbstain}
 use Rattle.tn_market.specs.Accepted.{AreAccepted}
+use Rattle.tn_market.specs.ClaimLimits.{IsClaimWithin}
 use Rattle.tn_market.specs.OutcomeLimits.{IsOutcomeWithin}
+use Rattle.tn_market.specs.declared.ends.Ends.{Ends}
 use Rattle.tn_market.specs.Network.{IsNetwork, HaveAscendingPositions}
 use Rattle.tn_names.specs.Names.{IsNameList}
 use Rattle.tn_file.specs.declared.need.Need.{Need}
 use Rattle.tn_listed.specs.Beside.{Stop, IsStop}
-use Rattle.tn_file.specs.Document.{DocumentData, ExtraData, nothing, arrangement, on_alone, outcome, edits, is_tested, reading_of}
+use Rattle.tn_file.specs.Document.{DocumentData, ExtraData, nothing, arrangement, on_alone, outcome, edits, claim, is_accepted, reading_of}
 use Rattle.tn_kinds.specs.Laws.{IsListedFirm}
 use Rattle.tn_extra.specs.Arranged.{IsArrangement}
 use Rattle.tn_market.specs.Edits.{AreEdits}
 
-abbrev pub IsExtra : ℕ → ExtraData → Type 0
-IsExtra trades nothing = Unit {0}
-IsExtra trades (arrangement part) = IsArrangement trades part
-IsExtra trades (on_alone on) = on < 2 ^ trades
-IsExtra trades (outcome signed) = IsOutcomeWithin trades signed
-IsExtra trades (edits listed) = AreEdits trades listed
+abbrev pub IsExtra : List Firm → List Ends → ExtraData → Type 0
+IsExtra firms trades nothing = Unit {0}
+IsExtra firms trades (arrangement part) = IsArrangement (length trades) part
+IsExtra firms trades (on_alone on) = on < 2 ^ length trades
+IsExtra firms trades (outcome signed) = IsOutcomeWithin (length trades) signed
+IsExtra firms trades (edits listed) = AreEdits (length trades) listed
+IsExtra firms trades (claim read) = IsClaimWithin firms trades read
 
 pub record IsDocument (need : Need) (doc : DocumentData) : Type 0 where
   -- different names that keep the rule, one for each firm and one for each trade
@@ -37,8 +40,8 @@ pub record IsDocument (need : Need) (doc : DocumentData) : Type 0 where
   pub own_bundles : (f : ℕ) (firm : Firm) → slice_get doc.firms f ≡ Some firm → HasOwnBundles firm
   pub abstain : (f : ℕ) (firm : Firm) → slice_get doc.firms f ≡ Some firm → MayAbstain firm
   -- a market may be made of the firms, unless the network is read raw: each meets exchange
-  pub accepted : is_tested need ≡ true → AreAccepted doc.firms
-  pub extra : IsExtra (length doc.ends) doc.extra
+  pub accepted : is_accepted need doc.extra ≡ true → AreAccepted doc.firms
+  pub extra : IsExtra doc.firms doc.ends doc.extra
 
 -- every document that is read is one
 abbrev pub DocumentsAreNetworks : Type 0

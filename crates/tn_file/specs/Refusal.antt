@@ -1,18 +1,18 @@
 -- What the reader returned, against the reading.
-use Rattle.std.specs.Prelude.{◌≡◌, map, Result, Ok, Err}
+use Rattle.std.specs.Prelude.{◌≡◌, map, true, false, Result, Ok, Err}
 use Rattle.tn_firm.specs.Firms.{firm_of}
 use Rattle.tn_firm.specs.Raw.{raw_firm_of}
 use Rattle.tn_file.specs.declared.need.Need.{Need}
-use Rattle.tn_file.specs.declared.need.Need.TheVariants.{Market, Raw, Arrangement, On, Outcome, Edits}
+use Rattle.tn_file.specs.declared.need.Need.TheVariants.{Market, Raw, Arrangement, On, Outcome, Edits, Claim}
 use Rattle.tn_file.specs.declared.document.Document.{Document}
 use Rattle.tn_file.specs.declared.document.Loaded.TheVariants.{Market as MarketIs, Raw as RawIs}
 use Rattle.tn_file.specs.declared.document.Loaded.{Loaded}
 use Rattle.tn_file.specs.declared.document.DocRefusal.{DocRefusal}
 use Rattle.tn_file.specs.declared.document.DocRefusal.TheVariants.{Fault, OutOfMemory}
 use Rattle.tn_file.specs.declared.extra.Extra.{Extra}
-use Rattle.tn_file.specs.declared.extra.Extra.TheVariants.{None as NothingIs, Arrangement as ArrangementIs, On as OnIs, Outcome as OutcomeIs, Edits as EditsIs}
+use Rattle.tn_file.specs.declared.extra.Extra.TheVariants.{None as NothingIs, Arrangement as ArrangementIs, On as OnIs, Outcome as OutcomeIs, Edits as EditsIs, Claim as ClaimIs}
 use Rattle.tn_listed.specs.Beside.{Stop}
-use Rattle.tn_file.specs.Document.{NetData, DocumentData}
+use Rattle.tn_file.specs.Document.{NetData, DocumentData, is_accepted}
 use Rattle.tn_file.specs.Extra.{extra_view}
 
 -- the firms and the ends of a network that was read
@@ -30,20 +30,22 @@ Reads (Ok doc) reading = reading ≡ Ok (document_view doc)
 Reads (Err (Fault fault names)) reading = reading ≡ Err (record { fault = fault; names = names })
 Reads (Err OutOfMemory) reading = Unit {0}
 
--- a network is a market, unless it is read raw
-abbrev pub IsLoadedFor : Need → Loaded → Type 0
-IsLoadedFor Market (MarketIs market) = Unit {0}
-IsLoadedFor Market (RawIs net) = ⊥
-IsLoadedFor Raw (MarketIs market) = ⊥
-IsLoadedFor Raw (RawIs net) = Unit {0}
-IsLoadedFor Arrangement (MarketIs market) = Unit {0}
-IsLoadedFor Arrangement (RawIs net) = ⊥
-IsLoadedFor On (MarketIs market) = Unit {0}
-IsLoadedFor On (RawIs net) = ⊥
-IsLoadedFor Outcome (MarketIs market) = Unit {0}
-IsLoadedFor Outcome (RawIs net) = ⊥
-IsLoadedFor Edits (MarketIs market) = Unit {0}
-IsLoadedFor Edits (RawIs net) = ⊥
+-- a network is a market, unless it is read raw, as it is for a claim on exchange
+abbrev pub IsLoadedFor : Need → Extra → Loaded → Type 0
+IsLoadedFor Market extra (MarketIs market) = Unit {0}
+IsLoadedFor Market extra (RawIs net) = ⊥
+IsLoadedFor Raw extra (MarketIs market) = ⊥
+IsLoadedFor Raw extra (RawIs net) = Unit {0}
+IsLoadedFor Arrangement extra (MarketIs market) = Unit {0}
+IsLoadedFor Arrangement extra (RawIs net) = ⊥
+IsLoadedFor On extra (MarketIs market) = Unit {0}
+IsLoadedFor On extra (RawIs net) = ⊥
+IsLoadedFor Outcome extra (MarketIs market) = Unit {0}
+IsLoadedFor Outcome extra (RawIs net) = ⊥
+IsLoadedFor Edits extra (MarketIs market) = Unit {0}
+IsLoadedFor Edits extra (RawIs net) = ⊥
+IsLoadedFor Claim extra (MarketIs market) = is_accepted Claim (extra_view extra) ≡ true
+IsLoadedFor Claim extra (RawIs net) = is_accepted Claim (extra_view extra) ≡ false
 
 -- there is the part that the need names, and no other
 abbrev pub IsExtraFor : Need → Extra → Type 0
@@ -53,4 +55,5 @@ IsExtraFor Arrangement (ArrangementIs part) = Unit {0}
 IsExtraFor On (OnIs on) = Unit {0}
 IsExtraFor Outcome (OutcomeIs signed) = Unit {0}
 IsExtraFor Edits (EditsIs listed) = Unit {0}
+IsExtraFor Claim (ClaimIs read) = Unit {0}
 IsExtraFor need extra = ⊥

@@ -1,6 +1,7 @@
-ghost use Rattle.std.specs.Prelude.{◌≡◌, ◌≤◌, length, IfOk};
+ghost use Rattle.std.specs.Prelude.{ℕ, ◌<◌, ◌≤◌, length, IfOk};
 ghost use Rattle.serde_json.specs.View.{view};
 ghost use Rattle.tn_shape.specs.Reading.{Gives};
+ghost use Rattle.tn_refer.specs.Ordered.{AreTrades, Listed, sides_of};
 ghost use Rattle.tn_file.specs.Document.{extra_of};
 ghost use Rattle.tn_file.specs.Extra.{extra_view};
 ghost use Rattle.tn_file.specs.Refusal.{IsExtraFor};
@@ -9,8 +10,9 @@ use crate::need::Need;
 use serde_json::Value;
 use std::alloc::Global;
 use tn_base::TradeSet;
+use tn_claimed::read_claim;
 use tn_extra::{read_arrangement, read_edits, read_outcome, read_trades_on};
-use tn_market::{Arrangement, Edits, Outcome};
+use tn_market::{Arrangement, Claim, Edits, Ends, Outcome};
 use tn_names::Names;
 use tn_shape::ReadError;
 
@@ -27,6 +29,8 @@ pub enum Extra {
     Outcome(Outcome),
     /// The edits.
     Edits(Edits),
+    /// The claim.
+    Claim(Claim),
 }
 
 /// The part that is needed beside the network.
@@ -35,10 +39,13 @@ pub(crate) fn read_extra(
     alloc: Global,
     need: Need,
     names: &Names,
+    ends: &[Ends],
     top: &Value,
 ) -> Result<Extra, ReadError>
-    requires { length names.now.trades ≤ 128 }
-    ensures gives { Gives extra_view result (extra_of need names.now.trades (view top.now)) }
+    requires trades { AreTrades (record { names = names.now; ends = ends.now }) }
+    requires few { (f : ℕ) → f < length names.now.firms → length (sides_of ends.now f) ≤ 32 }
+    ensures gives { Gives extra_view result
+        (extra_of need (record { names = names.now; ends = ends.now }) (view top.now)) }
     ensures extra { IfOk result (IsExtraFor need) }
 {
     match need {
@@ -58,6 +65,10 @@ pub(crate) fn read_extra(
         Need::Edits => {
             let edits = read_edits(alloc, names, top)?;
             Ok(Extra::Edits(edits))
+        }
+        Need::Claim => {
+            let claim = read_claim(alloc, names, ends, top)?;
+            Ok(Extra::Claim(claim))
         }
     }
 }

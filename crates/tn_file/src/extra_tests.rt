@@ -114,7 +114,8 @@ fn contract_at(alloc: Global, bytes: &[u8], k: usize) -> Option<(i128, u32, i128
                 None
             }
         }
-        Extra::None | Extra::Arrangement(_) | Extra::On(_) | Extra::Edits(_) => None,
+        Extra::None | Extra::Arrangement(_) | Extra::On(_) | Extra::Edits(_) | Extra::Claim(_) =>
+            None,
     }
 }
 
@@ -198,7 +199,8 @@ fn last_edit(alloc: Global, bytes: &[u8]) -> Option<(usize, Edit)> {
                 None
             }
         }
-        Extra::None | Extra::Arrangement(_) | Extra::On(_) | Extra::Outcome(_) => None,
+        Extra::None | Extra::Arrangement(_) | Extra::On(_) | Extra::Outcome(_) | Extra::Claim(_) =>
+            None,
     }
 }
 

@@ -20,6 +20,7 @@ pub use extra::Extra;
 pub use laws::{documents_are_networks, faults_are_sayable, readings_are_never_too_long};
 pub use need::Need;
 pub use read::read_doc;
+pub use tn_claimed::{claims_are_within, nodes_are_few, raw_claims_are_told};
 pub use tn_extra::{
     arrangements_have_their_entries, edits_have_their_entries, outcomes_have_their_entries,
 };

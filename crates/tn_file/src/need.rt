@@ -13,4 +13,6 @@ pub enum Need {
     Outcome,
     /// The network, as for a market, and the edits.
     Edits,
+    /// The network, as for a market unless the claim is one on exchange, and the claim.
+    Claim,
 }

@@ -5,7 +5,7 @@ ghost use Rattle.tn_shape.specs.Reading.{Gives, each};
 ghost use Rattle.tn_refer.specs.Ordered.{AreTrades, Listed};
 ghost use Rattle.tn_listed.specs.Beside.{GivesBeside};
 ghost use Rattle.tn_kinds.specs.Firms.{one_firm};
-ghost use Rattle.tn_file.specs.Document.{DocumentData, content_of, document_of, is_tested};
+ghost use Rattle.tn_file.specs.Document.{DocumentData, content_of, document_of, is_accepted, is_tested};
 ghost use Rattle.tn_file.specs.Extra.{extra_view};
 ghost use Rattle.tn_file.specs.Refusal.{IsExtraFor, IsLoadedFor, net_view};
 
@@ -14,6 +14,7 @@ use crate::extra::{Extra, read_extra};
 use crate::need::Need;
 use serde_json::Value;
 use std::alloc::Global;
+use tn_claimed::claims_raw;
 use tn_firm::{FirmValue, RawFirm};
 use tn_kinds::{FromKinds, read_firms};
 use tn_listed::read_listed;
@@ -40,7 +41,7 @@ pub(crate) fn read_document(
     ensures gives { GivesBeside names.new
         (λ p. record { names = names.new; firms = (net_view p.firms).firms; ends = (net_view p.firms).ends; extra = extra_view p.extra })
         result (document_of need (view top.now)) }
-    ensures loaded { IfOk result (λ p. IsLoadedFor need p.firms) }
+    ensures loaded { IfOk result (λ p. IsLoadedFor need p.extra p.firms) }
     ensures extra { IfOk result (λ p. IsExtraFor need p.extra) }
 {
     let (ends, firms) = read_listed(alloc, names, top)?;
@@ -62,20 +63,28 @@ fn read_network(
     ensures gives { Gives (λ p. ((net_view p.firms).firms, extra_view p.extra)) result
         (content_of need (record { names = names.now; ends = ends.items }) (items_view firms.now) (view top.now)) }
     ensures ends { IfOk result (λ p. (net_view p.firms).ends ≡ ends.items) }
-    ensures loaded { IfOk result (λ p. IsLoadedFor need p.firms) }
+    ensures loaded { IfOk result (λ p. IsLoadedFor need p.extra p.firms) }
     ensures extra { IfOk result (λ p. IsExtraFor need p.extra) }
 {
+    if is_tested(need, top) {
+        let (firms, extra) = read_content::<FirmValue>(alloc, need, names, &ends, firms, top)?;
+        let firms = Loaded::Market(Market::new(alloc, firms, ends)?);
+        Ok(Parts { firms, extra })
+    } else {
+        let (firms, extra) = read_content::<RawFirm>(alloc, need, names, &ends, firms, top)?;
+        let firms = Loaded::Raw(RawNet::new(firms, ends));
+        Ok(Parts { firms, extra })
+    }
+}
+
+/// Whether each firm is to meet exchange.
+fn is_tested(need: Need, top: &Value) -> bool
+    ensures { result ≡ is_tested need (view top.now) }
+{
     match need {
-        Need::Raw => {
-            let (firms, extra) = read_content::<RawFirm>(alloc, need, names, &ends, firms, top)?;
-            let firms = Loaded::Raw(RawNet::new(firms, ends));
-            Ok(Parts { firms, extra })
-        }
-        Need::Market | Need::Arrangement | Need::On | Need::Outcome | Need::Edits => {
-            let (firms, extra) = read_content::<FirmValue>(alloc, need, names, &ends, firms, top)?;
-            let firms = Loaded::Market(Market::new(alloc, firms, ends)?);
-            Ok(Parts { firms, extra })
-        }
+        Need::Raw => false,
+        Need::Market | Need::Arrangement | Need::On | Need::Outcome | Need::Edits => true,
+        Need::Claim => !claims_raw(top),
     }
 }
 
@@ -90,15 +99,17 @@ fn read_content<F: FromKinds + Drop>(
     top: &Value,
 ) -> Result<(Vec<F>, Extra), ReadError>
     requires trades { AreTrades (record { names = names.now; ends = ends.now }) }
+    requires count { length names.now.firms ≡ length firms.now }
     requires few { length firms.now ≤ 128 }
-    requires tested { is_tested need ≡ F.tested }
+    requires tested { is_tested need (view top.now) ≡ F.tested }
     ensures gives { Gives (λ p. (map F.firm p.0.items, extra_view p.1)) result
         (content_of need (record { names = names.now; ends = ends.now }) (items_view firms.now) (view top.now)) }
     ensures firms { IfOk result
         (λ p. each (one_firm F.tested (record { names = names.now; ends = ends.now })) [] (items_view firms.now) ≡ Ok (map F.firm p.0.items)) }
     ensures extra { IfOk result (λ p. IsExtraFor need p.1) }
+    ensures accepted { IfOk result (λ p. is_accepted need (extra_view p.1) ≡ F.tested) }
 {
     let made = read_firms::<F>(alloc, names, ends, firms)?;
-    let extra = read_extra(alloc, need, names, top)?;
+    let extra = read_extra(alloc, need, names, ends, top)?;
     Ok((made, extra))
 }

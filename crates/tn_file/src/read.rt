@@ -24,7 +24,7 @@ pub fn read_doc(alloc: Global, need: Need, bytes: &[u8]) -> Result<Document, Doc
     ensures exact { Reads result (reading_of need bytes.now) }
     // A network with its names, whose firms are accepted unless it is read raw.
     ensures network { IfOk result (λ doc. IsDocument need (document_view doc)) }
-    ensures loaded { IfOk result (λ doc. IsLoadedFor need doc.firms) }
+    ensures loaded { IfOk result (λ doc. IsLoadedFor need doc.extra doc.firms) }
     ensures extra { IfOk result (λ doc. IsExtraFor need doc.extra) }
 {
     let mut names = Names::empty(alloc);
@@ -51,7 +51,7 @@ fn read_parts(
     ensures gives { GivesBeside names.new
         (λ p. record { names = names.new; firms = (net_view p.firms).firms; ends = (net_view p.firms).ends; extra = extra_view p.extra })
         result (reading_of need bytes.now) }
-    ensures loaded { IfOk result (λ p. IsLoadedFor need p.firms) }
+    ensures loaded { IfOk result (λ p. IsLoadedFor need p.extra p.firms) }
     ensures extra { IfOk result (λ p. IsExtraFor need p.extra) }
 {
     let top = value_of(alloc, bytes)?;

@@ -275,7 +275,11 @@ fn count_on(alloc: Global, bytes: &[u8]) -> Option<u32> {
     let doc = read_doc(alloc, Need::On, bytes).ok()?;
     match &doc.extra {
         Extra::On(on) => Some(on.count()),
-        Extra::None | Extra::Arrangement(_) | Extra::Outcome(_) | Extra::Edits(_) => None,
+        Extra::None
+        | Extra::Arrangement(_)
+        | Extra::Outcome(_)
+        | Extra::Edits(_)
+        | Extra::Claim(_) => None,
     }
 }
 

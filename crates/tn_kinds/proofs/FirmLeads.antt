@@ -121,10 +121,13 @@ module _ (tested : Bool) (listed : Listed) (trades : AreTrades listed) where
   firms_are_counted firms = leads_as (λ end. length end ≡ 0 + items_len firms) _ _ (λ end e. e ∙ omega arith) (leads_count length (one_firm tested listed) one_firm_count [] firms)
 
   -- each firm that was read has few own trades
-  pub few_own : (items : Items) (firms : List Firm) → each (one_firm tested listed) [] items ≡ Ok firms → (f : ℕ) → f < length firms → length (sides_of listed.ends f) ≤ 32
-  few_own items firms e f below =
+  pub few_own_firm : (firms : List Firm) → AreFirms firms → (f : ℕ) → f < length firms → length (sides_of listed.ends f) ≤ 32
+  few_own_firm firms are f below =
       let at = there firms f below in
-      listed_few_own listed.ends f at.0 ((firms_are items).at firms e f at.0 at.1).listed
+      listed_few_own listed.ends f at.0 (are f at.0 at.1).listed
+
+  pub few_own : (items : Items) (firms : List Firm) → each (one_firm tested listed) [] items ≡ Ok firms → (f : ℕ) → f < length firms → length (sides_of listed.ends f) ≤ 32
+  few_own items firms e f below = few_own_firm firms ((firms_are items).at firms e) f below
 
   have_sides : (firms : List Firm) → AreFirms firms → HaveSides listed.ends firms
   have_sides firms are f firm at = by_kind (are f firm at).listed

@@ -4,3 +4,5 @@ pub mod NamedLemmas
 pub mod OutcomeLemmas
 pub mod CompleteLemmas
 pub mod NumberLemmas
+pub mod OwnLemmas
+pub mod ReplayLemmas

@@ -1,18 +1,17 @@
 -- What is said of a document keeps the rules of answers: it speaks only of firms and trades that have a name, its
 -- numbers are short, and its lists of trades ascend.
-use Rattle.std.proofs.Common.{◌≡◌, ◌≢◌, ℕ, ◌<◌, ℤ, pos, List, length, map, Option, Result, sym, subst, ◌∙◌, arith}
-use Rattle.std.specs.Prelude.{Some, Ok, Err, All, IfOk, IfSome, slice_get, get_or}
+use Rattle.std.proofs.Common.{◌≡◌, ◌≢◌, ℕ, ◌<◌, ℤ, pos, List, length, map, Result, sym, subst, ◌∙◌, arith}
+use Rattle.std.specs.Prelude.{Ok, Err, All, IfOk, IfSome, get_or}
 use Rattle.std.specs.List.Sorted.{IsStrictlyIncreasing}
-use Rattle.std.proofs.lemmas.Option.{slice_get_within, slice_get-get_or}
+use Rattle.std.proofs.lemmas.Option.{slice_get-get_or}
 use Rattle.tn_base.specs.declared.fault.FaultKind.TheVariants.{TooLong}
-use Rattle.tn_base.specs.Firm.{Firm}
 use Rattle.tn_market.specs.declared.said.Fault.{Fault as FaultIs}
 use Rattle.tn_market.specs.declared.said.Said.{Said}
 use Rattle.tn_market.specs.declared.said.Said.TheVariants.{Equilibrium, Better, Impossible, Fault, Accepted, ExchangeFails, Supported, Cycle, Solved, Rows, Ranges, Session as SessionIs, Drops, Completes, Blocks}
 use Rattle.tn_market.specs.Best.{price_at}
-use Rattle.tn_market.specs.Network.{own, trades_on}
+use Rattle.tn_market.specs.Network.{trades_on}
 use Rattle.tn_market.specs.Judged.{Judges}
-use Rattle.tn_market.proofs.NetworkLemmas.{ascending_trades, on_below, on_ascends}
+use Rattle.tn_market.proofs.NetworkLemmas.{on_below, on_ascends}
 use Rattle.tn_answer.specs.Apart.{HasShortNumbers, IsNamedAnswer}
 use Rattle.tn_names.specs.Names.{NameLists}
 use Rattle.tn_names.specs.Named.{IsNamed}
@@ -20,15 +19,13 @@ use Rattle.tn_answer.specs.Kept.{HasAscendingTrades, IsWithinClaims}
 use Rattle.tn_answer.proofs.LawLemmas.{within_sayable}
 use Rattle.tn_file.specs.declared.document.DocRefusal.{DocRefusal}
 use Rattle.tn_file.specs.declared.need.Need.{Need}
-use Rattle.tn_file.specs.Document.{DocumentData, ExtraData, arrangement, on_alone, outcome, edits, reading_of}
-use Rattle.tn_file.specs.Laws.{IsDocument}
+use Rattle.tn_file.specs.Document.{DocumentData, ExtraData, arrangement, on_alone, outcome, edits, claim, reading_of}
+use Rattle.tn_file.specs.Laws.{IsDocument, IsExtra}
 use Rattle.tn_listed.specs.Beside.{IsStop}
 use Rattle.tn_file.specs.Refusal.{Reads}
 use Rattle.tn_file.proofs.DocumentLeads.{documents_are_networks}
 use Rattle.tn_file.proofs.DocumentStops.{faults_are_sayable}
-use Rattle.tn_kinds.proofs.ShownLemmas.{OwnAreNamed, own_position_of, trades_named, triple_named}
-use Rattle.tn_kinds.proofs.KindLemmas.{listed_own_bundles}
-use Rattle.tn_run.specs.Answer.{ChecksExtra, EditsExtra, JudgesExtra, SupportsExtra, IsAnswerOf, KeepsRules}
+use Rattle.tn_run.specs.Answer.{ChecksExtra, EditsExtra, JudgesExtra, ReplaysExtra, SupportsExtra, IsAnswerOf, KeepsRules}
 use Rattle.tn_price.proofs.CycleLemmas.{nodes_inside}
 use Rattle.tn_command.specs.Edited.{TellsStates}
 use Rattle.tn_command.specs.Outcome.{JudgesOutcome}
@@ -40,28 +37,23 @@ use Rattle.tn_market.specs.Choices.{contracts_of}
 use Rattle.tn_market.proofs.ContractLemmas.{contract_trades, contracts_are}
 use Rattle.tn_command.specs.Solved.{Solves, SolvesInRows}
 use Rattle.tn_command.specs.Supported.{SupportsSet}
-use Rattle.tn_run.specs.Tested.{IsFirstToFail, Tests}
+use Rattle.tn_run.specs.Tested.{Tests}
+use Rattle.tn_run.proofs.OwnLemmas.{firm_named, bundle_named, bundle_ascends, failure_named, failure_ascends}
+use Rattle.tn_run.proofs.ReplayLemmas.{decided_named, decided_ascends}
 use Rattle.tn_run.specs.Words.{need_of}
 use Rattle.tn_run.specs.declared.command.Command.{Command}
-use Rattle.tn_run.specs.declared.command.Command.TheVariants.{Check, Judge, Range, Session, Solve, SolveRows, Support, Test}
+use Rattle.tn_run.specs.declared.command.Command.TheVariants.{Check, Judge, Range, Replay, Session, Solve, SolveRows, Support, Test}
 
 module _ (need : Need) (doc : DocumentData) (is : IsDocument need doc) where
-  -- a firm of the document has a name, and so have its own trades
-  firm_named : (f : ℕ) (firm : Firm) → slice_get doc.firms f ≡ Some firm → IsNamed doc.names.firms f
-  firm_named f firm at = subst (λ n. f < n) (sym is.firms_named) (slice_get_within doc.firms f firm at)
-
-  own_named : (f : ℕ) (firm : Firm) → slice_get doc.firms f ≡ Some firm → OwnAreNamed doc.names.trades doc.ends f firm.count
-  own_named f firm at k below = subst (λ n. own doc.ends f k < n) (sym is.trades_named) (is.network.whole f k firm at below)
-
   -- the answer of `check`
   judged_named : (scale : ℤ) (on : ℕ) (prices : ℕ → ℤ) (said : Said) → Judges doc.firms doc.ends scale on prices said → IsNamedAnswer doc.names said
   judged_named scale on prices (Equilibrium surplus) judges = tt
   judged_named scale on prices (Better f bundle gain) judges =
       let bettered = judges.1 in (
-        firm_named f bettered.firm bettered.is,
-        subst (All (IsNamed doc.names.trades)) (sym judges.2) (trades_named doc.names.trades doc.ends f bettered.firm.count judges.0 (own_named f bettered.firm bettered.is)),
+        firm_named need doc is f bettered.firm bettered.is,
+        subst (All (IsNamed doc.names.trades)) (sym judges.2) (bundle_named need doc is f bettered.firm judges.0 bettered.is),
       )
-  judged_named scale on prices (Impossible f) judges = firm_named f judges.firm judges.is
+  judged_named scale on prices (Impossible f) judges = firm_named need doc is f judges.firm judges.is
   judged_named scale on prices said judges = absurd judges
 
   checked_named : (extra : ExtraData) (said : Said) → ChecksExtra doc extra said → IsNamedAnswer doc.names said
@@ -69,28 +61,16 @@ module _ (need : Need) (doc : DocumentData) (is : IsDocument need doc) where
   checked_named extra said checks = absurd checks
 
   -- the answer of `test`
-  failed_named : (f : ℕ) (x y : List ℕ) (at : Option ℕ) → IsFirstToFail doc.firms doc.ends f x y at → IsNamedAnswer doc.names (ExchangeFails f x y at)
-  failed_named f x y at fails =
-      let own_bundles = listed_own_bundles doc.ends f fails.firm (is.listed f fails.firm fails.is) in
-      let triple = triple_named doc.names.trades doc.ends f fails.firm.count fails.triple (own_named f fails.firm fails.is) (own_position_of fails.firm fails.triple own_bundles fails.first.fails) in (
-        firm_named f fails.firm fails.is,
-        record {
-          x = subst (All (IsNamed doc.names.trades)) (sym fails.x_is) triple.x;
-          y = subst (All (IsNamed doc.names.trades)) (sym fails.y_is) triple.y;
-          at = subst (λ (t : Option ℕ). IfSome t (IsNamed doc.names.trades)) (sym fails.at_is) triple.at;
-        },
-      )
-
   tested_named : (said : Said) → Tests doc.firms doc.ends said → IsNamedAnswer doc.names said
   tested_named Accepted tests = tt
-  tested_named (ExchangeFails f x y at) tests = failed_named f x y at tests
+  tested_named (ExchangeFails f x y at) tests = failure_named need doc is f x y at tests
   tested_named said tests = absurd tests
 
   -- their lists of trades ascend
   judged_ascends : (scale : ℤ) (on : ℕ) (prices : ℕ → ℤ) (said : Said) → Judges doc.firms doc.ends scale on prices said → HasAscendingTrades said
   judged_ascends scale on prices (Equilibrium surplus) judges = tt
   judged_ascends scale on prices (Better f bundle gain) judges =
-      let bettered = judges.1 in subst IsStrictlyIncreasing (sym judges.2) (ascending_trades doc.firms doc.ends f judges.0 bettered.firm is.ascending bettered.is)
+      let bettered = judges.1 in subst IsStrictlyIncreasing (sym judges.2) (bundle_ascends need doc is f bettered.firm judges.0 bettered.is)
   judged_ascends scale on prices (Impossible f) judges = tt
   judged_ascends scale on prices said judges = absurd judges
 
@@ -100,10 +80,7 @@ module _ (need : Need) (doc : DocumentData) (is : IsDocument need doc) where
 
   tested_ascends : (said : Said) → Tests doc.firms doc.ends said → HasAscendingTrades said
   tested_ascends Accepted tests = tt
-  tested_ascends (ExchangeFails f x y at) tests = record {
-    x = subst IsStrictlyIncreasing (sym tests.x_is) (ascending_trades doc.firms doc.ends f tests.triple.x tests.firm is.ascending tests.is);
-    y = subst IsStrictlyIncreasing (sym tests.y_is) (ascending_trades doc.firms doc.ends f tests.triple.y tests.firm is.ascending tests.is);
-  }
+  tested_ascends (ExchangeFails f x y at) tests = failure_ascends need doc is f x y at tests
   tested_ascends said tests = absurd tests
 
   -- the answer of `solve`
@@ -182,7 +159,7 @@ module _ (need : Need) (doc : DocumentData) (is : IsDocument need doc) where
 
   -- the answer of `support`
   supported_named : (on : ℕ) (said : Said) → SupportsSet doc.firms doc.ends on said → IsNamedAnswer doc.names said
-  supported_named on (Impossible f) supports = firm_named f supports.0.firm supports.0.is
+  supported_named on (Impossible f) supports = firm_named need doc is f supports.0.firm supports.0.is
   supported_named on (Supported prices) supports = supports.0.one_each ∙ sym is.trades_named
   supported_named on (Cycle nodes cost) supports =
       subst (λ n. All (λ node. IfSome node (λ t. t < n)) nodes) (sym is.trades_named) (nodes_inside doc.firms doc.ends on nodes cost supports.0)
@@ -210,8 +187,8 @@ module _ (need : Need) (doc : DocumentData) (is : IsDocument need doc) where
   outcome_named : (over : ℤ) (contracts : List Contract) (said : Said) → JudgesOutcome doc.firms doc.ends over contracts said → IsNamedAnswer doc.names said
   outcome_named over contracts (Drops f keeps gain told) judges =
       let first = judges.1 in (
-        firm_named f first.firm first.is,
-        subst (All (IsNamed doc.names.trades)) (sym judges.2) (trades_named doc.names.trades doc.ends f first.firm.count judges.0 (own_named f first.firm first.is)),
+        firm_named need doc is f first.firm first.is,
+        subst (All (IsNamed doc.names.trades)) (sym judges.2) (bundle_named need doc is f first.firm judges.0 first.is),
       )
   outcome_named over contracts (Completes prices told) judges = judges.1.one_each ∙ sym is.trades_named
   outcome_named over contracts (Blocks offers told) judges = λ k d below.
@@ -224,7 +201,7 @@ module _ (need : Need) (doc : DocumentData) (is : IsDocument need doc) where
 
   outcome_ascends : (over : ℤ) (contracts : List Contract) (said : Said) → JudgesOutcome doc.firms doc.ends over contracts said → HasAscendingTrades said
   outcome_ascends over contracts (Drops f keeps gain told) judges =
-      let first = judges.1 in subst IsStrictlyIncreasing (sym judges.2) (ascending_trades doc.firms doc.ends f judges.0 first.firm is.ascending first.is)
+      let first = judges.1 in subst IsStrictlyIncreasing (sym judges.2) (bundle_ascends need doc is f first.firm judges.0 first.is)
   outcome_ascends over contracts (Completes prices told) judges = tt
   outcome_ascends over contracts (Blocks offers told) judges = tt
   outcome_ascends over contracts said judges = absurd judges
@@ -233,11 +210,21 @@ module _ (need : Need) (doc : DocumentData) (is : IsDocument need doc) where
   judged_outcome_ascends (outcome signed) said judges = outcome_ascends signed.over signed.contracts said judges
   judged_outcome_ascends extra said judges = absurd judges
 
+  -- the answer of `replay`
+  replayed_named : (extra : ExtraData) (said : Said) → IsExtra doc.firms doc.ends extra → ReplaysExtra doc extra said → IsNamedAnswer doc.names said
+  replayed_named (claim claimed) said within decides = decided_named need doc is claimed said within decides
+  replayed_named extra said within decides = absurd decides
+
+  replayed_ascends : (extra : ExtraData) (said : Said) → ReplaysExtra doc extra said → HasAscendingTrades said
+  replayed_ascends (claim claimed) said decides = decided_ascends need doc is claimed said decides
+  replayed_ascends extra said decides = absurd decides
+
 -- the answer of a command on a document
 document_ascends : (command : Command) (doc : DocumentData) → IsDocument (need_of command) doc → (said : Said) → IsAnswerOf command doc said → HasAscendingTrades said
 document_ascends Check doc is said answer = checked_ascends (need_of Check) doc is doc.extra said answer
 document_ascends Judge doc is said answer = judged_outcome_ascends (need_of Judge) doc is doc.extra said answer
 document_ascends Range doc is said answer = ranged_ascends (need_of Range) doc is said answer
+document_ascends Replay doc is said answer = replayed_ascends (need_of Replay) doc is doc.extra said answer
 document_ascends Session doc is said answer = edited_ascends (need_of Session) doc is doc.extra said answer
 document_ascends Solve doc is said answer = solved_ascends (need_of Solve) doc is said answer
 document_ascends SolveRows doc is said answer = rows_ascend (need_of SolveRows) doc is said answer
@@ -248,6 +235,7 @@ document_named : (command : Command) (doc : DocumentData) → IsDocument (need_o
 document_named Check doc is said answer = checked_named (need_of Check) doc is doc.extra said answer
 document_named Judge doc is said answer = judged_outcome_named (need_of Judge) doc is doc.extra said answer
 document_named Range doc is said answer = ranged_named (need_of Range) doc is said answer
+document_named Replay doc is said answer = replayed_named (need_of Replay) doc is doc.extra said is.extra answer
 document_named Session doc is said answer = edited_named (need_of Session) doc is doc.extra said answer
 document_named Solve doc is said answer = solved_named (need_of Solve) doc is said answer
 document_named SolveRows doc is said answer = rows_named (need_of SolveRows) doc is said answer
@@ -274,6 +262,11 @@ no_fault Support doc fault answer = by_extra doc.extra answer
 no_fault Test doc fault answer = answer
 no_fault Solve doc fault answer = answer
 no_fault Range doc fault answer = answer
+no_fault Replay doc fault answer = by_extra doc.extra answer
+  where
+    by_extra : (extra : ExtraData) → ReplaysExtra doc extra (Fault fault) → ⊥
+    by_extra (claim claimed) decides = decides
+    by_extra extra decides = decides
 no_fault Session doc fault answer = by_extra doc.extra answer
   where
     by_extra : (extra : ExtraData) → EditsExtra doc extra (Fault fault) → ⊥

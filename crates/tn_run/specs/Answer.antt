@@ -13,10 +13,11 @@ use Rattle.tn_answer.specs.Apart.{HasShortNumbers, IsNamedAnswer}
 use Rattle.tn_answer.specs.Kept.{HasAscendingTrades}
 use Rattle.tn_names.specs.Names.{NameLists, IsNameList}
 use Rattle.tn_listed.specs.Beside.{Stop}
-use Rattle.tn_file.specs.Document.{DocumentData, ExtraData, arrangement, on_alone, outcome, edits, reading_of}
+use Rattle.tn_file.specs.Document.{DocumentData, ExtraData, arrangement, on_alone, outcome, edits, claim, reading_of}
 use Rattle.tn_run.specs.declared.command.Command.{Command}
-use Rattle.tn_run.specs.declared.command.Command.TheVariants.{Check, Judge, Range, Session, Solve, SolveRows, Support, Test}
+use Rattle.tn_run.specs.declared.command.Command.TheVariants.{Check, Judge, Range, Replay, Session, Solve, SolveRows, Support, Test}
 use Rattle.tn_command.specs.Implied.{IsEfficientAndStable}
+use Rattle.tn_command.specs.Claimed.{DecidesClaim}
 use Rattle.tn_command.specs.Edited.{TellsStates}
 use Rattle.tn_command.specs.Outcome.{JudgesOutcome}
 use Rattle.tn_command.specs.Ranged.{TellsRanges}
@@ -40,6 +41,11 @@ abbrev pub JudgesExtra : DocumentData → ExtraData → Said → Type 0
 JudgesExtra doc (outcome signed) said = JudgesOutcome doc.firms doc.ends signed.over signed.contracts said
 JudgesExtra doc extra said = ⊥
 
+-- the decision on a document's claim
+abbrev pub ReplaysExtra : DocumentData → ExtraData → Said → Type 0
+ReplaysExtra doc (claim claimed) said = DecidesClaim doc.firms doc.ends claimed said
+ReplaysExtra doc extra said = ⊥
+
 -- prices for the trades of a document's arrangement that are on
 abbrev pub SupportsExtra : DocumentData → ExtraData → Said → Type 0
 SupportsExtra doc (on_alone on) said = SupportsSet doc.firms doc.ends on said
@@ -55,6 +61,7 @@ abbrev pub IsAnswerOf : Command → DocumentData → Said → Type 0
 IsAnswerOf Check doc said = ChecksExtra doc doc.extra said
 IsAnswerOf Judge doc said = JudgesExtra doc doc.extra said
 IsAnswerOf Range doc said = TellsRanges doc.firms doc.ends said
+IsAnswerOf Replay doc said = ReplaysExtra doc doc.extra said
 IsAnswerOf Session doc said = EditsExtra doc doc.extra said
 IsAnswerOf Solve doc said = Solves doc.firms doc.ends said
 IsAnswerOf SolveRows doc said = SolvesInRows doc.firms doc.ends said

@@ -5,9 +5,9 @@ use Rattle.std.specs.Char.{is_ascii_digit}
 use Rattle.std.specs.Str.{bytes_eq}
 use Rattle.std.specs.Str.Parse.{digits_value}
 use Rattle.tn_file.specs.declared.need.Need.{Need}
-use Rattle.tn_file.specs.declared.need.Need.TheVariants.{Market, Raw, Arrangement, On, Outcome, Edits}
+use Rattle.tn_file.specs.declared.need.Need.TheVariants.{Market, Raw, Arrangement, On, Outcome, Edits, Claim}
 use Rattle.tn_run.specs.declared.command.Command.{Command}
-use Rattle.tn_run.specs.declared.command.Command.TheVariants.{Check, Judge, Range, Session, Solve, SolveRows, Support, Test}
+use Rattle.tn_run.specs.declared.command.Command.TheVariants.{Check, Judge, Range, Replay, Session, Solve, SolveRows, Support, Test}
 
 -- the command that reads a document, by its words
 abbrev pub command_of : List (List ℕ) → Option Command
@@ -16,6 +16,7 @@ command_of (word ∷ []) =
     if bytes_eq word (codes "check") then Some Check
     else if bytes_eq word (codes "judge") then Some Judge
     else if bytes_eq word (codes "range") then Some Range
+    else if bytes_eq word (codes "replay") then Some Replay
     else if bytes_eq word (codes "session") then Some Session
     else if bytes_eq word (codes "solve") then Some Solve
     else if bytes_eq word (codes "support") then Some Support
@@ -28,6 +29,7 @@ abbrev pub need_of : Command → Need
 need_of Check = Arrangement
 need_of Judge = Outcome
 need_of Range = Market
+need_of Replay = Claim
 need_of Session = Edits
 need_of Solve = Market
 need_of SolveRows = Market

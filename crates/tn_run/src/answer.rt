@@ -9,12 +9,14 @@ ghost use Rattle.tn_run.specs.Answer.{IsAnswerOf, IsAnswerTo, KeepsRules, MayBeS
 ghost use Rattle.tn_run.specs.Words.{need_of};
 
 use crate::command::{Command, need_of};
+use crate::replaying::replay_raw;
 use crate::testing::test;
 use std::alloc::Global;
 use tn_answer::Names;
 use tn_base::{FaultKind, OutOfMemory};
 use tn_command::{
-    check, judge_outcome, price_ranges, prices_for, solve, solve_in_rows, states_after,
+    check, judge_outcome, price_ranges, prices_for, replay_claim, solve, solve_in_rows,
+    states_after,
 };
 use tn_file::{DocRefusal, Document, Extra, Loaded, Need, read_doc};
 use tn_io::{ReadStop, Source, read_all};
@@ -26,7 +28,7 @@ const DOCUMENT_LIMIT: usize = 4_194_304;
 /// The answer of `check` on a document.
 fn check_document(alloc: Global, doc: &Document) -> Result<Said, OutOfMemory>
     requires document { IsDocument Need.Arrangement (document_view doc.now) }
-    requires loaded { IsLoadedFor Need.Arrangement doc.now.firms }
+    requires loaded { IsLoadedFor Need.Arrangement doc.now.extra doc.now.firms }
     requires extra { IsExtraFor Need.Arrangement doc.now.extra }
     ensures answer { IfOk result (IsAnswerOf Command.Check (document_view doc.now)) }
     ensures within { IfOk result IsWithinClaims }
@@ -34,7 +36,8 @@ fn check_document(alloc: Global, doc: &Document) -> Result<Said, OutOfMemory>
     match &doc.firms {
         Loaded::Market(market) => match &doc.extra {
             Extra::Arrangement(at) => check(alloc, market, at),
-            Extra::None | Extra::On(_) | Extra::Outcome(_) | Extra::Edits(_) => unreachable!(),
+            Extra::None | Extra::On(_) | Extra::Outcome(_) | Extra::Edits(_) | Extra::Claim(_) =>
+                unreachable!(),
         },
         Loaded::Raw(_) => unreachable!(),
     }
@@ -43,7 +46,7 @@ fn check_document(alloc: Global, doc: &Document) -> Result<Said, OutOfMemory>
 /// The answer of `judge` on a document.
 fn judge_document(alloc: Global, doc: &Document) -> Result<Said, OutOfMemory>
     requires document { IsDocument Need.Outcome (document_view doc.now) }
-    requires loaded { IsLoadedFor Need.Outcome doc.now.firms }
+    requires loaded { IsLoadedFor Need.Outcome doc.now.extra doc.now.firms }
     requires extra { IsExtraFor Need.Outcome doc.now.extra }
     ensures answer { IfOk result (IsAnswerOf Command.Judge (document_view doc.now)) }
     ensures within { IfOk result IsWithinClaims }
@@ -51,9 +54,11 @@ fn judge_document(alloc: Global, doc: &Document) -> Result<Said, OutOfMemory>
     match &doc.firms {
         Loaded::Market(market) => match &doc.extra {
             Extra::Outcome(outcome) => judge_outcome(alloc, market, outcome),
-            Extra::None | Extra::Arrangement(_) | Extra::On(_) | Extra::Edits(_) => {
-                unreachable!()
-            }
+            Extra::None
+            | Extra::Arrangement(_)
+            | Extra::On(_)
+            | Extra::Edits(_)
+            | Extra::Claim(_) => { unreachable!() }
         },
         Loaded::Raw(_) => unreachable!(),
     }
@@ -62,7 +67,7 @@ fn judge_document(alloc: Global, doc: &Document) -> Result<Said, OutOfMemory>
 /// The answer of `range` on a document.
 fn range_document(alloc: Global, doc: &Document) -> Result<Said, OutOfMemory>
     requires document { IsDocument Need.Market (document_view doc.now) }
-    requires loaded { IsLoadedFor Need.Market doc.now.firms }
+    requires loaded { IsLoadedFor Need.Market doc.now.extra doc.now.firms }
     ensures answer { IfOk result (IsAnswerOf Command.Range (document_view doc.now)) }
     ensures within { IfOk result IsWithinClaims }
 {
@@ -72,10 +77,28 @@ fn range_document(alloc: Global, doc: &Document) -> Result<Said, OutOfMemory>
     }
 }
 
+/// The answer of `replay` on a document.
+fn replay_document(alloc: Global, doc: &Document) -> Result<Said, OutOfMemory>
+    requires document { IsDocument Need.Claim (document_view doc.now) }
+    requires loaded { IsLoadedFor Need.Claim doc.now.extra doc.now.firms }
+    requires extra { IsExtraFor Need.Claim doc.now.extra }
+    ensures answer { IfOk result (IsAnswerOf Command.Replay (document_view doc.now)) }
+    ensures within { IfOk result IsWithinClaims }
+{
+    match &doc.extra {
+        Extra::Claim(claim) => match &doc.firms {
+            Loaded::Market(market) => replay_claim(alloc, market, claim),
+            Loaded::Raw(net) => replay_raw(alloc, net, claim),
+        },
+        Extra::None | Extra::Arrangement(_) | Extra::On(_) | Extra::Outcome(_) | Extra::Edits(_) =>
+            unreachable!(),
+    }
+}
+
 /// The answer of `session` on a document.
 fn session_document(alloc: Global, doc: &Document) -> Result<Said, OutOfMemory>
     requires document { IsDocument Need.Edits (document_view doc.now) }
-    requires loaded { IsLoadedFor Need.Edits doc.now.firms }
+    requires loaded { IsLoadedFor Need.Edits doc.now.extra doc.now.firms }
     requires extra { IsExtraFor Need.Edits doc.now.extra }
     ensures answer { IfOk result (IsAnswerOf Command.Session (document_view doc.now)) }
     ensures within { IfOk result IsWithinClaims }
@@ -83,9 +106,11 @@ fn session_document(alloc: Global, doc: &Document) -> Result<Said, OutOfMemory>
     match &doc.firms {
         Loaded::Market(market) => match &doc.extra {
             Extra::Edits(edits) => states_after(alloc, market, edits),
-            Extra::None | Extra::Arrangement(_) | Extra::On(_) | Extra::Outcome(_) => {
-                unreachable!()
-            }
+            Extra::None
+            | Extra::Arrangement(_)
+            | Extra::On(_)
+            | Extra::Outcome(_)
+            | Extra::Claim(_) => { unreachable!() }
         },
         Loaded::Raw(_) => unreachable!(),
     }
@@ -94,7 +119,7 @@ fn session_document(alloc: Global, doc: &Document) -> Result<Said, OutOfMemory>
 /// The answer of `solve` on a document.
 fn solve_document(alloc: Global, doc: &Document) -> Result<Said, OutOfMemory>
     requires document { IsDocument Need.Market (document_view doc.now) }
-    requires loaded { IsLoadedFor Need.Market doc.now.firms }
+    requires loaded { IsLoadedFor Need.Market doc.now.extra doc.now.firms }
     ensures answer { IfOk result (IsAnswerOf Command.Solve (document_view doc.now)) }
     ensures within { IfOk result IsWithinClaims }
 {
@@ -107,7 +132,7 @@ fn solve_document(alloc: Global, doc: &Document) -> Result<Said, OutOfMemory>
 /// The answer of `solve --csv` on a document.
 fn solve_rows_document(alloc: Global, doc: &Document) -> Result<Said, OutOfMemory>
     requires document { IsDocument Need.Market (document_view doc.now) }
-    requires loaded { IsLoadedFor Need.Market doc.now.firms }
+    requires loaded { IsLoadedFor Need.Market doc.now.extra doc.now.firms }
     ensures answer { IfOk result (IsAnswerOf Command.SolveRows (document_view doc.now)) }
     ensures within { IfOk result IsWithinClaims }
 {
@@ -120,7 +145,7 @@ fn solve_rows_document(alloc: Global, doc: &Document) -> Result<Said, OutOfMemor
 /// The answer of `support` on a document.
 fn support_document(alloc: Global, doc: &Document) -> Result<Said, OutOfMemory>
     requires document { IsDocument Need.On (document_view doc.now) }
-    requires loaded { IsLoadedFor Need.On doc.now.firms }
+    requires loaded { IsLoadedFor Need.On doc.now.extra doc.now.firms }
     requires extra { IsExtraFor Need.On doc.now.extra }
     ensures answer { IfOk result (IsAnswerOf Command.Support (document_view doc.now)) }
     ensures within { IfOk result IsWithinClaims }
@@ -128,9 +153,11 @@ fn support_document(alloc: Global, doc: &Document) -> Result<Said, OutOfMemory>
     match &doc.firms {
         Loaded::Market(market) => match &doc.extra {
             Extra::On(on) => prices_for(alloc, market, on),
-            Extra::None | Extra::Arrangement(_) | Extra::Outcome(_) | Extra::Edits(_) => {
-                unreachable!()
-            }
+            Extra::None
+            | Extra::Arrangement(_)
+            | Extra::Outcome(_)
+            | Extra::Edits(_)
+            | Extra::Claim(_) => { unreachable!() }
         },
         Loaded::Raw(_) => unreachable!(),
     }
@@ -139,7 +166,7 @@ fn support_document(alloc: Global, doc: &Document) -> Result<Said, OutOfMemory>
 /// The answer of `test` on a document.
 fn test_document(alloc: Global, doc: &Document) -> Result<Said, OutOfMemory>
     requires document { IsDocument Need.Raw (document_view doc.now) }
-    requires loaded { IsLoadedFor Need.Raw doc.now.firms }
+    requires loaded { IsLoadedFor Need.Raw doc.now.extra doc.now.firms }
     ensures answer { IfOk result (IsAnswerOf Command.Test (document_view doc.now)) }
     ensures within { IfOk result IsWithinClaims }
 {
@@ -152,7 +179,7 @@ fn test_document(alloc: Global, doc: &Document) -> Result<Said, OutOfMemory>
 /// The answer of a command on a document.
 fn answer_document(alloc: Global, command: Command, doc: &Document) -> Result<Said, OutOfMemory>
     requires document { IsDocument (need_of command) (document_view doc.now) }
-    requires loaded { IsLoadedFor (need_of command) doc.now.firms }
+    requires loaded { IsLoadedFor (need_of command) doc.now.extra doc.now.firms }
     requires extra { IsExtraFor (need_of command) doc.now.extra }
     ensures answer { IfOk result (IsAnswerOf command (document_view doc.now)) }
     ensures within { IfOk result IsWithinClaims }
@@ -161,6 +188,7 @@ fn answer_document(alloc: Global, command: Command, doc: &Document) -> Result<Sa
         Command::Check => check_document(alloc, doc),
         Command::Judge => judge_document(alloc, doc),
         Command::Range => range_document(alloc, doc),
+        Command::Replay => replay_document(alloc, doc),
         Command::Session => session_document(alloc, doc),
         Command::Solve => solve_document(alloc, doc),
         Command::SolveRows => solve_rows_document(alloc, doc),

@@ -13,6 +13,8 @@ pub enum Command {
     Judge,
     /// To find how far each price of a document's network may move.
     Range,
+    /// To decide a document's claim.
+    Replay,
     /// To find an equilibrium after each of a document's edits.
     Session,
     /// To find an equilibrium of a document's network.
@@ -38,6 +40,8 @@ pub fn command_of(words: &[String]) -> Option<Command>
                 Some(Command::Judge)
             } else if word.as_str() == "range" {
                 Some(Command::Range)
+            } else if word.as_str() == "replay" {
+                Some(Command::Replay)
             } else if word.as_str() == "session" {
                 Some(Command::Session)
             } else if word.as_str() == "solve" {
@@ -69,6 +73,7 @@ pub fn need_of(command: Command) -> Need
         Command::Check => Need::Arrangement,
         Command::Judge => Need::Outcome,
         Command::Range | Command::Solve | Command::SolveRows => Need::Market,
+        Command::Replay => Need::Claim,
         Command::Session => Need::Edits,
         Command::Support => Need::On,
         Command::Test => Need::Raw,

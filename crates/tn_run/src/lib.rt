@@ -12,6 +12,9 @@ mod numbers;
 #[cfg(test)]
 mod ranged_tests;
 #[cfg(test)]
+mod replayed_tests;
+mod replaying;
+#[cfg(test)]
 mod solve_tests;
 mod testing;
 #[cfg(test)]

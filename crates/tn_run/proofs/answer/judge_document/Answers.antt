@@ -1,4 +1,5 @@
-use Rattle.std.proofs.Common.{length, subst}
+use Rattle.std.proofs.Common.{map, subst}
+use Rattle.tn_firm.specs.Firms.{firm_of}
 use Rattle.tn_file.specs.declared.document.Loaded.{Loaded}
 use Rattle.tn_file.specs.declared.extra.Extra.{Extra}
 use Rattle.tn_file.specs.Extra.{extra_view}
@@ -10,6 +11,6 @@ use Rattle.tn_run.proofs.answer.judge_document.Goals as goal
 pub judge_outcome-requires-clause-outcome : goal.judge_outcome-requires-clause-outcome
 judge_outcome-requires-clause-outcome c =
     let market = c.in-Market.market in
-    let read = subst (λ (net : Loaded). IsExtra (length (net_view net).ends) (extra_view c.args.doc.now.extra)) c.in-Market.is c.requires.document.extra in
-    let within = subst (λ (extra : Extra). IsExtra (length market.trades) (extra_view extra)) c.in-Outcome.is read in
+    let read = subst (λ (net : Loaded). IsExtra (net_view net).firms (net_view net).ends (extra_view c.args.doc.now.extra)) c.in-Market.is c.requires.document.extra in
+    let within = subst (λ (extra : Extra). IsExtra (map firm_of market.firms) market.trades (extra_view extra)) c.in-Outcome.is read in
     outcome_of_document market.trades c.in-Outcome.outcome within

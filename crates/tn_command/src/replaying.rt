@@ -1,0 +1,34 @@
+//! The answer of `replay` on a market.
+
+ghost use Rattle.std.specs.Prelude.{◌≡◌, ◌≤◌, false, IfOk, length, map};
+ghost use Rattle.tn_answer.specs.Kept.{IsWithinClaims};
+ghost use Rattle.tn_cert.specs.Replays.{is_on_exchange};
+ghost use Rattle.tn_command.specs.Claimed.{DecidesClaim};
+ghost use Rattle.tn_firm.specs.Firms.{firm_of};
+ghost use Rattle.tn_market.specs.ClaimLimits.{IsClaimWithin};
+
+use std::alloc::Global;
+use tn_base::{Asked, OutOfMemory, Steps};
+use tn_cert::{Replayed, replay};
+use tn_firm::FirmValue;
+use tn_market::{Claim, Market, Said};
+
+/// Whether a claim holds that isn't of the exchange property, or else the first of its conditions that fails.
+pub fn replay_claim(
+    alloc: Global,
+    market: &Market<FirmValue>,
+    claim: &Claim,
+) -> Result<Said, OutOfMemory>
+    requires few_firms { length market.now.firms ≤ 128 }
+    requires wide { length market.now.trades ≤ 128 }
+    requires kind { is_on_exchange claim.now ≡ false }
+    requires claim { IsClaimWithin (map firm_of market.now.firms) market.now.trades claim.now }
+    ensures answer { IfOk result (DecidesClaim (map firm_of market.now.firms) market.now.trades claim.now) }
+    ensures within { IfOk result IsWithinClaims }
+{
+    let _count = market.trades();
+    match replay(alloc, market, claim, &mut Steps::new(Asked))? {
+        Replayed::Valid => Ok(Said::Valid),
+        Replayed::Invalid(reason) => Ok(Said::Invalid(reason)),
+    }
+}

@@ -1,0 +1,6 @@
+use Rattle.std.proofs.Common.{◌≡◌, map, take}
+use Rattle.tn_market.specs.Network.{own}
+use Rattle.tn_run.proofs.replaying.own_trades.Given as goal
+
+abbrev pub invariant-loop-k : goal.invariant-loop-k
+invariant-loop-k l = l.trades.items ≡ map (own l.net.ends l.f) (take l.k l.positions)
