@@ -6,7 +6,7 @@ def after($edit): map(select(. != $edit[1])) + (if $edit[0] == "admit" then [$ed
 
 (reduce (.edits // [])[:$edits][] as $edit ([]; after($edit))) as $admitted
 | def is_admitted: . as $name | $admitted | index($name) != null;
-  del(.edits, .arrangement, .outcome)
+  del(.edits, .arrangement, .outcome, .claim)
   | .trades |= map(select(.name | is_admitted))
   | .firms |= map(
       (if .rows then .rows |= map(select(all(.[0][]; is_admitted))) else . end)

@@ -11,7 +11,8 @@ def over($over): if $over == 1 or $over == 0 then . elif . % $over == 0 then . /
 ($document[0] | if type == "object" then . else {} end) as $network
 | ($network.arrangement | if type == "object" then . else {} end) as $arrangement
 | ($network.outcome | if type == "object" then . else {} end) as $outcome
-| (.answer | . == "drops" or . == "completes" or . == "blocks") as $judged
+| ($network.claim | if type == "object" then . else {} end) as $claim
+| (if .answer == "valid" or .answer == "invalid" then $claim.answer else .answer end | . == "drops" or . == "completes" or . == "blocks") as $judged
 # what takes place, and at which prices: of an outcome, what is signed
 | (if $judged then [$outcome.contracts | items | .[0]] else .on // $arrangement.on // [] end) as $on
 | (if $judged then [.prices // $outcome.contracts | items | [.[0], (.[1] | over($outcome.over))]] else .prices // $arrangement.prices // [] end
@@ -67,6 +68,44 @@ def over($over): if $over == 1 or $over == 0 then . elif . % $over == 0 then . /
     (if .at == null
      then "y has more purchases less sales than x. No trade that y would give up, or take on, can be toggled in both of them so that both stay possible and are worth as much together as before."
      else "To come one step closer to y, x would toggle \(.at), and y with it: alone, where x has more purchases less sales, or together with one other trade. In no way do both stay possible and worth as much together as before." end);
+  # what a claim says
+  def claimed: $claim | .over as $over
+    | if .answer == "equilibrium" then "that the arrangement is an equilibrium of the surplus \(.surplus)"
+      elif .answer == "solved" then "that its trades and prices are an equilibrium of the surplus \(.surplus)"
+      elif .answer == "prices" then "that its prices support the trades that are on"
+      elif .answer == "better" then "that \(.firm) would gain \(.gain) with \(.bundle | set)"
+      elif .answer == "impossible" then "that what \(.firm) has is impossible"
+      elif .answer == "cycle" then "that \(.nodes | map(tostring) | listed) are a cycle of the cost \(.cost)"
+      elif .answer == "accepted" then "that each firm meets the exchange property"
+      elif .answer == "exchange_fails" then "that \(.firm) fails the exchange property between x = \(.x | set) and y = \(.y | set)\(if .at == null then "" else ", at \(.at)" end)"
+      elif .answer == "drops" then "that \(.firm) would keep \(.keeps | listed) of its contracts\(if .gain == null then ", which together are impossible" else " and gain \(.gain | over($over))" end)"
+      elif .answer == "completes" then "that its prices complete what is signed"
+      elif .answer == "blocks" then "that \(if .contracts == [] then "no contracts" else [.contracts[] | "\(.[0]) at \(.[1] | over($over))"] | listed end) would block what is signed"
+      else "what it says" end;
+  # the condition of the claim that fails
+  def failed: . as $said
+    | if .reason == "impossible" then
+        if $claim.answer == "better" then "What \(.firm) has, or what it is said to want, is impossible for it."
+        elif $claim.answer == "drops" then "What \(.firm) is said to keep is impossible for it."
+        else "What \(.firm) has is impossible for it." end
+      elif .reason == "better" then "\(.firm) would rather \(if .bundle == [] then "trade nothing" else "have \(.bundle | listed)" end): at these prices that is best for it, and what it has isn't."
+      elif .reason == "possible" then "It is possible."
+      elif .reason == "surplus" then "The worths sum to \(.surplus)."
+      elif .reason == "gain" then
+        if .gain == null then "All contracts of \(.firm) together are impossible, so there is nothing to compare with."
+        elif .gain > 0 then "It would gain \(.gain | if $claim.answer == "drops" then over($outcome.over) else . end)."
+        else "It would gain nothing: its utility would change by \(.gain | if $claim.answer == "drops" then over($outcome.over) else . end)." end
+      elif .reason == "exchange" then "\(.firm) doesn't.", failing(.firm)
+      elif .reason == "holds" then "There they meet it."
+      elif .reason == "arc" then "There is no arc from \($claim.nodes[.index]) to \($claim.nodes[(.index + 1) % ($claim.nodes | length)])."
+      elif .reason == "cost" then "The costs sum to \(.cost)\(if .cost < 0 then "" else ", which isn't negative" end)."
+      elif .reason == "contract" then "\(.trade) isn't signed."
+      elif .reason == "over" then "The denominator of what is signed is \(.over)."
+      elif .reason == "price" then "\(.trade) is signed at \(first($outcome.contracts[] | select(.[0] == $said.trade) | .[1] | over($outcome.over))), and not at \(first($claim.prices[] | select(.[0] == $said.trade) | .[1] | over($claim.over)))."
+      elif .reason == "empty" then "It names no contract."
+      elif .reason == "signed" then "\(.trade) is signed already, at this very price."
+      elif .reason == "choice" then "\(.firm) does as well as it can without \(.trade)."
+      else "The reason is \(.reason)." end;
   if .answer == "equilibrium" then
     "This is an equilibrium: at these prices each firm has a bundle that is best for it, and nobody would rather do something else.",
     trading, keeping_off,
@@ -134,6 +173,10 @@ def over($over): if $over == 1 or $over == 0 then . elif . % $over == 0 then . /
     "Each firm named there, whatever it keeps of what it has signed, would rather have all of these that are its own. So no prices go with what is signed."
   elif .answer == "drill" then
     "The network of \(.firms) firms and \(.size) trades that is drawn from \(.start): the worths of its firms sum to \(.surplus) for some set of trades, and to no more for any."
+  elif .answer == "valid" then
+    "The claim is valid. It says \(claimed), and so it is."
+  elif .answer == "invalid" then
+    "The claim isn't valid. It says \(claimed).", failed
   elif .answer == "usage" then "The words after the program's name are no command. Nothing was read."
   elif .answer == "read_fault" then "The document could not be read."
   elif .answer == "no_memory" then "Memory ran out before there was an answer."

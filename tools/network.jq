@@ -17,7 +17,9 @@ def over($over): if $over == 1 or $over == 0 then . elif . % $over == 0 then . /
 | ($network.arrangement | if type == "object" then . else {} end) as $arrangement
 | (if $said.answer == "session" then $said.edits[-1] // {on: [], prices: [], surplus: 0} else null end) as $state
 | ($network.outcome | if type == "object" then . else {} end) as $outcome
-| ($said.answer | . == "drops" or . == "completes" or . == "blocks") as $judged
+| ($network.claim | if type == "object" then . else {} end) as $claim
+| ($said.answer == "valid" or $said.answer == "invalid") as $replayed
+| (if $replayed then $claim.answer else $said.answer end | . == "drops" or . == "completes" or . == "blocks") as $judged
 # (an answer's own trades and prices come before those of the document; of an outcome those are on that are signed)
 | (if $judged then [$outcome.contracts | items | .[0]] else $state.on // $said.on // $arrangement.on end) as $on
 | (if $judged then
@@ -42,7 +44,7 @@ def over($over): if $over == 1 or $over == 0 then . elif . % $over == 0 then . /
 | def in_list($name): [items | . == $name] | any;
   def colour_of($name):
     if ($said.bundle | in_list($name)) or ($said.keeps | in_list($name)) or ($said.nodes | in_list($name))
-      or ([$said.contracts | items | .[0]] | in_list($name)) then $colour.x
+      or $name == $said.trade or ([$said.contracts | items | .[0]] | in_list($name)) then $colour.x
     elif ($x | in_list($name)) and ($y | in_list($name)) then $colour.both
     elif $x | in_list($name) then $colour.x
     elif $y | in_list($name) then $colour.y
@@ -71,6 +73,8 @@ def over($over): if $over == 1 or $over == 0 then . elif . % $over == 0 then . /
       "\($said.firm) would keep \($said.keeps | listed)\(if $said.gain == null then ": what it has signed is impossible" else " and gain \($said.gain | over($said.over))" end)"
     elif $said.answer == "completes" then "prices that complete what is signed"
     elif $said.answer == "blocks" then "blocked by the chain \([$said.contracts | items | .[0]] | path)"
+    elif $said.answer == "valid" then "the claim \($claim.answer) is valid"
+    elif $said.answer == "invalid" then "the claim \($claim.answer) isn't valid: \($said.reason)\(if $said.trade then " at \($said.trade)" else "" end)"
     elif $said.answer == "fault" then
       "fault \($said.fault), \($said.name)\(if $said.place == [] then "" else ", at \($said.place | map(tostring) | join(" / "))" end)"
     else $said.answer end;

@@ -9,7 +9,7 @@
 | [$outcome.contracts[][0]] as $on
 | def is_kept: $prices != null or (. as $name | $on | index($name) != null);
   def counted: . * $outcome.over;
-  del(.edits, .outcome)
+  del(.edits, .outcome, .claim)
   | .arrangement = {on: $on, prices: ($prices // $outcome.contracts)}
   | .trades |= map(select(.name | is_kept))
   | .firms |= map(
