@@ -240,18 +240,12 @@ fn table_of(alloc: Global, trades: u32) -> Result<String, Fail> {
 #[test]
 fn buys_for_a_table_of_ten_trades(rt: HostRuntime) -> Result<(), Fail> {
     let alloc = rt.alloc();
-    let accepted = br#"{"answer":"accepted"}"#.as_slice();
-    let all =
+    let document = table_of(alloc, 10)?;
+    let (status, written) = run_on(alloc, &["solve"], document.into_bytes())?;
+    let begin =
         br#"{"answer":"solved","on":["t0","t1","t2","t3","t4","t5","t6","t7","t8","t9"],"#.as_slice();
-    for (command, begin, end) in [
-        ("test", accepted, b"}\n".as_slice()),
-        ("solve", all, b",\"surplus\":100}\n"),
-    ] {
-        let document = table_of(alloc, 10)?;
-        let (status, written) = run_on(alloc, &[command], document.into_bytes())?;
-        assert_eq!(rt; status, 0);
-        assert!(rt; written.starts_with(begin) && written.ends_with(end));
-    }
+    assert_eq!(rt; status, 0);
+    assert!(rt; written.starts_with(begin) && written.ends_with(b",\"surplus\":100}\n"));
     Ok(())
 }
 
