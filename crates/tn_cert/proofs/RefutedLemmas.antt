@@ -1,5 +1,5 @@
 -- A claim that is refuted isn't valid.
-use Rattle.std.proofs.Common.{◌≡◌, ◌⊎◌, ℕ, inl, inr, sym, ap, ◌∙◌, subst, arith, List, length, map, ℤ, pos, ◌+ℤ◌, ◌*ℤ◌, Option, Some, None, option_map}
+use Rattle.std.proofs.Common.{◌≡◌, ◌⊎◌, ℕ, inl, inr, sym, ap, ◌∙◌, subst, arith, List, ℤ, pos, ◌+ℤ◌, ◌*ℤ◌, Option, Some, None, option_map}
 use Rattle.std.specs.Prelude.{IsSome, ◌<ℤ◌}
 use Rattle.std.proofs.lemmas.Int.{ints}
 use Rattle.std.proofs.lemmas.Option.{same_Some}
@@ -7,17 +7,15 @@ use Rattle.tn_base.specs.Firm.{Firm, payments}
 use Rattle.tn_base.specs.Sets.{sum_over}
 use Rattle.tn_base.specs.Exchange.{Fails}
 use Rattle.tn_base.proofs.ExchangeLemmas.{none_fails_from_exchange}
-use Rattle.tn_market.specs.declared.claim.Claim.{Claim}
-use Rattle.tn_market.specs.declared.claim.Claim.TheVariants.{Equilibrium, Better, Impossible, Accepted, ExchangeFails, Supported, Cycle, Solved, Drops, Completes as CompletesIs, Blocks as BlocksIs}
+use Rattle.tn_market.specs.declared.claim.Claim.TheVariants.{Impossible, Accepted, ExchangeFails}
 use Rattle.tn_market.specs.declared.ends.Ends.{Ends}
 use Rattle.tn_market.specs.declared.reason.Reason.{Reason}
 use Rattle.tn_market.specs.declared.reason.Reason.TheVariants.{Impossible as ImpossibleIs, Better as BetterIs, Possible, Surplus, Gain, Exchange, Holds, Arc, Cost}
-use Rattle.tn_market.specs.Best.{price_at}
 use Rattle.tn_market.specs.ClaimLimits.{IsFirmWith}
 use Rattle.tn_market.specs.Equilibrium.{prices_at, utility_at, IsEquilibrium, surplus_of}
 use Rattle.tn_market.specs.Graph.{exchange_arc, ArePossible}
 use Rattle.tn_market.specs.Network.{part}
-use Rattle.tn_cert.specs.Claims.{Gains, IsPositive, GoesRound, IsValid, node_of}
+use Rattle.tn_cert.specs.Claims.{Gains, IsPositive, GoesRound, IsValid}
 use Rattle.tn_cert.specs.Reasons.{LacksBest, RefutesEquilibrium, RefutesBetter, RefutesCycle, Refutes}
 use Rattle.tn_cert.proofs.RoundLemmas.{round_unbroken, round_cost-same}
 

@@ -1,9 +1,8 @@
 -- From the limits of a claim to what its replay asks, and from one claim to another that has the same conditions.
-use Rattle.std.proofs.Common.{◌≡◌, ◌⊎◌, ℕ, inl, inr, sym, subst, List, length, ℤ, Result, Ok, Err}
+use Rattle.std.proofs.Common.{List, length, ℤ, Result, Ok, Err}
 use Rattle.std.specs.Prelude.{IfOk}
 use Rattle.tn_base.specs.Firm.{Firm}
 use Rattle.tn_market.specs.declared.arrangement.Arrangement.{Arrangement}
-use Rattle.tn_market.specs.declared.claim.Claim.{Claim}
 use Rattle.tn_market.specs.declared.claim.Claim.TheVariants.{Equilibrium, Solved}
 use Rattle.tn_market.specs.declared.contract.Outcome.{Outcome}
 use Rattle.tn_market.specs.declared.ends.Ends.{Ends}

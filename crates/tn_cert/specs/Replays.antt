@@ -2,7 +2,7 @@
 use Rattle.std.specs.Prelude.{◌≡◌, ◌⊎◌, ℕ, ℤ, pos, List, map, Bool, true, false, Option, Some, None, option_map, Result, Ok, Err}
 use Rattle.tn_base.specs.Firm.{Firm}
 use Rattle.tn_market.specs.declared.claim.Claim.{Claim}
-use Rattle.tn_market.specs.declared.claim.Claim.TheVariants.{Accepted, ExchangeFails}
+use Rattle.tn_market.specs.declared.claim.Claim.TheVariants.{Equilibrium, Better, Impossible, Accepted, ExchangeFails, Supported, Cycle, Solved, Drops, Completes, Blocks}
 use Rattle.tn_market.specs.declared.ends.Ends.{Ends}
 use Rattle.tn_market.specs.declared.reason.Reason.{Reason}
 use Rattle.tn_market.specs.declared.reason.Reason.TheVariants.{Exchange}
@@ -21,9 +21,17 @@ Replays firms trades claim (Invalid reason) = Refutes firms trades claim reason
 
 -- whether the claim is one on the exchange property of firms that aren't tested yet
 abbrev pub is_on_exchange : Claim → Bool
+is_on_exchange (Equilibrium at surplus) = false
+is_on_exchange (Better at f x gain) = false
+is_on_exchange (Impossible on f) = false
 is_on_exchange Accepted = true
 is_on_exchange (ExchangeFails f x y at) = true
-is_on_exchange claim = false
+is_on_exchange (Supported on prices) = false
+is_on_exchange (Cycle on nodes cost) = false
+is_on_exchange (Solved at surplus) = false
+is_on_exchange (Drops outcome f keeps gain over) = false
+is_on_exchange (Completes outcome prices over) = false
+is_on_exchange (Blocks outcome contracts over) = false
 
 -- the reason with the trades at the firm's positions in place of the positions
 abbrev pub reason_in : List Ends → Reason → Reason
