@@ -4,3 +4,4 @@ pub mod ClaimLeads
 pub mod KindLeads
 pub mod MemberStops
 pub mod ClaimStops
+pub mod FaultKinds

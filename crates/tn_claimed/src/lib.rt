@@ -11,5 +11,5 @@ mod nodes;
 mod raw;
 
 pub use claim::read_claim;
-pub use laws::{claims_are_within, nodes_are_few, raw_claims_are_told};
+pub use laws::{claims_are_within, faults_of_claims, nodes_are_few, raw_claims_are_told};
 pub use raw::claims_raw;
