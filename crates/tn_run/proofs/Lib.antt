@@ -6,3 +6,4 @@ pub mod CompleteLemmas
 pub mod NumberLemmas
 pub mod OwnLemmas
 pub mod ReplayLemmas
+pub mod CaseLemmas

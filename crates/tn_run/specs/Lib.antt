@@ -3,4 +3,5 @@ pub mod Tested
 pub mod Drilled
 pub mod Answer
 pub mod Run
+pub mod Cases
 pub mod Complete

@@ -1,5 +1,5 @@
 -- Which words are a command, and what a command reads.
-use Rattle.std.specs.Prelude.{ℕ, List, [], ◌∷◌, length, codes, Bool, not, ◌==◌, ◌&&◌, ◌||◌, nat_le, get_or, Option, Some, None, if◌then◌else◌}
+use Rattle.std.specs.Prelude.{ℕ, List, [], ◌∷◌, length, codes, Bool, false, not, ◌==◌, ◌&&◌, ◌||◌, nat_le, get_or, Option, Some, None, if◌then◌else◌}
 use Rattle.std.specs.List.{list_all}
 use Rattle.std.specs.Char.{is_ascii_digit}
 use Rattle.std.specs.Str.{bytes_eq}
@@ -9,10 +9,9 @@ use Rattle.tn_file.specs.declared.need.Need.TheVariants.{Market, Raw, Arrangemen
 use Rattle.tn_run.specs.declared.command.Command.{Command}
 use Rattle.tn_run.specs.declared.command.Command.TheVariants.{Check, Judge, Range, Replay, Session, Solve, SolveRows, Support, Test}
 
--- the command that reads a document, by its words
-abbrev pub command_of : List (List ℕ) → Option Command
-command_of [] = None
-command_of (word ∷ []) =
+-- the command that reads a document and is one word
+abbrev pub word_command : List ℕ → Option Command
+word_command word =
     if bytes_eq word (codes "check") then Some Check
     else if bytes_eq word (codes "judge") then Some Judge
     else if bytes_eq word (codes "range") then Some Range
@@ -22,8 +21,17 @@ command_of (word ∷ []) =
     else if bytes_eq word (codes "support") then Some Support
     else if bytes_eq word (codes "test") then Some Test
     else None
+
+-- the command that reads a document, by its words
+abbrev pub command_of : List (List ℕ) → Option Command
+command_of [] = None
+command_of (word ∷ []) = word_command word
 command_of (word ∷ next ∷ []) = if bytes_eq word (codes "solve") && bytes_eq next (codes "--csv") then Some SolveRows else None
 command_of (word ∷ next ∷ third ∷ words) = None
+
+-- the command of a case, whose text has a blank between two words
+abbrev pub case_command : List ℕ → Option Command
+case_command text = if bytes_eq text (codes "solve --csv") then Some SolveRows else word_command text
 
 abbrev pub need_of : Command → Need
 need_of Check = Arrangement
@@ -52,3 +60,8 @@ two_numbers size start = None
 abbrev pub drill_of : List (List ℕ) → Option (ℕ × ℕ)
 drill_of (word ∷ size ∷ start ∷ []) = if bytes_eq word (codes "drill") then two_numbers (number_within 1 64 size) (number_within 0 2147483647 start) else None
 drill_of words = None
+
+-- whether the words ask for the program's own cases
+abbrev pub asks_for_cases : List (List ℕ) → Bool
+asks_for_cases (word ∷ []) = bytes_eq word (codes "cases")
+asks_for_cases words = false

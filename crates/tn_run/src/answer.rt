@@ -198,7 +198,7 @@ fn answer_document(alloc: Global, command: Command, doc: &Document) -> Result<Sa
 }
 
 /// The answer of a command to the bytes of a document, over the names that are read.
-fn answer_bytes(
+pub fn answer_bytes(
     alloc: Global,
     command: Command,
     bytes: &[u8],

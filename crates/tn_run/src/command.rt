@@ -1,5 +1,5 @@
 ghost use Rattle.std.specs.Prelude.{◌≡◌, ◌≤◌, map, string_bytes, IfSome};
-ghost use Rattle.tn_run.specs.Words.{command_of, drill_of, need_of, two_numbers};
+ghost use Rattle.tn_run.specs.Words.{asks_for_cases, case_command, command_of, drill_of, need_of, two_numbers, word_command};
 
 use crate::numbers::number_within;
 use tn_file::Need;
@@ -27,33 +27,38 @@ pub enum Command {
     Test,
 }
 
+/// The command that one word is, none where it is none.
+fn word_command(word: &str) -> Option<Command>
+    ensures { result ≡ word_command word.now }
+{
+    if word == "check" {
+        Some(Command::Check)
+    } else if word == "judge" {
+        Some(Command::Judge)
+    } else if word == "range" {
+        Some(Command::Range)
+    } else if word == "replay" {
+        Some(Command::Replay)
+    } else if word == "session" {
+        Some(Command::Session)
+    } else if word == "solve" {
+        Some(Command::Solve)
+    } else if word == "support" {
+        Some(Command::Support)
+    } else if word == "test" {
+        Some(Command::Test)
+    } else {
+        None
+    }
+}
+
 /// The command that the words are, none where they are no command.
 pub fn command_of(words: &[String]) -> Option<Command>
     ensures { result ≡ command_of (map string_bytes words.now) }
 {
     match words {
         [] => None,
-        [word] => {
-            if word.as_str() == "check" {
-                Some(Command::Check)
-            } else if word.as_str() == "judge" {
-                Some(Command::Judge)
-            } else if word.as_str() == "range" {
-                Some(Command::Range)
-            } else if word.as_str() == "replay" {
-                Some(Command::Replay)
-            } else if word.as_str() == "session" {
-                Some(Command::Session)
-            } else if word.as_str() == "solve" {
-                Some(Command::Solve)
-            } else if word.as_str() == "support" {
-                Some(Command::Support)
-            } else if word.as_str() == "test" {
-                Some(Command::Test)
-            } else {
-                None
-            }
-        }
+        [word] => word_command(word),
         [word, next] => {
             if word.as_str() == "solve" && next.as_str() == "--csv" {
                 Some(Command::SolveRows)
@@ -62,6 +67,17 @@ pub fn command_of(words: &[String]) -> Option<Command>
             }
         }
         [_, _, _, ..] => None,
+    }
+}
+
+/// The command of a case, whose text has a blank between two words; none where it is none.
+pub fn case_command(text: &str) -> Option<Command>
+    ensures { result ≡ case_command text.now }
+{
+    if text == "solve --csv" {
+        Some(Command::SolveRows)
+    } else {
+        word_command(text)
     }
 }
 
@@ -97,6 +113,16 @@ pub fn drill_of(words: &[String]) -> Option<(u32, u32)>
             }
         }
         [] | [_] | [_, _] | [_, _, _, _, ..] => None,
+    }
+}
+
+/// Whether the words ask for the program's own cases.
+pub fn asks_for_cases(words: &[String]) -> bool
+    ensures { result ≡ asks_for_cases (map string_bytes words.now) }
+{
+    match words {
+        [word] => word.as_str() == "cases",
+        [] | [_, _, ..] => false,
     }
 }
 

@@ -1,14 +1,15 @@
 //! The run as the end of a program.
 
-ghost use Rattle.std.specs.Prelude.{◌≡◌, ℕ, List, None, Some, map, string_bytes};
+ghost use Rattle.std.specs.Prelude.{◌≡◌, ℕ, true, false, List, None, Some, map, string_bytes};
 ghost use Rattle.std.specs.Process.{exit_status};
 ghost use Rattle.tn_market.specs.declared.said.Said.{Said};
 ghost use Rattle.tn_names.specs.Names.{NameLists};
 ghost use Rattle.tn_run.specs.Answer.{MayBeSaid};
+ghost use Rattle.tn_run.specs.Cases.{MayBeCases};
 ghost use Rattle.tn_run.specs.Complete.{AnswersAll, NoneCounted};
 ghost use Rattle.tn_run.specs.Run.{IsWritten};
 ghost use Rattle.tn_run.specs.Drilled.{MayBeDrilled};
-ghost use Rattle.tn_run.specs.Words.{command_of, drill_of};
+ghost use Rattle.tn_run.specs.Words.{asks_for_cases, command_of, drill_of};
 ghost use Rattle.tn_run.specs.declared.command.Command.{Command};
 
 use crate::top::run_market;
@@ -24,7 +25,9 @@ pub fn run_to_exit<S: Source, K: Sink>(
     sink: &mut K,
 ) -> ExitCode
     ensures answer { (said : Said) × (names : NameLists)
-        × (command_of (map string_bytes words.now) ≡ None → drill_of (map string_bytes words.now) ≡ None → (said ≡ Said.Usage) × (source.new ≡ source.old))
+        × (command_of (map string_bytes words.now) ≡ None → drill_of (map string_bytes words.now) ≡ None → asks_for_cases (map string_bytes words.now) ≡ false
+        → (said ≡ Said.Usage) × (source.new ≡ source.old))
+        × (asks_for_cases (map string_bytes words.now) ≡ true → (source.new ≡ source.old) × MayBeCases said)
         × ((size start : ℕ) → drill_of (map string_bytes words.now) ≡ Some (size, start) → (source.new ≡ source.old) × MayBeDrilled size start said)
         × ((command : Command) → command_of (map string_bytes words.now) ≡ Some command
         → MayBeSaid command (S.left source.old) (S.left source.new) (S.faults source.old) (S.faults source.new) names said)

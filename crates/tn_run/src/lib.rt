@@ -2,6 +2,9 @@
 #![tactic(auto)]
 
 mod answer;
+mod casing;
+#[cfg(test)]
+mod casing_tests;
 mod command;
 mod exit;
 #[cfg(test)]
@@ -21,5 +24,6 @@ mod testing;
 mod tests;
 mod top;
 
+pub use casing::run_cases;
 pub use exit::run_to_exit;
 pub use top::{Run, run_market, run_steadily};

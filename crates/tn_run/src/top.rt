@@ -1,19 +1,21 @@
 //! The top call: words, reading, the answer, writing.
 
-ghost use Rattle.std.specs.Prelude.{◌≡◌, ◌≢◌, ◌≤◌, ◌⊎◌, ℕ, List, None, Some, map, string_bytes};
+ghost use Rattle.std.specs.Prelude.{◌≡◌, ◌≢◌, ◌≤◌, ◌⊎◌, ℕ, true, false, List, None, Some, map, string_bytes};
 ghost use Rattle.tn_answer.specs.AnswerText.{answer_line};
 ghost use Rattle.tn_names.specs.Names.{NameLists};
 ghost use Rattle.tn_answer.specs.Kept.{IsWithinClaims};
 ghost use Rattle.tn_io.specs.Sink.{Grows, GrowsByPrefix};
 ghost use Rattle.tn_run.specs.Answer.{MayBeSaid};
+ghost use Rattle.tn_run.specs.Cases.{MayBeCases};
 ghost use Rattle.tn_run.specs.Complete.{AnswersAll, NoneCounted};
 ghost use Rattle.tn_run.specs.Run.{IsWritten, IsWrittenWhole, status_of};
 ghost use Rattle.tn_run.specs.Drilled.{MayBeDrilled};
-ghost use Rattle.tn_run.specs.Words.{command_of, drill_of};
+ghost use Rattle.tn_run.specs.Words.{asks_for_cases, command_of, drill_of};
 ghost use Rattle.tn_run.specs.declared.command.Command.{Command};
 
 use crate::answer::answer_source;
-use crate::command::{command_of, drill_of};
+use crate::casing::cases;
+use crate::command::{asks_for_cases, command_of, drill_of};
 use std::alloc::Global;
 use tn_answer::{Names, answer_text, no_memory_text, read_fault_text, usage_text};
 use tn_base::OutOfMemory;
@@ -30,7 +32,7 @@ pub struct Run {
 }
 
 /// The exit status of an answer that was written whole.
-fn status_of(said: &Said) -> u8
+pub fn status_of(said: &Said) -> u8
     ensures { result ≡ status_of said.now }
 {
     match said {
@@ -106,13 +108,18 @@ fn drilled(alloc: Global, size: u32, start: u32) -> Said
     }
 }
 
-/// The run on words that ask for no document: a drill, or no command.
+/// The run on words that ask for no document: a drill, the program's own cases, or no command.
 fn run_without_reading<K: Sink>(alloc: Global, words: &[String], sink: &mut K, names: &Names) -> Run
-    ensures usage { drill_of (map string_bytes words.now) ≡ None → result.said ≡ Said.Usage }
+    ensures usage { drill_of (map string_bytes words.now) ≡ None → asks_for_cases (map string_bytes words.now) ≡ false → result.said ≡ Said.Usage }
+    ensures cases { asks_for_cases (map string_bytes words.now) ≡ true → MayBeCases result.said }
     ensures drill { (size start : ℕ) → drill_of (map string_bytes words.now) ≡ Some (size, start) → MayBeDrilled size start result.said }
     ensures within { IsWithinClaims result.said }
     ensures written { IsWritten (K.written sink.old) (K.written sink.new) (K.faults sink.old) (K.faults sink.new) names.now result.said result.status }
 {
+    if asks_for_cases(words) {
+        let said = cases(alloc);
+        return tell(alloc, names, said, sink);
+    }
     match drill_of(words) {
         None => write_line(sink, usage_text(), Said::Usage),
         Some((size, start)) => {
@@ -130,7 +137,9 @@ fn run_with<S: Source, K: Sink>(
     sink: &mut K,
     names: &mut Names,
 ) -> Run
-    ensures usage { command_of (map string_bytes words.now) ≡ None → drill_of (map string_bytes words.now) ≡ None → (result.said ≡ Said.Usage) × (source.new ≡ source.old) }
+    ensures usage { command_of (map string_bytes words.now) ≡ None → drill_of (map string_bytes words.now) ≡ None → asks_for_cases (map string_bytes words.now) ≡ false
+        → (result.said ≡ Said.Usage) × (source.new ≡ source.old) }
+    ensures cases { asks_for_cases (map string_bytes words.now) ≡ true → (source.new ≡ source.old) × MayBeCases result.said }
     ensures drill { (size start : ℕ) → drill_of (map string_bytes words.now) ≡ Some (size, start) → (source.new ≡ source.old) × MayBeDrilled size start result.said }
     ensures answer { (command : Command) → command_of (map string_bytes words.now) ≡ Some command
         → MayBeSaid command (S.left source.old) (S.left source.new) (S.faults source.old) (S.faults source.new) names.new result.said }
@@ -146,8 +155,8 @@ fn run_with<S: Source, K: Sink>(
     }
 }
 
-/// Runs the program on its words: reads the source, unless they are no command or a drill, answers, and writes the
-/// answer's text to the sink.
+/// Runs the program on its words: reads the source, unless they are no command, a drill or the cases, answers, and
+/// writes the answer's text to the sink.
 pub fn run_market<S: Source, K: Sink>(
     alloc: Global,
     words: &[String],
@@ -155,7 +164,9 @@ pub fn run_market<S: Source, K: Sink>(
     sink: &mut K,
 ) -> Run
     // Words that are no command: the source is as at entry.
-    ensures usage { command_of (map string_bytes words.now) ≡ None → drill_of (map string_bytes words.now) ≡ None → (result.said ≡ Said.Usage) × (source.new ≡ source.old) }
+    ensures usage { command_of (map string_bytes words.now) ≡ None → drill_of (map string_bytes words.now) ≡ None → asks_for_cases (map string_bytes words.now) ≡ false
+        → (result.said ≡ Said.Usage) × (source.new ≡ source.old) }
+    ensures cases { asks_for_cases (map string_bytes words.now) ≡ true → (source.new ≡ source.old) × MayBeCases result.said }
     ensures drill { (size start : ℕ) → drill_of (map string_bytes words.now) ≡ Some (size, start) → (source.new ≡ source.old) × MayBeDrilled size start result.said }
     // Words that are a command: what the source gave is answered. What was written is the answer's text, or a prefix.
     ensures answer { (names : NameLists)
@@ -179,7 +190,9 @@ pub fn run_steadily(
     source: &mut SteadySource,
     sink: &mut SteadySink,
 ) -> Run
-    ensures usage { command_of (map string_bytes words.now) ≡ None → drill_of (map string_bytes words.now) ≡ None → (result.said ≡ Said.Usage) × (source.new ≡ source.old) }
+    ensures usage { command_of (map string_bytes words.now) ≡ None → drill_of (map string_bytes words.now) ≡ None → asks_for_cases (map string_bytes words.now) ≡ false
+        → (result.said ≡ Said.Usage) × (source.new ≡ source.old) }
+    ensures cases { asks_for_cases (map string_bytes words.now) ≡ true → (source.new ≡ source.old) × MayBeCases result.said }
     ensures drill { (size start : ℕ) → drill_of (map string_bytes words.now) ≡ Some (size, start) → (source.new ≡ source.old) × MayBeDrilled size start result.said }
     // Words that are a command: what the source gave is answered. The answer's text was written whole.
     ensures answer { (names : NameLists)

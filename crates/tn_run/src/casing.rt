@@ -1,0 +1,65 @@
+//! The program's own cases.
+
+ghost use Rattle.std.specs.Prelude.{◌≡◌, ◌<◌, ◌≤◌, All, IfOk, IfSome, length, slice_get};
+ghost use Rattle.tn_answer.specs.Kept.{IsWithinClaims};
+ghost use Rattle.tn_run.specs.Answer.{document_limit};
+ghost use Rattle.tn_run.specs.Cases.{AreFailed, IsCaseAnswer, IsPassed, MayBeCases};
+ghost use Rattle.tn_run.specs.Words.{case_command};
+
+use crate::answer::answer_bytes;
+use crate::command::case_command;
+use crate::top::status_of;
+use std::alloc::Global;
+use tn_answer::{Names, answer_text};
+use tn_base::OutOfMemory;
+use tn_cases::{Case, CaseBook, book};
+use tn_market::{Numbers, Said};
+
+/// The answer to a case's command on its document, over the names that are read.
+fn answer_case(alloc: Global, case: &Case, names: &mut Names) -> Result<Said, OutOfMemory>
+    ensures answer { IfOk result (IsCaseAnswer (case_command case.now.command.now) case.now.document.now names.new) }
+    ensures within { IfOk result IsWithinClaims }
+{
+    match case_command(case.command) {
+        None => Ok(Said::Usage),
+        Some(command) => answer_bytes(alloc, command, case.document.as_bytes(), names),
+    }
+}
+
+/// Whether a run of the case at index `k` comes to its status and its text.
+fn passes<const N: usize>(alloc: Global, book: &CaseBook<N>, k: usize) -> Result<bool, OutOfMemory>
+    requires few { N ≤ 64 }
+    requires inside { k < N }
+    ensures { IfOk result (λ passes. IfSome (slice_get book.now k) (IsPassed passes)) }
+{
+    let mut names = Names::empty(alloc);
+    let said = answer_case(alloc, book.case(k), &mut names)?;
+    let text = answer_text(alloc, &names, &said)?;
+    Ok(book.agrees(k, status_of(&said), &text))
+}
+
+/// Runs each case's command on its document, and lists the numbers, from 1, of the cases that fail.
+pub fn run_cases<const N: usize>(alloc: Global, book: &CaseBook<N>) -> Result<Numbers, OutOfMemory>
+    requires few { N ≤ 64 }
+    requires documents { All (λ case. length case.document ≤ document_limit) book.now }
+    ensures { IfOk result (AreFailed N book.now) }
+{
+    let mut failed = Vec::new(alloc);
+    for k in 0..N {
+        if !passes(alloc, book, k)? {
+            failed.push(k as u32 + 1)?;
+        }
+    }
+    Ok(Numbers::from_vec(failed))
+}
+
+/// The answer of `cases`, or that memory ran out.
+pub fn cases(alloc: Global) -> Said
+    ensures cases { MayBeCases result }
+    ensures within { IsWithinClaims result }
+{
+    match run_cases(alloc, &book()) {
+        Ok(failed) => Said::Cases { count: 12, failed },
+        Err(OutOfMemory) => Said::NoMemory,
+    }
+}
