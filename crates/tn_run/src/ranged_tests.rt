@@ -265,6 +265,20 @@ fn tells_ranges_states_rows_and_drills(rt: HostRuntime) -> Result<(), Fail> {
     Ok(())
 }
 
+/// The same words have the same answer each time.
+#[test]
+fn says_the_same_of_the_same_drill(rt: HostRuntime) -> Result<(), Fail> {
+    let alloc = rt.alloc();
+    for words in [["drill", "40", "7"], ["drill", "64", "2147483647"]] {
+        let (status, first) = run_on(alloc, &words, Vec::new(alloc))?;
+        let (again, second) = run_on(alloc, &words, Vec::new(alloc))?;
+        assert_eq!(rt; status, 0);
+        assert_eq!(rt; again, 0);
+        assert_eq!(rt; first.as_slice(), second.as_slice());
+    }
+    Ok(())
+}
+
 #[test]
 fn solves_no_document_with_a_fault(rt: HostRuntime) -> Result<(), Fail> {
     for case in &FAULTS {
