@@ -13,3 +13,6 @@ pub mod NestedCounts
 pub mod NestedLemmas
 pub mod ConcaveLemmas
 pub mod BoundLemmas
+pub mod CloseMoves
+pub mod CloseLemmas
+pub mod ClosePairs

@@ -4,3 +4,4 @@ pub mod Local
 pub mod Nested
 pub mod Ordered
 pub mod Laws
+pub mod Close

@@ -3,6 +3,7 @@
 #![tactic(auto)]
 
 mod additive;
+mod close;
 mod kept;
 mod labels;
 mod local;
@@ -11,6 +12,7 @@ mod ordered;
 mod places;
 
 pub use additive::exchange_of_additive_firms;
+pub use close::close_pairs_decide;
 pub use kept::{exchange_among, exchange_of_priced_firms};
 pub use labels::numbers_keep_arcs;
 pub use local::{local_is_global, locally_best_is_best};
