@@ -1,0 +1,5 @@
+pub mod Frame
+pub mod NameLemmas
+pub mod ListLemmas
+pub mod EntryLemmas
+pub mod ClaimLemmas
