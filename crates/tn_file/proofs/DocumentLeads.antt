@@ -112,7 +112,7 @@ is_document need top found content listing is =
       extra = is.extra;
     }
 
-document_leads : (need : Need) (top : Data) → Leads (IsDocument need) (document_of need top)
+pub document_leads : (need : Need) (top : Data) → Leads (IsDocument need) (document_of need top)
 unfolding document_of
 document_leads need top =
     leads_bind IsListing (IsDocument need) (listed_of top) _ (listed_leads top) (λ found listing.
