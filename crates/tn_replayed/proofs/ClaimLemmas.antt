@@ -1,5 +1,5 @@
 -- The claims that answers are read as.
-use Rattle.std.proofs.Common.{◌≡◌, ℕ, suc, ◌+◌, ◌<◌, ◌≤◌, ◌^◌, ℤ, pos, Bool, true, false, List, [], ◌∷◌, map, length, slice_get, Option, Some, None, Result, Ok, refl, sym, ap, subst, ◌∙◌, arith}
+use Rattle.std.proofs.Common.{◌≡◌, ℕ, ◌<◌, ◌≤◌, ◌^◌, ℤ, pos, true, List, [], map, length, slice_get, Option, Some, None, Ok, refl, ◌∙◌, arith}
 use Rattle.std.specs.Prelude.{codes, All, IfSome, ◌≤ℤ◌, nat_le, option_map}
 use Rattle.std.proofs.lemmas.List.{length-map}
 use Rattle.std.proofs.lemmas.Option.{slice_get_within}
@@ -13,20 +13,19 @@ use Rattle.tn_base.specs.Sets.{has, set_of}
 use Rattle.tn_market.specs.declared.claim.Claim.TheVariants.{Equilibrium, Better, Impossible, Accepted, ExchangeFails, Supported, Cycle, Solved, Drops, Completes, Blocks}
 use Rattle.tn_market.specs.declared.contract.Contract.{Contract}
 use Rattle.tn_market.specs.declared.contract.Outcome.{Outcome}
-use Rattle.tn_market.specs.declared.place.Word.TheVariants.{At, Bundle, Contracts, Cost, Firm as FirmWord, Gain, Keeps, Nodes, On, Over, Prices, Surplus, X, Y}
+use Rattle.tn_market.specs.declared.place.Word.TheVariants.{At, Bundle, Contracts, Cost, Firm as FirmWord, Gain, Keeps, On, Over, Prices, Surplus, X, Y}
 use Rattle.tn_market.specs.declared.said.Said.TheVariants as Said
 use Rattle.tn_market.specs.Network.{own, trades_of, trades_on}
 use Rattle.tn_names.specs.Names.{IsNameList}
 use Rattle.tn_shape.specs.Claims.{allows_in_claim}
 use Rattle.tn_shape.specs.Members.{allows}
-use Rattle.tn_shape.specs.Reading.{each}
 use Rattle.tn_shape.specs.Shapes.{few_at, object_of}
 use Rattle.tn_refer.specs.Ordered.{Listed}
 use Rattle.tn_extra.specs.Arranged.{Arranged, arrangement_of, trades_on_of}
 use Rattle.tn_extra.specs.Signed.{outcome_of}
 use Rattle.tn_claimed.specs.Claimed.{accepted_of, better_of, blocks_of, claim_of, completes_of, cycle_of, drops_of, equilibrium_of, failure_of, impossible_of, kind_of, solved_of, supported_of}
 use Rattle.tn_claimed.specs.Members.{claimed_contracts, claimed_nodes, claimed_on, claimed_prices, gain_or_null, member_place, most_nodes}
-use Rattle.tn_answer.specs.AnswerText.{answer_data, contract_data, contracts_data, nodes_data, prices_data}
+use Rattle.tn_answer.specs.AnswerText.{answer_data, contracts_data, nodes_data, prices_data}
 use Rattle.tn_answer.specs.Values.{bound_data, names_data, option_data}
 use Rattle.tn_replayed.proofs.EntryLemmas.{contracts_back, prices_back}
 use Rattle.tn_replayed.proofs.ListLemmas.{AreRead, at_back, bundle_back, each_node_back, items_len-of, set_back}
@@ -106,8 +105,13 @@ module _ (listed : Listed) (firms : List Firm) (are : AreRead listed firms) (top
   unfolding claim_of kind_of failure_of object_of allows allows_in_claim
   failure_back f firm x y at is below_x below_y within there =
       let inside : f < length listed.names.firms = let here = slice_get_within firms f firm is in let counted = are.firms_named in omega (arith, here, counted) in
-      rw (there, firm_back listed.names.firms are.firm_names (member_place FirmWord) f inside, at_back listed firms are f firm is (member_place At) at within,
-        bundle_back listed firms are f firm is (member_place X) x below_x, bundle_back listed firms are f firm is (member_place Y) y below_y)
+      rw (
+        there,
+        firm_back listed.names.firms are.firm_names (member_place FirmWord) f inside,
+        at_back listed firms are f firm is (member_place At) at within,
+        bundle_back listed firms are f firm is (member_place X) x below_x,
+        bundle_back listed firms are f firm is (member_place Y) y below_y,
+      )
 
   pub supported_back : (on : ℕ) (prices : List ℤ) → length prices ≡ length names → All (λ z. IsAtMost z (10 ^ 18)) prices
       → get (codes "claim") top ≡ Some (answer_data listed.names (Said.Supported prices)) → trades_on_of names top ≡ Ok on → claim_of listed top ≡ Ok (Supported on prices)
@@ -119,8 +123,12 @@ module _ (listed : Listed) (firms : List Firm) (are : AreRead listed firms) (top
       → get (codes "claim") top ≡ Some (answer_data listed.names (Said.Cycle nodes cost)) → trades_on_of names top ≡ Ok on → claim_of listed top ≡ Ok (Cycle on nodes cost)
   unfolding claim_of kind_of cycle_of object_of allows allows_in_claim
   cycle_back on nodes cost known least most small there part =
-      rw (there, part, number_back (10 ^ 18) (member_place Cost) cost short small,
-        nodes_back names are.trade_names (answer_data listed.names (Said.Cycle nodes cost)) (most_nodes top) nodes known least most refl)
+      rw (
+        there,
+        part,
+        number_back (10 ^ 18) (member_place Cost) cost short small,
+        nodes_back names are.trade_names (answer_data listed.names (Said.Cycle nodes cost)) (most_nodes top) nodes known least most refl,
+      )
 
   pub solved_back : (x : ℕ) (prices : List ℤ) (surplus : ℤ) → length prices ≡ length names → All (λ z. IsAtMost z (10 ^ 18)) prices → IsAtMost surplus (10 ^ 18)
       → get (codes "claim") top ≡ Some (answer_data listed.names (Said.Solved (trades_on x (length names)) prices surplus))
@@ -137,8 +145,14 @@ module _ (listed : Listed) (firms : List Firm) (are : AreRead listed firms) (top
   unfolding claim_of kind_of drops_of object_of allows allows_in_claim
   drops_back outcome f firm keeps gain over is below small least most there part =
       let inside : f < length listed.names.firms = let here = slice_get_within firms f firm is in let counted = are.firms_named in omega (arith, here, counted) in
-      rw (there, part, firm_back listed.names.firms are.firm_names (member_place FirmWord) f inside, gain_back gain small, bundle_back listed firms are f firm is (member_place Keeps) keeps below,
-        over_back (member_place Over) over least most)
+      rw (
+        there,
+        part,
+        firm_back listed.names.firms are.firm_names (member_place FirmWord) f inside,
+        gain_back gain small,
+        bundle_back listed firms are f firm is (member_place Keeps) keeps below,
+        over_back (member_place Over) over least most,
+      )
 
   pub completes_back : (outcome : Outcome) (prices : List ℤ) (over : ℤ) → length prices ≡ length names → All (λ z. IsAtMost z (10 ^ 18)) prices → pos 1 ≤ℤ over → over ≤ℤ pos 100000
       → get (codes "claim") top ≡ Some (answer_data listed.names (Said.Completes prices over)) → outcome_of names top ≡ Ok outcome → claim_of listed top ≡ Ok (Completes outcome prices over)

@@ -1,6 +1,6 @@
 -- A document that was read, with a claim in it: the same network, with the claim as its extra part.
-use Rattle.std.proofs.Common.{◌≡◌, List, [], Result, Ok, Err, refl, sym, ap, ◌∙◌}
-use Rattle.std.specs.Prelude.{codes, not}
+use Rattle.std.proofs.Common.{◌≡◌, List, [], Result, Ok, sym, ap, ◌∙◌}
+use Rattle.std.specs.Prelude.{not}
 use Rattle.serde_json.specs.Data.{Data, Items}
 use Rattle.tn_base.specs.Firm.{Firm}
 use Rattle.tn_market.specs.declared.claim.Claim.{Claim as ClaimIs}
@@ -14,7 +14,7 @@ use Rattle.tn_kinds.specs.Firms.{one_firm}
 use Rattle.tn_claimed.specs.Claimed.{claim_of, claims_raw}
 use Rattle.tn_file.specs.declared.need.Need.{Need}
 use Rattle.tn_file.specs.declared.need.Need.TheVariants.{Claim}
-use Rattle.tn_file.specs.Document.{DocumentData, ExtraData, claim, content_of, document_of, extra_of, is_tested}
+use Rattle.tn_file.specs.Document.{DocumentData, ExtraData, content_of, document_of, extra_of, is_tested}
 use Rattle.tn_replayed.specs.Replayed.{claimed_in, with_claim}
 use Rattle.tn_replayed.proofs.Frame.{listed_other}
 

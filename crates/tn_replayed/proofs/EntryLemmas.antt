@@ -1,10 +1,8 @@
 -- Lists of prices and of contracts as an answer writes them are read back.
-use Rattle.std.proofs.Common.{◌≡◌, ◌≢◌, ℕ, zero, suc, ◌+◌, ◌<◌, ◌≤◌, ◌^◌, ℤ, pos, Bool, true, false, ◌&&◌, List, [], ◌∷◌, ◌++◌, map, length, slice_get, Option, Some, None, Result, Ok, Err, refl, sym, ap, subst, ◌∙◌, arith, length-append}
-use Rattle.std.specs.Prelude.{All, cond, nat_lt, not, replicate, slice_set}
+use Rattle.std.proofs.Common.{◌≡◌, ℕ, zero, suc, ◌+◌, ◌<◌, ◌≤◌, ◌^◌, ℤ, pos, Bool, true, false, ◌&&◌, List, [], ◌∷◌, ◌++◌, map, length, slice_get, Some, None, Ok, refl, sym, ap, ◌∙◌, arith, length-append}
+use Rattle.std.specs.Prelude.{All, cond, nat_lt, replicate, slice_set}
 use Rattle.std.proofs.lemmas.List.{append-nil, append_assoc}
 use Rattle.std.proofs.lemmas.List.Elements.{All-head, All-tail}
-use Rattle.std.proofs.lemmas.Option.{slice_get_within}
-use Rattle.serde_json.specs.Data.{Data}
 use Rattle.serde_json.specs.View.{items_of}
 use Rattle.tn_base.specs.Arcs.{IsAtMost}
 use Rattle.tn_base.specs.Sets.{has, set_of, size, toggle}
@@ -12,15 +10,12 @@ use Rattle.tn_base.proofs.SetLemmas.{has-set_of, has-toggle_other, has-zero}
 use Rattle.tn_market.specs.declared.contract.Contract.{Contract}
 use Rattle.tn_market.specs.declared.place.PlaceStep.{PlaceStep}
 use Rattle.tn_market.specs.declared.place.PlaceStep.TheVariants.{Index}
-use Rattle.tn_market.specs.declared.place.Word.TheVariants.{Contracts, Prices}
-use Rattle.tn_market.specs.declared.said.Fault.{Fault}
 use Rattle.tn_names.specs.Names.{IsNameList}
 use Rattle.tn_shape.specs.Reading.{◌>>=◌, each}
 use Rattle.tn_shape.specs.Shapes.{two_at}
 use Rattle.tn_refer.specs.Entries.{Numbered, entry_of, one_entry}
-use Rattle.tn_refer.specs.References.{new_trade}
-use Rattle.tn_extra.specs.Lists.{first_without, named_prices, one_price, price_of, prices_of, unless_missing}
-use Rattle.tn_claimed.specs.Members.{Offered, member_place, no_offers, one_offer}
+use Rattle.tn_extra.specs.Lists.{first_without, named_prices, one_price, price_of, prices_of}
+use Rattle.tn_claimed.specs.Members.{Offered, no_offers, one_offer}
 use Rattle.tn_answer.specs.AnswerText.{contract_data, price_data, prices_from}
 use Rattle.tn_answer.specs.Rows.{each_from}
 use Rattle.tn_replayed.proofs.ListLemmas.{new_trade_back}
@@ -68,9 +63,9 @@ module _ (names : List (List ℕ)) (are : IsNameList names) (place : List PlaceS
       let next : suc k + length prices ≡ k + suc (length prices) = omega arith in
       let more : length (before ++ p ∷ []) ≡ suc k = length-append before (p ∷ []) ∙ omega (arith, counted) in
       ap (λ r. r >>= λ found. each (one_price names place limit) found (items_of (each_from (price_data names) (suc k) prices)))
-        (one_price_back now k p (omega (arith, few)) (has-all_below k k ∙ self) (All-head (λ z. IsAtMost z limit) p prices small))
+      (one_price_back now k p (omega (arith, few)) (has-all_below k k ∙ self) (All-head (λ z. IsAtMost z limit) p prices small))
       ∙ ap (λ numbers. each (one_price names place limit) (record { named = toggle (all_below k) k; numbers = numbers }) (items_of (each_from (price_data names) (suc k) prices)))
-        (slice_set_at before (pos 0) (replicate (length prices) (pos 0)) p k counted)
+      (slice_set_at before (pos 0) (replicate (length prices) (pos 0)) p k counted)
       ∙ priced_back (suc k) (before ++ p ∷ []) prices more (omega (arith, few)) (All-tail (λ z. IsAtMost z limit) p prices small)
       ∙ ap (λ n. Ok (record { named = all_below n; numbers = (before ++ p ∷ []) ++ prices })) next
       ∙ ap (λ numbers. Ok (record { named = all_below (k + suc (length prices)); numbers = numbers })) (append_assoc before (p ∷ []) prices)
@@ -91,7 +86,7 @@ module _ (names : List (List ℕ)) (are : IsNameList names) (place : List PlaceS
   unfolding prices_of named_prices
   prices_back prices counted small =
       let whole : each (one_price names place limit) (record { named = 0; numbers = replicate (length names) (pos 0) }) (items_of (each_from (price_data names) 0 prices))
-          ≡ Ok (record { named = all_below (length names); numbers = prices }) =
+      ≡ Ok (record { named = all_below (length names); numbers = prices }) =
       ap (λ n. each (one_price names place limit) (record { named = 0; numbers = replicate n (pos 0) }) (items_of (each_from (price_data names) 0 prices))) (sym counted)
       ∙ all_priced prices small (omega (arith, counted))
       ∙ ap (λ n. Ok (record { named = all_below n; numbers = prices })) counted in
@@ -133,9 +128,9 @@ module _ (names : List (List ℕ)) (are : IsNameList names) (place : List PlaceS
       let rest = offers_back next contracts (later offered.named contract contracts new) in (
         rest.0,
         ap (λ r. r >>= λ found. each (one_offer names place limit) found (items_of (map (contract_data names) contracts)))
-          (one_offer_back offered contract (new.known 0 contract refl) (new.new 0 contract refl) (All-head (λ (c : Contract). IsAtMost c.price limit) contract contracts new.small))
-        ∙ rest.1
-        ∙ ap (λ l. Ok (record { named = rest.0; contracts = l })) (append_assoc offered.contracts (contract ∷ []) contracts),
+            (one_offer_back offered contract (new.known 0 contract refl) (new.new 0 contract refl) (All-head (λ (c : Contract). IsAtMost c.price limit) contract contracts new.small))
+            ∙ rest.1
+            ∙ ap (λ l. Ok (record { named = rest.0; contracts = l })) (append_assoc offered.contracts (contract ∷ []) contracts),
       )
 
   pub contracts_back : (contracts : List Contract) → ((k : ℕ) (contract : Contract) → slice_get contracts k ≡ Some contract → contract.trade < length names)

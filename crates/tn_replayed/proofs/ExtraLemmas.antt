@@ -1,5 +1,5 @@
 -- The extra part of a document that was read, and how many trades it has by its version.
-use Rattle.std.proofs.Common.{◌≡◌, ℕ, ◌+◌, ◌≤◌, ◌^◌, List, [], ◌∷◌, length, Option, Some, Result, Ok, refl, sym, ap, ◌∙◌, arith}
+use Rattle.std.proofs.Common.{◌≡◌, ℕ, ◌+◌, ◌≤◌, ◌^◌, List, [], ◌∷◌, length, Some, Result, Ok, refl, ap, ◌∙◌, arith}
 use Rattle.std.specs.Prelude.{codes, cond, nat_eq, option_and_then, unwrap_or}
 use Rattle.serde_json.specs.Data.{Data, Items}
 use Rattle.serde_json.specs.Events.{items_len}
@@ -25,7 +25,7 @@ use Rattle.tn_extra.specs.Lists.{prices_of}
 use Rattle.tn_extra.specs.Signed.{outcome_of}
 use Rattle.tn_claimed.specs.Members.{most_nodes}
 use Rattle.tn_file.specs.declared.need.Need.TheVariants.{Arrangement, On, Outcome}
-use Rattle.tn_file.specs.Document.{ExtraData, arrangement, extra_of, on_alone, outcome}
+use Rattle.tn_file.specs.Document.{arrangement, extra_of, on_alone, outcome}
 
 itself : {A E : Type 0} (r : Result A E) → Leads (λ x. r ≡ Ok x) r
 itself r = record { at = λ x e. e }
@@ -83,8 +83,8 @@ limit_lead top =
     let found = option_and_then as_u64 (option_and_then as_number (get (codes "version") top)) in
     leads_bind (λ version. found ≡ Some version) (λ limit. limit + 1 ≤ most_nodes top) (wanted Shape (Word Version ∷ []) found) _ (leads_wanted Shape (Word Version ∷ []) found) (λ version is.
     leads_as (λ limit. limit_of version ≡ Some limit) (λ limit. limit + 1 ≤ most_nodes top) (wanted Shape (Word Version ∷ []) (limit_of version)) (λ limit e.
-        let most : most_nodes top ≡ cond (nat_eq version 1) 65 129 = ap (λ o. cond (nat_eq (unwrap_or o 0) 1) 65 129) is in
-        let here = most_by_version version limit e in omega (arith, most, here))
+    let most : most_nodes top ≡ cond (nat_eq version 1) 65 129 = ap (λ o. cond (nat_eq (unwrap_or o 0) 1) 65 129) is in
+    let here = most_by_version version limit e in omega (arith, most, here))
     (leads_wanted Shape (Word Version ∷ []) (limit_of version)))
 
 trades_lead : (top : Data) → Leads (λ found. length found.0.ends + 1 ≤ most_nodes top) (listed_of top)

@@ -1,6 +1,6 @@
 -- A document with another claim: all that is read beside the claim stays.
-use Rattle.std.proofs.Common.{◌≡◌, ℕ, Bool, true, false, List, [], Option, Some, Result, Ok, Err, refl, sym, ap, ◌∙◌, true≢false, Ordering, Less, Equal, Greater, nat_cmp}
-use Rattle.std.specs.Prelude.{codes, ◌&&◌, not, option_and_then, option_map, unwrap_or, nat_eq, cond}
+use Rattle.std.proofs.Common.{◌≡◌, ℕ, true, false, List, [], Some, Ok, refl, sym, ap, ◌∙◌, true≢false, Ordering, Less, Equal, Greater, nat_cmp}
+use Rattle.std.specs.Prelude.{codes, ◌&&◌, option_and_then, option_map, unwrap_or, nat_eq, cond}
 use Rattle.std.specs.Ordering.{match_ordering}
 use Rattle.std.specs.Cmp.Lexicographic.{slice_cmp}
 use Rattle.std.specs.Str.{bytes_eq}
@@ -12,13 +12,11 @@ use Rattle.tn_shape.specs.declared.members.ObjectKind.{ObjectKind}
 use Rattle.tn_shape.specs.declared.members.ObjectKind.TheVariants.{Top}
 use Rattle.tn_shape.specs.Members.{allows, allows_all}
 use Rattle.tn_shape.specs.Reading.{holds}
-use Rattle.tn_shape.specs.Shapes.{object_of, few_at, list_at}
+use Rattle.tn_shape.specs.Shapes.{object_of}
 use Rattle.tn_base.specs.declared.fault.FaultKind.TheVariants.{Shape}
-use Rattle.tn_market.specs.declared.said.Fault.{Fault}
 use Rattle.tn_refer.specs.Ordered.{Listed}
-use Rattle.tn_listed.specs.Beside.{Stop}
 use Rattle.tn_listed.specs.Listing.{listed_of, version_limit}
-use Rattle.tn_extra.specs.Arranged.{Arranged, arrangement_of, on_of, trades_on_of}
+use Rattle.tn_extra.specs.Arranged.{arrangement_of, on_of, trades_on_of}
 use Rattle.tn_extra.specs.Signed.{outcome_of}
 use Rattle.tn_claimed.specs.Claimed.{claims_raw, names_raw}
 use Rattle.tn_claimed.specs.Members.{most_nodes}

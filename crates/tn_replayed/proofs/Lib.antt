@@ -5,3 +5,6 @@ pub mod EntryLemmas
 pub mod ClaimLemmas
 pub mod DocumentLemmas
 pub mod ExtraLemmas
+pub mod CheckedLemmas
+pub mod FoundLemmas
+pub mod OutcomeLemmas
