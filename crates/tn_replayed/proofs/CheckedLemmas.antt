@@ -16,7 +16,7 @@ use Rattle.tn_market.specs.Best.{price_at}
 use Rattle.tn_market.specs.Judged.{IsFirstBettered, IsFirstImpossible, Judges}
 use Rattle.tn_market.specs.Network.{own, trades_of}
 use Rattle.tn_answer.specs.AnswerText.{answer_data}
-use Rattle.tn_answer.specs.Kept.{IsWithinClaims}
+use Rattle.tn_replayed.specs.Fits.{FitsClaim}
 use Rattle.tn_kinds.proofs.ShownLemmas.{own_position_of}
 use Rattle.tn_extra.specs.Arranged.{Arranged, arrangement_of}
 use Rattle.tn_claimed.specs.Claimed.{claim_of, names_raw}
@@ -76,14 +76,14 @@ module _ (top : Data) (doc : DocumentData) (at : Arranged) (from : IsReadFrom Ar
   part : (value : Data) → arrangement_of doc.names.trades (with_claim value top) ≡ Ok at
   part value = arrangement_other doc.names.trades value top ∙ arranged (listed_in doc) top at (from.parts.extra ∙ ap Ok extra)
 
-  equilibrium_replays : (surplus : ℤ) → Judges doc.firms doc.ends (pos 1) at.on (price_at at.prices) (Equilibrium surplus) → IsWithinClaims (Equilibrium surplus) → IsReplayed top doc (Equilibrium surplus)
+  equilibrium_replays : (surplus : ℤ) → Judges doc.firms doc.ends (pos 1) at.on (price_at at.prices) (Equilibrium surplus) → FitsClaim (Equilibrium surplus) → IsReplayed top doc (Equilibrium surplus)
   equilibrium_replays surplus judges within =
       let said = Equilibrium surplus in
       replayed Arrangement top doc from said (codes "equilibrium") (EquilibriumClaim (record { on = at.on; prices = at.prices }) surplus) refl refl
       (equilibrium_back (listed_in doc) doc.firms (are_read Arrangement top doc from) (with_claim (answer_data doc.names said) top) at surplus (there Arrangement top doc from said) (part (answer_data doc.names said)) within)
       judges
 
-  better_replays : (f x : ℕ) (gain : ℤ) (is : IsFirstBettered doc.firms doc.ends (pos 1) at.on (price_at at.prices) f x gain) → IsWithinClaims (Equilibrium gain)
+  better_replays : (f x : ℕ) (gain : ℤ) (is : IsFirstBettered doc.firms doc.ends (pos 1) at.on (price_at at.prices) f x gain) → FitsClaim (Equilibrium gain)
       → IsReplayed top doc (Better f (trades_of doc.ends f is.firm.count x) gain)
   better_replays f x gain is within =
       let said = Better f (trades_of doc.ends f is.firm.count x) gain in
@@ -104,7 +104,7 @@ module _ (top : Data) (doc : DocumentData) (at : Arranged) (from : IsReadFrom Ar
 
 -- the answer of `check`
 judged : (top : Data) (doc : DocumentData) (at : Arranged) (said : Said) → IsReadFrom Arrangement top doc → doc.extra ≡ arrangement at
-    → Judges doc.firms doc.ends (pos 1) at.on (price_at at.prices) said → IsWithinClaims said → IsReplayed top doc said
+    → Judges doc.firms doc.ends (pos 1) at.on (price_at at.prices) said → FitsClaim said → IsReplayed top doc said
 judged top doc at (Equilibrium surplus) from extra judges within = equilibrium_replays top doc at from extra surplus judges within
 judged top doc at (Better f bundle gain) from extra judges within =
     subst (λ b. IsReplayed top doc (Better f b gain)) (sym judges.2) (better_replays top doc at from extra f judges.0 gain judges.1 within)

@@ -1,8 +1,7 @@
 -- What `support` and `solve` say of a document is a valid claim on it.
-use Rattle.std.proofs.Common.{◌≡◌, ◌≢◌, ℕ, zero, suc, ◌+◌, ◌<◌, ◌≤◌, ◌^◌, ℤ, pos, ◌+ℤ◌, Bool, true, false, ◌&&◌, ◌⊎◌, List, [], ◌∷◌, map, length, slice_get, get_or, Option, Some, None, Ok, inl, inr, refl, sym, ap, subst, ◌∙◌, arith}
+use Rattle.std.proofs.Common.{◌≡◌, ◌≢◌, ℕ, zero, suc, ◌+◌, ◌<◌, ◌≤◌, ◌^◌, ℤ, pos, ◌+ℤ◌, Bool, true, false, ◌&&◌, ◌⊎◌, List, [], ◌∷◌, map, length, slice_get, Option, Some, None, Ok, inl, inr, refl, sym, ap, subst, ◌∙◌, arith}
 use Rattle.std.specs.Prelude.{codes, All, IfSome, cond, nat_le, nat_lt, option_and_then, option_map}
 use Rattle.std.proofs.lemmas.Bool.{cases_eq, eq-eqb, ne_eqb}
-use Rattle.std.proofs.lemmas.Int.{ints}
 use Rattle.std.proofs.lemmas.List.{length-map}
 use Rattle.std.proofs.lemmas.List.Elements.{All-head}
 use Rattle.std.proofs.lemmas.Option.{none-some, slice_get_within}
@@ -26,7 +25,7 @@ use Rattle.tn_market.specs.Supported.{IsFirstUnable, IsNegativeCycle, said_node}
 use Rattle.tn_network.proofs.RoundLemmas.{cycle_avoids}
 use Rattle.tn_price.proofs.CycleLemmas.{arcs_between, nodes_inside}
 use Rattle.tn_answer.specs.AnswerText.{answer_data}
-use Rattle.tn_answer.specs.Kept.{IsWithinClaims, IsWithinPrices}
+use Rattle.tn_replayed.specs.Fits.{FitsClaim}
 use Rattle.tn_extra.specs.Arranged.{trades_on_of}
 use Rattle.tn_command.specs.Solved.{Solves}
 use Rattle.tn_command.specs.Supported.{SupportsSet}
@@ -39,13 +38,6 @@ use Rattle.tn_replayed.proofs.ClaimLemmas.{cycle_back, impossible_back, solved_b
 use Rattle.tn_replayed.proofs.DocumentLemmas.{listed_in}
 use Rattle.tn_replayed.proofs.ExtraLemmas.{on_read, trades_few}
 use Rattle.tn_replayed.proofs.Frame.{most_other, trades_on_other}
-
--- prices within the limit of prices are within that of claims
-pub prices_within : (prices : List ℤ) → All IsWithinPrices prices → All (λ z. IsAtMost z (10 ^ 18)) prices
-prices_within prices small = λ k d below. wider (get_or prices k d) (small k d below)
-  where
-    wider : (z : ℤ) → IsAtMost z (10 ^ 14) → IsAtMost z (10 ^ 18)
-    wider z h = let low = h.low in let high = h.high in record { low = omega (arith, ints, low); high = omega (arith, ints, high) }
 
 -- ---- cycles
 
@@ -118,16 +110,16 @@ module _ (top : Data) (doc : DocumentData) (on : ℕ) (from : IsReadFrom On top 
       (impossible_back (listed_in doc) doc.firms (are_read On top doc from) (with_claim value top) on f (slice_get_within doc.firms f is.firm is.is) (there On top doc from said) (on_there value))
       (is.firm, is.is, is.impossible)
 
-  supported_replays : (prices : List ℤ) → SupportsSet doc.firms doc.ends on (Supported prices) → IsWithinClaims (Supported prices) → IsReplayed top doc (Supported prices)
+  supported_replays : (prices : List ℤ) → SupportsSet doc.firms doc.ends on (Supported prices) → FitsClaim (Supported prices) → IsReplayed top doc (Supported prices)
   supported_replays prices supports within =
       let said = Supported prices in
       let value = answer_data doc.names said in
       replayed On top doc from said (codes "prices") (SupportedClaim on prices) refl refl
-      (supported_back (listed_in doc) doc.firms (are_read On top doc from) (with_claim value top) on prices (supports.0.one_each ∙ sym from.is.trades_named) (prices_within prices within)
+      (supported_back (listed_in doc) doc.firms (are_read On top doc from) (with_claim value top) on prices (supports.0.one_each ∙ sym from.is.trades_named) within
       (there On top doc from said) (on_there value))
       supports.0.equilibrium
 
-  cycle_replays : (nodes : List (Option ℕ)) (cost : ℤ) → IsNegativeCycle doc.firms doc.ends on nodes cost → IsWithinClaims (Cycle nodes cost) → IsReplayed top doc (Cycle nodes cost)
+  cycle_replays : (nodes : List (Option ℕ)) (cost : ℤ) → IsNegativeCycle doc.firms doc.ends on nodes cost → FitsClaim (Cycle nodes cost) → IsReplayed top doc (Cycle nodes cost)
   cycle_replays nodes cost cycle within =
       let said = Cycle nodes cost in
       let value = answer_data doc.names said in
@@ -140,7 +132,7 @@ module _ (top : Data) (doc : DocumentData) (on : ℕ) (from : IsReadFrom On top 
       (subst (λ n. length nodes ≤ n) (sym same) (omega (arith, most, version))) within (there On top doc from said) (on_there value))
       (cycle.possible, goes_round doc.firms doc.ends from.is.network on nodes cost cycle, cycle.negative)
 
-supported : (top : Data) (doc : DocumentData) (on : ℕ) (said : Said) → IsReadFrom On top doc → doc.extra ≡ on_alone on → SupportsSet doc.firms doc.ends on said → IsWithinClaims said → IsReplayed top doc said
+supported : (top : Data) (doc : DocumentData) (on : ℕ) (said : Said) → IsReadFrom On top doc → doc.extra ≡ on_alone on → SupportsSet doc.firms doc.ends on said → FitsClaim said → IsReplayed top doc said
 supported top doc on (Impossible f) from extra supports within = unable_replays top doc on from extra f supports.0
 supported top doc on (Supported prices) from extra supports within = supported_replays top doc on from extra prices supports within
 supported top doc on (Cycle nodes cost) from extra supports within = cycle_replays top doc on from extra nodes cost supports.0 within
@@ -189,17 +181,17 @@ surplus-same firms trades network set = surplus_from-same trades set (set_of (ha
 
 module _ (top : Data) (doc : DocumentData) (from : IsReadFrom Market top doc) where
   set_replays : (set : ℕ) (prices : List ℤ) (surplus : ℤ) → length prices ≡ length doc.ends → IsEquilibrium doc.firms doc.ends (pos 1) set (price_at prices) → surplus_of doc.firms doc.ends set ≡ Some surplus
-      → All IsWithinPrices prices → IsAtMost surplus (10 ^ 18) → IsReplayed top doc (Solved (trades_on set (length doc.names.trades)) prices surplus)
+      → All (λ z. IsAtMost z (10 ^ 18)) prices → IsAtMost surplus (10 ^ 18) → IsReplayed top doc (Solved (trades_on set (length doc.names.trades)) prices surplus)
   set_replays set prices surplus one_each equilibrium is small_prices small =
       let said = Solved (trades_on set (length doc.names.trades)) prices surplus in
       let value = answer_data doc.names said in
       replayed Market top doc from said (codes "solved") (SolvedClaim (record { on = set_of (has set) (length doc.names.trades); prices = prices }) surplus) refl refl
-      (solved_back (listed_in doc) doc.firms (are_read Market top doc from) (with_claim value top) set prices surplus (one_each ∙ sym from.is.trades_named) (prices_within prices small_prices) small (there Market top doc from said)) (
+      (solved_back (listed_in doc) doc.firms (are_read Market top doc from) (with_claim value top) set prices surplus (one_each ∙ sym from.is.trades_named) small_prices small (there Market top doc from said)) (
         subst (λ n. IsEquilibrium doc.firms doc.ends (pos 1) (set_of (has set) n) (price_at prices)) (sym from.is.trades_named) (equilibrium-same doc.firms doc.ends from.is.network set (pos 1) (price_at prices) equilibrium),
         subst (λ n. surplus_of doc.firms doc.ends (set_of (has set) n) ≡ Some surplus) (sym from.is.trades_named) (sym (surplus-same doc.firms doc.ends from.is.network set) ∙ is),
       )
 
-solved : (top : Data) (doc : DocumentData) (said : Said) → IsReadFrom Market top doc → Solves doc.firms doc.ends said → IsWithinClaims said → IsReplayed top doc said
+solved : (top : Data) (doc : DocumentData) (said : Said) → IsReadFrom Market top doc → Solves doc.firms doc.ends said → FitsClaim said → IsReplayed top doc said
 solved top doc (Solved on prices surplus) from is within =
     subst (λ l. IsReplayed top doc (Solved l prices surplus)) (ap (trades_on is.set) from.is.trades_named ∙ sym is.on_is)
     (set_replays top doc from is.set prices surplus is.one_each is.equilibrium is.surplus_is within.0 within.1)

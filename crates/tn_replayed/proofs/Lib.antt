@@ -1,3 +1,4 @@
+pub mod FitLemmas
 pub mod Frame
 pub mod NameLemmas
 pub mod ListLemmas

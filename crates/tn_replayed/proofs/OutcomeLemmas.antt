@@ -30,7 +30,7 @@ use Rattle.tn_outcome.proofs.RationalLemmas.{IsSigner, bundle_signed, own_bundle
 use Rattle.tn_outcome.proofs.SignedLemmas.{has-signed_bundle}
 use Rattle.tn_residual.proofs.MakingLemmas.{outcome_feasible}
 use Rattle.tn_answer.specs.AnswerText.{answer_data}
-use Rattle.tn_answer.specs.Kept.{IsWithinClaims}
+use Rattle.tn_replayed.specs.Fits.{FitsClaim}
 use Rattle.tn_extra.specs.Signed.{outcome_of}
 use Rattle.tn_command.specs.Outcome.{JudgesOutcome}
 use Rattle.tn_file.specs.declared.need.Need.TheVariants.{Outcome}
@@ -176,13 +176,13 @@ module _ (top : Data) (doc : DocumentData) (signed : OutcomeIs) (from : IsReadFr
       subst (λ over. IsReplayed top doc (Blocks offers over)) (sym blocked.over_is) (blocks_replay offers (signed.over *ℤ scale) least most blocked.chain.blocks small)
 
 judged : (top : Data) (doc : DocumentData) (signed : OutcomeIs) (said : Said) → IsReadFrom Outcome top doc → doc.extra ≡ outcome signed
-    → JudgesOutcome doc.firms doc.ends signed.over signed.contracts said → IsWithinClaims said → IsReplayed top doc said
+    → JudgesOutcome doc.firms doc.ends signed.over signed.contracts said → FitsClaim said → IsReplayed top doc said
 judged top doc signed (Drops f keeps gain told) from extra judges within =
     subst (λ over. IsReplayed top doc (Drops f keeps gain over)) (sym judges.3)
-    (subst (λ l. IsReplayed top doc (Drops f l gain signed.over)) (sym judges.2) (drops_replay top doc signed from extra f judges.0 gain judges.1 within.0))
+    (subst (λ l. IsReplayed top doc (Drops f l gain signed.over)) (sym judges.2) (drops_replay top doc signed from extra f judges.0 gain judges.1 within))
 judged top doc signed (Completes prices told) from extra judges within =
-    subst (λ over. IsReplayed top doc (Completes prices over)) (sym judges.2) (completes_replay top doc signed from extra prices judges.1 within.0)
-judged top doc signed (Blocks offers told) from extra judges within = chain_replays top doc signed from extra offers told judges within.0
+    subst (λ over. IsReplayed top doc (Completes prices over)) (sym judges.2) (completes_replay top doc signed from extra prices judges.1 within)
+judged top doc signed (Blocks offers told) from extra judges within = chain_replays top doc signed from extra offers told judges within
 judged top doc signed said from extra judges within = absurd judges
 
 pub judgements_replay : JudgementsReplay

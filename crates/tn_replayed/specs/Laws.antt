@@ -2,7 +2,7 @@
 -- is a valid claim once it is put into the document, where its numbers are within the limits of claims.
 use Rattle.std.specs.Prelude.{◌≡◌, ℕ, pos, List, slice_get, Option, Some, Ok}
 use Rattle.serde_json.specs.Data.{Data}
-use Rattle.tn_answer.specs.Kept.{IsWithinClaims}
+use Rattle.tn_replayed.specs.Fits.{FitsClaim}
 use Rattle.tn_base.specs.Exchange.{MeetsExchange}
 use Rattle.tn_base.specs.Firm.{Firm}
 use Rattle.tn_cert.specs.Reasons.{IsFirstToFail}
@@ -22,7 +22,7 @@ use Rattle.tn_replayed.specs.Replayed.{IsReplayed}
 -- the verdict on the document's arrangement
 abbrev pub VerdictsReplay : Type 0
 VerdictsReplay = (top : Data) (doc : DocumentData) (at : Arranged) (said : Said) → document_of Arrangement top ≡ Ok doc → doc.extra ≡ arrangement at
-    → Judges doc.firms doc.ends (pos 1) at.on (price_at at.prices) said → IsWithinClaims said → IsReplayed top doc said
+    → Judges doc.firms doc.ends (pos 1) at.on (price_at at.prices) said → FitsClaim said → IsReplayed top doc said
 
 -- that every firm meets the exchange property, or the first failing triple of the first firm that doesn't
 pub record TestsReplay : Type 0 where
@@ -34,13 +34,13 @@ pub record TestsReplay : Type 0 where
 -- prices for the trades of the document's arrangement that are on, or why there are none
 abbrev pub SupportsReplay : Type 0
 SupportsReplay = (top : Data) (doc : DocumentData) (on : ℕ) (said : Said) → document_of On top ≡ Ok doc → doc.extra ≡ on_alone on → SupportsSet doc.firms doc.ends on said
-    → IsWithinClaims said → IsReplayed top doc said
+    → FitsClaim said → IsReplayed top doc said
 
 -- an equilibrium of the document's network
 abbrev pub SolutionsReplay : Type 0
-SolutionsReplay = (top : Data) (doc : DocumentData) (said : Said) → document_of Market top ≡ Ok doc → Solves doc.firms doc.ends said → IsWithinClaims said → IsReplayed top doc said
+SolutionsReplay = (top : Data) (doc : DocumentData) (said : Said) → document_of Market top ≡ Ok doc → Solves doc.firms doc.ends said → FitsClaim said → IsReplayed top doc said
 
 -- the verdict on the document's outcome
 abbrev pub JudgementsReplay : Type 0
 JudgementsReplay = (top : Data) (doc : DocumentData) (signed : OutcomeIs) (said : Said) → document_of Outcome top ≡ Ok doc → doc.extra ≡ outcome signed
-    → JudgesOutcome doc.firms doc.ends signed.over signed.contracts said → IsWithinClaims said → IsReplayed top doc said
+    → JudgesOutcome doc.firms doc.ends signed.over signed.contracts said → FitsClaim said → IsReplayed top doc said

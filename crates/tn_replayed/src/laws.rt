@@ -1,4 +1,10 @@
+ghost use Rattle.tn_replayed.specs.Fits.{AnswersFitClaims};
 ghost use Rattle.tn_replayed.specs.Laws.{JudgementsReplay, SolutionsReplay, SupportsReplay, TestsReplay, VerdictsReplay};
+
+/// All that the program answers has numbers that a claim may have.
+pub fn answers_fit_claims()
+    ensures { AnswersFitClaims }
+{}
 
 /// The answer of `check`, put into its document as the claim, is read as a claim on the same network and is valid: that
 /// the arrangement is an equilibrium, a better bundle, or an impossible one.
