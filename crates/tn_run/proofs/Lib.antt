@@ -7,3 +7,4 @@ pub mod NumberLemmas
 pub mod OwnLemmas
 pub mod ReplayLemmas
 pub mod CaseLemmas
+pub mod ReplayedLemmas

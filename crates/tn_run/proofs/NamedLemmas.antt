@@ -284,6 +284,7 @@ document_kept : (command : Command) (doc : DocumentData) → IsDocument (need_of
 document_kept command doc is said answer within = record {
   named = document_named command doc is said answer;
   short = document_short command doc said answer within;
+  within = within;
   ascending = document_ascends command doc is said answer;
   not_too_long = λ fault same. absurd (no_fault command doc fault (subst (IsAnswerOf command doc) same answer));
   firm_names = is.firm_names;
@@ -300,6 +301,7 @@ pub stop_kept : (fault : FaultIs) (names : NameLists) → IsStop (record { fault
 stop_kept fault names stop = record {
   named = (stop.fault.place, stop.fault.triple);
   short = stop.short;
+  within = tt;
   ascending = stop.ascending;
   not_too_long = λ other same. let one : fault ≡ other = cc in subst (λ (f : FaultIs). f.kind ≢ TooLong) one stop.read;
   firm_names = stop.firm_names;

@@ -10,7 +10,7 @@ use Rattle.tn_market.specs.Judged.{Judges}
 use Rattle.tn_io.specs.Counts.{Rose}
 use Rattle.tn_io.specs.Source.{TakesFirst, TakesAtMost}
 use Rattle.tn_answer.specs.Apart.{HasShortNumbers, IsNamedAnswer}
-use Rattle.tn_answer.specs.Kept.{HasAscendingTrades}
+use Rattle.tn_answer.specs.Kept.{HasAscendingTrades, IsWithinClaims}
 use Rattle.tn_names.specs.Names.{NameLists, IsNameList}
 use Rattle.tn_listed.specs.Beside.{Stop}
 use Rattle.tn_file.specs.Document.{DocumentData, ExtraData, arrangement, on_alone, outcome, edits, claim, reading_of}
@@ -73,11 +73,12 @@ abbrev pub IsAnswerTo : Command → Result DocumentData Stop → NameLists → S
 IsAnswerTo command (Ok doc) names said = IsAnswerOf command doc said × (names ≡ doc.names)
 IsAnswerTo command (Err stop) names said = (said ≡ Fault stop.fault) × (names ≡ stop.names)
 
--- the answer speaks only of firms and trades that have a name, its numbers are short, its lists of trades ascend
--- strictly, it isn't that the document is too long, and the names keep the rules
+-- the answer speaks only of firms and trades that have a name, its numbers are short and within the limits of claims, its
+-- lists of trades ascend strictly, it isn't that the document is too long, and the names keep the rules
 pub record KeepsRules (names : NameLists) (said : Said) : Type 0 where
   pub named : IsNamedAnswer names said
   pub short : HasShortNumbers said
+  pub within : IsWithinClaims said
   pub ascending : HasAscendingTrades said
   pub not_too_long : (fault : FaultIs) → said ≡ Fault fault → fault.kind ≢ TooLong
   pub firm_names : IsNameList names.firms

@@ -5,3 +5,4 @@ pub mod Answer
 pub mod Run
 pub mod Cases
 pub mod Complete
+pub mod Replayed

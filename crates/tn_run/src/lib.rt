@@ -11,6 +11,7 @@ mod exit;
 mod judged_tests;
 #[cfg(test)]
 mod kind_tests;
+mod laws;
 mod numbers;
 #[cfg(test)]
 mod ranged_tests;
@@ -26,4 +27,5 @@ mod top;
 
 pub use casing::run_cases;
 pub use exit::run_to_exit;
+pub use laws::answers_replay;
 pub use top::{Run, run_market, run_steadily};
