@@ -7,7 +7,7 @@ use Rattle.tn_market.specs.declared.said.Said.TheVariants.{Better, Blocks, Compl
 use Rattle.tn_answer.specs.Kept.{IsWithinPrices}
 use Rattle.tn_replayed.specs.Fits.{AnswersFitClaims}
 
-prices_within : (prices : List ℤ) → All IsWithinPrices prices → All (λ z. IsAtMost z (10 ^ 18)) prices
+pub prices_within : (prices : List ℤ) → All IsWithinPrices prices → All (λ z. IsAtMost z (10 ^ 18)) prices
 prices_within prices small = λ k d below. wider (get_or prices k d) (small k d below)
   where
     wider : (z : ℤ) → IsAtMost z (10 ^ 14) → IsAtMost z (10 ^ 18)

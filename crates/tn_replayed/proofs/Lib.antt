@@ -9,3 +9,4 @@ pub mod ExtraLemmas
 pub mod CheckedLemmas
 pub mod FoundLemmas
 pub mod OutcomeLemmas
+pub mod LineLemmas

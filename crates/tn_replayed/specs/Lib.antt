@@ -1,3 +1,4 @@
 pub mod Fits
 pub mod Replayed
 pub mod Laws
+pub mod Lines

@@ -1,9 +1,16 @@
 ghost use Rattle.tn_replayed.specs.Fits.{AnswersFitClaims};
+ghost use Rattle.tn_replayed.specs.Lines.{LinesAreRead};
 ghost use Rattle.tn_replayed.specs.Laws.{JudgementsReplay, SolutionsReplay, SupportsReplay, TestsReplay, VerdictsReplay};
 
 /// All that the program answers has numbers that a claim may have.
 pub fn answers_fit_claims()
     ensures { AnswersFitClaims }
+{}
+
+/// The line that is written for an answer that may be a claim is JSON, and is read as the value that these laws put into
+/// the document.
+pub fn lines_are_read()
+    ensures { LinesAreRead }
 {}
 
 /// The answer of `check`, put into its document as the claim, is read as a claim on the same network and is valid: that
