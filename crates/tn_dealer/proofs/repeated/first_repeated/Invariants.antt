@@ -1,0 +1,5 @@
+use Rattle.tn_dealer.specs.Pairs.{AreDifferentBelow}
+use Rattle.tn_dealer.proofs.repeated.first_repeated.Given as goal
+
+abbrev pub invariant-loop-k : goal.invariant-loop-k
+invariant-loop-k l = AreDifferentBelow l.pairs l.k

@@ -1,0 +1,13 @@
+//! Dealers: firms that buy several items and sell them on, one to one, in listed pairs at the least cost. What each
+//! bundle is worth to one stands in `specs/`.
+#![tactic(auto)]
+
+mod dealer;
+mod laws;
+mod pair;
+mod repeated;
+mod search;
+
+pub use dealer::Dealer;
+pub use laws::dealers_match;
+pub use pair::{Pair, SamePair};

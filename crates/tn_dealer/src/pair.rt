@@ -1,0 +1,20 @@
+use thiserror::Error;
+
+/// A purchase that may be sold on as a sale, both by position, and what that costs.
+#[derive(Clone, Copy, Debug, PartialEq, Eq)]
+pub struct Pair {
+    /// The position of the purchase.
+    pub buy: u32,
+    /// The position of the sale.
+    pub sell: u32,
+    /// What it costs to sell this purchase as this sale.
+    pub cost: i128,
+}
+
+/// A pair has the purchase and the sale of an earlier one.
+#[derive(Clone, Copy, Debug, Drop, PartialEq, Eq, Error)]
+#[error("pair {index} has the purchase and the sale of an earlier one")]
+pub struct SamePair {
+    /// The first such pair, counted from 0.
+    pub index: u32,
+}
