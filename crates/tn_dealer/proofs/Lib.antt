@@ -1,2 +1,3 @@
 pub mod MatchingLemmas
 pub mod RepeatLemmas
+pub mod CertificateLemmas

@@ -1,12 +1,12 @@
 -- Pairs of which no two have the same purchase and the same sale are few.
-use Rattle.std.proofs.Common.{◌≡◌, ◌≢◌, ℕ, zero, suc, ◌+◌, ◌*◌, ◌^◌, ◌<◌, ◌≤◌, Bool, true, false, not, refl, sym, ap, ◌∙◌, subst, arith, inl, inr, ◌⊎◌, List, length, get_or, Option, Some, None, ◌↔◌}
-use Rattle.std.specs.Prelude.{slice_get, All, ℤ, pos}
+use Rattle.std.proofs.Common.{◌≡◌, ◌≢◌, ℕ, zero, suc, ◌+◌, ◌*◌, ◌^◌, ◌<◌, ◌≤◌, true, false, sym, ◌∙◌, subst, arith, inl, inr, List, length, get_or}
+use Rattle.std.specs.Prelude.{All, pos}
 use Rattle.std.proofs.lemmas.Nat.{pow_pos}
 use Rattle.std.proofs.lemmas.Bool.{cases_eq, cases_Bool, false≢true}
-use Rattle.std.proofs.lemmas.Option.{slice_get_within, slice_get-get_or, slice_get_cases}
+use Rattle.std.proofs.lemmas.Option.{slice_get_within, slice_get-get_or}
 use Rattle.std.proofs.lemmas.List.Elements.{All-get_or}
 use Rattle.tn_base.specs.Sets.{has, toggle, size}
-use Rattle.tn_base.proofs.SetLemmas.{has-zero, has-toggle_same, has-toggle_other, toggle_within}
+use Rattle.tn_base.proofs.SetLemmas.{has-zero, has-toggle_other, toggle_within}
 use Rattle.tn_base.proofs.SizeLemmas.{size-toggle_in, size-zero, size_le}
 use Rattle.tn_dealer.specs.declared.pair.Pair.{Pair}
 use Rattle.tn_dealer.specs.Pairs.{IsNear, IsRepeated, AreDifferentBelow, AreDifferent}

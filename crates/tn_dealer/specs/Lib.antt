@@ -7,3 +7,4 @@ pub mod OnePair
 pub mod Sides
 pub mod Worths
 pub mod Laws
+pub mod Certificates

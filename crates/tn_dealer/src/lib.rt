@@ -2,11 +2,15 @@
 //! bundle is worth to one stands in `specs/`.
 #![tactic(auto)]
 
+mod asked;
 mod dealer;
 mod laws;
 mod pair;
 mod repeated;
 mod search;
+#[cfg(test)]
+mod tests;
+mod worth;
 
 pub use dealer::Dealer;
 pub use laws::dealers_match;

@@ -1,6 +1,8 @@
 //! The search for a least matching: purchases are matched one at a time, each along a path of least cost (the Hungarian
 //! method: Kuhn, 1955; Jonker and Volgenant, 1987). Nothing rests on it: what it finds is a certificate that is tested.
 
+ghost use Rattle.std.specs.Prelude.{◌<◌, IfSome};
+
 use crate::pair::Pair;
 use tn_base::Bundle;
 
@@ -9,6 +11,7 @@ pub(crate) const POSITIONS: usize = 32;
 
 /// The cost where no pair is listed, and the mate of a trade that has none.
 const FAR: i64 = i64::MAX;
+
 const NONE: usize = POSITIONS;
 
 /// What the search found. Where all trades are matched, `mates` has the purchase that goes with each sale, and two numbers
@@ -23,7 +26,7 @@ pub(crate) struct Found {
 
 /// The matching so far, with a number for each position (a potential).
 #[derive(Drop)]
-struct Search {
+struct Matching {
     costs: [i64; POSITIONS * POSITIONS],
     numbers: [i64; POSITIONS],
     mates: [usize; POSITIONS],
@@ -43,19 +46,36 @@ struct Reach {
 pub(crate) fn search(pairs: &[Pair], x: Bundle, buys: Bundle) -> Found {
     let purchases = x.meet(buys);
     let sales = x.minus(buys);
-    let mut search = Search {
+    if purchases.count() != sales.count() {
+        return uneven(purchases, sales);
+    }
+    let mut matching = Matching {
         costs: costs_of(pairs),
         numbers: [0; POSITIONS],
         mates: [NONE; POSITIONS],
         sold_as: [NONE; POSITIONS],
     };
+    for b in 0..POSITIONS {
+        if purchases.has(b as u32) {
+            if let Some(reach) = matching.extend(b, sales) {
+                return unmatched(reach.purchases, reach.sales);
+            }
+        }
+    }
+    Found {
+        matched: true,
+        numbers: matching.numbers,
+        mates: matching.mates,
+    }
+}
+
+/// More trades of one side than of the other.
+fn uneven(purchases: Bundle, sales: Bundle) -> Found {
     if purchases.count() < sales.count() {
-        return unmatched(Bundle::empty(), sales);
+        unmatched(sales, purchases)
+    } else {
+        unmatched(purchases, sales)
     }
-    if sales.count() < purchases.count() {
-        return unmatched(purchases, Bundle::empty());
-    }
-    unmatched(purchases, sales)
 }
 
 /// The costs by purchase, then by sale.
@@ -68,7 +88,7 @@ fn costs_of(pairs: &[Pair]) -> [i64; POSITIONS * POSITIONS] {
     costs
 }
 
-/// More trades of one side than they can be matched with.
+/// More trades of one side than those of the other that they can be matched with.
 fn unmatched(more: Bundle, fewer: Bundle) -> Found {
     let mut numbers = [0; POSITIONS];
     for k in 0..POSITIONS {
@@ -100,7 +120,9 @@ impl Reach {
     }
 
     /// The sale that is nearest to what is reached, and how far it is.
-    fn nearest(&self) -> Option<(usize, i64)> {
+    fn nearest(&self) -> Option<(usize, i64)>
+        ensures { IfSome result (λ found. found.0 < 32) }
+    {
         let mut nearest = None;
         let mut least = FAR;
         for s in 0..POSITIONS {
@@ -113,7 +135,30 @@ impl Reach {
     }
 }
 
-impl Search {
+impl Matching {
+    /// Matches one purchase more, with one sale more. Where that can't be, it hands back what is reached.
+    fn extend(&mut self, first: usize, sales: Bundle) -> Option<Reach>
+        requires { first < 32 }
+    {
+        let mut reach = Reach::new(first);
+        let mut b = first;
+        for _ in 0..=POSITIONS {
+            self.look(&mut reach, b, sales);
+            let Some((s, by)) = reach.nearest() else {
+                return Some(reach);
+            };
+            self.shift(&mut reach, by);
+            reach.sales = reach.sales.toggle(s as u32);
+            b = self.mates[s];
+            if b >= POSITIONS {
+                self.rematch(&reach, s);
+                return None;
+            }
+            reach.purchases = reach.purchases.toggle(b as u32);
+        }
+        Some(reach)
+    }
+
     /// Looks from a purchase at the sales.
     fn look(&self, reach: &mut Reach, b: usize, sales: Bundle) {
         let b = b % POSITIONS;

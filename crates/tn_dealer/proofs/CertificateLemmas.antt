@@ -1,0 +1,279 @@
+-- What a certificate shows, and what the definition says pair by pair.
+use Rattle.std.proofs.Common.{◌≡◌, ◌≢◌, ℕ, zero, suc, ◌+◌, ◌-◌, ◌*◌, ◌^◌, ◌<◌, ◌≤◌, ◌&&◌, Bool, true, false, not, refl, sym, ap, ◌∙◌, subst, arith, add-one, inl, inr, if◌then◌else◌, List, [], ◌∷◌, length, get_or, drop, drop-cons, Option, Some, None, ℤ, pos, neg_ℤ, ◌+ℤ◌, ◌-ℤ◌}
+use Rattle.std.specs.Prelude.{◌≤ℤ◌, ◌<ℤ◌, slice_get, option_map, IfSome}
+use Rattle.std.proofs.lemmas.Int.{ints}
+use Rattle.std.proofs.lemmas.Bool.{cases_eq, false≢true}
+use Rattle.std.proofs.lemmas.Option.{same_Some, slice_get_within, get_or_from_slice_get}
+use mir.Syntax.{w128}
+use mir.Val.{SFits, of_z, to_z}
+use Rattle.tn_base.specs.Arcs.{IsAtMost}
+use Rattle.tn_base.specs.Sets.{has, toggle, sum_over}
+use Rattle.tn_base.proofs.SetLemmas.{has-toggle_same, has-toggle_other, toggle-toggle, toggle_comm}
+use Rattle.tn_base.proofs.SizeLemmas.{size_le}
+use Rattle.tn_base.proofs.SumLemmas.{sum_over-empty, sum_over-toggle_out}
+use Rattle.tn_market.specs.Reduced.{greater}
+use Rattle.tn_dealer.specs.declared.pair.Pair.{Pair}
+use Rattle.tn_dealer.specs.Pairs.{matched_worth, IsOwnPair}
+use Rattle.tn_dealer.specs.Certificates.{bound_of, KeepsPair, KeepsPairs, TakesIn, MayTakeIn}
+use Rattle.tn_dealer.specs.OnePair.{IsWorth}
+use Rattle.tn_dealer.specs.Worths.{AreOwnPairs, own_rest, matched_left, matched_right, matched_from, matched_none, matched_empty, matched_small}
+
+-- ---- sums
+
+pub sum_over-next : (c : ℕ → ℤ) (k x : ℕ) → sum_over c (k + 1) x ≡ sum_over c k x +ℤ (if has x k then c k else pos 0)
+unfolding sum_over
+sum_over-next c k x = rw add-one refl
+
+pub sum_over-none : (c : ℕ → ℤ) (x : ℕ) → pos 0 ≡ sum_over c 0 x
+unfolding sum_over
+sum_over-none c x = refl
+
+pub keeps_all : (priced : Bool) (number : ℕ → ℤ) (x n : ℕ) (pairs : List Pair) → length pairs ≤ n
+    → ((j : ℕ) (pair : Pair) → j < n → slice_get pairs j ≡ Some pair → KeepsPair priced number x pair) → KeepsPairs priced number x pairs
+keeps_all priced number x n pairs end keeps j pair is = let inside = slice_get_within pairs j pair is in keeps j pair (omega (arith, inside, end)) is
+
+-- ---- weak duality
+
+-- what the numbers of a bundle may sum to: minus its worth, or 0
+abbrev pub most_of : Bool → ℤ → ℤ
+most_of priced a = if priced then neg_ℤ a else pos 0
+
+most_more : (priced : Bool) (pair : Pair) (s s' b t a v : ℤ) → s' ≡ (s -ℤ b) -ℤ t → s' ≤ℤ most_of priced a → (b +ℤ t) ≤ℤ bound_of priced pair → a -ℤ pair.cost ≡ v
+    → s ≤ℤ most_of priced v
+most_more true pair s s' b t a v sum rest here less = omega (arith, ints, sum, rest, here, less)
+most_more false pair s s' b t a v sum rest here less = omega (arith, ints, sum, rest, here, less)
+
+most_none : (priced : Bool) (s a : ℤ) → s ≡ pos 0 → a ≡ pos 0 → s ≤ℤ most_of priced a
+most_none true s a p q = omega (arith, ints, p, q)
+most_none false s a p q = omega (arith, ints, p, q)
+
+keeps_rest : (priced : Bool) (number : ℕ → ℤ) (x : ℕ) (pair : Pair) (pairs : List Pair) → KeepsPairs priced number x (pair ∷ pairs) → KeepsPairs priced number x pairs
+keeps_rest priced number x pair pairs keeps k next is = keeps (suc k) next is
+
+-- a bundle without a pair has no other trades
+left_there : (pair : Pair) (x t : ℕ) → has x pair.buy ≡ true → has x pair.sell ≡ true → has (toggle (toggle x pair.buy) pair.sell) t ≡ true → has x t ≡ true
+left_there pair x t p q there = by (has x t) refl
+  where
+    open_at : has x t ≡ false → has (toggle (toggle x pair.buy) pair.sell) t ≡ false
+    open_at none =
+        let not_buy : t ≢ pair.buy = λ e. false≢true (sym none ∙ ap (has x) e ∙ p) in
+        let not_sell : t ≢ pair.sell = λ e. false≢true (sym none ∙ ap (has x) e ∙ q) in
+        has-toggle_other (toggle x pair.buy) pair.sell t not_sell ∙ has-toggle_other x pair.buy t not_buy ∙ none
+
+    by : (b : Bool) → has x t ≡ b → has x t ≡ true
+    by true e = e
+    by false e = absurd (false≢true (sym (open_at e) ∙ there))
+
+keeps_left : (priced : Bool) (number : ℕ → ℤ) (pair : Pair) (x : ℕ) (pairs : List Pair) → has x pair.buy ≡ true → has x pair.sell ≡ true
+    → KeepsPairs priced number x pairs → KeepsPairs priced number (toggle (toggle x pair.buy) pair.sell) pairs
+keeps_left priced number pair x pairs p q keeps k next is buy sell =
+    keeps k next is (left_there pair x next.buy p q buy) (left_there pair x next.sell p q sell)
+
+-- the numbers of a possible bundle sum to at most minus its worth where no pair's exceed its cost, and to at most 0 where
+-- no pair's exceed 0
+pub weak_duality : (count buys : ℕ) (priced : Bool) (number : ℕ → ℤ) (pairs : List Pair) → count ≤ 32 → AreOwnPairs count buys pairs → (x : ℕ) (a : ℤ)
+    → matched_worth pairs x ≡ Some a → KeepsPairs priced number x pairs → sum_over number 32 x ≤ℤ most_of priced a
+weak_duality count buys priced number [] few own x a is keeps =
+    let empty = matched_none x a is in
+    most_none priced (sum_over number 32 x) a (ap (sum_over number 32) empty.0 ∙ sum_over-empty number 32) empty.1
+weak_duality count buys priced number (pair ∷ pairs) few own x a is keeps = elim (matched_from pair pairs x a is) [
+  | inl p ↦ weak_duality count buys priced number pairs few (own_rest count buys pair pairs own) x a p (keeps_rest priced number x pair pairs keeps)
+  | inr q ↦
+      let here = own 0 pair refl in
+      let buy_near = here.purchase in
+      let sell_near = here.sale in
+      let apart : pair.sell ≢ pair.buy = λ e. false≢true (sym here.sold ∙ ap (has buys) e ∙ here.bought) in
+      let one = sum_over-toggle_out number 32 x pair.buy (omega (arith, few, buy_near)) q.has_buy in
+      let two = sum_over-toggle_out number 32 (toggle x pair.buy) pair.sell (omega (arith, few, sell_near)) (has-toggle_other x pair.buy pair.sell apart ∙ q.has_sell) in
+      most_more priced pair (sum_over number 32 x) (sum_over number 32 (toggle (toggle x pair.buy) pair.sell)) (number pair.buy) (number pair.sell) q.value a
+      (omega (arith, ints, one, two))
+      (weak_duality count buys priced number pairs few (own_rest count buys pair pairs own) (toggle (toggle x pair.buy) pair.sell) q.value q.is
+      (keeps_left priced number pair x pairs q.has_buy q.has_sell (keeps_rest priced number x pair pairs keeps)))
+      (keeps 0 pair refl q.has_buy q.has_sell)
+      q.less
+]
+
+-- ---- what a certificate shows
+
+-- a bundle that pairs at this cost match has this cost for its worth, where its numbers sum to it
+pub shows_least : (count buys : ℕ) (number : ℕ → ℤ) (pairs : List Pair) → count ≤ 32 → AreOwnPairs count buys pairs → (x : ℕ) (cost : ℤ)
+    → IsWorth (matched_worth pairs) x (neg_ℤ cost) → sum_over number 32 x ≡ cost → KeepsPairs true number x pairs → Some (neg_ℤ cost) ≡ matched_worth pairs x
+shows_least count buys number pairs few own x cost worth sum keeps =
+    let most = weak_duality count buys true number pairs few own x worth.value worth.is keeps in
+    let least = worth.enough in
+    let same : worth.value ≡ neg_ℤ cost = omega (arith, ints, most, least, sum) in
+    sym (worth.is ∙ ap Some same)
+
+-- a bundle whose numbers sum to more than 0 is impossible
+pub shows_none : (count buys : ℕ) (number : ℕ → ℤ) (pairs : List Pair) → count ≤ 32 → AreOwnPairs count buys pairs → (x : ℕ)
+    → pos 0 <ℤ sum_over number 32 x → KeepsPairs false number x pairs → None ≡ matched_worth pairs x
+shows_none count buys number pairs few own x more keeps = by (matched_worth pairs x) refl
+  where
+    by : (o : Option ℤ) → matched_worth pairs x ≡ o → None ≡ matched_worth pairs x
+    by None e = sym e
+    by (Some a) e = absurd (let most = weak_duality count buys false number pairs few own x a e keeps in omega (arith, ints, most, more))
+
+-- ---- pairs that are taken in, from the last one to the first
+
+pub no_pairs_taken : (pairs : List Pair) → IsWorth (matched_worth pairs) 0 (neg_ℤ (pos 0))
+no_pairs_taken pairs = record { value = pos 0; is = matched_empty pairs; enough = omega (arith, ints) }
+
+taken_left : (pair : Pair) (pairs : List Pair) (x : ℕ) (a : ℤ) → IsWorth (matched_worth pairs) x a → IsWorth (matched_worth (pair ∷ pairs)) x a
+taken_left pair pairs x a worth =
+    let found = matched_left pair pairs x worth.value worth.is in
+    let p = worth.enough in
+    let q = found.enough in
+    record { value = found.value; is = found.is; enough = omega (arith, ints, p, q) }
+
+taken_in : (count buys : ℕ) (pair : Pair) (pairs : List Pair) (x : ℕ) (cost : ℤ) (next : ℕ) (next_cost : ℤ) → IsOwnPair count buys pair
+    → TakesIn pair x cost next next_cost → IsWorth (matched_worth pairs) x (neg_ℤ cost) → IsWorth (matched_worth (pair ∷ pairs)) next (neg_ℤ next_cost)
+taken_in count buys pair pairs x cost next next_cost own takes worth =
+    let apart : pair.sell ≢ pair.buy = λ e. false≢true (sym own.sold ∙ ap (has buys) e ∙ own.bought) in
+    let buy : has (toggle (toggle x pair.buy) pair.sell) pair.buy ≡ true =
+    has-toggle_other (toggle x pair.buy) pair.sell pair.buy (λ e. apart (sym e)) ∙ has-toggle_same x pair.buy ∙ ap not takes.no_buy in
+    let sell : has (toggle (toggle x pair.buy) pair.sell) pair.sell ≡ true =
+    has-toggle_same (toggle x pair.buy) pair.sell ∙ ap not (has-toggle_other x pair.buy pair.sell apart ∙ takes.no_sell) in
+    let back : toggle (toggle (toggle (toggle x pair.buy) pair.sell) pair.buy) pair.sell ≡ x =
+    ap (λ (z : ℕ). toggle z pair.sell) (toggle_comm (toggle x pair.buy) pair.sell pair.buy ∙ ap (λ (z : ℕ). toggle z pair.sell) (toggle-toggle x pair.buy)) ∙ toggle-toggle x pair.sell in
+    let found = matched_right pair pairs (toggle (toggle x pair.buy) pair.sell) worth.value buy sell (ap (matched_worth pairs) back ∙ worth.is) in
+    let p = worth.enough in
+    let q = found.enough in
+    let r = takes.cost_is in
+    record { value = found.value; is = ap (matched_worth (pair ∷ pairs)) takes.bundle_is ∙ found.is; enough = omega (arith, ints, p, q, r) }
+
+-- the pairs from place k on, by the pair there and those after it
+pub drop_at : (pairs : List Pair) (k : ℕ) (pair : Pair) → k < length pairs → slice_get pairs k ≡ Some pair → drop k pairs ≡ pair ∷ drop (k + 1) pairs
+drop_at pairs k pair inside is =
+    let there : get_or pairs k pair ≡ pair = get_or_from_slice_get pairs k pair pair is in
+    drop-cons pairs k pair inside ∙ ap (λ p. p ∷ drop (suc k) pairs) there ∙ ap (λ (j : ℕ). pair ∷ drop j pairs) (sym (add-one k))
+
+-- one more pair taken in, or left out
+pub taken_next : (count buys : ℕ) (pairs : List Pair) (k : ℕ) (pair : Pair) → AreOwnPairs count buys pairs → k < length pairs → slice_get pairs k ≡ Some pair
+    → (x : ℕ) (cost : ℤ) (next : ℕ) (next_cost : ℤ) → MayTakeIn pair x cost next next_cost
+    → IsWorth (matched_worth (drop (k + 1) pairs)) x (neg_ℤ cost) → IsWorth (matched_worth (drop k pairs)) next (neg_ℤ next_cost)
+taken_next count buys pairs k pair own inside is x cost next next_cost either worth =
+    subst (λ ps. IsWorth (matched_worth ps) next (neg_ℤ next_cost)) (sym (drop_at pairs k pair inside is)) (by either)
+  where
+    by : MayTakeIn pair x cost next next_cost → IsWorth (matched_worth (pair ∷ drop (k + 1) pairs)) next (neg_ℤ next_cost)
+    by (inl same) =
+        subst (λ (z : ℕ). IsWorth (matched_worth (pair ∷ drop (k + 1) pairs)) z (neg_ℤ next_cost)) (sym same.0)
+        (subst (λ (z : ℤ). IsWorth (matched_worth (pair ∷ drop (k + 1) pairs)) x (neg_ℤ z)) (sym same.1) (taken_left pair (drop (k + 1) pairs) x (neg_ℤ cost) worth))
+    by (inr takes) = taken_in count buys pair (drop (k + 1) pairs) x cost next next_cost (own k pair is) takes worth
+
+-- ---- the definition, pair by pair
+
+pub next_without : (pairs : List Pair) (k : ℕ) (pair : Pair) (x : ℕ) → k < length pairs → slice_get pairs k ≡ Some pair → (has x pair.buy && has x pair.sell) ≡ false
+    → matched_worth (drop (k + 1) pairs) x ≡ matched_worth (drop k pairs) x
+unfolding matched_worth
+next_without pairs k pair x inside is none =
+    by (matched_worth (drop (k + 1) pairs) x)
+    ∙ ap (λ (b : Bool). greater (matched_worth (drop (k + 1) pairs) x)
+    (if b then option_map (λ a. a -ℤ pair.cost) (matched_worth (drop (k + 1) pairs) (toggle (toggle x pair.buy) pair.sell)) else None)) (sym none)
+    ∙ ap (λ ps. matched_worth ps x) (sym (drop_at pairs k pair inside is))
+  where
+    by : (o : Option ℤ) → o ≡ greater o None
+    by None = refl
+    by (Some a) = refl
+
+pub next_with : (pairs : List Pair) (k : ℕ) (pair : Pair) (x : ℕ) → k < length pairs → slice_get pairs k ≡ Some pair → (has x pair.buy && has x pair.sell) ≡ true
+    → greater (matched_worth (drop (k + 1) pairs) x) (option_map (λ a. a -ℤ pair.cost) (matched_worth (drop (k + 1) pairs) (toggle (toggle x pair.buy) pair.sell)))
+    ≡ matched_worth (drop k pairs) x
+unfolding matched_worth
+next_with pairs k pair x inside is both =
+    ap (λ (b : Bool). greater (matched_worth (drop (k + 1) pairs) x)
+    (if b then option_map (λ a. a -ℤ pair.cost) (matched_worth (drop (k + 1) pairs) (toggle (toggle x pair.buy) pair.sell)) else None)) (sym both)
+    ∙ ap (λ ps. matched_worth ps x) (sym (drop_at pairs k pair inside is))
+
+own_drop : (count buys k : ℕ) (pairs : List Pair) → AreOwnPairs count buys pairs → AreOwnPairs count buys (drop k pairs)
+own_drop count buys zero pairs own = own
+own_drop count buys (suc k) [] own = own
+own_drop count buys (suc k) (pair ∷ pairs) own = own_drop count buys k pairs (own_rest count buys pair pairs own)
+
+-- every worth on the way is small
+small_on_the_way : (count buys k : ℕ) (pairs : List Pair) → AreOwnPairs count buys pairs → (x : ℕ) (a : ℤ) → x < 2 ^ 64 → matched_worth (drop k pairs) x ≡ Some a → IsAtMost a (10 ^ 11)
+small_on_the_way count buys k pairs own x a within is =
+    let small = matched_small count buys (drop k pairs) (own_drop count buys k pairs own) x a is in
+    let most = size_le 64 x within in
+    let low = small.low in
+    let high = small.high in
+    record { low = omega (arith, ints, most, low); high = omega (arith, ints, most, high) }
+
+-- ---- steps of the code
+
+pub keeps_more : (priced : Bool) (number : ℕ → ℤ) (x k : ℕ) (pairs : List Pair) (pair : Pair) → slice_get pairs k ≡ Some pair → KeepsPair priced number x pair
+    → ((j : ℕ) (next : Pair) → j < k → slice_get pairs j ≡ Some next → KeepsPair priced number x next)
+    → (j : ℕ) (next : Pair) → j < k + 1 → slice_get pairs j ≡ Some next → KeepsPair priced number x next
+keeps_more priced number x k pairs pair is here before j next below next_is = elim (cases_eq j k) [
+  | inl e ↦
+      let same : pair ≡ next = same_Some pair next (sym is ∙ ap (slice_get pairs) (sym e) ∙ next_is) in
+      subst (KeepsPair priced number x) same here
+  | inr other ↦ before j next (omega (arith, below, other)) next_is
+]
+
+pub taken_step : (count buys : ℕ) (pairs : List Pair) (done i : ℕ) (pair : Pair) → AreOwnPairs count buys pairs → done < length pairs → i ≡ length pairs - 1 - done
+    → slice_get pairs i ≡ Some pair → (x : ℕ) (cost : ℤ) (next : ℕ) (next_cost : ℤ) → MayTakeIn pair x cost next next_cost
+    → IsWorth (matched_worth (drop (length pairs - done) pairs)) x (neg_ℤ cost) → IsWorth (matched_worth (drop (length pairs - (done + 1)) pairs)) next (neg_ℤ next_cost)
+taken_step count buys pairs done i pair own below e is x cost next next_cost may worth =
+    let before : length pairs - done ≡ i + 1 = omega (arith, below, e) in
+    let after : i ≡ length pairs - (done + 1) = omega (arith, below, e) in
+    let inside : i < length pairs = omega (arith, below, e) in
+    subst (λ (k : ℕ). IsWorth (matched_worth (drop k pairs)) next (neg_ℤ next_cost)) after
+    (taken_next count buys pairs i pair own inside is x cost next next_cost may
+    (subst (λ (k : ℕ). IsWorth (matched_worth (drop k pairs)) x (neg_ℤ cost)) before worth))
+
+pub taken_small : (pair : Pair) (x : ℕ) (cost : ℤ) (next : ℕ) (next_cost : ℤ) (done : ℕ) → IsAtMost pair.cost (10 ^ 9) → IsAtMost cost (done * 10 ^ 9)
+    → MayTakeIn pair x cost next next_cost → IsAtMost next_cost ((done + 1) * 10 ^ 9)
+taken_small pair x cost next next_cost done small before (inl same) =
+    let p = before.low in
+    let q = before.high in
+    let e = same.1 in
+    record { low = omega (arith, ints, p, e); high = omega (arith, ints, q, e) }
+taken_small pair x cost next next_cost done small before (inr takes) =
+    let p = before.low in
+    let q = before.high in
+    let r = small.low in
+    let s = small.high in
+    let e = takes.cost_is in
+    record { low = omega (arith, ints, p, r, e); high = omega (arith, ints, q, s, e) }
+
+drop_all : (pairs : List Pair) → drop (length pairs) pairs ≡ []
+drop_all [] = refl
+drop_all (pair ∷ pairs) = drop_all pairs
+
+-- past the last pair only the empty bundle is possible
+pub last_none : (pairs : List Pair) (k x : ℕ) → k ≡ length pairs → (x ≡ 0 → ⊥) → None ≡ matched_worth (drop k pairs) x
+last_none pairs k x e some = by (matched_worth [] x) refl ∙ ap (λ ps. matched_worth ps x) (sym (ap (λ (j : ℕ). drop j pairs) e ∙ drop_all pairs))
+  where
+    by : (o : Option ℤ) → matched_worth [] x ≡ o → None ≡ matched_worth [] x
+    by None p = sym p
+    by (Some a) p = absurd (some (matched_none x a p).0)
+
+pub last_empty : (pairs : List Pair) (k x : ℕ) → x ≡ 0 → Some (pos 0) ≡ matched_worth (drop k pairs) x
+last_empty pairs k x none = sym (ap (matched_worth (drop k pairs)) none ∙ matched_empty (drop k pairs))
+
+pub with_is : (cost : ℤ) (g w l r : Option ℤ) (w' r' goal : Option ℤ) → g ≡ greater w l → l ≡ option_map (λ a. a -ℤ cost) r → w ≡ w' → r ≡ r'
+    → greater w' (option_map (λ a. a -ℤ cost) r') ≡ goal → g ≡ goal
+with_is cost g w l r w' r' goal g_is l_is w_is r_is is =
+    g_is ∙ ap (greater w) (l_is ∙ ap (option_map (λ a. a -ℤ cost)) r_is) ∙ ap (λ o. greater o (option_map (λ a. a -ℤ cost) r')) w_is ∙ is
+
+pub both_there : (a b : Bool) → a ≡ true → b ≡ true → (a && b) ≡ true
+both_there a b p q = ap (λ (t : Bool). t && b) p ∙ q
+
+pub first_out : (a b : Bool) → a ≡ false → (a && b) ≡ false
+first_out a b p = ap (λ (t : Bool). t && b) p
+
+pub second_out : (a b : Bool) → b ≡ false → (a && b) ≡ false
+second_out true b q = q
+second_out false b q = refl
+
+-- the cost of a matching fits, and so does minus it
+pub cost_fits : (cost : ℤ) (n : ℕ) → IsAtMost cost (n * 10 ^ 9) → n < 2 ^ 64 → SFits w128 cost
+cost_fits cost n small few = let p = small.low in let q = small.high in omega (arith, ints, p, q, few)
+
+pub minus_is : (cost : ℤ) (n : ℕ) → IsAtMost cost (n * 10 ^ 9) → n < 2 ^ 64 → to_z w128 (of_z w128 (pos 0 -ℤ to_z w128 (of_z w128 cost))) ≡ neg_ℤ cost
+minus_is cost n small few = let p = small.low in let q = small.high in omega (arith, ints, p, q, few)
+
+pub small_after : (count buys k : ℕ) (pairs : List Pair) → AreOwnPairs count buys pairs → (x : ℕ) (o : Option ℤ) → x < 2 ^ 64 → o ≡ matched_worth (drop k pairs) x
+    → IfSome o (λ a. IsAtMost a (10 ^ 11))
+small_after count buys k pairs own x None within is = tt
+small_after count buys k pairs own x (Some a) within is = small_on_the_way count buys k pairs own x a within (sym is)

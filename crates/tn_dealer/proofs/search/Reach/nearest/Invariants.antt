@@ -1,0 +1,6 @@
+use Rattle.std.proofs.Common.{◌<◌}
+use Rattle.std.specs.Prelude.{IfSome}
+use Rattle.tn_dealer.proofs.search.Reach.nearest.Given as goal
+
+abbrev pub invariant-loop-s : goal.invariant-loop-s
+invariant-loop-s l = IfSome l.nearest (λ found. found.0 < 32)

@@ -1,0 +1,68 @@
+ghost use Rattle.std.specs.Prelude.{◌^◌};
+ghost use Rattle.tn_dealer.specs.Firms.{firm_of};
+ghost use Rattle.tn_dealer.specs.Laws.{dealer_laws};
+
+use crate::dealer::Dealer;
+use tn_base::{Asked, Bundle, Side, Steps};
+use tn_market::{Oracle, Room, Valuation, best_by_ascent};
+
+/// The size that no worth of a firm is above.
+const BOUND: i128 = 100_000_000_000;
+
+impl Valuation for Dealer {
+    type Mark = Asked;
+
+    ghost firm = { firm_of };
+
+    ghost limit = { λ _. 10 ^ 11 };
+
+    fn trades(&self) -> u32 {
+        self.trades
+    }
+
+    fn side(&self, k: u32) -> Side {
+        if self.buys.has(k) {
+            Side::Buy
+        } else {
+            Side::Sell
+        }
+    }
+
+    fn bound(&self) -> i128 {
+        BOUND
+    }
+
+    fn value(&self, x: Bundle, steps: &mut Steps<Asked>) -> Option<i128> {
+        steps.tick();
+        self.worth(x)
+    }
+
+    ghost few_trades = { λ firm. (dealer_laws firm).few_trades };
+
+    ghost own_purchases = { λ firm. (dealer_laws firm).own_purchases };
+
+    ghost own_bundles = { λ firm. (dealer_laws firm).own_bundles };
+
+    ghost empty_is_possible = { λ firm. (dealer_laws firm).empty_is_possible };
+
+    ghost exchange_one = { λ firm. (dealer_laws firm).exchange_one };
+
+    ghost exchange_net = { λ firm. (dealer_laws firm).exchange_net };
+
+    ghost within = { λ firm. (dealer_laws firm).within };
+
+    ghost small_limit = { λ firm. (dealer_laws firm).small_limit };
+}
+
+impl Oracle for Dealer {
+    fn best(
+        &self,
+        need: Bundle,
+        free: Bundle,
+        scale: i128,
+        prices: &[i128],
+        _room: &mut Room,
+    ) -> Option<(Bundle, i128)> {
+        best_by_ascent(self, need, free, scale, prices, &mut Steps::new(Asked))
+    }
+}

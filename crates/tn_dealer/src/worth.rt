@@ -1,0 +1,176 @@
+//! What a bundle is worth. The search hands over a certificate, which is tested; where it shows nothing, the definition is
+//! followed pair by pair (certifying algorithms: McConnell, Mehlhorn, Näher and Schweitzer, 2011).
+
+ghost use Rattle.std.specs.Prelude.{◌≡◌, ◌+◌, ◌*◌, ◌^◌, ◌<◌, ◌≤◌, ◌<ℤ◌, ◌+ℤ◌, ◌-ℤ◌, ◌↔◌, IsTrue, true, false, pos, neg_ℤ, if◌then◌else◌, length, drop, option_map, IfSome};
+ghost use Rattle.tn_base.specs.Arcs.{IsAtMost};
+ghost use Rattle.tn_base.specs.Sets.{has, sum_over};
+ghost use Rattle.tn_market.specs.Reduced.{greater};
+ghost use Rattle.tn_dealer.specs.Pairs.{matched_worth, IsNear};
+ghost use Rattle.tn_dealer.specs.Certificates.{number_at, KeepsPair, KeepsPairs, MayTakeIn, bound_of};
+ghost use Rattle.tn_dealer.specs.OnePair.{IsWorth};
+
+use crate::dealer::Dealer;
+use crate::pair::Pair;
+use crate::search::{Found, POSITIONS, search};
+use tn_base::Bundle;
+
+impl Dealer {
+    /// What a bundle of own trades is worth, None where it is impossible.
+    pub(crate) fn worth(&self, x: Bundle) -> Option<i128>
+        ensures { result ≡ matched_worth self.now.pairs.items x }
+    {
+        match self.shown(x, &search(&self.pairs, x, self.buys)) {
+            Some(worth) => worth,
+            None => self.worth_from(0, x),
+        }
+    }
+
+    /// The worth that what was found shows, None where it shows nothing.
+    fn shown(&self, x: Bundle, found: &Found) -> Option<Option<i128>>
+        ensures { IfSome result (λ worth. worth ≡ matched_worth self.now.pairs.items x) }
+    {
+        let sum = sum(x, &found.numbers);
+        if !found.matched {
+            return if 0 < sum && self.keeps(x, &found.numbers, false) {
+                Some(None)
+            } else {
+                None
+            };
+        }
+        let (bundle, cost) = self.taken(&found.mates);
+        if bundle == x && cost == sum && self.keeps(x, &found.numbers, true) {
+            Some(Some(-cost))
+        } else {
+            None
+        }
+    }
+
+    /// Whether the numbers of no pair within the bundle sum to more than its cost, or than 0 where costs don't count.
+    fn keeps(&self, x: Bundle, numbers: &[i64; POSITIONS], priced: bool) -> bool
+        ensures { result ≡ true → KeepsPairs priced (number_at numbers.now) x self.now.pairs.items }
+    {
+        for k in 0..self.pairs.len() {
+            if breaks(&self.pairs[k], x, numbers, priced) {
+                return false;
+            }
+        }
+        true
+    }
+
+    /// The bundle that the mates match by listed pairs, and what these cost together.
+    fn taken(&self, mates: &[usize; POSITIONS]) -> (Bundle, i128)
+        ensures worth { IsWorth (matched_worth self.now.pairs.items) result.0 (neg_ℤ result.1) }
+        ensures small { IsAtMost result.1 (length self.now.pairs.items * 10 ^ 9) }
+    {
+        let mut bundle = Bundle::empty();
+        let mut cost = 0;
+        for done in 0..self.pairs.len() {
+            let pair = &self.pairs[self.pairs.len() - 1 - done];
+            (bundle, cost) = take_in(pair, mates, bundle, cost);
+        }
+        (bundle, cost)
+    }
+
+    /// What the bundle is worth by the pairs from a place on.
+    fn worth_from(&self, from: usize, x: Bundle) -> Option<i128>
+        requires { from ≤ length self.now.pairs.items }
+        ensures worth { result ≡ matched_worth (drop from self.now.pairs.items) x }
+        ensures small { IfSome result (λ a. IsAtMost a (10 ^ 11)) }
+    {
+        if from == self.pairs.len() {
+            return if x == Bundle::empty() { Some(0) } else { None };
+        }
+        let pair = self.pairs[from];
+        let without = self.worth_from(from + 1, x);
+        if x.has(pair.buy) && x.has(pair.sell) {
+            let rest = self.worth_from(from + 1, x.toggle(pair.buy).toggle(pair.sell));
+            greater(without, less(rest, pair.cost))
+        } else {
+            without
+        }
+    }
+}
+
+/// The sum of the numbers of a bundle's positions.
+fn sum(x: Bundle, numbers: &[i64; POSITIONS]) -> i128
+    ensures sum { result ≡ sum_over (number_at numbers.now) 32 x }
+    ensures small { IsAtMost result (32 * 2 ^ 63) }
+{
+    let mut total = 0;
+    for k in 0..POSITIONS {
+        total += number_in(x, numbers, k);
+    }
+    total
+}
+
+/// The number of a position that is in the bundle, else 0.
+fn number_in(x: Bundle, numbers: &[i64; POSITIONS], k: usize) -> i128
+    requires { k < 32 }
+    ensures term { result ≡ (if has x k then number_at numbers.now k else pos 0) }
+    ensures small { IsAtMost result (2 ^ 63) }
+{
+    if x.has(k as u32) {
+        i128::from(numbers[k])
+    } else {
+        0
+    }
+}
+
+/// Whether the numbers of a pair within the bundle sum to more than its cost, or than 0 where costs don't count.
+fn breaks(pair: &Pair, x: Bundle, numbers: &[i64; POSITIONS], priced: bool) -> bool
+    requires { IsNear pair.now }
+    ensures { result ≡ false → KeepsPair priced (number_at numbers.now) x pair.now }
+{
+    let first = numbers[pair.buy as usize];
+    let second = numbers[pair.sell as usize];
+    x.has(pair.buy) && x.has(pair.sell) && exceed(first, second, bound(pair, priced))
+}
+
+/// Whether two numbers sum to more.
+fn exceed(first: i64, second: i64, most: i128) -> bool
+    ensures { IsTrue result ↔ most <ℤ (first +ℤ second) }
+{
+    most < i128::from(first) + i128::from(second)
+}
+
+/// What the numbers of the pair's trades may sum to.
+fn bound(pair: &Pair, priced: bool) -> i128
+    ensures { result ≡ bound_of priced pair.now }
+{
+    if priced { pair.cost } else { 0 }
+}
+
+/// The bundle and the cost with the pair taken in, where it is matched and neither of its trades is there yet.
+fn take_in(pair: &Pair, mates: &[usize; POSITIONS], bundle: Bundle, cost: i128) -> (Bundle, i128)
+    requires near { IsNear pair.now }
+    requires small { IsAtMost pair.now.cost (10 ^ 9) }
+    requires small_cost { IsAtMost cost (2 ^ 64 * 10 ^ 9) }
+    ensures { MayTakeIn pair.now bundle cost result.0 result.1 }
+{
+    let matched = mates[pair.sell as usize] == pair.buy as usize;
+    if matched && !bundle.has(pair.buy) && !bundle.has(pair.sell) {
+        (bundle.toggle(pair.buy).toggle(pair.sell), cost + pair.cost)
+    } else {
+        (bundle, cost)
+    }
+}
+
+/// A worth less a cost.
+fn less(worth: Option<i128>, cost: i128) -> Option<i128>
+    requires small { IfSome worth (λ a. IsAtMost a (10 ^ 11)) }
+    requires small_cost { IsAtMost cost (10 ^ 9) }
+    ensures { result ≡ option_map (λ a. a -ℤ cost) worth }
+{
+    Some(worth? - cost)
+}
+
+/// The greater of two worths, None where both are none.
+fn greater(first: Option<i128>, second: Option<i128>) -> Option<i128>
+    ensures { result ≡ greater first second }
+{
+    match (first, second) {
+        (None, _) => second,
+        (Some(_), None) => first,
+        (Some(a), Some(b)) => Some(if a < b { b } else { a }),
+    }
+}
