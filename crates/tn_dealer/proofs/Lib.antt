@@ -1,3 +1,4 @@
 pub mod MatchingLemmas
 pub mod RepeatLemmas
 pub mod CertificateLemmas
+pub mod TestLemmas

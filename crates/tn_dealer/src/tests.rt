@@ -5,6 +5,7 @@ use tn_market::{Oracle, Room, Valuation};
 
 // Two items are bought, and sold as two: the cheaper matching of all four costs 2.
 #[test]
+#[tactic(auto, unfolding(tn_base::specs::Sets::meet, tn_base::specs::Sets::union))]
 fn a_dealer_in_two_items(rt: HostRuntime) -> Result<(), Fail> {
     let alloc = rt.alloc();
     let sides = vec![in alloc; Side::Buy, Side::Buy, Side::Sell, Side::Sell]?;
@@ -30,9 +31,7 @@ fn a_dealer_in_two_items(rt: HostRuntime) -> Result<(), Fail> {
             cost: 1
         },
     ]?;
-    let Ok(dealer) = Dealer::new(sides, pairs) else {
-        return Ok(());
-    };
+    let dealer = Dealer::new(sides, pairs)?;
     let mut steps = Steps::new(Asked);
     assert_eq!(rt; dealer.trades(), 4);
     assert_eq!(rt; dealer.side(1), Side::Buy);
@@ -48,8 +47,8 @@ fn a_dealer_in_two_items(rt: HostRuntime) -> Result<(), Fail> {
     assert_eq!(rt; dealer.value(Bundle::from_bits(0b0111), &mut steps), None);
     let mut room = Room::new(alloc)?;
     let free = Bundle::from_bits(0b1111);
-    let best = dealer.best(Bundle::empty(), free, 1, &[5, 7, 11, 8], &mut room);
-    assert_eq!(rt; best, Some((Bundle::from_bits(0b1111), 5)));
+    let best = dealer.best(Bundle::empty(), free, 1, &[5, 7, 12, 9], &mut room);
+    assert_eq!(rt; best, Some((Bundle::from_bits(0b1111), 7)));
     Ok(())
 }
 
@@ -70,9 +69,7 @@ fn a_sale_without_a_purchase(rt: HostRuntime) -> Result<(), Fail> {
             cost: 2
         },
     ]?;
-    let Ok(dealer) = Dealer::new(sides, pairs) else {
-        return Ok(());
-    };
+    let dealer = Dealer::new(sides, pairs)?;
     let mut steps = Steps::new(Asked);
     assert_eq!(rt; dealer.value(Bundle::from_bits(0b1111), &mut steps), None);
     assert_eq!(rt;
