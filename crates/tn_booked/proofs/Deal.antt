@@ -34,7 +34,7 @@ deal_firms row = seller row ∷ buyer ∷ []
 abbrev pub deal_trades : List Ends
 deal_trades = record { seller = 0; buyer = 1; at_seller = 0; at_buyer = 0 } ∷ []
 
--- what the seller asks for the trade: 3, 5, or it can't sell at all
+-- what the seller may ask for the trade: 3, or 5
 abbrev pub asks_3 : Option ℤ
 asks_3 = Some (negsuc 2)
 
@@ -70,7 +70,7 @@ equilibrium_at_4 = two_firms (λ f firm. HasBest deal_trades (pos 1) 1 (price_at
     (pos 1, best_by 2 (utility_at deal_trades (pos 1) (price_at (pos 4 ∷ [])) 0 (seller asks_3)) (seller_below asks_3 (pos 1) (price_at (pos 4 ∷ []))) 1 (pos 1) refl refl)
     (pos 1, best_by 2 (utility_at deal_trades (pos 1) (price_at (pos 4 ∷ [])) 1 buyer) (buyer_below (pos 1) (price_at (pos 4 ∷ []))) 1 (pos 1) refl refl)
 
--- where nothing is sold, neither the ask of the seller nor the worth to the buyer allows another price
+-- where the trade is off, a price below its worth to the buyer is no equilibrium, nor is one above what the seller asks
 pub off_at_least_5 : (row : Option ℤ) (prices : ℕ → ℤ) → IsEquilibrium (deal_firms row) deal_trades (pos 1) 0 prices → pos 5 ≤ℤ prices 0
 unfolding has sum_over set_of worth_in
 off_at_least_5 row prices equilibrium =

@@ -16,7 +16,7 @@ use Rattle.tn_market.specs.Best.{price_at}
 use Rattle.tn_market.specs.Choices.{IsPart, IsChoice, IsIndividuallyRational, is_of, own_part, part_utility, bundle_by}
 use Rattle.tn_market.specs.Network.{trades_of}
 use Rattle.tn_market.specs.Equilibrium.{utility_at, HasBest, IsEquilibrium}
-use Rattle.tn_market.specs.Signed as marks
+use Rattle.tn_market.specs.Signed.{signed}
 use Rattle.tn_command.specs.Outcome.{JudgesOutcome}
 use Rattle.tn_judge.specs.Verdict.{WouldDrop, IsCompletedBy}
 use Rattle.tn_booked.proofs.Decided.{all_below, each_below, ordered}
@@ -89,7 +89,7 @@ equilibrium_at_5 = two_firms (λ f firm. HasBest deal_trades (pos 1) 0 (price_at
     (pos 0, best_by 2 (utility_at deal_trades (pos 1) (price_at (pos 5 ∷ [])) 0 (seller asks_5)) (seller_below asks_5 (pos 1) (price_at (pos 5 ∷ []))) 0 (pos 0) refl refl)
     (pos 0, best_by 2 (utility_at deal_trades (pos 1) (price_at (pos 5 ∷ [])) 1 buyer) (buyer_below (pos 1) (price_at (pos 5 ∷ []))) 0 (pos 0) refl refl)
 
-none_signed : marks.signed 1 [] ≡ 0
+none_signed : signed 1 [] ≡ 0
 unfolding set_of
 none_signed = refl
 
@@ -125,9 +125,9 @@ rational_9 = two_firms (λ f firm. IsChoice deal_trades (pos 2) f firm at_9 (own
     (choice_by deal_trades (pos 2) 0 (seller asks_3) at_9 1 (pos 3) (one_part deal_trades 0 (record { trade = 0; price = pos 9 }) refl 1 (omega arith)) refl refl)
     (choice_by deal_trades (pos 2) 1 buyer at_9 1 (pos 1) (one_part deal_trades 1 (record { trade = 0; price = pos 9 }) refl 1 (omega arith)) refl refl)
 
-equilibrium_at_9 : IsEquilibrium (deal_firms asks_3) deal_trades (pos 2) (marks.signed 1 at_9) (price_at (pos 9 ∷ []))
+equilibrium_at_9 : IsEquilibrium (deal_firms asks_3) deal_trades (pos 2) (signed 1 at_9) (price_at (pos 9 ∷ []))
 unfolding all_below has sum_over set_of worth_in toggle
-equilibrium_at_9 = two_firms (λ f firm. HasBest deal_trades (pos 2) (marks.signed 1 at_9) (price_at (pos 9 ∷ [])) f firm) (seller asks_3) buyer
+equilibrium_at_9 = two_firms (λ f firm. HasBest deal_trades (pos 2) (signed 1 at_9) (price_at (pos 9 ∷ [])) f firm) (seller asks_3) buyer
     (pos 3, best_by 2 (utility_at deal_trades (pos 2) (price_at (pos 9 ∷ [])) 0 (seller asks_3)) (seller_below asks_3 (pos 2) (price_at (pos 9 ∷ []))) 1 (pos 3) refl refl)
     (pos 1, best_by 2 (utility_at deal_trades (pos 2) (price_at (pos 9 ∷ [])) 1 buyer) (buyer_below (pos 2) (price_at (pos 9 ∷ []))) 1 (pos 1) refl refl)
 

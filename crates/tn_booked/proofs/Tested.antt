@@ -222,7 +222,7 @@ tied_up : has (up 3 10 5) 1 ≡ true
 unfolding has up union meet minus
 tied_up = refl
 
--- no second bundle is possible once a1 is given up as well
+-- where a2 goes from the second pair to the first, no other trade that goes with it leaves both bundles possible
 no_swap : (at : ℕ) → has (down 3 10 5) at ≡ true → AreEnough tied (toggle (toggle 10 1) at) (toggle (toggle 5 1) at) (pos 10) → at < 4 → ⊥
 unfolding has up union meet minus toggle worth_in
 no_swap zero is_down enough within = none-some enough.first enough.first_is
