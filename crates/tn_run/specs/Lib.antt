@@ -6,3 +6,4 @@ pub mod Run
 pub mod Cases
 pub mod Complete
 pub mod Replayed
+pub mod Headline

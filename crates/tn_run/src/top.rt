@@ -8,6 +8,7 @@ ghost use Rattle.tn_io.specs.Sink.{Grows, GrowsByPrefix};
 ghost use Rattle.tn_run.specs.Answer.{MayBeSaid};
 ghost use Rattle.tn_run.specs.Cases.{MayBeCases};
 ghost use Rattle.tn_run.specs.Complete.{AnswersAll, NoneCounted};
+ghost use Rattle.tn_run.specs.Headline.{IsHeadline, is_headlined};
 ghost use Rattle.tn_run.specs.Run.{IsWritten, IsWrittenWhole, status_of};
 ghost use Rattle.tn_run.specs.Drilled.{MayBeDrilled};
 ghost use Rattle.tn_run.specs.Words.{asks_for_cases, command_of, drill_of};
@@ -173,6 +174,10 @@ pub fn run_market<S: Source, K: Sink>(
         × ((command : Command) → command_of (map string_bytes words.now) ≡ Some command
         → MayBeSaid command (S.left source.old) (S.left source.new) (S.faults source.old) (S.faults source.new) names result.said)
         × IsWritten (K.written sink.old) (K.written sink.new) (K.faults sink.old) (K.faults sink.new) names result.said result.status }
+    // The headline, of `solve` and `judge`: whatever bytes they read, the answer is what is promised, or a fault that the input
+    // or the source shows, or want of memory. (That the sink shows a fault is in `answer`.)
+    ensures headline { (command : Command) → command_of (map string_bytes words.now) ≡ Some command → is_headlined command ≡ true
+        → IsHeadline command (S.left source.old) (S.left source.new) (S.faults source.old) (S.faults source.new) result.said }
     // A source that tells its bytes, and no fault counted at either end: the defined answer for them, or want of memory.
     ensures complete { (command : Command) (all : List ℕ) → command_of (map string_bytes words.now) ≡ Some command → S.left source.old ≡ Some all
         → NoneCounted (S.faults source.old) (S.faults source.new) → NoneCounted (K.faults sink.old) (K.faults sink.new)

@@ -1,0 +1,59 @@
+-- The headline: what the answer of `solve` and of `judge` is, whatever bytes they read.
+use Rattle.std.specs.Prelude.{◌≡◌, ℕ, ◌⊎◌, Bool, true, false, List, Option, Ok, Err}
+use Rattle.std.specs.Io.KnownBytes.{Consumes, IsAtEnd}
+use Rattle.tn_command.specs.Solved.{Solves, SolvesInRows}
+use Rattle.tn_file.specs.Document.{DocumentData, reading_of}
+use Rattle.tn_io.specs.Counts.{Rose}
+use Rattle.tn_listed.specs.Beside.{Stop}
+use Rattle.tn_market.specs.declared.said.Said.{Said}
+use Rattle.tn_market.specs.declared.said.Said.TheVariants.{ReadFault, NoMemory, Fault}
+use Rattle.tn_run.specs.declared.command.Command.{Command}
+use Rattle.tn_run.specs.declared.command.Command.TheVariants.{Check, Judge, Range, Replay, Session, Solve, SolveRows, Support, Test}
+use Rattle.tn_run.specs.Answer.{FindsTooLong, JudgesExtra}
+use Rattle.tn_run.specs.Words.{need_of}
+
+-- whether the headline speaks of a command
+abbrev pub is_headlined : Command → Bool
+is_headlined Check = false
+is_headlined Judge = true
+is_headlined Range = false
+is_headlined Replay = false
+is_headlined Session = false
+is_headlined Solve = true
+is_headlined SolveRows = true
+is_headlined Support = false
+is_headlined Test = false
+
+-- for `solve`, trades and whole prices for all trades at which every firm's bundle is among its best, so no trades have
+-- more surplus and no contracts block; for `judge`, a firm that drops contracts, prices that complete an equilibrium, or
+-- contracts that block
+abbrev pub IsPromised : Command → DocumentData → Said → Type 0
+IsPromised Solve doc said = Solves doc.firms doc.ends said
+IsPromised SolveRows doc said = SolvesInRows doc.firms doc.ends said
+IsPromised Judge doc said = JudgesExtra doc doc.extra said
+IsPromised command doc said = ⊥
+
+-- the bytes stand for a document, of which the answer is what is promised
+pub record KeepsPromise (command : Command) (bytes : List ℕ) (said : Said) : Type 0 where
+  pub doc : DocumentData
+  pub reads : reading_of (need_of command) bytes ≡ Ok doc
+  pub promised : IsPromised command doc said
+
+-- the answer is the first fault of the bytes
+pub record ShowsFault (command : Command) (bytes : List ℕ) (said : Said) : Type 0 where
+  pub stop : Stop
+  pub reads : reading_of (need_of command) bytes ≡ Err stop
+  pub said_is : said ≡ Fault stop.fault
+
+-- a source was taken to its end, and its bytes have that answer
+pub record AnswersInput (command : Command) (old new : Option (List ℕ)) (said : Said) : Type 0 where
+  pub bytes : List ℕ
+  pub taken : Consumes old new bytes
+  pub end : IsAtEnd new
+  pub answer : KeepsPromise command bytes said ⊎ ShowsFault command bytes said
+
+-- the answer is what is promised; or a fault that the input shows, its length among them, or that the source shows by its
+-- count of faults; or memory ran out
+abbrev pub IsHeadline : Command → Option (List ℕ) → Option (List ℕ) → ℕ → ℕ → Said → Type 0
+IsHeadline command old new before after said =
+    AnswersInput command old new said ⊎ (FindsTooLong old new said ⊎ (((said ≡ ReadFault) × Rose before after) ⊎ (said ≡ NoMemory)))
