@@ -1,5 +1,5 @@
 -- What `test` says where each firm meets exchange, and where the first that doesn't is a table.
-use Rattle.std.proofs.Common.{◌≡◌, ℕ, zero, suc, ◌^◌, ◌<◌, refl, sym, ap, ◌∙◌, subst, arith, inl, inr, List, [], ◌∷◌, slice_get, length}
+use Rattle.std.proofs.Common.{◌≡◌, ℕ, zero, suc, ◌^◌, ◌<◌, refl, sym, ap, ◌∙◌, subst, arith, ◌⊎◌, inl, inr, List, [], ◌∷◌, slice_get, length}
 use Rattle.std.specs.Prelude.{ℤ, pos, negsuc, ◌≤ℤ◌, ◌+ℤ◌, true, not, ◌||◌, nat_lt, is_none, option_map, Option, Some, None}
 use Rattle.std.proofs.lemmas.Int.{ints}
 use Rattle.std.proofs.lemmas.Bool.{cases_order, or_cases, false≢true, lt-ltb}
@@ -14,7 +14,6 @@ use Rattle.tn_cert.specs.Reasons.{IsFirstToFail}
 use Rattle.tn_exchange.specs.Rows.{TableRows, firm_of_table, worth_in}
 use Rattle.tn_exchange.specs.TestOrder.{Triple, IsBefore, IsEarlier, TripleFails, IsFirstFailure}
 use Rattle.tn_exchange.proofs.RowLemmas.{own_bundles}
-use Rattle.tn_kinds.proofs.FailureLemmas.{found}
 use Rattle.tn_laminar.specs.Sum.{laminar_firm}
 use Rattle.tn_market.specs.declared.ends.Ends.{Ends}
 use Rattle.tn_market.specs.declared.said.Said.{Said}
@@ -23,6 +22,42 @@ use Rattle.tn_market.specs.Network.{own, trades_of}
 use Rattle.tn_run.specs.Tested.{Tests}
 use Rattle.tn_booked.proofs.Decided.{all_below, some_below, each_below, exchanges_at, holds_at, never_at, never_fails_at, meets}
 use Rattle.tn_booked.proofs.Finite.{three_firms}
+
+-- ---- a firm has one first failing triple
+
+before_or_after : (a b : Option ℕ) → (a ≡ b) ⊎ (IsBefore a b ⊎ IsBefore b a)
+before_or_after (Some i) (Some j) = elim (cases_order i j) [ inl e ↦ inl (ap (λ (k : ℕ). Some k) e) | inr other ↦ inr other ]
+before_or_after (Some i) None = inr (inl tt)
+before_or_after None (Some j) = inr (inr tt)
+before_or_after None None = inl refl
+
+earlier_or_later : (s t : Triple) → (s ≡ t) ⊎ (IsEarlier s t ⊎ IsEarlier t s)
+earlier_or_later s t = by_x (cases_order s.x t.x)
+  where
+    by_at : s.x ≡ t.x → s.y ≡ t.y → (s.at ≡ t.at) ⊎ (IsBefore s.at t.at ⊎ IsBefore t.at s.at) → (s ≡ t) ⊎ (IsEarlier s t ⊎ IsEarlier t s)
+    by_at same_x same_y (inl same) = inl (λ i. record { x = same_x i; y = same_y i; at = same i })
+    by_at same_x same_y (inr (inl before)) = inr (inl (inr (same_x, inr (same_y, before))))
+    by_at same_x same_y (inr (inr after)) = inr (inr (inr (sym same_x, inr (sym same_y, after))))
+
+    by_y : s.x ≡ t.x → (s.y ≡ t.y) ⊎ ((s.y < t.y) ⊎ (t.y < s.y)) → (s ≡ t) ⊎ (IsEarlier s t ⊎ IsEarlier t s)
+    by_y same_x (inl same) = by_at same_x same (before_or_after s.at t.at)
+    by_y same_x (inr (inl less)) = inr (inl (inr (same_x, inl less)))
+    by_y same_x (inr (inr more)) = inr (inr (inr (sym same_x, inl more)))
+
+    by_x : (s.x ≡ t.x) ⊎ ((s.x < t.x) ⊎ (t.x < s.x)) → (s ≡ t) ⊎ (IsEarlier s t ⊎ IsEarlier t s)
+    by_x (inl same) = by_y same (cases_order s.y t.y)
+    by_x (inr (inl less)) = inr (inr (inl less))
+    by_x (inr (inr more)) = inr (inl (inl more))
+
+same_first : (firm : Firm) (s t : Triple) → IsFirstFailure firm s → IsFirstFailure firm t → s ≡ t
+same_first firm s t first other = elim (earlier_or_later s t) [
+  | inl same ↦ same
+  | inr (inl before) ↦ absurd (other.first s before first.fails)
+  | inr (inr after) ↦ absurd (first.first t after other.fails)
+]
+
+never_meets : (firm : Firm) (triple : Triple) → IsFirstFailure firm triple → MeetsExchange firm → ⊥
+never_meets firm triple first meets = none_fails_from_exchange firm meets triple.x triple.y triple.at first.fails
 
 -- ---- each firm meets exchange
 
@@ -35,7 +70,7 @@ is_accepted firms trades all f firm below is = all f firm is
 pub only_accepted : (firms : List Firm) (trades : List Ends) → AllMeet firms → (said : Said) → Tests firms trades said → said ≡ Accepted
 only_accepted firms trades all Accepted tests = refl
 only_accepted firms trades all (ExchangeFails f x y at) tests =
-    absurd (none_fails_from_exchange tests.firm (all f tests.firm tests.is) tests.triple.x tests.triple.y tests.triple.at tests.first.fails)
+    absurd (never_meets tests.firm tests.triple tests.first (all f tests.firm tests.is))
 only_accepted firms trades all said tests = absurd tests
 
 -- ---- firm f is a table that fails exchange, and the firms before it meet it
@@ -60,15 +95,12 @@ is_failure firms trades f table triple fails = record {
   at_is = refl;
 }
 
-never_meets : (firm : Firm) (triple : Triple) → IsFirstFailure firm triple → MeetsExchange firm → ⊥
-never_meets firm triple first meets = none_fails_from_exchange firm meets triple.x triple.y triple.at first.fails
-
 same_failure : (firms : List Firm) (trades : List Ends) (f : ℕ) (table : TableRows) (triple : Triple) → FailsFirst firms f table triple → (x y : List ℕ) (at : Option ℕ) → IsFirstToFail firms trades f x y at
     → ExchangeFails f x y at ≡ failure trades f (length table.sides) triple
 same_failure firms trades f table triple fails x y at told =
     let same : told.firm ≡ firm_of_table table = same_Some _ _ (sym told.is ∙ fails.is) in
     let first : IsFirstFailure (firm_of_table table) told.triple = subst (λ firm. IsFirstFailure firm told.triple) same told.first in
-    let one : told.triple ≡ triple = same_Some _ _ (sym (found table told.triple first) ∙ found table triple fails.first) in
+    let one : told.triple ≡ triple = same_first (firm_of_table table) told.triple triple first fails.first in
     let x_is = told.x_is ∙ (λ i. trades_of trades f (same i).count (one i).x) in
     let y_is = told.y_is ∙ (λ i. trades_of trades f (same i).count (one i).y) in
     let at_is = told.at_is ∙ (λ i. option_map (own trades f) (one i).at) in
