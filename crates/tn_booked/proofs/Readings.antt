@@ -8,6 +8,7 @@ use Rattle.tn_base.specs.Firm.{Firm}
 use Rattle.tn_base.proofs.ExchangeLemmas.{none_fails_from_exchange}
 use Rattle.tn_exchange.specs.Rows.{TableRows, firm_of_table}
 use Rattle.tn_market.specs.declared.said.Fault.{Fault}
+use Rattle.tn_market.specs.declared.ends.Ends.{Ends}
 use Rattle.tn_names.specs.Names.{NameLists}
 use Rattle.tn_shape.specs.declared.members.FirmKind.TheVariants.{Table}
 use Rattle.tn_shape.specs.Members.{allows}
@@ -48,11 +49,16 @@ pub reading_by : (need : Need) (bytes : List ℕ) (top : Data) (listed : Listed)
 unfolding reading_of document_of content_of
 reading_by need bytes top listed items firms extra a b c d = rw (a, b, c, d) refl
 
--- a table that meets exchange is read as its firm
+-- a table that meets exchange passes the test
+passes : (trades : List Ends) (f : ℕ) (table : TableRows) → NoneFails (firm_of_table table) → tested_firm true trades f table ≡ Ok (firm_of_table table)
+unfolding tested_firm exchange_of
+passes trades f table holds = rw (none table holds) refl
+
+-- where a firm is read as such a table, it is the table's firm
 pub table_read : (listed : Listed) (firms : List Firm) (value : Data) (table : TableRows) → kind_of (length firms) value ≡ Ok Table → frame_of listed.ends (length firms) Table value ≡ Ok tt
-    → table_of listed (length firms) value ≡ Ok table → NoneFails (firm_of_table table) → one_firm true listed firms value ≡ Ok (firms ++ firm_of_table table ∷ [])
-unfolding one_firm firm_of firm_by tested_firm exchange_of
-table_read listed firms value table a b c holds = rw (a, b, c, none table holds) refl
+    → firm_by true listed (length firms) Table value ≡ tested_firm true listed.ends (length firms) table → NoneFails (firm_of_table table) → one_firm true listed firms value ≡ Ok (firms ++ firm_of_table table ∷ [])
+unfolding one_firm firm_of
+table_read listed firms value table a b c holds = rw (a, b, c, passes listed.ends (length firms) table holds) refl
 
 pub two_read : (step : List Firm → Data → Result (List Firm) Fault) (d e : Data) (some all : List Firm) → step [] d ≡ Ok some → step some e ≡ Ok all → each step [] (item d (item e no_items)) ≡ Ok all
 unfolding each
@@ -76,21 +82,21 @@ abbrev buyer_data : Data
 buyer_data = Trees.table Trees.name_B (Trees.row (Trees.name_a ∷ []) (Trees.whole 5) ∷ [])
 
 buyer_read : (row : Option ℤ) → one_firm true deal_listed (seller row ∷ []) buyer_data ≡ Ok (deal_firms row)
-unfolding kind_of frame_of object_of allows sides_of table_of rows_of each one_row row_of two_at bundle_at own_reference new_own own_position trade_at number_in has toggle size size_below
+unfolding firm_by kind_of frame_of object_of allows sides_of table_of rows_of each one_row row_of two_at bundle_at own_reference new_own own_position trade_at number_in has toggle size size_below
 buyer_read row = table_read deal_listed (seller row ∷ []) buyer_data buyer_table refl refl refl (none_fails_from_exchange buyer buyer_meets)
 
 firms_3 : each (one_firm true deal_listed) [] (deal_items (Trees.asks (negsuc 2))) ≡ Ok (deal_firms asks_3)
-unfolding kind_of frame_of object_of allows sides_of table_of rows_of each one_row row_of two_at bundle_at own_reference new_own own_position trade_at number_in has toggle size size_below
+unfolding firm_by kind_of frame_of object_of allows sides_of table_of rows_of each one_row row_of two_at bundle_at own_reference new_own own_position trade_at number_in has toggle size size_below
 firms_3 = two_read (one_firm true deal_listed) (seller_data (Trees.asks (negsuc 2))) buyer_data (seller asks_3 ∷ []) (deal_firms asks_3)
     (table_read deal_listed [] (seller_data (Trees.asks (negsuc 2))) (seller_table asks_3) refl refl refl (none_fails_from_exchange (seller asks_3) meets_3)) (buyer_read asks_3)
 
 firms_5 : each (one_firm true deal_listed) [] (deal_items (Trees.asks (negsuc 4))) ≡ Ok (deal_firms asks_5)
-unfolding kind_of frame_of object_of allows sides_of table_of rows_of each one_row row_of two_at bundle_at own_reference new_own own_position trade_at number_in has toggle size size_below
+unfolding firm_by kind_of frame_of object_of allows sides_of table_of rows_of each one_row row_of two_at bundle_at own_reference new_own own_position trade_at number_in has toggle size size_below
 firms_5 = two_read (one_firm true deal_listed) (seller_data (Trees.asks (negsuc 4))) buyer_data (seller asks_5 ∷ []) (deal_firms asks_5)
     (table_read deal_listed [] (seller_data (Trees.asks (negsuc 4))) (seller_table asks_5) refl refl refl (none_fails_from_exchange (seller asks_5) meets_5)) (buyer_read asks_5)
 
 firms_none : each (one_firm true deal_listed) [] (deal_items []) ≡ Ok (deal_firms None)
-unfolding kind_of frame_of object_of allows sides_of table_of rows_of each one_row row_of two_at bundle_at own_reference new_own own_position trade_at number_in has toggle size size_below
+unfolding firm_by kind_of frame_of object_of allows sides_of table_of rows_of each one_row row_of two_at bundle_at own_reference new_own own_position trade_at number_in has toggle size size_below
 firms_none = two_read (one_firm true deal_listed) (seller_data []) buyer_data (seller None ∷ []) (deal_firms None)
     (table_read deal_listed [] (seller_data []) (seller_table None) refl refl refl (none_fails_from_exchange (seller None) meets_none)) (buyer_read None)
 
@@ -228,7 +234,7 @@ unfolding listed_of version_limit object_of allows few_at each firm_name new_nam
 listed_3 = refl
 
 firms_idle : each (one_firm true idle_listed) [] (item idle_data (item idle_other no_items)) ≡ Ok idle_firms
-unfolding kind_of frame_of object_of allows sides_of table_of rows_of each one_row row_of two_at bundle_at own_reference new_own own_position trade_at number_in has toggle size size_below
+unfolding firm_by kind_of frame_of object_of allows sides_of table_of rows_of each one_row row_of two_at bundle_at own_reference new_own own_position trade_at number_in has toggle size size_below
 firms_idle = two_read (one_firm true idle_listed) idle_data idle_other (idle (Some (pos 7)) ∷ []) idle_firms
     (table_read idle_listed [] idle_data (idle_table (Some (pos 7))) refl refl refl (none_fails_from_exchange (idle (Some (pos 7))) idle_meets_7))
     (table_read idle_listed (idle (Some (pos 7)) ∷ []) idle_other (idle_table None) refl refl refl (none_fails_from_exchange (idle None) idle_meets_none))
