@@ -1,43 +1,44 @@
 ghost use Rattle.tn_replayed.specs.Fits.{AnswersFitClaims};
-ghost use Rattle.tn_replayed.specs.Lines.{LinesAreRead};
 ghost use Rattle.tn_replayed.specs.Laws.{JudgementsReplay, SolutionsReplay, SupportsReplay, TestsReplay, VerdictsReplay};
+ghost use Rattle.tn_replayed.specs.Lines.{LinesAreRead};
 
-/// All that the program answers has numbers that a claim may have.
+/// Whatever the program answers has numbers that a claim may have.
 pub fn answers_fit_claims()
     ensures { AnswersFitClaims }
 {}
 
-/// The line that is written for an answer that may be a claim is JSON, and is read as the value that these laws put into
-/// the document.
+/// The line that is written for an answer that may be a claim is JSON, and is read as the value that the laws of this crate
+/// put into the document.
 pub fn lines_are_read()
     ensures { LinesAreRead }
 {}
 
-/// The answer of `check`, put into its document as the claim, is read as a claim on the same network and is valid: that
-/// the arrangement is an equilibrium, a better bundle, or an impossible one.
+/// Every answer of `check` replays: put into its document as the claim, it is read as a claim on the same network and is
+/// valid. It says that the arrangement is an equilibrium, or which firm has a better bundle or an impossible one.
 pub fn verdicts_replay()
     ensures { VerdictsReplay }
 {}
 
-/// So is the answer of `test`: that every firm is accepted, or a failing triple. Its numbers have no limit to keep.
+/// Every answer of `test` replays: that all firms are accepted, and a failing triple. It has no number that would have to
+/// keep a limit.
 pub fn tests_replay()
     ensures { TestsReplay }
 {}
 
-/// So is the answer of `support`: prices, a negative cycle, or an impossible bundle. A cycle names no node twice, so it
-/// has at most one node more than the document has trades, as many as a claim on a document of its version may have.
+/// Every answer of `support` replays: prices, a negative cycle, and an impossible bundle. A cycle names no node twice, so
+/// it has at most one node more than the document has trades, as many as a claim on a document of its version may have.
 pub fn supports_replay()
     ensures { SupportsReplay }
 {}
 
-/// So is the answer of `solve` as JSON. The claim has the trades of the answer and no others, and these are what an
-/// equilibrium and a surplus are made of.
+/// Every answer of `solve` as JSON replays: the claim's trades are those of the answer, with the same equilibrium and the
+/// same surplus.
 pub fn solutions_replay()
     ensures { SolutionsReplay }
 {}
 
-/// So is the answer of `judge`: contracts that a firm would drop, prices that complete the outcome, or a chain that blocks
-/// it. The denominator of a chain is at most 25,700, so it is one that a claim may have.
+/// Every answer of `judge` replays: contracts that a firm would drop, prices that complete the outcome, and a chain that
+/// blocks it. The denominator of a chain is at most 25,700, so it is one that a claim may have.
 pub fn judgements_replay()
     ensures { JudgementsReplay }
 {}

@@ -6,6 +6,6 @@
 mod laws;
 
 pub use laws::{
-    judgements_replay, lines_are_read, solutions_replay, supports_replay, tests_replay,
-    verdicts_replay,
+    answers_fit_claims, judgements_replay, lines_are_read, solutions_replay, supports_replay,
+    tests_replay, verdicts_replay,
 };
