@@ -29,7 +29,8 @@ pub record AreParts (need : Need) (top : Data) (doc : DocumentData) : Type 0 whe
   pub firms : each (one_firm (is_tested need top) (listed_in doc)) [] items ≡ Ok doc.firms
   pub extra : extra_of need (listed_in doc) top ≡ Ok doc.extra
 
-itself : {A E : Type 0} (r : Result A E) → Leads (λ x. r ≡ Ok x) r
+-- a result that is there is itself
+pub itself : {A E : Type 0} (r : Result A E) → Leads (λ x. r ≡ Ok x) r
 itself r = record { at = λ x e. e }
 
 record IsContent (need : Need) (listed : Listed) (items : Items) (top : Data) (content : List Firm × ExtraData) : Type 0 where

@@ -1,5 +1,5 @@
 -- The extra part of a document that was read, and how many trades it has by its version.
-use Rattle.std.proofs.Common.{◌≡◌, ℕ, ◌+◌, ◌≤◌, ◌^◌, List, [], ◌∷◌, length, Some, Result, Ok, refl, ap, ◌∙◌, arith}
+use Rattle.std.proofs.Common.{◌≡◌, ℕ, ◌+◌, ◌≤◌, ◌^◌, List, [], ◌∷◌, length, Some, Ok, refl, ap, ◌∙◌, arith}
 use Rattle.std.specs.Prelude.{codes, cond, nat_eq, option_and_then, unwrap_or}
 use Rattle.serde_json.specs.Data.{Data, Items}
 use Rattle.serde_json.specs.Events.{items_len}
@@ -26,9 +26,7 @@ use Rattle.tn_extra.specs.Signed.{outcome_of}
 use Rattle.tn_claimed.specs.Members.{most_nodes}
 use Rattle.tn_file.specs.declared.need.Need.TheVariants.{Arrangement, On, Outcome}
 use Rattle.tn_file.specs.Document.{arrangement, extra_of, on_alone, outcome}
-
-itself : {A E : Type 0} (r : Result A E) → Leads (λ x. r ≡ Ok x) r
-itself r = record { at = λ x e. e }
+use Rattle.tn_replayed.proofs.DocumentLemmas.{itself}
 
 -- ---- the extra part
 

@@ -1,8 +1,7 @@
 -- What `judge` says of a document's outcome is a valid claim on it.
 use Rattle.std.proofs.Common.{◌≡◌, ℕ, ◌<◌, ◌^◌, ℤ, pos, ◌-ℤ◌, Bool, true, false, List, length, Option, Some, None, Ok, refl, sym, ap, subst, ◌∙◌, arith}
-use Rattle.std.specs.Prelude.{codes, All, IfSome, is_some, ◌≤ℤ◌, ◌*ℤ◌, int_le, option_map}
+use Rattle.std.specs.Prelude.{codes, All, IfSome, ◌≤ℤ◌, ◌*ℤ◌, int_le, option_map}
 use Rattle.std.proofs.lemmas.Int.{ints}
-use Rattle.std.proofs.lemmas.Option.{none-some}
 use Rattle.serde_json.specs.Data.{Data}
 use Rattle.tn_base.specs.Arcs.{IsAtMost}
 use Rattle.tn_base.specs.Firm.{Firm}
@@ -25,6 +24,7 @@ use Rattle.tn_market.specs.Limits.{IsOutcomeOf}
 use Rattle.tn_market.specs.Network.{own, trades_of}
 use Rattle.tn_market.specs.OutcomeLimits.{IsOutcomeWithin}
 use Rattle.tn_market.specs.Signed.{signed_bundle, signed_price}
+use Rattle.tn_market.proofs.AskLemmas.{impossible_worth, possible_worth}
 use Rattle.tn_market.proofs.ContractLemmas.{contracts_ascend}
 use Rattle.tn_outcome.proofs.RationalLemmas.{IsSigner, bundle_signed, own_bundle, own_is_part, part_is_bundle}
 use Rattle.tn_outcome.proofs.SignedLemmas.{has-signed_bundle}
@@ -38,15 +38,11 @@ use Rattle.tn_file.specs.Document.{DocumentData, outcome}
 use Rattle.tn_file.specs.Laws.{IsExtra}
 use Rattle.tn_replayed.specs.Laws.{JudgementsReplay}
 use Rattle.tn_replayed.specs.Replayed.{IsReplayed, with_claim}
-use Rattle.tn_replayed.proofs.CheckedLemmas.{IsReadFrom, are_read, read_from, replayed, there, worth_there}
+use Rattle.tn_replayed.proofs.CheckedLemmas.{IsReadFrom, are_read, read_from, replayed, there}
 use Rattle.tn_replayed.proofs.ClaimLemmas.{blocks_back, completes_back, drops_back}
 use Rattle.tn_replayed.proofs.DocumentLemmas.{listed_in}
 use Rattle.tn_replayed.proofs.ExtraLemmas.{outcome_read}
 use Rattle.tn_replayed.proofs.Frame.{outcome_other}
-
-no_worth : (worth : Option ℤ) (g : ℤ → ℤ) → option_map g worth ≡ None → worth ≡ None
-no_worth None g e = refl
-no_worth (Some a) g e = absurd (none-some (g a) (sym e))
 
 product_least : (d e : ℤ) → pos 1 ≤ℤ d → pos 1 ≤ℤ e → pos 1 ≤ℤ (d *ℤ e)
 product_least d e d_least e_least =
@@ -125,8 +121,7 @@ module _ (top : Data) (doc : DocumentData) (signed : OutcomeIs) (from : IsReadFr
         → GainsByKeeping doc.ends signed f firm keeps (option_map (λ own. first.drops.choice.value -ℤ own) all) × IfSome (option_map (λ own. first.drops.choice.value -ℤ own) all) IsPositive
     gains_by (Some all) is = (record { value = first.drops.choice.value; value_is = kept_utility; other = all; other_is = sym own_utility ∙ is; gain_is = refl }, more all is)
     gains_by None is =
-        let worth = worth_there (firm.worth keeps) _ first.drops.choice.value kept_utility in
-        ((ap is_some worth.1, no_worth (firm.worth (signed_bundle doc.ends signed.contracts f firm)) _ (sym own_utility ∙ is)), tt)
+        ((possible_worth _ (firm.worth keeps) first.drops.choice.value kept_utility, impossible_worth _ (firm.worth (signed_bundle doc.ends signed.contracts f firm)) (sym own_utility ∙ is)), tt)
 
     drops_valid : GainsByKeeping doc.ends signed f firm keeps gain × IfSome gain IsPositive
     drops_valid =
