@@ -11,8 +11,8 @@ use Rattle.tn_base.proofs.ExchangeLemmas.{exchange_from_none_fails, none_fails_f
 use Rattle.tn_exchange.proofs.RowLemmas.{own_bundles}
 use Rattle.tn_exchange.specs.TestOrder.{Triple, IsFirstFailure}
 use Rattle.tn_firm.specs.declared.raw.RawFirm.{RawFirm}
-use Rattle.tn_firm.specs.declared.raw.RawFirm.TheVariants.{Table, Laminar, Middle}
-use Rattle.tn_firm.specs.declared.value.FirmValue.TheVariants.{Laminar as LaminarValue, Middle as MiddleValue}
+use Rattle.tn_firm.specs.declared.raw.RawFirm.TheVariants.{Table, Laminar, Middle, Dealer}
+use Rattle.tn_firm.specs.declared.value.FirmValue.TheVariants.{Laminar as LaminarValue, Middle as MiddleValue, Dealer as DealerValue}
 use Rattle.tn_firm.specs.Firms.{firm_laws}
 use Rattle.tn_firm.specs.Raw.{raw_firm_of}
 use Rattle.tn_market.specs.declared.ends.Ends.{Ends}
@@ -26,14 +26,16 @@ raw_own_bundles : (raw : RawFirm) → HasOwnBundles (raw_firm_of raw)
 raw_own_bundles (Table table) = own_bundles table
 raw_own_bundles (Laminar firm) = (firm_laws (LaminarValue firm)).own_bundles
 raw_own_bundles (Middle firm) = (firm_laws (MiddleValue firm)).own_bundles
+raw_own_bundles (Dealer firm) = (firm_laws (DealerValue firm)).own_bundles
 
 none_fails_lawful : (firm : Firm) → IsLawful (10 ^ 11) firm → NoneFails firm
 none_fails_lawful firm laws = none_fails_from_exchange firm (record { one = laws.exchange_one; net_count = laws.exchange_net })
 
--- laminar firms and middlemen meet exchange
-pub none_fails_of_kind : (raw : RawFirm) → ((firm : _) × (raw ≡ Laminar firm)) ⊎ ((firm : _) × (raw ≡ Middle firm)) → NoneFails (raw_firm_of raw)
+-- laminar firms, middlemen and dealers meet exchange
+pub none_fails_of_kind : (raw : RawFirm) → ((firm : _) × (raw ≡ Laminar firm)) ⊎ (((firm : _) × (raw ≡ Middle firm)) ⊎ ((firm : _) × (raw ≡ Dealer firm))) → NoneFails (raw_firm_of raw)
 none_fails_of_kind raw (inl (firm, is)) = subst (λ (it : RawFirm). NoneFails (raw_firm_of it)) (sym is) (none_fails_lawful _ (firm_laws (LaminarValue firm)))
-none_fails_of_kind raw (inr (firm, is)) = subst (λ (it : RawFirm). NoneFails (raw_firm_of it)) (sym is) (none_fails_lawful _ (firm_laws (MiddleValue firm)))
+none_fails_of_kind raw (inr (inl (firm, is))) = subst (λ (it : RawFirm). NoneFails (raw_firm_of it)) (sym is) (none_fails_lawful _ (firm_laws (MiddleValue firm)))
+none_fails_of_kind raw (inr (inr (firm, is))) = subst (λ (it : RawFirm). NoneFails (raw_firm_of it)) (sym is) (none_fails_lawful _ (firm_laws (DealerValue firm)))
 
 -- each firm before f meets exchange
 abbrev pub MeetBefore : List Firm → ℕ → Type 0

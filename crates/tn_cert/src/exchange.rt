@@ -49,7 +49,7 @@ pub(crate) fn replay_accepted(alloc: Global, firms: &[RawFirm]) -> Result<Replay
     Ok(Replayed::Valid)
 }
 
-/// Whether two bundles of a firm fail exchange at a position, or at none. Laminar firms and middlemen never do.
+/// Whether two bundles of a firm fail exchange at a position, or at none. Laminar firms, middlemen and dealers never do.
 fn fails(firm: &RawFirm, x: Bundle, y: Bundle, at: Option<u32>) -> bool
     requires x_own { x < 2 ^ (raw_firm_of firm.now).count }
     requires y_own { y < 2 ^ (raw_firm_of firm.now).count }
@@ -58,7 +58,7 @@ fn fails(firm: &RawFirm, x: Bundle, y: Bundle, at: Option<u32>) -> bool
 {
     match firm {
         RawFirm::Table(table) => fails_at(table, x, y, at),
-        RawFirm::Laminar(_) | RawFirm::Middle(_) => false,
+        RawFirm::Laminar(_) | RawFirm::Middle(_) | RawFirm::Dealer(_) => false,
     }
 }
 

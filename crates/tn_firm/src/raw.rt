@@ -1,3 +1,4 @@
+use tn_dealer::Dealer;
 use tn_exchange::{RawTable, Verdict, test};
 use tn_laminar::Laminar;
 use tn_market::Valuation;
@@ -12,6 +13,8 @@ pub enum RawFirm {
     Laminar(Laminar),
     /// A firm that buys one good and sells it on, or keeps it.
     Middle(Middle),
+    /// A firm that matches several purchases one to one with its sales.
+    Dealer(Dealer),
 }
 
 impl RawFirm {
@@ -31,18 +34,19 @@ impl RawFirm {
             RawFirm::Table(table) => table.trades(),
             RawFirm::Laminar(firm) => firm.trades(),
             RawFirm::Middle(firm) => firm.trades(),
+            RawFirm::Dealer(firm) => firm.trades(),
         }
     }
 
-    /// Whether the firm meets exchange, or else the first triple that fails in test order; laminar firms and
-    /// middlemen always meet it. It takes no memory.
+    /// Whether the firm meets exchange, or else the first triple that fails in test order; laminar firms,
+    /// middlemen and dealers always meet it. It takes no memory.
     pub fn test(&self) -> Verdict
         ensures holds { (result ≡ Verdict.Holds) ↔ NoneFails (raw_firm_of self.now) }
         ensures first { IfFails result (IsFirstFailure (raw_firm_of self.now)) }
     {
         match self {
             RawFirm::Table(table) => test(table),
-            RawFirm::Laminar(_) | RawFirm::Middle(_) => Verdict::Holds,
+            RawFirm::Laminar(_) | RawFirm::Middle(_) | RawFirm::Dealer(_) => Verdict::Holds,
         }
     }
 }

@@ -3,6 +3,7 @@ ghost use Rattle.std.specs.Prelude.{◌≡◌, ◌^◌, ◌<◌, length};
 use super::*;
 use std::test::Fail;
 use tn_base::{Asked, Bundle, Side, Steps};
+use tn_dealer::{Dealer, Pair};
 use tn_exchange::{RawTable, Verdict};
 use tn_laminar::Laminar;
 use tn_market::{Oracle, Room, Valuation};
@@ -75,5 +76,26 @@ fn middlemen_meet_exchange(rt: HostRuntime) -> Result<(), Fail> {
     let firm = RawFirm::Middle(Middle::new(sides, vec![in alloc; 2, 3]?, None));
     assert_eq!(rt; firm.trades(), 2);
     assert_eq!(rt; firm.test(), Verdict::Holds);
+    Ok(())
+}
+
+/// A dealer who sells one item on at a cost of 2.
+#[test]
+#[tactic(auto, unfolding(tn_base::specs::Sets::meet, tn_base::specs::Sets::union))]
+fn a_dealer_is_asked(rt: HostRuntime) -> Result<(), Fail> {
+    let alloc = rt.alloc();
+    let sides = vec![in alloc; Side::Buy, Side::Sell]?;
+    let pairs = vec![in alloc;
+        Pair {
+            buy: 0,
+            sell: 1,
+            cost: 2
+        },
+    ]?;
+    let firm = FirmValue::Dealer(Dealer::new(sides, pairs)?);
+    let both = Bundle::from_bits(3);
+    assert_eq!(rt; firm.value(both, &mut Steps::new(Asked)), Some(-2));
+    let best = firm.best(Bundle::empty(), both, 1, &[1, 9], &mut Room::new(alloc)?);
+    assert_eq!(rt; best, Some((both, 6)));
     Ok(())
 }

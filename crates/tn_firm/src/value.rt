@@ -1,4 +1,5 @@
 use tn_base::{Asked, Bundle, Side, Steps};
+use tn_dealer::Dealer;
 use tn_laminar::Laminar;
 use tn_market::{Oracle, Room, Valuation};
 use tn_middle::Middle;
@@ -13,6 +14,8 @@ pub enum FirmValue {
     Laminar(Laminar),
     /// A firm that buys one good and sells it on, or keeps it.
     Middle(Middle),
+    /// A firm that matches several purchases one to one with its sales.
+    Dealer(Dealer),
 }
 
 impl Valuation for FirmValue {
@@ -30,6 +33,7 @@ impl Valuation for FirmValue {
             FirmValue::Table(firm) => firm.trades(),
             FirmValue::Laminar(firm) => firm.trades(),
             FirmValue::Middle(firm) => firm.trades(),
+            FirmValue::Dealer(firm) => firm.trades(),
         }
     }
 
@@ -38,6 +42,7 @@ impl Valuation for FirmValue {
             FirmValue::Table(firm) => firm.side(k),
             FirmValue::Laminar(firm) => firm.side(k),
             FirmValue::Middle(firm) => firm.side(k),
+            FirmValue::Dealer(firm) => firm.side(k),
         }
     }
 
@@ -46,6 +51,7 @@ impl Valuation for FirmValue {
             FirmValue::Table(firm) => firm.bound(),
             FirmValue::Laminar(firm) => firm.bound(),
             FirmValue::Middle(firm) => firm.bound(),
+            FirmValue::Dealer(firm) => firm.bound(),
         }
     }
 
@@ -54,6 +60,7 @@ impl Valuation for FirmValue {
             FirmValue::Table(firm) => firm.value(x, steps),
             FirmValue::Laminar(firm) => firm.value(x, steps),
             FirmValue::Middle(firm) => firm.value(x, steps),
+            FirmValue::Dealer(firm) => firm.value(x, steps),
         }
     }
 
@@ -87,6 +94,7 @@ impl Oracle for FirmValue {
             FirmValue::Table(firm) => firm.best(need, free, scale, prices, room),
             FirmValue::Laminar(firm) => firm.best(need, free, scale, prices, room),
             FirmValue::Middle(firm) => firm.best(need, free, scale, prices, room),
+            FirmValue::Dealer(firm) => firm.best(need, free, scale, prices, room),
         }
     }
 }

@@ -9,8 +9,8 @@ use Rattle.tn_base.specs.Exchange.{MeetsExchange, NoneFails}
 use Rattle.tn_base.proofs.ExchangeLemmas.{exchange_from_none_fails}
 use Rattle.tn_exchange.proofs.RowLemmas.{own_bundles}
 use Rattle.tn_firm.specs.declared.raw.RawFirm.{RawFirm}
-use Rattle.tn_firm.specs.declared.raw.RawFirm.TheVariants.{Table, Laminar, Middle}
-use Rattle.tn_firm.specs.declared.value.FirmValue.TheVariants.{Laminar as LaminarValue, Middle as MiddleValue}
+use Rattle.tn_firm.specs.declared.raw.RawFirm.TheVariants.{Table, Laminar, Middle, Dealer}
+use Rattle.tn_firm.specs.declared.value.FirmValue.TheVariants.{Laminar as LaminarValue, Middle as MiddleValue, Dealer as DealerValue}
 use Rattle.tn_firm.specs.Firms.{firm_laws}
 use Rattle.tn_firm.specs.Raw.{raw_firm_of}
 use Rattle.tn_price.proofs.JudgeLemmas.{firm_is}
@@ -21,6 +21,7 @@ raw_own_bundles : (raw : RawFirm) → HasOwnBundles (raw_firm_of raw)
 raw_own_bundles (Table table) = own_bundles table
 raw_own_bundles (Laminar firm) = (firm_laws (LaminarValue firm)).own_bundles
 raw_own_bundles (Middle firm) = (firm_laws (MiddleValue firm)).own_bundles
+raw_own_bundles (Dealer firm) = (firm_laws (DealerValue firm)).own_bundles
 
 -- each firm before the next one meets exchange, where this one has no failing triple
 pub one_more_meets : (firms : List RawFirm) (f : ℕ) (raw : RawFirm) → slice_get firms f ≡ Some raw → NoneFails (raw_firm_of raw)

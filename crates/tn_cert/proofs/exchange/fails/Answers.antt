@@ -6,3 +6,6 @@ returns-in-Laminar c = ((λ yes. absurd (cc yes)), λ fails. absurd (none_fails_
 
 pub returns-in-Laminar-2 : goal.returns-in-Laminar-2
 returns-in-Laminar-2 c = ((λ yes. absurd (cc yes)), λ fails. absurd (none_fails_of_kind c.args.firm.now c.in-Laminar.is c.args.x c.args.y c.args.at fails))
+
+pub returns-in-Laminar-3 : goal.returns-in-Laminar-3
+returns-in-Laminar-3 c = ((λ yes. absurd (cc yes)), λ fails. absurd (none_fails_of_kind c.args.firm.now c.in-Laminar.is c.args.x c.args.y c.args.at fails))

@@ -3,6 +3,8 @@ use Rattle.std.specs.Prelude.{◌↔◌, ◌^◌}
 use Rattle.tn_base.specs.Firm.{Firm}
 use Rattle.tn_base.specs.Exchange.{NoneFails}
 use Rattle.tn_base.proofs.ExchangeLemmas.{none_fails_from_exchange}
+use Rattle.tn_dealer.specs.declared.dealer.Dealer.{Dealer}
+use Rattle.tn_dealer.specs.Laws.{dealer_laws}
 use Rattle.tn_exchange.specs.declared.verdict.Verdict.TheVariants.{Holds}
 use Rattle.tn_laminar.specs.declared.laminar.Laminar.{Laminar}
 use Rattle.tn_laminar.specs.Laws.{laminar_laws}
@@ -10,7 +12,7 @@ use Rattle.tn_market.specs.Lawful.{IsLawful}
 use Rattle.tn_middle.specs.declared.middle.Middle.{Middle}
 use Rattle.tn_middle.specs.Laws.{middle_laws}
 use Rattle.tn_firm.specs.declared.raw.RawFirm.{RawFirm}
-use Rattle.tn_firm.specs.declared.raw.RawFirm.TheVariants.{Laminar as IsLaminar, Middle as IsMiddle}
+use Rattle.tn_firm.specs.declared.raw.RawFirm.TheVariants.{Laminar as IsLaminar, Middle as IsMiddle, Dealer as IsDealer}
 use Rattle.tn_firm.specs.Raw.{raw_firm_of}
 use Rattle.tn_firm.proofs.raw.RawFirm.test.Goals as goal
 
@@ -23,6 +25,7 @@ returns-in-Laminar-clause-holds c = ((λ _. meets c.args.self.now c.in-Laminar.i
     lawful : (firm : Firm) → IsLawful (10 ^ 11) firm → NoneFails firm
     lawful firm laws = none_fails_from_exchange firm (record { one = laws.exchange_one; net_count = laws.exchange_net })
 
-    meets : (raw : RawFirm) → ((firm : Laminar) × (raw ≡ IsLaminar firm)) ⊎ ((firm : Middle) × (raw ≡ IsMiddle firm)) → NoneFails (raw_firm_of raw)
+    meets : (raw : RawFirm) → ((firm : Laminar) × (raw ≡ IsLaminar firm)) ⊎ (((firm : Middle) × (raw ≡ IsMiddle firm)) ⊎ ((firm : Dealer) × (raw ≡ IsDealer firm))) → NoneFails (raw_firm_of raw)
     meets raw (inl (firm, is)) = subst (λ (raw : RawFirm). NoneFails (raw_firm_of raw)) (sym is) (lawful _ (laminar_laws firm))
-    meets raw (inr (firm, is)) = subst (λ (raw : RawFirm). NoneFails (raw_firm_of raw)) (sym is) (lawful _ (middle_laws firm))
+    meets raw (inr (inl (firm, is))) = subst (λ (raw : RawFirm). NoneFails (raw_firm_of raw)) (sym is) (lawful _ (middle_laws firm))
+    meets raw (inr (inr (firm, is))) = subst (λ (raw : RawFirm). NoneFails (raw_firm_of raw)) (sym is) (lawful _ (dealer_laws firm))
