@@ -11,3 +11,4 @@ pub mod SetLaws
 pub mod TableLaws
 pub mod ExchangeLaw
 pub mod Limbs
+pub mod Every

@@ -4,9 +4,9 @@ use Rattle.std.specs.Prelude.{◌≤ℤ◌, ◌<ℤ◌, Option, Some, None, is_s
 use Rattle.std.proofs.lemmas.Bool.{cases_eq, cases_lt, false≢true}
 use Rattle.std.proofs.lemmas.Int.{ints, by_lt_z}
 use Rattle.tn_base.specs.Firm.{Firm}
+use Rattle.tn_base.specs.Every.{HasEveryBundle}
 use Rattle.tn_base.proofs.SetLemmas.{toggle_within}
 use Rattle.tn_law.specs.Places.{level, move, toggle_at, sum_to, one_at}
-use Rattle.tn_law.specs.Close.{HasEveryBundle}
 use Rattle.tn_law.proofs.SumLemmas.{sum_to-le, sum_to-one}
 use Rattle.tn_law.proofs.PlaceLemmas.{places, toggle_at-trade, toggle_at-null}
 use Rattle.tn_law.proofs.DistanceLemmas.{above_or_none, gap, levels_same, gap-nearer}
@@ -36,7 +36,7 @@ sum_to-zero f (suc m) none k h = elim (cases_eq k m) [
 ]
 
 -- a function with 1 at one number alone has the sum 1
-sum_to-single : (u m : ℕ) → u < m → sum_to (one_at u) m ≡ 1
+pub sum_to-single : (u m : ℕ) → u < m → sum_to (one_at u) m ≡ 1
 sum_to-single u m inside =
     let step = sum_to-one (one_at u) (λ k. 0) u m inside (λ k h. omega arith) in
     let nothing = sum_to-nothing m in

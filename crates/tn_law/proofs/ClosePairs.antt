@@ -1,16 +1,19 @@
 -- That close bundles are those two units apart, and the law over them.
-use Rattle.std.proofs.Common.{◌≡◌, ℕ, zero, suc, ◌+◌, ◌-◌, ◌^◌, ◌<◌, Bool, true, false, not, ◌&&◌, refl, sym, ap, ◌∙◌, subst, arith, inl, inr, if◌then◌else◌, ℤ, pos, negsuc, ◌+ℤ◌, ◌-ℤ◌}
-use Rattle.std.specs.Prelude.{◌≤ℤ◌, nat_abs, Some, None}
+use Rattle.std.proofs.Common.{◌≡◌, ℕ, zero, suc, ◌+◌, ◌-◌, ◌^◌, ◌<◌, ◌≤◌, Bool, true, false, not, ◌&&◌, refl, sym, ap, ◌∙◌, subst, arith, inl, inr, if◌then◌else◌, ℤ, pos, negsuc, ◌+ℤ◌, ◌-ℤ◌}
+use Rattle.std.specs.Prelude.{◌≤ℤ◌, nat_abs, Option, Some, None}
+use Rattle.std.proofs.Math.Path.{subst₂}
 use Rattle.std.proofs.lemmas.Bool.{cases_lt}
 use Rattle.std.proofs.lemmas.Int.{ints}
+use Rattle.std.proofs.lemmas.Option.{same_Some}
 use Rattle.tn_base.specs.Sets.{has, minus, size_below}
 use Rattle.tn_base.specs.Firm.{Firm, HasOwnBundles, net, up}
-use Rattle.tn_base.specs.Exchange.{AreEnough, SwapsDown, Exchanges, NoneFails}
+use Rattle.tn_base.specs.Every.{HasEveryBundle}
+use Rattle.tn_base.specs.Exchange.{AreEnough, SwapsDown, Exchanges, IsWrongAt, Fails, NoneFails}
 use Rattle.tn_base.proofs.SetLemmas.{has-minus, has_below, minus_within}
 use Rattle.tn_base.proofs.SizeLemmas.{size_at}
 use Rattle.tn_base.proofs.ExchangeLemmas.{up_within, exchanges_or_not, swaps_or_not, none_fails_from_exchange}
 use Rattle.tn_law.specs.Places.{trade_level, null_level, level, move, sum_to, SwapsAt, ExchangesOverPlaces}
-use Rattle.tn_law.specs.Close.{distance, AreClose, HasEveryBundle, NoneCloseFails}
+use Rattle.tn_law.specs.Close.{distance, AreClose, NoneCloseFails}
 use Rattle.tn_law.proofs.SumLemmas.{sum_to-same}
 use Rattle.tn_law.proofs.PlaceLemmas.{level-trade, level-null, move-both, move-to_null, move-from_null}
 use Rattle.tn_law.proofs.ExchangeLemmas.{net-null_level, null_is_net_count, up_is_level, exchange_from_places}
@@ -74,7 +77,7 @@ distance-gaps n buys x y x_own y_own =
     omega (arith, first, second, sizes, above, below, nets)
 
 -- bundles that are two units apart are close
-close_from_gap : (firm : Firm) (x y : ℕ) → x < 2 ^ firm.count → y < 2 ^ firm.count
+pub close_from_gap : (firm : Firm) (x y : ℕ) → x < 2 ^ firm.count → y < 2 ^ firm.count
     → gap firm.count (level firm.count firm.buys x) (level firm.count firm.buys y) ≡ 2 → AreClose firm.buys x y
 close_from_gap firm x y x_own y_own apart =
     let both = distance-gaps firm.count firm.buys x y x_own y_own in
@@ -204,3 +207,64 @@ pub close_pairs_decide : (firm : Firm) → HasOwnBundles firm → HasEveryBundle
 close_pairs_decide firm own every none =
     none_fails_from_exchange firm (exchange_from_places firm own
     (exchanges_over_places firm own every (exchanges_everywhere firm (close_exchanges firm every none))))
+
+-- the same firm's worths at other names of the two bundles
+enough_at : (firm : Firm) (x y x' y' : ℕ) (total : ℤ) → x ≡ x' → y ≡ y' → AreEnough firm x y total → AreEnough firm x' y' total
+enough_at firm x y x' y' total p q e = subst₂ (λ (u v : ℕ). AreEnough firm u v total) p q e
+
+-- a place that swaps is a position that exchanges
+exchanges_from_swap : (firm : Firm) (x y : ℕ) (total : ℤ) (i : ℕ) → x < 2 ^ firm.count → y < 2 ^ firm.count → i < firm.count
+    → SwapsAt firm x y total i → Exchanges firm x y total i
+exchanges_from_swap firm x y total i x_own y_own p swap = elim (cases_lt swap.at firm.count) [
+  | inl q ↦ inl (record {
+    at = swap.at;
+    is_down = level_to_up firm.count firm.buys y x swap.at q swap.is_down;
+    enough = enough_at firm _ _ _ _ total (move-both firm.count x i swap.at p q) (move-both firm.count y i swap.at p q) swap.enough;
+  })
+  | inr q ↦
+      let e : swap.at ≡ firm.count = (let r = swap.is_place in omega (arith, q, r)) in
+      inr (record {
+        greater = (null_is_net_count firm.count firm.buys y x y_own x_own).1
+            (subst (λ (k : ℕ). level firm.count firm.buys x k < level firm.count firm.buys y k) e swap.is_down);
+        enough = enough_at firm _ _ _ _ total
+            (ap (move firm.count x i) e ∙ move-to_null firm.count x i p) (ap (move firm.count y i) e ∙ move-to_null firm.count y i p) swap.enough;
+      })
+]
+
+-- and where null swaps, a position of the down side does alone
+down_from_swap : (firm : Firm) (x y : ℕ) (total : ℤ) → level firm.count firm.buys y firm.count < level firm.count firm.buys x firm.count
+    → SwapsAt firm x y total firm.count → SwapsDown firm x y x y total
+down_from_swap firm x y total greater swap = elim (cases_lt swap.at firm.count) [
+  | inl q ↦ record {
+    at = swap.at;
+    is_down = level_to_up firm.count firm.buys y x swap.at q swap.is_down;
+    enough = enough_at firm _ _ _ _ total (move-from_null firm.count x swap.at q) (move-from_null firm.count y swap.at q) swap.enough;
+  }
+  | inr q ↦
+      let e : swap.at ≡ firm.count = (let r = swap.is_place in omega (arith, q, r)) in
+      let less : level firm.count firm.buys x firm.count < level firm.count firm.buys y firm.count =
+      subst (λ (k : ℕ). level firm.count firm.buys x k < level firm.count firm.buys y k) e swap.is_down in
+      absurd (omega (arith, less, greater))
+]
+
+-- where each place of the up side of two bundles swaps, none of their triples fails
+pub no_failure_from_swaps : (firm : Firm) (x y : ℕ) (a b : ℤ) → x < 2 ^ firm.count → y < 2 ^ firm.count
+    → firm.worth x ≡ Some a → firm.worth y ≡ Some b
+    → ((i : ℕ) → i ≤ firm.count → level firm.count firm.buys y i < level firm.count firm.buys x i → SwapsAt firm x y (a +ℤ b) i)
+    → (at : Option ℕ) → Fails firm x y at → ⊥
+no_failure_from_swaps firm x y a b x_own y_own x_is y_is swaps at f =
+    by at (subst (λ (z : ℤ). IsWrongAt firm x y z at) (omega (arith, ints, first, second)) f.wrong)
+  where
+    first : f.first ≡ a
+    first = same_Some _ _ (sym f.first_is ∙ x_is)
+
+    second : f.second ≡ b
+    second = same_Some _ _ (sym f.second_is ∙ y_is)
+
+    by : (o : Option ℕ) → IsWrongAt firm x y (a +ℤ b) o → ⊥
+    by (Some i) wrong =
+        let up = down_to_level firm.count firm.buys y x i y_own x_own wrong.0 in
+        wrong.1 (exchanges_from_swap firm x y (a +ℤ b) i x_own y_own up.0 (swaps i (let p = up.0 in omega (arith, p)) up.1))
+    by None wrong =
+        let greater = (null_is_net_count firm.count firm.buys x y x_own y_own).0 wrong.0 in
+        wrong.1 (down_from_swap firm x y (a +ℤ b) greater (swaps firm.count (omega arith) greater))

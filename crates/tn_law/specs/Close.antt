@@ -1,7 +1,8 @@
 -- Bundles that are close to each other, and exchange between them.
-use Rattle.std.specs.Prelude.{◌≡◌, ℕ, ◌+◌, ◌^◌, ◌<◌, ◌-ℤ◌, nat_abs, Option, IsSome}
+use Rattle.std.specs.Prelude.{◌≡◌, ℕ, ◌+◌, ◌-ℤ◌, nat_abs, Option}
 use Rattle.tn_base.specs.Sets.{minus, size}
 use Rattle.tn_base.specs.Firm.{Firm, net, HasOwnBundles}
+use Rattle.tn_base.specs.Every.{HasEveryBundle}
 use Rattle.tn_base.specs.Exchange.{Fails, NoneFails}
 
 -- the count of positions in just one of two bundles, plus the size of the difference of their net counts
@@ -11,10 +12,6 @@ distance buys x y = size (minus x y) + size (minus y x) + nat_abs (net buys x -�
 -- two bundles are close where this is 4
 abbrev pub AreClose : ℕ → ℕ → ℕ → Type 0
 AreClose buys x y = distance buys x y ≡ 4
-
--- every bundle of own positions is possible
-abbrev pub HasEveryBundle : Firm → Type 0
-HasEveryBundle firm = (x : ℕ) → x < 2 ^ firm.count → IsSome (firm.worth x)
 
 -- no triple with close bundles fails
 abbrev pub NoneCloseFails : Firm → Type 0
