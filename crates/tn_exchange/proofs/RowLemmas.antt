@@ -99,7 +99,7 @@ row_at-replicate n x = elim (cases_lt x n) [
 ]
 
 -- a table without rows is within the limits
-pub limits_without_rows : (sides : List Side) → length sides ≤ 10 → IsWithinLimits (without_rows sides)
+pub limits_without_rows : (sides : List Side) → length sides ≤ 14 → IsWithinLimits (without_rows sides)
 limits_without_rows sides few = record {
   few = few;
   places = length-replicate {A = Option ℤ} (2 ^ length sides) None;

@@ -28,7 +28,7 @@ firm_of_table table = record { count = length table.sides; buys = buys_of table.
 
 -- what every raw table keeps
 pub record IsWithinLimits (table : TableRows) : Type 0 where
-  pub few : length table.sides ≤ 10
+  pub few : length table.sides ≤ 14
   -- there is a place for each bundle
   pub places : length table.rows ≡ 2 ^ length table.sides
   pub small : (x : ℕ) (amount : ℤ) → row_at table.rows x ≡ Some amount → IsAtMost amount (10 ^ 9)

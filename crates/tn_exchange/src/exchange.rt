@@ -66,8 +66,9 @@ fn test_from(table: &RawTable, buys: Bundle, x: Bundle, first: i128) -> Verdict
     Verdict::Holds
 }
 
-/// The verdict on the triples with two possible bundles of this total.
-fn test_pair(table: &RawTable, buys: Bundle, x: Bundle, y: Bundle, total: i128) -> Verdict
+/// The verdict on the triples with two possible bundles of this total: none of them fails, or the first that does, by
+/// its position. It takes no memory.
+pub fn test_pair(table: &RawTable, buys: Bundle, x: Bundle, y: Bundle, total: i128) -> Verdict
     requires bought { buys ≡ buys_of table.now.sides }
     requires x_own { x < 2 ^ length table.now.sides }
     requires y_own { y < 2 ^ length table.now.sides }
@@ -94,7 +95,7 @@ fn is_wrong_at(
     total: i128,
     at: Option<u32>,
 ) -> bool
-    requires few { length table.now.sides ≤ 10 }
+    requires few { length table.now.sides ≤ 14 }
     requires bought { buys ≡ buys_of table.now.sides }
     requires x_own { x < 2 ^ length table.now.sides }
     requires y_own { y < 2 ^ length table.now.sides }
@@ -109,7 +110,7 @@ fn is_wrong_at(
 
 /// Whether position `i` can be toggled in both bundles, alone or with a position of the down side.
 fn exchanges(table: &RawTable, buys: Bundle, x: Bundle, y: Bundle, total: i128, i: u32) -> bool
-    requires few { length table.now.sides ≤ 10 }
+    requires few { length table.now.sides ≤ 14 }
     requires bought { buys ≡ buys_of table.now.sides }
     requires x_own { x < 2 ^ length table.now.sides }
     requires y_own { y < 2 ^ length table.now.sides }
@@ -136,8 +137,8 @@ fn swaps(table: &RawTable, positions: Bundle, x: Bundle, y: Bundle, total: i128)
     false
 }
 
-/// Whether both bundles are possible and together worth at least the total.
-fn are_enough(table: &RawTable, x: Bundle, y: Bundle, total: i128) -> bool
+/// Whether two bundles of own positions are possible and together worth at least the total. It takes no memory.
+pub fn are_enough(table: &RawTable, x: Bundle, y: Bundle, total: i128) -> bool
     requires x_own { x < 2 ^ length table.now.sides }
     requires y_own { y < 2 ^ length table.now.sides }
     ensures { IsTrue result ↔ AreEnough (firm_of_table table.now) x y total }

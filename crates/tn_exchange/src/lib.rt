@@ -10,7 +10,7 @@ mod table;
 mod tests;
 mod verdict;
 
-pub use exchange::{fails_at, test};
+pub use exchange::{are_enough, fails_at, test, test_pair};
 pub use laws::rows_make_the_firm;
 pub use refusal::RowRefusal;
 pub use table::RawTable;

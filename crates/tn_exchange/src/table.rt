@@ -1,5 +1,6 @@
-ghost use Rattle.std.specs.Prelude.{◌≡◌, ◌^◌, ◌<◌, ◌≤◌, ◌↔◌, Some, Err, length, slice_get, IfOk, OnOk, OnErr, IfSome};
+ghost use Rattle.std.specs.Prelude.{◌≡◌, ◌^◌, ◌<◌, ◌≤◌, ◌↔◌, Some, Err, length, slice_get, IsTrue, IfOk, OnOk, OnErr, IfSome};
 ghost use Rattle.tn_base.specs.Arcs.{IsAtMost};
+ghost use Rattle.tn_base.specs.Every.{HasEveryBundle};
 ghost use Rattle.tn_base.specs.Table.{buys_of};
 ghost use Rattle.tn_exchange.specs.Rows.{HasRow, IsWithinLimits, firm_of_table, without_rows, with_row};
 
@@ -28,9 +29,9 @@ impl Model for RawTable {
 }
 
 impl RawTable {
-    /// The table of these sides, at most 10, without rows. It takes all the memory that the table needs.
+    /// The table of these sides, at most 14, without rows. It takes all the memory that the table needs.
     pub fn new(alloc: Global, sides: Vec<Side>) -> Result<RawTable, OutOfMemory>
-        requires { length sides.items ≤ 10 }
+        requires { length sides.items ≤ 14 }
         ensures { IfOk result (λ table. table ≡ without_rows sides.items) }
     {
         let rows = vec![in alloc; None; 1 << sides.len()]?;
@@ -68,7 +69,19 @@ impl RawTable {
         }
     }
 
-    /// How many trades are the firm's own, at most 10.
+    /// Whether every bundle of own positions is possible. It takes no memory.
+    pub fn full(&self) -> bool
+        ensures { IsTrue result ↔ HasEveryBundle (firm_of_table self.now) }
+    {
+        for bits in 0..self.bundles() {
+            if self.worth(Bundle::from_bits(bits)).is_none() {
+                return false;
+            }
+        }
+        true
+    }
+
+    /// How many trades are the firm's own, at most 14.
     pub fn trades(&self) -> u32
         ensures count { result ≡ length self.now.sides }
         ensures within { IsWithinLimits self.now }
@@ -85,14 +98,14 @@ impl RawTable {
     }
 
     /// How many bundles of own positions there are.
-    pub(crate) fn bundles(&self) -> u64
+    pub fn bundles(&self) -> u64
         ensures { result ≡ 2 ^ length self.now.sides }
     {
         1 << self.trades()
     }
 
     /// The positions that are bought.
-    pub(crate) fn buys(&self) -> Bundle
+    pub fn buys(&self) -> Bundle
         ensures members { result ≡ buys_of self.now.sides }
         ensures within { IsWithinLimits self.now }
     {

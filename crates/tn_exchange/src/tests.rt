@@ -11,7 +11,7 @@ fn filled(
     sides: Vec<Side>,
     rows: &[(u64, i128)],
 ) -> Result<RawTable, Fail> {
-    assert!(rt; sides.len() <= 10);
+    assert!(rt; sides.len() <= 14);
     let mut table = RawTable::new(alloc, sides)?;
     for &(bits, amount) in rows {
         assert!(rt; bits < 1 << table.trades());
@@ -36,6 +36,7 @@ fn complements_fail(rt: HostRuntime) -> Result<(), Fail> {
             at: Some(0)
         }
     );
+    assert!(rt; table.full());
     assert_eq!(rt; table.side(1), Side::Buy);
     assert_eq!(rt; table.worth(both), Some(10));
     assert_eq!(rt; table.worth(none), Some(0));
@@ -54,6 +55,7 @@ fn a_purchase_with_its_sale_holds(rt: HostRuntime) -> Result<(), Fail> {
     assert_eq!(rt; table.add(Bundle::empty(), 7), Err(RowRefusal::Same));
     assert_eq!(rt; table.worth(Bundle::empty()), Some(0));
     assert_eq!(rt; table.worth(Bundle::from_bits(0b10)), None);
+    assert!(rt; !table.full());
     Ok(())
 }
 

@@ -52,7 +52,7 @@ of_table trades f table is = record {
   rows = is.rows;
   apart = is.apart;
   is = is.is;
-  few = subst (λ (s : List Side). length s ≤ 10) is.sides is.within.few;
+  few = is.few;
   small = λ x amount e. worth_is_small table is.within x amount e;
 }
 

@@ -78,7 +78,7 @@ module _ (listed : Listed) (trades : AreTrades listed) (f : ℕ) (firm_few : IsF
   few_rows rows counted =
       let most = filled_le rows.table.rows in
       let places = counted.0.within.places in
-      let few : 2 ^ length rows.table.sides ≤ 1024 = pow-le-pow_right (omega arith) counted.0.within.few in
+      let few : 2 ^ length rows.table.sides ≤ 1024 = pow-le-pow_right (omega arith) (subst (λ (s : List Side). length s ≤ 10) (sym counted.0.sides) counted.0.few) in
       let same = counted.1 in
       omega (arith, most, places, few, same)
 

@@ -1,5 +1,5 @@
 -- What the tables are that reading gives.
-use Rattle.std.proofs.Common.{◌≡◌, ◌≢◌, ℕ, ◌+◌, ◌^◌, ◌<◌, ◌≤◌, Bool, true, false, cond, List, [], ◌∷◌, ◌++◌, length, Option, Some, None, refl, sym, ap, subst, ◌∙◌}
+use Rattle.std.proofs.Common.{arith, ◌≡◌, ◌≢◌, ℕ, ◌+◌, ◌^◌, ◌<◌, ◌≤◌, Bool, true, false, cond, List, [], ◌∷◌, ◌++◌, length, Option, Some, None, refl, sym, ap, subst, ◌∙◌}
 use Rattle.std.specs.Prelude.{ℤ, nat_eq, is_none, codes}
 use Rattle.std.proofs.lemmas.Bool.{eq-eqb, ne_eqb}
 use Rattle.serde_json.specs.Data.{Data, Items}
@@ -26,6 +26,7 @@ use Rattle.tn_shape.proofs.LeadLemmas.{Leads, leads_ok, leads_bind, leads_after,
 -- the table of firm f is a list of numbers for bundles of its own trades, no bundle twice
 pub record IsTableOf (trades : List Ends) (f : ℕ) (table : TableRows) : Type 0 where
   pub sides : table.sides ≡ sides_of trades f
+  pub few : length (sides_of trades f) ≤ 10
   pub within : IsWithinLimits table
   pub rows : List (ℕ × ℤ)
   pub apart : AreApart (length (sides_of trades f)) rows
@@ -75,6 +76,7 @@ module _ (listed : Listed) (trades : AreTrades listed) (f : ℕ) where
   -- the rows so far
   pub record AreRows (rows : Rows) : Type 0 where
     pub sides : rows.table.sides ≡ sides_of listed.ends f
+    pub few : length (sides_of listed.ends f) ≤ 10
     pub within : IsWithinLimits rows.table
     pub listed_rows : List (ℕ × ℤ)
     pub apart : AreApart (length (sides_of listed.ends f)) listed_rows
@@ -83,7 +85,8 @@ module _ (listed : Listed) (trades : AreTrades listed) (f : ℕ) where
   pub rows_start : length (sides_of listed.ends f) ≤ 10 → AreRows (record { count = 0; table = without_rows (sides_of listed.ends f) })
   rows_start few = record {
     sides = refl;
-    within = limits_without_rows (sides_of listed.ends f) few;
+    few = few;
+    within = limits_without_rows (sides_of listed.ends f) (omega (arith, few));
     listed_rows = [];
     apart = tt;
     made = made_of_none (sides_of listed.ends f);
@@ -102,6 +105,7 @@ module _ (listed : Listed) (trades : AreTrades listed) (f : ℕ) where
           let absent : row_in kept.listed_rows next.0 ≡ None = sym (kept.made next.0) ∙ none in
           record {
             sides = kept.sides;
+            few = kept.few;
             within = limits_with_row rows.table kept.within next.0 next.1 own is_own.small;
             listed_rows = kept.listed_rows ++ next ∷ [];
             apart = apart_push (length (sides_of listed.ends f)) kept.listed_rows next kept.apart is_own.own absent;
@@ -115,6 +119,7 @@ module _ (listed : Listed) (trades : AreTrades listed) (f : ℕ) where
       (leads_each AreRows (one_row listed f) one_row_leads (record { count = 0; table = without_rows (sides_of listed.ends f) }) items (rows_start few))
       (λ rows kept. leads_ok (IsTableOf listed.ends f) rows.table (record {
         sides = kept.sides;
+        few = kept.few;
         within = kept.within;
         rows = kept.listed_rows;
         apart = kept.apart;

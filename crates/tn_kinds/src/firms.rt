@@ -102,7 +102,8 @@ fn table_of(
 ) -> Result<RawTable, ReadError>
     requires trades { AreTrades (record { names = names.now; ends = ends.now }) }
     requires few { length (sides_of ends.now f) ≤ 10 }
-    ensures { Gives (λ table. table) result
+    ensures few { IfOk result (λ table. length table.sides ≤ 10) }
+    ensures gives { Gives (λ table. table) result
         (table_of (record { names = names.now; ends = ends.now }) f (view firm.now)) }
 {
     let rows = list(alloc, firm.get("rows"), &[FIRMS, Index(f), ROWS])?;

@@ -25,7 +25,8 @@ pub trait FromKinds: Sized {
 
     /// Firm `f` over the trades with these ends, or the fault that its table fails exchange.
     fn from_table(alloc: Global, ends: &[Ends], f: u32, table: RawTable) -> Result<Self, ReadError>
-        requires { length ends.now ≤ 128 }
+        requires few_trades { length ends.now ≤ 128 }
+        requires few { length table.sides ≤ 10 }
         ensures { Gives firm result (tested_firm tested ends.now f table) };
 
     /// A laminar firm.

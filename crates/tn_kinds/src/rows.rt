@@ -30,7 +30,8 @@ pub(crate) fn read_rows(
 ) -> Result<RawTable, ReadError>
     requires trades { AreTrades (record { names = names.now; ends = ends.now }) }
     requires few { length (sides_of ends.now f) ≤ 10 }
-    ensures { Gives (λ table. table) result
+    ensures few { IfOk result (λ table. length table.sides ≤ 10) }
+    ensures gives { Gives (λ table. table) result
         (rows_of (record { names = names.now; ends = ends.now }) f (items_view rows.now)) }
 {
     let sides = sides_of(alloc, ends, f)?;

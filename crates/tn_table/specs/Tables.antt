@@ -8,8 +8,8 @@ use Rattle.tn_base.specs.Exchange.{MeetsExchange}
 use Rattle.tn_base.proofs.ExchangeLemmas.{exchange_from_none_fails}
 use Rattle.tn_base.proofs.TableLemmas.{buys_of_within}
 use Rattle.tn_exchange.specs.Rows.{TableRows, firm_of_table}
-use Rattle.tn_exchange.specs.TestOrder.{IsFirstFailure}
 use Rattle.tn_exchange.proofs.RowLemmas.{own_bundles, may_abstain, worth_is_small}
+use Rattle.tn_local.specs.First.{IsFirstTriple}
 use Rattle.tn_market.specs.Lawful.{IsLawful}
 use Rattle.tn_table.specs.declared.table.Table.{Table}
 use Rattle.tn_table.specs.declared.table.TableRefused.{TableRefused}
@@ -17,10 +17,10 @@ use Rattle.tn_table.specs.declared.table.TableRefused.{TableRefused}
 abbrev pub firm_of : Table → Firm
 firm_of table = firm_of_table table.raw
 
--- the table is handed back, with its first failing triple
+-- the table is handed back, with its first triple
 pub record Refuses (raw : TableRows) (refused : TableRefused) : Type 0 where
   pub same : refused.raw ≡ raw
-  pub first : IsFirstFailure (firm_of_table raw) (record { x = refused.x; y = refused.y; at = refused.at })
+  pub first : IsFirstTriple (firm_of_table raw) (record { x = refused.x; y = refused.y; at = refused.at })
 
 at_most_bound : (z : ℤ) → IsAtMost z (10 ^ 9) → IsAtMost z (10 ^ 11)
 at_most_bound z small =
@@ -44,6 +44,6 @@ table_laws table =
       small_limit = omega arith;
     }
 
--- a table has at most 10 own trades
-pub table_few : (table : Table) → (firm_of table).count ≤ 10
+-- a table has at most 14 own trades
+pub table_few : (table : Table) → (firm_of table).count ≤ 14
 table_few table = table.within.few

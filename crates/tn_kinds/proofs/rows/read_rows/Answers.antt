@@ -21,9 +21,9 @@ loop-row-init c =
       rest = ap (λ (t : TableRows). each (one_row (record { names = c.args.names.now; ends = c.args.ends.now }) c.args.f) (record { count = 0; table = t }) (items_view c.args.rows.now)) made;
     }
 
-pub returns-in_err-read_row : goal.returns-in_err-read_row
+pub returns-in_err-read_row-clause-gives : goal.returns-in_err-read_row-clause-gives
 unfolding rows_of
-returns-in_err-read_row c =
+returns-in_err-read_row-clause-gives c =
     let p = err_from_is_err_and c.from_residual-in_err-read_row.result c.from_residual-in_err-read_row.ensures.1 in
     rw (p.1, p.2) (fails_then c.in_err-read_row.field-0.0 _ _ (each_fails (one_row (record { names = c.args.names.now; ends = c.args.ends.now }) c.args.f) c.in_err-read_row.field-0.0 c.args.rows.now c.loop-row.row-index c.row-item.result _ _ c.loop-row-test.true (rw (← c.row-item.is) c.in_err-read_row.ensures.gives) c.loop-row.invariant.rest))
 
@@ -45,8 +45,13 @@ loop-row-preserved c =
       rest = each_goes_on (one_row (record { names = c.args.names.now; ends = c.args.ends.now }) c.args.f) c.args.rows.now c.loop-row.row-index c.row-item.result _ _ _ c.loop-row-test.true (rw (← c.row-item.is) after.gives) i.rest;
     }
 
-pub returns : goal.returns
+pub returns-clause-gives : goal.returns-clause-gives
 unfolding rows_of
-returns c =
+returns-clause-gives c =
     let done = each_is_done (one_row (record { names = c.args.names.now; ends = c.args.ends.now }) c.args.f) c.args.rows.now c.loop-row.row-index _ _ c.loop-row-test.false c.loop-row.invariant.rest in
     rw done refl
+
+pub returns-clause-few : goal.returns-clause-few
+returns-clause-few c =
+    let same : length c.loop-row.table.sides ≡ length (sides_of c.args.ends.now c.args.f) = ap length c.loop-row.invariant.sides in
+    omega (arith, same, c.requires.few)

@@ -9,5 +9,5 @@ returns-in-Ok c = tested_firm-holds c.args.ends.now c.args.f c.args.table (c.in-
 pub returns-in_ok-fault-in-Err : goal.returns-in_ok-fault-in-Err
 returns-in_ok-fault-in-Err c =
     let refused = c.in-Err.ensures.refused in
-    tested_firm-fails c.args.ends.now c.args.f c.trades.result c.args.table _ refused.first (c.trades.ensures.count ∙ ap (λ (t : TableRows). length t.sides) refused.same)
+    tested_firm-fails c.args.ends.now c.args.f c.trades.result c.args.table _ (refused.first.small c.requires.few) (c.trades.ensures.count ∙ ap (λ (t : TableRows). length t.sides) refused.same)
     ∙ ap Err (sym c.in_ok-fault-in-Err.ensures)

@@ -2,4 +2,4 @@ use Rattle.tn_table.proofs.table.Table.new.Goals as goal
 
 -- src/table.rt:40:31
 pub invariant_of-result : goal.invariant_of-result
-invariant_of-result c = record { within = c.test.ensures.within; none_fails = c.test.ensures.holds.0 c.in-Holds.is }
+invariant_of-result c = record { within = c.test_table.ensures.within; none_fails = c.test_table.ensures.holds.0 c.in-Holds.is }

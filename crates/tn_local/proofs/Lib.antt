@@ -1,0 +1,3 @@
+pub mod FourLemmas
+pub mod WalkLemmas
+pub mod VerdictLemmas

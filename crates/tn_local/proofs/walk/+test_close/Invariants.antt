@@ -1,0 +1,4 @@
+use Rattle.tn_local.proofs.walk.+test_close.Given as goal
+
+abbrev pub decreases-test_close : goal.decreases-test_close
+decreases-test_close l = l.k

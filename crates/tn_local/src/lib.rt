@@ -1,0 +1,12 @@
+//! The exchange property of a table whose every bundle is possible, tested on close bundles alone, and the verdict on a
+//! table of any size. That close bundles decide is a law of `tn_law`; a firm's first triple stands in `specs/`.
+#![tactic(auto)]
+
+mod local;
+#[cfg(test)]
+mod tests;
+mod verdict;
+mod walk;
+
+pub use local::local_test;
+pub use verdict::test_table;
