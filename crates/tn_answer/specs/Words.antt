@@ -3,7 +3,7 @@ use Rattle.std.specs.Prelude.{ℕ, List, codes}
 use Rattle.tn_base.specs.declared.fault.FaultKind.{FaultKind}
 use Rattle.tn_base.specs.declared.fault.FaultKind.TheVariants.{NotJson, TooLong, Shape, BadName, SameName, UnknownFirm, SelfTrade, UnknownTrade, Limit, AmountRange, NotOwnTrade, SameBundle, NoEmpty, NotLaminar, NotConcave, ExchangeFails, SameTrade, PriceMissing, BadOver, SamePair}
 use Rattle.tn_market.specs.declared.place.Word.{Word}
-use Rattle.tn_market.specs.declared.place.Word.TheVariants.{Version, Firms, Trades, Arrangement, Outcome, Claim, Edits, Name, Seller, Buyer, Kind, Rows, Amounts, Sets, From, Values, Costs, Gains, Keep, On, Prices, Over, Contracts, Answer, Surplus, Firm, Bundle, Gain, X, Y, At, Nodes, Cost, Keeps}
+use Rattle.tn_market.specs.declared.place.Word.TheVariants.{Version, Firms, Trades, Arrangement, Outcome, Claim, Edits, Name, Seller, Buyer, Kind, Rows, Amounts, Sets, From, Values, Costs, Gains, Keep, Pairs, On, Prices, Over, Contracts, Answer, Surplus, Firm, Bundle, Gain, X, Y, At, Nodes, Cost, Keeps}
 
 -- the name of a kind of fault
 abbrev pub kind_name : FaultKind → List ℕ
@@ -49,6 +49,7 @@ word_text Values = codes "values"
 word_text Costs = codes "costs"
 word_text Gains = codes "gains"
 word_text Keep = codes "keep"
+word_text Pairs = codes "pairs"
 word_text On = codes "on"
 word_text Prices = codes "prices"
 word_text Over = codes "over"

@@ -56,6 +56,7 @@ pub(crate) fn word_text(word: Word) -> &'static str
         Word::Costs => "costs",
         Word::Gains => "gains",
         Word::Keep => "keep",
+        Word::Pairs => "pairs",
         Word::On => "on",
         Word::Prices => "prices",
         Word::Over => "over",

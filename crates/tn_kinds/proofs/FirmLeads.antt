@@ -6,7 +6,6 @@ use Rattle.serde_json.specs.Data.{Data, Items}
 use Rattle.serde_json.specs.Events.{items_len}
 use Rattle.tn_base.specs.Firm.{Firm}
 use Rattle.tn_base.specs.Table.{buys_of}
-use Rattle.tn_base.specs.declared.side.Side.{Side}
 use Rattle.tn_base.specs.declared.fault.FaultKind.TheVariants.{Limit}
 use Rattle.tn_market.specs.Network.{IsNetwork, own}
 use Rattle.tn_base.specs.Exchange.{MeetsExchange}
@@ -18,7 +17,7 @@ use Rattle.tn_market.specs.declared.ends.Ends.{Ends}
 use Rattle.tn_shape.specs.Reading.{each, holds}
 use Rattle.tn_refer.specs.Ordered.{Listed, AreInOrder, sides_of, AreTrades}
 use Rattle.tn_shape.specs.declared.members.FirmKind.{FirmKind}
-use Rattle.tn_shape.specs.declared.members.FirmKind.TheVariants.{Table, Laminar, Middleman}
+use Rattle.tn_shape.specs.declared.members.FirmKind.TheVariants.{Table, Laminar, Middleman, Dealer}
 use Rattle.tn_shape.specs.declared.members.ObjectKind.TheVariants.{Firm as FirmObject}
 use Rattle.tn_shape.specs.Shapes.{object_of}
 use Rattle.tn_refer.specs.References.{firm_place}
@@ -26,15 +25,17 @@ use Rattle.tn_kinds.specs.Kinds.{most_own, kind_of, frame_of}
 use Rattle.tn_kinds.specs.Tables.{table_of}
 use Rattle.tn_kinds.specs.Laminars.{laminar_of}
 use Rattle.tn_kinds.specs.Middlemen.{middle_of}
+use Rattle.tn_kinds.specs.Dealers.{dealer_of}
 use Rattle.tn_kinds.specs.Firms.{unless_failing, exchange_of, tested_firm, firm_by, firm_of, one_firm}
 use Rattle.tn_kinds.specs.FirstFailure.{first_failure}
-use Rattle.tn_kinds.specs.Laws.{IsTableFirm, IsLaminarFirm, IsMiddlemanFirm, IsListedFirm, table as table_is, laminar, middleman}
+use Rattle.tn_kinds.specs.Laws.{IsTableFirm, IsLaminarFirm, IsMiddlemanFirm, IsDealerFirm, IsListedFirm, table as table_is, laminar, middleman, dealer}
 use Rattle.tn_names.proofs.NameLemmas.{push_cases}
 use Rattle.tn_kinds.proofs.FailureLemmas.{holds as none_fails}
-use Rattle.tn_kinds.proofs.KindLemmas.{laminar_meets, middleman_meets, listed_few_own}
+use Rattle.tn_kinds.proofs.KindLemmas.{dealer_meets, laminar_meets, middleman_meets, listed_few_own}
 use Rattle.tn_kinds.proofs.TableLeads.{IsTableOf, table_leads}
 use Rattle.tn_kinds.proofs.LaminarLeads.{laminar_leads}
 use Rattle.tn_kinds.proofs.MiddleLeads.{middle_leads}
+use Rattle.tn_kinds.proofs.DealerLeads.{dealer_leads}
 use Rattle.tn_market.proofs.InOrderNetworks.{HaveSides, network, own_ascends, there}
 use Rattle.tn_shape.proofs.LeadLemmas.{Leads, leads_ok, leads_bind, leads_after, leads_each, leads_count, leads_holds, leads_as, le_from_test}
 
@@ -81,6 +82,7 @@ module _ (tested : Bool) (listed : Listed) (trades : AreTrades listed) where
       tested_firm_leads tested listed.ends f table is_table)
   kind_leads f Laminar firm few = leads_as (IsLaminarFirm listed.ends f) (IsFirm tested listed.ends f) (laminar_of listed f firm) (λ made is. record { listed = laminar is; meets = λ t. laminar_meets listed.ends f made is }) (laminar_leads listed trades f firm few)
   kind_leads f Middleman firm few = leads_as (IsMiddlemanFirm listed.ends f) (IsFirm tested listed.ends f) (middle_of listed f firm) (λ made is. record { listed = middleman is; meets = λ t. middleman_meets listed.ends f made is }) (middle_leads listed f firm few)
+  kind_leads f Dealer firm few = leads_as (IsDealerFirm listed.ends f) (IsFirm tested listed.ends f) (dealer_of listed f firm) (λ made is. record { listed = dealer is; meets = λ t. dealer_meets listed.ends f made is }) (dealer_leads listed trades f firm few)
 
   pub frame_leads : (f : ℕ) (kind : FirmKind) (firm : Data) → Leads (λ _. length (sides_of listed.ends f) ≤ most_own kind) (frame_of listed.ends f kind firm)
   unfolding frame_of
@@ -136,6 +138,7 @@ module _ (tested : Bool) (listed : Listed) (trades : AreTrades listed) where
       by_kind (table_is t) = (ap (λ (x : Firm). x.count) t.is, ap (λ (x : Firm). x.buys) t.is)
       by_kind (laminar t) = (ap (λ (x : Firm). x.count) t.is, ap (λ (x : Firm). x.buys) t.is)
       by_kind (middleman t) = (ap (λ (x : Firm). x.count) t.is, ap (λ (x : Firm). x.buys) t.is)
+      by_kind (dealer t) = (ap (λ (x : Firm). x.count) t.is, ap (λ (x : Firm). x.buys) t.is)
 
   -- firms that were read are a network with the trades
   pub network_of : (firms : List Firm) → AreFirms firms → length listed.names.firms ≡ length firms → IsNetwork firms listed.ends

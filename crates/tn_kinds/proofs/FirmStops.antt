@@ -27,7 +27,7 @@ use Rattle.tn_market.specs.Network.{own}
 use Rattle.tn_names.specs.Named.{IsAscendingTriple, IsSayableFault}
 use Rattle.tn_market.proofs.NetworkLemmas.{ascending_list}
 use Rattle.tn_shape.specs.declared.members.FirmKind.{FirmKind}
-use Rattle.tn_shape.specs.declared.members.FirmKind.TheVariants.{Table, Laminar, Middleman}
+use Rattle.tn_shape.specs.declared.members.FirmKind.TheVariants.{Table, Laminar, Middleman, Dealer}
 use Rattle.tn_shape.specs.declared.members.ObjectKind.TheVariants.{Firm as FirmObject, LaminarSet as LaminarSetObject}
 use Rattle.tn_shape.specs.Reading.{◌>>=◌, fault, each, holds}
 use Rattle.tn_shape.specs.Shapes.{text_at, list_at, optional_list_at, few_at, object_of, two_at, whole_at, number_at}
@@ -37,6 +37,7 @@ use Rattle.tn_kinds.specs.Kinds.{kind_named, kind_of, most_own, frame_of}
 use Rattle.tn_kinds.specs.Tables.{Rows, filled, row_place, row_of, one_row, rows_of, table_of}
 use Rattle.tn_kinds.specs.OwnNumbers.{no_numbers, own_numbers}
 use Rattle.tn_kinds.specs.Laminars.{amounts_list, bends, check_set, check_sets, checked_laminar, crosses, first_bend, laminar_of, low_at, one_set, one_value, set_of, set_place, sets_at, unless_bent, values_at}
+use Rattle.tn_kinds.specs.Dealers.{dealer_of}
 use Rattle.tn_kinds.specs.Middlemen.{costs_list, gains_list, keep_at, middle_of}
 use Rattle.tn_kinds.specs.Firms.{shown_of, failure_of, unless_failing, exchange_of, tested_firm, firm_by, firm_of, one_firm}
 use Rattle.tn_kinds.specs.FirstFailure.{first_failure}
@@ -54,6 +55,7 @@ use Rattle.tn_refer.proofs.ToldLemmas.{IsTold, named_place, short_place, told_fr
 use Rattle.tn_shape.proofs.ShapeStops.{text_stops, list_stops, optional_list_stops, few_stops, object_stops, two_stops, whole_stops, number_stops}
 use Rattle.tn_refer.proofs.ReferenceStops.{bundle_stops}
 use Rattle.tn_kinds.proofs.OwnLemmas.{own_numbers_stop}
+use Rattle.tn_kinds.proofs.DealerStops.{dealer_stops}
 
 -- the number of a firm, and few own trades
 pub record IsFewOwn (trades : List Ends) (f : ℕ) : Type 0 where
@@ -295,6 +297,7 @@ module _ (listed : Listed) (trades : AreTrades listed) where
       tested_firm_stops tested f table near is.sides)
   firm_by_stops tested f Laminar firm near few = told_from_plain listed.names.trades (laminar_of listed f firm) (laminar_stops listed trades f (record { number = near; own = few }) firm)
   firm_by_stops tested f Middleman firm near few = told_from_plain listed.names.trades (middle_of listed f firm) (middle_stops listed trades f (record { number = near; own = few }) firm)
+  firm_by_stops tested f Dealer firm near few = told_from_plain listed.names.trades (dealer_of listed f firm) (dealer_stops listed trades f near few firm)
 
   firm_stops : (tested : Bool) (f : ℕ) (firm : Data) → f ≤ 1024 → Stops IsToldHere (firm_of tested listed f firm)
   unfolding firm_of

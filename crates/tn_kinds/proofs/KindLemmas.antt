@@ -16,12 +16,14 @@ use Rattle.tn_market.specs.Lawful.{IsLawful}
 use Rattle.tn_base.specs.Exchange.{MeetsExchange}
 use Rattle.tn_market.specs.declared.ends.Ends.{Ends}
 use Rattle.tn_refer.specs.Ordered.{sides_of}
-use Rattle.tn_kinds.specs.Laws.{IsLaminarFirm, IsMiddlemanFirm, IsListedFirm, laminar, middleman, table}
+use Rattle.tn_dealer.specs.Pairs.{dealer_firm}
+use Rattle.tn_dealer.specs.Worths.{own_pairs, matched_exchange, matched_empty}
+use Rattle.tn_kinds.specs.Laws.{IsDealerFirm, IsLaminarFirm, IsMiddlemanFirm, IsListedFirm, dealer, laminar, middleman, table}
 use Rattle.std.proofs.lemmas.Bool.{eqb-true}
 use Rattle.std.proofs.lemmas.Nat.{pow_pos}
 use Rattle.tn_exchange.specs.RowsLaw.{AreApart}
 
--- laminar firms and middlemen meet exchange by what they are
+-- laminar firms, middlemen and dealers meet exchange by what they are
 pub laminar_is_lawful : (trades : List Ends) (f : ℕ) (firm : Firm) (is : IsLaminarFirm trades f firm) → IsLawful (10 ^ 11) (laminar_firm (sides_of trades f) is.amounts is.sets)
 laminar_is_lawful trades f firm is =
     let sides = sides_of trades f in
@@ -46,6 +48,15 @@ pub middleman_meets : (trades : List Ends) (f : ℕ) (firm : Firm) → IsMiddlem
 middleman_meets trades f firm is =
     let sides = sides_of trades f in
     subst MeetsExchange (sym is.is) (meets (length sides) (buys_of sides) is.numbers is.keep (buys_of_within sides)).1
+
+dealer_keeps : (trades : List Ends) (f : ℕ) (firm : Firm) (is : IsDealerFirm trades f firm)
+    → HasOwnBundles (dealer_firm (sides_of trades f) is.pairs) × MeetsExchange (dealer_firm (sides_of trades f) is.pairs)
+dealer_keeps trades f firm is =
+    let sides = sides_of trades f in
+    matched_exchange (length sides) (buys_of sides) is.pairs (own_pairs (length sides) (buys_of sides) is.pairs is.own)
+
+pub dealer_meets : (trades : List Ends) (f : ℕ) (firm : Firm) → IsDealerFirm trades f firm → MeetsExchange firm
+dealer_meets trades f firm is = subst MeetsExchange (sym is.is) (dealer_keeps trades f firm is).1
 
 -- only bundles of own positions have a row
 row_own : (n : ℕ) (rows : List (ℕ × ℤ)) → AreApart n rows → (x : ℕ) (a : ℤ) → row_of rows x ≡ Some a → x < 2 ^ n
@@ -72,6 +83,7 @@ pub listed_own_bundles : (trades : List Ends) (f : ℕ) (firm : Firm) → IsList
 listed_own_bundles trades f firm (table is) = subst HasOwnBundles (sym is.is) (table_own_bundles (sides_of trades f) is.rows is.apart)
 listed_own_bundles trades f firm (laminar is) = subst HasOwnBundles (sym is.is) (laminar_is_lawful trades f firm is).own_bundles
 listed_own_bundles trades f firm (middleman is) = subst HasOwnBundles (sym is.is) (meets (length (sides_of trades f)) (buys_of (sides_of trades f)) is.numbers is.keep (buys_of_within (sides_of trades f))).0
+listed_own_bundles trades f firm (dealer is) = subst HasOwnBundles (sym is.is) (dealer_keeps trades f firm is).0
 
 -- the empty bundle is possible
 table_may_abstain : (sides : List Side) (rows : List (ℕ × ℤ)) → MayAbstain (table_firm sides rows)
@@ -86,9 +98,11 @@ listed_may_abstain trades f firm (table is) = subst MayAbstain (sym is.is) (tabl
 listed_may_abstain trades f firm (laminar is) = subst MayAbstain (sym is.is) (laminar_is_lawful trades f firm is).empty_is_possible
 listed_may_abstain trades f firm (middleman is) =
     subst MayAbstain (sym is.is) (pos 0, pairing-empty (length (sides_of trades f)) (buys_of (sides_of trades f)) is.numbers is.keep)
+listed_may_abstain trades f firm (dealer is) = subst MayAbstain (sym is.is) (pos 0, matched_empty is.pairs)
 
 -- there are few own trades
 pub listed_few_own : (trades : List Ends) (f : ℕ) (firm : Firm) → IsListedFirm trades f firm → length (sides_of trades f) ≤ 32
 listed_few_own trades f firm (table is) = omega (arith, is.few)
 listed_few_own trades f firm (laminar is) = is.few
 listed_few_own trades f firm (middleman is) = is.few
+listed_few_own trades f firm (dealer is) = is.few

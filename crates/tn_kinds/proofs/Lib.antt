@@ -5,8 +5,11 @@ pub mod TableLeads
 pub mod SoundLemmas
 pub mod LaminarLeads
 pub mod MiddleLeads
+pub mod DealerLeads
+pub mod DealerStops
 pub mod KindLemmas
 pub mod FirmLeads
 pub mod ShownLemmas
 pub mod FirmStops
 pub mod OwnLemmas
+pub mod ThreeLemmas

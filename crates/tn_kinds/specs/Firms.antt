@@ -12,12 +12,13 @@ use Rattle.tn_market.specs.Network.{own, trades_of}
 use Rattle.tn_shape.specs.Reading.{◌>>=◌}
 use Rattle.tn_refer.specs.Ordered.{Listed}
 use Rattle.tn_shape.specs.declared.members.FirmKind.{FirmKind}
-use Rattle.tn_shape.specs.declared.members.FirmKind.TheVariants.{Table, Laminar, Middleman}
+use Rattle.tn_shape.specs.declared.members.FirmKind.TheVariants.{Table, Laminar, Middleman, Dealer}
 use Rattle.tn_refer.specs.References.{firm_place}
 use Rattle.tn_kinds.specs.Kinds.{kind_of, frame_of}
 use Rattle.tn_kinds.specs.Tables.{table_of}
 use Rattle.tn_kinds.specs.Laminars.{laminar_of}
 use Rattle.tn_kinds.specs.Middlemen.{middle_of}
+use Rattle.tn_kinds.specs.Dealers.{dealer_of}
 use Rattle.tn_kinds.specs.FirstFailure.{first_failure}
 
 -- a triple of firm f, which has so many own trades, in trade numbers
@@ -48,6 +49,7 @@ firm_by tested listed f Table firm = do
   tested_firm tested listed.ends f table
 firm_by tested listed f Laminar firm = laminar_of listed f firm
 firm_by tested listed f Middleman firm = middle_of listed f firm
+firm_by tested listed f Dealer firm = dealer_of listed f firm
 
 -- firm f
 unfoldable pub firm_of : Bool → Listed → ℕ → Data → Result Firm Fault

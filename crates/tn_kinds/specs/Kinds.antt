@@ -9,7 +9,7 @@ use Rattle.tn_market.specs.declared.place.PlaceStep.TheVariants.{Word}
 use Rattle.tn_market.specs.declared.place.Word.TheVariants.{Kind}
 use Rattle.tn_market.specs.declared.said.Fault.{Fault}
 use Rattle.tn_shape.specs.declared.members.FirmKind.{FirmKind}
-use Rattle.tn_shape.specs.declared.members.FirmKind.TheVariants.{Table, Laminar, Middleman}
+use Rattle.tn_shape.specs.declared.members.FirmKind.TheVariants.{Table, Laminar, Middleman, Dealer}
 use Rattle.tn_shape.specs.declared.members.ObjectKind.TheVariants.{Firm}
 use Rattle.tn_shape.specs.Reading.{◌>>=◌, wanted, holds}
 use Rattle.tn_shape.specs.Shapes.{text_at, object_of}
@@ -18,7 +18,7 @@ use Rattle.tn_refer.specs.References.{firm_place}
 
 -- the kind that a text names
 abbrev pub kind_named : List ℕ → Option FirmKind
-kind_named text = if bytes_eq text (codes "table") then Some Table else (if bytes_eq text (codes "laminar") then Some Laminar else (if bytes_eq text (codes "middleman") then Some Middleman else None))
+kind_named text = if bytes_eq text (codes "table") then Some Table else (if bytes_eq text (codes "laminar") then Some Laminar else (if bytes_eq text (codes "middleman") then Some Middleman else (if bytes_eq text (codes "dealer") then Some Dealer else None)))
 
 -- the kind of firm f
 unfoldable pub kind_of : ℕ → Data → Result FirmKind Fault
@@ -31,6 +31,7 @@ abbrev pub most_own : FirmKind → ℕ
 most_own Table = 10
 most_own Laminar = 32
 most_own Middleman = 32
+most_own Dealer = 32
 
 -- firm f has the members of its kind alone, and few own trades
 unfoldable pub frame_of : List Ends → ℕ → FirmKind → Data → Result (Unit {0}) Fault

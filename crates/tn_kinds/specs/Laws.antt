@@ -9,6 +9,9 @@ use Rattle.tn_laminar.specs.declared.set.LaminarSet.{LaminarSet}
 use Rattle.tn_laminar.specs.Faults.{AreSound}
 use Rattle.tn_laminar.specs.Sum.{HasNumbersWithin, IsOwnSet, laminar_firm}
 use Rattle.tn_middle.specs.Pairs.{middle_firm}
+use Rattle.tn_base.specs.Table.{buys_of}
+use Rattle.tn_dealer.specs.declared.pair.Pair.{Pair}
+use Rattle.tn_dealer.specs.Pairs.{AreDifferent, IsOwnPair, dealer_firm}
 use Rattle.tn_market.specs.declared.ends.Ends.{Ends}
 use Rattle.tn_refer.specs.Ordered.{sides_of}
 
@@ -43,8 +46,17 @@ pub record IsMiddlemanFirm (trades : List Ends) (f : ℕ) (firm : Firm) : Type 0
   pub small : All (λ a. IsAtMost a (10 ^ 9)) numbers
   pub small_keep : ForSome keep (λ a. IsAtMost a (10 ^ 9))
 
--- firm f is of one of the three kinds
+-- firm f matches its purchases one to one with its sales, by pairs of which none is listed twice
+pub record IsDealerFirm (trades : List Ends) (f : ℕ) (firm : Firm) : Type 0 where
+  pub pairs : List Pair
+  pub is : firm ≡ dealer_firm (sides_of trades f) pairs
+  pub few : length (sides_of trades f) ≤ 32
+  pub own : All (IsOwnPair (length (sides_of trades f)) (buys_of (sides_of trades f))) pairs
+  pub different : AreDifferent pairs
+
+-- firm f is of one of the four kinds
 pub data IsListedFirm (trades : List Ends) (f : ℕ) (firm : Firm) : Type 0 where
   table : IsTableFirm trades f firm → IsListedFirm trades f firm
   laminar : IsLaminarFirm trades f firm → IsListedFirm trades f firm
   middleman : IsMiddlemanFirm trades f firm → IsListedFirm trades f firm
+  dealer : IsDealerFirm trades f firm → IsListedFirm trades f firm

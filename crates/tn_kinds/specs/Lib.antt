@@ -2,6 +2,7 @@ pub mod OwnNumbers
 pub mod Tables
 pub mod Laminars
 pub mod Middlemen
+pub mod Dealers
 pub mod Kinds
 pub mod Firms
 pub mod FirstFailure

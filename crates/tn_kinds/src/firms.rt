@@ -6,6 +6,7 @@ ghost use Rattle.tn_refer.specs.Ordered.{AreTrades, Listed, sides_of};
 ghost use Rattle.tn_shape.specs.Reading.{Gives, each};
 ghost use Rattle.tn_kinds.specs.Tables.{table_of};
 
+use crate::dealers::dealer_of;
 use crate::kinds::{check_frame, kind_of};
 use crate::laminars::laminar_of;
 use crate::made::FromKinds;
@@ -88,6 +89,10 @@ fn firm_by<F: FromKinds>(
         FirmKind::Middleman => {
             let middle = middle_of(alloc, names, ends, f, firm)?;
             Ok(F::from_middle(middle))
+        }
+        FirmKind::Dealer => {
+            let dealer = dealer_of(alloc, names, ends, f, firm)?;
+            Ok(F::from_dealer(dealer))
         }
     }
 }

@@ -33,6 +33,8 @@ fn kind_named(text: &str) -> Option<FirmKind>
         Some(FirmKind::Laminar)
     } else if text == "middleman" {
         Some(FirmKind::Middleman)
+    } else if text == "dealer" {
+        Some(FirmKind::Dealer)
     } else {
         None
     }
@@ -65,5 +67,6 @@ fn most_own(kind: FirmKind) -> u32
         FirmKind::Table => 10,
         FirmKind::Laminar => 32,
         FirmKind::Middleman => 32,
+        FirmKind::Dealer => 32,
     }
 }

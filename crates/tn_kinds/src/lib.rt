@@ -1,6 +1,7 @@
 //! The firms of a document, by their kinds.
 #![tactic(auto)]
 
+mod dealers;
 mod failures;
 mod firms;
 mod kinds;

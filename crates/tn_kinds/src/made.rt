@@ -2,11 +2,13 @@ ghost use Rattle.std.specs.Prelude.{◌≡◌, ◌≤◌, Bool, length};
 ghost use Rattle.tn_base.specs.Firm.{Firm};
 ghost use Rattle.tn_laminar.specs.Firms.{firm_of as laminar_firm_of};
 ghost use Rattle.tn_middle.specs.Firms.{firm_of as middle_firm_of};
+ghost use Rattle.tn_dealer.specs.Firms.{firm_of as dealer_firm_of};
 ghost use Rattle.tn_kinds.specs.Firms.{tested_firm};
 ghost use Rattle.tn_shape.specs.Reading.{Gives};
 
 use crate::failures::failure;
 use std::alloc::Global;
+use tn_dealer::Dealer;
 use tn_exchange::RawTable;
 use tn_firm::{FirmValue, RawFirm};
 use tn_laminar::Laminar;
@@ -36,6 +38,10 @@ pub trait FromKinds: Sized {
     /// A middleman.
     fn from_middle(middle: Middle) -> Self
         ensures { firm result ≡ middle_firm_of middle };
+
+    /// A dealer.
+    fn from_dealer(dealer: Dealer) -> Self
+        ensures { firm result ≡ dealer_firm_of dealer };
 }
 
 impl FromKinds for RawFirm {
@@ -62,6 +68,10 @@ impl FromKinds for RawFirm {
 
     fn from_middle(middle: Middle) -> RawFirm {
         RawFirm::Middle(middle)
+    }
+
+    fn from_dealer(dealer: Dealer) -> RawFirm {
+        RawFirm::Dealer(dealer)
     }
 }
 
@@ -94,5 +104,9 @@ impl FromKinds for FirmValue {
 
     fn from_middle(middle: Middle) -> FirmValue {
         FirmValue::Middle(middle)
+    }
+
+    fn from_dealer(dealer: Dealer) -> FirmValue {
+        FirmValue::Dealer(dealer)
     }
 }

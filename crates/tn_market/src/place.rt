@@ -20,6 +20,7 @@ pub enum Word {
     Costs,
     Gains,
     Keep,
+    Pairs,
     On,
     Prices,
     Over,

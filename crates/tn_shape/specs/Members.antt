@@ -3,7 +3,7 @@ use Rattle.std.specs.Prelude.{ℕ, ◌&&◌, ◌||◌, List, codes, Bool, true}
 use Rattle.std.specs.Str.{bytes_eq}
 use Rattle.serde_json.specs.Data.{Members, no_members, member}
 use Rattle.tn_shape.specs.declared.members.ObjectKind.{ObjectKind}
-use Rattle.tn_shape.specs.declared.members.FirmKind.TheVariants.{Table, Laminar, Middleman}
+use Rattle.tn_shape.specs.declared.members.FirmKind.TheVariants.{Table, Laminar, Middleman, Dealer}
 use Rattle.tn_shape.specs.declared.members.ObjectKind.TheVariants.{Top, Trade, Firm, LaminarSet, Arrangement, Outcome, Claim}
 use Rattle.tn_shape.specs.Claims.{allows_in_claim}
 
@@ -14,6 +14,7 @@ allows Trade k = bytes_eq k (codes "name") || bytes_eq k (codes "seller") || byt
 allows (Firm Table) k = bytes_eq k (codes "name") || bytes_eq k (codes "kind") || bytes_eq k (codes "rows") || bytes_eq k (codes "note")
 allows (Firm Laminar) k = bytes_eq k (codes "name") || bytes_eq k (codes "kind") || bytes_eq k (codes "amounts") || bytes_eq k (codes "sets") || bytes_eq k (codes "note")
 allows (Firm Middleman) k = bytes_eq k (codes "name") || bytes_eq k (codes "kind") || bytes_eq k (codes "costs") || bytes_eq k (codes "gains") || bytes_eq k (codes "keep") || bytes_eq k (codes "note")
+allows (Firm Dealer) k = bytes_eq k (codes "name") || bytes_eq k (codes "kind") || bytes_eq k (codes "pairs") || bytes_eq k (codes "note")
 allows LaminarSet k = bytes_eq k (codes "trades") || bytes_eq k (codes "from") || bytes_eq k (codes "values")
 allows Arrangement k = bytes_eq k (codes "on") || bytes_eq k (codes "prices")
 allows Outcome k = bytes_eq k (codes "over") || bytes_eq k (codes "contracts")

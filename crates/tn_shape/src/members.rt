@@ -17,6 +17,8 @@ pub enum FirmKind {
     Laminar,
     /// Costs and gains, and the worth of what is kept.
     Middleman,
+    /// Pairs of purchases and sales, with their costs.
+    Dealer,
 }
 
 /// The objects of a document whose members are fixed.
@@ -77,6 +79,7 @@ fn allows(kind: ObjectKind, word: &str) -> bool
         ObjectKind::Firm(FirmKind::Middleman) => {
             is_one_of(word, &["name", "kind", "costs", "gains", "keep", "note"])
         }
+        ObjectKind::Firm(FirmKind::Dealer) => is_one_of(word, &["name", "kind", "pairs", "note"]),
         ObjectKind::LaminarSet => is_one_of(word, &["trades", "from", "values"]),
         ObjectKind::Arrangement => is_one_of(word, &["on", "prices"]),
         ObjectKind::Outcome => is_one_of(word, &["over", "contracts"]),

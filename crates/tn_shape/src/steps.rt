@@ -59,6 +59,9 @@ pub const GAINS: PlaceStep = PlaceStep::Word(Word::Gains);
 /// The member `keep`.
 pub const KEEP: PlaceStep = PlaceStep::Word(Word::Keep);
 
+/// The member `pairs`.
+pub const PAIRS: PlaceStep = PlaceStep::Word(Word::Pairs);
+
 /// The member `on`.
 pub const ON: PlaceStep = PlaceStep::Word(Word::On);
 
