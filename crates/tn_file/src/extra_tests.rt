@@ -1,16 +1,12 @@
-//! Outcomes and edits, and their first faults.
+//! Outcomes and edits that are read.
 
 use crate::tests::has_fault;
 use crate::{Extra, Need, read_doc};
 use std::alloc::Global;
 use std::test::Fail;
 use tn_base::FaultKind;
-use tn_market::PlaceStep::Index;
-use tn_market::{Edit, PlaceStep};
-use tn_shape::steps::{CONTRACTS, EDITS, OUTCOME, OVER};
-
-/// A further member, the kind of its first fault, and the fault's place.
-type Case = (&'static str, FaultKind, &'static [PlaceStep]);
+use tn_market::Edit;
+use tn_shape::steps::EDITS;
 
 /// S sells a and b to B, with a further member of the document.
 fn document(alloc: Global, member: &str) -> Result<String, Fail> {
@@ -18,88 +14,6 @@ fn document(alloc: Global, member: &str) -> Result<String, Fail> {
         "{{\"version\":1,\"firms\":[{{\"name\":\"S\",\"kind\":\"laminar\"}},{{\"name\":\"B\",\"kind\":\"laminar\"}}],\"trades\":[{{\"name\":\"a\",\"seller\":\"S\",\"buyer\":\"B\"}},{{\"name\":\"b\",\"seller\":\"S\",\"buyer\":\"B\"}}],{member}}}"
     )?;
     Ok(text)
-}
-
-const OUTCOMES: [Case; 15] = [
-    (r#""note":1"#, FaultKind::Shape, &[OUTCOME]),
-    (r#""outcome":[]"#, FaultKind::Shape, &[OUTCOME]),
-    (
-        r#""outcome":{"over":0,"contracts":[],"note":1}"#,
-        FaultKind::Shape,
-        &[OUTCOME],
-    ),
-    (
-        r#""outcome":{"contracts":[]}"#,
-        FaultKind::Shape,
-        &[OUTCOME, OVER],
-    ),
-    (
-        r#""outcome":{"over":1.0,"contracts":[]}"#,
-        FaultKind::Shape,
-        &[OUTCOME, OVER],
-    ),
-    (
-        r#""outcome":{"over":0,"contracts":[]}"#,
-        FaultKind::BadOver,
-        &[OUTCOME, OVER],
-    ),
-    (
-        r#""outcome":{"over":-1,"contracts":[]}"#,
-        FaultKind::BadOver,
-        &[OUTCOME, OVER],
-    ),
-    (
-        r#""outcome":{"over":101,"contracts":1}"#,
-        FaultKind::BadOver,
-        &[OUTCOME, OVER],
-    ),
-    (
-        r#""outcome":{"over":1}"#,
-        FaultKind::Shape,
-        &[OUTCOME, CONTRACTS],
-    ),
-    (
-        r#""outcome":{"over":1,"contracts":[["a"]]}"#,
-        FaultKind::Shape,
-        &[OUTCOME, CONTRACTS, Index(0)],
-    ),
-    (
-        r#""outcome":{"over":1,"contracts":[["z","b"]]}"#,
-        FaultKind::UnknownTrade,
-        &[OUTCOME, CONTRACTS, Index(0), Index(0)],
-    ),
-    (
-        r#""outcome":{"over":1,"contracts":[["a",4],["a",5]]}"#,
-        FaultKind::SameTrade,
-        &[OUTCOME, CONTRACTS, Index(1), Index(0)],
-    ),
-    (
-        r#""outcome":{"over":1,"contracts":[["b",1],["a",2.5]]}"#,
-        FaultKind::Shape,
-        &[OUTCOME, CONTRACTS, Index(1), Index(1)],
-    ),
-    (
-        r#""outcome":{"over":1,"contracts":[["a",100000000001]]}"#,
-        FaultKind::AmountRange,
-        &[OUTCOME, CONTRACTS, Index(0), Index(1)],
-    ),
-    (
-        r#""outcome":{"over":1,"contracts":[["a",-100000000001]]}"#,
-        FaultKind::AmountRange,
-        &[OUTCOME, CONTRACTS, Index(0), Index(1)],
-    ),
-];
-
-#[test]
-fn tells_faults_of_outcomes(rt: HostRuntime) -> Result<(), Fail> {
-    for (member, kind, place) in OUTCOMES {
-        let text = document(rt.alloc(), member)?;
-        assert!(rt;
-            has_fault(rt.alloc(), Need::Outcome, text.as_bytes(), kind, place),
-            "{member}"
-        );
-    }
-    Ok(())
 }
 
 /// The denominator of a document's outcome, and the trade and the numerator of its contract with an index.
@@ -131,58 +45,6 @@ fn lists_contracts_by_trade(rt: HostRuntime) -> Result<(), Fail> {
         assert!(rt; contract_at(alloc, bytes, 0) == Some((100, 0, 100_000_000_000)));
         assert!(rt; contract_at(alloc, bytes, 1) == Some((100, 1, -100_000_000_000)));
         assert!(rt; contract_at(alloc, bytes, 2).is_none());
-    }
-    Ok(())
-}
-
-const EDITED: [Case; 9] = [
-    (r#""note":1"#, FaultKind::Shape, &[EDITS]),
-    (r#""edits":{}"#, FaultKind::Shape, &[EDITS]),
-    (
-        r#""edits":[["admit","a"],["bar"]]"#,
-        FaultKind::Shape,
-        &[EDITS, Index(1)],
-    ),
-    (
-        r#""edits":[["admit","a",1]]"#,
-        FaultKind::Shape,
-        &[EDITS, Index(0)],
-    ),
-    (
-        r#""edits":[["drop","a"]]"#,
-        FaultKind::Shape,
-        &[EDITS, Index(0), Index(0)],
-    ),
-    (
-        r#""edits":[[1,2]]"#,
-        FaultKind::Shape,
-        &[EDITS, Index(0), Index(0)],
-    ),
-    (
-        r#""edits":[["Bar","z"]]"#,
-        FaultKind::Shape,
-        &[EDITS, Index(0), Index(0)],
-    ),
-    (
-        r#""edits":[["bar",1]]"#,
-        FaultKind::Shape,
-        &[EDITS, Index(0), Index(1)],
-    ),
-    (
-        r#""edits":[["bar","a"],["bar","z"]]"#,
-        FaultKind::UnknownTrade,
-        &[EDITS, Index(1), Index(1)],
-    ),
-];
-
-#[test]
-fn tells_faults_of_edits(rt: HostRuntime) -> Result<(), Fail> {
-    for (member, kind, place) in EDITED {
-        let text = document(rt.alloc(), member)?;
-        assert!(rt;
-            has_fault(rt.alloc(), Need::Edits, text.as_bytes(), kind, place),
-            "{member}"
-        );
     }
     Ok(())
 }

@@ -1,16 +1,12 @@
-//! Laminar firms and middlemen, and their first faults.
+//! Laminar firms, middlemen and dealers that are read, and their limits.
 
 use crate::tests::has_fault;
 use crate::{Need, read_doc};
 use std::alloc::Global;
 use std::test::Fail;
 use tn_base::FaultKind;
-use tn_market::PlaceStep;
 use tn_market::PlaceStep::Index;
-use tn_shape::steps::{AMOUNTS, COSTS, FIRMS, FROM, GAINS, KEEP, SETS, TRADES, VALUES};
-
-/// The members of firm B after its name, the kind of its first fault, and the fault's place.
-type Case = (&'static str, FaultKind, &'static [PlaceStep]);
+use tn_shape::steps::{FIRMS, SETS, VALUES};
 
 /// Firm B buys a and b, and sells c.
 fn document(alloc: Global, firm: &str) -> Result<String, Fail> {
@@ -20,163 +16,8 @@ fn document(alloc: Global, firm: &str) -> Result<String, Fail> {
     Ok(text)
 }
 
-const LAMINAR: [Case; 15] = [
-    (
-        r#""kind":"laminar","costs":[]"#,
-        FaultKind::Shape,
-        &[FIRMS, Index(1)],
-    ),
-    (
-        r#""kind":"laminar","amounts":null"#,
-        FaultKind::Shape,
-        &[FIRMS, Index(1), AMOUNTS],
-    ),
-    (
-        r#""kind":"laminar","amounts":[["a",1,2]],"sets":1"#,
-        FaultKind::Shape,
-        &[FIRMS, Index(1), AMOUNTS, Index(0)],
-    ),
-    (
-        r#""kind":"laminar","amounts":[["z","x"]]"#,
-        FaultKind::UnknownTrade,
-        &[FIRMS, Index(1), AMOUNTS, Index(0), Index(0)],
-    ),
-    (
-        r#""kind":"laminar","amounts":[["a",1],["a","x"]]"#,
-        FaultKind::SameTrade,
-        &[FIRMS, Index(1), AMOUNTS, Index(1), Index(0)],
-    ),
-    (
-        r#""kind":"laminar","amounts":[["c",1],["a",1000000001]]"#,
-        FaultKind::AmountRange,
-        &[FIRMS, Index(1), AMOUNTS, Index(1), Index(1)],
-    ),
-    (
-        r#""kind":"laminar","sets":null"#,
-        FaultKind::Shape,
-        &[FIRMS, Index(1), SETS],
-    ),
-    (
-        r#""kind":"laminar","sets":[{"trades":[],"from":0,"values":[0],"note":1}]"#,
-        FaultKind::Shape,
-        &[FIRMS, Index(1), SETS, Index(0)],
-    ),
-    (
-        r#""kind":"laminar","sets":[{"from":0,"values":[0]}]"#,
-        FaultKind::Shape,
-        &[FIRMS, Index(1), SETS, Index(0), TRADES],
-    ),
-    (
-        r#""kind":"laminar","sets":[{"trades":["a","a"],"values":[0]}]"#,
-        FaultKind::SameTrade,
-        &[FIRMS, Index(1), SETS, Index(0), TRADES, Index(1)],
-    ),
-    (
-        r#""kind":"laminar","sets":[{"trades":["a"],"values":[0]}]"#,
-        FaultKind::Shape,
-        &[FIRMS, Index(1), SETS, Index(0), FROM],
-    ),
-    (
-        r#""kind":"laminar","sets":[{"trades":["a"],"from":-33,"values":1}]"#,
-        FaultKind::Limit,
-        &[FIRMS, Index(1), SETS, Index(0), FROM],
-    ),
-    (
-        r#""kind":"laminar","sets":[{"trades":["a"],"from":32}]"#,
-        FaultKind::Shape,
-        &[FIRMS, Index(1), SETS, Index(0), VALUES],
-    ),
-    (
-        r#""kind":"laminar","sets":[{"trades":["a"],"from":0,"values":[0,null]}]"#,
-        FaultKind::Shape,
-        &[FIRMS, Index(1), SETS, Index(0), VALUES, Index(1)],
-    ),
-    (
-        r#""kind":"laminar","sets":[{"trades":["a"],"from":0,"values":[-1000000001]}]"#,
-        FaultKind::AmountRange,
-        &[FIRMS, Index(1), SETS, Index(0), VALUES, Index(0)],
-    ),
-];
-
-/// Sets that are refused, alone and before other faults.
-const REFUSED: [Case; 7] = [
-    (
-        r#""kind":"laminar","sets":[{"trades":["a"],"from":1,"values":[0]}]"#,
-        FaultKind::NoEmpty,
-        &[FIRMS, Index(1), SETS, Index(0)],
-    ),
-    (
-        r#""kind":"laminar","sets":[{"trades":["a","b"],"from":0,"values":[0,3,7]}]"#,
-        FaultKind::NotConcave,
-        &[FIRMS, Index(1), SETS, Index(0), VALUES, Index(1)],
-    ),
-    (
-        r#""kind":"laminar","sets":[{"trades":["a","b"],"from":0,"values":[0]},{"trades":["b","c"],"from":0,"values":[0]}]"#,
-        FaultKind::NotLaminar,
-        &[FIRMS, Index(1), SETS, Index(1)],
-    ),
-    (
-        r#""kind":"laminar","sets":[{"trades":["a","b"],"from":0,"values":[0,3,7]},{"trades":["a"],"from":0,"values":null}]"#,
-        FaultKind::Shape,
-        &[FIRMS, Index(1), SETS, Index(1), VALUES],
-    ),
-    (
-        r#""kind":"laminar","sets":[{"trades":["a","b"],"from":0,"values":[0,3,7]},{"trades":["b","c"],"from":1,"values":[0]}]"#,
-        FaultKind::NotConcave,
-        &[FIRMS, Index(1), SETS, Index(0), VALUES, Index(1)],
-    ),
-    (
-        r#""kind":"laminar","sets":[{"trades":["a","b"],"from":0,"values":[0]},{"trades":["b","c"],"from":-1,"values":[0,0,1]}]"#,
-        FaultKind::NotConcave,
-        &[FIRMS, Index(1), SETS, Index(1), VALUES, Index(1)],
-    ),
-    (
-        r#""kind":"laminar","sets":[{"trades":["a","b"],"from":0,"values":[0]},{"trades":["b","c"],"from":-1,"values":[0]}]"#,
-        FaultKind::NoEmpty,
-        &[FIRMS, Index(1), SETS, Index(1)],
-    ),
-];
-
-const MIDDLEMEN: [Case; 7] = [
-    (
-        r#""kind":"middleman","amounts":[]"#,
-        FaultKind::Shape,
-        &[FIRMS, Index(1)],
-    ),
-    (
-        r#""kind":"middleman","costs":[["a",2],["c",3]],"gains":1"#,
-        FaultKind::NotOwnTrade,
-        &[FIRMS, Index(1), COSTS, Index(1), Index(0)],
-    ),
-    (
-        r#""kind":"middleman","gains":[["a",2]],"keep":"x""#,
-        FaultKind::NotOwnTrade,
-        &[FIRMS, Index(1), GAINS, Index(0), Index(0)],
-    ),
-    (
-        r#""kind":"middleman","costs":[["b",1],["b",1]]"#,
-        FaultKind::SameTrade,
-        &[FIRMS, Index(1), COSTS, Index(1), Index(0)],
-    ),
-    (
-        r#""kind":"middleman","gains":[["c",1.5]]"#,
-        FaultKind::Shape,
-        &[FIRMS, Index(1), GAINS, Index(0), Index(1)],
-    ),
-    (
-        r#""kind":"middleman","keep":"x""#,
-        FaultKind::Shape,
-        &[FIRMS, Index(1), KEEP],
-    ),
-    (
-        r#""kind":"middleman","keep":-1000000001"#,
-        FaultKind::AmountRange,
-        &[FIRMS, Index(1), KEEP],
-    ),
-];
-
 /// Firms that are read, each member given or left out.
-const READ: [&str; 7] = [
+const READ: [&str; 9] = [
     r#""kind":"laminar""#,
     r#""kind":"laminar","amounts":[],"sets":[],"note":[]"#,
     r#""kind":"laminar","sets":[{"trades":["a","c","b"],"from":-32,"values":[0,0,0,0,0,0,0,0,0,0,0,0,0,0,0,0,0,0,0,0,0,0,0,0,0,0,0,0,0,0,0,0,0]}]"#,
@@ -184,31 +25,9 @@ const READ: [&str; 7] = [
     r#""kind":"middleman""#,
     r#""kind":"middleman","costs":[["a",1],["b",2]],"gains":[["c",3]],"keep":null"#,
     r#""kind":"middleman","costs":[],"keep":1000000000,"note":1"#,
+    r#""kind":"dealer""#,
+    r#""kind":"dealer","pairs":[["b","c",-1000000000],["a","c",2]],"note":1"#,
 ];
-
-fn tells(alloc: Global, case: &Case) -> Result<bool, Fail> {
-    let text = document(alloc, case.0)?;
-    Ok(has_fault(alloc, Need::Market, text.as_bytes(), case.1, case.2))
-}
-
-#[test]
-fn tells_faults_of_laminar_firms(rt: HostRuntime) -> Result<(), Fail> {
-    for case in &LAMINAR {
-        assert!(rt; tells(rt.alloc(), case)?, "{}", case.0);
-    }
-    for case in &REFUSED {
-        assert!(rt; tells(rt.alloc(), case)?, "{}", case.0);
-    }
-    Ok(())
-}
-
-#[test]
-fn tells_faults_of_middlemen(rt: HostRuntime) -> Result<(), Fail> {
-    for case in &MIDDLEMEN {
-        assert!(rt; tells(rt.alloc(), case)?, "{}", case.0);
-    }
-    Ok(())
-}
 
 #[test]
 fn reads_firms_of_each_kind(rt: HostRuntime) -> Result<(), Fail> {
@@ -297,7 +116,7 @@ fn keeps_the_limits_of_sets(rt: HostRuntime) -> Result<(), Fail> {
 #[test]
 fn keeps_the_limits_of_trades(rt: HostRuntime) -> Result<(), Fail> {
     let alloc = rt.alloc();
-    for kind in ["laminar", "middleman"] {
+    for kind in ["laminar", "middleman", "dealer"] {
         let full = with_trades(alloc, kind, 32)?;
         assert!(rt; read_doc(alloc, Need::Market, full.as_bytes()).is_ok());
         let more = with_trades(alloc, kind, 33)?;

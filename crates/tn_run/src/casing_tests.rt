@@ -36,7 +36,7 @@ fn lists_the_case_that_fails(rt: HostRuntime) -> Result<(), Fail> {
 
 #[test]
 fn passes_its_own_cases(rt: HostRuntime) -> Result<(), Fail> {
-    let (status, written) = run_on(rt.alloc(), &["cases"], Vec::new(rt.alloc()))?;
+    let (status, written) = run_on(rt.alloc(), "cases", b"")?;
     assert_eq!(rt; status, 0);
     assert_eq!(rt;
         written.as_slice(),

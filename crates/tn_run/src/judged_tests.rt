@@ -1,75 +1,9 @@
-//! Whole runs that judge outcomes.
+//! Whole runs on outcomes that are blocked.
 
-use crate::tests::{Case, agrees, run_on};
+use crate::tests::run_on;
 use serde_json::Value;
 use std::alloc::Global;
 use std::test::Fail;
-
-/// One trade, with and without a contract, and outcomes with faults.
-const JUDGED: [Case; 9] = [
-    (
-        "judge",
-        r#"{"version":1,"firms":[{"name":"S","kind":"table","rows":[[["a"],-5]]},{"name":"B","kind":"table","rows":[[["a"],5]]}],"trades":[{"name":"a","seller":"S","buyer":"B"}],"outcome":{"over":1,"contracts":[]}}"#,
-        0,
-        r#"{"answer":"completes","over":1,"prices":[["a",5]]}"#,
-    ),
-    (
-        "judge",
-        r#"{"version":1,"firms":[{"name":"S","kind":"table","rows":[[["a"],-3]]},{"name":"B","kind":"table","rows":[[["a"],5]]}],"trades":[{"name":"a","seller":"S","buyer":"B"}],"outcome":{"over":1,"contracts":[["a",2]]}}"#,
-        6,
-        r#"{"answer":"drops","firm":"S","gain":1,"keeps":[],"over":1}"#,
-    ),
-    (
-        "judge",
-        r#"{"version":1,"firms":[{"name":"S","kind":"table","rows":[[["a"],-3]]},{"name":"B","kind":"table","rows":[[["a"],5]]}],"trades":[{"name":"a","seller":"S","buyer":"B"}],"outcome":{"over":2,"contracts":[["a",9]]}}"#,
-        0,
-        r#"{"answer":"completes","over":2,"prices":[["a",9]]}"#,
-    ),
-    (
-        "judge",
-        r#"{"version":1,"firms":[{"name":"S","kind":"table","rows":[]},{"name":"B","kind":"table","rows":[[["a"],5]]}],"trades":[{"name":"a","seller":"S","buyer":"B"}],"outcome":{"over":1,"contracts":[["a",3]]}}"#,
-        6,
-        r#"{"answer":"drops","firm":"S","gain":null,"keeps":[],"over":1}"#,
-    ),
-    (
-        "judge",
-        r#"{"version":1,"firms":[{"name":"S","kind":"table","rows":[[["a"],-3]]},{"name":"B","kind":"table","rows":[[["a"],5]]}],"trades":[{"name":"a","seller":"S","buyer":"B"}],"outcome":{"over":1,"contracts":[["a",4],["a",5]]}}"#,
-        1,
-        r#"{"answer":"fault","fault":17,"name":"SameTrade","place":["outcome","contracts",1,0]}"#,
-    ),
-    (
-        "judge",
-        r#"{"version":1,"firms":[{"name":"S","kind":"table","rows":[[["a"],-3]]},{"name":"B","kind":"table","rows":[[["a"],5]]}],"trades":[{"name":"a","seller":"S","buyer":"B"}],"outcome":{"over":0,"contracts":[]}}"#,
-        1,
-        r#"{"answer":"fault","fault":19,"name":"BadOver","place":["outcome","over"]}"#,
-    ),
-    (
-        "judge",
-        r#"{"version":1,"firms":[{"name":"S","kind":"table","rows":[[["a"],-3]]},{"name":"B","kind":"table","rows":[[["a"],5]]}],"trades":[{"name":"a","seller":"S","buyer":"B"}],"outcome":{"over":101,"contracts":[]}}"#,
-        1,
-        r#"{"answer":"fault","fault":19,"name":"BadOver","place":["outcome","over"]}"#,
-    ),
-    (
-        "judge",
-        r#"{"version":1,"firms":[{"name":"S","kind":"laminar","amounts":[["a",-1],["b",-1]]},{"name":"B","kind":"table","rows":[[["a"],0],[["b"],0],[["a","b"],10]]}],"trades":[{"name":"a","seller":"S","buyer":"B"},{"name":"b","seller":"S","buyer":"B"}]}"#,
-        1,
-        r#"{"answer":"fault","at":"a","fault":16,"name":"ExchangeFails","place":["firms",1],"x":["a","b"],"y":[]}"#,
-    ),
-    (
-        "judge",
-        r#"{"version":1,"firms":[{"name":"S","kind":"table","rows":[[["a"],-3]]},{"name":"B","kind":"table","rows":[[["a"],5]]}],"trades":[{"name":"a","seller":"S","buyer":"B"}]}"#,
-        1,
-        r#"{"answer":"fault","fault":3,"name":"Shape","place":["outcome"]}"#,
-    ),
-];
-
-#[test]
-fn judges_outcomes(rt: HostRuntime) -> Result<(), Fail> {
-    for case in &JUDGED {
-        assert!(rt; agrees(rt.alloc(), case)?, "{}", case.3);
-    }
-    Ok(())
-}
 
 /// A document with an outcome that is blocked; the trades of the chain in its order and their denominator; and what
 /// the first price, the difference of each two that follow each other, and minus the last price are above.
@@ -119,7 +53,7 @@ fn chain_prices(
     trades: &[&str],
     over: i64,
 ) -> Result<Option<Vec<i64>>, Fail> {
-    let (status, written) = run_on(alloc, &["judge"], document.as_bytes().to_vec(alloc)?)?;
+    let (status, written) = run_on(alloc, "judge", document.as_bytes())?;
     let answer = Value::from_slice(alloc, &written)
         .ok()
         .ok_or("the answer isn't JSON")?;

@@ -19,6 +19,10 @@ mod ranged_tests;
 mod replayed_tests;
 mod replaying;
 #[cfg(test)]
+mod row_tests;
+#[cfg(test)]
+mod rows;
+#[cfg(test)]
 mod solve_tests;
 mod testing;
 #[cfg(test)]

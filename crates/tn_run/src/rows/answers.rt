@@ -1,0 +1,238 @@
+//! Verdicts on arrangements and tables, equilibria and prices, ranges, states and drills, words that are no command, and
+//! documents with faults beside them.
+
+pub(crate) const ANSWERS: &str = r#"test
+{"version":1,"firms":[{"name":"S","kind":"table","rows":[[["a"],-1]]},{"name":"M","kind":"table","rows":[[[],0],[["a","b"],5]]},{"name":"B","kind":"table","rows":[[["b"],6]]}],"trades":[{"name":"a","seller":"S","buyer":"M"},{"name":"b","seller":"M","buyer":"B"}]}
+0 {"answer":"accepted"}
+
+check
+{"version":1,"firms":[{"name":"S","kind":"table","rows":[[["a"],-1]]},{"name":"M","kind":"table","rows":[[[],0],[["a","b"],5]]},{"name":"B","kind":"table","rows":[[["b"],6]]}],"trades":[{"name":"a","seller":"S","buyer":"M"},{"name":"b","seller":"M","buyer":"B"}],"arrangement":{"on":[],"prices":[["a",0],["b",6]]}}
+6 {"answer":"better","bundle":["a","b"],"firm":"M","gain":11}
+
+test
+{"version":1,"firms":[{"name":"S","kind":"table","rows":[[["a"],-1],[["b"],-1],[["a","b"],-2]]},{"name":"B","kind":"table","rows":[[["a"],0],[["b"],0],[["a","b"],10]]}],"trades":[{"name":"a","seller":"S","buyer":"B"},{"name":"b","seller":"S","buyer":"B"}]}
+6 {"answer":"exchange_fails","at":"a","firm":"B","x":["a","b"],"y":[]}
+
+check
+{"version":1,"firms":[{"name":"S","kind":"table","rows":[[["a"],-1],[["b"],-1],[["a","b"],-2]]},{"name":"B","kind":"table","rows":[[["a"],0],[["b"],0],[["a","b"],10]]}],"trades":[{"name":"a","seller":"S","buyer":"B"},{"name":"b","seller":"S","buyer":"B"}],"arrangement":{"on":[],"prices":[["a",0],["b",0]]}}
+1 {"answer":"fault","at":"a","fault":16,"name":"ExchangeFails","place":["firms",1],"x":["a","b"],"y":[]}
+
+test
+{"version":1,"firms":[{"name":"S","kind":"table","rows":[[["a1"],0],[["a2"],0],[["a1","a2"],0]]},{"name":"M","kind":"table","rows":[[["a1","b1"],5],[["a2","b2"],5]]},{"name":"B","kind":"table","rows":[[["b1"],0],[["b2"],0],[["b1","b2"],0]]}],"trades":[{"name":"a1","seller":"S","buyer":"M"},{"name":"a2","seller":"S","buyer":"M"},{"name":"b1","seller":"M","buyer":"B"},{"name":"b2","seller":"M","buyer":"B"}]}
+6 {"answer":"exchange_fails","at":"a2","firm":"M","x":["a2","b2"],"y":["a1","b1"]}
+
+check
+{"version":2,"firms":[{"name":"S","kind":"table","rows":[[["a"],-3]]},{"name":"B","kind":"table","rows":[[["a"],5]]}],"trades":[{"name":"a","seller":"S","buyer":"B"}],"arrangement":{"on":["a"],"prices":[["a",4]]}}
+0 {"answer":"equilibrium","surplus":2}
+
+test
+{"version":1,"firms":[{"name":"S","kind":"laminar","amounts":[["a",-1],["b",-1]]},{"name":"B","kind":"table","rows":[[["a"],0],[["b"],0],[["a","b"],10]]}],"trades":[{"name":"a","seller":"S","buyer":"B"},{"name":"b","seller":"S","buyer":"B"}]}
+6 {"answer":"exchange_fails","at":"a","firm":"B","x":["a","b"],"y":[]}
+
+check
+{"version":1,"firms":[{"name":"S","kind":"laminar","amounts":[["a",-1],["b",-1]]},{"name":"B","kind":"table","rows":[[["a"],0],[["b"],0],[["a","b"],10]]}],"trades":[{"name":"a","seller":"S","buyer":"B"},{"name":"b","seller":"S","buyer":"B"}],"arrangement":{"on":[],"prices":[["a",0],["b",0]]}}
+1 {"answer":"fault","at":"a","fault":16,"name":"ExchangeFails","place":["firms",1],"x":["a","b"],"y":[]}
+
+test
+{"version":1,"firms":[{"name":"S","kind":"laminar"},{"name":"M","kind":"table","rows":[[["a1","b1"],5],[["a2","b2"],5]]},{"name":"B","kind":"laminar"}],"trades":[{"name":"a1","seller":"S","buyer":"M"},{"name":"a2","seller":"S","buyer":"M"},{"name":"b1","seller":"M","buyer":"B"},{"name":"b2","seller":"M","buyer":"B"}]}
+6 {"answer":"exchange_fails","at":"a2","firm":"M","x":["a2","b2"],"y":["a1","b1"]}
+
+check
+{"version":1,"firms":[{"name":"S","kind":"laminar"},{"name":"B","kind":"laminar","sets":[{"trades":["a","b"],"from":0,"values":[0,5,7]},{"trades":["a","b","c"],"from":0,"values":[0,5,7]}]}],"trades":[{"name":"a","seller":"S","buyer":"B"},{"name":"b","seller":"S","buyer":"B"},{"name":"c","seller":"S","buyer":"B"}],"arrangement":{"on":["a","b","c"],"prices":[["a",0],["b",0],["c",0]]}}
+6 {"answer":"impossible","firm":"B"}
+
+check
+{"version":1,"firms":[{"name":"O1","kind":"laminar","amounts":[["o1d",-4],["o1b1",-4],["o1b2",-4]],"sets":[{"trades":["o1d","o1b1","o1b2"],"from":-1,"values":[0,0]}]},{"name":"O2","kind":"laminar","amounts":[["o2d",-6],["o2b1",-6],["o2b2",-6],["o2b3",-6]],"sets":[{"trades":["o2d","o2b1","o2b2","o2b3"],"from":-1,"values":[0,0]}]},{"name":"D","kind":"middleman","costs":[["o1d",1],["o2d",2]]},{"name":"B1","kind":"laminar","amounts":[["db1",12],["o1b1",9],["o2b1",9]],"sets":[{"trades":["db1","o1b1","o2b1"],"from":0,"values":[0,0]}]},{"name":"B2","kind":"laminar","amounts":[["db2",9],["o1b2",8],["o2b2",9]],"sets":[{"trades":["db2","o1b2","o2b2"],"from":0,"values":[0,0]}]},{"name":"B3","kind":"laminar","amounts":[["db3",11],["o2b3",8]],"sets":[{"trades":["db3","o2b3"],"from":0,"values":[0,0]}]}],"trades":[{"name":"o1d","seller":"O1","buyer":"D"},{"name":"o2d","seller":"O2","buyer":"D"},{"name":"db1","seller":"D","buyer":"B1"},{"name":"db2","seller":"D","buyer":"B2"},{"name":"db3","seller":"D","buyer":"B3"},{"name":"o1b1","seller":"O1","buyer":"B1"},{"name":"o1b2","seller":"O1","buyer":"B2"},{"name":"o2b1","seller":"O2","buyer":"B1"},{"name":"o2b2","seller":"O2","buyer":"B2"},{"name":"o2b3","seller":"O2","buyer":"B3"}],"arrangement":{"on":["o1d","db1","o2b2"],"prices":[["o1d",8],["o2d",8],["db1",11],["db2",11],["db3",11],["o1b1",8],["o1b2",8],["o2b1",8],["o2b2",8],["o2b3",8]]}}
+0 {"answer":"equilibrium","surplus":10}
+
+check
+{"version":1,"firms":[{"name":"S","kind":"table","rows":[[["a"],-2]]},{"name":"M1","kind":"middleman","costs":[["a",1]]},{"name":"M2","kind":"middleman","costs":[["b",1]]},{"name":"B","kind":"table","rows":[[["c"],10]]}],"trades":[{"name":"a","seller":"S","buyer":"M1"},{"name":"b","seller":"M1","buyer":"M2"},{"name":"c","seller":"M2","buyer":"B"}],"arrangement":{"on":["a","b","c"],"prices":[["a",3],["b",5],["c",8]]}}
+0 {"answer":"equilibrium","surplus":6}
+
+check
+{"version":1,"firms":[{"name":"S","kind":"table","rows":[[["a"],-1]]},{"name":"M","kind":"middleman","costs":[["a",2]],"gains":[["b",3]],"keep":8},{"name":"B","kind":"table","rows":[[["b"],1]]}],"trades":[{"name":"a","seller":"S","buyer":"M"},{"name":"b","seller":"M","buyer":"B"}],"arrangement":{"on":["a"],"prices":[["a",6],["b",5]]}}
+0 {"answer":"equilibrium","surplus":5}
+
+check
+{"version":1,"firms":[{"name":"S","kind":"table","rows":[[["a"],-1]]},{"name":"M","kind":"middleman","costs":[["a",2]],"gains":[["b",3]],"keep":8},{"name":"B","kind":"table","rows":[[["b"],1]]}],"trades":[{"name":"a","seller":"S","buyer":"M"},{"name":"b","seller":"M","buyer":"B"}],"arrangement":{"on":["a"],"prices":[["a",6],["b",6]]}}
+6 {"answer":"better","bundle":["a","b"],"firm":"M","gain":1}
+
+check
+{"version":1,"firms":[{"name":"S","kind":"table","rows":[[["a"],-1]]},{"name":"M","kind":"middleman","costs":[["a",2]],"gains":[["b",3]],"keep":8},{"name":"B","kind":"table","rows":[[["b"],1]]}],"trades":[{"name":"a","seller":"S","buyer":"M"},{"name":"b","seller":"M","buyer":"B"}],"arrangement":{"on":["b"],"prices":[["a",1],["b",1]]}}
+6 {"answer":"impossible","firm":"M"}
+
+solve
+{"version":1,"firms":[{"name":"S","kind":"table","rows":[[["a"],-3]]},{"name":"B","kind":"table","rows":[[["a"],5]]}],"trades":[{"name":"a","seller":"S","buyer":"B"}]}
+0 {"answer":"solved","on":["a"],"prices":[["a",..]],"surplus":2}
+
+solve
+{"version":2,"firms":[{"name":"S","kind":"table","rows":[[["a"],-3]]},{"name":"B","kind":"table","rows":[[["a"],5]]}],"trades":[{"name":"a","seller":"S","buyer":"B"}]}
+0 {"answer":"solved","on":["a"],"prices":[["a",..]],"surplus":2}
+
+solve
+{"version":1,"firms":[{"name":"S","kind":"table","rows":[[[],7]]},{"name":"B","kind":"table","rows":[]}],"trades":[]}
+0 {"answer":"solved","on":[],"prices":[],"surplus":7}
+
+solve
+{"version":1,"firms":[{"name":"S","kind":"laminar","amounts":[["a",-1],["b",-1]]},{"name":"B","kind":"table","rows":[[["a"],0],[["b"],0],[["a","b"],10]]}],"trades":[{"name":"a","seller":"S","buyer":"B"},{"name":"b","seller":"S","buyer":"B"}]}
+1 {"answer":"fault","at":"a","fault":16,"name":"ExchangeFails","place":["firms",1],"x":["a","b"],"y":[]}
+
+solve
+{"version":1,"firms":[{"name":"S","kind":"laminar","amounts":[["a",-1],["b",-1]]},{"name":"B","kind":"table","rows":[[["a"],0],[["b"],0],[["a","b"],10]]}],"trades":[{"name":"a","seller":"S","buyer":"B"},{"name":"b b","seller":"S","buyer":"B"}]}
+1 {"answer":"fault","fault":4,"name":"BadName","place":["trades",1,"name"]}
+
+solve
+{"version":1,"firms":[{"name":"F1","kind":"table","rows":[[["r1","r3"],1]]},{"name":"F2","kind":"table","rows":[[["r1","r2"],1]]},{"name":"F3","kind":"table","rows":[[["r2","r3"],1]]}],"trades":[{"name":"r1","seller":"F1","buyer":"F2"},{"name":"r2","seller":"F2","buyer":"F3"},{"name":"r3","seller":"F3","buyer":"F1"}]}
+0 {"answer":"solved","on":["r1","r2","r3"],"prices":[["r1",..]],"surplus":3}
+
+solve
+{"version":1,"firms":[{"name":"S","kind":"table","rows":[]},{"name":"B","kind":"table","rows":[[["a"],5]]}],"trades":[{"name":"a","seller":"S","buyer":"B"}]}
+0 {"answer":"solved","on":[],"prices":[["a",..]],"surplus":0}
+
+solve
+{"version":1,"firms":[{"name":"O1","kind":"laminar","amounts":[["o1d",-4],["o1b1",-4],["o1b2",-4]],"sets":[{"trades":["o1d","o1b1","o1b2"],"from":-1,"values":[0,0]}]},{"name":"O2","kind":"laminar","amounts":[["o2d",-6],["o2b1",-6],["o2b2",-6],["o2b3",-6]],"sets":[{"trades":["o2d","o2b1","o2b2","o2b3"],"from":-1,"values":[0,0]}]},{"name":"D","kind":"middleman","costs":[["o1d",1],["o2d",2]]},{"name":"B1","kind":"laminar","amounts":[["db1",12],["o1b1",9],["o2b1",9]],"sets":[{"trades":["db1","o1b1","o2b1"],"from":0,"values":[0,0]}]},{"name":"B2","kind":"laminar","amounts":[["db2",9],["o1b2",8],["o2b2",9]],"sets":[{"trades":["db2","o1b2","o2b2"],"from":0,"values":[0,0]}]},{"name":"B3","kind":"laminar","amounts":[["db3",11],["o2b3",8]],"sets":[{"trades":["db3","o2b3"],"from":0,"values":[0,0]}]}],"trades":[{"name":"o1d","seller":"O1","buyer":"D"},{"name":"o2d","seller":"O2","buyer":"D"},{"name":"db1","seller":"D","buyer":"B1"},{"name":"db2","seller":"D","buyer":"B2"},{"name":"db3","seller":"D","buyer":"B3"},{"name":"o1b1","seller":"O1","buyer":"B1"},{"name":"o1b2","seller":"O1","buyer":"B2"},{"name":"o2b1","seller":"O2","buyer":"B1"},{"name":"o2b2","seller":"O2","buyer":"B2"},{"name":"o2b3","seller":"O2","buyer":"B3"}]}
+0 {"answer":"solved","on":["o1d","db1","o2b2"],"prices":[["o1d",..]],"surplus":10}
+
+solve
+{"version":1,"firms":[{"name":"S","kind":"laminar"},{"name":"B","kind":"laminar","sets":[{"trades":["a","b"],"from":0,"values":[0,3,7]}]}],"trades":[{"name":"a","seller":"S","buyer":"B"},{"name":"b","seller":"S","buyer":"B"}]}
+1 {"answer":"fault","fault":15,"name":"NotConcave","place":["firms",1,"sets",0,"values",1]}
+
+solve
+{"version":1,"firms":[{"name":"S","kind":"laminar"},{"name":"B","kind":"laminar","sets":[{"trades":["a","b"],"from":0,"values":[0,5,7]},{"trades":["b","c"],"from":0,"values":[0,5,7]}]}],"trades":[{"name":"a","seller":"S","buyer":"B"},{"name":"b","seller":"S","buyer":"B"},{"name":"c","seller":"S","buyer":"B"}]}
+1 {"answer":"fault","fault":14,"name":"NotLaminar","place":["firms",1,"sets",1]}
+
+solve
+{"version":1,"firms":[{"name":"S","kind":"table","rows":[[["a"],-1000000000]]},{"name":"B","kind":"table","rows":[[["a"],1000000000]]}],"trades":[{"name":"a","seller":"S","buyer":"B"}]}
+0 {"answer":"solved","on":[..],"prices":[["a",1000000000]],"surplus":0}
+
+solve
+{"version":1,"firms":[{"name":"S","kind":"table","rows":[[["a"],-1]]},{"name":"M","kind":"middleman","costs":[["a",2]],"gains":[["b",3]],"keep":8},{"name":"B","kind":"table","rows":[[["b"],1]]}],"trades":[{"name":"a","seller":"S","buyer":"M"},{"name":"b","seller":"M","buyer":"B"}]}
+0 {"answer":"solved","on":["a"],"prices":[["a",..]],"surplus":5}
+
+solve
+{"version":3,"firms":[{"name":"S","kind":"table","rows":[[["a"],-3]]},{"name":"B","kind":"table","rows":[[["a"],5]]}],"trades":[{"name":"a","seller":"S","buyer":"B"}]}
+1 {"answer":"fault","fault":3,"name":"Shape","place":["version"]}
+
+support
+{"version":1,"firms":[{"name":"S","kind":"table","rows":[[["a"],-3]]},{"name":"B","kind":"table","rows":[[["a"],5]]}],"trades":[{"name":"a","seller":"S","buyer":"B"}],"arrangement":{"on":[]}}
+6 {"answer":"cycle","cost":-2,"nodes":[null,"a"]}
+
+support
+{"version":1,"firms":[{"name":"S","kind":"table","rows":[[["a"],-3]]},{"name":"B","kind":"table","rows":[[["a"],5]]}],"trades":[{"name":"a","seller":"S","buyer":"B"}],"arrangement":{"on":["a"]}}
+0 {"answer":"prices","prices":[["a",..]]}
+
+support
+{"version":1,"firms":[{"name":"S","kind":"table","rows":[]},{"name":"B","kind":"table","rows":[[["a"],5]]}],"trades":[{"name":"a","seller":"S","buyer":"B"}],"arrangement":{"on":["a"]}}
+6 {"answer":"impossible","firm":"S"}
+
+support
+{"version":1,"firms":[{"name":"F1","kind":"table","rows":[[["r1","r3"],1]]},{"name":"F2","kind":"table","rows":[[["r1","r2"],1]]},{"name":"F3","kind":"table","rows":[[["r2","r3"],1]]}],"trades":[{"name":"r1","seller":"F1","buyer":"F2"},{"name":"r2","seller":"F2","buyer":"F3"},{"name":"r3","seller":"F3","buyer":"F1"}],"arrangement":{"on":[]}}
+6 {"answer":"cycle","cost":-3,"nodes":["r1","r2","r3"]}
+
+support
+{"version":1,"firms":[{"name":"F1","kind":"table","rows":[[["r1","r3"],1]]},{"name":"F2","kind":"table","rows":[[["r1","r2"],1]]},{"name":"F3","kind":"table","rows":[[["r2","r3"],1]]}],"trades":[{"name":"r1","seller":"F1","buyer":"F2"},{"name":"r2","seller":"F2","buyer":"F3"},{"name":"r3","seller":"F3","buyer":"F1"}],"arrangement":{"on":["r1","r2","r3"]}}
+0 {"answer":"prices","prices":[["r1",..]]}
+
+support
+{"version":1,"firms":[{"name":"F1","kind":"table","rows":[[["r1","r3"],1]]},{"name":"F2","kind":"table","rows":[[["r1","r2"],1]]},{"name":"F3","kind":"table","rows":[[["r2","r3"],1]]}],"trades":[{"name":"r1","seller":"F1","buyer":"F2"},{"name":"r2","seller":"F2","buyer":"F3"},{"name":"r3","seller":"F3","buyer":"F1"}],"arrangement":{"on":["r1","r2"]}}
+6 {"answer":"impossible","firm":"F1"}
+
+support
+{"version":1,"firms":[{"name":"S","kind":"table","rows":[[["a"],-3]]},{"name":"B","kind":"table","rows":[[["a"],5]]}],"trades":[{"name":"a","seller":"S","buyer":"B"}]}
+1 {"answer":"fault","fault":3,"name":"Shape","place":["arrangement"]}
+
+support
+{"version":1,"firms":[{"name":"S","kind":"table","rows":[[["a"],-3]]},{"name":"B","kind":"table","rows":[[["a"],5]]}],"trades":[{"name":"a","seller":"S","buyer":"B"}],"arrangement":{"on":["b"]}}
+1 {"answer":"fault","fault":8,"name":"UnknownTrade","place":["arrangement","on",0]}
+
+range
+{"version":1,"firms":[{"name":"S","kind":"table","rows":[[["a"],-3]]},{"name":"B","kind":"table","rows":[[["a"],5]]}],"trades":[{"name":"a","seller":"S","buyer":"B"}]}
+0 {"answer":"ranges","on":["a"],"ranges":[{"high":5,"high_path":[null,"a"],"low":3,"low_path":["a",null],"trade":"a"}]}
+
+range
+{"version":1,"firms":[{"name":"S","kind":"table","rows":[]},{"name":"B","kind":"table","rows":[[["a"],5]]}],"trades":[{"name":"a","seller":"S","buyer":"B"}]}
+0 {"answer":"ranges","on":[],"ranges":[{"high":null,"high_path":[],"low":5,"low_path":["a",null],"trade":"a"}]}
+
+range
+{"version":1,"firms":[{"name":"F1","kind":"table","rows":[[["r1","r3"],1]]},{"name":"F2","kind":"table","rows":[[["r1","r2"],1]]},{"name":"F3","kind":"table","rows":[[["r2","r3"],1]]}],"trades":[{"name":"r1","seller":"F1","buyer":"F2"},{"name":"r2","seller":"F2","buyer":"F3"},{"name":"r3","seller":"F3","buyer":"F1"}]}
+0 {"answer":"ranges","on":["r1","r2","r3"],"ranges":[{"high":null,"high_path":[],"low":null,"low_path":[],"trade":"r1"},{"high":null,"high_path":[],"low":null,"low_path":[],"trade":"r2"},{"high":null,"high_path":[],"low":null,"low_path":[],"trade":"r3"}]}
+
+range
+{"version":1,"firms":[{"name":"S","kind":"table","rows":[[["a"],-5]]},{"name":"B","kind":"table","rows":[[["a"],5]]}],"trades":[{"name":"a","seller":"S","buyer":"B"}]}
+0 {"answer":"ranges","on":[..],"ranges":[{"high":5,"high_path":[null,"a"],"low":5,"low_path":["a",null],"trade":"a"}]}
+
+session
+{"version":1,"firms":[{"name":"S","kind":"table","rows":[[["a"],-3]]},{"name":"B","kind":"table","rows":[[["a"],5]]}],"trades":[{"name":"a","seller":"S","buyer":"B"}],"edits":[["admit","a"],["bar","a"],["bar","a"]]}
+0 {"answer":"session","edits":[{"on":["a"],"prices":[["a",..]],"surplus":2},{"on":[],"prices":[],"surplus":0},{"on":[],"prices":[],"surplus":0}]}
+
+session
+{"version":1,"firms":[{"name":"O1","kind":"laminar","amounts":[["o1d",-4],["o1b1",-4],["o1b2",-4]],"sets":[{"trades":["o1d","o1b1","o1b2"],"from":-1,"values":[0,0]}]},{"name":"O2","kind":"laminar","amounts":[["o2d",-6],["o2b1",-6],["o2b2",-6],["o2b3",-6]],"sets":[{"trades":["o2d","o2b1","o2b2","o2b3"],"from":-1,"values":[0,0]}]},{"name":"D","kind":"middleman","costs":[["o1d",1],["o2d",2]]},{"name":"B1","kind":"laminar","amounts":[["db1",12],["o1b1",9],["o2b1",9]],"sets":[{"trades":["db1","o1b1","o2b1"],"from":0,"values":[0,0]}]},{"name":"B2","kind":"laminar","amounts":[["db2",9],["o1b2",8],["o2b2",9]],"sets":[{"trades":["db2","o1b2","o2b2"],"from":0,"values":[0,0]}]},{"name":"B3","kind":"laminar","amounts":[["db3",11],["o2b3",8]],"sets":[{"trades":["db3","o2b3"],"from":0,"values":[0,0]}]}],"trades":[{"name":"o1d","seller":"O1","buyer":"D"},{"name":"o2d","seller":"O2","buyer":"D"},{"name":"db1","seller":"D","buyer":"B1"},{"name":"db2","seller":"D","buyer":"B2"},{"name":"db3","seller":"D","buyer":"B3"},{"name":"o1b1","seller":"O1","buyer":"B1"},{"name":"o1b2","seller":"O1","buyer":"B2"},{"name":"o2b1","seller":"O2","buyer":"B1"},{"name":"o2b2","seller":"O2","buyer":"B2"},{"name":"o2b3","seller":"O2","buyer":"B3"}],"edits":[["admit","o1d"],["admit","o2d"],["admit","db1"],["admit","db2"],["admit","db3"],["admit","o1b1"],["admit","o1b2"],["admit","o2b1"],["admit","o2b2"],["admit","o2b3"],["bar","db1"],["bar","o2b1"]]}
+0 {"answer":"session","edits":[{"on":[],"prices":[["o1d",.."surplus":9}]}
+
+session
+{"version":1,"firms":[{"name":"S","kind":"table","rows":[[["a"],-3]]},{"name":"B","kind":"table","rows":[[["a"],5]]}],"trades":[{"name":"a","seller":"S","buyer":"B"}],"edits":[]}
+0 {"answer":"session","edits":[]}
+
+session
+{"version":1,"firms":[{"name":"S","kind":"table","rows":[[["a"],-3]]},{"name":"B","kind":"table","rows":[[["a"],5]]}],"trades":[{"name":"a","seller":"S","buyer":"B"}],"edits":[["drop","a"]]}
+1 {"answer":"fault","fault":3,"name":"Shape","place":["edits",0,0]}
+
+solve --csv
+{"version":1,"firms":[{"name":"S","kind":"laminar","amounts":[["a",-1],["b",-1]]},{"name":"B","kind":"table","rows":[[["a"],0],[["b"],0],[["a","b"],10]]}],"trades":[{"name":"a","seller":"S","buyer":"B"},{"name":"b","seller":"S","buyer":"B"}]}
+1 {"answer":"fault","at":"a","fault":16,"name":"ExchangeFails","place":["firms",1],"x":["a","b"],"y":[]}
+
+drill 3 1
+-
+0 {"answer":"drill","firms":16,"size":3,"start":1,"surplus":84}
+
+drill 1 0
+-
+0 {"answer":"drill","firms":16,"size":1,"start":0,"surplus":0}
+
+drill 64 2147483647
+-
+0 {"answer":"drill","firms":16,"size":64,"start":2147483647,"surplus":..}
+
+drill 0 1
+{"version":1,"firms":[{"name":"S","kind":"table","rows":[[["a"],-3]]},{"name":"B","kind":"table","rows":[[["a"],5]]}],"trades":[{"name":"a","seller":"S","buyer":"B"}]}
+2 {"answer":"usage"}
+
+drill 03 1
+{"version":1,"firms":[{"name":"S","kind":"table","rows":[[["a"],-3]]},{"name":"B","kind":"table","rows":[[["a"],5]]}],"trades":[{"name":"a","seller":"S","buyer":"B"}]}
+2 {"answer":"usage"}
+
+drill 65 1
+{"version":1,"firms":[{"name":"S","kind":"table","rows":[[["a"],-3]]},{"name":"B","kind":"table","rows":[[["a"],5]]}],"trades":[{"name":"a","seller":"S","buyer":"B"}]}
+2 {"answer":"usage"}
+
+drill 1 2147483648
+{"version":1,"firms":[{"name":"S","kind":"table","rows":[[["a"],-3]]},{"name":"B","kind":"table","rows":[[["a"],5]]}],"trades":[{"name":"a","seller":"S","buyer":"B"}]}
+2 {"answer":"usage"}
+
+drill +1 1
+{"version":1,"firms":[{"name":"S","kind":"table","rows":[[["a"],-3]]},{"name":"B","kind":"table","rows":[[["a"],5]]}],"trades":[{"name":"a","seller":"S","buyer":"B"}]}
+2 {"answer":"usage"}
+
+drill 1
+{"version":1,"firms":[{"name":"S","kind":"table","rows":[[["a"],-3]]},{"name":"B","kind":"table","rows":[[["a"],5]]}],"trades":[{"name":"a","seller":"S","buyer":"B"}]}
+2 {"answer":"usage"}
+
+solve --rows
+{"version":1,"firms":[{"name":"S","kind":"table","rows":[[["a"],-3]]},{"name":"B","kind":"table","rows":[[["a"],5]]}],"trades":[{"name":"a","seller":"S","buyer":"B"}]}
+2 {"answer":"usage"}
+
+check
+{"version":1,"firms":[{"name":"O1","kind":"table","rows":[[["a"],-4]]},{"name":"O2","kind":"table","rows":[[["b"],-6]]},{"name":"D","kind":"dealer","pairs":[["a","x",1],["a","y",3],["b","x",2],["b","y",1]]},{"name":"X","kind":"table","rows":[[["x"],12]]},{"name":"Y","kind":"table","rows":[[["y"],9]]}],"trades":[{"name":"a","seller":"O1","buyer":"D"},{"name":"b","seller":"O2","buyer":"D"},{"name":"x","seller":"D","buyer":"X"},{"name":"y","seller":"D","buyer":"Y"}],"arrangement":{"on":["a","b","x","y"],"prices":[["a",5],["b",7],["x",11],["y",8]]}}
+0 {"answer":"equilibrium","surplus":9}
+
+solve
+{"version":1,"firms":[{"name":"O1","kind":"table","rows":[[["a"],-4]]},{"name":"O2","kind":"table","rows":[[["b"],-6]]},{"name":"D","kind":"dealer","pairs":[["a","x",1],["a","y",3],["b","x",2],["b","y",1]]},{"name":"X","kind":"table","rows":[[["x"],12]]},{"name":"Y","kind":"table","rows":[[["y"],9]]}],"trades":[{"name":"a","seller":"O1","buyer":"D"},{"name":"b","seller":"O2","buyer":"D"},{"name":"x","seller":"D","buyer":"X"},{"name":"y","seller":"D","buyer":"Y"}]}
+0 {"answer":"solved","on":["a","b","x","y"],"prices":[["a",..]],"surplus":9}
+
+test
+{"version":1,"firms":[{"name":"O1","kind":"table","rows":[[["a"],-4]]},{"name":"O2","kind":"table","rows":[[["b"],-6]]},{"name":"D","kind":"dealer","pairs":[["a","x",1],["a","y",3],["b","x",2],["b","y",1]]},{"name":"X","kind":"table","rows":[[["x"],12]]},{"name":"Y","kind":"table","rows":[[["y"],9]]}],"trades":[{"name":"a","seller":"O1","buyer":"D"},{"name":"b","seller":"O2","buyer":"D"},{"name":"x","seller":"D","buyer":"X"},{"name":"y","seller":"D","buyer":"Y"}]}
+0 {"answer":"accepted"}
+
+solve
+{"version":1,"firms":[{"name":"O1","kind":"table","rows":[[["a"],-4]]},{"name":"O2","kind":"table","rows":[[["b"],-6]]},{"name":"D","kind":"dealer","pairs":[["a","x",1],["a","y",3],["b","x",2],["b","y",1],["a","x",7]]},{"name":"X","kind":"table","rows":[[["x"],12]]},{"name":"Y","kind":"table","rows":[[["y"],9]]}],"trades":[{"name":"a","seller":"O1","buyer":"D"},{"name":"b","seller":"O2","buyer":"D"},{"name":"x","seller":"D","buyer":"X"},{"name":"y","seller":"D","buyer":"Y"}]}
+1 {"answer":"fault","fault":20,"name":"SamePair","place":["firms",2,"pairs",4]}"#;
