@@ -11,4 +11,5 @@ def after($edit): map(select(. != $edit[1])) + (if $edit[0] == "admit" then [$ed
   | .firms |= map(
       (if .rows then .rows |= map(select(all(.[0][]; is_admitted))) else . end)
       | (if .sets then .sets |= map(.trades |= map(select(is_admitted))) else . end)
+      | (if .pairs then .pairs |= map(select(all(.[:2][]; is_admitted))) else . end)
       | reduce ("amounts", "costs", "gains") as $list (.; if .[$list] then .[$list] |= map(select(.[0] | is_admitted)) else . end))

@@ -16,4 +16,5 @@
       (if .rows then .rows |= map(select(all(.[0][]; is_kept)) | .[1] |= counted) else . end)
       | (if .sets then .sets |= map((.trades |= map(select(is_kept))) | .values |= map(counted)) else . end)
       | (if .keep then .keep |= counted else . end)
+      | (if .pairs then .pairs |= map(select(all(.[:2][]; is_kept)) | .[2] |= counted) else . end)
       | reduce ("amounts", "costs", "gains") as $list (.; if .[$list] then .[$list] |= map(select(.[0] | is_kept) | .[1] |= counted) else . end))
