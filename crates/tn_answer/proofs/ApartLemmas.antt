@@ -14,7 +14,7 @@ use Rattle.tn_base.specs.Faults.{fault_number}
 use Rattle.tn_market.specs.declared.place.PlaceStep.{PlaceStep}
 use Rattle.tn_market.specs.declared.place.PlaceStep.TheVariants.{Word as Member, Index, Trade}
 use Rattle.tn_market.specs.declared.place.Word.{Word}
-use Rattle.tn_market.specs.declared.place.Word.TheVariants.{Version, Firms, Trades, Arrangement, Outcome, Claim, Edits, Name, Seller, Buyer, Kind, Rows, Amounts, Sets, From, Values, Costs, Gains, Keep, Pairs, On, Prices, Over, Contracts, Answer, Surplus as SurplusWord, Firm, Bundle, Gain, X, Y, At, Nodes, Cost, Keeps}
+use Rattle.tn_market.specs.declared.place.Word.TheVariants.{Version, Firms, Trades, Arrangement, Outcome, Claim, Note, Edits, Name, Seller, Buyer, Kind, Rows, Amounts, Sets, From, Values, Costs, Gains, Keep, Pairs, On, Prices, Over, Contracts, Answer, Surplus as SurplusWord, Firm, Bundle, Gain, X, Y, At, Nodes, Cost, Keeps}
 use Rattle.tn_market.specs.declared.reason.Reason.{Reason}
 use Rattle.tn_market.specs.declared.reason.Reason.TheVariants.{Impossible as ImpossibleIs, Better as BetterIs, Possible, Surplus as SurplusIs, Gain as GainIs, Exchange, Holds, Arc, Cost as CostIs, Contract as ContractIs, Over as OverIs, Price, Empty, Signed, Choice}
 use Rattle.tn_market.specs.declared.said.Fault.{Fault}
@@ -106,7 +106,7 @@ same_kind : (first second : FaultKind) → fault_number first ≡ fault_number s
 same_kind first second e = sym (kind_back first) ∙ ap (λ n. get_or kinds n NotJson) e ∙ kind_back second
 
 words : List Word
-words = Version ∷ Firms ∷ Trades ∷ Arrangement ∷ Outcome ∷ Claim ∷ Edits ∷ Name ∷ Seller ∷ Buyer ∷ Kind ∷ Rows ∷ Amounts ∷ Sets ∷ From ∷ Values ∷ Costs ∷ Gains ∷ Keep ∷ Pairs ∷ On ∷ Prices ∷ Over ∷ Contracts ∷ Answer ∷ SurplusWord ∷ Firm ∷ Bundle ∷ Gain ∷ X ∷ Y ∷ At ∷ Nodes ∷ Cost ∷ Keeps ∷ []
+words = Version ∷ Firms ∷ Trades ∷ Arrangement ∷ Outcome ∷ Claim ∷ Note ∷ Edits ∷ Name ∷ Seller ∷ Buyer ∷ Kind ∷ Rows ∷ Amounts ∷ Sets ∷ From ∷ Values ∷ Costs ∷ Gains ∷ Keep ∷ Pairs ∷ On ∷ Prices ∷ Over ∷ Contracts ∷ Answer ∷ SurplusWord ∷ Firm ∷ Bundle ∷ Gain ∷ X ∷ Y ∷ At ∷ Nodes ∷ Cost ∷ Keeps ∷ []
 
 abbrev word_of : List ℕ → Option Word
 word_of text = find (λ word. bytes_eq text (word_text word)) words

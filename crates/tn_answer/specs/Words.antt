@@ -3,7 +3,7 @@ use Rattle.std.specs.Prelude.{ℕ, List, codes}
 use Rattle.tn_base.specs.declared.fault.FaultKind.{FaultKind}
 use Rattle.tn_base.specs.declared.fault.FaultKind.TheVariants.{NotJson, TooLong, Shape, BadName, SameName, UnknownFirm, SelfTrade, UnknownTrade, Limit, AmountRange, NotOwnTrade, SameBundle, NoEmpty, NotLaminar, NotConcave, ExchangeFails, SameTrade, PriceMissing, BadOver, SamePair}
 use Rattle.tn_market.specs.declared.place.Word.{Word}
-use Rattle.tn_market.specs.declared.place.Word.TheVariants.{Version, Firms, Trades, Arrangement, Outcome, Claim, Edits, Name, Seller, Buyer, Kind, Rows, Amounts, Sets, From, Values, Costs, Gains, Keep, Pairs, On, Prices, Over, Contracts, Answer, Surplus, Firm, Bundle, Gain, X, Y, At, Nodes, Cost, Keeps}
+use Rattle.tn_market.specs.declared.place.Word.TheVariants.{Version, Firms, Trades, Arrangement, Outcome, Claim, Note, Edits, Name, Seller, Buyer, Kind, Rows, Amounts, Sets, From, Values, Costs, Gains, Keep, Pairs, On, Prices, Over, Contracts, Answer, Surplus, Firm, Bundle, Gain, X, Y, At, Nodes, Cost, Keeps}
 
 -- the name of a kind of fault
 abbrev pub kind_name : FaultKind → List ℕ
@@ -36,6 +36,7 @@ word_text Trades = codes "trades"
 word_text Arrangement = codes "arrangement"
 word_text Outcome = codes "outcome"
 word_text Claim = codes "claim"
+word_text Note = codes "note"
 word_text Edits = codes "edits"
 word_text Name = codes "name"
 word_text Seller = codes "seller"

@@ -43,6 +43,7 @@ pub(crate) fn word_text(word: Word) -> &'static str
         Word::Arrangement => "arrangement",
         Word::Outcome => "outcome",
         Word::Claim => "claim",
+        Word::Note => "note",
         Word::Edits => "edits",
         Word::Name => "name",
         Word::Seller => "seller",

@@ -7,6 +7,7 @@ pub enum Word {
     Arrangement,
     Outcome,
     Claim,
+    Note,
     Edits,
     Name,
     Seller,
