@@ -20,7 +20,7 @@ use Rattle.tn_outcome.proofs.SignedLemmas.{signed_by, price_of_contract}
 use Rattle.tn_residual.specs.Held.{contract_price}
 use Rattle.tn_residual.proofs.HeldLemmas.{price_is, price_some, price_not}
 use Rattle.tn_cert.specs.Least.{earlier}
-use Rattle.tn_cert.specs.Reasons.{IsContractOf, AreOffers, IsInEveryChoice, IsFirstToLeave}
+use Rattle.tn_cert.specs.Reasons.{IsContractOf, NoneIsSigned, IsInEveryChoice, IsFirstToLeave}
 use Rattle.tn_cert.specs.Greatest.{DecidesContract, DecidesEqual, FindsLeaver, FindsLeft, FindsSigned, HaveTradesOnce}
 use Rattle.tn_cert.proofs.CountedLemmas.{all_at}
 use Rattle.tn_cert.proofs.KeptLemmas.{firm_at}
@@ -146,7 +146,7 @@ first_leaver firms trades outcome e offers f t firm before is left =
     }
 
 -- where no firm may leave an offer, the offers block the outcome
-pub blocks_from : (firms : List Firm) (trades : List Ends) (outcome : Outcome) (e : ℤ) (offers : List Contract) → 0 < length offers → IsFeasible trades offers → AreOffers outcome e offers
+pub blocks_from : (firms : List Firm) (trades : List Ends) (outcome : Outcome) (e : ℤ) (offers : List Contract) → 0 < length offers → IsFeasible trades offers → NoneIsSigned outcome e offers
     → FindsLeaver firms trades outcome e offers None → Blocks firms trades outcome.over outcome.contracts e offers
 blocks_from firms trades outcome e offers some feasible new taken = record {
   some = some;

@@ -6,7 +6,7 @@ use Rattle.tn_market.specs.declared.contract.Contract.{Contract}
 use Rattle.tn_market.specs.declared.contract.Outcome.{Outcome}
 use Rattle.tn_market.specs.declared.ends.Ends.{Ends}
 use Rattle.tn_market.specs.Choices.{is_of, part_utility, IsPart, IsChoice}
-use Rattle.tn_cert.specs.Reasons.{IsContractOf, AreOffers, IsFirstSigned, IsInEveryChoice, IsFirstToLeave}
+use Rattle.tn_cert.specs.Reasons.{IsContractOf, NoneIsSigned, IsFirstSigned, IsInEveryChoice, IsFirstToLeave}
 
 -- a part lacks the contract that is left out
 abbrev pub Avoids : Option ℕ → ℕ → Type 0
@@ -71,7 +71,7 @@ DecidesContract outcome e offer false = IsContractOf outcome e offer → ⊥
 
 -- the first trade of the offers that are the outcome's contracts, none where none is
 abbrev pub FindsSigned : Outcome → ℤ → List Contract → Option ℕ → Type 0
-FindsSigned outcome e offers None = AreOffers outcome e offers
+FindsSigned outcome e offers None = NoneIsSigned outcome e offers
 FindsSigned outcome e offers (Some t) = IsFirstSigned outcome e offers t
 
 -- the first firm with an own offer that some choice of it lacks, and the first trade of these; none where each choice of

@@ -102,8 +102,8 @@ pub record IsContractOf (outcome : Outcome) (e : ℤ) (offer : Contract) : Type 
   pub trade : offer.trade ≡ contract.trade
   pub price : offer.price *ℤ outcome.over ≡ contract.price *ℤ e
 
-abbrev pub AreOffers : Outcome → ℤ → List Contract → Type 0
-AreOffers outcome e offers = (k : ℕ) (offer : Contract) → slice_get offers k ≡ Some offer → IsContractOf outcome e offer → ⊥
+abbrev pub NoneIsSigned : Outcome → ℤ → List Contract → Type 0
+NoneIsSigned outcome e offers = (k : ℕ) (offer : Contract) → slice_get offers k ≡ Some offer → IsContractOf outcome e offer → ⊥
 
 -- of the contracts that are the outcome's, t is the first trade
 pub record IsFirstSigned (outcome : Outcome) (e : ℤ) (offers : List Contract) (t : ℕ) : Type 0 where
@@ -139,7 +139,7 @@ pub record IsFirstToLeave (firms : List Firm) (trades : List Ends) (outcome : Ou
 abbrev pub RefutesBlocks : List Firm → List Ends → Outcome → List Contract → ℤ → Reason → Type 0
 RefutesBlocks firms trades outcome offers e Empty = offers ≡ []
 RefutesBlocks firms trades outcome offers e (Signed t) = IsFirstSigned outcome e offers t
-RefutesBlocks firms trades outcome offers e (Choice f t) = (0 < length offers) × AreOffers outcome e offers × IsFirstToLeave firms trades outcome e offers f t
+RefutesBlocks firms trades outcome offers e (Choice f t) = (0 < length offers) × NoneIsSigned outcome e offers × IsFirstToLeave firms trades outcome e offers f t
 RefutesBlocks firms trades outcome offers e reason = ⊥
 
 -- firm f is the first that fails exchange, with its first failing triple in trade numbers
