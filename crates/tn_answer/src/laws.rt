@@ -1,8 +1,9 @@
 ghost use Rattle.tn_answer.specs.Apart.{AnswersAreToldApart};
 ghost use Rattle.tn_answer.specs.Laws.{IsSayableWithinClaims, NeedsNoNames};
 
-/// Answers of one text over the same names are equal, but for a step of a fault's place that is a member in one and a
-/// trade of the same name in the other.
+/// Two answers of one text over the same names, which speak of named firms and trades alone and whose numbers fit 64
+/// bits, are equal; but for a step of a fault's place that is a member in the one and a trade of the same name in the
+/// other, and for the surplus, which rows don't tell.
 pub fn answers_are_told_apart()
     ensures { AnswersAreToldApart }
 {}

@@ -11,7 +11,9 @@ use tn_base::OutOfMemory;
 use tn_market::Said;
 use tn_names::Names;
 
-/// The text of an answer over some names, with its line end. A firm or a trade without a name has an empty one.
+/// The text of an answer over some names, with its line end. A firm or a trade without a name has an empty one. Its
+/// numbers fit 64 bits, prices have one name each, and a fault shows a triple exactly where exchange fails. It fails
+/// only where memory runs out.
 #[tactic(auto, unfolding(crate::specs::AnswerText::answer_line))]
 pub fn answer_text(alloc: Global, names: &Names, said: &Said) -> Result<Vec<u8>, OutOfMemory>
     requires { IsSayable said.now }

@@ -1,5 +1,5 @@
 -- The exchange property: gross substitutes for what a firm buys and for what it sells, and complements across the
--- two sides (signed M-natural concavity).
+-- two sides (signed M-natural concavity: Murota, Discrete Convex Analysis, 2003, for firms that buy and sell).
 use Rattle.std.specs.Prelude.{◌≡◌, ℕ, ℤ, ◌+ℤ◌, ◌≤ℤ◌, ◌<ℤ◌, ◌⊎◌, true, Option, Some, None}
 use Rattle.tn_base.specs.Sets.{has, toggle}
 use Rattle.tn_base.specs.Firm.{Firm, net, up, down}

@@ -40,7 +40,7 @@ impl Bundle {
         self.0
     }
 
-    /// Whether position `k` is a member.
+    /// Whether position `k` is a member. `k` is below 64.
     #[tactic(auto, unfolding(crate::specs::Sets::has))]
     pub fn has(self, k: u32) -> bool
         requires { k < 64 }
@@ -49,7 +49,7 @@ impl Bundle {
         (self.0 >> k) & 1 == 1
     }
 
-    /// The bundle with position `k` moved in or out.
+    /// The bundle with position `k` moved in or out. `k` is below 64.
     #[tactic(auto, unfolding(crate::specs::Sets::toggle))]
     pub fn toggle(self, k: u32) -> Bundle
         requires { k < 64 }

@@ -9,10 +9,11 @@ pub trait Costs {
     /// The cost of the arc from one node to another, none where there is no arc.
     ghost arc: { Self → ℕ → ℕ → Option ℤ };
 
+    /// How many nodes there are.
     fn nodes(&self) -> u32
         ensures { result ≡ node_count self.now };
 
-    /// The cost of the arc from `a` to `b`, None where there is no arc.
+    /// The cost of the arc from `a` to `b`, None where there is no arc. Both are nodes.
     fn cost(&self, a: u32, b: u32) -> Option<i128>
         requires from { a < node_count self.now }
         requires to { b < node_count self.now }

@@ -50,7 +50,7 @@ impl<const W: usize> TradeSet<W> {
         TradeSet { limbs: [0; W] }
     }
 
-    /// Whether trade `t` is a member.
+    /// Whether trade `t` is a member. `t` is below `64 * W`.
     pub fn has(&self, t: u32) -> bool
         requires width { W ≤ 16 }
         requires inside { t < 64 * W }
@@ -59,7 +59,7 @@ impl<const W: usize> TradeSet<W> {
         (self.limbs[(t / 64) as usize] >> (t % 64)) & 1 == 1
     }
 
-    /// Moves trade `t` in or out.
+    /// Moves trade `t` in or out. `t` is below `64 * W`.
     pub fn toggle(&mut self, t: u32)
         requires width { W ≤ 16 }
         requires inside { t < 64 * W }

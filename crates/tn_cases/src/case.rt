@@ -34,7 +34,7 @@ impl<const N: usize> Model for CaseBook<N> {
 }
 
 impl<const N: usize> CaseBook<N> {
-    /// A book of these cases.
+    /// A book of these cases. There are `N` of them, at most 64.
     pub fn new(cases: &'static [Case]) -> CaseBook<N>
         requires few { N ≤ 64 }
         requires count { length cases.now ≡ N }
@@ -44,7 +44,7 @@ impl<const N: usize> CaseBook<N> {
         CaseBook { cases }
     }
 
-    /// The case at index `k`.
+    /// The case at index `k`. It is below `N`, which is at most 64.
     pub fn case(&self, k: usize) -> &Case
         requires few { N ≤ 64 }
         requires inside { k < N }
@@ -54,7 +54,7 @@ impl<const N: usize> CaseBook<N> {
         &self.cases[k]
     }
 
-    /// Whether this status and this text are those of the case at index `k`.
+    /// Whether this status and this text are those of the case at index `k`. It is below `N`, which is at most 64.
     pub fn agrees(&self, k: usize, status: u8, text: &[u8]) -> bool
         requires few { N ≤ 64 }
         requires inside { k < N }

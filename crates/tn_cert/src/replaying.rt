@@ -28,7 +28,8 @@ pub fn is_on_exchange(claim: &Claim) -> bool
 }
 
 /// Replays a claim on a market: it is valid exactly where no condition of it fails, and otherwise this is the first that
-/// does. It fails only where memory runs out.
+/// does. It fails only where memory runs out. The claim is none on the exchange property and within the limits of
+/// claims, and the market is within the limits of firms.
 pub fn replay<V: Oracle>(
     alloc: Global,
     market: &Market<V>,

@@ -138,10 +138,10 @@ fn taxed_residual<'a, V: Oracle>(
 }
 
 /// A chain of contracts that blocks an individually rational outcome which no prices complete: contracts on unsigned
-/// trades, over the outcome's denominator times twice the number of unsigned trades and one, each of whose buyers is the
-/// seller of the next. Each price is below 10^18 in size. They stand in the order of the cycle that a search for labels
-/// finds. It fails only where memory runs out (Hatfield, Kominers, Nichifor, Ostrovsky and Westkamp, "Chain stability in
-/// trading networks", 2021).
+/// trades, over the outcome's denominator times twice the number of unsigned trades and one, each of whose buyers is
+/// the seller of the next. Each price is below 10^18 in size. It fails only where memory runs out (Hatfield, Kominers,
+/// Nichifor, Ostrovsky and Westkamp, "Chain stability in trading networks", 2021). The limits of firms and outcomes
+/// hold.
 pub fn chain_of<V: Oracle>(
     alloc: Global,
     market: &Market<V>,

@@ -33,7 +33,8 @@ pub(crate) fn trades_in(
     Ok(Trades::from_vec(trades))
 }
 
-/// The verdict on an arrangement, at scale 1.
+/// The verdict on an arrangement, at scale 1. There are at most 128 trades, with one price each of at most 10^14 in
+/// size.
 pub fn check(
     alloc: Global,
     market: &Market<FirmValue>,

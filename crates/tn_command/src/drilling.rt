@@ -10,7 +10,8 @@ use tn_base::OutOfMemory;
 use tn_drill::drill;
 use tn_market::Said;
 
-/// The greatest surplus of the drill network of this many trades that is drawn from a number.
+/// The greatest surplus of the drill network of this many trades that is drawn from a number. There are 1 to 64 trades,
+/// and the number is at most 2,147,483,647.
 pub fn drill_surplus(alloc: Global, size: u32, start: u32) -> Result<Said, OutOfMemory>
     requires some { 1 ≤ size }
     requires few { size ≤ 64 }

@@ -71,6 +71,7 @@ fn make(session: &mut Session<FirmValue, 2>, edit: Edit, steps: &mut Steps<Asked
 }
 
 /// An equilibrium of the market that the admitted trades make, after each of some edits. At first no trade is admitted.
+/// There are at most 128 trades, and the edits are of these.
 pub fn states_after(
     alloc: Global,
     market: &Market<FirmValue>,

@@ -14,6 +14,7 @@ use tn_judge::{Judged, judge};
 use tn_market::{Market, Outcome, Said};
 
 /// The verdict on an outcome: a firm that would drop contracts, prices that complete it, or a chain that blocks it.
+/// There are at most 128 firms and 128 trades, and the outcome is within its limits.
 pub fn judge_outcome(
     alloc: Global,
     market: &Market<FirmValue>,

@@ -12,7 +12,7 @@ use tn_firm::FirmValue;
 use tn_market::{Market, Said};
 use tn_range::range;
 
-/// The lowest and the highest price of each trade over all equilibria of a market.
+/// The lowest and the highest price of each trade over all equilibria of a market. There are at most 128 trades.
 pub fn price_ranges(alloc: Global, market: &Market<FirmValue>) -> Result<Said, OutOfMemory>
     requires wide { length market.now.trades ≤ 128 }
     ensures answer { IfOk result (TellsRanges (map firm_of market.now.firms) market.now.trades) }

@@ -13,7 +13,8 @@ use tn_cert::{Replayed, replay};
 use tn_firm::FirmValue;
 use tn_market::{Claim, Market, Said};
 
-/// Whether a claim holds that isn't of the exchange property, or else the first of its conditions that fails.
+/// Whether a claim holds that isn't of the exchange property, or else the first of its conditions that fails. There are
+/// at most 128 firms and 128 trades, and the claim is within the limits of claims.
 pub fn replay_claim(
     alloc: Global,
     market: &Market<FirmValue>,

@@ -75,7 +75,7 @@ pub(crate) fn surplus(market: &Market<FirmValue>, on: &TradeSet<2>) -> i128
     }
 }
 
-/// An equilibrium of a market, with its surplus.
+/// An equilibrium of a market, with its surplus. There are at most 128 trades.
 pub fn solve(alloc: Global, market: &Market<FirmValue>) -> Result<Said, OutOfMemory>
     requires wide { length market.now.trades ≤ 128 }
     ensures answer { IfOk result (Solves (map firm_of market.now.firms) market.now.trades) }

@@ -11,7 +11,7 @@ use tn_firm::FirmValue;
 use tn_market::{Market, Said};
 use tn_price::{Support, support};
 
-/// Prices that support a set of trades, or why there are none.
+/// Prices that support a set of trades, or why there are none. There are at most 128 trades.
 pub fn prices_for(
     alloc: Global,
     market: &Market<FirmValue>,

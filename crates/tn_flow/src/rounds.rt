@@ -52,7 +52,7 @@ fn toggle_node<const W: usize>(on: &mut TradeSet<W>, node: u32, null: u32)
 
 impl<const W: usize> Rounds<W> {
     /// Takes all memory that the rounds over a market of so many trades need. No trade is admitted. It fails only where
-    /// memory runs out.
+    /// memory runs out. There are at most 1,024 trades.
     pub fn with_room(alloc: Global, trades: u32) -> Result<Rounds<W>, OutOfMemory>
         requires width { W ≤ 16 }
         requires few { trades ≤ 1024 }
@@ -69,7 +69,8 @@ impl<const W: usize> Rounds<W> {
     }
 
     /// Begins anew on a market: no trade is admitted, and none is on. It asks for at most a worth for each two places of
-    /// each firm.
+    /// each firm. The market has at most `64 * W` trades, as many as the rounds were made for, and twice the bound of
+    /// each firm is at most 10^18.
     pub fn begin<V: Valuation>(&mut self, market: &Market<V>, steps: &mut Steps<V::Mark>)
         requires width { W ≤ 16 }
         requires wide { length market.now.trades ≤ 64 * W }
@@ -116,7 +117,8 @@ impl<const W: usize> Rounds<W> {
 
     /// Admits a trade: one round of the solver. Where a cycle of the exchange graph through it is negative, the trades are
     /// toggled along one of least cost and then of least arcs. It asks for at most a worth for each two places of each
-    /// firm, and takes no memory.
+    /// firm, and takes no memory. The rounds are under way on this market, and the trade is one of it that isn't
+    /// admitted.
     pub fn admit<V: Valuation>(&mut self, market: &Market<V>, t: u32, steps: &mut Steps<V::Mark>)
         requires width { W ≤ 16 }
         requires wide { length market.now.trades ≤ 64 * W }
@@ -161,7 +163,8 @@ impl<const W: usize> Rounds<W> {
     }
 
     /// Begins anew on a market, and admits some of its trades, one after another. It asks for at most a worth for each two
-    /// places of each firm, once and once more for each trade.
+    /// places of each firm, once and once more for each trade. The market has at most `64 * W` trades, as many as the
+    /// rounds were made for, and twice the bound of each firm is at most 10^18.
     pub fn admit_all<V: Valuation>(
         &mut self,
         market: &Market<V>,
@@ -184,7 +187,8 @@ impl<const W: usize> Rounds<W> {
     }
 
     /// Numbers the admitted trades and null so that every arc among them is kept. The numbers less null's are prices at
-    /// which what is on is an equilibrium of the market that the admitted trades make.
+    /// which what is on is an equilibrium of the market that the admitted trades make. The rounds are under way on this
+    /// market.
     pub fn settle<V: Valuation>(&mut self, market: &Market<V>)
         requires width { W ≤ 16 }
         requires wide { length market.now.trades ≤ 64 * W }

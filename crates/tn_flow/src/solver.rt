@@ -49,7 +49,7 @@ fn all_trades<const W: usize>(count: u32) -> TradeSet<W>
 
 impl<const W: usize> Solver<W> {
     /// A solver for markets of as many trades as this one has. Nothing is on, and each price is 0. It fails only where
-    /// memory runs out.
+    /// memory runs out. There are at most `64 * W`.
     pub fn with_room<V: Valuation>(
         alloc: Global,
         market: &Market<V>,
@@ -72,7 +72,7 @@ impl<const W: usize> Solver<W> {
         &self.rounds.on
     }
 
-    /// The price of trade `t`.
+    /// The price of trade `t`. It is one of the market that the solver was made for.
     pub fn price(&self, t: u32) -> i128
         requires { t < length self.now.prices }
         ensures { result ≡ price_at self.now.prices t }
@@ -83,7 +83,9 @@ impl<const W: usize> Solver<W> {
     /// Finds an equilibrium of the market that the given trades admit: trades among these, and prices of all trades, at
     /// which each firm's bundle is best among its bundles within the admitted trades. It has no refusal, takes no memory,
     /// and asks for at most a worth for each two places of each firm, once and once more for each trade (existence:
-    /// Hatfield, Kominers, Nichifor, Ostrovsky and Westkamp, 2013).
+    /// Hatfield, Kominers, Nichifor, Ostrovsky and Westkamp, 2013). The market has at most `64 * W` trades, as many as
+    /// the solver was made for; twice the bound of each firm, times one more than the number of trades, is at most
+    /// 10^18. The admitted trades are of the market.
     pub fn solve_among<V: Valuation>(
         &mut self,
         market: &Market<V>,
@@ -105,7 +107,9 @@ impl<const W: usize> Solver<W> {
         write_differences(&self.rounds.finder, &mut self.prices, market.trades());
     }
 
-    /// Finds an equilibrium of the market, at scale 1, within the bounds of `solve_among`.
+    /// Finds an equilibrium of the market, at scale 1, within the bounds of `solve_among`. The market has at most `64 *
+    /// W` trades, as many as the solver was made for; twice the bound of each firm, times one more than the number of
+    /// trades, is at most 10^18.
     pub fn solve_in<V: Valuation>(&mut self, market: &Market<V>, steps: &mut Steps<V::Mark>)
         requires width { W ≤ 16 }
         requires wide { length market.now.trades ≤ 64 * W }

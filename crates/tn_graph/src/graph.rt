@@ -67,7 +67,8 @@ impl Graph {
         Ok(Graph { nodes, cells })
     }
 
-    /// Writes the cost of the arc from `a` to `b`, or that there is none.
+    /// Writes the cost of the arc from `a` to `b`, or that there is none. Both are nodes, and the cost is at most 10^18
+    /// in size.
     pub fn set(&mut self, a: u32, b: u32, cost: Option<i128>)
         requires from { a < self.old.nodes }
         requires to { b < self.old.nodes }

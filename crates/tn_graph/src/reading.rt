@@ -103,7 +103,8 @@ impl Graph {
 
     /// Makes it the exchange graph of a market at a set of trades (Candogan, Epitropou and Vohra, 2021): trade t is node
     /// t, and the null node is the last one. It asks for a worth for each two places of a firm at most, and takes no
-    /// memory.
+    /// memory. The graph has one node more than the market has trades, of which there are at most `64 * W`; each firm's
+    /// bundle of the set is possible, and twice no worth is above 10^18.
     pub fn fill<V: Valuation, const W: usize>(
         &mut self,
         market: &Market<V>,
@@ -150,7 +151,8 @@ impl Graph {
     }
 
     /// Turns the exchange graph at the set `before` into the one at the set `on`. It asks only the firms whose bundles
-    /// differ, for a worth for each two places of the firm at most, and takes no memory.
+    /// differ, for a worth for each two places of the firm at most, and takes no memory. The market has at most `64 *
+    /// W` trades; each firm's bundle of the set `on` is possible, and twice no worth is above 10^18.
     pub fn refresh<V: Valuation, const W: usize>(
         &mut self,
         market: &Market<V>,

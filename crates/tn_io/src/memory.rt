@@ -37,7 +37,7 @@ impl Model for MemorySource {
 
 impl MemorySource {
     /// A source of these bytes that gives at most `chunk` of them at a call. The calls whose
-    /// numbers, from 1, stand in `fails` fail.
+    /// numbers, from 1, stand in `fails` fail. `chunk` is at least 1.
     pub fn new(bytes: Vec<u8>, chunk: usize, fails: Vec<u64>) -> MemorySource
         requires { 1 ≤ chunk }
         ensures { result ≡ record {
@@ -125,7 +125,7 @@ impl Model for MemorySink {
 
 impl MemorySink {
     /// A sink with nothing written, that has room for `room` bytes and takes at most `chunk` of
-    /// them at a call. The calls whose numbers, from 1, stand in `fails` fail.
+    /// them at a call. The calls whose numbers, from 1, stand in `fails` fail. `chunk` is at least 1.
     pub fn new(
         alloc: Global,
         room: usize,

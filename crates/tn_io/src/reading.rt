@@ -47,7 +47,7 @@ const PIECE: usize = 4096;
 ///
 /// `Failed` comes only where the source's count of faults rose in this call, and `TooLong` exactly
 /// where `limit + 1` bytes were taken; more are never taken. After a refusal a source that tells
-/// its bytes has lost the taken ones alone.
+/// its bytes has lost the taken ones alone. `limit` is below 2^31.
 pub fn read_all<S: Source>(alloc: Global, source: &mut S, limit: usize) -> Result<Vec<u8>, ReadStop>
     requires { limit < 2 ^ 31 }
 

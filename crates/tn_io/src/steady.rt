@@ -31,7 +31,7 @@ impl Model for SteadySource {
 }
 
 impl SteadySource {
-    /// A source of these bytes that gives at most `chunk` of them at a call.
+    /// A source of these bytes that gives at most `chunk` of them at a call. `chunk` is at least 1.
     pub fn new(bytes: Vec<u8>, chunk: usize) -> SteadySource
         requires { 1 ≤ chunk }
         ensures { result ≡ record { unread = bytes.items; chunk = chunk } }
@@ -116,7 +116,7 @@ impl Model for SteadySink {
 
 impl SteadySink {
     /// A sink with nothing written, that tells up to `room` bytes and takes at most `chunk` of them
-    /// at a call.
+    /// at a call. `chunk` is at least 1.
     pub fn with_room(alloc: Global, room: usize, chunk: usize) -> Result<SteadySink, OutOfMemory>
         requires { 1 ≤ chunk }
         ensures { IfOk result (λ sink. sink

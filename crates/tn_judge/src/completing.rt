@@ -56,7 +56,7 @@ fn completing_prices(
 }
 
 /// Prices that complete an individually rational outcome, None exactly where there are none. It fails only where memory
-/// runs out.
+/// runs out. The limits of firms and outcomes hold.
 pub fn completion<V: Oracle>(
     alloc: Global,
     market: &Market<V>,

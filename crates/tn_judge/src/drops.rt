@@ -93,7 +93,7 @@ fn drop_at<V: Oracle>(
     drop_from(keeps, value, own_utility(market, f, outcome, room))
 }
 
-/// The first firm that would drop contracts, and what it would keep.
+/// The first firm that would drop contracts, and what it would keep. The limits of firms and outcomes hold.
 pub fn first_drop<V: Oracle>(
     market: &Market<V>,
     outcome: &Outcome,

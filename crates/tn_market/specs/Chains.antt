@@ -1,4 +1,4 @@
--- Chains of contracts.
+-- Chains of contracts (Hatfield, Kominers, Nichifor, Ostrovsky and Westkamp, 2021).
 use Rattle.std.specs.Prelude.{◌≡◌, ℕ, ◌+◌, List, slice_get, Some}
 use Rattle.tn_market.specs.declared.ends.Ends.{Ends}
 use Rattle.tn_market.specs.declared.contract.Contract.{Contract}

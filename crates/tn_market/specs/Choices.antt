@@ -1,5 +1,5 @@
 -- Contracts: trades at prices, each price a numerator over the denominator of its list. A part of a list is the set of
--- the indices of its contracts.
+-- the indices of its contracts (choices and blocking sets: Hatfield, Kominers, Nichifor, Ostrovsky and Westkamp, 2013).
 use Rattle.std.specs.Prelude.{◌≡◌, ℕ, zero, suc, ◌^◌, ◌<◌, ℤ, pos, neg_ℤ, ◌+ℤ◌, ◌*ℤ◌, ◌≤ℤ◌, List, [], ◌∷◌, ◌++◌, length, map, slice_get, Bool, true, false, ◌==◌, ◌&&◌, ◌||◌, if◌then◌else◌, Option, Some, option_map, unwrap_or}
 use Rattle.tn_base.specs.Sets.{has, set_of, sum_over}
 use Rattle.tn_base.specs.Firm.{Firm}

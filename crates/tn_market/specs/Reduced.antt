@@ -1,4 +1,5 @@
--- Reduced worth: what bundles of unsigned trades are worth to a firm that keeps what it likes of its contracts.
+-- Reduced worth: what bundles of unsigned trades are worth to a firm that keeps what it likes of its contracts (as in the
+-- proof that stable outcomes are completed by prices: Hatfield, Kominers, Nichifor, Ostrovsky and Westkamp, 2013).
 use Rattle.std.specs.Prelude.{◌≡◌, ℕ, zero, suc, ◌+◌, ◌^◌, ◌==◌, ℤ, List, [], ◌∷◌, Option, Some, None, option_map, int_lt, if◌then◌else◌}
 use Rattle.tn_base.specs.Sets.{minus}
 use Rattle.tn_base.specs.Firm.{Firm, plus_sum, payments}

@@ -48,7 +48,9 @@ fn gains<V: Valuation>(firm: &V, need: Bundle, prices: &[i128]) -> [i128; MOST_O
 /// memory.
 ///
 /// The search goes up from the empty bundle by the best change of one or two positions, until none gains (steepest
-/// ascent: Murota, Discrete Convex Analysis, 2003).
+/// ascent: Murota, Discrete Convex Analysis, 2003). Positions in `need` and in `free` are own and differ. Prices are at
+/// most 10^20 in size and the scale is 1 to 10,000,000; the firm has at most 32 own trades and no worth above 10^11.
+/// There is a price for each position.
 pub fn best_by_ascent<V: Valuation>(
     firm: &V,
     need: Bundle,

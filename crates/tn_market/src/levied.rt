@@ -17,7 +17,9 @@ pub struct Levied<'a, V: Valuation> {
 }
 
 impl<'a, V: Valuation> Levied<'a, V> {
-    /// The firm whose worths are those of `inner`, counted `scale` times, less `tax` for each position of `taxed`.
+    /// The firm whose worths are those of `inner`, counted `scale` times, less `tax` for each position of `taxed`. The
+    /// scale is at least 1 and the tax at least 0; the limit of its worths, `scale` times that of `inner` and 64 times
+    /// the tax, is at most 10^18.
     pub fn new(inner: &'a V, scale: i128, taxed: Bundle, tax: i128) -> Levied<'a, V>
         requires scaled { pos 1 ≤ℤ scale }
         requires taxed { pos 0 ≤ℤ tax }

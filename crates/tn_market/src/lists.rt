@@ -57,7 +57,7 @@ impl<T: Copy> Listed<T> {
         self.items.len()
     }
 
-    /// The item at a place, counted from 0.
+    /// The item at a place, counted from 0. It is below the length.
     pub fn at(&self, k: usize) -> T
         requires { k < length self.now }
         ensures { slice_get self.now k ≡ Some result }
@@ -95,7 +95,7 @@ impl<T> Lent<T> {
         self.items.len()
     }
 
-    /// The item at a place, counted from 0.
+    /// The item at a place, counted from 0. It is below the length.
     pub fn at(&self, k: usize) -> &T
         requires { k < length self.now }
         ensures { slice_get self.now k ≡ Some result.now }

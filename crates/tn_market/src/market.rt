@@ -51,7 +51,7 @@ impl<V: Valuation> Market<V> {
         self.trades.len() as u32
     }
 
-    /// The ends of trade `t`.
+    /// The ends of trade `t`. It is one of the market.
     pub fn ends(&self, t: u32) -> Ends
         requires { t < length self.now.trades }
         ensures { slice_get self.now.trades t ≡ Some result }
@@ -59,7 +59,7 @@ impl<V: Valuation> Market<V> {
         self.trades[t as usize]
     }
 
-    /// Firm `f`.
+    /// Firm `f`. It is one of the market.
     pub fn firm(&self, f: u32) -> &V
         requires { f < length self.now.firms }
         ensures { slice_get self.now.firms f ≡ Some result.now }
@@ -67,7 +67,7 @@ impl<V: Valuation> Market<V> {
         &self.firms[f as usize]
     }
 
-    /// The trade at position `k` of firm `f`.
+    /// The trade at position `k` of firm `f`. Both are there.
     pub fn own(&self, f: u32, k: u32) -> u32
         requires firm { f < length self.now.firms }
         requires position { (v : V) → slice_get self.now.firms f ≡ Some v → k < (V.firm v).count }
@@ -78,7 +78,8 @@ impl<V: Valuation> Market<V> {
         own[k as usize]
     }
 
-    /// The bundle that firm `f` has of a set of trades.
+    /// The bundle that firm `f` has of a set of trades. The market has at most `64 * W` trades, and the firm is one of
+    /// it.
     pub fn bundle_of<const W: usize>(&self, f: u32, on: &TradeSet<W>) -> Bundle
         requires width { W ≤ 16 }
         requires wide { length self.now.trades ≤ 64 * W }
@@ -134,7 +135,9 @@ fn place(own: &mut [u32], f: u32, t: u32, trade: Ends)
 }
 
 impl<V: Valuation + Drop> Market<V> {
-    /// The market of these firms and trades. It fails only where memory runs out.
+    /// The market of these firms and trades. It fails only where memory runs out. There are at most 1,024 firms and
+    /// 1,024 trades, which fit together: the two ends of a trade are different firms of the list, and each firm has as
+    /// many own trades as ends, on the sides that the ends say.
     pub fn new(alloc: Global, firms: Vec<V>, trades: Vec<Ends>) -> Result<Market<V>, OutOfMemory>
         requires few_firms { length firms.items ≤ 1024 }
         requires few_trades { length trades.items ≤ 1024 }

@@ -16,6 +16,8 @@ pub trait Oracle: Valuation {
     /// A bundle of greatest utility among the possible ones that contain `need` and have beside it only positions of
     /// `free`, with that utility; where several are greatest, any of them. None exactly where no such bundle is
     /// possible. A worth counts `scale` times, and `prices` has a price for each position. It takes no memory.
+    /// Positions in `need` and in `free` are own and differ. Prices are at most 10^20 in size and the scale is 1 to
+    /// 10,000,000; the firm has at most 32 own trades and no worth above 10^11.
     fn best(
         &self,
         need: Bundle,
@@ -36,7 +38,7 @@ pub trait Oracle: Valuation {
 }
 
 /// The utility of a bundle at a scale and at the prices of the positions, None where it is impossible. It takes no
-/// memory.
+/// memory. The bundle has own positions alone; prices, scale and firm are within the limits of `best`.
 pub fn utility_of<V: Oracle>(
     firm: &V,
     x: Bundle,
@@ -61,7 +63,8 @@ pub fn utility_of<V: Oracle>(
     }
 }
 
-/// The worth of a bundle, None where it is impossible. It takes no memory.
+/// The worth of a bundle, None where it is impossible. It takes no memory. The bundle has own positions alone; the firm
+/// has at most 32 own trades and no worth above 10^11.
 pub fn worth_of<V: Oracle>(firm: &V, x: Bundle, room: &mut Room) -> Option<i128>
     requires own { x < 2 ^ (V.firm firm.now).count }
     requires few_trades { (V.firm firm.now).count ≤ 32 }

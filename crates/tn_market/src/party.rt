@@ -17,7 +17,7 @@ pub struct Outside {
 }
 
 impl Outside {
-    /// The firm that takes a contract over at this price.
+    /// The firm that takes a contract over at this price. The price is at most 10^17 in size.
     pub fn new(price: i128) -> Outside
         requires { IsAtMost price (10 ^ 17) }
         ensures { result.price ≡ price }

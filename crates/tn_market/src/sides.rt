@@ -7,7 +7,7 @@ use crate::ends::Ends;
 use std::alloc::Global;
 use tn_base::{OutOfMemory, Side};
 
-/// How many of the trades are the firm's own.
+/// How many of the trades are the firm's own. There are at most 128 trades.
 pub fn count_own(trades: &[Ends], f: u32) -> u32
     requires { length trades.now ≤ 128 }
     ensures { result ≡ length (sides_of trades.now f) }

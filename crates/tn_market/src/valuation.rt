@@ -24,7 +24,7 @@ pub trait Valuation {
         ensures count { result ≡ (firm self.now).count }
         ensures few { result ≤ 64 };
 
-    /// On which side of the trade at position `k` the firm stands.
+    /// On which side of the trade at position `k` the firm stands. It is an own position.
     fn side(&self, k: u32) -> Side
         requires { k < (firm self.now).count }
         ensures { result ≡ side_at (firm self.now).buys k };
@@ -34,7 +34,8 @@ pub trait Valuation {
         ensures size { result ≡ pos (limit self.now) }
         ensures small { limit self.now ≤ 10 ^ 18 };
 
-    /// The worth of a bundle, None where it is impossible. It counts as one step and takes no memory.
+    /// The worth of a bundle, None where it is impossible. It counts as one step and takes no memory. The bundle has
+    /// own positions alone.
     fn value(&self, x: Bundle, steps: &mut Steps<Self::Mark>) -> Option<i128>
         requires { x < 2 ^ (firm self.now).count }
         ensures worth { result ≡ (firm self.now).worth x }

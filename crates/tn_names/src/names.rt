@@ -49,7 +49,7 @@ impl Names {
         self.trades.len()
     }
 
-    /// The name of a firm.
+    /// The name of a firm. There is one.
     pub fn firm(&self, f: u32) -> &str
         requires { f < length self.now.firms }
         ensures { slice_get self.now.firms f ≡ Some result.now }
@@ -57,7 +57,7 @@ impl Names {
         self.firms.name(f)
     }
 
-    /// The name of a trade.
+    /// The name of a trade. There is one.
     pub fn trade(&self, t: u32) -> &str
         requires { t < length self.now.trades }
         ensures { slice_get self.now.trades t ≡ Some result.now }
@@ -65,7 +65,9 @@ impl Names {
         self.trades.name(t)
     }
 
-    /// Puts the name of a firm last, unless it is there, and says whether it did.
+    /// Puts the name of a firm last, unless it is there, and says whether it did. Where it is there, that takes no
+    /// memory and changes nothing; neither does anything change where memory runs out. The name keeps the rule for
+    /// names, and fewer than 1,024 names of firms are there.
     pub fn add_firm(&mut self, name: &str) -> Result<bool, OutOfMemory>
         requires named { IsTrue (is_name name.now) }
         requires room { length self.old.firms < MAX_NAMES }
@@ -79,7 +81,9 @@ impl Names {
         self.firms.add(name)
     }
 
-    /// Puts the name of a trade last, unless it is there, and says whether it did.
+    /// Puts the name of a trade last, unless it is there, and says whether it did. Where it is there, that takes no
+    /// memory and changes nothing; neither does anything change where memory runs out. The name keeps the rule for
+    /// names, and fewer than 1,024 names of trades are there.
     pub fn add_trade(&mut self, name: &str) -> Result<bool, OutOfMemory>
         requires named { IsTrue (is_name name.now) }
         requires room { length self.old.trades < MAX_NAMES }
@@ -93,7 +97,7 @@ impl Names {
         self.trades.add(name)
     }
 
-    /// The number of the firm with this name.
+    /// The number of the firm with this name. None exactly where no firm has it.
     pub fn firm_of(&self, name: &str) -> Option<u32>
         ensures number { result ≡ number_of self.now.firms name.now }
         ensures there { IsSome result ↔ IsTrue (has_name self.now.firms name.now) }
@@ -102,7 +106,7 @@ impl Names {
         self.firms.number_of(name)
     }
 
-    /// The number of the trade with this name.
+    /// The number of the trade with this name. None exactly where no trade has it.
     pub fn trade_of(&self, name: &str) -> Option<u32>
         ensures number { result ≡ number_of self.now.trades name.now }
         ensures there { IsSome result ↔ IsTrue (has_name self.now.trades name.now) }

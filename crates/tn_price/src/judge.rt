@@ -59,7 +59,8 @@ fn standing_of<V: Oracle, const W: usize>(
 }
 
 /// Judges a set of trades with prices at scale `over`: the first firm whose bundle is impossible or not best, or that
-/// they are an equilibrium. It takes no memory.
+/// they are an equilibrium. It takes no memory. There is one price for each trade, at most 10^18 in size, and `over` is
+/// 1 to 100,000; the market has at most `64 * W` trades, and each firm at most 32 own trades and no worth above 10^11.
 pub fn judge_at<V: Oracle, const W: usize>(
     market: &Market<V>,
     on: &TradeSet<W>,
@@ -95,7 +96,9 @@ pub fn judge_at<V: Oracle, const W: usize>(
 }
 
 /// Judges an arrangement at scale `over`: the first firm whose bundle is impossible or not best, or that the
-/// arrangement is an equilibrium. It takes no memory.
+/// arrangement is an equilibrium. It takes no memory. There is one price for each trade, at most 10^18 in size, and
+/// `over` is 1 to 100,000; the market has at most `64 * W` trades, and each firm at most 32 own trades and no worth
+/// above 10^11.
 pub fn judge_arrangement<V: Oracle, const W: usize>(
     market: &Market<V>,
     at: &Arrangement<W>,

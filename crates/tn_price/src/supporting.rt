@@ -33,7 +33,8 @@ fn is_unable<V: Valuation, const W: usize>(
     worth_at(market, on, f, steps).is_none()
 }
 
-/// The first firm whose bundle of the set is impossible, if there is one. It asks each firm for one worth at most.
+/// The first firm whose bundle of the set is impossible, if there is one. It asks each firm for one worth at most. The
+/// market has at most `64 * W` trades.
 pub fn first_unable<V: Valuation, const W: usize>(
     market: &Market<V>,
     on: &TradeSet<W>,
@@ -99,7 +100,8 @@ fn support_by_labels<V: Valuation, const W: usize>(
 /// Prices that support a set of trades, exactly where there are any: with them each firm's bundle of the set is best.
 /// Otherwise the first firm whose bundle is impossible; or, where all are possible, a cycle of the exchange graph of
 /// negative cost (Candogan, Epitropou and Vohra, 2021). It asks for at most two worths for each two places of each firm,
-/// and fails only where memory runs out.
+/// and fails only where memory runs out. The market has at most `64 * W` trades, and twice the bound of each firm is at
+/// most 10^18.
 pub fn support<V: Valuation, const W: usize>(
     alloc: Global,
     market: &Market<V>,

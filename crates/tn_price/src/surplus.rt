@@ -9,7 +9,8 @@ ghost use Rattle.tn_market.specs.Network.{part};
 use tn_base::{Steps, TradeSet};
 use tn_market::{Market, Valuation};
 
-/// The worth of the bundle that firm `f` has of a set of trades, None where it is impossible.
+/// The worth of the bundle that firm `f` has of a set of trades, None where it is impossible. The market has at most
+/// `64 * W` trades.
 pub fn worth_at<V: Valuation, const W: usize>(
     market: &Market<V>,
     on: &TradeSet<W>,
@@ -28,7 +29,7 @@ pub fn worth_at<V: Valuation, const W: usize>(
 }
 
 /// The surplus of a set of trades: the sum of the firms' worths, None where the bundle of a firm is impossible. It asks
-/// each firm for one worth at most, and takes no memory.
+/// each firm for one worth at most, and takes no memory. The market has at most `64 * W` trades.
 pub fn surplus_of<V: Valuation, const W: usize>(
     market: &Market<V>,
     on: &TradeSet<W>,

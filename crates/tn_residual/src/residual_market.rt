@@ -15,7 +15,9 @@ use tn_market::{Market, Outcome, Party, Valuation};
 /// `scale` times the price of its contract. It fails only where memory runs out.
 ///
 /// For each set of unsigned trades its greatest surplus is that of their reduced worths: each end of a contract is on
-/// where its own firm likes it, and the firm outside pays the one end what it gets from the other.
+/// where its own firm likes it, and the firm outside pays the one end what it gets from the other. The limits of firms
+/// and outcomes hold (at most 128 firms and 128 trades, 32 own trades, worths and numerators of at most 10^11 in size,
+/// a denominator of 1 to 100); `over * scale` is 1 to 100,000, and the tax is 0 or 1.
 pub fn residual<'a, V: Valuation>(
     alloc: Global,
     market: &'a Market<V>,

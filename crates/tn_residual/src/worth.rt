@@ -11,7 +11,8 @@ use tn_market::{Market, Oracle, Outcome, Room};
 
 /// The reduced worth of a firm's unsigned trades `x`: the greatest utility, over the outcome's denominator, of `x` with a
 /// part of the firm's contracts, at their prices and without prices for `x`; and a part that reaches it. None exactly
-/// where `x` is impossible with each part. It takes no memory.
+/// where `x` is impossible with each part. It takes no memory. The limits of firms and outcomes hold, and `x` has own
+/// unsigned trades alone.
 pub fn reduced_best<V: Oracle>(
     market: &Market<V>,
     firm: u32,

@@ -38,7 +38,9 @@ fn passes<const N: usize>(alloc: Global, book: &CaseBook<N>, k: usize) -> Result
     Ok(book.agrees(k, status_of(&said), &text))
 }
 
-/// Runs each case's command on its document, and lists the numbers, from 1, of the cases that fail.
+/// Runs each case's command on its document, and lists the numbers, from 1, of the cases that fail, ascending. What isn't
+/// listed has the status and the text of a defined answer; of what is listed some defined answer has others. There are at
+/// most 64 cases, with documents of at most 4,194,304 bytes. It fails only where memory runs out.
 pub fn run_cases<const N: usize>(alloc: Global, book: &CaseBook<N>) -> Result<Numbers, OutOfMemory>
     requires few { N ≤ 64 }
     requires documents { All (λ case. length case.document ≤ document_limit) book.now }

@@ -53,7 +53,8 @@ fn settle<V: Valuation, const W: usize>(rounds: &mut Rounds<W>, market: &Market<
 
 impl<'a, V: Valuation, const W: usize> Session<'a, V, W> {
     /// A session on a market: no trade is admitted, and none is on. It asks for at most a worth for each two places of
-    /// each firm, and fails only where memory runs out.
+    /// each firm, and fails only where memory runs out. The market has at most `64 * W` trades; twice the bound of each
+    /// firm, times one more than the number of trades, is at most 10^17.
     pub fn begin(
         alloc: Global,
         market: &'a Market<V>,
@@ -76,7 +77,7 @@ impl<'a, V: Valuation, const W: usize> Session<'a, V, W> {
     }
 
     /// Admits a trade, and answers true, where it isn't admitted; otherwise it answers false and changes nothing. It asks
-    /// for at most a worth for each two places of each firm, and takes no memory.
+    /// for at most a worth for each two places of each firm, and takes no memory. The trade is one of the market.
     pub fn admit(&mut self, t: u32, steps: &mut Steps<V::Mark>) -> bool
         requires trade { t < length self.old.market.trades }
         ensures answer { result ≡ not (has self.old.admitted t) }
@@ -97,7 +98,7 @@ impl<'a, V: Valuation, const W: usize> Session<'a, V, W> {
 
     /// Bars a trade, and answers true, where it is admitted; otherwise it answers false and changes nothing. Where the
     /// trade is off, what is on and the prices stay; where it is on, trades are toggled along one cycle. It asks for at
-    /// most a worth for each two places of each firm, and takes no memory.
+    /// most a worth for each two places of each firm, and takes no memory. The trade is one of the market.
     pub fn bar(&mut self, t: u32, steps: &mut Steps<V::Mark>) -> bool
         requires trade { t < length self.old.market.trades }
         ensures answer { result ≡ has self.old.admitted t }
@@ -135,7 +136,8 @@ impl<'a, V: Valuation, const W: usize> Session<'a, V, W> {
         &self.rounds.on
     }
 
-    /// The price of trade `t`, which is one of the equilibrium where the trade is admitted.
+    /// The price of trade `t`, which is one of the equilibrium where the trade is admitted. The trade is one of the
+    /// market.
     pub fn price(&self, t: u32) -> i128
         requires { t < length self.now.market.trades }
         ensures { result ≡ price_at self.now.solution.prices t }
