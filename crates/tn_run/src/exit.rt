@@ -7,6 +7,7 @@ ghost use Rattle.tn_names.specs.Names.{NameLists};
 ghost use Rattle.tn_run.specs.Answer.{MayBeSaid};
 ghost use Rattle.tn_run.specs.Cases.{MayBeCases};
 ghost use Rattle.tn_run.specs.Complete.{AnswersAll, NoneCounted};
+ghost use Rattle.tn_run.specs.Headline.{IsHeadline, is_headlined};
 ghost use Rattle.tn_run.specs.Run.{IsWritten};
 ghost use Rattle.tn_run.specs.Drilled.{MayBeDrilled};
 ghost use Rattle.tn_run.specs.Words.{asks_for_cases, command_of, drill_of};
@@ -31,6 +32,8 @@ pub fn run_to_exit<S: Source, K: Sink>(
         × ((size start : ℕ) → drill_of (map string_bytes words.now) ≡ Some (size, start) → (source.new ≡ source.old) × MayBeDrilled size start said)
         × ((command : Command) → command_of (map string_bytes words.now) ≡ Some command
         → MayBeSaid command (S.left source.old) (S.left source.new) (S.faults source.old) (S.faults source.new) names said)
+        × ((command : Command) → command_of (map string_bytes words.now) ≡ Some command → is_headlined command ≡ true
+        → IsHeadline command (S.left source.old) (S.left source.new) (S.faults source.old) (S.faults source.new) said)
         × IsWritten (K.written sink.old) (K.written sink.new) (K.faults sink.old) (K.faults sink.new) names said (exit_status result) }
     // A source that tells its bytes, and no fault counted at either end: the defined answer for them, or want of memory.
     ensures complete { (command : Command) (all : List ℕ) → command_of (map string_bytes words.now) ≡ Some command → S.left source.old ≡ Some all

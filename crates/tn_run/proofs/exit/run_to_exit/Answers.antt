@@ -13,6 +13,7 @@ returns-clause-answer g c =
       c.run_market.ensures.cases,
       c.run_market.ensures.drill,
       answers.1,
+      c.run_market.ensures.headline,
       subst
           (λ (status : ℕ). IsWritten (g.K.Sink.written c.args.sink.now) (g.K.Sink.written c.run_market.new.sink) (g.K.Sink.faults c.args.sink.now) (g.K.Sink.faults c.run_market.new.sink) answers.0 run.said status)
           (sym c.from.ensures) answers.2,
