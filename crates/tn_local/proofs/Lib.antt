@@ -1,3 +1,4 @@
 pub mod FourLemmas
 pub mod WalkLemmas
 pub mod VerdictLemmas
+pub mod FirstLemmas
