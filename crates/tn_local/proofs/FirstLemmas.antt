@@ -1,5 +1,5 @@
 -- The first triple of a firm.
-use Rattle.std.proofs.Common.{◌⊎◌, inl, inr}
+use Rattle.std.proofs.Common.{inl, inr}
 use Rattle.std.proofs.lemmas.Bool.{cases_lt}
 use Rattle.tn_base.specs.Firm.{Firm}
 use Rattle.tn_exchange.specs.TestOrder.{Triple, TripleFails}

@@ -2,3 +2,4 @@ pub mod FourLemmas
 pub mod WalkLemmas
 pub mod VerdictLemmas
 pub mod FirstLemmas
+mod FullLemmas

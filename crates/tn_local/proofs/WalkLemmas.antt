@@ -96,7 +96,7 @@ one_below n buys x z p below low differs =
     omega (arith, lx, lz, other, low)
 
 -- bundles are far apart where one has three trades of the up side more
-far_by_up : (n buys x z p q r : ℕ) → x < 2 ^ n → z < 2 ^ n → p < n → q < p → r < q
+pub far_by_up : (n buys x z p q r : ℕ) → x < 2 ^ n → z < 2 ^ n → p < n → q < p → r < q
     → trade_level buys x p ≡ 1 → trade_level buys x q ≡ 1 → trade_level buys x r ≡ 1
     → has z p ≡ not (has x p) → has z q ≡ not (has x q) → has z r ≡ not (has x r) → AreClose buys x z → ⊥
 unfolding gap
@@ -109,7 +109,7 @@ far_by_up n buys x z p q r x_own z_own p_below q_below r_below high_p high_q hig
     let same = gap-symmetric (bare n buys) x z in
     absurd (omega (arith, three, both, same, close))
 
-far_by_down : (n buys x z p q r : ℕ) → x < 2 ^ n → z < 2 ^ n → p < n → q < p → r < q
+pub far_by_down : (n buys x z p q r : ℕ) → x < 2 ^ n → z < 2 ^ n → p < n → q < p → r < q
     → trade_level buys x p ≡ 0 → trade_level buys x q ≡ 0 → trade_level buys x r ≡ 0
     → has z p ≡ not (has x p) → has z q ≡ not (has x q) → has z r ≡ not (has x r) → AreClose buys x z → ⊥
 unfolding gap

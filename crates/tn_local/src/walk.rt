@@ -49,6 +49,10 @@ pub(crate) fn test_close(
                 return test_reached(table, buys, x, first, y, sides);
             }
             let (null, at) = (table.trades(), k - 1);
+            // whatever else is toggled, `y` is close no more
+            if sides.up.second != null && sides.down.second != null {
+                return test_reached(table, buys, x, first, y, sides);
+            }
             let further = further(buys, x, y, at, null, sides);
             let toggled = y.toggle(at);
             // the bundles without the position come first

@@ -1,9 +1,20 @@
-use Rattle.std.proofs.Common.{ℕ, sym, ◌∙◌, subst, length}
+use Rattle.std.proofs.Common.{ℕ, ◌<◌, sym, ◌∙◌, subst, length, arith}
 use Rattle.tn_exchange.specs.Rows.{firm_of_table}
 use Rattle.tn_exchange.proofs.RowLemmas.{own_bundles}
-use Rattle.tn_local.specs.Walk.{IsKnown, NoneIsClose}
+use Rattle.tn_local.specs.Walk.{IsKnown, IsReached, NoneIsClose}
+use Rattle.tn_local.proofs.FullLemmas.{full_verdict}
 use Rattle.tn_local.proofs.VerdictLemmas.{with_holds, with_fails, without_holds, without_fails, none_close}
 use Rattle.tn_local.proofs.walk.+test_close.Goals as goal
+
+pub returns-then-sides-null-2 : goal.returns-then-sides-null-2
+returns-then-sides-null-2 t c =
+    let n = length c.args.table.now.sides in
+    let reached : IsReached n c.args.buys c.args.x c.args.y c.args.k c.in-Some.sides =
+    subst (IsKnown n c.args.buys c.args.x c.args.y c.args.k) c.in-Some.is c.requires.known in
+    let up : c.in-Some.sides.up.second < n = omega (arith, reached.up.second.place, c.if-sides-null.true, c.trades-null.ensures.count) in
+    let down : c.in-Some.sides.down.second < n = omega (arith, reached.down.second.place, c.if-sides-null-2.true, c.trades-null.ensures.count) in
+    full_verdict (firm_of_table c.args.table.now) (own_bundles c.args.table.now) c.args.x c.args.y c.args.k c.in-Some.sides c.test_reached-then-sides-null-2.result c.requires.own
+    (subst (λ (b : ℕ). IsReached n b c.args.x c.args.y c.args.k c.in-Some.sides) c.requires.bought reached) up down c.test_reached-then-sides-null-2.ensures
 
 pub returns-in-Holds : goal.returns-in-Holds
 returns-in-Holds t c =
