@@ -21,7 +21,7 @@ use Rattle.tn_refer.specs.Entries.{entry_of, one_entry}
 use Rattle.tn_listed.specs.Listing.{listed_of, version_limit}
 use Rattle.tn_listed.specs.Naming.{name_at, new_name, firm_name, trade_name, ends_at, one_trade}
 use Rattle.tn_kinds.specs.Kinds.{kind_of, frame_of}
-use Rattle.tn_kinds.specs.Tables.{row_of, one_row, rows_of, table_of}
+use Rattle.tn_kinds.specs.Tables.{row_of, one_row, full_if_large, rows_of, table_of}
 use Rattle.tn_kinds.specs.OwnNumbers.{own_numbers}
 use Rattle.tn_kinds.specs.Laminars.{laminar_of, sets_at, checked_laminar}
 use Rattle.tn_kinds.specs.Firms.{exchange_of, tested_firm, firm_by, firm_of, one_firm}
@@ -82,21 +82,21 @@ abbrev buyer_data : Data
 buyer_data = Trees.table Trees.name_B (Trees.row (Trees.name_a ∷ []) (Trees.whole 5) ∷ [])
 
 buyer_read : (row : Option ℤ) → one_firm true deal_listed (seller row ∷ []) buyer_data ≡ Ok (deal_firms row)
-unfolding firm_by kind_of frame_of object_of allows sides_of table_of rows_of each one_row row_of two_at bundle_at own_reference new_own own_position trade_at number_in has toggle size size_below
+unfolding firm_by kind_of frame_of object_of allows sides_of table_of full_if_large rows_of each one_row row_of two_at bundle_at own_reference new_own own_position trade_at number_in has toggle size size_below
 buyer_read row = table_read deal_listed (seller row ∷ []) buyer_data buyer_table refl refl refl (none_fails_from_exchange buyer buyer_meets)
 
 firms_3 : each (one_firm true deal_listed) [] (deal_items (Trees.asks (negsuc 2))) ≡ Ok (deal_firms asks_3)
-unfolding firm_by kind_of frame_of object_of allows sides_of table_of rows_of each one_row row_of two_at bundle_at own_reference new_own own_position trade_at number_in has toggle size size_below
+unfolding firm_by kind_of frame_of object_of allows sides_of table_of full_if_large rows_of each one_row row_of two_at bundle_at own_reference new_own own_position trade_at number_in has toggle size size_below
 firms_3 = two_read (one_firm true deal_listed) (seller_data (Trees.asks (negsuc 2))) buyer_data (seller asks_3 ∷ []) (deal_firms asks_3)
     (table_read deal_listed [] (seller_data (Trees.asks (negsuc 2))) (seller_table asks_3) refl refl refl (none_fails_from_exchange (seller asks_3) meets_3)) (buyer_read asks_3)
 
 firms_5 : each (one_firm true deal_listed) [] (deal_items (Trees.asks (negsuc 4))) ≡ Ok (deal_firms asks_5)
-unfolding firm_by kind_of frame_of object_of allows sides_of table_of rows_of each one_row row_of two_at bundle_at own_reference new_own own_position trade_at number_in has toggle size size_below
+unfolding firm_by kind_of frame_of object_of allows sides_of table_of full_if_large rows_of each one_row row_of two_at bundle_at own_reference new_own own_position trade_at number_in has toggle size size_below
 firms_5 = two_read (one_firm true deal_listed) (seller_data (Trees.asks (negsuc 4))) buyer_data (seller asks_5 ∷ []) (deal_firms asks_5)
     (table_read deal_listed [] (seller_data (Trees.asks (negsuc 4))) (seller_table asks_5) refl refl refl (none_fails_from_exchange (seller asks_5) meets_5)) (buyer_read asks_5)
 
 firms_none : each (one_firm true deal_listed) [] (deal_items []) ≡ Ok (deal_firms None)
-unfolding firm_by kind_of frame_of object_of allows sides_of table_of rows_of each one_row row_of two_at bundle_at own_reference new_own own_position trade_at number_in has toggle size size_below
+unfolding firm_by kind_of frame_of object_of allows sides_of table_of full_if_large rows_of each one_row row_of two_at bundle_at own_reference new_own own_position trade_at number_in has toggle size size_below
 firms_none = two_read (one_firm true deal_listed) (seller_data []) buyer_data (seller None ∷ []) (deal_firms None)
     (table_read deal_listed [] (seller_data []) (seller_table None) refl refl refl (none_fails_from_exchange (seller None) meets_none)) (buyer_read None)
 
@@ -234,7 +234,7 @@ unfolding listed_of version_limit object_of allows few_at each firm_name new_nam
 listed_3 = refl
 
 firms_idle : each (one_firm true idle_listed) [] (item idle_data (item idle_other no_items)) ≡ Ok idle_firms
-unfolding firm_by kind_of frame_of object_of allows sides_of table_of rows_of each one_row row_of two_at bundle_at own_reference new_own own_position trade_at number_in has toggle size size_below
+unfolding firm_by kind_of frame_of object_of allows sides_of table_of full_if_large rows_of each one_row row_of two_at bundle_at own_reference new_own own_position trade_at number_in has toggle size size_below
 firms_idle = two_read (one_firm true idle_listed) idle_data idle_other (idle (Some (pos 7)) ∷ []) idle_firms
     (table_read idle_listed [] idle_data (idle_table (Some (pos 7))) refl refl refl (none_fails_from_exchange (idle (Some (pos 7))) idle_meets_7))
     (table_read idle_listed (idle (Some (pos 7)) ∷ []) idle_other (idle_table None) refl refl refl (none_fails_from_exchange (idle None) idle_meets_none))
@@ -255,11 +255,11 @@ abbrev pub document_4 : DocumentData
 document_4 = record { names = listed_at_4.names; firms = both_firms; ends = both_trades; extra = nothing }
 
 listed_4 : listed_of Trees.top_4 ≡ Ok (listed_at_4, items_of Trees.firms_4)
-unfolding listed_of version_limit few_at firm_name new_name name_at trade_name ends_at firm_at one_trade one_firm firm_of firm_by tested_firm kind_of frame_of object_of allows sides_of table_of rows_of each one_row row_of laminar_of own_numbers sets_at checked_laminar one_entry entry_of two_at bundle_at own_reference new_own own_position trade_at number_in has toggle size size_below
+unfolding listed_of version_limit few_at firm_name new_name name_at trade_name ends_at firm_at one_trade one_firm firm_of firm_by tested_firm kind_of frame_of object_of allows sides_of table_of full_if_large rows_of each one_row row_of laminar_of own_numbers sets_at checked_laminar one_entry entry_of two_at bundle_at own_reference new_own own_position trade_at number_in has toggle size size_below
 listed_4 = refl
 
 firms_4_are : each (one_firm false listed_at_4) [] (items_of Trees.firms_4) ≡ Ok both_firms
-unfolding listed_of version_limit few_at firm_name new_name name_at trade_name ends_at firm_at one_trade one_firm firm_of firm_by tested_firm kind_of frame_of object_of allows sides_of table_of rows_of each one_row row_of laminar_of own_numbers sets_at checked_laminar one_entry entry_of two_at bundle_at own_reference new_own own_position trade_at number_in has toggle size size_below
+unfolding listed_of version_limit few_at firm_name new_name name_at trade_name ends_at firm_at one_trade one_firm firm_of firm_by tested_firm kind_of frame_of object_of allows sides_of table_of full_if_large rows_of each one_row row_of laminar_of own_numbers sets_at checked_laminar one_entry entry_of two_at bundle_at own_reference new_own own_position trade_at number_in has toggle size size_below
 firms_4_are = refl
 
 extra_4_is : extra_of Raw listed_at_4 Trees.top_4 ≡ Ok nothing
@@ -276,11 +276,11 @@ abbrev pub document_5 : DocumentData
 document_5 = record { names = listed_at_5.names; firms = dealer_firms; ends = dealer_trades; extra = nothing }
 
 listed_5 : listed_of Trees.top_5 ≡ Ok (listed_at_5, items_of Trees.firms_5)
-unfolding listed_of version_limit few_at firm_name new_name name_at trade_name ends_at firm_at one_trade one_firm firm_of firm_by tested_firm kind_of frame_of object_of allows sides_of table_of rows_of each one_row row_of laminar_of own_numbers sets_at checked_laminar one_entry entry_of two_at bundle_at own_reference new_own own_position trade_at number_in has toggle size size_below
+unfolding listed_of version_limit few_at firm_name new_name name_at trade_name ends_at firm_at one_trade one_firm firm_of firm_by tested_firm kind_of frame_of object_of allows sides_of table_of full_if_large rows_of each one_row row_of laminar_of own_numbers sets_at checked_laminar one_entry entry_of two_at bundle_at own_reference new_own own_position trade_at number_in has toggle size size_below
 listed_5 = refl
 
 firms_5_are : each (one_firm false listed_at_5) [] (items_of Trees.firms_5) ≡ Ok dealer_firms
-unfolding listed_of version_limit few_at firm_name new_name name_at trade_name ends_at firm_at one_trade one_firm firm_of firm_by tested_firm kind_of frame_of object_of allows sides_of table_of rows_of each one_row row_of laminar_of own_numbers sets_at checked_laminar one_entry entry_of two_at bundle_at own_reference new_own own_position trade_at number_in has toggle size size_below
+unfolding listed_of version_limit few_at firm_name new_name name_at trade_name ends_at firm_at one_trade one_firm firm_of firm_by tested_firm kind_of frame_of object_of allows sides_of table_of full_if_large rows_of each one_row row_of laminar_of own_numbers sets_at checked_laminar one_entry entry_of two_at bundle_at own_reference new_own own_position trade_at number_in has toggle size size_below
 firms_5_are = refl
 
 extra_5_is : extra_of Raw listed_at_5 Trees.top_5 ≡ Ok nothing
@@ -297,11 +297,11 @@ abbrev pub document_6 : DocumentData
 document_6 = record { names = listed_at_6.names; firms = tied_firms; ends = tied_trades; extra = nothing }
 
 listed_6 : listed_of Trees.top_6 ≡ Ok (listed_at_6, items_of Trees.firms_6)
-unfolding listed_of version_limit few_at firm_name new_name name_at trade_name ends_at firm_at one_trade one_firm firm_of firm_by tested_firm kind_of frame_of object_of allows sides_of table_of rows_of each one_row row_of laminar_of own_numbers sets_at checked_laminar one_entry entry_of two_at bundle_at own_reference new_own own_position trade_at number_in has toggle size size_below
+unfolding listed_of version_limit few_at firm_name new_name name_at trade_name ends_at firm_at one_trade one_firm firm_of firm_by tested_firm kind_of frame_of object_of allows sides_of table_of full_if_large rows_of each one_row row_of laminar_of own_numbers sets_at checked_laminar one_entry entry_of two_at bundle_at own_reference new_own own_position trade_at number_in has toggle size size_below
 listed_6 = refl
 
 firms_6_are : each (one_firm false listed_at_6) [] (items_of Trees.firms_6) ≡ Ok tied_firms
-unfolding listed_of version_limit few_at firm_name new_name name_at trade_name ends_at firm_at one_trade one_firm firm_of firm_by tested_firm kind_of frame_of object_of allows sides_of table_of rows_of each one_row row_of laminar_of own_numbers sets_at checked_laminar one_entry entry_of two_at bundle_at own_reference new_own own_position trade_at number_in has toggle size size_below
+unfolding listed_of version_limit few_at firm_name new_name name_at trade_name ends_at firm_at one_trade one_firm firm_of firm_by tested_firm kind_of frame_of object_of allows sides_of table_of full_if_large rows_of each one_row row_of laminar_of own_numbers sets_at checked_laminar one_entry entry_of two_at bundle_at own_reference new_own own_position trade_at number_in has toggle size size_below
 firms_6_are = refl
 
 extra_6_is : extra_of Raw listed_at_6 Trees.top_6 ≡ Ok nothing

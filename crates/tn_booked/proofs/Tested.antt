@@ -1,5 +1,5 @@
 -- What `test` says where each firm meets exchange, and where the first that doesn't is a table.
-use Rattle.std.proofs.Common.{◌≡◌, ℕ, zero, suc, ◌^◌, ◌<◌, refl, sym, ap, ◌∙◌, subst, arith, ◌⊎◌, inl, inr, List, [], ◌∷◌, slice_get, length}
+use Rattle.std.proofs.Common.{◌≡◌, ℕ, zero, suc, ◌^◌, ◌<◌, ◌≤◌, refl, sym, ap, ◌∙◌, subst, arith, ◌⊎◌, inl, inr, List, [], ◌∷◌, slice_get, length}
 use Rattle.std.specs.Prelude.{ℤ, pos, negsuc, ◌≤ℤ◌, ◌+ℤ◌, true, not, ◌||◌, nat_lt, is_none, option_map, Option, Some, None}
 use Rattle.std.proofs.lemmas.Int.{ints}
 use Rattle.std.proofs.lemmas.Bool.{cases_order, or_cases, false≢true, lt-ltb}
@@ -14,6 +14,8 @@ use Rattle.tn_cert.specs.Reasons.{IsFirstToFail}
 use Rattle.tn_exchange.specs.Rows.{TableRows, firm_of_table, worth_in}
 use Rattle.tn_exchange.specs.TestOrder.{Triple, IsBefore, IsEarlier, TripleFails, IsFirstFailure}
 use Rattle.tn_exchange.proofs.RowLemmas.{own_bundles}
+use Rattle.tn_local.specs.First.{IsFirstTriple}
+use Rattle.tn_local.proofs.FirstLemmas.{triple_fails}
 use Rattle.tn_laminar.specs.Sum.{laminar_firm}
 use Rattle.tn_market.specs.declared.ends.Ends.{Ends}
 use Rattle.tn_market.specs.declared.said.Said.{Said}
@@ -56,8 +58,8 @@ same_first firm s t first other = elim (earlier_or_later s t) [
   | inr (inr after) ↦ absurd (first.first t after other.fails)
 ]
 
-never_meets : (firm : Firm) (triple : Triple) → IsFirstFailure firm triple → MeetsExchange firm → ⊥
-never_meets firm triple first meets = none_fails_from_exchange firm meets triple.x triple.y triple.at first.fails
+never_meets : (firm : Firm) (triple : Triple) → TripleFails firm triple → MeetsExchange firm → ⊥
+never_meets firm triple fails meets = none_fails_from_exchange firm meets triple.x triple.y triple.at fails
 
 -- ---- each firm meets exchange
 
@@ -70,14 +72,15 @@ is_accepted firms trades all f firm below is = all f firm is
 pub only_accepted : (firms : List Firm) (trades : List Ends) → AllMeet firms → (said : Said) → Tests firms trades said → said ≡ Accepted
 only_accepted firms trades all Accepted tests = refl
 only_accepted firms trades all (ExchangeFails f x y at) tests =
-    absurd (never_meets tests.firm tests.triple tests.first (all f tests.firm tests.is))
+    absurd (never_meets tests.firm tests.triple (triple_fails tests.firm tests.triple tests.first) (all f tests.firm tests.is))
 only_accepted firms trades all said tests = absurd tests
 
--- ---- firm f is a table that fails exchange, and the firms before it meet it
+-- ---- firm f is a small table that fails exchange, and the firms before it meet it
 
 pub record FailsFirst (firms : List Firm) (f : ℕ) (table : TableRows) (triple : Triple) : Type 0 where
   pub before : (g : ℕ) (firm : Firm) → g < f → slice_get firms g ≡ Some firm → MeetsExchange firm
   pub is : slice_get firms f ≡ Some (firm_of_table table)
+  pub small : length table.sides ≤ 10
   pub first : IsFirstFailure (firm_of_table table) triple
 
 abbrev pub failure : List Ends → ℕ → ℕ → Triple → Said
@@ -89,7 +92,7 @@ is_failure firms trades f table triple fails = record {
   firm = firm_of_table table;
   is = fails.is;
   triple = triple;
-  first = fails.first;
+  first = record { small = λ few. fails.first; large = λ many. absurd (omega (arith, many, fails.small)) };
   x_is = refl;
   y_is = refl;
   at_is = refl;
@@ -99,8 +102,8 @@ same_failure : (firms : List Firm) (trades : List Ends) (f : ℕ) (table : Table
     → ExchangeFails f x y at ≡ failure trades f (length table.sides) triple
 same_failure firms trades f table triple fails x y at told =
     let same : told.firm ≡ firm_of_table table = same_Some _ _ (sym told.is ∙ fails.is) in
-    let first : IsFirstFailure (firm_of_table table) told.triple = subst (λ firm. IsFirstFailure firm told.triple) same told.first in
-    let one : told.triple ≡ triple = same_first (firm_of_table table) told.triple triple first fails.first in
+    let first : IsFirstTriple (firm_of_table table) told.triple = subst (λ firm. IsFirstTriple firm told.triple) same told.first in
+    let one : told.triple ≡ triple = same_first (firm_of_table table) told.triple triple (first.small fails.small) fails.first in
     let x_is = told.x_is ∙ (λ i. trades_of trades f (same i).count (one i).x) in
     let y_is = told.y_is ∙ (λ i. trades_of trades f (same i).count (one i).y) in
     let at_is = told.at_is ∙ (λ i. option_map (own trades f) (one i).at) in
@@ -109,11 +112,11 @@ same_failure firms trades f table triple fails x y at told =
 pub only_failure : (firms : List Firm) (trades : List Ends) (f : ℕ) (table : TableRows) (triple : Triple) → FailsFirst firms f table triple → (said : Said) → Tests firms trades said
     → said ≡ failure trades f (length table.sides) triple
 only_failure firms trades f table triple fails Accepted tests =
-    absurd (never_meets (firm_of_table table) triple fails.first (tests f (firm_of_table table) (slice_get_within firms f (firm_of_table table) fails.is) fails.is))
+    absurd (never_meets (firm_of_table table) triple fails.first.fails (tests f (firm_of_table table) (slice_get_within firms f (firm_of_table table) fails.is) fails.is))
 only_failure firms trades f table triple fails (ExchangeFails g x y at) tests = elim (cases_order g f) [
   | inl e ↦ ap (λ (h : ℕ). ExchangeFails h x y at) e ∙ same_failure firms trades f table triple fails x y at (subst (λ h. IsFirstToFail firms trades h x y at) e tests)
-  | inr (inl earlier) ↦ absurd (never_meets tests.firm tests.triple tests.first (fails.before g tests.firm earlier tests.is))
-  | inr (inr later) ↦ absurd (never_meets (firm_of_table table) triple fails.first (tests.before f (firm_of_table table) later fails.is))
+  | inr (inl earlier) ↦ absurd (never_meets tests.firm tests.triple (triple_fails tests.firm tests.triple tests.first) (fails.before g tests.firm earlier tests.is))
+  | inr (inr later) ↦ absurd (never_meets (firm_of_table table) triple fails.first.fails (tests.before f (firm_of_table table) later fails.is))
 ]
 only_failure firms trades f table triple fails said tests = absurd tests
 
@@ -177,6 +180,7 @@ pub both_fail : HasOwnBundles both_seller → FailsFirst both_firms 1 both_table
 both_fail own = record {
   before = before;
   is = refl;
+  small = omega arith;
   first = record {
     fails = record { first = pos 10; second = pos 0; first_is = both_worths.0; second_is = both_worths.1; wrong = (both_up, both_wrong) };
     first = none_before;
@@ -307,6 +311,7 @@ pub tied_fail : HasOwnBundles free_seller → FailsFirst tied_firms 1 tied_table
 tied_fail own = record {
   before = before;
   is = refl;
+  small = omega arith;
   first = record {
     fails = record { first = pos 5; second = pos 5; first_is = tied_ten; second_is = tied_five; wrong = (tied_up, tied_wrong) };
     first = none_earlier;

@@ -9,12 +9,13 @@ use Rattle.tn_base.specs.Firm.{Firm, HasOwnBundles}
 use Rattle.tn_base.specs.Exchange.{MeetsExchange, NoneFails}
 use Rattle.tn_base.proofs.ExchangeLemmas.{exchange_from_none_fails, none_fails_from_exchange}
 use Rattle.tn_exchange.proofs.RowLemmas.{own_bundles}
-use Rattle.tn_exchange.specs.TestOrder.{Triple, IsFirstFailure}
+use Rattle.tn_exchange.specs.TestOrder.{Triple}
 use Rattle.tn_firm.specs.declared.raw.RawFirm.{RawFirm}
 use Rattle.tn_firm.specs.declared.raw.RawFirm.TheVariants.{Table, Laminar, Middle, Dealer}
 use Rattle.tn_firm.specs.declared.value.FirmValue.TheVariants.{Laminar as LaminarValue, Middle as MiddleValue, Dealer as DealerValue}
 use Rattle.tn_firm.specs.Firms.{firm_laws}
 use Rattle.tn_firm.specs.Raw.{raw_firm_of}
+use Rattle.tn_local.specs.First.{IsFirstTriple}
 use Rattle.tn_market.specs.declared.ends.Ends.{Ends}
 use Rattle.tn_market.specs.Lawful.{IsLawful}
 use Rattle.tn_market.specs.Network.{own, trades_of, trades_on}
@@ -65,9 +66,9 @@ positions_named trades f (suc n) x =
     last true = refl
     last false = refl
 
--- the first firm that fails, with the trades at the positions of its first failing triple
+-- the first firm that fails, with the trades at the positions of its first triple
 pub first_to_fail : (firms : List RawFirm) (trades : List Ends) (f : ℕ) (raw : RawFirm) (triple : Triple) (count : ℕ) (xs ys : List ℕ) → MeetBefore (map raw_firm_of firms) f
-    → slice_get firms f ≡ Some raw → IsFirstFailure (raw_firm_of raw) triple → count ≡ (raw_firm_of raw).count → xs ≡ trades_on triple.x count → ys ≡ trades_on triple.y count
+    → slice_get firms f ≡ Some raw → IsFirstTriple (raw_firm_of raw) triple → count ≡ (raw_firm_of raw).count → xs ≡ trades_on triple.x count → ys ≡ trades_on triple.y count
     → IsFirstToFail (map raw_firm_of firms) trades f (map (own trades f) xs) (map (own trades f) ys) (option_map (own trades f) triple.at)
 first_to_fail firms trades f raw triple count xs ys before there first counted xs_are ys_are = record {
   before = before;

@@ -7,6 +7,7 @@ use Rattle.tn_base.specs.Firm.{Firm, payments}
 use Rattle.tn_base.specs.Sets.{sum_over}
 use Rattle.tn_base.specs.Exchange.{Fails}
 use Rattle.tn_base.proofs.ExchangeLemmas.{none_fails_from_exchange}
+use Rattle.tn_local.proofs.FirstLemmas.{triple_fails}
 use Rattle.tn_market.specs.declared.claim.Claim.TheVariants.{Impossible, Accepted, ExchangeFails}
 use Rattle.tn_market.specs.declared.ends.Ends.{Ends}
 use Rattle.tn_market.specs.declared.reason.Reason.{Reason}
@@ -96,7 +97,7 @@ impossible_refuted firms trades on f reason refutes valid = absurd refutes
 
 pub accepted_refuted : (firms : List Firm) (trades : List Ends) (reason : Reason) → Refutes firms trades Accepted reason → IsValid firms trades Accepted → ⊥
 accepted_refuted firms trades (Exchange f x y at) fails valid =
-    none_fails_from_exchange fails.firm (valid f fails.firm fails.is) fails.triple.x fails.triple.y fails.triple.at fails.first.fails
+    none_fails_from_exchange fails.firm (valid f fails.firm fails.is) fails.triple.x fails.triple.y fails.triple.at (triple_fails fails.firm fails.triple fails.first)
 accepted_refuted firms trades reason refutes valid = absurd refutes
 
 pub failure_refuted : (firms : List Firm) (trades : List Ends) (f x y : ℕ) (at : Option ℕ) (reason : Reason) → Refutes firms trades (ExchangeFails f x y at) reason

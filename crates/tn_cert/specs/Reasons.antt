@@ -3,7 +3,8 @@ use Rattle.std.specs.Prelude.{◌≡◌, ◌≢◌, ◌⊎◌, ℕ, ◌+◌, ◌
 use Rattle.tn_base.specs.Sets.{has}
 use Rattle.tn_base.specs.Firm.{Firm}
 use Rattle.tn_base.specs.Exchange.{MeetsExchange, Fails}
-use Rattle.tn_exchange.specs.TestOrder.{Triple, IsFirstFailure}
+use Rattle.tn_exchange.specs.TestOrder.{Triple}
+use Rattle.tn_local.specs.First.{IsFirstTriple}
 use Rattle.tn_market.specs.declared.claim.Claim.{Claim}
 use Rattle.tn_market.specs.declared.claim.Claim.TheVariants.{Equilibrium, Better, Impossible, Accepted, ExchangeFails, Supported, Cycle, Solved, Drops, Completes as CompletesIs, Blocks as BlocksIs}
 use Rattle.tn_market.specs.declared.contract.Contract.{Contract}
@@ -142,13 +143,13 @@ RefutesBlocks firms trades outcome offers e (Signed t) = IsFirstSigned outcome e
 RefutesBlocks firms trades outcome offers e (Choice f t) = (0 < length offers) × NoneIsSigned outcome e offers × IsFirstToLeave firms trades outcome e offers f t
 RefutesBlocks firms trades outcome offers e reason = ⊥
 
--- firm f is the first that fails exchange, with its first failing triple in trade numbers
+-- firm f is the first that fails exchange, with its first triple in trade numbers
 pub record IsFirstToFail (firms : List Firm) (trades : List Ends) (f : ℕ) (x y : List ℕ) (at : Option ℕ) : Type 0 where
   pub before : (g : ℕ) (firm : Firm) → g < f → slice_get firms g ≡ Some firm → MeetsExchange firm
   pub firm : Firm
   pub is : slice_get firms f ≡ Some firm
   pub triple : Triple
-  pub first : IsFirstFailure firm triple
+  pub first : IsFirstTriple firm triple
   pub x_is : x ≡ trades_of trades f firm.count triple.x
   pub y_is : y ≡ trades_of trades f firm.count triple.y
   pub at_is : at ≡ option_map (own trades f) triple.at

@@ -1,8 +1,8 @@
 //! Claims on the exchange property of firms that aren't tested yet.
 
-ghost use Rattle.std.specs.Prelude.{◌≡◌, ◌^◌, ◌<◌, ◌≤◌, ◌↔◌, IfOk, IfSome, IsTrue, List, false, length, map};
+ghost use Rattle.std.specs.Prelude.{◌≡◌, ◌^◌, ◌<◌, ◌≤◌, ◌↔◌, All, IfOk, IfSome, IsTrue, List, false, length, map};
 ghost use Rattle.tn_base.specs.Exchange.{Fails};
-ghost use Rattle.tn_firm.specs.Raw.{raw_firm_of};
+ghost use Rattle.tn_firm.specs.Raw.{CanBeTested, raw_firm_of};
 ghost use Rattle.tn_market.specs.declared.ends.Ends.{Ends};
 ghost use Rattle.tn_market.specs.ClaimLimits.{IsFirmWith};
 ghost use Rattle.tn_market.specs.Network.{trades_on};
@@ -29,9 +29,10 @@ fn positions_in(alloc: Global, bundle: Bundle, count: u32) -> Result<Trades, Out
     Ok(Trades::from_vec(positions))
 }
 
-/// Whether each firm meets the exchange property, or the first that doesn't, with its first failing triple in positions.
+/// Whether each firm meets the exchange property, or the first that doesn't, with its first triple in positions.
 pub(crate) fn replay_accepted(alloc: Global, firms: &[RawFirm]) -> Result<Replayed, OutOfMemory>
     requires few_firms { length firms.now ≤ 1024 }
+    requires testable { All CanBeTested firms.now }
     ensures { IfOk result (λ replayed. (trades : List Ends) → Replays (map raw_firm_of firms.now) trades Claim.Accepted (in_trades trades replayed)) }
 {
     for (f, firm) in firms.iter().enumerate() {

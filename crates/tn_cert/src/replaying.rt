@@ -1,7 +1,7 @@
 //! The replay of claims.
 
-ghost use Rattle.std.specs.Prelude.{◌≡◌, ◌≤◌, List, [], true, false, IfOk, length, map};
-ghost use Rattle.tn_firm.specs.Raw.{raw_firm_of};
+ghost use Rattle.std.specs.Prelude.{◌≡◌, ◌≤◌, List, [], true, false, All, IfOk, length, map};
+ghost use Rattle.tn_firm.specs.Raw.{CanBeTested, raw_firm_of};
 ghost use Rattle.tn_market.specs.declared.ends.Ends.{Ends};
 ghost use Rattle.tn_market.specs.ClaimLimits.{IsClaimWithin};
 ghost use Rattle.tn_market.specs.Limits.{IsWithinLimits};
@@ -75,14 +75,15 @@ pub fn replay<V: Oracle>(
     }
 }
 
-/// Replays a claim on the exchange property of firms that aren't tested yet. Trades in its reason are positions of the
-/// firm. It fails only where memory runs out.
+/// Replays a claim on the exchange property of firms that aren't tested yet, of which a table of more than 10 trades has
+/// every bundle. Trades in its reason are positions of the firm. It fails only where memory runs out.
 pub fn replay_exchange(
     alloc: Global,
     firms: &[RawFirm],
     claim: &Claim,
 ) -> Result<Replayed, OutOfMemory>
     requires few_firms { length firms.now ≤ 1024 }
+    requires testable { All CanBeTested firms.now }
     requires within { IsClaimWithin (map raw_firm_of firms.now) [] claim.now }
     requires on_exchange { is_on_exchange claim.now ≡ true }
     ensures { IfOk result (λ replayed. (trades : List Ends) → Replays (map raw_firm_of firms.now) trades claim.now (in_trades trades replayed)) }

@@ -29,7 +29,7 @@ use Rattle.tn_claimed.specs.Members.{claim_place, claimed_bundle, claimed_contra
 use Rattle.tn_claimed.proofs.MemberLeads.{most_nodes_few}
 use Rattle.tn_claimed.proofs.MemberStops.{at_stops, claimed_contracts_stop, claimed_on_stops, claimed_prices_stop, gain_stops, nodes_stop}
 
-module _ (listed : Listed) (trades : AreTrades listed) (few : length listed.names.trades ≤ 1024) (few_own : (f : ℕ) → f < length listed.names.firms → length (sides_of listed.ends f) ≤ 32) where
+module _ (listed : Listed) (trades : AreTrades listed) (few : length listed.names.trades ≤ 16384) (few_own : (f : ℕ) → f < length listed.names.firms → length (sides_of listed.ends f) ≤ 32) where
   abbrev Told : Fault → Type 0
   Told = IsTold listed.names.trades
 

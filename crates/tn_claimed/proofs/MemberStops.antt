@@ -54,7 +54,7 @@ module _ (trades : List (List ℕ)) where
   unfolding one_node
   one_node_stops nodes value room =
       let place = member_place Nodes ++ Index (length nodes) ∷ [] in
-      let few : length nodes ≤ 1024 = omega (arith, room) in
+      let few : length nodes ≤ 16384 = omega (arith, room) in
       stops_bind IsPlain (node_at trades place value) _ (unless_null_stops (trade_at trades place) (trade_at_stops place (tt, (tt, (few, tt))) trades) value) (λ node.
       stops_ok IsPlain (nodes ++ node ∷ []))
 
@@ -67,7 +67,7 @@ module _ (trades : List (List ℕ)) where
       stops_each_few IsPlain (λ nodes. Unit {0}) length 129 (one_node trades)
       (λ nodes d start. leads_as (λ next. length next ≡ length nodes + 1) _ (one_node trades nodes d) (λ next more. (tt, more)) (one_node_counts trades nodes d)) (λ nodes d start room. one_node_stops nodes d room) [] values tt (omega (arith, few, most))))
 
-module _ (trades : List (List ℕ)) (few : length trades ≤ 1024) where
+module _ (trades : List (List ℕ)) (few : length trades ≤ 16384) where
   pub claimed_on_stops : (claim : Data) → StopsPlainly (claimed_on trades claim)
   unfolding claimed_on
   claimed_on_stops claim =

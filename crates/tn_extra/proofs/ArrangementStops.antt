@@ -16,7 +16,7 @@ use Rattle.tn_extra.specs.Lists.{one_on, prices_of}
 use Rattle.tn_extra.specs.Arranged.{on_place, prices_place, on_of, trades_on_of, arrangement_of}
 use Rattle.tn_extra.proofs.ListStops.{prices_stop, set_stops}
 
-module _ (trades : List (List ℕ)) (few : length trades ≤ 1024) where
+module _ (trades : List (List ℕ)) (few : length trades ≤ 16384) where
   pub on_stops : (top : Data) → StopsPlainly (on_of trades top)
   unfolding on_of
   on_stops top =

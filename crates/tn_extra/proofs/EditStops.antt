@@ -19,11 +19,11 @@ use Rattle.tn_refer.proofs.ReferenceStops.{trade_at_stops}
 use Rattle.tn_extra.specs.Edited.{change_named, edit_at, edit_of, edit_place, edits_of, one_edit}
 use Rattle.tn_extra.proofs.EditLeads.{one_edit_counts}
 
-part_plain : (k i : ℕ) → k ≤ 1024 → i ≤ 1024 → IsPlainPlace (edit_place k ++ Index i ∷ [])
+part_plain : (k i : ℕ) → k ≤ 16384 → i ≤ 16384 → IsPlainPlace (edit_place k ++ Index i ∷ [])
 part_plain k i few early = (tt, (few, (early, tt)))
 
 module _ (trades : List (List ℕ)) where
-  edit_stops : (k : ℕ) (entry : Data) → k ≤ 1024 → StopsPlainly (edit_at trades k entry)
+  edit_stops : (k : ℕ) (entry : Data) → k ≤ 16384 → StopsPlainly (edit_at trades k entry)
   unfolding edit_at
   edit_stops k entry few =
       stops_bind IsPlain (two_at (edit_place k) entry) _ (two_stops (edit_place k) (tt, (few, tt)) entry) (λ two.

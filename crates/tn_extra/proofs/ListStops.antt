@@ -28,11 +28,11 @@ first_without_within named t (suc n) s e = by_test (has named t) e (first_withou
     by_test true is later = omega (arith, later is)
     by_test false is later = let same = same_Some t s is in omega (arith, same)
 
-module _ (trades : List (List ℕ)) (few : length trades ≤ 1024) (place : List PlaceStep) (plain : IsPlainPlace place) where
+module _ (trades : List (List ℕ)) (few : length trades ≤ 16384) (place : List PlaceStep) (plain : IsPlainPlace place) where
   one_on_stops : (on : ℕ) (value : Data) → IsSetOf trades place on → StopsPlainly (one_on trades place on value)
   unfolding one_on
   one_on_stops on value below =
-      let few_before : size on ≤ 1024 = few_members (length trades) on below few in
+      let few_before : size on ≤ 16384 = few_members (length trades) on below few in
       stops_bind IsPlain (new_trade trades (place ++ Index (size on) ∷ []) on value) _ (new_trade_stops (place ++ Index (size on) ∷ []) (plain_within place (Index (size on) ∷ []) plain (few_before, tt)) trades on value) (λ t.
       stops_ok IsPlain (toggle on t))
 

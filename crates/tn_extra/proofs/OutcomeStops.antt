@@ -21,7 +21,7 @@ over_stops limit place plain value =
     stops_bind IsPlain (holds BadOver place (int_le (pos 1) over && int_le over (pos limit))) _ (plain_holds BadOver place (int_le (pos 1) over && int_le over (pos limit)) refl plain) (λ within.
     stops_ok IsPlain over))
 
-module _ (trades : List (List ℕ)) (few : length trades ≤ 1024) where
+module _ (trades : List (List ℕ)) (few : length trades ≤ 16384) where
   pub contracts_stop : (place : List PlaceStep) → IsPlainPlace place → (limit : ℕ) (entries : Items) → StopsPlainly (contracts_at trades place limit entries)
   unfolding contracts_at
   contracts_stop place plain limit entries =

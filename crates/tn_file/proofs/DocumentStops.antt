@@ -32,7 +32,7 @@ use Rattle.tn_extra.proofs.OutcomeStops.{outcome_stops}
 use Rattle.tn_extra.proofs.EditStops.{edits_stop}
 use Rattle.tn_listed.proofs.ListingStops.{AreNames, no_names_are, told_stop, plain_stop, listed_stops}
 
-module _ (listed : Listed) (trades : AreTrades listed) (few : length listed.names.trades ≤ 1024) (few_own : (f : ℕ) → f < length listed.names.firms → length (sides_of listed.ends f) ≤ 32) where
+module _ (listed : Listed) (trades : AreTrades listed) (few : length listed.names.trades ≤ 16384) (few_own : (f : ℕ) → f < length listed.names.firms → length (sides_of listed.ends f) ≤ 32) where
   abbrev Told : Fault → Type 0
   Told = IsTold listed.names.trades
 
@@ -56,7 +56,7 @@ content_stops need found listing top =
     (firms_stop found.0 listing.trades tested found.1 listing.few) (λ firms are.
     let count = are.1 in
     stops_bind told (extra_of need found.0 top) _
-    (extra_stops found.0 listing.trades listing.trade_names.few (λ f known. few_own_firm tested found.0 listing.trades firms are.0 f (omega (arith, known, listing.count, count))) need top) (λ extra.
+    (extra_stops found.0 listing.trades (omega (arith, listing.trade_names.few)) (λ f known. few_own_firm tested found.0 listing.trades firms are.0 f (omega (arith, known, listing.count, count))) need top) (λ extra.
     stops_ok told (firms, extra)))
 
 document_stops : (need : Need) (top : Data) → Stops IsStop (document_of need top)

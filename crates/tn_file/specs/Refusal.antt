@@ -1,7 +1,7 @@
 -- What the reader returned, against the reading.
-use Rattle.std.specs.Prelude.{◌≡◌, map, true, false, Result, Ok, Err}
+use Rattle.std.specs.Prelude.{◌≡◌, map, All, true, false, Result, Ok, Err}
 use Rattle.tn_firm.specs.Firms.{firm_of}
-use Rattle.tn_firm.specs.Raw.{raw_firm_of}
+use Rattle.tn_firm.specs.Raw.{CanBeTested, raw_firm_of}
 use Rattle.tn_file.specs.declared.need.Need.{Need}
 use Rattle.tn_file.specs.declared.need.Need.TheVariants.{Market, Raw, Arrangement, On, Outcome, Edits, Claim}
 use Rattle.tn_file.specs.declared.document.Document.{Document}
@@ -30,12 +30,12 @@ Reads (Ok doc) reading = reading ≡ Ok (document_view doc)
 Reads (Err (Fault fault names)) reading = reading ≡ Err (record { fault = fault; names = names })
 Reads (Err OutOfMemory) reading = Unit {0}
 
--- a network is a market, unless it is read raw, as it is for a claim on exchange
+-- a network is a market, unless it is read raw, as it is for a claim on exchange; then each firm can be tested
 abbrev pub IsLoadedFor : Need → Extra → Loaded → Type 0
 IsLoadedFor Market extra (MarketIs market) = Unit {0}
 IsLoadedFor Market extra (RawIs net) = ⊥
 IsLoadedFor Raw extra (MarketIs market) = ⊥
-IsLoadedFor Raw extra (RawIs net) = Unit {0}
+IsLoadedFor Raw extra (RawIs net) = All CanBeTested net.firms
 IsLoadedFor Arrangement extra (MarketIs market) = Unit {0}
 IsLoadedFor Arrangement extra (RawIs net) = ⊥
 IsLoadedFor On extra (MarketIs market) = Unit {0}
@@ -45,7 +45,7 @@ IsLoadedFor Outcome extra (RawIs net) = ⊥
 IsLoadedFor Edits extra (MarketIs market) = Unit {0}
 IsLoadedFor Edits extra (RawIs net) = ⊥
 IsLoadedFor Claim extra (MarketIs market) = is_accepted Claim (extra_view extra) ≡ true
-IsLoadedFor Claim extra (RawIs net) = is_accepted Claim (extra_view extra) ≡ false
+IsLoadedFor Claim extra (RawIs net) = (is_accepted Claim (extra_view extra) ≡ false) × All CanBeTested net.firms
 
 -- there is the part that the need names, and no other
 abbrev pub IsExtraFor : Need → Extra → Type 0

@@ -1,4 +1,4 @@
-ghost use Rattle.std.specs.Prelude.{◌≡◌, ◌≤◌, [], length, map, IfOk};
+ghost use Rattle.std.specs.Prelude.{◌≡◌, ◌≤◌, [], length, map, All, IfOk};
 ghost use Rattle.serde_json.specs.View.{view, items_view};
 ghost use Rattle.tn_names.specs.Names.{no_names};
 ghost use Rattle.tn_shape.specs.Reading.{Gives, each};
@@ -108,6 +108,7 @@ fn read_content<F: FromKinds + Drop>(
         (λ p. each (one_firm F.tested (record { names = names.now; ends = ends.now })) [] (items_view firms.now) ≡ Ok (map F.firm p.0.items)) }
     ensures extra { IfOk result (λ p. IsExtraFor need p.1) }
     ensures accepted { IfOk result (λ p. is_accepted need (extra_view p.1) ≡ F.tested) }
+    ensures known { IfOk result (λ p. All F.known p.0.items) }
 {
     let made = read_firms::<F>(alloc, names, ends, firms)?;
     let extra = read_extra(alloc, need, names, ends, top)?;

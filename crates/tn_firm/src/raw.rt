@@ -1,6 +1,7 @@
 use tn_dealer::Dealer;
-use tn_exchange::{RawTable, Verdict, test};
+use tn_exchange::{RawTable, Verdict};
 use tn_laminar::Laminar;
+use tn_local::test_table;
 use tn_market::Valuation;
 use tn_middle::Middle;
 
@@ -21,9 +22,9 @@ impl RawFirm {
     ghost use Rattle.std.specs.Prelude.{◌≡◌, ◌≤◌, ◌↔◌};
     ghost use Rattle.tn_base.specs.Exchange.{NoneFails};
     ghost use Rattle.tn_exchange.specs.Rows.{firm_of_table};
-    ghost use Rattle.tn_exchange.specs.TestOrder.{IsFirstFailure};
     ghost use Rattle.tn_exchange.specs.Verdicts.{IfFails};
-    ghost use Rattle.tn_firm.specs.Raw.{raw_firm_of};
+    ghost use Rattle.tn_local.specs.First.{IsFirstTriple};
+    ghost use Rattle.tn_firm.specs.Raw.{CanBeTested, raw_firm_of};
 
     /// How many own trades there are.
     pub fn trades(&self) -> u32
@@ -38,14 +39,16 @@ impl RawFirm {
         }
     }
 
-    /// Whether the firm meets exchange, or else the first triple that fails in test order; laminar firms,
-    /// middlemen and dealers always meet it. It takes no memory.
+    /// Whether the firm meets exchange, or else its first triple: the first that fails in test order, or, for a table
+    /// of more than 10 trades, the first of those with close bundles. Such a table has every bundle. Laminar firms,
+    /// middlemen and dealers always meet exchange. It takes no memory.
     pub fn test(&self) -> Verdict
+        requires { CanBeTested self.now }
         ensures holds { (result ≡ Verdict.Holds) ↔ NoneFails (raw_firm_of self.now) }
-        ensures first { IfFails result (IsFirstFailure (raw_firm_of self.now)) }
+        ensures first { IfFails result (IsFirstTriple (raw_firm_of self.now)) }
     {
         match self {
-            RawFirm::Table(table) => test(table),
+            RawFirm::Table(table) => test_table(table),
             RawFirm::Laminar(_) | RawFirm::Middle(_) | RawFirm::Dealer(_) => Verdict::Holds,
         }
     }

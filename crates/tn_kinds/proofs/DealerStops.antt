@@ -24,11 +24,11 @@ three_stops : (place : List PlaceStep) (plain : IsPlainPlace place) (value : Dat
 unfolding three_at
 three_stops place plain value = stops_bind IsPlain (list_at place (Some value)) _ (list_stops place plain (Some value)) (λ items. plain_wanted Shape place (three_of items) refl plain)
 
-module _ (listed : Listed) (trades : AreTrades listed) (f : ℕ) (near : f ≤ 1024) (few : length (sides_of listed.ends f) ≤ 32) where
-  entry_plain : (k i : ℕ) → k ≤ 1024 → i ≤ 1024 → IsPlainPlace (pair_place f k ++ Index i ∷ [])
+module _ (listed : Listed) (trades : AreTrades listed) (f : ℕ) (near : f ≤ 16384) (few : length (sides_of listed.ends f) ≤ 32) where
+  entry_plain : (k i : ℕ) → k ≤ 16384 → i ≤ 16384 → IsPlainPlace (pair_place f k ++ Index i ∷ [])
   entry_plain k i early small = (tt, (near, (tt, (early, (small, tt)))))
 
-  pair_stops : (k : ℕ) (entry : Data) → k ≤ 1024 → StopsPlainly (pair_of listed f k entry)
+  pair_stops : (k : ℕ) (entry : Data) → k ≤ 16384 → StopsPlainly (pair_of listed f k entry)
   unfolding pair_of
   pair_stops k entry early =
       stops_bind IsPlain (three_at (pair_place f k) entry) _ (three_stops (pair_place f k) (tt, (near, (tt, (early, tt)))) entry) (λ three.
@@ -40,7 +40,7 @@ module _ (listed : Listed) (trades : AreTrades listed) (f : ℕ) (near : f ≤ 1
   one_pair_stops : (pairs : List Pair) (entry : Data) → AreNew listed trades f pairs → StopsPlainly (one_pair listed f pairs entry)
   unfolding one_pair
   one_pair_stops pairs entry are =
-      let early = few_new listed trades f pairs few are in
+      let early : length pairs ≤ 16384 = omega (arith, few_new listed trades f pairs few are) in
       stops_bind IsPlain (pair_of listed f (length pairs) entry) _ (pair_stops (length pairs) entry early) (λ next.
       stops_bind IsPlain (holds SamePair (pair_place f (length pairs)) (not (list_any (is_same_pair next) pairs))) _ (plain_holds SamePair (pair_place f (length pairs)) (not (list_any (is_same_pair next) pairs)) refl (tt, (near, (tt, (early, tt))))) (λ new.
       stops_ok IsPlain (pairs ++ next ∷ [])))

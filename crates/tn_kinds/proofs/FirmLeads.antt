@@ -13,6 +13,7 @@ use Rattle.tn_base.proofs.ExchangeLemmas.{exchange_from_none_fails}
 use Rattle.tn_exchange.specs.Rows.{TableRows, firm_of_table}
 use Rattle.tn_exchange.specs.TestOrder.{Triple}
 use Rattle.tn_exchange.proofs.RowLemmas.{own_bundles, worth_is_small}
+use Rattle.tn_local.specs.First.{IsFullIfLarge}
 use Rattle.tn_market.specs.declared.ends.Ends.{Ends}
 use Rattle.tn_shape.specs.Reading.{each, holds}
 use Rattle.tn_refer.specs.Ordered.{Listed, AreInOrder, sides_of, AreTrades}
@@ -54,24 +55,25 @@ of_table trades f table is = record {
   apart = is.apart;
   is = is.is;
   few = is.few;
+  full = is.full;
   small = λ x amount e. worth_is_small table is.within x amount e;
 }
 
-exchange_leads : (trades : List Ends) (f : ℕ) (table : TableRows) → Leads (λ _. MeetsExchange (firm_of_table table)) (exchange_of trades f table)
+exchange_leads : (trades : List Ends) (f : ℕ) (table : TableRows) → IsFullIfLarge (firm_of_table table) → Leads (λ _. MeetsExchange (firm_of_table table)) (exchange_of trades f table)
 unfolding exchange_of
-exchange_leads trades f table =
+exchange_leads trades f table full =
     leads_as (λ _. first_failure table ≡ None) (λ _. MeetsExchange (firm_of_table table)) _
-    (λ u none. exchange_from_none_fails (firm_of_table table) (own_bundles table) (none_fails table none))
+    (λ u none. exchange_from_none_fails (firm_of_table table) (own_bundles table) (none_fails table full none))
     (unless_failing_leads trades f (length table.sides) (first_failure table))
 
-tested_leads : (tested : Bool) (trades : List Ends) (f : ℕ) (table : TableRows) → Leads (λ _. tested ≡ true → MeetsExchange (firm_of_table table)) (if tested then exchange_of trades f table else Ok tt)
-tested_leads true trades f table = leads_as (λ _. MeetsExchange (firm_of_table table)) _ _ (λ u meets is. meets) (exchange_leads trades f table)
-tested_leads false trades f table = leads_ok (λ _. false ≡ true → MeetsExchange (firm_of_table table)) tt (λ is. absurd (cc))
+tested_leads : (tested : Bool) (trades : List Ends) (f : ℕ) (table : TableRows) → IsFullIfLarge (firm_of_table table) → Leads (λ _. tested ≡ true → MeetsExchange (firm_of_table table)) (if tested then exchange_of trades f table else Ok tt)
+tested_leads true trades f table full = leads_as (λ _. MeetsExchange (firm_of_table table)) _ _ (λ u meets is. meets) (exchange_leads trades f table full)
+tested_leads false trades f table full = leads_ok (λ _. false ≡ true → MeetsExchange (firm_of_table table)) tt (λ is. absurd (cc))
 
 tested_firm_leads : (tested : Bool) (trades : List Ends) (f : ℕ) (table : TableRows) → IsTableOf trades f table → Leads (IsFirm tested trades f) (tested_firm tested trades f table)
 unfolding tested_firm
 tested_firm_leads tested trades f table is_table =
-    leads_bind (λ _. tested ≡ true → MeetsExchange (firm_of_table table)) (IsFirm tested trades f) (if tested then exchange_of trades f table else Ok tt) _ (tested_leads tested trades f table) (λ u meets.
+    leads_bind (λ _. tested ≡ true → MeetsExchange (firm_of_table table)) (IsFirm tested trades f) (if tested then exchange_of trades f table else Ok tt) _ (tested_leads tested trades f table is_table.full) (λ u meets.
     leads_ok (IsFirm tested trades f) (firm_of_table table) (record { listed = table_is (of_table trades f table is_table); meets = meets }))
 
 module _ (tested : Bool) (listed : Listed) (trades : AreTrades listed) where

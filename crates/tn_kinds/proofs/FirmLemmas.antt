@@ -4,7 +4,8 @@ use Rattle.serde_json.specs.Data.{Data}
 use Rattle.tn_base.specs.Firm.{Firm}
 use Rattle.tn_base.specs.Exchange.{NoneFails}
 use Rattle.tn_exchange.specs.Rows.{TableRows, firm_of_table}
-use Rattle.tn_exchange.specs.TestOrder.{Triple, IsFirstFailure}
+use Rattle.tn_exchange.specs.TestOrder.{Triple}
+use Rattle.tn_local.specs.First.{IsFirstTriple}
 use Rattle.tn_market.specs.declared.ends.Ends.{Ends}
 use Rattle.tn_shape.specs.declared.error.ReadError.{ReadError}
 use Rattle.tn_refer.specs.Ordered.{Listed}
@@ -22,12 +23,12 @@ module _ (tested : Bool) (listed : Listed) (firms : List Firm) (firm : Data) (f 
   unfolding one_firm
   one_firm-next next given = ap (λ r. r >>= λ next. Ok (firms ++ next ∷ [])) (subst (λ (g : ℕ). firm_of tested listed g firm ≡ Ok next) is given)
 
--- a table on which no triple fails, and one on which this triple fails first
+-- a table on which no triple fails, and one of which this is the first triple
 pub tested_firm-holds : (trades : List Ends) (f : ℕ) (table : TableRows) → NoneFails (firm_of_table table) → tested_firm true trades f table ≡ Ok (firm_of_table table)
 unfolding tested_firm exchange_of
 tested_firm-holds trades f table holds = ap (λ found. unless_failing trades f (length table.sides) found >>= λ met. Ok (firm_of_table table)) (none table holds)
 
-pub tested_firm-fails : (trades : List Ends) (f count : ℕ) (table : TableRows) (t : Triple) → IsFirstFailure (firm_of_table table) t → count ≡ length table.sides
+pub tested_firm-fails : (trades : List Ends) (f count : ℕ) (table : TableRows) (t : Triple) → IsFirstTriple (firm_of_table table) t → count ≡ length table.sides
     → tested_firm true trades f table ≡ Err (failure_of trades f count t)
 unfolding tested_firm exchange_of
 tested_firm-fails trades f count table t first is =

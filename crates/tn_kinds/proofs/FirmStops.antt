@@ -1,6 +1,6 @@
 -- Where the reading of firms stops: a fault shows a triple exactly where exchange fails, and its trades have a name.
 use Rattle.std.proofs.Common.{◌≡◌, ℕ, ◌+◌, ◌^◌, ◌<◌, ◌≤◌, Bool, true, false, cond, List, [], ◌∷◌, ◌++◌, length, Option, Some, None, Ok, refl, sym, subst, arith, length-append}
-use Rattle.std.specs.Prelude.{ℤ, pos, codes, is_none, is_some, nat_le, not, unsigned_abs, slice_set, if◌then◌else◌, All}
+use Rattle.std.specs.Prelude.{ℤ, pos, codes, is_none, is_some, nat_le, ◌||◌, not, unsigned_abs, slice_set, if◌then◌else◌, All}
 use Rattle.std.specs.List.{list_any}
 use Rattle.std.proofs.Math.Nat.{pow-le-pow_right}
 use Rattle.std.proofs.lemmas.List.Elements.{All-head, All-tail}
@@ -34,14 +34,14 @@ use Rattle.tn_shape.specs.Shapes.{text_at, list_at, optional_list_at, few_at, ob
 use Rattle.tn_refer.specs.Ordered.{Listed, sides_of, AreTrades}
 use Rattle.tn_refer.specs.References.{bundle_at, firm_place}
 use Rattle.tn_kinds.specs.Kinds.{kind_named, kind_of, most_own, frame_of}
-use Rattle.tn_kinds.specs.Tables.{Rows, filled, row_place, row_of, one_row, rows_of, table_of}
+use Rattle.tn_kinds.specs.Tables.{Rows, filled, full_if_large, has_each_row, row_place, row_of, one_row, rows_of, table_of}
 use Rattle.tn_kinds.specs.OwnNumbers.{no_numbers, own_numbers}
 use Rattle.tn_kinds.specs.Laminars.{amounts_list, bends, check_set, check_sets, checked_laminar, crosses, first_bend, laminar_of, low_at, one_set, one_value, set_of, set_place, sets_at, unless_bent, values_at}
 use Rattle.tn_kinds.specs.Dealers.{dealer_of}
 use Rattle.tn_kinds.specs.Middlemen.{costs_list, gains_list, keep_at, middle_of}
 use Rattle.tn_kinds.specs.Firms.{shown_of, failure_of, unless_failing, exchange_of, tested_firm, firm_by, firm_of, one_firm}
 use Rattle.tn_kinds.specs.FirstFailure.{first_failure}
-use Rattle.tn_kinds.proofs.FailureLemmas.{first}
+use Rattle.tn_kinds.proofs.FailureLemmas.{first_looked}
 use Rattle.tn_market.proofs.InOrderNetworks.{own_ascends, own_within}
 use Rattle.tn_kinds.proofs.ShownLemmas.{own_position_of, triple_named}
 use Rattle.tn_kinds.proofs.RowLemmas.{filled-set, filled-none, filled_le}
@@ -59,12 +59,12 @@ use Rattle.tn_kinds.proofs.DealerStops.{dealer_stops}
 
 -- the number of a firm, and few own trades
 pub record IsFewOwn (trades : List Ends) (f : ℕ) : Type 0 where
-  pub number : f ≤ 1024
+  pub number : f ≤ 16384
   pub own : length (sides_of trades f) ≤ 32
 
 -- tables
 module _ (listed : Listed) (trades : AreTrades listed) (f : ℕ) (firm_few : IsFewOwn listed.ends f) where
-  row_stops : (r : ℕ) (row : Data) → r ≤ 1024 → StopsPlainly (row_of listed f r row)
+  row_stops : (r : ℕ) (row : Data) → r ≤ 16384 → StopsPlainly (row_of listed f r row)
   unfolding row_of
   row_stops r row few =
       stops_bind IsPlain (two_at (row_place f r) row) _ (two_stops (row_place f r) (tt, (firm_few.number, (tt, (few, tt)))) row) (λ two.
@@ -76,18 +76,18 @@ module _ (listed : Listed) (trades : AreTrades listed) (f : ℕ) (firm_few : IsF
   abbrev pub AreCounted : Rows → Type 0
   AreCounted rows = AreRows listed trades f rows × (rows.count ≡ filled rows.table.rows)
 
-  few_rows : (rows : Rows) → AreCounted rows → rows.count ≤ 1024
+  few_rows : (rows : Rows) → AreCounted rows → rows.count ≤ 16384
   few_rows rows counted =
       let most = filled_le rows.table.rows in
       let places = counted.0.within.places in
-      let few : 2 ^ length rows.table.sides ≤ 1024 = pow-le-pow_right (omega arith) (subst (λ (s : List Side). length s ≤ 10) (sym counted.0.sides) counted.0.few) in
+      let few : 2 ^ length rows.table.sides ≤ 16384 = pow-le-pow_right (omega arith) (subst (λ (s : List Side). length s ≤ 14) (sym counted.0.sides) counted.0.few) in
       let same = counted.1 in
       omega (arith, most, places, few, same)
 
   one_row_stops : (rows : Rows) (row : Data) → AreCounted rows → StopsPlainly (one_row listed f rows row)
   unfolding one_row
   one_row_stops rows row counted =
-      let few : rows.count ≤ 1024 = few_rows rows counted in
+      let few : rows.count ≤ 16384 = few_rows rows counted in
       stops_bind IsPlain (row_of listed f rows.count row) _ (row_stops rows.count row few) (λ next.
       stops_bind IsPlain (holds SameBundle (row_place f rows.count) (is_none (row_at rows.table.rows next.0))) _ (plain_holds SameBundle (row_place f rows.count) (is_none (row_at rows.table.rows next.0)) refl (tt, (firm_few.number, (tt, (few, tt))))) (λ new.
       stops_ok IsPlain (record { count = rows.count + 1; table = with_row rows.table next.0 next.1 })))
@@ -105,15 +105,21 @@ module _ (listed : Listed) (trades : AreTrades listed) (f : ℕ) (firm_few : IsF
       one_more : (x : ℕ) (amount : ℤ) → x < length rows.table.rows → row_at rows.table.rows x ≡ None → rows.count + 1 ≡ filled (slice_set rows.table.rows x (Some amount))
       one_more x amount below none = let more = filled-set rows.table.rows x amount below none in let same = counted.1 in omega (arith, more, same)
 
-  rows_stop : (items : Items) → length (sides_of listed.ends f) ≤ 10 → StopsPlainly (rows_of listed f items)
+  full_stops : (table : TableRows) → StopsPlainly (full_if_large f table)
+  unfolding full_if_large
+  full_stops table =
+      plain_holds Limit (firm_place f ++ Word RowsWord ∷ []) (nat_le (length table.sides) 10 || has_each_row table.rows) refl (tt, (firm_few.number, (tt, tt)))
+
+  rows_stop : (items : Items) → length (sides_of listed.ends f) ≤ 14 → StopsPlainly (rows_of listed f items)
   unfolding rows_of
   rows_stop items few =
       stops_bind IsPlain (each (one_row listed f) (record { count = 0; table = without_rows (sides_of listed.ends f) }) items) _
       (stops_each IsPlain AreCounted (one_row listed f) (λ rows row counted. leads_both (AreRows listed trades f) _ _ (one_row_leads listed trades f rows row counted.0) (one_row_counts rows row counted)) one_row_stops
       (record { count = 0; table = without_rows (sides_of listed.ends f) }) items (rows_start listed trades f few, sym (filled-none (2 ^ length (sides_of listed.ends f))))) (λ rows.
-      stops_ok IsPlain rows.table)
+      stops_bind IsPlain (full_if_large f rows.table) _ (full_stops rows.table) (λ full.
+      stops_ok IsPlain rows.table))
 
-  table_stops : (firm : Data) → length (sides_of listed.ends f) ≤ 10 → StopsPlainly (table_of listed f firm)
+  table_stops : (firm : Data) → length (sides_of listed.ends f) ≤ 14 → StopsPlainly (table_of listed f firm)
   unfolding table_of
   table_stops firm few =
       stops_bind IsPlain (list_at (firm_place f ++ Word RowsWord ∷ []) (get (codes "rows") firm)) _ (list_stops (firm_place f ++ Word RowsWord ∷ []) (tt, (firm_few.number, (tt, tt))) (get (codes "rows") firm)) (λ items. rows_stop items few)
@@ -125,7 +131,7 @@ low_stops place value plain =
     stops_bind IsPlain (whole_at place value) _ (whole_stops place plain value) (λ low.
     stops_bind IsPlain (holds Limit place (nat_le (unsigned_abs low) 32)) _ (plain_holds Limit place (nat_le (unsigned_abs low) 32) refl plain) (λ near. stops_ok IsPlain low))
 
-module _ (f s : ℕ) (near : f ≤ 1024) (early : s ≤ 1024) where
+module _ (f s : ℕ) (near : f ≤ 16384) (early : s ≤ 16384) where
   value_stops : (numbers : List ℤ) (value : Data) → length numbers + 1 ≤ 65 → StopsPlainly (one_value f s numbers value)
   unfolding one_value
   value_stops numbers value few =
@@ -140,7 +146,7 @@ module _ (f s : ℕ) (near : f ≤ 1024) (early : s ≤ 1024) where
       stops_each_few IsPlain (λ numbers. Unit {0}) length 65 (one_value f s)
       (λ numbers d start. leads_as (λ next. length next ≡ length numbers + 1) _ _ (λ next more. (tt, more)) (value_counts f s numbers d)) (λ numbers d start room. value_stops numbers d room) [] values tt (omega (arith, few)))
 
-  bent_stops : (bend : Option ℕ) → ((k : ℕ) → bend ≡ Some k → k ≤ 1024) → StopsPlainly (unless_bent f s bend)
+  bent_stops : (bend : Option ℕ) → ((k : ℕ) → bend ≡ Some k → k ≤ 16384) → StopsPlainly (unless_bent f s bend)
   bent_stops None within = stops_ok IsPlain tt
   bent_stops (Some k) within = stops_err IsPlain (fault NotConcave (set_place f s ++ Word Values ∷ Index k ∷ [])) (plain_fault NotConcave (set_place f s ++ Word Values ∷ Index k ∷ []) refl (tt, (near, (tt, (early, (tt, (within k refl, tt)))))))
 
@@ -156,7 +162,7 @@ first_bend_within k (before ∷ here ∷ after ∷ numbers) place e = by_test (b
     by_test true is later = let same = same_Some (k + 1) place is in omega (arith, same)
     by_test false is later = omega (arith, later is)
 
-check_set_stops : (f : ℕ) (earlier : List LaminarSet) (set : LaminarSet) → f ≤ 1024 → length earlier ≤ 1024 → HasNumbersWithin set → StopsPlainly (check_set f earlier set)
+check_set_stops : (f : ℕ) (earlier : List LaminarSet) (set : LaminarSet) → f ≤ 16384 → length earlier ≤ 16384 → HasNumbersWithin set → StopsPlainly (check_set f earlier set)
 unfolding check_set
 check_set_stops f earlier set near early numbered =
     let plain : IsPlainPlace (set_place f (length earlier)) = (tt, (near, (tt, (early, tt)))) in
@@ -166,18 +172,18 @@ check_set_stops f earlier set near early numbered =
     (bent_stops f (length earlier) near early (first_bend 0 set.numbers) (λ k e. let within = first_bend_within 0 set.numbers k e in omega (arith, within, few))) (λ concave.
     plain_holds NotLaminar (set_place f (length earlier)) (not (list_any (crosses set) earlier)) refl plain))
 
-check_sets_stop : (f : ℕ) (earlier sets : List LaminarSet) → f ≤ 1024 → length earlier + length sets ≤ 1024 → All HasNumbersWithin sets → StopsPlainly (check_sets f earlier sets)
+check_sets_stop : (f : ℕ) (earlier sets : List LaminarSet) → f ≤ 16384 → length earlier + length sets ≤ 16384 → All HasNumbersWithin sets → StopsPlainly (check_sets f earlier sets)
 check_sets_stop f earlier [] near few numbered = stops_ok IsPlain tt
 check_sets_stop f earlier (set ∷ sets) near few numbered =
     stops_bind IsPlain (check_set f earlier set) _ (check_set_stops f earlier set near (omega (arith, few)) (All-head HasNumbersWithin set sets numbered)) (λ met.
     check_sets_stop f (earlier ++ set ∷ []) sets near (omega (arith, few, length-append earlier (set ∷ []))) (All-tail HasNumbersWithin set sets numbered))
 
-checked_stops : (f : ℕ) (sides : List Side) (amounts : List ℤ) (sets : List LaminarSet) → f ≤ 1024 → length sets ≤ 64 → All HasNumbersWithin sets → StopsPlainly (checked_laminar f sides amounts sets)
+checked_stops : (f : ℕ) (sides : List Side) (amounts : List ℤ) (sets : List LaminarSet) → f ≤ 16384 → length sets ≤ 64 → All HasNumbersWithin sets → StopsPlainly (checked_laminar f sides amounts sets)
 unfolding checked_laminar
 checked_stops f sides amounts sets near few numbered = stops_bind IsPlain (check_sets f [] sets) _ (check_sets_stop f [] sets near (omega (arith, few)) numbered) (λ met. stops_ok IsPlain (laminar_firm sides amounts sets))
 
 module _ (listed : Listed) (trades : AreTrades listed) (f : ℕ) (firm_few : IsFewOwn listed.ends f) where
-  set_stops : (s : ℕ) (set : Data) → s ≤ 1024 → StopsPlainly (set_of listed f s set)
+  set_stops : (s : ℕ) (set : Data) → s ≤ 16384 → StopsPlainly (set_of listed f s set)
   unfolding set_of
   set_stops s set early =
       stops_bind IsPlain (object_of LaminarSetObject (set_place f s) (Some set)) _ (object_stops (set_place f s) (tt, (firm_few.number, (tt, (early, tt)))) LaminarSetObject (Some set)) (λ object.
@@ -233,13 +239,13 @@ middle_stops listed trades f few firm =
     stops_ok IsPlain (middle_firm (sides_of listed.ends f) numbers keep))))
 
 -- the kind of a firm
-kind_stops : (f : ℕ) (firm : Data) → f ≤ 1024 → StopsPlainly (kind_of f firm)
+kind_stops : (f : ℕ) (firm : Data) → f ≤ 16384 → StopsPlainly (kind_of f firm)
 unfolding kind_of
 kind_stops f firm near =
     stops_bind IsPlain (text_at (firm_place f ++ Word Kind ∷ []) (get (codes "kind") firm)) _ (text_stops (firm_place f ++ Word Kind ∷ []) (tt, (near, (tt, tt))) (get (codes "kind") firm)) (λ kind.
     plain_wanted Shape (firm_place f ++ Word Kind ∷ []) (kind_named kind) refl (tt, (near, (tt, tt))))
 
-frame_stops : (trades : List Ends) (f : ℕ) (kind : FirmKind) (firm : Data) → f ≤ 1024 → StopsPlainly (frame_of trades f kind firm)
+frame_stops : (trades : List Ends) (f : ℕ) (kind : FirmKind) (firm : Data) → f ≤ 16384 → StopsPlainly (frame_of trades f kind firm)
 unfolding frame_of
 frame_stops trades f kind firm near =
     stops_bind IsPlain (object_of (FirmObject kind) (firm_place f) (Some firm)) _ (object_stops (firm_place f) (tt, (near, tt)) (FirmObject kind) (Some firm)) (λ object.
@@ -255,7 +261,7 @@ module _ (listed : Listed) (trades : AreTrades listed) where
   own_named : (f k : ℕ) → k < length (sides_of listed.ends f) → own listed.ends f k < length listed.names.trades
   own_named f k below = subst (λ n. own listed.ends f k < n) (sym trades.named) (own_within (length listed.names.firms) f k listed.ends trades.order below)
 
-  failure_told : (f : ℕ) (table : TableRows) (t : Triple) → f ≤ 1024 → table.sides ≡ sides_of listed.ends f → first_failure table ≡ Some t → IsToldHere (failure_of listed.ends f (length table.sides) t)
+  failure_told : (f : ℕ) (table : TableRows) (t : Triple) → f ≤ 16384 → table.sides ≡ sides_of listed.ends f → first_failure table ≡ Some t → IsToldHere (failure_of listed.ends f (length table.sides) t)
   failure_told f table t near sides found = record { sayable = sayable; short = short_place (firm_place f) (tt, (near, tt)); ascending = ascending; read = λ same. absurd (cc) }
     where
       ascend : (i j : ℕ) → i < j → j < length table.sides → own listed.ends f i < own listed.ends f j
@@ -268,11 +274,11 @@ module _ (listed : Listed) (trades : AreTrades listed) where
       sayable = record {
         place = named_place listed.names.trades (firm_place f) (tt, (near, tt));
         triple = triple_named listed.names.trades listed.ends f (length table.sides) t (λ k below. own_named f k (subst (λ (s : List Side). k < length s) sides below))
-            (own_position_of (firm_of_table table) t (own_bundles table) (first table t found).fails);
+            (own_position_of (firm_of_table table) t (own_bundles table) (first_looked table t found).fails);
         exactly = (λ there. refl, λ same. refl);
       }
 
-  exchange_stops : (f : ℕ) (table : TableRows) → f ≤ 1024 → table.sides ≡ sides_of listed.ends f → Stops IsToldHere (exchange_of listed.ends f table)
+  exchange_stops : (f : ℕ) (table : TableRows) → f ≤ 16384 → table.sides ≡ sides_of listed.ends f → Stops IsToldHere (exchange_of listed.ends f table)
   unfolding exchange_of
   exchange_stops f table near sides = by_found (first_failure table) refl
     where
@@ -280,16 +286,16 @@ module _ (listed : Listed) (trades : AreTrades listed) where
       by_found None is = stops_ok IsToldHere tt
       by_found (Some t) is = stops_err IsToldHere (failure_of listed.ends f (length table.sides) t) (failure_told f table t near sides is)
 
-  tested_stops : (tested : Bool) (f : ℕ) (table : TableRows) → f ≤ 1024 → table.sides ≡ sides_of listed.ends f → Stops IsToldHere (if tested then exchange_of listed.ends f table else Ok tt)
+  tested_stops : (tested : Bool) (f : ℕ) (table : TableRows) → f ≤ 16384 → table.sides ≡ sides_of listed.ends f → Stops IsToldHere (if tested then exchange_of listed.ends f table else Ok tt)
   tested_stops true f table near sides = exchange_stops f table near sides
   tested_stops false f table near sides = stops_ok IsToldHere tt
 
-  tested_firm_stops : (tested : Bool) (f : ℕ) (table : TableRows) → f ≤ 1024 → table.sides ≡ sides_of listed.ends f → Stops IsToldHere (tested_firm tested listed.ends f table)
+  tested_firm_stops : (tested : Bool) (f : ℕ) (table : TableRows) → f ≤ 16384 → table.sides ≡ sides_of listed.ends f → Stops IsToldHere (tested_firm tested listed.ends f table)
   unfolding tested_firm
   tested_firm_stops tested f table near sides =
       stops_bind IsToldHere (if tested then exchange_of listed.ends f table else Ok tt) _ (tested_stops tested f table near sides) (λ met. stops_ok IsToldHere (firm_of_table table))
 
-  firm_by_stops : (tested : Bool) (f : ℕ) (kind : FirmKind) (firm : Data) → f ≤ 1024 → length (sides_of listed.ends f) ≤ most_own kind → Stops IsToldHere (firm_by tested listed f kind firm)
+  firm_by_stops : (tested : Bool) (f : ℕ) (kind : FirmKind) (firm : Data) → f ≤ 16384 → length (sides_of listed.ends f) ≤ most_own kind → Stops IsToldHere (firm_by tested listed f kind firm)
   unfolding firm_by
   firm_by_stops tested f Table firm near few =
       stops_after IsToldHere (IsTableOf listed.ends f) (table_of listed f firm) _ (table_leads listed trades f firm few)
@@ -299,7 +305,7 @@ module _ (listed : Listed) (trades : AreTrades listed) where
   firm_by_stops tested f Middleman firm near few = told_from_plain listed.names.trades (middle_of listed f firm) (middle_stops listed trades f (record { number = near; own = few }) firm)
   firm_by_stops tested f Dealer firm near few = told_from_plain listed.names.trades (dealer_of listed f firm) (dealer_stops listed trades f near few firm)
 
-  firm_stops : (tested : Bool) (f : ℕ) (firm : Data) → f ≤ 1024 → Stops IsToldHere (firm_of tested listed f firm)
+  firm_stops : (tested : Bool) (f : ℕ) (firm : Data) → f ≤ 16384 → Stops IsToldHere (firm_of tested listed f firm)
   unfolding firm_of
   firm_stops tested f firm near =
       stops_bind IsToldHere (kind_of f firm) _ (told_from_plain listed.names.trades (kind_of f firm) (kind_stops f firm near)) (λ kind.

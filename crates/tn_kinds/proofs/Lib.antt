@@ -1,4 +1,5 @@
 pub mod RowLemmas
+pub mod FullLemmas
 pub mod FailureLemmas
 pub mod FirmLemmas
 pub mod TableLeads

@@ -1,16 +1,17 @@
 -- What the tables are that reading gives.
 use Rattle.std.proofs.Common.{arith, ◌≡◌, ◌≢◌, ℕ, ◌+◌, ◌^◌, ◌<◌, ◌≤◌, Bool, true, false, cond, List, [], ◌∷◌, ◌++◌, length, Option, Some, None, refl, sym, ap, subst, ◌∙◌}
-use Rattle.std.specs.Prelude.{ℤ, nat_eq, is_none, codes}
+use Rattle.std.specs.Prelude.{ℤ, nat_eq, nat_le, ◌||◌, is_none, codes}
 use Rattle.std.proofs.lemmas.Bool.{eq-eqb, ne_eqb}
 use Rattle.serde_json.specs.Data.{Data, Items}
 use Rattle.serde_json.specs.Find.{get}
 use Rattle.tn_base.specs.Arcs.{IsAtMost}
 use Rattle.tn_base.specs.Table.{row_of as row_in, table_firm}
 use Rattle.tn_base.specs.declared.side.Side.{Side}
-use Rattle.tn_base.specs.declared.fault.FaultKind.TheVariants.{SameBundle}
+use Rattle.tn_base.specs.declared.fault.FaultKind.TheVariants.{Limit, SameBundle}
 use Rattle.tn_exchange.specs.Rows.{TableRows, IsWithinLimits, firm_of_table, row_at, with_row, without_rows}
 use Rattle.tn_exchange.specs.RowsLaw.{AreApart}
 use Rattle.tn_exchange.proofs.RowLemmas.{IsMadeOf, limits_with_row, limits_without_rows, made_of_none, made_with_row, made_firm}
+use Rattle.tn_local.specs.First.{IsFullIfLarge}
 use Rattle.tn_market.specs.declared.ends.Ends.{Ends}
 use Rattle.tn_market.specs.declared.place.PlaceStep.TheVariants.{Index, Word}
 use Rattle.tn_market.specs.declared.place.Word.TheVariants.{Rows as RowsWord}
@@ -18,15 +19,17 @@ use Rattle.tn_shape.specs.Reading.{each, holds}
 use Rattle.tn_shape.specs.Shapes.{list_at, two_at, number_at}
 use Rattle.tn_refer.specs.Ordered.{Listed, sides_of, AreTrades}
 use Rattle.tn_refer.specs.References.{firm_place, bundle_at}
-use Rattle.tn_kinds.specs.Tables.{Rows, row_place, row_of, one_row, rows_of, table_of}
+use Rattle.tn_kinds.specs.Tables.{Rows, full_if_large, has_each_row, row_place, row_of, one_row, rows_of, table_of}
+use Rattle.tn_kinds.proofs.FullLemmas.{full_from_test}
 use Rattle.tn_shape.proofs.ShapeLeads.{number_leads}
 use Rattle.tn_refer.proofs.ReferenceLeads.{bundle_leads}
-use Rattle.tn_shape.proofs.LeadLemmas.{Leads, leads_ok, leads_bind, leads_after, leads_each, leads_holds}
+use Rattle.tn_shape.proofs.LeadLemmas.{Leads, leads_ok, leads_as, leads_bind, leads_after, leads_each, leads_holds}
 
--- the table of firm f is a list of numbers for bundles of its own trades, no bundle twice
+-- the table of firm f is a list of numbers for bundles of its own trades, no bundle twice; a large one has every bundle
 pub record IsTableOf (trades : List Ends) (f : ℕ) (table : TableRows) : Type 0 where
   pub sides : table.sides ≡ sides_of trades f
-  pub few : length (sides_of trades f) ≤ 10
+  pub few : length (sides_of trades f) ≤ 14
+  pub full : IsFullIfLarge (firm_of_table table)
   pub within : IsWithinLimits table
   pub rows : List (ℕ × ℤ)
   pub apart : AreApart (length (sides_of trades f)) rows
@@ -58,6 +61,12 @@ pub none_from : (row : Option ℤ) → is_none row ≡ true → row ≡ None
 none_from None e = refl
 none_from (Some z) e = absurd (cc)
 
+full_leads : (f : ℕ) (table : TableRows) → length table.rows ≡ 2 ^ length table.sides → Leads (λ _. IsFullIfLarge (firm_of_table table)) (full_if_large f table)
+unfolding full_if_large
+full_leads f table places =
+    leads_as (λ _. (nat_le (length table.sides) 10 || has_each_row table.rows) ≡ true) (λ _. IsFullIfLarge (firm_of_table table)) _ (λ u met. full_from_test table places met)
+    (leads_holds Limit (firm_place f ++ Word RowsWord ∷ []) (nat_le (length table.sides) 10 || has_each_row table.rows))
+
 module _ (listed : Listed) (trades : AreTrades listed) (f : ℕ) where
   -- a row is on own trades, and its number is small
   pub record IsOwnRow (row : ℕ × ℤ) : Type 0 where
@@ -76,13 +85,13 @@ module _ (listed : Listed) (trades : AreTrades listed) (f : ℕ) where
   -- the rows so far
   pub record AreRows (rows : Rows) : Type 0 where
     pub sides : rows.table.sides ≡ sides_of listed.ends f
-    pub few : length (sides_of listed.ends f) ≤ 10
+    pub few : length (sides_of listed.ends f) ≤ 14
     pub within : IsWithinLimits rows.table
     pub listed_rows : List (ℕ × ℤ)
     pub apart : AreApart (length (sides_of listed.ends f)) listed_rows
     pub made : IsMadeOf rows.table listed_rows
 
-  pub rows_start : length (sides_of listed.ends f) ≤ 10 → AreRows (record { count = 0; table = without_rows (sides_of listed.ends f) })
+  pub rows_start : length (sides_of listed.ends f) ≤ 14 → AreRows (record { count = 0; table = without_rows (sides_of listed.ends f) })
   rows_start few = record {
     sides = refl;
     few = few;
@@ -112,20 +121,23 @@ module _ (listed : Listed) (trades : AreTrades listed) (f : ℕ) where
             made = made_with_row rows.table kept.listed_rows next.0 next.1 (subst (λ m. next.0 < m) (sym kept.within.places) own) absent kept.made;
           }
 
-  pub rows_lead : (items : Items) → length (sides_of listed.ends f) ≤ 10 → Leads (IsTableOf listed.ends f) (rows_of listed f items)
+  pub rows_lead : (items : Items) → length (sides_of listed.ends f) ≤ 14 → Leads (IsTableOf listed.ends f) (rows_of listed f items)
   unfolding rows_of
   rows_lead items few =
       leads_bind AreRows (IsTableOf listed.ends f) (each (one_row listed f) (record { count = 0; table = without_rows (sides_of listed.ends f) }) items) _
       (leads_each AreRows (one_row listed f) one_row_leads (record { count = 0; table = without_rows (sides_of listed.ends f) }) items (rows_start few))
-      (λ rows kept. leads_ok (IsTableOf listed.ends f) rows.table (record {
+      (λ rows kept.
+      leads_bind (λ _. IsFullIfLarge (firm_of_table rows.table)) (IsTableOf listed.ends f) (full_if_large f rows.table) _ (full_leads f rows.table kept.within.places) (λ u full.
+      leads_ok (IsTableOf listed.ends f) rows.table (record {
         sides = kept.sides;
         few = kept.few;
+        full = full;
         within = kept.within;
         rows = kept.listed_rows;
         apart = kept.apart;
         is = made_firm rows.table kept.listed_rows kept.within.places kept.made ∙ ap (λ (s : List Side). table_firm s kept.listed_rows) kept.sides;
-      }))
+      })))
 
-  pub table_leads : (firm : Data) → length (sides_of listed.ends f) ≤ 10 → Leads (IsTableOf listed.ends f) (table_of listed f firm)
+  pub table_leads : (firm : Data) → length (sides_of listed.ends f) ≤ 14 → Leads (IsTableOf listed.ends f) (table_of listed f firm)
   unfolding table_of
   table_leads firm few = leads_after (IsTableOf listed.ends f) (list_at (firm_place f ++ Word RowsWord ∷ []) (get (codes "rows") firm)) _ (λ items. rows_lead items few)

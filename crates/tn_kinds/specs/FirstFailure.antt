@@ -1,11 +1,15 @@
--- The first triple, in the order of the test, at which a table fails the exchange property. Whether one triple fails
--- is decided, so that it can be searched for.
-use Rattle.std.specs.Prelude.{◌≡◌, ℕ, zero, suc, ◌^◌, length, Option, Some, None}
+-- The first triple of a table that fails the exchange property: the first failing one in the order of the test, of all or,
+-- for a table of more than 10 own trades, of those with close bundles. Whether one triple fails is decided, so that it can
+-- be searched for.
+use Rattle.std.specs.Prelude.{◌≡◌, ℕ, zero, suc, ◌^◌, ◌==◌, nat_le, length, Bool, ◌||◌, if◌then◌else◌, Option, Some, None}
 use Rattle.std.proofs.Common.{inl, inr}
 use Rattle.tn_base.specs.Exchange.{NoneFails}
+use Rattle.tn_base.specs.Table.{buys_of}
 use Rattle.tn_base.proofs.ExchangeLemmas.{IsDecided}
 use Rattle.tn_exchange.specs.Rows.{TableRows, firm_of_table}
-use Rattle.tn_exchange.specs.TestOrder.{Triple, IsFirstFailure}
+use Rattle.tn_exchange.specs.TestOrder.{Triple}
+use Rattle.tn_law.specs.Close.{distance}
+use Rattle.tn_local.specs.First.{IsFirstTriple, IsFullIfLarge}
 use Rattle.tn_exchange.proofs.DecisionLemmas.{fails_or_not}
 
 -- the first of two that is there
@@ -34,17 +38,24 @@ failing table x y at = if_decided (fails_or_not table (record { x = x; y = y; at
 abbrev pub failing_at_pair : TableRows → ℕ → ℕ → Option Triple
 failing_at_pair table x y = or_else (first_below (λ i. failing table x y (Some i)) (length table.sides)) (failing table x y None)
 
+-- a pair of bundles of a table is looked at: any one where there are few own trades, and otherwise a close one
+abbrev pub is_looked_at : TableRows → ℕ → ℕ → Bool
+is_looked_at table x y = nat_le (length table.sides) 10 || (distance (buys_of table.sides) x y == 4)
+
+abbrev pub failing_at_looked : TableRows → ℕ → ℕ → Option Triple
+failing_at_looked table x y = if is_looked_at table x y then failing_at_pair table x y else None
+
 -- y goes up
 abbrev pub failing_from : TableRows → ℕ → Option Triple
-failing_from table x = first_below (failing_at_pair table x) (2 ^ length table.sides)
+failing_from table x = first_below (failing_at_looked table x) (2 ^ length table.sides)
 
 -- x comes down
 unfoldable pub first_failure : TableRows → Option Triple
 first_failure table = last_below (failing_from table) (2 ^ length table.sides)
 
--- the first failure is that of the test: no earlier triple fails, and where there is none, no triple fails
+-- the first failure is a table's first triple, and where there is none, no triple fails
 pub record IsTheFirstFailure : Type 0 where
-  pub found : (table : TableRows) (t : Triple) → IsFirstFailure (firm_of_table table) t → first_failure table ≡ Some t
+  pub found : (table : TableRows) (t : Triple) → IsFirstTriple (firm_of_table table) t → first_failure table ≡ Some t
   pub none : (table : TableRows) → NoneFails (firm_of_table table) → first_failure table ≡ None
-  pub first : (table : TableRows) (t : Triple) → first_failure table ≡ Some t → IsFirstFailure (firm_of_table table) t
-  pub holds : (table : TableRows) → first_failure table ≡ None → NoneFails (firm_of_table table)
+  pub first : (table : TableRows) (t : Triple) → first_failure table ≡ Some t → IsFirstTriple (firm_of_table table) t
+  pub holds : (table : TableRows) → IsFullIfLarge (firm_of_table table) → first_failure table ≡ None → NoneFails (firm_of_table table)

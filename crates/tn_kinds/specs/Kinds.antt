@@ -28,7 +28,7 @@ kind_of f firm = do
 
 -- the most own trades of a firm
 abbrev pub most_own : FirmKind → ℕ
-most_own Table = 10
+most_own Table = 14
 most_own Laminar = 32
 most_own Middleman = 32
 most_own Dealer = 32

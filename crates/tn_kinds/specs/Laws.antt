@@ -5,6 +5,7 @@ use Rattle.tn_base.specs.Arcs.{IsAtMost}
 use Rattle.tn_base.specs.Table.{table_firm}
 use Rattle.tn_base.specs.Firm.{Firm}
 use Rattle.tn_exchange.specs.RowsLaw.{AreApart}
+use Rattle.tn_local.specs.First.{IsFullIfLarge}
 use Rattle.tn_laminar.specs.declared.set.LaminarSet.{LaminarSet}
 use Rattle.tn_laminar.specs.Faults.{AreSound}
 use Rattle.tn_laminar.specs.Sum.{HasNumbersWithin, IsOwnSet, laminar_firm}
@@ -15,12 +16,14 @@ use Rattle.tn_dealer.specs.Pairs.{AreDifferent, IsOwnPair, dealer_firm}
 use Rattle.tn_market.specs.declared.ends.Ends.{Ends}
 use Rattle.tn_refer.specs.Ordered.{sides_of}
 
--- firm f is a list of numbers for bundles of its own trades, no bundle twice, each number within 10^9
+-- firm f is a list of numbers for bundles of its own trades, no bundle twice, each number within 10^9; with more than 10 own
+-- trades every bundle is possible
 pub record IsTableFirm (trades : List Ends) (f : ℕ) (firm : Firm) : Type 0 where
   pub rows : List (ℕ × ℤ)
   pub apart : AreApart (length (sides_of trades f)) rows
   pub is : firm ≡ table_firm (sides_of trades f) rows
-  pub few : length (sides_of trades f) ≤ 10
+  pub few : length (sides_of trades f) ≤ 14
+  pub full : IsFullIfLarge firm
   pub small : (x : ℕ) (amount : ℤ) → firm.worth x ≡ Some amount → IsAtMost amount (10 ^ 9)
 
 -- firm f has an amount for each own trade, and sets of own trades that don't cross, with concave numbers

@@ -1,8 +1,8 @@
 -- The tables of the firms.
-use Rattle.std.specs.Prelude.{ℕ, suc, ◌+◌, ◌^◌, ◌++◌, [], ◌∷◌, ℤ, List, codes, Option, Some, None, is_none, Result, Ok}
+use Rattle.std.specs.Prelude.{ℕ, suc, ◌+◌, ◌^◌, ◌++◌, [], ◌∷◌, ℤ, List, length, codes, nat_le, ◌||◌, Bool, true, false, Option, Some, None, is_none, Result, Ok}
 use Rattle.serde_json.specs.Data.{Data, Items}
 use Rattle.serde_json.specs.Find.{get}
-use Rattle.tn_base.specs.declared.fault.FaultKind.TheVariants.{SameBundle}
+use Rattle.tn_base.specs.declared.fault.FaultKind.TheVariants.{Limit, SameBundle}
 use Rattle.tn_exchange.specs.Rows.{TableRows, row_at, without_rows, with_row}
 use Rattle.tn_market.specs.declared.place.PlaceStep.{PlaceStep}
 use Rattle.tn_market.specs.declared.place.PlaceStep.TheVariants.{Index, Word}
@@ -36,10 +36,26 @@ one_row listed f rows row = do
   new ← holds SameBundle (row_place f rows.count) (is_none (row_at rows.table.rows next.0))
   Ok (record { count = rows.count + 1; table = with_row rows.table next.0 next.1 })
 
+-- each place has a number
+abbrev pub are_filled : List (Option ℤ) → Bool
+are_filled [] = true
+are_filled (None ∷ rows) = false
+are_filled (Some amount ∷ rows) = are_filled rows
+
+-- every bundle but the empty one, whose place is the first, has a row
+abbrev pub has_each_row : List (Option ℤ) → Bool
+has_each_row [] = true
+has_each_row (empty ∷ rows) = are_filled rows
+
+-- a table of more than 10 own trades has a row for every bundle that isn't empty
+unfoldable pub full_if_large : ℕ → TableRows → Result (Unit {0}) Fault
+full_if_large f table = holds Limit (firm_place f ++ Word RowsWord ∷ []) (nat_le (length table.sides) 10 || has_each_row table.rows)
+
 -- the rows of firm f
 unfoldable pub rows_of : Listed → ℕ → Items → Result TableRows Fault
 rows_of listed f items = do
   rows ← each (one_row listed f) (record { count = 0; table = without_rows (sides_of listed.ends f) }) items
+  full ← full_if_large f rows.table
   Ok rows.table
 
 -- the table of firm f

@@ -1,5 +1,7 @@
-ghost use Rattle.std.specs.Prelude.{ℕ, ◌<◌, ◌≤◌, [], length, map, IfOk};
+ghost use Rattle.std.specs.Prelude.{ℕ, ◌<◌, ◌≤◌, [], length, map, All, IfOk};
 ghost use Rattle.serde_json.specs.View.{view, items_view};
+ghost use Rattle.tn_exchange.specs.Rows.{firm_of_table};
+ghost use Rattle.tn_local.specs.First.{IsFullIfLarge};
 ghost use Rattle.tn_kinds.specs.Firms.{firm_by, firm_of, one_firm};
 ghost use Rattle.tn_kinds.specs.Kinds.{most_own};
 ghost use Rattle.tn_refer.specs.Ordered.{AreTrades, Listed, sides_of};
@@ -35,6 +37,7 @@ pub fn read_firms<F: FromKinds + Drop>(
     // Each firm that is read has few own trades.
     ensures few { IfOk result
         (λ made. (f : ℕ) → f < length made.items → length (sides_of ends.now f) ≤ 32) }
+    ensures known { IfOk result (λ made. All F.known made.items) }
 {
     let mut made = Vec::new(alloc);
     for firm in firms {
@@ -54,8 +57,9 @@ fn firm_of<F: FromKinds>(
     firm: &Value,
 ) -> Result<F, ReadError>
     requires { AreTrades (record { names = names.now; ends = ends.now }) }
-    ensures { Gives F.firm result
+    ensures gives { Gives F.firm result
         (firm_of F.tested (record { names = names.now; ends = ends.now }) f (view firm.now)) }
+    ensures known { IfOk result F.known }
 {
     let kind = kind_of(alloc, f, firm)?;
     check_frame(alloc, ends, f, kind, firm)?;
@@ -74,8 +78,9 @@ fn firm_by<F: FromKinds>(
 ) -> Result<F, ReadError>
     requires trades { AreTrades (record { names = names.now; ends = ends.now }) }
     requires few { length (sides_of ends.now f) ≤ most_own kind }
-    ensures { Gives F.firm result
+    ensures gives { Gives F.firm result
         (firm_by F.tested (record { names = names.now; ends = ends.now }) f kind (view firm.now)) }
+    ensures known { IfOk result F.known }
 {
     match kind {
         FirmKind::Table => {
@@ -106,8 +111,9 @@ fn table_of(
     firm: &Value,
 ) -> Result<RawTable, ReadError>
     requires trades { AreTrades (record { names = names.now; ends = ends.now }) }
-    requires few { length (sides_of ends.now f) ≤ 10 }
-    ensures few { IfOk result (λ table. length table.sides ≤ 10) }
+    requires few { length (sides_of ends.now f) ≤ 14 }
+    ensures few { IfOk result (λ table. length table.sides ≤ 14) }
+    ensures full { IfOk result (λ table. IsFullIfLarge (firm_of_table table)) }
     ensures gives { Gives (λ table. table) result
         (table_of (record { names = names.now; ends = ends.now }) f (view firm.now)) }
 {

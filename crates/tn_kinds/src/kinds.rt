@@ -64,7 +64,7 @@ fn most_own(kind: FirmKind) -> u32
     ensures { result ≡ most_own kind }
 {
     match kind {
-        FirmKind::Table => 10,
+        FirmKind::Table => 14,
         FirmKind::Laminar => 32,
         FirmKind::Middleman => 32,
         FirmKind::Dealer => 32,

@@ -1,9 +1,11 @@
-ghost use Rattle.std.specs.Prelude.{◌≡◌, ◌≤◌, Bool, length};
+ghost use Rattle.std.specs.Prelude.{◌≡◌, ◌≤◌, Bool, length, IfOk};
 ghost use Rattle.tn_base.specs.Firm.{Firm};
 ghost use Rattle.tn_laminar.specs.Firms.{firm_of as laminar_firm_of};
 ghost use Rattle.tn_middle.specs.Firms.{firm_of as middle_firm_of};
 ghost use Rattle.tn_dealer.specs.Firms.{firm_of as dealer_firm_of};
+ghost use Rattle.tn_exchange.specs.Rows.{firm_of_table};
 ghost use Rattle.tn_kinds.specs.Firms.{tested_firm};
+ghost use Rattle.tn_local.specs.First.{IsFullIfLarge};
 ghost use Rattle.tn_shape.specs.Reading.{Gives};
 
 use crate::failures::failure;
@@ -25,32 +27,42 @@ pub trait FromKinds: Sized {
     /// The firm, as the definitions see it.
     ghost firm: { Self → Firm };
 
+    /// What is known of each that is made: a firm whose exchange isn't tested yet can be tested.
+    ghost known: { Self → Type 0 };
+
     /// Firm `f` over the trades with these ends, or the fault that its table fails exchange.
     fn from_table(alloc: Global, ends: &[Ends], f: u32, table: RawTable) -> Result<Self, ReadError>
         requires few_trades { length ends.now ≤ 128 }
-        requires few { length table.sides ≤ 10 }
-        ensures { Gives firm result (tested_firm tested ends.now f table) };
+        requires few { length table.sides ≤ 14 }
+        requires full { IsFullIfLarge (firm_of_table table) }
+        ensures gives { Gives firm result (tested_firm tested ends.now f table) }
+        ensures known { IfOk result known };
 
     /// A laminar firm.
     fn from_laminar(laminar: Laminar) -> Self
-        ensures { firm result ≡ laminar_firm_of laminar };
+        ensures firm { firm result ≡ laminar_firm_of laminar }
+        ensures known { known result };
 
     /// A middleman.
     fn from_middle(middle: Middle) -> Self
-        ensures { firm result ≡ middle_firm_of middle };
+        ensures firm { firm result ≡ middle_firm_of middle }
+        ensures known { known result };
 
     /// A dealer.
     fn from_dealer(dealer: Dealer) -> Self
-        ensures { firm result ≡ dealer_firm_of dealer };
+        ensures firm { firm result ≡ dealer_firm_of dealer }
+        ensures known { known result };
 }
 
 impl FromKinds for RawFirm {
     ghost use Rattle.std.specs.Prelude.{false};
-    ghost use Rattle.tn_firm.specs.Raw.{raw_firm_of};
+    ghost use Rattle.tn_firm.specs.Raw.{CanBeTested, raw_firm_of};
 
     ghost tested = { false };
 
     ghost firm = { raw_firm_of };
+
+    ghost known = { CanBeTested };
 
     #[tactic(auto, unfolding(crate::specs::Firms::tested_firm))]
     fn from_table(
@@ -82,6 +94,8 @@ impl FromKinds for FirmValue {
     ghost tested = { true };
 
     ghost firm = { firm_of };
+
+    ghost known = { λ _. Unit {0} };
 
     fn from_table(
         alloc: Global,

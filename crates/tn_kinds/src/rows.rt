@@ -1,9 +1,11 @@
 ghost use Rattle.std.specs.Prelude.{◌≡◌, ◌+◌, ◌^◌, ◌<◌, ◌≤◌, length, IfOk, OnOk};
 ghost use Rattle.serde_json.specs.View.{view, items_view};
 ghost use Rattle.tn_base.specs.Arcs.{IsAtMost};
+ghost use Rattle.tn_exchange.specs.Rows.{firm_of_table};
+ghost use Rattle.tn_local.specs.First.{IsFullIfLarge};
 ghost use Rattle.tn_refer.specs.Ordered.{AreTrades, Listed, sides_of};
 ghost use Rattle.tn_shape.specs.Reading.{Gives, each};
-ghost use Rattle.tn_kinds.specs.Tables.{Rows, filled, one_row, row_of, rows_of};
+ghost use Rattle.tn_kinds.specs.Tables.{Rows, filled, full_if_large, one_row, row_of, rows_of};
 
 use serde_json::Value;
 use std::alloc::Global;
@@ -14,12 +16,13 @@ use tn_market::PlaceStep::Index;
 use tn_names::Names;
 use tn_refer::{OwnPart, PartAt, own_bundle, sides_of};
 use tn_shape::steps::{FIRMS, ROWS};
-use tn_shape::{ReadError, fault, number, two};
+use tn_shape::{ReadError, check, fault, number, two};
 
 /// The largest number of a firm.
 pub(crate) const AMOUNT_LIMIT: u64 = 1_000_000_000;
 
-/// The table of the rows of firm `f`, which has at most 10 own trades.
+/// The table of the rows of firm `f`, which has at most 14 own trades. With more than 10, every bundle that isn't empty has
+/// a row.
 #[tactic(auto, unfolding(crate::specs::Tables::rows_of))]
 pub(crate) fn read_rows(
     alloc: Global,
@@ -29,8 +32,9 @@ pub(crate) fn read_rows(
     rows: &[Value],
 ) -> Result<RawTable, ReadError>
     requires trades { AreTrades (record { names = names.now; ends = ends.now }) }
-    requires few { length (sides_of ends.now f) ≤ 10 }
-    ensures few { IfOk result (λ table. length table.sides ≤ 10) }
+    requires few { length (sides_of ends.now f) ≤ 14 }
+    ensures few { IfOk result (λ table. length table.sides ≤ 14) }
+    ensures full { IfOk result (λ table. IsFullIfLarge (firm_of_table table)) }
     ensures gives { Gives (λ table. table) result
         (rows_of (record { names = names.now; ends = ends.now }) f (items_view rows.now)) }
 {
@@ -41,7 +45,18 @@ pub(crate) fn read_rows(
         read_row(alloc, names, ends, f, count, &mut table, row)?;
         count += 1;
     }
+    check_full(alloc, f, &table)?;
     Ok(table)
+}
+
+/// Whether a table of more than 10 own trades has a row for every bundle that isn't empty.
+#[tactic(auto, unfolding(crate::specs::Tables::full_if_large))]
+fn check_full(alloc: Global, f: u32, table: &RawTable) -> Result<(), ReadError>
+    ensures gives { Gives (λ _. tt) result (full_if_large f table.now) }
+    ensures full { OnOk result (IsFullIfLarge (firm_of_table table.now)) }
+{
+    let full = table.trades() <= 10 || table.full();
+    check(alloc, full, FaultKind::Limit, &[FIRMS, Index(f), ROWS])
 }
 
 /// Adds one more row, which comes after so many.
@@ -56,7 +71,7 @@ fn read_row(
     row: &Value,
 ) -> Result<(), ReadError>
     requires trades { AreTrades (record { names = names.now; ends = ends.now }) }
-    requires few { length (sides_of ends.now f) ≤ 10 }
+    requires few { length (sides_of ends.now f) ≤ 14 }
     requires sides { table.old.sides ≡ sides_of ends.now f }
     requires places { length table.old.rows ≡ 2 ^ length table.old.sides }
     ensures gives { Gives (λ _. record { count = count + 1; table = table.new }) result
@@ -87,7 +102,7 @@ fn row_of(
     row: &Value,
 ) -> Result<(Bundle, i128), ReadError>
     requires trades { AreTrades (record { names = names.now; ends = ends.now }) }
-    requires few { length (sides_of ends.now f) ≤ 10 }
+    requires few { length (sides_of ends.now f) ≤ 14 }
     ensures gives { Gives (λ p. p) result
         (row_of (record { names = names.now; ends = ends.now }) f r (view row.now)) }
     ensures own { IfOk result (λ p. p.0 < 2 ^ length (sides_of ends.now f)) }

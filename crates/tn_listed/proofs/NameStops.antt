@@ -33,7 +33,7 @@ module _ (place : List PlaceStep) (plain : IsPlainPlace place) where
       stops_bind IsPlain (holds SameName place (not (has_name names name))) _ (plain_holds SameName place (not (has_name names name)) refl plain) (λ new. stops_ok IsPlain name))
 
 -- the name of a firm, and that of a trade
-pub firm_name_stops : (names : NameLists) (firm : Data) → length names.firms ≤ 1024 → StopsPlainly (firm_name names firm)
+pub firm_name_stops : (names : NameLists) (firm : Data) → length names.firms ≤ 16384 → StopsPlainly (firm_name names firm)
 unfolding firm_name
 firm_name_stops names firm few =
     let place = Word Firms ∷ Index (length names.firms) ∷ [] in
@@ -42,7 +42,7 @@ firm_name_stops names firm few =
     (new_name_stops (Word Firms ∷ Index (length names.firms) ∷ Word Name ∷ []) (tt, (few, (tt, tt))) names.firms (get (codes "name") firm)) (λ name.
     stops_ok IsPlain (with_firm names name)))
 
-pub trade_name_stops : (names : NameLists) (trade : Data) → length names.trades ≤ 1024 → StopsPlainly (trade_name names trade)
+pub trade_name_stops : (names : NameLists) (trade : Data) → length names.trades ≤ 16384 → StopsPlainly (trade_name names trade)
 unfolding trade_name
 trade_name_stops names trade few =
     stops_bind IsPlain (object_of TradeObject (Word Trades ∷ Index (length names.trades) ∷ []) (Some trade)) _ (object_stops (Word Trades ∷ Index (length names.trades) ∷ []) (tt, (few, tt)) TradeObject (Some trade)) (λ object.
@@ -51,7 +51,7 @@ trade_name_stops names trade few =
     stops_ok IsPlain (with_trade names name)))
 
 -- the ends of a trade
-pub ends_stop : (firms : List (List ℕ)) (before : List Ends) (t : ℕ) (trade : Data) → t ≤ 1024 → StopsPlainly (ends_at firms before t trade)
+pub ends_stop : (firms : List (List ℕ)) (before : List Ends) (t : ℕ) (trade : Data) → t ≤ 16384 → StopsPlainly (ends_at firms before t trade)
 unfolding ends_at
 ends_stop firms before t trade few =
     stops_bind IsPlain (firm_at firms (Word Trades ∷ Index t ∷ Word Seller ∷ []) (get (codes "seller") trade)) _ (firm_at_stops (Word Trades ∷ Index t ∷ Word Seller ∷ []) (tt, (few, (tt, tt))) firms (get (codes "seller") trade)) (λ seller.

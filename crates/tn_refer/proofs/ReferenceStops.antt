@@ -49,7 +49,7 @@ module _ (place : List PlaceStep) (plain : IsPlainPlace place) where
       stops_bind IsPlain (holds SameTrade place (not (has bundle k))) _ (plain_holds SameTrade place (not (has bundle k)) refl plain) (λ new. stops_ok IsPlain k))
 
 -- a set below 2^n has few members
-pub few_members : (n set : ℕ) → set < 2 ^ n → n ≤ 1024 → size set ≤ 1024
+pub few_members : (n set : ℕ) → set < 2 ^ n → n ≤ 16384 → size set ≤ 16384
 few_members n set below few = omega (arith, size_le n set below, few)
 
 -- a list of references
@@ -58,7 +58,7 @@ module _ (listed : Listed) (trades : AreTrades listed) (f : ℕ) (few : length (
   unfolding own_reference
   reference_stops bundle value own =
       let at = place ++ Index (size bundle) ∷ [] in
-      let few_before : size bundle ≤ 1024 = few_members (length (sides_of listed.ends f)) bundle own (omega (arith, few)) in
+      let few_before : size bundle ≤ 16384 = few_members (length (sides_of listed.ends f)) bundle own (omega (arith, few)) in
       stops_bind IsPlain (new_own listed f None at bundle value) _ (new_own_stops at (plain_within place (Index (size bundle) ∷ []) plain (few_before, tt)) listed f None bundle value) (λ k.
       stops_ok IsPlain (toggle bundle k))
 
@@ -73,11 +73,11 @@ pub record RefersPlainly (n : ℕ) (refer : Refers) : Type 0 where
   pub stops : (place : List PlaceStep) (named : ℕ) (value : Data) → IsPlainPlace place → StopsPlainly (refer place named value)
   pub below : (place : List PlaceStep) (named : ℕ) (value : Data) → Leads (λ k. k < n) (refer place named value)
 
-module _ (n : ℕ) (few : n ≤ 1024) (refer : Refers) (refers : RefersPlainly n refer) (place : List PlaceStep) (plain : IsPlainPlace place) (limit : ℕ) where
+module _ (n : ℕ) (few : n ≤ 16384) (refer : Refers) (refers : RefersPlainly n refer) (place : List PlaceStep) (plain : IsPlainPlace place) (limit : ℕ) where
   pub entry_stops : (named : ℕ) (entry : Data) → named < 2 ^ n → StopsPlainly (entry_of refer place limit named entry)
   unfolding entry_of
   entry_stops named entry below =
-      let few_before : size named ≤ 1024 = few_members n named below few in
+      let few_before : size named ≤ 16384 = few_members n named below few in
       stops_bind IsPlain (two_at (place ++ Index (size named) ∷ []) entry) _ (two_stops (place ++ Index (size named) ∷ []) (plain_within place (Index (size named) ∷ []) plain (few_before, tt)) entry) (λ two.
       stops_bind IsPlain (refer (place ++ Index (size named) ∷ Index 0 ∷ []) named two.0) _
       (refers.stops (place ++ Index (size named) ∷ Index 0 ∷ []) named two.0 (plain_within place (Index (size named) ∷ Index 0 ∷ []) plain (few_before, (omega arith, tt)))) (λ k.

@@ -17,6 +17,7 @@ use Rattle.tn_market.specs.Judged.{IsFirstBettered, IsFirstImpossible, Judges}
 use Rattle.tn_market.specs.Network.{own, trades_of}
 use Rattle.tn_answer.specs.AnswerText.{answer_data}
 use Rattle.tn_replayed.specs.Fits.{FitsClaim}
+use Rattle.tn_local.proofs.FirstLemmas.{triple_fails}
 use Rattle.tn_kinds.proofs.ShownLemmas.{own_position_of}
 use Rattle.tn_extra.specs.Arranged.{Arranged, arrangement_of}
 use Rattle.tn_claimed.specs.Claimed.{claim_of, names_raw}
@@ -137,13 +138,13 @@ module _ (top : Data) (doc : DocumentData) (from : IsReadFrom Raw top doc) where
       (from.is.own_bundles f firm is x fails.first fails.first_is) (from.is.own_bundles f firm is y fails.second fails.second_is) (own_at f firm is x y at fails) (there Raw top doc from said))
       (firm, is, fails)
 
--- a firm that fails, with its first failing triple
+-- a firm that fails, with its first triple
 failed : (top : Data) (doc : DocumentData) (f : ℕ) (x y : List ℕ) (at : Option ℕ) → IsReadFrom Raw top doc → IsFirstToFail doc.firms doc.ends f x y at → IsReplayed top doc (ExchangeFails f x y at)
 failed top doc f x y at from first =
     subst (λ l. IsReplayed top doc (ExchangeFails f l y at)) (sym first.x_is)
     (subst (λ l. IsReplayed top doc (ExchangeFails f (trades_of doc.ends f first.firm.count first.triple.x) l at)) (sym first.y_is)
     (subst (λ t. IsReplayed top doc (ExchangeFails f (trades_of doc.ends f first.firm.count first.triple.x) (trades_of doc.ends f first.firm.count first.triple.y) t)) (sym first.at_is)
-    (failure_replays top doc from f first.firm first.triple.x first.triple.y first.triple.at first.is first.first.fails)))
+    (failure_replays top doc from f first.firm first.triple.x first.triple.y first.triple.at first.is (triple_fails first.firm first.triple first.first))))
 
 pub tests_replay : TestsReplay
 tests_replay = record {

@@ -24,7 +24,7 @@ abbrev pub VerdictsReplay : Type 0
 VerdictsReplay = (top : Data) (doc : DocumentData) (at : Arranged) (said : Said) → document_of Arrangement top ≡ Ok doc → doc.extra ≡ arrangement at
     → Judges doc.firms doc.ends (pos 1) at.on (price_at at.prices) said → FitsClaim said → IsReplayed top doc said
 
--- that every firm meets the exchange property, or the first failing triple of the first firm that doesn't
+-- that every firm meets the exchange property, or the first triple of the first firm that doesn't
 pub record TestsReplay : Type 0 where
   pub accepted : (top : Data) (doc : DocumentData) → document_of Raw top ≡ Ok doc → ((f : ℕ) (firm : Firm) → slice_get doc.firms f ≡ Some firm → MeetsExchange firm)
       → IsReplayed top doc Accepted

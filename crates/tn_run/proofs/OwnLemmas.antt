@@ -9,6 +9,7 @@ use Rattle.tn_file.specs.declared.need.Need.{Need}
 use Rattle.tn_file.specs.Document.{DocumentData}
 use Rattle.tn_file.specs.Laws.{IsDocument}
 use Rattle.tn_kinds.proofs.KindLemmas.{listed_own_bundles}
+use Rattle.tn_local.proofs.FirstLemmas.{triple_fails}
 use Rattle.tn_kinds.proofs.ShownLemmas.{OwnAreNamed, own_position_of, trades_named, triple_named}
 use Rattle.tn_market.specs.Network.{own, trades_of}
 use Rattle.tn_market.proofs.NetworkLemmas.{ascending_trades}
@@ -31,12 +32,12 @@ module _ (need : Need) (doc : DocumentData) (is : IsDocument need doc) where
   pub bundle_ascends : (f : ℕ) (firm : Firm) (x : ℕ) → slice_get doc.firms f ≡ Some firm → IsStrictlyIncreasing (trades_of doc.ends f firm.count x)
   bundle_ascends f firm x at = ascending_trades doc.firms doc.ends f x firm is.ascending at
 
-  -- the first failing triple of the first firm that fails exchange
+  -- the first triple of the first firm that fails exchange
   pub failure_named : (f : ℕ) (x y : List ℕ) (at : Option ℕ) → IsFirstToFail doc.firms doc.ends f x y at
       → IsNamed doc.names.firms f × IsNamedTriple doc.names.trades (record { x = x; y = y; at = at })
   failure_named f x y at fails =
       let own_bundles = listed_own_bundles doc.ends f fails.firm (is.listed f fails.firm fails.is) in
-      let triple = triple_named doc.names.trades doc.ends f fails.firm.count fails.triple (own_named f fails.firm fails.is) (own_position_of fails.firm fails.triple own_bundles fails.first.fails) in (
+      let triple = triple_named doc.names.trades doc.ends f fails.firm.count fails.triple (own_named f fails.firm fails.is) (own_position_of fails.firm fails.triple own_bundles (triple_fails fails.firm fails.triple fails.first)) in (
         firm_named f fails.firm fails.is,
         record {
           x = subst (All (IsNamed doc.names.trades)) (sym fails.x_is) triple.x;

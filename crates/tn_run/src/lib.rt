@@ -24,6 +24,8 @@ mod row_tests;
 mod rows;
 #[cfg(test)]
 mod solve_tests;
+#[cfg(test)]
+mod table_tests;
 mod testing;
 #[cfg(test)]
 mod tests;

@@ -1,10 +1,10 @@
 //! The answer of `replay` on firms that are read raw.
 
-ghost use Rattle.std.specs.Prelude.{◌≡◌, ◌≤◌, IfOk, length, map, true};
+ghost use Rattle.std.specs.Prelude.{◌≡◌, ◌≤◌, All, IfOk, length, map, true};
 ghost use Rattle.tn_answer.specs.Kept.{IsWithinClaims};
 ghost use Rattle.tn_cert.specs.Replays.{is_on_exchange, reason_in};
 ghost use Rattle.tn_command.specs.Claimed.{DecidesClaim};
-ghost use Rattle.tn_firm.specs.Raw.{raw_firm_of};
+ghost use Rattle.tn_firm.specs.Raw.{CanBeTested, raw_firm_of};
 ghost use Rattle.tn_market.specs.ClaimLimits.{IsClaimWithin};
 ghost use Rattle.tn_market.specs.Network.{own};
 
@@ -62,6 +62,7 @@ fn reason_in(alloc: Global, net: &RawNet, reason: Reason) -> Result<Reason, OutO
 pub fn replay_raw(alloc: Global, net: &RawNet, claim: &Claim) -> Result<Said, OutOfMemory>
     requires few_firms { length net.now.firms ≤ 1024 }
     requires few_trades { length net.now.ends ≤ 128 }
+    requires testable { All CanBeTested net.now.firms }
     requires kind { is_on_exchange claim.now ≡ true }
     requires claim { IsClaimWithin (map raw_firm_of net.now.firms) net.now.ends claim.now }
     ensures answer { IfOk result (DecidesClaim (map raw_firm_of net.now.firms) net.now.ends claim.now) }

@@ -24,60 +24,6 @@ fn solves_networks_up_to_the_limits(rt: HostRuntime) -> Result<(), Fail> {
     Ok(())
 }
 
-/// The row of a bundle of ten trades: n of them are worth n times 20 - n.
-fn push_row(alloc: Global, text: &mut String, bundle: u32) -> Result<(), Fail> {
-    let begin = if bundle == 1 { "[[" } else { ",[[" };
-    text.push_str(begin)?;
-    let mut count = 0u32;
-    let mut rest = bundle;
-    for k in 0..10u32 {
-        if rest % 2 == 1 {
-            let comma = comma(count);
-            let name = format!(in alloc; "{comma}\"t{k}\"")?;
-            text.push_str(&name)?;
-            count = count.wrapping_add(1);
-        }
-        rest /= 2;
-    }
-    let value = count.wrapping_mul(20u32.wrapping_sub(count));
-    let end = format!(in alloc; "],{value}]")?;
-    text.push_str(&end)?;
-    Ok(())
-}
-
-/// Ten trades from a laminar firm to a table, which has a row for each bundle.
-fn table_of_ten(alloc: Global) -> Result<String, Fail> {
-    let mut text = format!(in alloc;
-        "{{\"version\":1,\"firms\":[{{\"name\":\"L\",\"kind\":\"laminar\"}},{{\"name\":\"B\",\"kind\":\"table\",\"rows\":["
-    )?;
-    for bundle in 1..1024 {
-        push_row(alloc, &mut text, bundle)?;
-    }
-    text.push_str("]}],\"trades\":[")?;
-    for k in 0..10 {
-        let comma = comma(k);
-        let trade = format!(in alloc;
-            "{comma}{{\"name\":\"t{k}\",\"seller\":\"L\",\"buyer\":\"B\"}}"
-        )?;
-        text.push_str(&trade)?;
-    }
-    text.push_str("]}")?;
-    Ok(text)
-}
-
-/// A table of ten trades, which wants all of them.
-#[test]
-fn buys_for_a_table_of_ten_trades(rt: HostRuntime) -> Result<(), Fail> {
-    let alloc = rt.alloc();
-    let document = table_of_ten(alloc)?;
-    let (status, written) = run_on(alloc, "solve", document.as_bytes())?;
-    let begin =
-        br#"{"answer":"solved","on":["t0","t1","t2","t3","t4","t5","t6","t7","t8","t9"],"#.as_slice();
-    assert_eq!(rt; status, 0);
-    assert!(rt; written.starts_with(begin) && written.ends_with(b",\"surplus\":100}\n"));
-    Ok(())
-}
-
 /// So many tables, of which each sells to the next and wants both of its trades or none, in a ring.
 fn ring_firms(alloc: Global, text: &mut String, count: u32) -> Result<(), Fail> {
     for k in 0..count {

@@ -84,7 +84,7 @@ is_plain_kind SamePair = true
 -- a step to a member, or to one of the first items of a list
 abbrev pub IsPlainStep : PlaceStep → Type 0
 IsPlainStep (Word word) = Unit {0}
-IsPlainStep (Index k) = k ≤ 1024
+IsPlainStep (Index k) = k ≤ 16384
 IsPlainStep (Trade t) = ⊥
 
 -- a place of such steps alone

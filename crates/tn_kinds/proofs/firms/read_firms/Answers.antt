@@ -1,6 +1,7 @@
 use Rattle.std.proofs.Common.{◌≡◌, ap, ◌∙◌, ◌++◌, ◌∷◌, [], map, length, Ok, arith, length-append}
 use Rattle.std.proofs.lemmas.Result.{err_from_is_err_and}
 use Rattle.std.proofs.lemmas.List.{length-map, map_push}
+use Rattle.std.proofs.lemmas.List.Elements.{All-push, All-same}
 use Rattle.serde_json.specs.View.{items_view}
 use Rattle.tn_shape.specs.Reading.{each}
 use Rattle.tn_kinds.specs.Firms.{one_firm}
@@ -17,7 +18,7 @@ returns-in_err-next-clause-gives g c =
     let firms = map g.F.FromKinds.firm c.loop-firm.made.items in
     let f : c.len-f.result ≡ length firms = omega (arith, c.len-f.ensures, c.loop-firm.made.ok, length-map c.loop-firm.made.items g.F.FromKinds.firm) in
     rw (p.1, p.2) (each_fails step c.in_err-next.field-0.0 c.args.firms.now c.loop-firm.firm-index c.firm-item.result firms (each step [] (items_view c.args.firms.now)) c.loop-firm-test.true
-    (one_firm-fails g.F.FromKinds.tested (record { names = c.args.names.now; ends = c.args.ends.now }) firms _ c.len-f.result f c.in_err-next.field-0.0 (rw (← c.firm-item.is) c.in_err-next.ensures))
+    (one_firm-fails g.F.FromKinds.tested (record { names = c.args.names.now; ends = c.args.ends.now }) firms _ c.len-f.result f c.in_err-next.field-0.0 (rw (← c.firm-item.is) c.in_err-next.ensures.gives))
     c.loop-firm.invariant.rest)
 
 pub loop-firm-preserved : goal.loop-firm-preserved
@@ -29,8 +30,9 @@ loop-firm-preserved g c =
     let more : map g.F.FromKinds.firm c.push.new.self.items ≡ firms ++ g.F.FromKinds.firm c.in_ok-next.next ∷ [] = ap (map g.F.FromKinds.firm) items ∙ map_push g.F.FromKinds.firm c.loop-firm.made.items c.in_ok-next.next in
     record {
       count = ap length items ∙ omega (arith, length-append c.loop-firm.made.items (c.in_ok-next.next ∷ []), c.loop-firm.invariant.count);
+      known = All-same g.F.FromKinds.known _ _ items (All-push g.F.FromKinds.known c.loop-firm.made.items c.in_ok-next.next c.loop-firm.invariant.known c.in_ok-next.ensures.known);
       rest = rw more (each_goes_on step c.args.firms.now c.loop-firm.firm-index c.firm-item.result firms (firms ++ g.F.FromKinds.firm c.in_ok-next.next ∷ []) (each step [] (items_view c.args.firms.now)) c.loop-firm-test.true
-          (one_firm-next g.F.FromKinds.tested (record { names = c.args.names.now; ends = c.args.ends.now }) firms _ c.len-f.result f (g.F.FromKinds.firm c.in_ok-next.next) (rw (← c.firm-item.is) c.in_ok-next.ensures)) c.loop-firm.invariant.rest);
+          (one_firm-next g.F.FromKinds.tested (record { names = c.args.names.now; ends = c.args.ends.now }) firms _ c.len-f.result f (g.F.FromKinds.firm c.in_ok-next.next) (rw (← c.firm-item.is) c.in_ok-next.ensures.gives)) c.loop-firm.invariant.rest);
     }
 
 pub returns-clause-gives : goal.returns-clause-gives

@@ -17,7 +17,7 @@ use Rattle.tn_firm.specs.Raw.{raw_firm_of}
 use Rattle.tn_firm.proofs.raw.RawFirm.test.Goals as goal
 
 pub returns-in-Table-clause-holds : goal.returns-in-Table-clause-holds
-returns-in-Table-clause-holds c = subst (λ (raw : RawFirm). (c.test.result ≡ Holds) ↔ NoneFails (raw_firm_of raw)) (sym c.in-Table.is) c.test.ensures.holds
+returns-in-Table-clause-holds c = subst (λ (raw : RawFirm). (c.test_table.result ≡ Holds) ↔ NoneFails (raw_firm_of raw)) (sym c.in-Table.is) c.test_table.ensures.holds
 
 pub returns-in-Laminar-clause-holds : goal.returns-in-Laminar-clause-holds
 returns-in-Laminar-clause-holds c = ((λ _. meets c.args.self.now c.in-Laminar.is), (λ _. refl))
