@@ -61,7 +61,8 @@ def over($over): if $over == 1 or $over == 0 then . elif . % $over == 0 then . /
      "8": "there is no trade of this name", "9": "there are too many of something, or a number is beyond its limit", "10": "a number is out of its range",
      "11": "the trade isn't one that the firm has there", "12": "an earlier row has the same bundle", "13": "the set has no number at the net count 0",
      "14": "the set crosses an earlier one", "15": "the number is below the middle of its two neighbours", "16": "the table doesn't meet the exchange property",
-     "17": "the trade is named twice in one list", "18": "the trade has no price"}[.fault | tostring];
+     "17": "the trade is named twice in one list", "18": "the trade has no price",
+     "19": "the denominator is out of its range", "20": "an earlier pair has the same purchase and sale"}[.fault | tostring];
   def way: if . == [] then "the document as a whole" else map(if type == "number" then "item \(.) (counted from 0)" else tostring end) | join(", then ") end;
   def failing($firm):
     "The two bundles of \($firm) to look at are x = \(.x | set) and y = \(.y | set), which are both possible.",
