@@ -1,5 +1,5 @@
-# The network of `drill SIZE START` as a document, drawn as docs/ANSWERS.md says; its trades are t0, t1 and so on. Needs jq
-# 1.6 or later, called without input:
+# The network of `drill SIZE START` as a document, drawn as docs/ANSWERS.md says; its trades are t0, t1 and so on. Beyond the 64
+# trades of `drill` it goes on in the same way, up to 128. Needs jq 1.6 or later, called without input:
 #   jq -n -c --argjson size 3 --argjson start 1 -f drill.jq
 
 def over($n): . / $n | floor;
@@ -23,7 +23,7 @@ reduce range($size) as $i ({state: $start, trades: []};
   def purchases($firm): [$trades[] | select(.buyer == $firm)];
   def laminar($own; $at; $from; $values):
     {kind: "laminar", amounts: ($own | map([.name, .numbers[$at]])), sets: [{trades: ($own | map(.name)), from: $from, values: $values}]};
-  {version: 1,
+  {version: (if $size > 64 then 2 else 1 end),
    firms: (
      [range(4) | "P\(.)" | {name: .} + laminar(sales(.); 0; -3; [-9, -4, -1, 0])]
      + [range(8) | "M\(.)" | {name: ., kind: "middleman",
