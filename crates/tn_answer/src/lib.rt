@@ -6,8 +6,6 @@ mod ranges;
 mod reasons;
 mod rows;
 mod states;
-#[cfg(test)]
-mod tests;
 mod text;
 mod values;
 mod words;

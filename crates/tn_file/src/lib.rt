@@ -4,16 +4,10 @@
 
 mod document;
 mod extra;
-#[cfg(test)]
-mod extra_tests;
-#[cfg(test)]
-mod kind_tests;
 mod laws;
 mod need;
 mod network;
 mod read;
-#[cfg(test)]
-mod tests;
 
 pub use document::{DocRefusal, Document, Loaded, RawNet};
 pub use extra::Extra;

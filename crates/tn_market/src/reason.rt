@@ -37,7 +37,7 @@ pub enum Reason {
     Exchange {
         /// The first firm that fails.
         firm: u32,
-        /// The trades of the first bundle of its first failing triple, ascending.
+        /// The trades, ascending, of the first bundle of the triple that its test finds first.
         x: Trades,
         /// The trades of the second bundle, ascending.
         y: Trades,

@@ -5,8 +5,6 @@
 mod name_list;
 mod names;
 mod rule;
-#[cfg(test)]
-mod tests;
 
 pub use names::Names;
 pub use rule::is_name;

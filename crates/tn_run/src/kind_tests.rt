@@ -59,12 +59,16 @@ fn takes_networks_up_to_the_limits(rt: HostRuntime) -> Result<(), Fail> {
     let none = b"{\"answer\":\"equilibrium\",\"surplus\":0}\n".as_slice();
     let limit =
         b"{\"answer\":\"fault\",\"fault\":9,\"name\":\"Limit\",\"place\":[\"trades\"]}\n".as_slice();
+    let firms_limit =
+        b"{\"answer\":\"fault\",\"fault\":9,\"name\":\"Limit\",\"place\":[\"firms\"]}\n".as_slice();
     for (version, firms, trades, status, text) in [
-        (1, 2, 64, 0, none),
+        (1, 32, 64, 0, none),
         (1, 4, 65, 1, limit),
-        (2, 4, 128, 0, none),
+        (1, 33, 64, 1, firms_limit),
+        (2, 64, 128, 0, none),
         (1, 4, 128, 1, limit),
         (2, 4, 129, 1, limit),
+        (2, 65, 128, 1, firms_limit),
     ] {
         let document = pairs(alloc, version, firms, trades)?;
         let (found, written) = run_on(alloc, "check", document.as_bytes())?;

@@ -12,6 +12,8 @@ mod judged_tests;
 #[cfg(test)]
 mod kind_tests;
 mod laws;
+#[cfg(test)]
+mod limit_tests;
 mod numbers;
 #[cfg(test)]
 mod ranged_tests;

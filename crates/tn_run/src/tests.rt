@@ -3,6 +3,7 @@
 use crate::{Run, run_market, run_steadily};
 use std::alloc::Global;
 use std::test::Fail;
+use tn_answer::no_memory_text;
 use tn_io::{MemorySink, MemorySource, SteadySink, SteadySource};
 
 /// One trade from S to B at the price 4, worth -3 and 5.
@@ -36,7 +37,7 @@ fn words_of(alloc: Global, text: &str) -> Result<Vec<String>, Fail> {
 pub(crate) fn run_on(alloc: Global, words: &str, document: &[u8]) -> Result<(u8, Vec<u8>), Fail> {
     let words = words_of(alloc, words)?;
     let mut source = SteadySource::new(document.to_vec(alloc)?, 100);
-    let mut sink = SteadySink::with_room(alloc, 4096, 10)?;
+    let mut sink = SteadySink::with_room(alloc, 65_536, 10)?;
     let run = run_steadily(alloc, &words, &mut source, &mut sink);
     let text = sink.written().ok_or("more than the room was written")?;
     Ok((run.status, text.to_vec(alloc)?))
@@ -68,6 +69,10 @@ fn answers_each_document(rt: HostRuntime) -> Result<(), Fail> {
         assert_eq!(rt; found, status);
         assert_eq!(rt; written.as_slice(), text.as_bytes());
     }
+    assert_eq!(rt;
+        no_memory_text(),
+        b"{\"answer\":\"no_memory\"}\n".as_slice()
+    );
     Ok(())
 }
 

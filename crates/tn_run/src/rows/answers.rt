@@ -235,4 +235,60 @@ test
 
 solve
 {"version":1,"firms":[{"name":"O1","kind":"table","rows":[[["a"],-4]]},{"name":"O2","kind":"table","rows":[[["b"],-6]]},{"name":"D","kind":"dealer","pairs":[["a","x",1],["a","y",3],["b","x",2],["b","y",1],["a","x",7]]},{"name":"X","kind":"table","rows":[[["x"],12]]},{"name":"Y","kind":"table","rows":[[["y"],9]]}],"trades":[{"name":"a","seller":"O1","buyer":"D"},{"name":"b","seller":"O2","buyer":"D"},{"name":"x","seller":"D","buyer":"X"},{"name":"y","seller":"D","buyer":"Y"}]}
-1 {"answer":"fault","fault":20,"name":"SamePair","place":["firms",2,"pairs",4]}"#;
+1 {"answer":"fault","fault":20,"name":"SamePair","place":["firms",2,"pairs",4]}
+
+test
+{"version":1,"firms":[{"name":"S","kind":"laminar"},{"name":"B","kind":"laminar"}],"trades":[{"name":"o1-d_2.X","seller":"S","buyer":"B"}]}
+0 {"answer":"accepted"}
+
+test
+{"version":1,"firms":[{"name":"S","kind":"laminar"},{"name":"B","kind":"laminar"}],"trades":[{"name":"0123456789abcdefghijklmnopqrstuv","seller":"S","buyer":"B"}]}
+0 {"answer":"accepted"}
+
+test
+{"version":1,"firms":[{"name":"S","kind":"laminar"},{"name":"B","kind":"laminar"}],"trades":[{"name":"a","seller":"S","buyer":"B"},{"name":"b","seller":"S","buyer":"B"},{"name":"c","seller":"B","buyer":"S"}]}
+0 {"answer":"accepted"}
+
+test
+{"version":1,"firms":[{"name":"S","kind":"laminar"},{"name":"B","kind":"laminar","amounts":[],"sets":[],"note":[]}],"trades":[{"name":"a","seller":"S","buyer":"B"},{"name":"b","seller":"S","buyer":"B"},{"name":"c","seller":"B","buyer":"S"}]}
+0 {"answer":"accepted"}
+
+test
+{"version":1,"firms":[{"name":"S","kind":"laminar"},{"name":"B","kind":"laminar","sets":[{"trades":["a","c","b"],"from":-32,"values":[0,0,0,0,0,0,0,0,0,0,0,0,0,0,0,0,0,0,0,0,0,0,0,0,0,0,0,0,0,0,0,0,0]}]}],"trades":[{"name":"a","seller":"S","buyer":"B"},{"name":"b","seller":"S","buyer":"B"},{"name":"c","seller":"B","buyer":"S"}]}
+0 {"answer":"accepted"}
+
+test
+{"version":1,"firms":[{"name":"S","kind":"laminar"},{"name":"B","kind":"laminar","sets":[{"trades":[],"from":0,"values":[0]},{"trades":["a","b"],"from":0,"values":[0,2,3]},{"trades":["b","a"],"from":0,"values":[0]},{"trades":["b"],"from":0,"values":[0,1]}]}],"trades":[{"name":"a","seller":"S","buyer":"B"},{"name":"b","seller":"S","buyer":"B"},{"name":"c","seller":"B","buyer":"S"}]}
+0 {"answer":"accepted"}
+
+test
+{"version":1,"firms":[{"name":"S","kind":"laminar"},{"name":"B","kind":"middleman"}],"trades":[{"name":"a","seller":"S","buyer":"B"},{"name":"b","seller":"S","buyer":"B"},{"name":"c","seller":"B","buyer":"S"}]}
+0 {"answer":"accepted"}
+
+test
+{"version":1,"firms":[{"name":"S","kind":"laminar"},{"name":"B","kind":"middleman","costs":[["a",1],["b",2]],"gains":[["c",3]],"keep":null}],"trades":[{"name":"a","seller":"S","buyer":"B"},{"name":"b","seller":"S","buyer":"B"},{"name":"c","seller":"B","buyer":"S"}]}
+0 {"answer":"accepted"}
+
+test
+{"version":1,"firms":[{"name":"S","kind":"laminar"},{"name":"B","kind":"middleman","costs":[],"keep":1000000000,"note":1}],"trades":[{"name":"a","seller":"S","buyer":"B"},{"name":"b","seller":"S","buyer":"B"},{"name":"c","seller":"B","buyer":"S"}]}
+0 {"answer":"accepted"}
+
+test
+{"version":1,"firms":[{"name":"S","kind":"laminar"},{"name":"B","kind":"dealer"}],"trades":[{"name":"a","seller":"S","buyer":"B"},{"name":"b","seller":"S","buyer":"B"},{"name":"c","seller":"B","buyer":"S"}]}
+0 {"answer":"accepted"}
+
+test
+{"version":1,"firms":[{"name":"S","kind":"laminar"},{"name":"B","kind":"dealer","pairs":[["b","c",-1000000000],["a","c",2]],"note":1}],"trades":[{"name":"a","seller":"S","buyer":"B"},{"name":"b","seller":"S","buyer":"B"},{"name":"c","seller":"B","buyer":"S"}]}
+0 {"answer":"accepted"}
+
+support
+{"version":1,"firms":[{"name":"S","kind":"table","rows":[[["a"],-3]]},{"name":"B","kind":"table","rows":[[["a"],5]]}],"trades":[{"name":"a","seller":"S","buyer":"B"}],"arrangement":{"on":["a"],"prices":1}}
+0 {"answer":"prices","prices":[["a",..]]}
+
+support
+{"version":1,"firms":[{"name":"S","kind":"table","rows":[[["a"],-3]]},{"name":"B","kind":"table","rows":[[["a"],5]]}],"trades":[{"name":"a","seller":"S","buyer":"B"}],"arrangement":{"on":["a"],"prices":[["z"]]}}
+0 {"answer":"prices","prices":[["a",..]]}
+
+support
+{"version":1,"firms":[{"name":"S","kind":"table","rows":[[["a"],-3]]},{"name":"B","kind":"table","rows":[[["a"],5]]}],"trades":[{"name":"a","seller":"S","buyer":"B"}],"arrangement":{"on":["a","a"]}}
+1 {"answer":"fault","fault":17,"name":"SameTrade","place":["arrangement","on",1]}"#;

@@ -246,4 +246,16 @@ check
 
 check
 {"version":1,"firms":[{"name":"S","kind":"table","rows":[[["a"],-3]]},{"name":"B","kind":"table","rows":[[["a"],5]]}],"trades":[{"name":"a","seller":"S","buyer":"B"}],"arrangement":{"on":[],"prices":[1]}}
-1 {"answer":"fault","fault":3,"name":"Shape","place":["arrangement","prices",0]}"#;
+1 {"answer":"fault","fault":3,"name":"Shape","place":["arrangement","prices",0]}
+
+test
+{"version":1,"firms":[{"name":"S","kind":"laminar"},{"name":"B","kind":"laminar"}],"trades":[{"name":"","seller":"S","buyer":"B"}]}
+1 {"answer":"fault","fault":4,"name":"BadName","place":["trades",0,"name"]}
+
+test
+{"version":1,"firms":[{"name":"S","kind":"laminar"},{"name":"B","kind":"laminar"}],"trades":[{"name":"é","seller":"S","buyer":"B"}]}
+1 {"answer":"fault","fault":4,"name":"BadName","place":["trades",0,"name"]}
+
+test
+{"version":1,"firms":[{"name":"S","kind":"laminar"},{"name":"B","kind":"laminar"}],"trades":[{"name":"0123456789abcdefghijklmnopqrstuvw","seller":"S","buyer":"B"}]}
+1 {"answer":"fault","fault":4,"name":"BadName","place":["trades",0,"name"]}"#;
