@@ -1,22 +1,25 @@
 #!/usr/bin/env python3
 """Random documents for the built program, and every answer held to something else.
 
-    tools/fuzz.py [PROGRAM] [--seed N] [--documents N] [--seconds N] [--keep FOLDER]
+    tools/fuzz.py [PROGRAM] [--quick] [--seed N] [--documents N] [--seconds N] [--keep FOLDER]
 
 A third of the documents are drawn: small networks of all four kinds of firms. A third are examples with a few changes,
 and a third are either of these with changes that a reader has to refuse. Each command is asked of each document. Answers
 are compared with what Python finds by trying all bundles and all sets of trades; those that can be claims are put back and
 have to be valid, and with another number they must not be. Whatever is answered, the status has to be its own, and nothing
 but one line may be written. What isn't confirmed is kept in FOLDER, and ends the run with status 1.
+
+With --quick one command is asked of a document, and its answer is held to the program alone, which is many times as fast:
+claims to `replay`, what is solved to `check`, ranges to `check` at their ends and beyond them, and a state of a session to
+`check` on the trades it admits.
 """
 import argparse
 import collections
-import copy
 import csv
 import json
+import os
 import pathlib
 import random
-import subprocess
 import sys
 import time
 
@@ -42,19 +45,31 @@ class Program:
     """The program, and how often it gave which answer to which command."""
 
     def __init__(self, path):
-        self.path, self.counts, self.runs = path, collections.Counter(), 0
+        self.path, self.counts, self.runs = str(path), collections.Counter(), 0
+        self.ends = [os.memfd_create(name) for name in ("input", "output", "errors")]
+
+    def start(self, words, text):
+        """The status of a run on a text, with what it wrote: by posix_spawn over files in memory, which is quick."""
+        for end in self.ends:
+            os.ftruncate(end, 0)
+            os.lseek(end, 0, os.SEEK_SET)
+        os.pwrite(self.ends[0], text, 0)
+        ends = [(os.POSIX_SPAWN_DUP2, end, k) for k, end in enumerate(self.ends)]
+        child = os.posix_spawn(self.path, [self.path, *words.split()], {}, file_actions=ends)
+        status = os.waitstatus_to_exitcode(os.waitpid(child, 0)[1])
+        return status, *(os.pread(end, os.fstat(end).st_size, 0) for end in self.ends[1:])
 
     def run(self, words, text):
-        run = subprocess.run([self.path, *words.split()], input=text, capture_output=True, close_fds=False)
+        status, output, errors = self.start(words, text)
         self.runs += 1
-        want(run.stderr == b"", "text on standard error", words, run.stderr)
-        if run.stdout.startswith(b"trade,on,price\n"):
-            want(run.returncode == 0, "the status of rows", words, run.returncode)
+        want(errors == b"", "text on standard error", words, errors)
+        if output.startswith(b"trade,on,price\n"):
+            want(status == 0, "the status of rows", words, status)
             self.counts[words, "rows"] += 1
-            return run.stdout.decode()
-        want(run.stdout.endswith(b"\n") and run.stdout.count(b"\n") == 1, "not one line", words, run.stdout)
-        answer = json.loads(run.stdout)
-        want(run.returncode == STATUS.get(answer["answer"], 0), "the status", words, answer, run.returncode)
+            return output.decode()
+        want(output.endswith(b"\n") and output.count(b"\n") == 1, "not one line", words, output)
+        answer = json.loads(output)
+        want(status == STATUS.get(answer["answer"], 0), "the status", words, answer, status)
         self.counts[words, answer["answer"]] += 1
         return answer
 
@@ -431,12 +446,18 @@ def hold_range(program, document, network, draw):
     for k, entry in enumerate(said["ranges"]):
         wanted = {"trade": network.names[k], "low": None if least[k][null] is None else -least[k][null], "high": least[null][k]}
         want({**entry, **wanted} == entry, "a range", entry, wanted)
+    wanted = {"answer": "equilibrium", "surplus": network.greatest(network.all)}
+    hold_ends(said["ranges"], wanted, draw, lambda prices: hold_check(program, document, network, on, prices))
+
+
+def hold_ends(ranges, wanted, draw, check):
     for side, beyond in (("low", -1), ("high", 1)):
-        prices = {entry["trade"]: entry[side] for entry in said["ranges"]}
+        prices = {entry["trade"]: entry[side] for entry in ranges}
         if prices and None not in prices.values():
-            hold_check(program, document, network, on, prices, answer="equilibrium", surplus=network.greatest(network.all))
-            prices[draw.choice(network.names)] += beyond
-            want(hold_check(program, document, network, on, prices)["answer"] == "better", "a price beyond its range", said, prices)
+            at = check(prices)
+            want({**at, **wanted} == at, "the ends of ranges", prices, at)
+            prices[draw.choice([*prices])] += beyond
+            want(check(prices)["answer"] == "better", "a price beyond its range", prices)
 
 
 def hold_session(program, document, network):
@@ -518,14 +539,70 @@ def hold_all(program, document, draw):
     hold_range(program, document, network, draw)
 
 
-def hold_refusals(program, document, draw):
-    """Asks every command of a text that may be anything: each answer has its status and is one line."""
+def quick_check(program, document, on, prices):
+    return program.ask("check", document, arrangement={"on": on, "prices": [*map(list, prices.items())]})
+
+
+def hold_state(program, document, states, draw):
+    """One of the states is an equilibrium of the network with the trades that it admits alone."""
+    want(len(states) == len(document["edits"]), "the count of states", states)
+    if states:
+        last, admitted = draw.randrange(len(states)), set()
+        for word, name in document["edits"][:last + 1]:
+            (admitted.add if word == "admit" else admitted.discard)(name)
+        state, prices = states[last], dict(states[last]["prices"])
+        said = quick_check(program, restricted(document, admitted), state["on"], prices)
+        want(said == {"answer": "equilibrium", "surplus": state["surplus"]}, "a state", state, said)
+
+
+def restricted(document, admitted):
+    """The document's network with these trades alone."""
+    def some(entries, count=1):
+        return [entry for entry in entries if admitted.issuperset(entry[:count])]
+
+    firms = []
+    for firm in document["firms"]:
+        firm = {member: some(value) if member in ("amounts", "costs", "gains") else value for member, value in firm.items()}
+        if "rows" in firm:
+            firm["rows"] = [row for row in firm["rows"] if admitted.issuperset(row[0])]
+        if "pairs" in firm:
+            firm["pairs"] = some(firm["pairs"], 2)
+        if "sets" in firm:
+            firm["sets"] = [{**part, "trades": [t for t in part["trades"] if t in admitted]} for part in firm["sets"]]
+        firms.append(firm)
+    return {**document, "firms": firms, "trades": [trade for trade in document["trades"] if trade["name"] in admitted]}
+
+
+def hold_quickly(program, document, draw):
+    """Asks one command of a document."""
+    add_parts(draw, document, [], {})
+    words = draw.choice(("check", "test", "support", "solve", "solve --csv", "judge", "range", "session"))
+    said = program.ask(words, document)
+    if isinstance(said, str):
+        rows = list(csv.reader(said.splitlines()))[1:]
+        on, prices = [name for name, is_on, _ in rows if is_on == "1"], {name: int(price) for name, _, price in rows}
+        want(quick_check(program, document, on, prices)["answer"] == "equilibrium", "rows", said)
+    elif said["answer"] == "fault":
+        hold_place(document, said)
+    elif words == "session":
+        hold_state(program, document, said["edits"], draw)
+    elif words == "range":
+        hold_ends(said["ranges"], {"answer": "equilibrium"}, draw, lambda prices: quick_check(program, document, said["on"], prices))
+    else:
+        hold_claim(program, document, said)
+        if words == "solve":
+            found = quick_check(program, document, said["on"], dict(said["prices"]))
+            want(found == {"answer": "equilibrium", "surplus": said["surplus"]}, "what is solved", said, found)
+
+
+def hold_refusals(program, document, draw, commands=4):
+    """Asks some commands of a text that may be anything: each answer has its status and is one line."""
     for _ in range(draw.randint(1, 3)):
         change(draw, document, small=False)
     text = json.dumps(document, ensure_ascii=draw.random() < 0.5).encode()
     if draw.random() < 0.3:
         text = spoil(draw, text)
-    for words in draw.sample(COMMANDS, 4):
+    for words in draw.sample(COMMANDS, commands):
         said = program.run(words, text)
         if isinstance(said, dict) and said["answer"] == "fault" and said["fault"] > 2:
             hold_place(json.loads(text), said)
@@ -536,7 +613,7 @@ def hold_refusals(program, document, draw):
 def make(draw, examples):
     """A document, and whether it is one to be refused."""
     turn = draw.randrange(3)
-    document = draw_document(draw) if turn == 0 or draw.random() < 0.3 else copy.deepcopy(draw.choice(examples))
+    document = draw_document(draw) if turn == 0 or draw.random() < 0.3 else json.loads(draw.choice(examples))
     if turn:
         for _ in range(draw.randint(1, 3)):
             change(draw, document, small=True)
@@ -556,20 +633,25 @@ def keep(folder, seed, k, document, error):
 def main():
     parser = argparse.ArgumentParser(description=__doc__.splitlines()[0])
     parser.add_argument("program", nargs="?", default=HOME / "crates/market/out/market")
+    parser.add_argument("--quick", action="store_true")
     parser.add_argument("--seed", type=int, default=1)
     parser.add_argument("--documents", type=int, default=1000)
     parser.add_argument("--seconds", type=float, default=float("inf"))
     parser.add_argument("--keep", type=pathlib.Path, default=pathlib.Path("unconfirmed"))
     options = parser.parse_args()
-    examples = [json.loads(path.read_text()) for path in sorted((HOME / "examples").glob("*.json"))]
+    examples = [path.read_text() for path in sorted((HOME / "examples").glob("*.json"))]
     program, begun, failed, done = Program(options.program), time.monotonic(), 0, 0
+    hold, commands = (hold_quickly, 1) if options.quick else (hold_all, 4)
     for k in range(options.documents):
         if time.monotonic() - begun > options.seconds:
             break
         draw = random.Random(f"{options.seed}-{k}")  # so that each document can be made again alone
         document, is_refused = make(draw, examples)
         try:
-            (hold_refusals if is_refused else hold_all)(program, document, draw)
+            if is_refused:
+                hold_refusals(program, document, draw, commands)
+            else:
+                hold(program, document, draw)
         except Exception as error:
             failed += 1
             keep(options.keep, options.seed, k, document, error)
