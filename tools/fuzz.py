@@ -45,7 +45,7 @@ class Program:
     """The program, and how often it gave which answer to which command."""
 
     def __init__(self, path):
-        self.path, self.counts, self.runs = str(path), collections.Counter(), 0
+        self.path, self.environment, self.counts, self.runs = str(path), {}, collections.Counter(), 0
         self.ends = [os.memfd_create(name) for name in ("input", "output", "errors")]
 
     def start(self, words, text):
@@ -55,7 +55,7 @@ class Program:
             os.lseek(end, 0, os.SEEK_SET)
         os.pwrite(self.ends[0], text, 0)
         ends = [(os.POSIX_SPAWN_DUP2, end, k) for k, end in enumerate(self.ends)]
-        child = os.posix_spawn(self.path, [self.path, *words.split()], {}, file_actions=ends)
+        child = os.posix_spawn(self.path, [self.path, *words.split()], self.environment, file_actions=ends)
         status = os.waitstatus_to_exitcode(os.waitpid(child, 0)[1])
         return status, *(os.pread(end, os.fstat(end).st_size, 0) for end in self.ends[1:])
 
@@ -656,6 +656,8 @@ def main():
             failed += 1
             keep(options.keep, options.seed, k, document, error)
         done += 1
+        if done % 10_000 == 0:
+            print(f"{done} documents, {failed} not confirmed", file=sys.stderr, flush=True)
     for (words, answer), count in sorted(program.counts.items()):
         print(f"{words}\t{answer}\t{count}")
     print(f"seed {options.seed}: {done} documents, {program.runs} runs, {failed} not confirmed, {time.monotonic() - begun:.0f} s")
