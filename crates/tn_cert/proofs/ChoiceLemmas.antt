@@ -21,7 +21,7 @@ use Rattle.tn_market.proofs.MarketLemmas.{own_stands}
 use Rattle.tn_network.proofs.PartLemmas.{at_place, at_place-is, gain_by, own_contract, own_once, paid_for, part_paid, traded_at, traded_by}
 use Rattle.tn_network.proofs.StabilityLemmas.{no_gains, own_is_of}
 use Rattle.tn_outcome.proofs.RationalLemmas.{between_signed, inside_signed}
-use Rattle.tn_cert.specs.Greatest.{Avoids, IsGreatest}
+use Rattle.tn_cert.specs.Greatest.{LeavesOut, IsGreatest}
 use Rattle.tn_cert.specs.Terms.{is_bought, IsAsGood, IsOffered, HasTerms}
 
 -- a firm of a network
@@ -132,7 +132,7 @@ at_terms firms trades f firm chooser contracts left_out free list holds k contra
 
 -- the bundle of a part has free positions alone
 part_free : (firms : List Firm) (trades : List Ends) (f : ℕ) (firm : Firm) → IsChooser firms trades f firm → (contracts : List Contract) (left_out : Option ℕ) (free : ℕ) (list : List ℤ)
-    → HasTerms trades contracts left_out f firm.count free list → (x : ℕ) → IsPart trades f contracts x → Avoids left_out x → IsSubset (bundle_by trades f firm.count contracts x) free
+    → HasTerms trades contracts left_out f firm.count free list → (x : ℕ) → IsPart trades f contracts x → LeavesOut left_out x → IsSubset (bundle_by trades f firm.count contracts x) free
 part_free firms trades f firm chooser contracts left_out free list holds x signs avoids = λ k there.
     let below = has_below (bundle_by trades f firm.count contracts x) firm.count k (set_of_within (λ i. is_traded contracts x (own trades f i) (length contracts)) firm.count) there in
     let traded = sym (ap (λ (b : Bool). b && is_traded contracts x (own trades f k) (length contracts)) (lt-ltb k firm.count below))
@@ -143,7 +143,7 @@ part_free firms trades f firm chooser contracts left_out free list holds x signs
     ap (has free) (sym same) ∙ terms.is_free
 
 part_at_most : (firms : List Firm) (trades : List Ends) (scale : ℤ) (f : ℕ) (firm : Firm) → IsChooser firms trades f firm → (contracts : List Contract) (left_out : Option ℕ) (free : ℕ) (list : List ℤ)
-    → HasTerms trades contracts left_out f firm.count free list → (x : ℕ) → IsPart trades f contracts x → Avoids left_out x → (u : ℤ)
+    → HasTerms trades contracts left_out f firm.count free list → (x : ℕ) → IsPart trades f contracts x → LeavesOut left_out x → (u : ℤ)
     → part_utility trades scale f firm contracts x ≡ Some u
     → (v : ℤ) × (utility_at trades scale (term_price trades f list) f firm (bundle_by trades f firm.count contracts x) ≡ Some v) × (u ≤ℤ v)
 part_at_most firms trades scale f firm chooser contracts left_out free list holds x signs avoids u is =

@@ -20,7 +20,7 @@ use Rattle.tn_market.specs.declared.ends.Ends.{Ends}
 use Rattle.tn_market.specs.Lawful.{IsLawful}
 use Rattle.tn_market.specs.Network.{own, trades_of, trades_on}
 use Rattle.tn_price.proofs.JudgeLemmas.{firm_is}
-use Rattle.tn_cert.specs.Reasons.{IsFirstToFail}
+use Rattle.tn_cert.specs.Reasons.{MeetBefore, IsFirstToFail}
 
 -- only bundles of own trades have a worth, whatever the kind
 raw_own_bundles : (raw : RawFirm) → HasOwnBundles (raw_firm_of raw)
@@ -38,10 +38,7 @@ none_fails_of_kind raw (inl (firm, is)) = subst (λ (it : RawFirm). NoneFails (r
 none_fails_of_kind raw (inr (inl (firm, is))) = subst (λ (it : RawFirm). NoneFails (raw_firm_of it)) (sym is) (none_fails_lawful _ (firm_laws (MiddleValue firm)))
 none_fails_of_kind raw (inr (inr (firm, is))) = subst (λ (it : RawFirm). NoneFails (raw_firm_of it)) (sym is) (none_fails_lawful _ (firm_laws (DealerValue firm)))
 
--- each firm before f meets exchange
-abbrev pub MeetBefore : List Firm → ℕ → Type 0
-MeetBefore firms f = (g : ℕ) (firm : Firm) → g < f → slice_get firms g ≡ Some firm → MeetsExchange firm
-
+-- each firm before the next one meets exchange, where this one has no failing triple
 pub one_more_meets : (firms : List RawFirm) (f : ℕ) (raw : RawFirm) → slice_get firms f ≡ Some raw → NoneFails (raw_firm_of raw)
     → MeetBefore (map raw_firm_of firms) f → MeetBefore (map raw_firm_of firms) (f + 1)
 one_more_meets firms f raw there holds before g firm below is = elim (cases_eq g f) [

@@ -10,12 +10,12 @@ use Rattle.tn_market.specs.declared.contract.Contract.{Contract}
 use Rattle.tn_market.specs.declared.ends.Ends.{Ends}
 use Rattle.tn_market.specs.Choices.{is_of, is_end, IsChoice}
 use Rattle.tn_cert.specs.Least.{earlier}
-use Rattle.tn_cert.specs.Greatest.{Avoids, IsGreatest, MayLeave, DecidesLeave, DecidesOwn, FindsLeft}
+use Rattle.tn_cert.specs.Greatest.{LeavesOut, IsGreatest, MayLeave, DecidesLeave, DecidesOwn, FindsLeft}
 use Rattle.tn_cert.proofs.LeastLemmas.{FindsLeast, least_none, least_passes, least_fails}
 
 -- ---- one contract
 
-nothing_out : (x : ℕ) → Avoids None x
+nothing_out : (x : ℕ) → LeavesOut None x
 nothing_out x = λ k member same. cc same
 
 -- with and without a contract the greatest utility is the same: a choice lacks it
@@ -41,7 +41,7 @@ takes : (trades : List Ends) (scale : ℤ) (f : ℕ) (firm : Firm) (contracts : 
 takes trades scale f firm contracts k best other greatest without apart x choice = elim (cases_Bool (has x k)) [
   | inl there ↦ there
   | inr away ↦
-      let lacks : Avoids (Some k) x = λ j member same. true≢false (sym member ∙ ap (has x) (sym (same_Some k j same)) ∙ away) in
+      let lacks : LeavesOut (Some k) x = λ j member same. true≢false (sym member ∙ ap (has x) (sym (same_Some k j same)) ∙ away) in
       let high = without.most x choice.value choice.part lacks choice.is in
       let most = choice.most greatest.part best greatest.signs greatest.is in
       let low = greatest.most without.part other without.signs (nothing_out without.part) without.is in

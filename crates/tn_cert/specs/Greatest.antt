@@ -9,16 +9,16 @@ use Rattle.tn_market.specs.Choices.{is_of, part_utility, IsPart, IsChoice}
 use Rattle.tn_cert.specs.Reasons.{IsContractOf, NoneIsSigned, IsFirstSigned, IsInEveryChoice, IsFirstToLeave}
 
 -- a part lacks the contract that is left out
-abbrev pub Avoids : Option ℕ → ℕ → Type 0
-Avoids left_out x = (k : ℕ) → has x k ≡ true → left_out ≢ Some k
+abbrev pub LeavesOut : Option ℕ → ℕ → Type 0
+LeavesOut left_out x = (k : ℕ) → has x k ≡ true → left_out ≢ Some k
 
 -- firm f has this utility by a part without the contract that is left out, and by no such part more
 pub record IsGreatest (trades : List Ends) (scale : ℤ) (f : ℕ) (firm : Firm) (contracts : List Contract) (left_out : Option ℕ) (value : ℤ) : Type 0 where
   pub part : ℕ
   pub signs : IsPart trades f contracts part
-  pub avoids : Avoids left_out part
+  pub avoids : LeavesOut left_out part
   pub is : part_utility trades scale f firm contracts part ≡ Some value
-  pub most : (y : ℕ) (other : ℤ) → IsPart trades f contracts y → Avoids left_out y → part_utility trades scale f firm contracts y ≡ Some other → other ≤ℤ value
+  pub most : (y : ℕ) (other : ℤ) → IsPart trades f contracts y → LeavesOut left_out y → part_utility trades scale f firm contracts y ≡ Some other → other ≤ℤ value
 
 -- some choice of firm f lacks the contract with index k
 pub record MayLeave (trades : List Ends) (scale : ℤ) (f : ℕ) (firm : Firm) (contracts : List Contract) (k : ℕ) : Type 0 where

@@ -143,9 +143,13 @@ RefutesBlocks firms trades outcome offers e (Signed t) = IsFirstSigned outcome e
 RefutesBlocks firms trades outcome offers e (Choice f t) = (0 < length offers) × NoneIsSigned outcome e offers × IsFirstToLeave firms trades outcome e offers f t
 RefutesBlocks firms trades outcome offers e reason = ⊥
 
+-- each firm before f meets exchange
+abbrev pub MeetBefore : List Firm → ℕ → Type 0
+MeetBefore firms f = (g : ℕ) (firm : Firm) → g < f → slice_get firms g ≡ Some firm → MeetsExchange firm
+
 -- firm f is the first that fails exchange, with its first triple in trade numbers
 pub record IsFirstToFail (firms : List Firm) (trades : List Ends) (f : ℕ) (x y : List ℕ) (at : Option ℕ) : Type 0 where
-  pub before : (g : ℕ) (firm : Firm) → g < f → slice_get firms g ≡ Some firm → MeetsExchange firm
+  pub before : MeetBefore firms f
   pub firm : Firm
   pub is : slice_get firms f ≡ Some firm
   pub triple : Triple

@@ -214,7 +214,7 @@ pub rational_outcome : {V : Type 0} (firm_of : V → Firm) (items : List V) (tra
 rational_outcome firm_of items trades over contracts network own_bundles one net outcome rational = record {
   network = network;
   meet = meet_all firm_of items own_bundles one net;
-  from_one = outcome.from_one;
+  from_one = outcome.least;
   feasible = outcome_feasible trades over contracts outcome;
   rational = rational;
 }

@@ -39,7 +39,7 @@ pub signed_below : (trades : List Ends) (over : ℤ) (contracts : List Contract)
 signed_below trades over contracts outcome t signed =
     let found = contract_on contracts t signed in
     let below = subst (λ (z : Contract). z.trade < length trades) (get_or_from_slice_get contracts found.place found.contract found.contract found.is)
-    (outcome.known found.place found.contract (slice_get_within contracts found.place found.contract found.is)) in
+    (outcome.contracts.known found.place found.contract (slice_get_within contracts found.place found.contract found.is)) in
     let same = found.trade in
     omega (arith, below, same)
 

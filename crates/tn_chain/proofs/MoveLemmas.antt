@@ -178,11 +178,11 @@ pub reduced_small : (trades : List Ends) (over : ℤ) (contracts : List Contract
 reduced_small trades over contracts f firm outcome few within x a is =
     let found = adding_one (signed_bundle trades contracts f firm) (plus_sum over (payments firm.buys (prices_at trades (signed_price contracts) f)) firm) x a is in
     let worth = option_map-some (λ w. over *ℤ w +ℤ sum_over (payments firm.buys (prices_at trades (signed_price contracts) f)) firm.count found.0) (firm.worth found.0) a found.2 in
-    let low = outcome.from_one in
-    let high = outcome.small_over in
+    let low = outcome.least in
+    let high = outcome.most in
     let product = times_small over worth.0 100 (10 ^ 11) (record { low = omega (arith, ints, low); high = high }) (within found.0 worth.0 worth.1) in
     let sum = sum_over_small (payments firm.buys (prices_at trades (signed_price contracts) f)) firm.count found.0 (10 ^ 11)
-    (λ k below. payment_small firm.buys (prices_at trades (signed_price contracts) f) k (10 ^ 11) (price_small contracts outcome.small (own trades f k))) in
+    (λ k below. payment_small firm.buys (prices_at trades (signed_price contracts) f) k (10 ^ 11) (price_small contracts outcome.contracts.small (own trades f k))) in
     let many = mul-le firm.count (10 ^ 11) 32 (10 ^ 11) few (omega arith) in
     together (over *ℤ worth.0) _ a (firm.count * 10 ^ 11) product sum many worth.2
   where

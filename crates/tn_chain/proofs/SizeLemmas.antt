@@ -20,7 +20,7 @@ use Rattle.tn_market.specs.Choices.{IsFeasible}
 use Rattle.tn_market.specs.Limits.{IsOutcomeOf}
 use Rattle.tn_market.specs.Traded.{Traded}
 use Rattle.tn_market.specs.Signed.{is_signed, signed}
-use Rattle.tn_flow.specs.Solved.{ArePricesWithin}
+use Rattle.tn_flow.specs.Solved.{AreSmallPrices}
 use Rattle.tn_outcome.proofs.SignedLemmas.{signed_by}
 use Rattle.tn_residual.specs.Residual.{residual_limit, residual_of, residual_trades, unsigned, unsigned_from, halves_from}
 use Rattle.tn_residual.proofs.MakingLemmas.{halves_few, outcome_feasible}
@@ -102,7 +102,7 @@ made_small over g trades contracts feasible few_trades low high =
     ]
 
 -- a price of a list of small prices
-pub price_small : (prices : List ℤ) (bound : ℕ) → ArePricesWithin bound prices → bound < 10 ^ 18 → (t : ℕ) → IsAtMost (price_at prices t) (10 ^ 18 - 1)
+pub price_small : (prices : List ℤ) (bound : ℕ) → AreSmallPrices bound prices → bound < 10 ^ 18 → (t : ℕ) → IsAtMost (price_at prices t) (10 ^ 18 - 1)
 price_small prices bound small below t = elim (slice_get_cases prices t).1 [
   | inl found ↦ wider (get_or prices t (pos 0)) (small t (pos 0) found.1)
   | inr past ↦ subst (λ (z : ℤ). IsAtMost z (10 ^ 18 - 1)) (sym (get_or_past prices t (pos 0) past.0)) (record { low = omega (arith, ints); high = omega (arith, ints) })
@@ -145,7 +145,7 @@ is_residual {P} firm_of limit_of firms count trades over contracts scale count_i
       let most = made_few (length firms) trades contracts feasible in
       omega (arith, size_is, most, few_trades);
   small = subst (λ (ts : List Ends). 2 * residual_limit (over *ℤ chain_scale (length trades) contracts) * (length ts + 1) < 10 ^ 18) (sym all_ends)
-      (made_small over (length firms) trades contracts feasible few_trades outcome.from_one outcome.small_over);
+      (made_small over (length firms) trades contracts feasible few_trades outcome.least outcome.most);
 }
   where
     feasible : IsFeasible trades contracts

@@ -11,7 +11,7 @@ use Rattle.tn_market.specs.Network.{IsNetwork}
 use Rattle.tn_market.specs.Best.{price_at}
 use Rattle.tn_market.specs.Choices.{IsFeasible}
 use Rattle.tn_market.specs.Traded.{Traded}
-use Rattle.tn_flow.specs.Solved.{Solution, IsSolution, ArePricesWithin}
+use Rattle.tn_flow.specs.Solved.{Solution, IsSolution, AreSmallPrices}
 use Rattle.tn_residual.specs.Residual.{residual_limit, unsigned}
 use Rattle.tn_residual.proofs.TradeLemmas.{free_count}
 use Rattle.tn_residual.proofs.PositionLemmas.{Setting, made, parties}
@@ -36,7 +36,7 @@ pub solved_among : {P : Type 0} (firm_of : P → Firm) (limit_of : P → ℕ) (f
     (allowed free numbers all : ℕ) (solution : Solution) → IsNetwork firms trades → IsFeasible trades contracts → ((f : ℕ) (firm : Firm) → slice_get firms f ≡ Some firm → HasOwnBundles firm)
     → IsResidual firm_of limit_of firms trades over contracts residual → free ≡ size (unsigned (length trades) contracts) → AreNumbers contracts allowed (length trades) numbers
     → AreNumbersUpTo numbers free (length residual.trades) all → IsSolution (map firm_of residual.firms) residual.trades all solution
-    → ((bound : ℕ) → ((f : ℕ) (party : P) → slice_get residual.firms f ≡ Some party → limit_of party ≤ bound) → ArePricesWithin (2 * bound * length residual.trades) solution.prices)
+    → ((bound : ℕ) → ((f : ℕ) (party : P) → slice_get residual.firms f ≡ Some party → limit_of party ≤ bound) → AreSmallPrices (2 * bound * length residual.trades) solution.prices)
     → IsSolvedAmong firms trades over contracts allowed solution
 solved_among firm_of limit_of firms trades over contracts residual allowed free numbers all solution network feasible own_bundles is_residual free_size are up is_solution within =
     let z : Setting = record {

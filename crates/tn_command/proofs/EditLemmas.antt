@@ -11,7 +11,7 @@ use Rattle.tn_market.specs.declared.session.Edit.{Edit}
 use Rattle.tn_market.specs.declared.session.Edit.TheVariants.{Admit, Bar}
 use Rattle.tn_market.specs.declared.session.State.{State}
 use Rattle.tn_market.specs.Traded.{Traded}
-use Rattle.tn_flow.specs.Solved.{ArePricesWithin, IsSolution}
+use Rattle.tn_flow.specs.Solved.{AreSmallPrices, IsSolution}
 use Rattle.tn_session.specs.Standing.{HasSmallPrices, HoldsEquilibrium, Standing}
 use Rattle.std.proofs.lemmas.List.Elements.{All-append, All-cons, All-nil}
 use Rattle.tn_market.specs.declared.contract.Contract.{Contract}
@@ -37,7 +37,7 @@ stands_from firms trades test session market admitted_are equilibrium small = re
   market = market;
   admitted_are = admitted_are;
   equilibrium = subst (λ (m : Traded FirmValue). IsSolution (map firm_of m.firms) m.trades session.admitted session.solution) market equilibrium;
-  small = subst (λ (m : Traded FirmValue). ArePricesWithin (2 * 10 ^ 11 * length m.trades) session.solution.prices) market (small (10 ^ 11) (λ f value is. omega arith));
+  small = subst (λ (m : Traded FirmValue). AreSmallPrices (2 * 10 ^ 11 * length m.trades) session.solution.prices) market (small (10 ^ 11) (λ f value is. omega arith));
 }
 
 -- ---- one more edit

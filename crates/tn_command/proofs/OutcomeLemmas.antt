@@ -56,10 +56,10 @@ part_small : (trades : List Ends) (over : ℤ) (f : ℕ) (firm : Firm) (contract
     → part_utility trades over f firm contracts x ≡ Some value → IsAtMost value (10 ^ 14)
 part_small trades over f firm contracts x value outcome few worths is =
     let worth = option_map-some (λ a. over *ℤ a +ℤ sum_over (payment trades f contracts) (length contracts) x) (firm.worth (bundle_by trades f firm.count contracts x)) value is in
-    let least = outcome.from_one in
-    let most = outcome.small_over in
+    let least = outcome.least in
+    let most = outcome.most in
     let scaled = times_small over worth.0 100 (10 ^ 11) (record { low = omega (arith, ints, least); high = omega (arith, ints, most) }) (worths (bundle_by trades f firm.count contracts x) worth.0 worth.1) in
-    let paid = sum_over_small (payment trades f contracts) (length contracts) x (10 ^ 11) (λ k below. payment_small trades f contracts (10 ^ 11) k outcome.small) in
+    let paid = sum_over_small (payment trades f contracts) (length contracts) x (10 ^ 11) (λ k below. payment_small trades f contracts (10 ^ 11) k outcome.contracts.small) in
     let count = contracts_few trades over contracts outcome in
     let total = worth.2 in
     record {
@@ -97,7 +97,7 @@ drop_keeps firms trades over contracts f x gain keeps first are =
 pub blocking_over_small : (firms : List Firm) (trades : List Ends) (over : ℤ) (contracts offers : List Contract) (told : ℤ) → IsOutcomeOf trades over contracts → length trades ≤ 128
     → IsBlockedBy firms trades over contracts offers told → IsAtMost told (10 ^ 18)
 blocking_over_small firms trades over contracts offers told outcome few blocked =
-    let small = scale_bound over (length trades) contracts few outcome.from_one outcome.small_over in
+    let small = scale_bound over (length trades) contracts few outcome.least outcome.most in
     let same = blocked.over_is in
     record { low = omega (arith, ints, same, small.low); high = omega (arith, ints, same, small.high) }
 

@@ -4,7 +4,7 @@ use Rattle.tn_base.specs.Firm.{Firm}
 use Rattle.tn_base.specs.Sets.{has}
 use Rattle.tn_firm.specs.declared.value.FirmValue.{FirmValue}
 use Rattle.tn_firm.specs.Firms.{firm_of}
-use Rattle.tn_flow.specs.Solved.{ArePricesWithin, IsSolution}
+use Rattle.tn_flow.specs.Solved.{AreSmallPrices, IsSolution}
 use Rattle.tn_session.specs.Standing.{Standing}
 use Rattle.tn_market.specs.declared.ends.Ends.{Ends}
 use Rattle.tn_market.specs.declared.session.Edit.{Edit}
@@ -56,4 +56,4 @@ pub record StandsWhere (firms : List FirmValue) (trades : List Ends) (test : ℕ
   pub market : session.market ≡ record { firms = firms; trades = trades }
   pub admitted_are : (t : ℕ) → has session.admitted t ≡ test t
   pub equilibrium : IsSolution (map firm_of firms) trades session.admitted session.solution
-  pub small : ArePricesWithin (2 * 10 ^ 11 * length trades) session.solution.prices
+  pub small : AreSmallPrices (2 * 10 ^ 11 * length trades) session.solution.prices

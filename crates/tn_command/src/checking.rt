@@ -1,37 +1,17 @@
 //! The answer of `check`.
 
-ghost use Rattle.std.specs.Prelude.{◌≡◌, ◌^◌, ◌<◌, ◌≤◌, pos, All, IfOk, length, map, slice_get, Some};
+ghost use Rattle.std.specs.Prelude.{◌≡◌, ◌^◌, ◌≤◌, pos, All, IfOk, length, map};
 ghost use Rattle.tn_answer.specs.Kept.{IsWithinClaims};
 ghost use Rattle.tn_base.specs.Arcs.{IsAtMost};
 ghost use Rattle.tn_firm.specs.Firms.{firm_of};
 ghost use Rattle.tn_market.specs.Best.{price_at};
-ghost use Rattle.tn_market.specs.Network.{trades_of};
 ghost use Rattle.tn_market.specs.Judged.{Judges};
 
 use std::alloc::Global;
-use tn_base::{Bundle, OutOfMemory};
+use tn_base::OutOfMemory;
 use tn_firm::FirmValue;
-use tn_market::{Arrangement, Market, Room, Said, Trades, Valuation};
-use tn_price::{Check, judge_arrangement};
-
-/// The trades of firm `f` in a bundle, ascending.
-pub(crate) fn trades_in(
-    alloc: Global,
-    market: &Market<FirmValue>,
-    f: u32,
-    bundle: Bundle,
-) -> Result<Trades, OutOfMemory>
-    requires { f < length market.now.firms }
-    ensures { IfOk result (λ trades. (value : _) → slice_get market.now.firms f ≡ Some value → trades ≡ trades_of market.now.trades f (firm_of value).count bundle) }
-{
-    let mut trades = Vec::new(alloc);
-    for k in 0..market.firm(f).trades() {
-        if bundle.has(k) {
-            trades.push(market.own(f, k))?;
-        }
-    }
-    Ok(Trades::from_vec(trades))
-}
+use tn_market::{Arrangement, Market, Room, Said};
+use tn_price::{Check, judge_arrangement, trades_in};
 
 /// The verdict on an arrangement, at scale 1. There are at most 128 trades, with one price each of at most 10^14 in
 /// size.

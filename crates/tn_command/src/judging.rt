@@ -6,12 +6,12 @@ ghost use Rattle.tn_command.specs.Outcome.{JudgesOutcome};
 ghost use Rattle.tn_firm.specs.Firms.{firm_of};
 ghost use Rattle.tn_market.specs.Limits.{IsOutcomeOf};
 
-use crate::checking::trades_in;
 use std::alloc::Global;
 use tn_base::{Asked, OutOfMemory, Steps};
 use tn_firm::FirmValue;
 use tn_judge::{Judged, judge};
 use tn_market::{Market, Outcome, Said};
+use tn_price::trades_in;
 
 /// The verdict on an outcome: a firm that would drop contracts, prices that complete it, or a chain that blocks it.
 /// There are at most 128 firms and 128 trades, and the outcome is within its limits.

@@ -8,13 +8,13 @@ use Rattle.tn_cycle.specs.declared.answer.Path.{Path}
 use Rattle.tn_cycle.specs.declared.answer.Path.TheVariants as path
 use Rattle.tn_cycle.specs.Graphs.{is_between}
 use Rattle.tn_cycle.specs.Searched.{HasNoNegativeCycleOff}
-use Rattle.tn_cycle.specs.Answers.{AnswersCycle, AnswersNegative, arcs_of}
+use Rattle.tn_cycle.specs.Answers.{AnswersCycle, AnswersNegative, arc_count}
 use Rattle.tn_cycle.proofs.WalkLemmas.{none_negative}
 use Rattle.tn_cycle.proofs.GraphLemmas.{walk_among, walk_passes}
 
 -- a cycle among the trades from one on begins with the lowest
 pub part_negative : (nodes null first : ℕ) (arc : ℕ → ℕ → Option ℤ) (listed : List ℕ) (found : Path) → null + 1 ≡ nodes
-    → AnswersCycle (arcs_among (is_between first null) arc) first listed found → 0 < arcs_of found → AnswersNegative nodes arc listed found
+    → AnswersCycle (arcs_among (is_between first null) arc) first listed found → 0 < arc_count found → AnswersNegative nodes arc listed found
 part_negative nodes null first arc listed path.None last answer some = absurd (omega (arith, some))
 part_negative nodes null first arc listed (path.Cycle cost count) last answer some =
     let walk = answer.least.cycle.walk in
@@ -47,7 +47,7 @@ whole_negative nodes null arc listed (path.Cycle cost count) last off broken ans
 }
 
 -- an answer without arcs
-pub none_there : (arc : ℕ → ℕ → Option ℤ) (node : ℕ) (listed : List ℕ) (found : Path) → AnswersCycle arc node listed found → arcs_of found ≤ 0
+pub none_there : (arc : ℕ → ℕ → Option ℤ) (node : ℕ) (listed : List ℕ) (found : Path) → AnswersCycle arc node listed found → arc_count found ≤ 0
     → CyclesCostAtLeast arc node (pos 0)
 none_there arc node listed path.None answer few = answer.0
 none_there arc node listed (path.Cycle cost count) answer few = absurd (omega (arith, few, answer.counted, ap length answer.nodes_are))

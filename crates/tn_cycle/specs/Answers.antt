@@ -24,9 +24,9 @@ AnswersCycle arc node listed path.None = CyclesCostAtLeast arc node (pos 0) × (
 AnswersCycle arc node listed (path.Cycle cost count) = IsFound arc node listed cost count
 
 -- how many arcs an answer has
-abbrev pub arcs_of : Path → ℕ
-arcs_of path.None = 0
-arcs_of (path.Cycle cost count) = count
+abbrev pub arc_count : Path → ℕ
+arc_count path.None = 0
+arc_count (path.Cycle cost count) = count
 
 -- numbers by node, 0 past the last node
 abbrev pub label_in : List ℤ → ℕ → ℤ

@@ -28,11 +28,11 @@ pub enum Labels {
 
 impl Path {
     ghost use Rattle.std.specs.Prelude.{◌≡◌};
-    ghost use Rattle.tn_cycle.specs.Answers.{arcs_of};
+    ghost use Rattle.tn_cycle.specs.Answers.{arc_count};
 
     /// How many arcs it has, 0 where there is none.
     pub(crate) fn arcs(&self) -> u32
-        ensures { result ≡ arcs_of self.now }
+        ensures { result ≡ arc_count self.now }
     {
         match *self {
             Path::None => 0,

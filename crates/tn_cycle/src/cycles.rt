@@ -1,7 +1,7 @@
 ghost use Rattle.std.specs.Prelude.{◌≡◌, ◌+◌, ◌≤◌, ◌<◌, take, length};
 ghost use Rattle.tn_base.specs.Walks.{HasNoNegativeCycle};
 ghost use Rattle.tn_cycle.specs.Searched.{HasNoNegativeCycleOff};
-ghost use Rattle.tn_cycle.specs.Answers.{AnswersCycle, AnswersNegative, arcs_of};
+ghost use Rattle.tn_cycle.specs.Answers.{AnswersCycle, AnswersNegative, arc_count};
 
 use crate::answer::Path;
 use crate::cell::Cell;
@@ -25,8 +25,8 @@ pub(crate) fn least_cycle<C: Costs>(
     requires short { length path.old ≤ 2000 }
     requires inside { node < C.node_count costs.now }
     requires others { HasNoNegativeCycleOff (C.arc costs.now) node }
-    ensures answer { AnswersCycle (C.arc costs.now) node (take (arcs_of result) path.new) result }
-    ensures few_arcs { arcs_of result ≤ C.node_count costs.now }
+    ensures answer { AnswersCycle (C.arc costs.now) node (take (arc_count result) path.new) result }
+    ensures few_arcs { arc_count result ≤ C.node_count costs.now }
 {
     search(costs, node, row, after, path);
     let least = row[node as usize];
@@ -55,8 +55,8 @@ pub(crate) fn negative_cycle<C: Costs>(
     requires few { C.node_count costs.now ≤ 1026 }
     requires short { length path.old ≤ 2000 }
     requires broken { HasNoNegativeCycle (C.arc costs.now) → ⊥ }
-    ensures answer { AnswersNegative (C.node_count costs.now) (C.arc costs.now) (take (arcs_of result) path.new) result }
-    ensures few_arcs { arcs_of result ≤ C.node_count costs.now }
+    ensures answer { AnswersNegative (C.node_count costs.now) (C.arc costs.now) (take (arc_count result) path.new) result }
+    ensures few_arcs { arc_count result ≤ C.node_count costs.now }
 {
     let null = costs.nodes() - 1;
     for first in (0..null).rev() {

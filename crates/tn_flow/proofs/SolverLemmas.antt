@@ -22,7 +22,7 @@ use Rattle.tn_network.proofs.KeptLemmas.{one_cycle_for_each_trade}
 use Rattle.tn_network.proofs.EachLemmas.{each_within, same_prices}
 use Rattle.tn_network.proofs.SupportLemmas.{arcs_small}
 use Rattle.tn_flow.specs.Underway.{AreUnderWay}
-use Rattle.tn_flow.specs.Solved.{IsSolution, ArePricesWithin}
+use Rattle.tn_flow.specs.Solved.{IsSolution, AreSmallPrices}
 
 -- ---- numbers
 
@@ -59,7 +59,7 @@ pub prices_within : {V : Type 0} (firm_of : V → Firm) (limit_of : V → ℕ) (
     → ((v : V) → IsWorthAtMost (limit_of v) (firm_of v))
     → AreLabels (length trades + 1) (arcs_among (is_admitted (length trades) allowed) (exchange_arc (map firm_of items) trades on)) labels → length prices ≡ length trades
     → ((t : ℕ) → t < length trades → price_at prices t ≡ label_in labels t -ℤ label_in labels (length trades))
-    → (bound : ℕ) → ((f : ℕ) (v : V) → slice_get items f ≡ Some v → limit_of v ≤ bound) → ArePricesWithin (2 * bound * length trades) prices
+    → (bound : ℕ) → ((f : ℕ) (v : V) → slice_get items f ≡ Some v → limit_of v ≤ bound) → AreSmallPrices (2 * bound * length trades) prices
 prices_within {V} firm_of limit_of items trades allowed on labels prices network within are counted priced bound limited k d below =
     subst (λ (z : ℤ). IsAtMost z (2 * bound * length trades)) (sym (read ∙ priced k inside))
     (difference_within (length trades) (2 * bound) _ labels are

@@ -30,5 +30,5 @@ pub record IsSolution (firms : List Firm) (trades : List Ends) (allowed : ℕ) (
   pub equilibrium : IsEquilibrium (admitted trades allowed firms) trades (pos 1) solution.on (price_at solution.prices)
 
 -- no price is above so much in size
-abbrev pub ArePricesWithin : ℕ → List ℤ → Type 0
-ArePricesWithin limit prices = All (λ price. IsAtMost price limit) prices
+abbrev pub AreSmallPrices : ℕ → List ℤ → Type 0
+AreSmallPrices limit prices = All (λ price. IsAtMost price limit) prices

@@ -5,7 +5,7 @@ ghost use Rattle.tn_base.specs.Sets.{has, set_of};
 ghost use Rattle.tn_market.specs.Best.{price_at};
 ghost use Rattle.tn_market.specs.Equilibrium.{IsEquilibrium};
 ghost use Rattle.tn_market.specs.Graph.{graph_worths};
-ghost use Rattle.tn_flow.specs.Solved.{ArePricesWithin, IsSolution, IsUnsolved};
+ghost use Rattle.tn_flow.specs.Solved.{AreSmallPrices, IsSolution, IsUnsolved};
 
 use crate::rounds::Rounds;
 use std::alloc::Global;
@@ -99,7 +99,7 @@ impl<const W: usize> Solver<W> {
         requires small { (f : ℕ) (v : V) → slice_get market.now.firms f ≡ Some v → 2 * V.limit v * (length market.now.trades + 1) ≤ 10 ^ 18 }
         ensures solution { IsSolution (map V.firm market.now.firms) market.now.trades admitted.now self.new }
         ensures prices { (bound : ℕ) → ((f : ℕ) (v : V) → slice_get market.now.firms f ≡ Some v → V.limit v ≤ bound)
-            → ArePricesWithin (2 * bound * length market.now.trades) self.new.prices }
+            → AreSmallPrices (2 * bound * length market.now.trades) self.new.prices }
         ensures asked { steps.new ≤ steps.old + (length market.now.trades + 1) * graph_worths (map V.firm market.now.firms) }
     {
         self.rounds.admit_all(market, admitted, steps);
@@ -119,7 +119,7 @@ impl<const W: usize> Solver<W> {
         ensures equilibrium { IsEquilibrium (map V.firm market.now.firms) market.now.trades (pos 1) self.new.on (price_at self.new.prices) }
         ensures inside { (t : ℕ) → has self.new.on t ≡ true → t < length market.now.trades }
         ensures prices { (bound : ℕ) → ((f : ℕ) (v : V) → slice_get market.now.firms f ≡ Some v → V.limit v ≤ bound)
-            → ArePricesWithin (2 * bound * length market.now.trades) self.new.prices }
+            → AreSmallPrices (2 * bound * length market.now.trades) self.new.prices }
         ensures asked { steps.new ≤ steps.old + (length market.now.trades + 1) * graph_worths (map V.firm market.now.firms) }
     {
         let all = all_trades(market.trades());

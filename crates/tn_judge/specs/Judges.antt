@@ -17,7 +17,7 @@ pub record IsBlockedBy (firms : List Firm) (trades : List Ends) (over : ℤ) (co
   pub chain : IsBlockingChain firms trades over contracts offers
 
 -- the verdict is right
-abbrev pub Judges : List Firm → List Ends → ℤ → List Contract → Judged → Type 0
-Judges firms trades over contracts (Drops f keeps gain) = IsFirstDrop firms trades over contracts f keeps gain
-Judges firms trades over contracts (Completes prices) = IsIndividuallyRational firms trades over contracts × IsCompletedBy firms trades over contracts prices
-Judges firms trades over contracts (Blocks offers their_over) = IsBlockedBy firms trades over contracts offers their_over
+abbrev pub JudgesContracts : List Firm → List Ends → ℤ → List Contract → Judged → Type 0
+JudgesContracts firms trades over contracts (Drops f keeps gain) = IsFirstDrop firms trades over contracts f keeps gain
+JudgesContracts firms trades over contracts (Completes prices) = IsIndividuallyRational firms trades over contracts × IsCompletedBy firms trades over contracts prices
+JudgesContracts firms trades over contracts (Blocks offers their_over) = IsBlockedBy firms trades over contracts offers their_over

@@ -1,7 +1,7 @@
 ghost use Rattle.std.specs.Prelude.{◌≡◌, ◌≤◌, IfOk, length, map, pos, ◌*ℤ◌, ◌≤ℤ◌};
 ghost use Rattle.tn_base.specs.Sets.{size};
 ghost use Rattle.tn_chain.specs.Search.{chain_scale};
-ghost use Rattle.tn_judge.specs.Judges.{Judges};
+ghost use Rattle.tn_judge.specs.Judges.{JudgesContracts};
 ghost use Rattle.tn_market.specs.Limits.{IsOutcomeOf, IsWithinLimits};
 
 use crate::completing::completion;
@@ -60,7 +60,7 @@ pub fn judge<V: Oracle>(
 ) -> Result<Judged, OutOfMemory>
     requires limits { IsWithinLimits V.firm V.limit market.now }
     requires outcome { IsOutcomeOf market.now.trades outcome.now.over outcome.now.contracts }
-    ensures { IfOk result (Judges (map V.firm market.now.firms) market.now.trades outcome.now.over outcome.now.contracts) }
+    ensures { IfOk result (JudgesContracts (map V.firm market.now.firms) market.now.trades outcome.now.over outcome.now.contracts) }
 {
     let mut room = Room::new(alloc)?;
     if let Some((firm, drop)) = first_drop(market, outcome, &mut room) {

@@ -20,12 +20,10 @@ use Rattle.tn_market.specs.declared.said.Said.{Said}
 use Rattle.tn_market.specs.declared.said.Said.TheVariants.{Blocks, Completes, Drops}
 use Rattle.tn_market.specs.Choices.{Blocks as DoBlock, IsFeasible, is_traded, own_part, part_utility}
 use Rattle.tn_market.specs.Equilibrium.{utility_at}
-use Rattle.tn_market.specs.Limits.{IsOutcomeOf}
 use Rattle.tn_market.specs.Network.{own, trades_of}
 use Rattle.tn_market.specs.OutcomeLimits.{IsOutcomeWithin}
 use Rattle.tn_market.specs.Signed.{signed_bundle, signed_price}
 use Rattle.tn_market.proofs.AskLemmas.{impossible_worth, possible_worth}
-use Rattle.tn_market.proofs.ContractLemmas.{contracts_ascend}
 use Rattle.tn_outcome.proofs.RationalLemmas.{IsSigner, bundle_signed, own_bundle, own_is_part, part_is_bundle}
 use Rattle.tn_outcome.proofs.SignedLemmas.{has-signed_bundle}
 use Rattle.tn_residual.proofs.MakingLemmas.{outcome_feasible}
@@ -57,17 +55,8 @@ module _ (top : Data) (doc : DocumentData) (signed : OutcomeIs) (from : IsReadFr
   within_limits : IsOutcomeWithin (length doc.ends) signed
   within_limits = subst (IsExtra doc.firms doc.ends) extra from.is.extra
 
-  is_outcome : IsOutcomeOf doc.ends signed.over signed.contracts
-  is_outcome = record {
-    from_one = within_limits.least;
-    small_over = within_limits.most;
-    small = within_limits.contracts.small;
-    known = within_limits.contracts.known;
-    ascending = contracts_ascend signed.contracts within_limits.contracts.ascending;
-  }
-
   feasible : IsFeasible doc.ends signed.contracts
-  feasible = outcome_feasible doc.ends signed.over signed.contracts is_outcome
+  feasible = outcome_feasible doc.ends signed.over signed.contracts within_limits
 
   over_most : signed.over ≤ℤ pos 100000
   over_most = let most = within_limits.most in omega (arith, ints, most)

@@ -21,6 +21,7 @@ use Rattle.tn_market.specs.Levied.{levied_limit}
 use Rattle.tn_market.specs.Limits.{IsOutcomeOf}
 use Rattle.tn_market.specs.Outside.{outside}
 use Rattle.tn_market.specs.Signed.{is_signed, signed_price}
+use Rattle.tn_market.proofs.ContractLemmas.{contracts_ascend}
 use Rattle.tn_residual.specs.Held.{contract_price}
 use Rattle.tn_residual.specs.Residual.{unsigned_from, sold_to, bought_from, halves_of, halves_from, unsigned, levied_from, outsides, residual_limit, residual_trades}
 use Rattle.tn_residual.proofs.TradeLemmas.{levied_firm}
@@ -248,8 +249,8 @@ contracts_few trades over contracts outcome = by_count (length contracts) refl
     by_count zero e = omega (arith, e)
     by_count (suc n) e = elim (slice_get_cases contracts n).1 [
       | inl found ↦
-          let high = ascending_from contracts outcome.ascending n found.0 found.2 in
-          let known : found.0.trade < length trades = subst (λ (z : Contract). z.trade < length trades) (get_or_from_slice_get contracts n found.0 found.0 found.2) (outcome.known n found.0 found.1) in
+          let high = ascending_from contracts (contracts_ascend contracts outcome.contracts.ascending) n found.0 found.2 in
+          let known : found.0.trade < length trades = subst (λ (z : Contract). z.trade < length trades) (get_or_from_slice_get contracts n found.0 found.0 found.2) (outcome.contracts.known n found.0 found.1) in
           omega (arith, e, high, known)
       | inr past ↦ absurd (let above = past.0 in omega (arith, e, above))
     ]
@@ -257,11 +258,11 @@ contracts_few trades over contracts outcome = by_count (length contracts) refl
 -- an outcome within the limits can be signed
 pub outcome_feasible : (trades : List Ends) (over : ℤ) (contracts : List Contract) → IsOutcomeOf trades over contracts → IsFeasible trades contracts
 outcome_feasible trades over contracts outcome = record {
-  known = λ k contract is. subst (λ (z : Contract). z.trade < length trades) (get_or_from_slice_get contracts k contract contract is) (outcome.known k contract (slice_get_within contracts k contract is));
+  known = λ k contract is. subst (λ (z : Contract). z.trade < length trades) (get_or_from_slice_get contracts k contract contract is) (outcome.contracts.known k contract (slice_get_within contracts k contract is));
   once = λ j k one other one_is other_is same. elim (cases_lt j k) [
-    | inl less ↦ absurd (let step = outcome.ascending j k one other less one_is other_is in omega (arith, step, same))
+    | inl less ↦ absurd (let step = contracts_ascend contracts outcome.contracts.ascending j k one other less one_is other_is in omega (arith, step, same))
     | inr rest ↦ elim (cases_lt k j) [
-      | inl more ↦ absurd (let step = outcome.ascending k j other one more other_is one_is in omega (arith, step, same))
+      | inl more ↦ absurd (let step = contracts_ascend contracts outcome.contracts.ascending k j other one more other_is one_is in omega (arith, step, same))
       | inr most ↦ omega (arith, rest, most)
     ]
   ];

@@ -11,7 +11,7 @@ use Rattle.tn_graph.specs.Matrix.{Matrix}
 use Rattle.tn_cycle.specs.Reading.{Reading}
 use Rattle.tn_cycle.specs.Answers.{label_in}
 use Rattle.tn_flow.specs.Underway.{AreUnderWay}
-use Rattle.tn_flow.specs.Solved.{Solution, IsSolution, ArePricesWithin}
+use Rattle.tn_flow.specs.Solved.{Solution, IsSolution, AreSmallPrices}
 
 -- a market, the trades that are admitted, and those of them that are on, with a price for each trade
 pub record Standing (V : Type 0) : Type 0 where
@@ -41,7 +41,7 @@ IsBound {V} limit_of market bound = (f : ℕ) (v : V) → slice_get market.firms
 
 -- no price is above twice a bound of all worths for each trade
 abbrev pub HasSmallPrices : {V : Type 0} → (V → ℕ) → Standing V → Type 0
-HasSmallPrices limit_of standing = (bound : ℕ) → IsBound limit_of standing.market bound → ArePricesWithin (2 * bound * length standing.market.trades) standing.solution.prices
+HasSmallPrices limit_of standing = (bound : ℕ) → IsBound limit_of standing.market bound → AreSmallPrices (2 * bound * length standing.market.trades) standing.solution.prices
 
 -- twice the bound of each firm's worths, for each trade and once more, is at most 10^17
 abbrev pub AreFirmsSmall : {V : Type 0} → (V → ℕ) → Traded V → Type 0

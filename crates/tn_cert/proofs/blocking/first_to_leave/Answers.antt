@@ -16,17 +16,17 @@ use Rattle.tn_cert.proofs.blocking.first_to_leave.Goals as goal
 pub first_left-requires-clause-known : goal.first_left-requires-clause-known
 first_left-requires-clause-known g c =
     subst (All (λ (contract : Contract). contract.trade < length c.args.market.now.trades)) (sym c.in_ok-pool.ensures)
-    (pool_known (length c.args.market.now.trades) _ _ c.args.offers.now c.args.outcome.now.contracts c.requires.offers.feasible.known c.requires.outcome.known)
+    (pool_known (length c.args.market.now.trades) _ _ c.args.offers.now c.args.outcome.now.contracts c.requires.offers.feasible.known c.requires.outcome.contracts.known)
 
 pub first_left-requires-clause-small : goal.first_left-requires-clause-small
 first_left-requires-clause-small g c =
     let plain = to_z-of_z w128 c.args.over c.ranges.over in
     let pool_is = c.in_ok-pool.ensures ∙ ap (λ (e : ℤ). together e c.args.offers.now c.args.outcome.now.over c.args.outcome.now.contracts) plain in
     let over_least = c.requires.over.least in
-    let outcome_least = c.requires.outcome.from_one in
+    let outcome_least = c.requires.outcome.least in
     subst (All (λ (contract : Contract). IsAtMost contract.price (10 ^ 20))) (sym pool_is)
     (pool_small c.args.over c.args.outcome.now.over c.args.offers.now c.args.outcome.now.contracts (omega (arith, ints, over_least)) c.requires.over.most
-    (omega (arith, ints, outcome_least)) c.requires.outcome.small_over c.requires.offers.small c.requires.outcome.small)
+    (omega (arith, ints, outcome_least)) c.requires.outcome.most c.requires.offers.small c.requires.outcome.contracts.small)
 
 pub returns-in-Some : goal.returns-in-Some
 returns-in-Some g c =

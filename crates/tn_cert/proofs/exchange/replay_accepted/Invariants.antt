@@ -1,6 +1,6 @@
 use Rattle.std.proofs.Common.{map}
 use Rattle.tn_firm.specs.Raw.{raw_firm_of}
-use Rattle.tn_cert.proofs.ExchangeLemmas.{MeetBefore}
+use Rattle.tn_cert.specs.Reasons.{MeetBefore}
 use Rattle.tn_cert.proofs.exchange.replay_accepted.Given as goal
 
 abbrev pub invariant-loop-f : goal.invariant-loop-f

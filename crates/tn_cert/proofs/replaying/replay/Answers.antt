@@ -7,7 +7,7 @@ use Rattle.tn_market.specs.declared.claim.Claim.{Claim}
 use Rattle.tn_market.specs.declared.claim.Claim.TheVariants.{Equilibrium}
 use Rattle.tn_market.specs.ClaimLimits.{IsClaimWithin}
 use Rattle.tn_cert.specs.Replays.{Replays}
-use Rattle.tn_cert.proofs.ReplayLemmas.{outcome_kept, solved_if_ok}
+use Rattle.tn_cert.proofs.ReplayLemmas.{solved_if_ok}
 use Rattle.tn_cert.proofs.UtilityLemmas.{firm_has}
 use Rattle.tn_cert.proofs.WeighLemmas.{within_firms}
 use Rattle.tn_cert.proofs.replaying.replay.Goals as goal
@@ -15,7 +15,7 @@ use Rattle.tn_cert.proofs.replaying.replay.Goals as goal
 pub replay_drops-requires-clause-outcome : goal.replay_drops-requires-clause-outcome
 replay_drops-requires-clause-outcome g c =
     let within = subst (IsClaimWithin (map g.V.Valuation.firm c.args.market.now.firms) c.args.market.now.trades) c.in-Drops.is c.requires.within in
-    outcome_kept c.args.market.now.trades c.in-Drops.outcome within.0
+    within.0
 
 pub replay_drops-requires-clause-firm : goal.replay_drops-requires-clause-firm
 replay_drops-requires-clause-firm g c =
@@ -30,12 +30,12 @@ replay_drops-requires-clause-own g c =
 pub replay_blocks-requires-clause-outcome : goal.replay_blocks-requires-clause-outcome
 replay_blocks-requires-clause-outcome g c =
     let within = subst (IsClaimWithin (map g.V.Valuation.firm c.args.market.now.firms) c.args.market.now.trades) c.in-Blocks.is c.requires.within in
-    outcome_kept c.args.market.now.trades c.in-Blocks.outcome within.0
+    within.0
 
 pub replay_completes-requires-clause-outcome : goal.replay_completes-requires-clause-outcome
 replay_completes-requires-clause-outcome g c =
     let within = subst (IsClaimWithin (map g.V.Valuation.firm c.args.market.now.firms) c.args.market.now.trades) c.in-Completes.is c.requires.within in
-    outcome_kept c.args.market.now.trades c.in-Completes.outcome within.0
+    within.0
 
 pub returns-in-Equilibrium : goal.returns-in-Equilibrium
 returns-in-Equilibrium g c =

@@ -15,7 +15,7 @@ residual-requires-clause-small_scale g c =
     let count = c.trades.ensures.count in
     let few = c.requires.limits.few_trades in
     subst (λ (s : ℤ). (c.args.outcome.now.over *ℤ s) ≤ℤ pos 100000) (sym (to_z-of_z w128 c.chain_scale-scale.result fits ∙ c.chain_scale-scale.ensures))
-    (scale_small c.args.outcome.now.over c.trades.result c.args.outcome.now.contracts (omega (arith, count, few)) c.requires.outcome.from_one c.requires.outcome.small_over)
+    (scale_small c.args.outcome.now.over c.trades.result c.args.outcome.now.contracts (omega (arith, count, few)) c.requires.outcome.least c.requires.outcome.most)
 
 pub returns : goal.returns
 returns g c =

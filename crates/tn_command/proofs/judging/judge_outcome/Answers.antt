@@ -2,7 +2,7 @@ use Rattle.std.proofs.Common.{◌≡◌, map, subst, arith, to_z, of_z}
 use Rattle.std.specs.Int.{w128}
 use Rattle.std.proofs.lemmas.Int.{ints}
 use Rattle.tn_firm.specs.Firms.{firm_of}
-use Rattle.tn_judge.specs.Judges.{Judges}
+use Rattle.tn_judge.specs.Judges.{JudgesContracts}
 use Rattle.tn_command.proofs.OutcomeLemmas.{drop_keeps, drop_small, blocking_over_small, blocking_prices_small}
 use Rattle.tn_command.proofs.judging.judge_outcome.Goals as goal
 
@@ -12,9 +12,9 @@ returns-in-Drops-clause-answer c =
     let trades = c.args.market.now.trades in
     let over = c.args.outcome.now.over in
     let contracts = c.args.outcome.now.contracts in
-    let first = subst (Judges (map firm_of firms) trades over contracts) c.in-Drops.is c.in_ok-firm.ensures in
-    let low = c.requires.outcome.from_one in
-    let high = c.requires.outcome.small_over in (
+    let first = subst (JudgesContracts (map firm_of firms) trades over contracts) c.in-Drops.is c.in_ok-firm.ensures in
+    let low = c.requires.outcome.least in
+    let high = c.requires.outcome.most in (
       c.in-Drops.keeps,
       first,
       drop_keeps firms trades over contracts c.in-Drops.firm c.in-Drops.keeps c.in-Drops.gain c.in_ok-keeps-in-Drops.keeps first c.in_ok-keeps-in-Drops.ensures,
@@ -27,9 +27,9 @@ returns-in-Drops-clause-within c =
     let trades = c.args.market.now.trades in
     let over = c.args.outcome.now.over in
     let contracts = c.args.outcome.now.contracts in
-    let first = subst (Judges (map firm_of firms) trades over contracts) c.in-Drops.is c.in_ok-firm.ensures in
-    let low = c.requires.outcome.from_one in
-    let high = c.requires.outcome.small_over in
+    let first = subst (JudgesContracts (map firm_of firms) trades over contracts) c.in-Drops.is c.in_ok-firm.ensures in
+    let low = c.requires.outcome.least in
+    let high = c.requires.outcome.most in
     let same : to_z w128 (of_z w128 over) ≡ over = omega (arith, ints, low, high) in (
       drop_small firms trades over contracts c.in-Drops.firm c.in-Drops.keeps c.in-Drops.gain c.requires.outcome c.requires.wide first,
       record { low = omega (arith, ints, low, same); high = omega (arith, ints, high, same) },
@@ -41,7 +41,7 @@ returns-clause-within c =
     let trades = c.args.market.now.trades in
     let over = c.args.outcome.now.over in
     let contracts = c.args.outcome.now.contracts in
-    let blocked = subst (Judges (map firm_of firms) trades over contracts) c.in-Blocks.is c.in_ok-firm.ensures in
+    let blocked = subst (JudgesContracts (map firm_of firms) trades over contracts) c.in-Blocks.is c.in_ok-firm.ensures in
     let small = blocking_over_small (map firm_of firms) trades over contracts c.in-Blocks.contracts c.in-Blocks.over c.requires.outcome c.requires.wide blocked in
     let low = small.low in
     let high = small.high in

@@ -2,7 +2,7 @@ use Rattle.std.proofs.Common.{◌≡◌, ◌+◌, ◌-◌, ℕ, ℤ, Option, sub
 use Rattle.tn_base.specs.Arcs.{AreBetweenNodes}
 use Rattle.tn_base.specs.Walks.{arcs_among, HasNoNegativeCycle}
 use Rattle.tn_cycle.specs.Graphs.{is_between}
-use Rattle.tn_cycle.specs.Answers.{arcs_of}
+use Rattle.tn_cycle.specs.Answers.{arc_count}
 use Rattle.tn_cycle.specs.Searched.{HasNoNegativeCycleOff}
 use Rattle.tn_cycle.proofs.WalkLemmas.{none_negative}
 use Rattle.tn_cycle.proofs.GraphLemmas.{none_past, none_off_first, none_off_null}
@@ -32,7 +32,7 @@ least_cycle-found-requires-clause-others g c =
 pub returns-then-arcs-gt0-clause-answer : goal.returns-then-arcs-gt0-clause-answer
 returns-then-arcs-gt0-clause-answer g c =
     part_negative (g.C.Costs.node_count c.args.costs.now) (c.nodes-null.result - 1) (c.loop-first.first - 1) (g.C.Costs.arc c.args.costs.now)
-    (take (arcs_of c.least_cycle-found.result) c.least_cycle-found.new.path) c.least_cycle-found.result
+    (take (arc_count c.least_cycle-found.result) c.least_cycle-found.new.path) c.least_cycle-found.result
     (omega (arith, c.nodes-null.ensures, c.requires.some)) c.least_cycle-found.ensures.answer (omega (arith, c.arcs.ensures, c.if-arcs-gt0.true))
 
 pub loop-first-preserved : goal.loop-first-preserved
@@ -40,7 +40,7 @@ loop-first-preserved g c =
     let part = arcs_among (is_between (c.loop-first.first - 1) (c.nodes-null.result - 1)) (g.C.Costs.arc c.args.costs.now) in
     none_negative part (c.loop-first.first - 1)
     (others (c.nodes-null.result - 1) c.loop-first.first (c.loop-first.first - 1) (g.C.Costs.arc c.args.costs.now) (omega (arith, c.loop-first-test.true)) c.loop-first.invariant)
-    (none_there part (c.loop-first.first - 1) (take (arcs_of c.least_cycle-found.result) c.least_cycle-found.new.path) c.least_cycle-found.result
+    (none_there part (c.loop-first.first - 1) (take (arc_count c.least_cycle-found.result) c.least_cycle-found.new.path) c.least_cycle-found.result
     c.least_cycle-found.ensures.answer (omega (arith, c.arcs.ensures, c.if-arcs-gt0.false)))
 
 pub least_cycle-requires-clause-others : goal.least_cycle-requires-clause-others
@@ -51,7 +51,7 @@ least_cycle-requires-clause-others g c =
 pub returns-clause-answer : goal.returns-clause-answer
 returns-clause-answer g c =
     whole_negative (g.C.Costs.node_count c.args.costs.now) (c.nodes-null.result - 1) (g.C.Costs.arc c.args.costs.now)
-    (take (arcs_of c.least_cycle.result) c.least_cycle.new.path) c.least_cycle.result (omega (arith, c.nodes-null.ensures, c.requires.some))
+    (take (arc_count c.least_cycle.result) c.least_cycle.new.path) c.least_cycle.result (omega (arith, c.nodes-null.ensures, c.requires.some))
     (all_but_null (g.C.Costs.node_count c.args.costs.now) (c.nodes-null.result - 1) c.loop-first.first (g.C.Costs.arc c.args.costs.now)
     (omega (arith, c.nodes-null.ensures, c.requires.some)) (omega (arith, c.loop-first-test.false)) (g.met.C.Costs.between_nodes c.args.costs.now) c.loop-first.invariant)
     c.requires.broken c.least_cycle.ensures.answer

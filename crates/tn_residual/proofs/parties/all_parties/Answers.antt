@@ -11,13 +11,13 @@ pub add_outsides-requires-clause-from_one : goal.add_outsides-requires-clause-fr
 add_outsides-requires-clause-from_one g c =
     let fits : SFits w128 c.args.scale = c.ranges.scale in
     let outcome = c.requires.outcome in
-    simp to_z-of_z (scale_fits c.args.outcome.now.over c.args.scale outcome.from_one c.requires.scaled c.requires.small_scale).0
+    simp to_z-of_z (scale_fits c.args.outcome.now.over c.args.scale outcome.least c.requires.scaled c.requires.small_scale).0
 
 pub add_outsides-requires-clause-small_scale : goal.add_outsides-requires-clause-small_scale
 add_outsides-requires-clause-small_scale g c =
     let fits : SFits w128 c.args.scale = c.ranges.scale in
     let outcome = c.requires.outcome in
-    simp to_z-of_z (scale_fits c.args.outcome.now.over c.args.scale outcome.from_one c.requires.scaled c.requires.small_scale).1
+    simp to_z-of_z (scale_fits c.args.outcome.now.over c.args.scale outcome.least c.requires.scaled c.requires.small_scale).1
 
 pub returns-clause-firms : goal.returns-clause-firms
 returns-clause-firms g c =
@@ -39,7 +39,7 @@ returns-clause-limits g c =
     let high = c.requires.small_scale in
     let product_fits : SFits w128 (c.args.outcome.now.over *ℤ c.args.scale) = omega (arith, ints, low, high) in
     let outcome = c.requires.outcome in
-    let from_one = (scale_fits c.args.outcome.now.over c.args.scale outcome.from_one low high).0 in
+    let from_one = (scale_fits c.args.outcome.now.over c.args.scale outcome.least low high).0 in
     let first = simp to_z-of_z at c.in_ok-parties.ensures.limits in
     let second = simp to_z-of_z at c.in_ok-add_outsides.ensures.limits in
-    second (residual_limit (c.args.outcome.now.over *ℤ c.args.scale)) (limit_grows c.args.outcome.now.over c.args.scale outcome.from_one from_one) first
+    second (residual_limit (c.args.outcome.now.over *ℤ c.args.scale)) (limit_grows c.args.outcome.now.over c.args.scale outcome.least from_one) first

@@ -73,7 +73,7 @@ returns-clause-surplus g c =
     let firms_are = simp to_z-of_z at c.in_ok-parties.ensures.firms in
     let numbered : length c.args.market.now.firms ≡ length (map g.V.Valuation.firm c.args.market.now.firms) = sym (length-map c.args.market.now.firms g.V.Valuation.firm) in
     let outcome = c.requires.outcome in
-    let from_one = (scale_fits c.args.outcome.now.over c.args.scale outcome.from_one c.requires.scaled c.requires.small_scale).0 in
+    let from_one = (scale_fits c.args.outcome.now.over c.args.scale outcome.least c.requires.scaled c.requires.small_scale).0 in
     let law = surplus_is_reduced_worth (map g.V.Valuation.firm c.args.market.now.firms) c.args.market.now.trades c.args.outcome.now.over c.args.outcome.now.contracts c.args.scale c.args.tax
     c.all_trades.ensures.network (outcome_feasible c.args.market.now.trades c.args.outcome.now.over c.args.outcome.now.contracts c.requires.outcome)
     (each_firm g.V.Valuation.firm HasOwnBundles c.args.market.now.firms g.met.V.Valuation.own_bundles) (omega (arith, ints, from_one)) in

@@ -26,7 +26,7 @@ loop-k-preserved g c = elim c.match-contract_price.branch [
       (subst (HoldsSigned c.args.market.now.trades c.args.outcome.now.contracts c.args.f (c.loop-k.k + 1) (toggle c.loop-k.signed c.loop-k.k))
       (sym (w.prices-is ∙ ap (set c.loop-k.prices c.loop-k.k) plain))
       (one_held c.args.market.now.trades c.args.outcome.now.contracts c.args.f c.loop-k.k c.own.result c.loop-k.signed w.in-Some.price c.loop-k.prices c.loop-k.invariant inside
-      c.own.ensures.trade c.own.ensures.inside (sym c.contract_price.ensures ∙ w.in-Some.is) c.requires.outcome.small))
+      c.own.ensures.trade c.own.ensures.inside (sym c.contract_price.ensures ∙ w.in-Some.is) c.requires.outcome.contracts.small))
   | in_default w ↦
       subst (λ (x : ℕ). HoldsSigned c.args.market.now.trades c.args.outcome.now.contracts c.args.f (c.loop-k.k + 1) x c.match-contract_price.prices)
       (sym w.signed-is)

@@ -5,12 +5,10 @@ use Rattle.tn_file.specs.declared.extra.Extra.{Extra}
 use Rattle.tn_file.specs.Extra.{extra_view}
 use Rattle.tn_file.specs.Laws.{IsExtra}
 use Rattle.tn_file.specs.Refusal.{net_view}
-use Rattle.tn_run.proofs.OutcomeLemmas.{outcome_of_document}
 use Rattle.tn_run.proofs.answer.judge_document.Goals as goal
 
 pub judge_outcome-requires-clause-outcome : goal.judge_outcome-requires-clause-outcome
 judge_outcome-requires-clause-outcome c =
     let market = c.in-Market.market in
     let read = subst (λ (net : Loaded). IsExtra (net_view net).firms (net_view net).ends (extra_view c.args.doc.now.extra)) c.in-Market.is c.requires.document.extra in
-    let within = subst (λ (extra : Extra). IsExtra (map firm_of market.firms) market.trades (extra_view extra)) c.in-Outcome.is read in
-    outcome_of_document market.trades c.in-Outcome.outcome within
+    subst (λ (extra : Extra). IsExtra (map firm_of market.firms) market.trades (extra_view extra)) c.in-Outcome.is read

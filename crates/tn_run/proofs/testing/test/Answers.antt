@@ -4,8 +4,9 @@ use Rattle.tn_firm.specs.declared.raw.RawFirm.{RawFirm}
 use Rattle.tn_firm.specs.Raw.{raw_firm_of}
 use Rattle.tn_market.specs.Network.{trades_of}
 use Rattle.tn_price.proofs.JudgeLemmas.{firm_is}
-use Rattle.tn_run.specs.Tested.{MeetBefore}
-use Rattle.tn_run.proofs.TestLemmas.{one_more_meets, item_there, all_meet}
+use Rattle.tn_cert.specs.Reasons.{MeetBefore}
+use Rattle.tn_cert.proofs.ExchangeLemmas.{one_more_meets}
+use Rattle.tn_run.proofs.TestLemmas.{item_there, all_meet}
 use Rattle.tn_run.proofs.testing.test.Goals as goal
 
 pub loop-firm-preserved : goal.loop-firm-preserved

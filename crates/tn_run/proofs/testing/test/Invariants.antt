@@ -1,6 +1,6 @@
 use Rattle.std.proofs.Common.{◌≡◌, map}
 use Rattle.tn_firm.specs.Raw.{raw_firm_of}
-use Rattle.tn_run.specs.Tested.{MeetBefore}
+use Rattle.tn_cert.specs.Reasons.{MeetBefore}
 use Rattle.tn_run.proofs.testing.test.Given as goal
 
 abbrev pub invariant-loop-firm : goal.invariant-loop-firm

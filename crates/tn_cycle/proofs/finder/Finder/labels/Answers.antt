@@ -5,7 +5,7 @@ use mir.Syntax.{w128}
 use mir.Val.{SFits}
 use Rattle.tn_cycle.specs.declared.answer.Path.{Path}
 use Rattle.tn_cycle.specs.Reading.{Reading}
-use Rattle.tn_cycle.specs.Answers.{AreLabels, AnswersNegative, IsNegative, arcs_of, label_in}
+use Rattle.tn_cycle.specs.Answers.{AreLabels, AnswersNegative, IsNegative, arc_count, label_in}
 use Rattle.tn_cycle.proofs.ReadLemmas.{front-written}
 use Rattle.tn_cycle.proofs.LabelLemmas.{none_negative_kept}
 use Rattle.tn_cycle.proofs.finder.Finder.labels.Goals as goal
@@ -35,13 +35,13 @@ returns-clause-answer g c =
     let rest = drop (length written) (take c.self.inside.path.len (gone ++ drop (length gone) c.self.inside.path.items)) in
     let found = c.negative_cycle-found.result in
     let is = c.in-Cycle.is in
-    let counted : arcs_of found ≡ c.in-Cycle.length = ap arcs_of is in
+    let counted : arc_count found ≡ c.in-Cycle.length = ap arc_count is in
     let arcs : c.arcs-self-inside.result ≡ c.in-Cycle.length = c.arcs-self-inside.ensures ∙ counted in
     let same : c.args.self.now.nodes ≡ c.self.inside.nodes = ap (λ (reading : Reading). reading.nodes) (sym c.self.view_is) in
     let few : c.in-Cycle.length ≤ nodes = omega (arith, counted, c.negative_cycle-found.ensures.few_arcs) in
     let places : c.in-Cycle.length ≤ c.self.inside.path.len = omega (arith, few, c.requires.sized, same, c.self.invariant.path_sized) in
     let answer : IsNegative nodes arc (take c.in-Cycle.length written) c.in-Cycle.cost c.in-Cycle.length =
-    subst (λ (one : Path). AnswersNegative nodes arc (take (arcs_of one) written) one) is c.negative_cycle-found.ensures.answer in
+    subst (λ (one : Path). AnswersNegative nodes arc (take (arc_count one) written) one) is c.negative_cycle-found.ensures.answer in
     let size : c.in-Cycle.length ≤ length written = omega (arith, answer.counted, length-take c.in-Cycle.length written) in
     let listed : take c.arcs-self-inside.result (take c.self.inside.path.len (written ++ rest)) ≡ take c.in-Cycle.length written =
     ap (λ (k : ℕ). take k (take c.self.inside.path.len (written ++ rest))) arcs ∙ front-written written rest c.in-Cycle.length c.self.inside.path.len places size in
