@@ -11,7 +11,7 @@ use tn_market::{Edit, Edits};
 use tn_names::Names;
 use tn_refer::trade;
 use tn_shape::steps::EDITS;
-use tn_shape::{ReadError, few, found, text, two};
+use tn_shape::{ReadError, beside, few, found, text, two};
 
 /// The most edits of a document.
 const EDIT_LIMIT: u32 = 256;
@@ -83,13 +83,7 @@ fn edit_at(alloc: Global, names: &Names, k: u32, entry: &Value) -> Result<Edit, 
 fn change_named(word: &str) -> Option<Change>
     ensures { result ≡ change_named word.now }
 {
-    if word == "admit" {
-        Some(Change::Admit)
-    } else if word == "bar" {
-        Some(Change::Bar)
-    } else {
-        None
-    }
+    beside(word, &[("admit", Change::Admit), ("bar", Change::Bar)])
 }
 
 /// The edit that does this with trade `t`.

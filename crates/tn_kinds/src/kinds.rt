@@ -11,7 +11,7 @@ use tn_market::Ends;
 use tn_market::PlaceStep::Index;
 use tn_refer::count_own;
 use tn_shape::steps::{FIRMS, KIND};
-use tn_shape::{FirmKind, ObjectKind, ReadError, check, found, object_of, text};
+use tn_shape::{FirmKind, ObjectKind, ReadError, beside, check, found, object_of, text};
 
 /// The kind of firm `f`.
 #[tactic(auto, unfolding(crate::specs::Kinds::kind_of))]
@@ -27,17 +27,15 @@ pub(crate) fn kind_of(alloc: Global, f: u32, firm: &Value) -> Result<FirmKind, R
 fn kind_named(text: &str) -> Option<FirmKind>
     ensures { result ≡ kind_named text.now }
 {
-    if text == "table" {
-        Some(FirmKind::Table)
-    } else if text == "laminar" {
-        Some(FirmKind::Laminar)
-    } else if text == "middleman" {
-        Some(FirmKind::Middleman)
-    } else if text == "dealer" {
-        Some(FirmKind::Dealer)
-    } else {
-        None
-    }
+    beside(
+        text,
+        &[
+            ("table", FirmKind::Table),
+            ("laminar", FirmKind::Laminar),
+            ("middleman", FirmKind::Middleman),
+            ("dealer", FirmKind::Dealer),
+        ],
+    )
 }
 
 /// Whether firm `f` has the members of its kind alone, and not too many own trades.

@@ -1,8 +1,9 @@
 //! The kinds of claims: the word of each, and the members that it may have.
 
-ghost use Rattle.std.specs.Prelude.{◌≡◌, bytes_eq};
-ghost use Rattle.std.specs.List.{list_any};
+ghost use Rattle.std.specs.Prelude.{◌≡◌};
 ghost use Rattle.tn_shape.specs.Claims.{allows_in_claim, claim_named};
+
+use crate::words::{beside, is_one_of};
 
 /// The kinds of claims, one for each answer that can be claimed.
 #[derive(Clone, Copy)]
@@ -35,31 +36,22 @@ pub enum ClaimKind {
 pub fn claim_named(text: &str) -> Option<ClaimKind>
     ensures { result ≡ claim_named text.now }
 {
-    if text == "equilibrium" {
-        Some(ClaimKind::Equilibrium)
-    } else if text == "better" {
-        Some(ClaimKind::Better)
-    } else if text == "impossible" {
-        Some(ClaimKind::Impossible)
-    } else if text == "accepted" {
-        Some(ClaimKind::Accepted)
-    } else if text == "exchange_fails" {
-        Some(ClaimKind::ExchangeFails)
-    } else if text == "prices" {
-        Some(ClaimKind::Supported)
-    } else if text == "cycle" {
-        Some(ClaimKind::Cycle)
-    } else if text == "solved" {
-        Some(ClaimKind::Solved)
-    } else if text == "drops" {
-        Some(ClaimKind::Drops)
-    } else if text == "completes" {
-        Some(ClaimKind::Completes)
-    } else if text == "blocks" {
-        Some(ClaimKind::Blocks)
-    } else {
-        None
-    }
+    beside(
+        text,
+        &[
+            ("equilibrium", ClaimKind::Equilibrium),
+            ("better", ClaimKind::Better),
+            ("impossible", ClaimKind::Impossible),
+            ("accepted", ClaimKind::Accepted),
+            ("exchange_fails", ClaimKind::ExchangeFails),
+            ("prices", ClaimKind::Supported),
+            ("cycle", ClaimKind::Cycle),
+            ("solved", ClaimKind::Solved),
+            ("drops", ClaimKind::Drops),
+            ("completes", ClaimKind::Completes),
+            ("blocks", ClaimKind::Blocks),
+        ],
+    )
 }
 
 /// Whether a claim of a kind may have a member of this name.
@@ -80,10 +72,4 @@ pub(crate) fn allows_in_claim(kind: ClaimKind, word: &str) -> bool
         ClaimKind::Completes => is_one_of(word, &["answer", "over", "prices"]),
         ClaimKind::Blocks => is_one_of(word, &["answer", "contracts", "over"]),
     }
-}
-
-pub(crate) fn is_one_of(word: &str, words: &[&str]) -> bool
-    ensures { result ≡ list_any (λ w. bytes_eq word.now w.now) words.now }
-{
-    words.iter().any(|one| word == *one)
 }

@@ -7,6 +7,7 @@ mod error;
 mod members;
 mod shapes;
 pub mod steps;
+mod words;
 
 pub use claims::{ClaimKind, claim_named};
 pub use error::ReadError;
@@ -15,3 +16,4 @@ pub use shapes::{
     check, fault, few, found, list, number, object, object_of, optional_list, present, text, two,
     whole,
 };
+pub use words::beside;

@@ -5,7 +5,8 @@ ghost use Rattle.std.specs.List.{list_all};
 ghost use Rattle.serde_json.specs.View.{members_view};
 ghost use Rattle.tn_shape.specs.Members.{allows, allows_all};
 
-use crate::claims::{ClaimKind, allows_in_claim, is_one_of};
+use crate::claims::{ClaimKind, allows_in_claim};
+use crate::words::is_one_of;
 use serde_json::{Map, Value};
 
 /// The kinds of firms.
