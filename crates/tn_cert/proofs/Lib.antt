@@ -1,6 +1,6 @@
 mod RoundLemmas
 mod RefutedLemmas
-mod ExchangeLemmas
+pub mod ExchangeLemmas
 mod UtilityLemmas
 mod WeighLemmas
 mod LeastLemmas
