@@ -1,6 +1,6 @@
 -- The cases that fail, and the words that ask for the program's own.
 use Rattle.std.proofs.Common.{◌≡◌, ℕ, ◌+◌, ◌<◌, ◌≤◌, inl, inr, List, [], ◌∷◌, ◌++◌, length, sym, subst, ap, refl, arith, ◌∙◌}
-use Rattle.std.specs.Prelude.{Bool, true, false, ◌==◌, ◌&&◌, Option, Some, IfSome, option_map, slice_get, All, Contains, nat_le}
+use Rattle.std.specs.Prelude.{Bool, true, false, ◌==◌, ◌&&◌, Option, Some, IfSome, Result, Ok, Err, IfOk, option_map, slice_get, All, Contains, nat_le}
 use Rattle.std.specs.Bool.{Decides}
 use Rattle.std.specs.Str.{bytes_eq}
 use Rattle.std.proofs.lemmas.Bool.{cases_lt, leb-true, true≢false}
@@ -46,13 +46,14 @@ passed_or_not case names said status text agrees answer status_is text_is decide
       differs = λ one other. true≢false (sym (both ∙ (λ i. tells_status.1 one i && tells_text.1 other i)));
     }
 
-pub run_decides : (found : Option CaseData) (case : CaseData) (names : NameLists) (said : Said) (status : ℕ) (text : List ℕ) (agrees : Bool)
-    → found ≡ Some case → IsCaseAnswer (case_command case.command) case.document names said → status ≡ status_of said → text ≡ answer_line names said
-    → Some agrees ≡ option_map (agrees_with status text) found → IfSome found (IsPassed agrees)
-run_decides found case names said status text agrees is answer status_is text_is decided =
+pub run_decides : {E : Type 0} (found : Option CaseData) (case : CaseData) (names : NameLists) (said : Said) (result : Result Bool E)
+    → found ≡ Some case → IsCaseAnswer (case_command case.command) case.document names said
+    → IfOk result (λ agrees. Some agrees ≡ option_map (agrees_with (status_of said) (answer_line names said)) found) → IfOk result (λ agrees. IfSome found (IsPassed agrees))
+run_decides found case names said (Ok agrees) is answer decided =
     subst (λ (one : Option CaseData). IfSome one (IsPassed agrees)) (sym is)
-    (passed_or_not case names said status text agrees answer status_is text_is
-    (same_Some agrees (agrees_with status text case) (decided ∙ ap (option_map (agrees_with status text)) is)))
+    (passed_or_not case names said (status_of said) (answer_line names said) agrees answer refl refl
+    (same_Some agrees (agrees_with (status_of said) (answer_line names said) case) (decided ∙ ap (option_map (agrees_with (status_of said) (answer_line names said))) is)))
+run_decides found case names said (Err error) is answer decided = decided
 
 -- no case is run yet
 pub none_failed : (cases : List CaseData) → AreFailed 0 cases []

@@ -197,6 +197,25 @@ fn answer_document(alloc: Global, command: Command, doc: &Document) -> Result<Sa
     }
 }
 
+/// The answer of a command on a document that was read, over its names.
+fn answer_read(
+    alloc: Global,
+    command: Command,
+    doc: Document,
+    names: &mut Names,
+) -> Result<Said, OutOfMemory>
+    requires document { IsDocument (need_of command) (document_view doc) }
+    requires loaded { IsLoadedFor (need_of command) doc.extra doc.firms }
+    requires extra { IsExtraFor (need_of command) doc.extra }
+    ensures answer { IfOk result (IsAnswerOf command (document_view doc)) }
+    ensures names { names.new ≡ (document_view doc).names }
+    ensures within { IfOk result IsWithinClaims }
+{
+    let said = answer_document(alloc, command, &doc);
+    *names = doc.names;
+    said
+}
+
 /// The answer of a command to the bytes of a document, over the names that are read.
 pub fn answer_bytes(
     alloc: Global,
@@ -209,11 +228,7 @@ pub fn answer_bytes(
     ensures within { IfOk result IsWithinClaims }
 {
     match read_doc(alloc, need_of(command), bytes) {
-        Ok(doc) => {
-            let said = answer_document(alloc, command, &doc);
-            *names = doc.names;
-            said
-        }
+        Ok(doc) => answer_read(alloc, command, doc, names),
         Err(DocRefusal::Fault { fault, names: read }) => {
             *names = read;
             Ok(Said::Fault(fault))

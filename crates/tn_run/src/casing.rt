@@ -1,9 +1,12 @@
 //! The program's own cases.
 
-ghost use Rattle.std.specs.Prelude.{◌≡◌, ◌<◌, ◌≤◌, All, IfOk, IfSome, length, slice_get};
+ghost use Rattle.std.specs.Prelude.{◌≡◌, ◌<◌, ◌≤◌, Some, All, IfOk, IfSome, length, option_map, slice_get};
+ghost use Rattle.tn_answer.specs.AnswerText.{answer_line};
 ghost use Rattle.tn_answer.specs.Kept.{IsWithinClaims};
+ghost use Rattle.tn_cases.specs.Case.{agrees_with};
 ghost use Rattle.tn_run.specs.Answer.{document_limit};
 ghost use Rattle.tn_run.specs.Cases.{AreFailed, IsCaseAnswer, IsPassed, MayBeCases};
+ghost use Rattle.tn_run.specs.Run.{status_of};
 ghost use Rattle.tn_run.specs.Words.{case_command};
 
 use crate::answer::answer_bytes;
@@ -26,6 +29,24 @@ fn answer_case(alloc: Global, case: &Case, names: &mut Names) -> Result<Said, Ou
     }
 }
 
+/// Whether an answer over some names has the status and the text of the case at index `k`.
+fn is_told<const N: usize>(
+    alloc: Global,
+    book: &CaseBook<N>,
+    k: usize,
+    names: &Names,
+    said: &Said,
+) -> Result<bool, OutOfMemory>
+    requires few { N ≤ 64 }
+    requires inside { k < N }
+    requires within { IsWithinClaims said.now }
+    ensures { IfOk result (λ same. Some same
+        ≡ option_map (agrees_with (status_of said.now) (answer_line names.now said.now)) (slice_get book.now k)) }
+{
+    let text = answer_text(alloc, names, said)?;
+    Ok(book.agrees(k, status_of(said), &text))
+}
+
 /// Whether a run of the case at index `k` comes to its status and its text.
 fn passes<const N: usize>(alloc: Global, book: &CaseBook<N>, k: usize) -> Result<bool, OutOfMemory>
     requires few { N ≤ 64 }
@@ -34,8 +55,7 @@ fn passes<const N: usize>(alloc: Global, book: &CaseBook<N>, k: usize) -> Result
 {
     let mut names = Names::empty(alloc);
     let said = answer_case(alloc, book.case(k), &mut names)?;
-    let text = answer_text(alloc, &names, &said)?;
-    Ok(book.agrees(k, status_of(&said), &text))
+    is_told(alloc, book, k, &names, &said)
 }
 
 /// Runs each case's command on its document, and lists the numbers, from 1, of the cases that fail, ascending. What isn't

@@ -1,10 +1,9 @@
-use Rattle.std.proofs.Common.{◌∙◌}
-use Rattle.std.specs.Prelude.{slice_get}
 use Rattle.tn_cases.specs.Case.{case_data}
+use Rattle.std.specs.Prelude.{slice_get}
 use Rattle.tn_run.proofs.CaseLemmas.{run_decides}
 use Rattle.tn_run.proofs.casing.passes.Goals as goal
 
 pub returns : goal.returns
 returns g c =
-    run_decides (slice_get c.args.book.now c.args.k) (case_data c.case.result.now) c.answer_case.new.names c.in_ok-said.said c.status_of.result c.deref.result.now c.agrees.result
-    c.case.ensures.case c.in_ok-said.ensures.answer c.status_of.ensures (c.deref.ensures.value ∙ c.in_ok-text.ensures) c.agrees.ensures
+    run_decides (slice_get c.args.book.now c.args.k) (case_data c.case.result.now) c.answer_case.new.names c.in_ok-said.said c.is_told.result
+    c.case.ensures.case c.in_ok-said.ensures.answer c.is_told.ensures
