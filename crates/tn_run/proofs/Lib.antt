@@ -8,3 +8,4 @@ pub mod ReplayLemmas
 pub mod CaseLemmas
 pub mod ReplayedLemmas
 pub mod HeadlineLemmas
+pub mod StallLemmas

@@ -7,3 +7,4 @@ pub mod Cases
 pub mod Complete
 pub mod Replayed
 pub mod Headline
+pub mod Stall

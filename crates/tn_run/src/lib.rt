@@ -27,6 +27,12 @@ mod rows;
 #[cfg(test)]
 mod solve_tests;
 #[cfg(test)]
+mod stall_outcome_tests;
+#[cfg(test)]
+mod stall_tests;
+#[cfg(test)]
+mod stalls;
+#[cfg(test)]
 mod table_tests;
 mod testing;
 #[cfg(test)]

@@ -1,0 +1,17 @@
+use Rattle.std.proofs.Common.{◌≡◌, List, [], ◌∷◌, rules}
+use Rattle.tn_base.specs.Firm.{Firm}
+use Rattle.tn_market.specs.ClaimLimits.{IsClaimWithin}
+use Rattle.tn_run.specs.Stall.{trade_between}
+use Rattle.tn_run.proofs.stall_outcome_tests.an_equilibrium_is_replayed.Goals as goal
+
+pub replay-requires-clause-within : goal.replay-requires-clause-within
+replay-requires-clause-within g c =
+    let trades : c.expect-market.result.trades ≡ trade_between 0 1 ∷ trade_between 1 0 ∷ [] = search rules in
+    let within : (firms : List Firm) → IsClaimWithin firms (trade_between 0 1 ∷ trade_between 1 0 ∷ []) c.expect-claim.result = search rules in
+    rw trades (within _)
+
+pub replay-requires-2-clause-within : goal.replay-requires-2-clause-within
+replay-requires-2-clause-within g c =
+    let trades : c.expect-market.result.trades ≡ trade_between 0 1 ∷ trade_between 1 0 ∷ [] = search rules in
+    let within : (firms : List Firm) → IsClaimWithin firms (trade_between 0 1 ∷ trade_between 1 0 ∷ []) c.expect-claim-2.result = search rules in
+    rw trades (within _)

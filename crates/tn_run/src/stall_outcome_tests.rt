@@ -1,0 +1,209 @@
+//! Outcomes between two stalls, and claims about them.
+
+ghost use Rattle.std.specs.Prelude.{◌≡◌, ◌^◌, ◌<◌, List, length, IfOk, false, [], ◌∷◌};
+ghost use Rattle.tn_base.specs.Firm.{Firm};
+ghost use Rattle.tn_cert.specs.Replays.{is_on_exchange};
+ghost use Rattle.tn_market.specs.ClaimLimits.{IsClaimWithin, IsNumberWithin};
+ghost use Rattle.tn_run.specs.Stall.{trade_between};
+
+use crate::stalls::{both_sold, ends, nothing_signed, sold_at_4, two_stalls};
+use std::alloc::Global;
+use tn_base::{Asked, Bundle, Costs, OutOfMemory, Side, Steps, TradeSet};
+use tn_cert::{Replayed, is_on_exchange, replay, replay_exchange};
+use tn_chain::{chain_scale, reduced_graph};
+use tn_exchange::RawTable;
+use tn_firm::RawFirm;
+use tn_judge::{Judged, judge};
+use tn_market::{Arrangement, Claim, Nodes, Prices, Reason, Room, Valuation};
+use tn_residual::{contract_price, reduced_best, residual};
+
+/// The seller keeps its contract at 4, and the buyer, to whom the thing is worth -3, drops its own.
+#[test]
+fn stalls_keep_what_they_like(rt: HostRuntime) {
+    let market = two_stalls(rt.alloc()).expect(&rt, "memory");
+    let outcome = sold_at_4(rt.alloc()).expect(&rt, "memory");
+    let mut room = Room::new(rt.alloc()).expect(&rt, "memory");
+    assert!(rt; contract_price(&outcome.contracts, 0) == Some(4));
+    assert!(rt; contract_price(&outcome.contracts, 1) == None);
+    let none = Bundle::empty();
+    let seller = reduced_best(&market, 0, &outcome, none, &mut room);
+    assert!(rt; seller == Some((Bundle::from_bits(2), 9)));
+    let buyer = reduced_best(&market, 1, &outcome, none, &mut room);
+    assert!(rt; buyer == Some((none, 0)));
+}
+
+/// The other trade stays, and a firm outside stands between the two stalls.
+#[test]
+fn residual_market_of_two_stalls(rt: HostRuntime) {
+    let market = two_stalls(rt.alloc()).expect(&rt, "memory");
+    let outcome = sold_at_4(rt.alloc()).expect(&rt, "memory");
+    let residual = residual(rt.alloc(), &market, &outcome, 2, 1).expect(&rt, "memory");
+    assert_eq!(rt; (residual.firms(), residual.trades()), (3, 3));
+    assert!(rt; residual.ends(0) == ends(1, 0));
+    assert!(rt; residual.ends(1) == ends(0, 2));
+    assert!(rt; residual.ends(2) == ends(2, 1));
+    assert_eq!(rt;
+        (residual.firm(0).bound(), residual.firm(2).bound()),
+        (80, 8)
+    );
+}
+
+/// What each stall loses by selling, by buying and by both, where nothing is signed.
+#[test]
+fn reduced_graph_of_two_stalls(rt: HostRuntime) {
+    let market = two_stalls(rt.alloc()).expect(&rt, "memory");
+    let outcome = nothing_signed(rt.alloc());
+    assert_eq!(rt; chain_scale(&outcome.contracts, 2), 5);
+    let graph = reduced_graph(rt.alloc(), &market, &outcome).expect(&rt, "memory");
+    assert_eq!(rt; (graph.cost(2, 0), graph.cost(0, 2)), (Some(-5), Some(3)));
+    assert_eq!(rt; (graph.cost(0, 1), graph.cost(2, 2)), (Some(-2), None));
+}
+
+/// The buyer, to whom the thing is worth -3, would drop its contract at 4, and have 7 more.
+#[test]
+fn a_buyer_drops(rt: HostRuntime) {
+    let market = two_stalls(rt.alloc()).expect(&rt, "memory");
+    let outcome = sold_at_4(rt.alloc()).expect(&rt, "memory");
+    match judge(rt.alloc(), &market, &outcome, &mut Steps::new(Asked)).expect(&rt, "memory") {
+        Judged::Drops { firm, keeps, gain } => {
+            assert!(rt; firm == 1 && keeps == Bundle::empty() && gain == Some(7));
+        }
+        _ => assert!(rt; false),
+    }
+}
+
+/// With both trades at -4 each stall has 2, and would keep both.
+#[test]
+fn two_sales_are_complete(rt: HostRuntime) {
+    let market = two_stalls(rt.alloc()).expect(&rt, "memory");
+    let outcome = both_sold(rt.alloc()).expect(&rt, "memory");
+    match judge(rt.alloc(), &market, &outcome, &mut Steps::new(Asked)).expect(&rt, "memory") {
+        Judged::Completes { prices } => {
+            assert!(rt; prices.len() == 2 && prices.at(0) == -4 && prices.at(1) == -4);
+        }
+        _ => assert!(rt; false),
+    }
+}
+
+/// Each trade gains 2, so a price between -5 and -3 blocks, over 5 from -24 to -16.
+#[test]
+fn nothing_signed_is_blocked(rt: HostRuntime) {
+    let market = two_stalls(rt.alloc()).expect(&rt, "memory");
+    let outcome = nothing_signed(rt.alloc());
+    match judge(rt.alloc(), &market, &outcome, &mut Steps::new(Asked)).expect(&rt, "memory") {
+        Judged::Blocks { contracts, over } => {
+            assert!(rt; over == 5 && 0 < contracts.len());
+            let price = contracts.at(0).price;
+            assert!(rt; -24 <= price && price <= -16);
+        }
+        _ => assert!(rt; false),
+    }
+}
+
+/// Both trades are on at -4, an equilibrium with this surplus.
+#[tactic(auto, unfolding(tn_base::specs::Sets::toggle))]
+fn both_on(alloc: Global, surplus: i128) -> Result<Claim, OutOfMemory>
+    requires { IsNumberWithin surplus }
+    ensures within { IfOk result (λ claim. (firms : List Firm) → IsClaimWithin firms (trade_between 0 1 ∷ trade_between 1 0 ∷ []) claim) }
+    ensures kind { IfOk result (λ claim. is_on_exchange claim ≡ false) }
+{
+    let mut on = TradeSet::empty();
+    on.toggle(0);
+    on.toggle(1);
+    let prices = Prices::from_vec(vec![in alloc; -4, -4]?);
+    let at = Arrangement { on, prices };
+    Ok(Claim::Equilibrium { at, surplus })
+}
+
+/// Trade 0 put on, from null and back, at this cost.
+fn round(alloc: Global, cost: i128) -> Result<Claim, OutOfMemory>
+    requires { IsNumberWithin cost }
+    ensures within { IfOk result (λ claim. (firms : List Firm) → IsClaimWithin firms (trade_between 0 1 ∷ trade_between 1 0 ∷ []) claim) }
+    ensures kind { IfOk result (λ claim. is_on_exchange claim ≡ false) }
+{
+    let on = TradeSet::empty();
+    let nodes = Nodes::from_vec(vec![in alloc; None, Some(0)]?);
+    Ok(Claim::Cycle { on, nodes, cost })
+}
+
+/// Each stall has 2, and would do no better.
+#[test]
+fn an_equilibrium_is_replayed(rt: HostRuntime) {
+    let alloc = rt.alloc();
+    let market = two_stalls(alloc).expect(&rt, "memory");
+    let mut steps = Steps::new(Asked);
+    let claim = both_on(alloc, 4).expect(&rt, "memory");
+    match replay(alloc, &market, &claim, &mut steps).expect(&rt, "memory") {
+        Replayed::Valid => {}
+        other => panic!(rt; "{:?}", other),
+    }
+    let claim = both_on(alloc, 5).expect(&rt, "memory");
+    match replay(alloc, &market, &claim, &mut steps).expect(&rt, "memory") {
+        Replayed::Invalid(Reason::Surplus { surplus }) => assert_eq!(rt; surplus, 4),
+        other => panic!(rt; "{:?}", other),
+    }
+}
+
+/// The seller loses -5 and the buyer 3.
+#[test]
+fn a_cycle_is_replayed(rt: HostRuntime) {
+    let alloc = rt.alloc();
+    let market = two_stalls(alloc).expect(&rt, "memory");
+    let mut steps = Steps::new(Asked);
+    let claim = round(alloc, -2).expect(&rt, "memory");
+    match replay(alloc, &market, &claim, &mut steps).expect(&rt, "memory") {
+        Replayed::Valid => {}
+        other => panic!(rt; "{:?}", other),
+    }
+    let claim = round(alloc, -1).expect(&rt, "memory");
+    match replay(alloc, &market, &claim, &mut steps).expect(&rt, "memory") {
+        Replayed::Invalid(Reason::Cost { cost }) => assert_eq!(rt; cost, -2),
+        other => panic!(rt; "{:?}", other),
+    }
+}
+
+/// Adds a row, if there is an amount for it.
+fn add(table: &mut RawTable, bits: u64, amount: Option<i16>)
+    requires { bits < 2 ^ length table.old.sides }
+    ensures { table.new.sides ≡ table.old.sides }
+{
+    if let Some(amount) = amount {
+        let _ = table.add(Bundle::from_bits(bits), i128::from(amount));
+    }
+}
+
+/// A buyer of two trades, of which one is worth nothing without the other.
+fn complements(alloc: Global) -> Result<RawTable, OutOfMemory>
+    ensures { IfOk result (λ table. length table.sides ≡ 2) }
+{
+    let sides = vec![in alloc; Side::Buy, Side::Buy]?;
+    let mut table = RawTable::new(alloc, sides)?;
+    add(&mut table, 1, Some(0));
+    add(&mut table, 2, Some(0));
+    add(&mut table, 3, Some(10));
+    Ok(table)
+}
+
+/// Both trades against none fail at the first position, which is named where all firms are said to meet exchange.
+#[test]
+fn complements_are_replayed(rt: HostRuntime) {
+    let alloc = rt.alloc();
+    let table = complements(alloc).expect(&rt, "memory");
+    let firms = [RawFirm::Table(table)];
+    match replay_exchange(alloc, &firms, &Claim::Accepted).expect(&rt, "memory") {
+        Replayed::Invalid(Reason::Exchange { firm, x, y, at }) => {
+            assert!(rt; firm == 0 && x.len() == 2 && y.len() == 0 && at == Some(0));
+        }
+        other => panic!(rt; "{:?}", other),
+    }
+    let claim = Claim::ExchangeFails {
+        firm: 0,
+        x: Bundle::from_bits(3),
+        y: Bundle::empty(),
+        at: Some(0),
+    };
+    match replay_exchange(alloc, &firms, &claim).expect(&rt, "memory") {
+        Replayed::Valid => assert!(rt; is_on_exchange(&claim)),
+        other => panic!(rt; "{:?}", other),
+    }
+}
