@@ -15,8 +15,6 @@ mod pool;
 mod replayed;
 mod replaying;
 mod terms;
-#[cfg(test)]
-mod tests;
 mod utilities;
 
 pub use laws::refuted_is_not_valid;

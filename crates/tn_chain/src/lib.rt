@@ -5,8 +5,6 @@ mod chain;
 mod cycle;
 mod graph;
 mod numbers;
-#[cfg(test)]
-mod tests;
 
 pub use chain::{chain_of, chain_scale};
 pub use graph::reduced_graph;

@@ -3,8 +3,6 @@
 
 mod rounds;
 mod solver;
-#[cfg(test)]
-mod tests;
 
 pub use rounds::Rounds;
 pub use solver::Solver;

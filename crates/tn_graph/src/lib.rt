@@ -5,7 +5,5 @@
 mod graph;
 mod reading;
 mod stand;
-#[cfg(test)]
-mod tests;
 
 pub use graph::Graph;

@@ -4,7 +4,5 @@
 mod completing;
 mod drops;
 mod judging;
-#[cfg(test)]
-mod tests;
 
 pub use judging::{Judged, judge};

@@ -6,6 +6,5 @@ pub mod InOrderNetworks
 pub mod AscentLemmas
 pub mod BonusLemmas
 pub mod AskLemmas
-pub mod StallLemmas
 pub mod ContractLemmas
 pub mod LevyLemmas

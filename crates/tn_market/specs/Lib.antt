@@ -20,7 +20,6 @@ pub mod Best
 pub mod Accepted
 pub mod Traded
 pub mod Ascent
-pub mod Stall
 pub mod Lawful
 pub mod Levied
 pub mod Outside

@@ -23,8 +23,6 @@ mod room;
 mod said;
 mod session;
 mod sides;
-#[cfg(test)]
-mod tests;
 mod valuation;
 
 pub use arrangement::Arrangement;

@@ -2,4 +2,3 @@ pub mod SurplusLemmas
 pub mod JudgeLemmas
 pub mod SupportLemmas
 pub mod CycleLemmas
-pub mod PartStallLemmas

@@ -1,4 +1,3 @@
 pub mod Checks
 pub mod Supports
 pub mod Standings
-pub mod PartStall

@@ -10,8 +10,6 @@ mod standing;
 mod supported;
 mod supporting;
 mod surplus;
-#[cfg(test)]
-mod tests;
 
 pub use bundle::trades_in;
 pub use check::Check;

@@ -1,3 +1,2 @@
 mod PathLemmas
 mod RangeLemmas
-mod StallLemmas

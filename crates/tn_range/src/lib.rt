@@ -3,7 +3,5 @@
 
 mod bounds;
 mod ranges;
-#[cfg(test)]
-mod tests;
 
 pub use ranges::range;

@@ -6,8 +6,6 @@ mod laws;
 mod parties;
 mod residual_market;
 mod signed;
-#[cfg(test)]
-mod tests;
 mod worth;
 
 pub use laws::surplus_is_reduced_worth;

@@ -1,4 +1,4 @@
-//! Outcomes between two stalls, and claims about them.
+//! Outcomes between two stalls, claims about them, and one about a table that fails exchange.
 
 ghost use Rattle.std.specs.Prelude.{◌≡◌, ◌^◌, ◌<◌, List, length, IfOk, false, [], ◌∷◌};
 ghost use Rattle.tn_base.specs.Firm.{Firm};

@@ -8,7 +8,5 @@
 mod barring;
 mod lowered;
 mod session;
-#[cfg(test)]
-mod tests;
 
 pub use session::Session;

@@ -1,5 +1,4 @@
 use Rattle.std.proofs.Common.{◌≡◌, length, lit<, lit≤, arith, IfOk, Result, subst}
-use Rattle.tn_base.specs.Sets.{has}
 use Rattle.tn_base.specs.declared.memory.OutOfMemory.{OutOfMemory}
 use Rattle.tn_base.proofs.SetLemmas.{has-zero}
 use Rattle.tn_market.specs.Traded.{Traded}

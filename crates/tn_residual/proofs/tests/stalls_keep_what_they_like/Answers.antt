@@ -1,8 +1,0 @@
-use Rattle.tn_market.proofs.AskLemmas.{none_meet}
-use Rattle.tn_residual.proofs.tests.stalls_keep_what_they_like.Goals as goal
-
-pub reduced_best-seller-requires-clause-unsigned : goal.reduced_best-seller-requires-clause-unsigned
-reduced_best-seller-requires-clause-unsigned g c = λ v is. none_meet c.empty-none.result _ c.empty-none.ensures
-
-pub reduced_best-buyer-requires-clause-unsigned : goal.reduced_best-buyer-requires-clause-unsigned
-reduced_best-buyer-requires-clause-unsigned g c = λ v is. none_meet c.empty-none.result _ c.empty-none.ensures
