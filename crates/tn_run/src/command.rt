@@ -3,6 +3,7 @@ ghost use Rattle.tn_run.specs.Words.{asks_for_cases, case_command, command_of, d
 
 use crate::numbers::number_within;
 use tn_file::Need;
+use tn_shape::beside;
 
 /// What the program is asked to do with a document.
 #[derive(Clone, Copy)]
@@ -31,25 +32,19 @@ pub enum Command {
 fn word_command(word: &str) -> Option<Command>
     ensures { result ≡ word_command word.now }
 {
-    if word == "check" {
-        Some(Command::Check)
-    } else if word == "judge" {
-        Some(Command::Judge)
-    } else if word == "range" {
-        Some(Command::Range)
-    } else if word == "replay" {
-        Some(Command::Replay)
-    } else if word == "session" {
-        Some(Command::Session)
-    } else if word == "solve" {
-        Some(Command::Solve)
-    } else if word == "support" {
-        Some(Command::Support)
-    } else if word == "test" {
-        Some(Command::Test)
-    } else {
-        None
-    }
+    beside(
+        word,
+        &[
+            ("check", Command::Check),
+            ("judge", Command::Judge),
+            ("range", Command::Range),
+            ("replay", Command::Replay),
+            ("session", Command::Session),
+            ("solve", Command::Solve),
+            ("support", Command::Support),
+            ("test", Command::Test),
+        ],
+    )
 }
 
 /// The command that the words are, none where they are no command.
