@@ -5,5 +5,6 @@ pub mod Sayable
 pub mod Kept
 pub mod Rows
 pub mod AnswerText
+pub mod Fields
 pub mod Laws
 pub mod Apart

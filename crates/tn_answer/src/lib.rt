@@ -1,6 +1,7 @@
 //! The text of an answer. What is written for each answer stands in `specs/`.
 #![tactic(auto)]
 
+mod fields;
 mod laws;
 mod ranges;
 mod reasons;

@@ -7,9 +7,8 @@ ghost use Rattle.tn_answer.specs.AnswerText.{answer};
 ghost use Rattle.tn_answer.specs.ReasonText.{because, firm_because, reason_members, IsShortReason};
 ghost use Rattle.tn_answer.specs.Values.{integer_data, name_data, numbers_data};
 
-use crate::ranges::bound_value;
-use crate::values::{firm_name, option_value, trade_name, trades_value};
-use serde_json::{Value, json};
+use crate::fields::{Field, object_of};
+use serde_json::Value;
 use std::alloc::{AllocError, Global};
 use tn_market::{Numbers, Reason, Trades};
 use tn_names::Names;
@@ -27,21 +26,31 @@ pub(crate) fn invalid_value(
         Reason::Impossible { firm } => firm_value(alloc, names, *firm, "impossible"),
         Reason::Better { firm, bundle } => better_value(alloc, names, *firm, bundle),
         Reason::Possible { firm } => firm_value(alloc, names, *firm, "possible"),
-        Reason::Surplus { surplus } => surplus_value(alloc, *surplus),
+        Reason::Surplus { surplus } => surplus_value(alloc, names, *surplus),
         Reason::Gain { firm, gain } => gain_value(alloc, names, *firm, *gain),
         Reason::Exchange { firm, x, y, at } => exchange_value(alloc, names, *firm, x, y, *at),
-        Reason::Holds => json!(in alloc; {"answer": "invalid", "reason": "holds"}),
-        Reason::Arc { index } => {
-            json!(in alloc; {"answer": "invalid", "index": *index, "reason": "arc"})
-        }
-        Reason::Cost { cost } => cost_value(alloc, *cost),
+        Reason::Holds => plain_value(alloc, names, "holds"),
+        Reason::Arc { index } => arc_value(alloc, names, *index),
+        Reason::Cost { cost } => cost_value(alloc, names, *cost),
         Reason::Contract { trade } => trade_value(alloc, names, *trade, "contract"),
-        Reason::Over { over } => over_value(alloc, *over),
+        Reason::Over { over } => over_value(alloc, names, *over),
         Reason::Price { trade } => trade_value(alloc, names, *trade, "price"),
-        Reason::Empty => json!(in alloc; {"answer": "invalid", "reason": "empty"}),
+        Reason::Empty => plain_value(alloc, names, "empty"),
         Reason::Signed { trade } => trade_value(alloc, names, *trade, "signed"),
         Reason::Choice { firm, trade } => choice_value(alloc, names, *firm, *trade),
     }
+}
+
+/// A reason that names nothing.
+fn plain_value(alloc: Global, names: &Names, reason: &str) -> Result<Value, AllocError>
+    ensures { IfOk result
+        (λ value. view value ≡ answer (codes "invalid") (because reason.now no_members)) }
+{
+    let fields = [
+        ("answer", Field::Word("invalid")),
+        ("reason", Field::Word(reason)),
+    ];
+    object_of(alloc, names, &fields)
 }
 
 /// A reason that names a firm alone.
@@ -49,7 +58,12 @@ fn firm_value(alloc: Global, names: &Names, firm: u32, reason: &str) -> Result<V
     ensures { IfOk result
         (λ value. view value ≡ answer (codes "invalid") (firm_because names.now firm reason.now no_members)) }
 {
-    json!(in alloc; {"answer": "invalid", "firm": firm_name(names, firm), "reason": reason})
+    let fields = [
+        ("answer", Field::Word("invalid")),
+        ("firm", Field::Firm(firm)),
+        ("reason", Field::Word(reason)),
+    ];
+    object_of(alloc, names, &fields)
 }
 
 /// A reason that names a trade alone.
@@ -58,7 +72,12 @@ fn trade_value(alloc: Global, names: &Names, trade: u32, reason: &str) -> Result
         (λ value. view value ≡ answer (codes "invalid")
         (because reason.now (member (codes "trade") (name_data names.now.trades trade) no_members))) }
 {
-    json!(in alloc; {"answer": "invalid", "reason": reason, "trade": trade_name(names, trade)})
+    let fields = [
+        ("answer", Field::Word("invalid")),
+        ("reason", Field::Word(reason)),
+        ("trade", Field::Trade(trade)),
+    ];
+    object_of(alloc, names, &fields)
 }
 
 fn better_value(
@@ -70,39 +89,67 @@ fn better_value(
     ensures { IfOk result
         (λ value. view value ≡ answer (codes "invalid") (reason_members names.now (Reason.Better firm bundle.now))) }
 {
-    json!(in alloc; {
-        "answer": "invalid",
-        "bundle": trades_value(alloc, names, bundle)?,
-        "firm": firm_name(names, firm),
-        "reason": "better",
-    })
+    let fields = [
+        ("answer", Field::Word("invalid")),
+        ("bundle", Field::Trades(bundle)),
+        ("firm", Field::Firm(firm)),
+        ("reason", Field::Word("better")),
+    ];
+    object_of(alloc, names, &fields)
 }
 
-fn surplus_value(alloc: Global, surplus: i128) -> Result<Value, AllocError>
+fn surplus_value(alloc: Global, names: &Names, surplus: i128) -> Result<Value, AllocError>
     requires { FitsSigned w64 surplus }
     ensures { IfOk result
         (λ value. view value ≡ answer (codes "invalid")
         (because (codes "surplus") (member (codes "surplus") (integer_data surplus) no_members))) }
 {
-    json!(in alloc; {"answer": "invalid", "reason": "surplus", "surplus": surplus as i64})
+    let fields = [
+        ("answer", Field::Word("invalid")),
+        ("reason", Field::Word("surplus")),
+        ("surplus", Field::Number(surplus)),
+    ];
+    object_of(alloc, names, &fields)
 }
 
-fn cost_value(alloc: Global, cost: i128) -> Result<Value, AllocError>
+fn arc_value(alloc: Global, names: &Names, index: u32) -> Result<Value, AllocError>
+    ensures { IfOk result
+        (λ value. view value ≡ answer (codes "invalid") (reason_members names.now (Reason.Arc index))) }
+{
+    let fields = [
+        ("answer", Field::Word("invalid")),
+        ("index", Field::Natural(index)),
+        ("reason", Field::Word("arc")),
+    ];
+    object_of(alloc, names, &fields)
+}
+
+fn cost_value(alloc: Global, names: &Names, cost: i128) -> Result<Value, AllocError>
     requires { FitsSigned w64 cost }
     ensures { IfOk result
         (λ value. view value ≡ answer (codes "invalid")
         (member (codes "cost") (integer_data cost) (because (codes "cost") no_members))) }
 {
-    json!(in alloc; {"answer": "invalid", "cost": cost as i64, "reason": "cost"})
+    let fields = [
+        ("answer", Field::Word("invalid")),
+        ("cost", Field::Number(cost)),
+        ("reason", Field::Word("cost")),
+    ];
+    object_of(alloc, names, &fields)
 }
 
-fn over_value(alloc: Global, over: i128) -> Result<Value, AllocError>
+fn over_value(alloc: Global, names: &Names, over: i128) -> Result<Value, AllocError>
     requires { FitsSigned w64 over }
     ensures { IfOk result
         (λ value. view value ≡ answer (codes "invalid")
         (member (codes "over") (integer_data over) (because (codes "over") no_members))) }
 {
-    json!(in alloc; {"answer": "invalid", "over": over as i64, "reason": "over"})
+    let fields = [
+        ("answer", Field::Word("invalid")),
+        ("over", Field::Number(over)),
+        ("reason", Field::Word("over")),
+    ];
+    object_of(alloc, names, &fields)
 }
 
 fn gain_value(
@@ -115,45 +162,48 @@ fn gain_value(
     ensures { IfOk result
         (λ value. view value ≡ answer (codes "invalid") (reason_members names.now (Reason.Gain firm gain))) }
 {
-    json!(in alloc; {
-        "answer": "invalid",
-        "firm": firm_name(names, firm),
-        "gain": bound_value(gain),
-        "reason": "gain",
-    })
+    let fields = [
+        ("answer", Field::Word("invalid")),
+        ("firm", Field::Firm(firm)),
+        ("gain", Field::Bound(gain)),
+        ("reason", Field::Word("gain")),
+    ];
+    object_of(alloc, names, &fields)
 }
 
-fn exchange_value(
+fn exchange_value<'a>(
     alloc: Global,
     names: &Names,
     firm: u32,
-    x: &Trades,
-    y: &Trades,
+    x: &'a Trades,
+    y: &'a Trades,
     at: Option<u32>,
 ) -> Result<Value, AllocError>
     ensures { IfOk result
         (λ value. view value ≡ answer (codes "invalid") (reason_members names.now (Reason.Exchange firm x.now y.now at))) }
 {
-    json!(in alloc; {
-        "answer": "invalid",
-        "at": option_value(alloc, names, at)?,
-        "firm": firm_name(names, firm),
-        "reason": "exchange",
-        "x": trades_value(alloc, names, x)?,
-        "y": trades_value(alloc, names, y)?,
-    })
+    let fields = [
+        ("answer", Field::Word("invalid")),
+        ("at", Field::TradeOrNull(at)),
+        ("firm", Field::Firm(firm)),
+        ("reason", Field::Word("exchange")),
+        ("x", Field::Trades(x)),
+        ("y", Field::Trades(y)),
+    ];
+    object_of(alloc, names, &fields)
 }
 
 fn choice_value(alloc: Global, names: &Names, firm: u32, trade: u32) -> Result<Value, AllocError>
     ensures { IfOk result
         (λ value. view value ≡ answer (codes "invalid") (reason_members names.now (Reason.Choice firm trade))) }
 {
-    json!(in alloc; {
-        "answer": "invalid",
-        "firm": firm_name(names, firm),
-        "reason": "choice",
-        "trade": trade_name(names, trade),
-    })
+    let fields = [
+        ("answer", Field::Word("invalid")),
+        ("firm", Field::Firm(firm)),
+        ("reason", Field::Word("choice")),
+        ("trade", Field::Trade(trade)),
+    ];
+    object_of(alloc, names, &fields)
 }
 
 fn number_value(n: u32) -> Value

@@ -5,8 +5,9 @@ ghost use Rattle.serde_json.specs.View.{view};
 ghost use Rattle.tn_answer.specs.AnswerText.{contract_data, contracts_data, state_data, states_data};
 ghost use Rattle.tn_answer.specs.Sayable.{IsShortState};
 
-use crate::values::{trade_name, trades_value};
-use serde_json::{Value, json};
+use crate::fields::{Field, object_of};
+use crate::values::price_value;
+use serde_json::Value;
 use std::alloc::{AllocError, Global};
 use tn_market::{Contract, Contracts, State, States};
 use tn_names::Names;
@@ -15,7 +16,7 @@ fn contract_value(alloc: Global, names: &Names, contract: Contract) -> Result<Va
     requires { FitsSigned w64 contract.price }
     ensures { IfOk result (λ value. view value ≡ contract_data names.now.trades contract) }
 {
-    json!(in alloc; [trade_name(names, contract.trade), contract.price as i64])
+    price_value(alloc, names, contract.trade as usize, contract.price)
 }
 
 pub(crate) fn contracts_value(
@@ -37,11 +38,12 @@ fn state_value(alloc: Global, names: &Names, state: &State) -> Result<Value, All
     requires { IsShortState state.now }
     ensures { IfOk result (λ value. view value ≡ state_data names.now.trades state.now) }
 {
-    json!(in alloc; {
-        "on": trades_value(alloc, names, &state.on)?,
-        "prices": contracts_value(alloc, names, &state.prices)?,
-        "surplus": state.surplus as i64,
-    })
+    let fields = [
+        ("on", Field::Trades(&state.on)),
+        ("prices", Field::Contracts(&state.prices)),
+        ("surplus", Field::Number(state.surplus)),
+    ];
+    object_of(alloc, names, &fields)
 }
 
 pub(crate) fn states_value(

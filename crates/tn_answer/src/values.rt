@@ -2,14 +2,16 @@
 // they are put in.
 ghost use Rattle.std.specs.Prelude.{◌≡◌, [], All, unwrap_or, slice_get, IfOk, IfSome, FitsSigned};
 ghost use Rattle.std.specs.Int.{w64};
+ghost use Rattle.serde_json.specs.Data.{no_members};
 ghost use Rattle.serde_json.specs.View.{view};
-ghost use Rattle.tn_answer.specs.AnswerText.{answer_data, fault_data, nodes_data, place_data, price_data, prices_data, step_data};
+ghost use Rattle.tn_answer.specs.AnswerText.{answer, answer_data, fault_data, nodes_data, place_data, price_data, prices_data, step_data};
 ghost use Rattle.tn_answer.specs.Values.{name_data, names_data, option_data};
 ghost use Rattle.tn_answer.specs.Sayable.{HasShortBounds, IsSayable, IsShortState};
 
-use crate::ranges::{bound_value, ranges_value};
-use crate::reasons::{invalid_value, numbers_value};
-use crate::states::{contracts_value, states_value};
+use crate::fields::{Field, object_of};
+use crate::ranges::ranges_value;
+use crate::reasons::invalid_value;
+use crate::states::states_value;
 use crate::words::{kind_name, word_text};
 use serde_json::{Value, json};
 use std::alloc::{AllocError, Global};
@@ -23,14 +25,14 @@ pub(crate) fn answer_value(alloc: Global, names: &Names, said: &Said) -> Result<
     ensures { IfOk result (λ value. view value ≡ answer_data names.now said.now) }
 {
     match said {
-        Said::Usage => json!(in alloc; {"answer": "usage"}),
-        Said::ReadFault => json!(in alloc; {"answer": "read_fault"}),
-        Said::NoMemory => json!(in alloc; {"answer": "no_memory"}),
+        Said::Usage => plain_value(alloc, names, "usage"),
+        Said::ReadFault => plain_value(alloc, names, "read_fault"),
+        Said::NoMemory => plain_value(alloc, names, "no_memory"),
         Said::Fault(fault) => fault_value(alloc, names, fault),
         Said::Equilibrium { surplus } => equilibrium_value(alloc, names, *surplus),
         Said::Better { firm, bundle, gain } => better_value(alloc, names, *firm, bundle, *gain),
         Said::Impossible { firm } => impossible_value(alloc, names, *firm),
-        Said::Accepted => json!(in alloc; {"answer": "accepted"}),
+        Said::Accepted => plain_value(alloc, names, "accepted"),
         Said::ExchangeFails { firm, x, y, at } => {
             exchange_fails_value(alloc, names, *firm, x, y, *at)
         }
@@ -59,10 +61,17 @@ pub(crate) fn answer_value(alloc: Global, names: &Names, said: &Said) -> Result<
         } => drops_value(alloc, names, *firm, keeps, *gain, *over),
         Said::Completes { prices, over } => completes_value(alloc, names, prices, *over),
         Said::Blocks { contracts, over } => blocks_value(alloc, names, contracts, *over),
-        Said::Valid => json!(in alloc; {"answer": "valid"}),
+        Said::Valid => plain_value(alloc, names, "valid"),
         Said::Invalid(reason) => invalid_value(alloc, names, reason),
         Said::Cases { count, failed } => cases_value(alloc, names, *count, failed),
     }
+}
+
+/// An answer that says nothing more.
+fn plain_value(alloc: Global, names: &Names, kind: &str) -> Result<Value, AllocError>
+    ensures { IfOk result (λ value. view value ≡ answer kind.now no_members) }
+{
+    object_of(alloc, names, &[("answer", Field::Word(kind))])
 }
 
 fn fault_value(alloc: Global, names: &Names, fault: &Fault) -> Result<Value, AllocError>
@@ -77,32 +86,34 @@ fn fault_value(alloc: Global, names: &Names, fault: &Fault) -> Result<Value, All
 fn plain_fault_value(alloc: Global, names: &Names, fault: &Fault) -> Result<Value, AllocError>
     ensures { IfOk result (λ value. view value ≡ fault_data names.now.trades fault.now None) }
 {
-    json!(in alloc; {
-        "answer": "fault",
-        "fault": fault.kind.number(),
-        "name": kind_name(fault.kind),
-        "place": place_value(alloc, names, &fault.place)?,
-    })
+    let fields = [
+        ("answer", Field::Word("fault")),
+        ("fault", Field::Natural(fault.kind.number() as u32)),
+        ("name", Field::Word(kind_name(fault.kind))),
+        ("place", Field::Place(&fault.place)),
+    ];
+    object_of(alloc, names, &fields)
 }
 
-fn shown_fault_value(
+fn shown_fault_value<'a>(
     alloc: Global,
     names: &Names,
-    fault: &Fault,
-    shown: &Shown,
+    fault: &'a Fault,
+    shown: &'a Shown,
 ) -> Result<Value, AllocError>
     ensures { IfOk result
         (λ value. view value ≡ fault_data names.now.trades fault.now (Some shown.now)) }
 {
-    json!(in alloc; {
-        "answer": "fault",
-        "at": option_value(alloc, names, shown.at)?,
-        "fault": fault.kind.number(),
-        "name": kind_name(fault.kind),
-        "place": place_value(alloc, names, &fault.place)?,
-        "x": trades_value(alloc, names, &shown.x)?,
-        "y": trades_value(alloc, names, &shown.y)?,
-    })
+    let fields = [
+        ("answer", Field::Word("fault")),
+        ("at", Field::TradeOrNull(shown.at)),
+        ("fault", Field::Natural(fault.kind.number() as u32)),
+        ("name", Field::Word(kind_name(fault.kind))),
+        ("place", Field::Place(&fault.place)),
+        ("x", Field::Trades(&shown.x)),
+        ("y", Field::Trades(&shown.y)),
+    ];
+    object_of(alloc, names, &fields)
 }
 
 fn equilibrium_value(alloc: Global, names: &Names, surplus: i128) -> Result<Value, AllocError>
@@ -110,7 +121,11 @@ fn equilibrium_value(alloc: Global, names: &Names, surplus: i128) -> Result<Valu
     ensures { IfOk result
         (λ value. view value ≡ answer_data names.now (Said.Equilibrium surplus)) }
 {
-    json!(in alloc; {"answer": "equilibrium", "surplus": surplus as i64})
+    let fields = [
+        ("answer", Field::Word("equilibrium")),
+        ("surplus", Field::Number(surplus)),
+    ];
+    object_of(alloc, names, &fields)
 }
 
 fn better_value(
@@ -124,38 +139,44 @@ fn better_value(
     ensures { IfOk result
         (λ value. view value ≡ answer_data names.now (Said.Better firm bundle.now gain)) }
 {
-    json!(in alloc; {
-        "answer": "better",
-        "bundle": trades_value(alloc, names, bundle)?,
-        "firm": firm_name(names, firm),
-        "gain": gain as i64,
-    })
+    let fields = [
+        ("answer", Field::Word("better")),
+        ("bundle", Field::Trades(bundle)),
+        ("firm", Field::Firm(firm)),
+        ("gain", Field::Number(gain)),
+    ];
+    object_of(alloc, names, &fields)
 }
 
 fn impossible_value(alloc: Global, names: &Names, firm: u32) -> Result<Value, AllocError>
     ensures { IfOk result (λ value. view value ≡ answer_data names.now (Said.Impossible firm)) }
 {
-    json!(in alloc; {"answer": "impossible", "firm": firm_name(names, firm)})
+    let fields = [
+        ("answer", Field::Word("impossible")),
+        ("firm", Field::Firm(firm)),
+    ];
+    object_of(alloc, names, &fields)
 }
 
-fn exchange_fails_value(
+fn exchange_fails_value<'a>(
     alloc: Global,
     names: &Names,
     firm: u32,
-    x: &Trades,
-    y: &Trades,
+    x: &'a Trades,
+    y: &'a Trades,
     at: Option<u32>,
 ) -> Result<Value, AllocError>
     ensures { IfOk result
         (λ value. view value ≡ answer_data names.now (Said.ExchangeFails firm x.now y.now at)) }
 {
-    json!(in alloc; {
-        "answer": "exchange_fails",
-        "at": option_value(alloc, names, at)?,
-        "firm": firm_name(names, firm),
-        "x": trades_value(alloc, names, x)?,
-        "y": trades_value(alloc, names, y)?,
-    })
+    let fields = [
+        ("answer", Field::Word("exchange_fails")),
+        ("at", Field::TradeOrNull(at)),
+        ("firm", Field::Firm(firm)),
+        ("x", Field::Trades(x)),
+        ("y", Field::Trades(y)),
+    ];
+    object_of(alloc, names, &fields)
 }
 
 fn supported_value(alloc: Global, names: &Names, prices: &Prices) -> Result<Value, AllocError>
@@ -163,7 +184,11 @@ fn supported_value(alloc: Global, names: &Names, prices: &Prices) -> Result<Valu
     ensures { IfOk result
         (λ value. view value ≡ answer_data names.now (Said.Supported prices.now)) }
 {
-    json!(in alloc; {"answer": "prices", "prices": prices_value(alloc, names, prices)?})
+    let fields = [
+        ("answer", Field::Word("prices")),
+        ("prices", Field::Prices(prices)),
+    ];
+    object_of(alloc, names, &fields)
 }
 
 fn cycle_value(alloc: Global, names: &Names, nodes: &Nodes, cost: i128) -> Result<Value, AllocError>
@@ -171,18 +196,19 @@ fn cycle_value(alloc: Global, names: &Names, nodes: &Nodes, cost: i128) -> Resul
     ensures { IfOk result
         (λ value. view value ≡ answer_data names.now (Said.Cycle nodes.now cost)) }
 {
-    json!(in alloc; {
-        "answer": "cycle",
-        "cost": cost as i64,
-        "nodes": nodes_value(alloc, names, nodes)?,
-    })
+    let fields = [
+        ("answer", Field::Word("cycle")),
+        ("cost", Field::Number(cost)),
+        ("nodes", Field::Nodes(nodes)),
+    ];
+    object_of(alloc, names, &fields)
 }
 
-fn solved_value(
+fn solved_value<'a>(
     alloc: Global,
     names: &Names,
-    on: &Trades,
-    prices: &Prices,
+    on: &'a Trades,
+    prices: &'a Prices,
     surplus: i128,
 ) -> Result<Value, AllocError>
     requires prices { All (FitsSigned w64) prices.now }
@@ -190,12 +216,13 @@ fn solved_value(
     ensures { IfOk result
         (λ value. view value ≡ answer_data names.now (Said.Solved on.now prices.now surplus)) }
 {
-    json!(in alloc; {
-        "answer": "solved",
-        "on": trades_value(alloc, names, on)?,
-        "prices": prices_value(alloc, names, prices)?,
-        "surplus": surplus as i64,
-    })
+    let fields = [
+        ("answer", Field::Word("solved")),
+        ("on", Field::Trades(on)),
+        ("prices", Field::Prices(prices)),
+        ("surplus", Field::Number(surplus)),
+    ];
+    object_of(alloc, names, &fields)
 }
 
 fn drill_value(
@@ -210,13 +237,14 @@ fn drill_value(
     ensures { IfOk result
         (λ value. view value ≡ answer_data names.now (Said.Drill size start firms surplus)) }
 {
-    json!(in alloc; {
-        "answer": "drill",
-        "firms": firms,
-        "size": size,
-        "start": start,
-        "surplus": surplus as i64,
-    })
+    let fields = [
+        ("answer", Field::Word("drill")),
+        ("firms", Field::Natural(firms)),
+        ("size", Field::Natural(size)),
+        ("start", Field::Natural(start)),
+        ("surplus", Field::Number(surplus)),
+    ];
+    object_of(alloc, names, &fields)
 }
 
 fn ranged_value(
@@ -256,13 +284,14 @@ fn drops_value(
     ensures { IfOk result
         (λ value. view value ≡ answer_data names.now (Said.Drops firm keeps.now gain over)) }
 {
-    json!(in alloc; {
-        "answer": "drops",
-        "firm": firm_name(names, firm),
-        "gain": bound_value(gain),
-        "keeps": trades_value(alloc, names, keeps)?,
-        "over": over as i64,
-    })
+    let fields = [
+        ("answer", Field::Word("drops")),
+        ("firm", Field::Firm(firm)),
+        ("gain", Field::Bound(gain)),
+        ("keeps", Field::Trades(keeps)),
+        ("over", Field::Number(over)),
+    ];
+    object_of(alloc, names, &fields)
 }
 
 fn completes_value(
@@ -276,11 +305,12 @@ fn completes_value(
     ensures { IfOk result
         (λ value. view value ≡ answer_data names.now (Said.Completes prices.now over)) }
 {
-    json!(in alloc; {
-        "answer": "completes",
-        "over": over as i64,
-        "prices": prices_value(alloc, names, prices)?,
-    })
+    let fields = [
+        ("answer", Field::Word("completes")),
+        ("over", Field::Number(over)),
+        ("prices", Field::Prices(prices)),
+    ];
+    object_of(alloc, names, &fields)
 }
 
 fn blocks_value(
@@ -294,11 +324,12 @@ fn blocks_value(
     ensures { IfOk result
         (λ value. view value ≡ answer_data names.now (Said.Blocks contracts.now over)) }
 {
-    json!(in alloc; {
-        "answer": "blocks",
-        "contracts": contracts_value(alloc, names, contracts)?,
-        "over": over as i64,
-    })
+    let fields = [
+        ("answer", Field::Word("blocks")),
+        ("contracts", Field::Contracts(contracts)),
+        ("over", Field::Number(over)),
+    ];
+    object_of(alloc, names, &fields)
 }
 
 fn cases_value(
@@ -310,7 +341,12 @@ fn cases_value(
     ensures { IfOk result
         (λ value. view value ≡ answer_data names.now (Said.Cases count failed.now)) }
 {
-    json!(in alloc; {"answer": "cases", "count": count, "failed": numbers_value(alloc, failed)?})
+    let fields = [
+        ("answer", Field::Word("cases")),
+        ("count", Field::Natural(count)),
+        ("failed", Field::Numbers(failed)),
+    ];
+    object_of(alloc, names, &fields)
 }
 
 /// The name of a firm, empty where it has none.
@@ -325,7 +361,7 @@ pub(crate) fn firm_name(names: &Names, firm: u32) -> &str
 }
 
 /// The name of a trade, empty where it has none.
-pub(crate) fn trade_name(names: &Names, trade: u32) -> &str
+fn trade_name(names: &Names, trade: u32) -> &str
     ensures { result.now ≡ unwrap_or (slice_get names.now.trades trade) [] }
 {
     if trade < names.trades() {
@@ -335,7 +371,7 @@ pub(crate) fn trade_name(names: &Names, trade: u32) -> &str
     }
 }
 
-fn trade_value(alloc: Global, names: &Names, trade: u32) -> Result<Value, AllocError>
+pub(crate) fn trade_value(alloc: Global, names: &Names, trade: u32) -> Result<Value, AllocError>
     ensures { IfOk result (λ value. view value ≡ name_data names.now.trades trade) }
 {
     Value::try_from_str(alloc, trade_name(names, trade))
@@ -389,14 +425,23 @@ pub(crate) fn name_at(names: &Names, k: usize) -> &str
     }
 }
 
-fn price_value(alloc: Global, names: &Names, k: usize, price: i128) -> Result<Value, AllocError>
+pub(crate) fn price_value(
+    alloc: Global,
+    names: &Names,
+    k: usize,
+    price: i128,
+) -> Result<Value, AllocError>
     requires { FitsSigned w64 price }
     ensures { IfOk result (λ value. view value ≡ price_data names.now.trades k price) }
 {
     json!(in alloc; [name_at(names, k), price as i64])
 }
 
-fn prices_value(alloc: Global, names: &Names, prices: &Prices) -> Result<Value, AllocError>
+pub(crate) fn prices_value(
+    alloc: Global,
+    names: &Names,
+    prices: &Prices,
+) -> Result<Value, AllocError>
     requires { All (FitsSigned w64) prices.now }
     ensures { IfOk result (λ value. view value ≡ prices_data names.now.trades prices.now) }
 {
@@ -417,7 +462,7 @@ fn step_value(alloc: Global, names: &Names, step: PlaceStep) -> Result<Value, Al
     }
 }
 
-fn place_value(alloc: Global, names: &Names, place: &Place) -> Result<Value, AllocError>
+pub(crate) fn place_value(alloc: Global, names: &Names, place: &Place) -> Result<Value, AllocError>
     ensures { IfOk result (λ value. view value ≡ place_data names.now.trades place.now) }
 {
     let mut values = Vec::new(alloc);
