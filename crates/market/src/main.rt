@@ -1,4 +1,4 @@
-//! The program: its words, and standard input to standard output by the top call.
+//! The program: hands its words, standard input and standard output to the top call.
 #![tactic(auto)]
 
 use std::env;

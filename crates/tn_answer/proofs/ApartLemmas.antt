@@ -11,19 +11,19 @@ use Rattle.tn_base.specs.declared.fault.FaultKind.{FaultKind}
 use Rattle.tn_base.specs.declared.fault.FaultKind.TheVariants.{NotJson, TooLong, Shape, BadName, SameName, UnknownFirm, SelfTrade, UnknownTrade, Limit, AmountRange, NotOwnTrade, SameBundle, NoEmpty, NotLaminar, NotConcave, SameTrade, PriceMissing, BadOver, SamePair}
 use Rattle.tn_base.specs.declared.fault.FaultKind.TheVariants.{ExchangeFails as FailsExchange}
 use Rattle.tn_base.specs.Faults.{fault_number}
-use Rattle.tn_market.specs.declared.place.PlaceStep.{PlaceStep}
-use Rattle.tn_market.specs.declared.place.PlaceStep.TheVariants.{Word as Member, Index, Trade}
-use Rattle.tn_market.specs.declared.place.Word.{Word}
-use Rattle.tn_market.specs.declared.place.Word.TheVariants.{Version, Firms, Trades, Arrangement, Outcome, Claim, Note, Edits, Name, Seller, Buyer, Kind, Rows, Amounts, Sets, From, Values, Costs, Gains, Keep, Pairs, On, Prices, Over, Contracts, Answer, Surplus as SurplusWord, Firm, Bundle, Gain, X, Y, At, Nodes, Cost, Keeps}
-use Rattle.tn_market.specs.declared.reason.Reason.{Reason}
-use Rattle.tn_market.specs.declared.reason.Reason.TheVariants.{Impossible as ImpossibleIs, Better as BetterIs, Possible, Surplus as SurplusIs, Gain as GainIs, Exchange, Holds, Arc, Cost as CostIs, Contract as ContractIs, Over as OverIs, Price, Empty, Signed, Choice}
-use Rattle.tn_market.specs.declared.said.Fault.{Fault}
-use Rattle.tn_market.specs.declared.said.Shown.{Shown}
-use Rattle.tn_market.specs.declared.contract.Contract.{Contract}
-use Rattle.tn_market.specs.declared.range.Range.{Range}
-use Rattle.tn_market.specs.declared.session.State.{State}
-use Rattle.tn_market.specs.declared.said.Said.{Said}
-use Rattle.tn_market.specs.declared.said.Said.TheVariants.{Usage, ReadFault, NoMemory, Fault as FaultIs, Equilibrium, Better, Impossible, Accepted, ExchangeFails, Supported, Cycle, Solved, Rows, Drill, Ranges, Session, Drops, Completes, Blocks, Valid, Invalid, Cases}
+use Rattle.tn_plain_data.specs.declared.place.PlaceStep.{PlaceStep}
+use Rattle.tn_plain_data.specs.declared.place.PlaceStep.TheVariants.{Word as Member, Index, Trade}
+use Rattle.tn_plain_data.specs.declared.place.Word.{Word}
+use Rattle.tn_plain_data.specs.declared.place.Word.TheVariants.{Version, Firms, Trades, Arrangement, Outcome, Claim, Note, Edits, Name, Seller, Buyer, Kind, Rows, Amounts, Sets, From, Values, Costs, Gains, Keep, Pairs, On, Prices, Over, Contracts, Answer, Surplus as SurplusWord, Firm, Bundle, Gain, X, Y, At, Nodes, Cost, Keeps}
+use Rattle.tn_plain_data.specs.declared.reason.Reason.{Reason}
+use Rattle.tn_plain_data.specs.declared.reason.Reason.TheVariants.{Impossible as ImpossibleIs, Better as BetterIs, Possible, Surplus as SurplusIs, Gain as GainIs, Exchange, Holds, Arc, Cost as CostIs, Contract as ContractIs, Over as OverIs, Price, Empty, Signed, Choice}
+use Rattle.tn_plain_data.specs.declared.said.Fault.{Fault}
+use Rattle.tn_plain_data.specs.declared.said.Shown.{Shown}
+use Rattle.tn_plain_data.specs.declared.contract.Contract.{Contract}
+use Rattle.tn_plain_data.specs.declared.range.Range.{Range}
+use Rattle.tn_plain_data.specs.declared.session.State.{State}
+use Rattle.tn_plain_data.specs.declared.said.Said.{Said}
+use Rattle.tn_plain_data.specs.declared.said.Said.TheVariants.{Usage, ReadFault, NoMemory, Fault as FaultIs, Equilibrium, Better, Impossible, Accepted, ExchangeFails, Supported, Cycle, Solved, Rows, Drill, Ranges, Session, Drops, Completes, Blocks, Valid, Invalid, Cases}
 use Rattle.tn_names.specs.Names.{NameLists, IsNameList}
 use Rattle.tn_answer.specs.Words.{word_text}
 use Rattle.tn_names.specs.Named.{IsNamed, IsNamedStep, IsNamedTriple}

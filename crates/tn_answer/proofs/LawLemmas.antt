@@ -5,17 +5,17 @@ use Rattle.std.proofs.lemmas.Int.{ints}
 use Rattle.std.specs.List.{list_all}
 use Rattle.serde_json.specs.Data.{array, object, member, no_members}
 use Rattle.serde_json.specs.View.{items_of}
-use Rattle.tn_market.specs.declared.place.PlaceStep.{PlaceStep}
-use Rattle.tn_market.specs.declared.place.PlaceStep.TheVariants.{Word, Index, Trade}
-use Rattle.tn_market.specs.declared.reason.Reason.{Reason}
-use Rattle.tn_market.specs.declared.reason.Reason.TheVariants.{Impossible as ImpossibleIs, Better as BetterIs, Possible, Surplus, Gain, Exchange, Holds, Arc, Cost, Contract as ContractIs, Over, Price, Empty, Signed, Choice}
-use Rattle.tn_market.specs.declared.said.Fault.{Fault}
-use Rattle.tn_market.specs.declared.said.Shown.{Shown}
-use Rattle.tn_market.specs.declared.contract.Contract.{Contract}
-use Rattle.tn_market.specs.declared.range.Range.{Range}
-use Rattle.tn_market.specs.declared.session.State.{State}
-use Rattle.tn_market.specs.declared.said.Said.{Said}
-use Rattle.tn_market.specs.declared.said.Said.TheVariants.{Usage, ReadFault, NoMemory, Fault as FaultIs, Equilibrium, Better, Impossible, Accepted, ExchangeFails, Supported, Cycle, Solved, Rows, Drill, Ranges, Session, Drops, Completes, Blocks, Valid, Invalid, Cases}
+use Rattle.tn_plain_data.specs.declared.place.PlaceStep.{PlaceStep}
+use Rattle.tn_plain_data.specs.declared.place.PlaceStep.TheVariants.{Word, Index, Trade}
+use Rattle.tn_plain_data.specs.declared.reason.Reason.{Reason}
+use Rattle.tn_plain_data.specs.declared.reason.Reason.TheVariants.{Impossible as ImpossibleIs, Better as BetterIs, Possible, Surplus, Gain, Exchange, Holds, Arc, Cost, Contract as ContractIs, Over, Price, Empty, Signed, Choice}
+use Rattle.tn_plain_data.specs.declared.said.Fault.{Fault}
+use Rattle.tn_plain_data.specs.declared.said.Shown.{Shown}
+use Rattle.tn_plain_data.specs.declared.contract.Contract.{Contract}
+use Rattle.tn_plain_data.specs.declared.range.Range.{Range}
+use Rattle.tn_plain_data.specs.declared.session.State.{State}
+use Rattle.tn_plain_data.specs.declared.said.Said.{Said}
+use Rattle.tn_plain_data.specs.declared.said.Said.TheVariants.{Usage, ReadFault, NoMemory, Fault as FaultIs, Equilibrium, Better, Impossible, Accepted, ExchangeFails, Supported, Cycle, Solved, Rows, Drill, Ranges, Session, Drops, Completes, Blocks, Valid, Invalid, Cases}
 use Rattle.tn_names.specs.Names.{NameLists}
 use Rattle.tn_answer.specs.AnswerText.{contracts_data, state_data, prices_data, nodes_data, step_data, answer, fault_members, fault_data, json, answer_layout, layout_text, answer_line}
 use Rattle.tn_answer.specs.Values.{names_data, option_data, integer_data}

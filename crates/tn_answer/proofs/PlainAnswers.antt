@@ -9,19 +9,19 @@ use Rattle.serde_json.specs.View.{items_of}
 use Rattle.tn_base.specs.declared.fault.FaultKind.{FaultKind}
 use Rattle.tn_base.specs.declared.fault.FaultKind.TheVariants.{NotJson}
 use Rattle.tn_base.specs.Faults.{fault_number}
-use Rattle.tn_market.specs.declared.place.PlaceStep.{PlaceStep}
-use Rattle.tn_market.specs.declared.place.PlaceStep.TheVariants.{Word as Member, Index, Trade}
-use Rattle.tn_market.specs.declared.place.Word.{Word}
-use Rattle.tn_market.specs.declared.place.Word.TheVariants.{Version}
-use Rattle.tn_market.specs.declared.reason.Reason.{Reason}
-use Rattle.tn_market.specs.declared.reason.Reason.TheVariants.{Impossible as ImpossibleIs, Better as BetterIs, Possible, Surplus, Gain, Exchange, Holds, Arc, Cost, Contract as ContractIs, Over, Price, Empty, Signed, Choice}
-use Rattle.tn_market.specs.declared.said.Fault.{Fault}
-use Rattle.tn_market.specs.declared.said.Shown.{Shown}
-use Rattle.tn_market.specs.declared.contract.Contract.{Contract}
-use Rattle.tn_market.specs.declared.range.Range.{Range}
-use Rattle.tn_market.specs.declared.session.State.{State}
-use Rattle.tn_market.specs.declared.said.Said.{Said}
-use Rattle.tn_market.specs.declared.said.Said.TheVariants.{Usage, ReadFault, NoMemory, Fault as FaultIs, Equilibrium, Better, Impossible, Accepted, ExchangeFails, Supported, Cycle, Solved, Rows, Drill, Ranges, Session, Drops, Completes, Blocks, Valid, Invalid, Cases}
+use Rattle.tn_plain_data.specs.declared.place.PlaceStep.{PlaceStep}
+use Rattle.tn_plain_data.specs.declared.place.PlaceStep.TheVariants.{Word as Member, Index, Trade}
+use Rattle.tn_plain_data.specs.declared.place.Word.{Word}
+use Rattle.tn_plain_data.specs.declared.place.Word.TheVariants.{Version}
+use Rattle.tn_plain_data.specs.declared.reason.Reason.{Reason}
+use Rattle.tn_plain_data.specs.declared.reason.Reason.TheVariants.{Impossible as ImpossibleIs, Better as BetterIs, Possible, Surplus, Gain, Exchange, Holds, Arc, Cost, Contract as ContractIs, Over, Price, Empty, Signed, Choice}
+use Rattle.tn_plain_data.specs.declared.said.Fault.{Fault}
+use Rattle.tn_plain_data.specs.declared.said.Shown.{Shown}
+use Rattle.tn_plain_data.specs.declared.contract.Contract.{Contract}
+use Rattle.tn_plain_data.specs.declared.range.Range.{Range}
+use Rattle.tn_plain_data.specs.declared.session.State.{State}
+use Rattle.tn_plain_data.specs.declared.said.Said.{Said}
+use Rattle.tn_plain_data.specs.declared.said.Said.TheVariants.{Usage, ReadFault, NoMemory, Fault as FaultIs, Equilibrium, Better, Impossible, Accepted, ExchangeFails, Supported, Cycle, Solved, Rows, Drill, Ranges, Session, Drops, Completes, Blocks, Valid, Invalid, Cases}
 use Rattle.tn_names.specs.Names.{NameLists, IsNameList, is_name}
 use Rattle.tn_answer.specs.Words.{kind_name, word_text}
 use Rattle.tn_answer.specs.Rows.{each_from}

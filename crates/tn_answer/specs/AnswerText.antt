@@ -5,15 +5,15 @@ use Rattle.serde_json.specs.View.{items_of}
 use Rattle.serde_json.specs.Written.{compact_text}
 use Rattle.tn_base.specs.declared.fault.FaultKind.{FaultKind}
 use Rattle.tn_base.specs.Faults.{fault_number}
-use Rattle.tn_market.specs.declared.place.PlaceStep.{PlaceStep}
-use Rattle.tn_market.specs.declared.place.PlaceStep.TheVariants.{Word, Index, Trade}
-use Rattle.tn_market.specs.declared.contract.Contract.{Contract}
-use Rattle.tn_market.specs.declared.range.Range.{Range}
-use Rattle.tn_market.specs.declared.session.State.{State}
-use Rattle.tn_market.specs.declared.said.Fault.{Fault}
-use Rattle.tn_market.specs.declared.said.Shown.{Shown}
-use Rattle.tn_market.specs.declared.said.Said.{Said}
-use Rattle.tn_market.specs.declared.said.Said.TheVariants.{Usage, ReadFault, NoMemory, Fault as FaultIs, Equilibrium, Better, Impossible, Accepted, ExchangeFails, Supported, Cycle, Solved, Rows, Drill, Ranges, Session, Drops, Completes, Blocks, Valid, Invalid, Cases}
+use Rattle.tn_plain_data.specs.declared.place.PlaceStep.{PlaceStep}
+use Rattle.tn_plain_data.specs.declared.place.PlaceStep.TheVariants.{Word, Index, Trade}
+use Rattle.tn_plain_data.specs.declared.contract.Contract.{Contract}
+use Rattle.tn_plain_data.specs.declared.range.Range.{Range}
+use Rattle.tn_plain_data.specs.declared.session.State.{State}
+use Rattle.tn_plain_data.specs.declared.said.Fault.{Fault}
+use Rattle.tn_plain_data.specs.declared.said.Shown.{Shown}
+use Rattle.tn_plain_data.specs.declared.said.Said.{Said}
+use Rattle.tn_plain_data.specs.declared.said.Said.TheVariants.{Usage, ReadFault, NoMemory, Fault as FaultIs, Equilibrium, Better, Impossible, Accepted, ExchangeFails, Supported, Cycle, Solved, Rows, Drill, Ranges, Session, Drops, Completes, Blocks, Valid, Invalid, Cases}
 use Rattle.tn_names.specs.Names.{NameLists}
 use Rattle.tn_answer.specs.ReasonText.{reason_members}
 use Rattle.tn_answer.specs.Rows.{each_from, rows_text, table_of}

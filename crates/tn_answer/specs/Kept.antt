@@ -2,10 +2,10 @@
 use Rattle.std.specs.Prelude.{◌<◌, ◌^◌, ℤ, map, All, IfSome}
 use Rattle.std.specs.List.Sorted.{IsStrictlyIncreasing}
 use Rattle.tn_base.specs.Arcs.{IsAtMost}
-use Rattle.tn_market.specs.declared.range.Range.{Range}
-use Rattle.tn_market.specs.declared.session.State.{State}
-use Rattle.tn_market.specs.declared.said.Said.{Said}
-use Rattle.tn_market.specs.declared.said.Said.TheVariants.{Usage, ReadFault, NoMemory, Fault as FaultIs, Equilibrium, Better, Impossible, Accepted, ExchangeFails, Supported, Cycle, Solved, Rows, Drill, Ranges, Session, Drops, Completes, Blocks, Valid, Invalid, Cases}
+use Rattle.tn_plain_data.specs.declared.range.Range.{Range}
+use Rattle.tn_plain_data.specs.declared.session.State.{State}
+use Rattle.tn_plain_data.specs.declared.said.Said.{Said}
+use Rattle.tn_plain_data.specs.declared.said.Said.TheVariants.{Usage, ReadFault, NoMemory, Fault as FaultIs, Equilibrium, Better, Impossible, Accepted, ExchangeFails, Supported, Cycle, Solved, Rows, Drill, Ranges, Session, Drops, Completes, Blocks, Valid, Invalid, Cases}
 use Rattle.tn_names.specs.Named.{IsAscendingTriple}
 use Rattle.tn_answer.specs.ReasonText.{IsReasonWithin, HasAscendingBundles}
 

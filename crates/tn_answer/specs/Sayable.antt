@@ -1,10 +1,10 @@
 -- Which answers can be written: their numbers fit 64 bits.
 use Rattle.std.specs.Prelude.{◌<◌, ◌^◌, All, IfSome, FitsSigned}
 use Rattle.std.specs.Int.{w64}
-use Rattle.tn_market.specs.declared.range.Range.{Range}
-use Rattle.tn_market.specs.declared.session.State.{State}
-use Rattle.tn_market.specs.declared.said.Said.{Said}
-use Rattle.tn_market.specs.declared.said.Said.TheVariants.{Usage, ReadFault, NoMemory, Fault as FaultIs, Equilibrium, Better, Impossible, Accepted, ExchangeFails, Supported, Cycle, Solved, Rows, Drill, Ranges, Session, Drops, Completes, Blocks, Valid, Invalid, Cases}
+use Rattle.tn_plain_data.specs.declared.range.Range.{Range}
+use Rattle.tn_plain_data.specs.declared.session.State.{State}
+use Rattle.tn_plain_data.specs.declared.said.Said.{Said}
+use Rattle.tn_plain_data.specs.declared.said.Said.TheVariants.{Usage, ReadFault, NoMemory, Fault as FaultIs, Equilibrium, Better, Impossible, Accepted, ExchangeFails, Supported, Cycle, Solved, Rows, Drill, Ranges, Session, Drops, Completes, Blocks, Valid, Invalid, Cases}
 use Rattle.tn_answer.specs.ReasonText.{IsShortReason}
 
 -- the numbers of a range, and of a state, fit 64 bits

@@ -1,4 +1,5 @@
-//! The text of an answer. What is written for each answer stands in `specs/`.
+//! The line that is written for each answer.
+//! Which text each answer has, and how far a text tells its answer, stands in `specs/`.
 #![tactic(auto)]
 
 mod fields;

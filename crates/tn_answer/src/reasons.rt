@@ -10,8 +10,8 @@ ghost use Rattle.tn_answer.specs.Values.{integer_data, name_data, numbers_data};
 use crate::fields::{Field, object_of};
 use serde_json::Value;
 use std::alloc::{AllocError, Global};
-use tn_market::{Numbers, Reason, Trades};
 use tn_names::Names;
+use tn_plain_data::{Numbers, Reason, Trades};
 
 pub(crate) fn invalid_value(
     alloc: Global,

@@ -10,8 +10,8 @@ use crate::values::name_at;
 use csv::Writer;
 use std::alloc::Global;
 use tn_base::OutOfMemory;
-use tn_market::{Prices, Trades};
 use tn_names::Names;
+use tn_plain_data::{Prices, Trades};
 
 /// Whether a list has a number.
 fn is_listed(on: &Trades, k: usize) -> bool

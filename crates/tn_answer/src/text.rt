@@ -8,8 +8,8 @@ use crate::rows::rows_text;
 use crate::values::answer_value;
 use std::alloc::Global;
 use tn_base::OutOfMemory;
-use tn_market::Said;
 use tn_names::Names;
+use tn_plain_data::Said;
 
 /// The text of an answer over some names, with its line end. A firm or a trade without a name has an empty one. Its
 /// numbers fit 64 bits, prices have one name each, and a fault shows a triple exactly where exchange fails. It fails

@@ -15,10 +15,10 @@ use crate::states::states_value;
 use crate::words::{kind_name, word_text};
 use serde_json::{Value, json};
 use std::alloc::{AllocError, Global};
-use tn_market::{
+use tn_names::Names;
+use tn_plain_data::{
     Contracts, Fault, Nodes, Numbers, Place, PlaceStep, Prices, Ranges, Said, Shown, States, Trades,
 };
-use tn_names::Names;
 
 pub(crate) fn answer_value(alloc: Global, names: &Names, said: &Said) -> Result<Value, AllocError>
     requires { IsSayable said.now }

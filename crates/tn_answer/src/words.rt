@@ -2,7 +2,7 @@ ghost use Rattle.std.specs.Prelude.{◌≡◌};
 ghost use Rattle.tn_answer.specs.Words.{kind_name, word_text};
 
 use tn_base::FaultKind;
-use tn_market::Word;
+use tn_plain_data::Word;
 
 /// The name of a kind of fault, as an answer has it.
 pub(crate) fn kind_name(kind: FaultKind) -> &'static str

@@ -11,7 +11,8 @@ use Rattle.std.proofs.lemmas.Nat.{pow_pos, mul-add-lt, ones_cat, ones-le}
 use Rattle.tn_base.specs.Sets.{has, toggle, union, meet, minus, size}
 use Rattle.std.specs.Prelude.{nat_eq}
 use Rattle.std.specs.Cmp.Lexicographic.{pointwise, same_text, other_text}
-use Rattle.tn_base.specs.Limbs.{joined, AreLimbs, limbs_of, limbs_of-joined}
+use Rattle.tn_base.specs.Limbs.{joined, AreLimbs, limbs_of}
+use Rattle.tn_base.specs.LimbLemmas.{limbs_of-joined}
 use Rattle.tn_base.proofs.SetLemmas.{same_set, has-zero, has-union, has-meet, has-minus, has-toggle_same, has-toggle_other, has-low, has-high, union_within, meet_within, minus_within, toggle_within}
 use Rattle.tn_base.proofs.SizeLemmas.{ones_is, size_at}
 

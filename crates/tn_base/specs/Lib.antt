@@ -11,4 +11,5 @@ pub mod SetLaws
 pub mod TableLaws
 pub mod ExchangeLaw
 pub mod Limbs
+pub mod LimbLemmas
 pub mod Every

@@ -1,5 +1,4 @@
-//! What every crate of the workbench speaks of: bundles and sets of trades, sides, counted steps, costs of arcs, the
-//! kinds of faults, and the definitions of a firm, its net count and the exchange property (in `specs/`).
+//! Bundles and sets of trades as sets, counted steps, kinds of faults; what a firm and the exchange property are.
 #![tactic(auto)]
 
 mod bundle;

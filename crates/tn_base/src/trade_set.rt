@@ -13,7 +13,8 @@ pub struct TradeSet<const W: usize> {
 
 impl<const W: usize> Model for TradeSet<W> {
     ghost use Rattle.std.specs.Prelude.{ℕ};
-    ghost use Rattle.tn_base.specs.Limbs.{AreLimbs, joined, limbs_of, limbs_of-joined};
+    ghost use Rattle.tn_base.specs.Limbs.{AreLimbs, joined, limbs_of};
+    ghost use Rattle.tn_base.specs.LimbLemmas.{limbs_of-joined};
 
     ghost Value = { ℕ };
 

@@ -1,4 +1,4 @@
-//! The book of cases: commands on documents, and what each must come to.
+//! The book of cases that the program runs on itself.
 #![tactic(auto)]
 
 mod case;

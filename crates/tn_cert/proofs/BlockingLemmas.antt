@@ -10,10 +10,10 @@ use Rattle.tn_base.specs.Arcs.{IsAtMost}
 use Rattle.tn_base.specs.Firm.{Firm}
 use Rattle.tn_law.proofs.BoundLemmas.{times_small}
 use Rattle.tn_law.proofs.KeepLemmas.{times-le}
-use Rattle.tn_market.specs.declared.contract.Contract.{Contract}
-use Rattle.tn_market.specs.declared.contract.Outcome.{Outcome}
-use Rattle.tn_market.specs.declared.ends.Ends.{Ends}
-use Rattle.tn_market.specs.Choices.{is_of, together, IsFeasible, Blocks}
+use Rattle.tn_plain_data.specs.declared.contract.Contract.{Contract}
+use Rattle.tn_plain_data.specs.declared.contract.Outcome.{Outcome}
+use Rattle.tn_plain_data.specs.declared.ends.Ends.{Ends}
+use Rattle.tn_plain_data.specs.Choices.{is_of, together, IsFeasible, Blocks}
 use Rattle.tn_market.specs.Signed.{signed_price}
 use Rattle.tn_network.proofs.PoolLemmas.{offer_in_pool}
 use Rattle.tn_outcome.proofs.SignedLemmas.{signed_by, price_of_contract}

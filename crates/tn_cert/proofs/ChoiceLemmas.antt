@@ -11,13 +11,14 @@ use Rattle.tn_base.specs.Firm.{Firm, MayAbstain, payments, utility}
 use Rattle.tn_base.proofs.SetLemmas.{same_below, has-set_of, has-zero, has_above, has_below, set_of_within, within_from}
 use Rattle.tn_base.proofs.SumLemmas.{sum_over-same_terms}
 use Rattle.tn_law.proofs.KeepLemmas.{option_map-some}
-use Rattle.tn_market.specs.declared.contract.Contract.{Contract}
-use Rattle.tn_market.specs.declared.ends.Ends.{Ends}
-use Rattle.tn_market.specs.Best.{IsSubset, IsBetween, IsBestBetween, GivesBest, price_at}
-use Rattle.tn_market.specs.Choices.{is_of, paid_to, paid_by, payment, is_traded, bundle_by, part_utility, IsPart}
+use Rattle.tn_plain_data.specs.declared.contract.Contract.{Contract}
+use Rattle.tn_plain_data.specs.declared.ends.Ends.{Ends}
+use Rattle.tn_market.specs.Best.{IsSubset, IsBetween, IsBestBetween, GivesBest}
+use Rattle.tn_plain_data.specs.Prices.{price_at}
+use Rattle.tn_plain_data.specs.Choices.{is_of, paid_to, paid_by, payment, is_traded, bundle_by, part_utility, IsPart}
 use Rattle.tn_market.specs.Equilibrium.{prices_at, utility_at}
-use Rattle.tn_market.specs.Network.{own, stands_at, IsNetwork}
-use Rattle.tn_market.proofs.MarketLemmas.{own_stands}
+use Rattle.tn_plain_data.specs.Network.{own, stands_at, IsNetwork}
+use Rattle.tn_plain_data.proofs.NetworkLemmas.{own_stands}
 use Rattle.tn_network.proofs.PartLemmas.{at_place, at_place-is, gain_by, own_contract, own_once, paid_for, part_paid, traded_at, traded_by}
 use Rattle.tn_network.proofs.StabilityLemmas.{no_gains, own_is_of}
 use Rattle.tn_outcome.proofs.RationalLemmas.{between_signed, inside_signed}

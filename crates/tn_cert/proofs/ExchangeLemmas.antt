@@ -13,12 +13,12 @@ use Rattle.tn_exchange.specs.TestOrder.{Triple}
 use Rattle.tn_firm.specs.declared.raw.RawFirm.{RawFirm}
 use Rattle.tn_firm.specs.declared.raw.RawFirm.TheVariants.{Table, Laminar, Middle, Dealer}
 use Rattle.tn_firm.specs.declared.value.FirmValue.TheVariants.{Laminar as LaminarValue, Middle as MiddleValue, Dealer as DealerValue}
-use Rattle.tn_firm.specs.Firms.{firm_laws}
+use Rattle.tn_firm.specs.FirmLemmas.{firm_laws}
 use Rattle.tn_firm.specs.Raw.{raw_firm_of}
 use Rattle.tn_local.specs.First.{IsFirstTriple}
-use Rattle.tn_market.specs.declared.ends.Ends.{Ends}
+use Rattle.tn_plain_data.specs.declared.ends.Ends.{Ends}
 use Rattle.tn_market.specs.Lawful.{IsLawful}
-use Rattle.tn_market.specs.Network.{own, trades_of, trades_on}
+use Rattle.tn_plain_data.specs.Network.{own, trades_of, trades_on}
 use Rattle.tn_price.proofs.JudgeLemmas.{firm_is}
 use Rattle.tn_cert.specs.Reasons.{MeetBefore, IsFirstToFail}
 

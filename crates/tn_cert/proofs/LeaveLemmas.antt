@@ -6,9 +6,9 @@ use Rattle.std.proofs.lemmas.Bool.{cases_Bool, true≢false}
 use Rattle.std.proofs.lemmas.Option.{same_Some}
 use Rattle.tn_base.specs.Sets.{has}
 use Rattle.tn_base.specs.Firm.{Firm}
-use Rattle.tn_market.specs.declared.contract.Contract.{Contract}
-use Rattle.tn_market.specs.declared.ends.Ends.{Ends}
-use Rattle.tn_market.specs.Choices.{is_of, is_end, IsChoice}
+use Rattle.tn_plain_data.specs.declared.contract.Contract.{Contract}
+use Rattle.tn_plain_data.specs.declared.ends.Ends.{Ends}
+use Rattle.tn_plain_data.specs.Choices.{is_of, is_end, IsChoice}
 use Rattle.tn_cert.specs.Least.{earlier}
 use Rattle.tn_cert.specs.Greatest.{LeavesOut, IsGreatest, MayLeave, DecidesLeave, DecidesOwn, FindsLeft}
 use Rattle.tn_cert.proofs.LeastLemmas.{FindsLeast, least_none, least_passes, least_fails}

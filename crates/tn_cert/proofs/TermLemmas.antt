@@ -12,10 +12,10 @@ use Rattle.std.proofs.Math.ListN.{set, length-set}
 use Rattle.tn_base.specs.Arcs.{IsAtMost}
 use Rattle.tn_base.specs.Sets.{has, toggle}
 use Rattle.tn_base.proofs.SetLemmas.{has_above, has-toggle_same, has-toggle_other, within_from}
-use Rattle.tn_market.specs.declared.contract.Contract.{Contract}
-use Rattle.tn_market.specs.declared.ends.Ends.{Ends}
-use Rattle.tn_market.specs.Best.{price_at}
-use Rattle.tn_market.specs.Network.{own}
+use Rattle.tn_plain_data.specs.declared.contract.Contract.{Contract}
+use Rattle.tn_plain_data.specs.declared.ends.Ends.{Ends}
+use Rattle.tn_plain_data.specs.Prices.{price_at}
+use Rattle.tn_plain_data.specs.Network.{own}
 use Rattle.tn_cert.specs.Terms.{is_bought, better, IsAsGood, IsOffered, IsTerm, FindsTerm, HasTerms}
 
 -- ---- the better of two prices

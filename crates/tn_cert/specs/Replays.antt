@@ -1,14 +1,14 @@
 -- What the replay of a claim says.
 use Rattle.std.specs.Prelude.{◌≡◌, ◌⊎◌, ℕ, ℤ, pos, List, map, Bool, true, false, Option, Some, None, option_map, Result, Ok, Err}
 use Rattle.tn_base.specs.Firm.{Firm}
-use Rattle.tn_market.specs.declared.claim.Claim.{Claim}
-use Rattle.tn_market.specs.declared.claim.Claim.TheVariants.{Equilibrium, Better, Impossible, Accepted, ExchangeFails, Supported, Cycle, Solved, Drops, Completes, Blocks}
-use Rattle.tn_market.specs.declared.ends.Ends.{Ends}
-use Rattle.tn_market.specs.declared.reason.Reason.{Reason}
-use Rattle.tn_market.specs.declared.reason.Reason.TheVariants.{Exchange}
-use Rattle.tn_market.specs.ClaimLimits.{IsFirmWith}
+use Rattle.tn_plain_data.specs.declared.claim.Claim.{Claim}
+use Rattle.tn_plain_data.specs.declared.claim.Claim.TheVariants.{Equilibrium, Better, Impossible, Accepted, ExchangeFails, Supported, Cycle, Solved, Drops, Completes, Blocks}
+use Rattle.tn_plain_data.specs.declared.ends.Ends.{Ends}
+use Rattle.tn_plain_data.specs.declared.reason.Reason.{Reason}
+use Rattle.tn_plain_data.specs.declared.reason.Reason.TheVariants.{Exchange}
+use Rattle.tn_plain_data.specs.ClaimLimits.{IsFirmWith}
 use Rattle.tn_market.specs.Equilibrium.{IsEquilibrium, surplus_of}
-use Rattle.tn_market.specs.Network.{own, part}
+use Rattle.tn_plain_data.specs.Network.{own, part}
 use Rattle.tn_cert.specs.declared.replayed.Replayed.{Replayed}
 use Rattle.tn_cert.specs.declared.replayed.Replayed.TheVariants.{Valid, Invalid}
 use Rattle.tn_cert.specs.Claims.{Gains, GoesRound, IsValid}

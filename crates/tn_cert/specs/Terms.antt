@@ -3,10 +3,10 @@ use Rattle.std.specs.Prelude.{◌≡◌, ◌≢◌, ℕ, ◌^◌, ◌<◌, ℤ, 
 use Rattle.std.specs.Int.{int_max, int_min}
 use Rattle.tn_base.specs.Arcs.{IsAtMost}
 use Rattle.tn_base.specs.Sets.{has}
-use Rattle.tn_market.specs.declared.contract.Contract.{Contract}
-use Rattle.tn_market.specs.declared.ends.Ends.{Ends}
-use Rattle.tn_market.specs.Best.{price_at}
-use Rattle.tn_market.specs.Network.{own}
+use Rattle.tn_plain_data.specs.declared.contract.Contract.{Contract}
+use Rattle.tn_plain_data.specs.declared.ends.Ends.{Ends}
+use Rattle.tn_plain_data.specs.Prices.{price_at}
+use Rattle.tn_plain_data.specs.Network.{own}
 
 -- whether firm f is the buyer of trade t
 abbrev pub is_bought : List Ends → ℕ → ℕ → Bool

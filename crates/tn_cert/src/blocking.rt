@@ -4,8 +4,8 @@ ghost use Rattle.std.specs.Prelude.{◌≡◌, ◌^◌, ◌<◌, ◌≤◌, pos,
 ghost use Rattle.tn_base.specs.Arcs.{IsAtMost};
 ghost use Rattle.tn_cert.specs.Greatest.{DecidesContract, DecidesEqual, FindsLeaver, FindsSigned, HaveTradesOnce};
 ghost use Rattle.tn_cert.specs.Replays.{Replays};
-ghost use Rattle.tn_market.specs.declared.claim.Claim.TheVariants.{Blocks};
-ghost use Rattle.tn_market.specs.ClaimLimits.{AreOffersWithin, IsOverWithin};
+ghost use Rattle.tn_plain_data.specs.declared.claim.Claim.TheVariants.{Blocks};
+ghost use Rattle.tn_plain_data.specs.ClaimLimits.{AreOffersWithin, IsOverWithin};
 ghost use Rattle.tn_market.specs.Limits.{IsOutcomeOf, IsWithinLimits};
 
 use crate::choosing::first_left;

@@ -3,9 +3,9 @@
 ghost use Rattle.std.specs.Prelude.{◌≡◌, ◌^◌, ◌<◌, ◌≤◌, pos, ◌≤ℤ◌, length, map, slice_get, All, Some, None};
 ghost use Rattle.tn_base.specs.Arcs.{IsAtMost};
 ghost use Rattle.tn_cert.specs.Greatest.{DecidesLeave, DecidesOwn, FindsLeft, IsGreatest};
-ghost use Rattle.tn_market.specs.Choices.{is_end};
+ghost use Rattle.tn_plain_data.specs.Choices.{is_end};
 ghost use Rattle.tn_market.specs.Limits.{IsWithinLimits};
-ghost use Rattle.tn_market.specs.Network.{IsNetwork};
+ghost use Rattle.tn_plain_data.specs.Network.{IsNetwork};
 
 use crate::least::earlier;
 use crate::terms::terms_of;

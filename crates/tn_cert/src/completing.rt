@@ -4,9 +4,9 @@ ghost use Rattle.std.specs.Prelude.{◌≡◌, ◌^◌, ◌<◌, ◌≤◌, leng
 ghost use Rattle.tn_base.specs.Arcs.{IsAtMost};
 ghost use Rattle.tn_cert.specs.Outcomes.{FindsMispriced};
 ghost use Rattle.tn_cert.specs.Replays.{Replays};
-ghost use Rattle.tn_market.specs.declared.claim.Claim.TheVariants.{Completes};
-ghost use Rattle.tn_market.specs.Best.{price_at};
-ghost use Rattle.tn_market.specs.ClaimLimits.{IsOverWithin};
+ghost use Rattle.tn_plain_data.specs.declared.claim.Claim.TheVariants.{Completes};
+ghost use Rattle.tn_plain_data.specs.Prices.{price_at};
+ghost use Rattle.tn_plain_data.specs.ClaimLimits.{IsOverWithin};
 ghost use Rattle.tn_market.specs.Limits.{IsOutcomeOf, IsWithinLimits};
 ghost use Rattle.tn_market.specs.Signed.{signed};
 

@@ -5,7 +5,7 @@ ghost use Rattle.tn_base.specs.Arcs.{IsAtMost};
 ghost use Rattle.tn_base.specs.Sets.{has};
 ghost use Rattle.tn_cert.specs.Outcomes.{FindsUnsigned};
 ghost use Rattle.tn_cert.specs.Replays.{Replays};
-ghost use Rattle.tn_market.specs.declared.claim.Claim.TheVariants.{Drops};
+ghost use Rattle.tn_plain_data.specs.declared.claim.Claim.TheVariants.{Drops};
 ghost use Rattle.tn_market.specs.Limits.{IsOutcomeOf, IsWithinLimits};
 ghost use Rattle.tn_market.specs.Signed.{contract_utility, is_signed};
 ghost use Rattle.tn_residual.specs.Held.{HoldsSigned};

@@ -3,9 +3,9 @@
 ghost use Rattle.std.specs.Prelude.{◌≡◌, ◌^◌, ◌<◌, ◌≤◌, ◌↔◌, All, IfOk, IfSome, IsTrue, List, false, length, map};
 ghost use Rattle.tn_base.specs.Exchange.{Fails};
 ghost use Rattle.tn_firm.specs.Raw.{CanBeTested, raw_firm_of};
-ghost use Rattle.tn_market.specs.declared.ends.Ends.{Ends};
-ghost use Rattle.tn_market.specs.ClaimLimits.{IsFirmWith};
-ghost use Rattle.tn_market.specs.Network.{trades_on};
+ghost use Rattle.tn_plain_data.specs.declared.ends.Ends.{Ends};
+ghost use Rattle.tn_plain_data.specs.ClaimLimits.{IsFirmWith};
+ghost use Rattle.tn_plain_data.specs.Network.{trades_on};
 ghost use Rattle.tn_cert.specs.Replays.{Replays, in_trades};
 
 use crate::replayed::Replayed;

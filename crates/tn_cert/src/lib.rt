@@ -1,4 +1,5 @@
-//! Claims decided by the definitions alone. When a claim is valid, and why one isn't, stands in `specs/`.
+//! Claims decided by the definitions alone.
+//! When a claim is valid, and why one isn't, stands in `specs/`.
 #![tactic(auto)]
 
 mod blocking;

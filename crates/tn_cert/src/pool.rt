@@ -1,6 +1,6 @@
 ghost use Rattle.std.specs.Prelude.{◌≡◌, ◌++◌, ◌^◌, ◌≤◌, pos, ◌*ℤ◌, ◌≤ℤ◌, length, All, IfOk};
 ghost use Rattle.tn_base.specs.Arcs.{IsAtMost};
-ghost use Rattle.tn_market.specs.Choices.{counted, together};
+ghost use Rattle.tn_plain_data.specs.Choices.{counted, together};
 
 use std::alloc::Global;
 use tn_base::OutOfMemory;

@@ -2,8 +2,8 @@
 
 ghost use Rattle.std.specs.Prelude.{◌≡◌, ◌≤◌, List, [], true, false, All, IfOk, length, map};
 ghost use Rattle.tn_firm.specs.Raw.{CanBeTested, raw_firm_of};
-ghost use Rattle.tn_market.specs.declared.ends.Ends.{Ends};
-ghost use Rattle.tn_market.specs.ClaimLimits.{IsClaimWithin};
+ghost use Rattle.tn_plain_data.specs.declared.ends.Ends.{Ends};
+ghost use Rattle.tn_plain_data.specs.ClaimLimits.{IsClaimWithin};
 ghost use Rattle.tn_market.specs.Limits.{IsWithinLimits};
 ghost use Rattle.tn_cert.specs.Replays.{Replays, in_trades, is_on_exchange};
 

@@ -2,8 +2,8 @@
 
 ghost use Rattle.std.specs.Prelude.{◌≡◌, ◌^◌, ◌<◌, ◌≤◌, All, IfOk, length, map};
 ghost use Rattle.tn_base.specs.Arcs.{IsAtMost};
-ghost use Rattle.tn_market.specs.Best.{price_at};
-ghost use Rattle.tn_market.specs.ClaimLimits.{IsFirmWith};
+ghost use Rattle.tn_plain_data.specs.Prices.{price_at};
+ghost use Rattle.tn_plain_data.specs.ClaimLimits.{IsFirmWith};
 ghost use Rattle.tn_market.specs.Limits.{IsWithinLimits};
 ghost use Rattle.tn_cert.specs.Replays.{Replays, TellsGain};
 

@@ -9,8 +9,8 @@ use Rattle.tn_base.proofs.SetLemmas.{has-set_of}
 use Rattle.tn_base.specs.Firm.{Firm, HasOwnBundles}
 use Rattle.tn_base.specs.Arcs.{IsAtMost}
 use Rattle.tn_base.specs.Walks.{walk_cost, arcs_among, is_admitted, AreDifferent}
-use Rattle.tn_market.specs.declared.ends.Ends.{Ends}
-use Rattle.tn_market.specs.declared.contract.Contract.{Contract}
+use Rattle.tn_plain_data.specs.declared.ends.Ends.{Ends}
+use Rattle.tn_plain_data.specs.declared.contract.Contract.{Contract}
 use Rattle.tn_market.specs.Signed.{is_signed}
 use Rattle.tn_market.specs.Signed.{Completes}
 use Rattle.tn_market.specs.Reduced.{reduced_firms, reduced_arc}
@@ -23,18 +23,18 @@ use Rattle.tn_outcome.proofs.ArcLemmas.{reduced_arcs_are_unsigned}
 use Rattle.tn_outcome.proofs.CompletionLemmas.{completes_from_labels}
 use Rattle.tn_flow.specs.Solved.{Solution}
 use Rattle.tn_residual.specs.Residual.{number_from, unsigned, unsigned_part}
-use Rattle.tn_taxed.specs.Taxed.{IsTaxedEquilibrium}
-use Rattle.tn_taxed.proofs.CycleLemmas.{among_arc}
-use Rattle.tn_taxed.proofs.OfferLemmas.{all_on_block}
+use Rattle.tn_blocking_laws.specs.Taxed.{IsTaxedEquilibrium}
+use Rattle.tn_blocking_laws.proofs.CycleLemmas.{among_arc}
+use Rattle.tn_blocking_laws.proofs.OfferLemmas.{all_on_block}
 use Rattle.tn_chain.specs.Listed.{HasNodes, AreAtNodes, IsBegin}
 use Rattle.tn_chain.specs.Search.{chain_scale, price_for, HasCycle, IsSolvedAmong, IsBlockingChain}
 use Rattle.tn_chain.proofs.NumberLemmas.{number_less, unsigned_size}
 use Rattle.tn_chain.proofs.SizeLemmas.{made_more}
 use Rattle.tn_chain.proofs.SearchLemmas.{IsRound, found_in_graph, listed_left, unsigned_member, different_listed, walk_arc, arc_linked, null_arc}
-use Rattle.tn_market.specs.Network.{IsNetwork}
+use Rattle.tn_plain_data.specs.Network.{IsNetwork}
 use Rattle.tn_market.specs.Valued.{ExchangesOne, ExchangesNet}
 use Rattle.tn_market.specs.Limits.{IsOutcomeOf}
-use Rattle.tn_market.specs.Choices.{IsIndividuallyRational}
+use Rattle.tn_plain_data.specs.Choices.{IsIndividuallyRational}
 use Rattle.tn_network.proofs.EachLemmas.{meet_all}
 use Rattle.tn_residual.proofs.MakingLemmas.{outcome_feasible}
 

@@ -7,15 +7,16 @@ use Rattle.std.proofs.lemmas.Option.{same_Some, slice_get-map, slice_get_within,
 use Rattle.tn_base.specs.Arcs.{IsAtMost, AreSmall}
 use Rattle.tn_base.specs.Sets.{meet}
 use Rattle.tn_base.specs.Firm.{Firm}
-use Rattle.tn_market.specs.declared.ends.Ends.{Ends}
-use Rattle.tn_market.specs.declared.contract.Contract.{Contract}
-use Rattle.tn_market.specs.Network.{IsNetwork}
+use Rattle.tn_plain_data.specs.declared.ends.Ends.{Ends}
+use Rattle.tn_plain_data.specs.declared.contract.Contract.{Contract}
+use Rattle.tn_plain_data.specs.Network.{IsNetwork}
 use Rattle.tn_market.specs.Graph.{loss, exchange_arc}
 use Rattle.tn_market.specs.Limits.{IsOutcomeOf}
 use Rattle.tn_market.specs.Signed.{is_signed, signed_price, signed_bundle}
 use Rattle.tn_market.specs.Reduced.{reduced, reduced_firms, reduced_arc}
 use Rattle.tn_market.proofs.GraphLemmas.{arc_within}
-use Rattle.tn_graph.specs.Matrix.{Matrix, arcs_of, arcs_of-between}
+use Rattle.tn_graph.specs.Matrix.{Matrix, arcs_of}
+use Rattle.tn_graph.specs.MatrixLemmas.{arcs_of-between}
 use Rattle.tn_graph.specs.Reading.{IsWithoutArcs, IsWritten, IsExchangeGraph}
 use Rattle.tn_residual.specs.Held.{contract_price}
 use Rattle.tn_outcome.proofs.CompletionLemmas.{reduced_is}

@@ -7,8 +7,8 @@ use Rattle.std.proofs.lemmas.Option.{same_Some}
 use Rattle.tn_base.specs.Sets.{has, toggle}
 use Rattle.tn_base.specs.Walks.{AreDifferent}
 use Rattle.tn_base.proofs.SetLemmas.{has-toggle_same, has-toggle_other, has-zero}
-use Rattle.tn_market.specs.declared.contract.Contract.{Contract}
-use Rattle.tn_market.specs.Best.{price_at}
+use Rattle.tn_plain_data.specs.declared.contract.Contract.{Contract}
+use Rattle.tn_plain_data.specs.Prices.{price_at}
 use Rattle.tn_network.proofs.PoolLemmas.{append_cases}
 use Rattle.tn_residual.specs.Residual.{number_from}
 use Rattle.tn_chain.specs.Numbers.{toggled_if}

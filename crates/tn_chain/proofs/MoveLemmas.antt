@@ -12,9 +12,9 @@ use Rattle.tn_base.specs.Firm.{Firm, plus_sum, payments}
 use Rattle.tn_base.proofs.SetLemmas.{same_set, has-zero, has-meet, has-toggle_other, toggle_within}
 use Rattle.tn_law.proofs.KeepLemmas.{option_map-some}
 use Rattle.tn_law.proofs.BoundLemmas.{times_small, sum_over_small}
-use Rattle.tn_market.specs.declared.ends.Ends.{Ends}
-use Rattle.tn_market.specs.declared.contract.Contract.{Contract}
-use Rattle.tn_market.specs.Network.{own, part, IsNetwork}
+use Rattle.tn_plain_data.specs.declared.ends.Ends.{Ends}
+use Rattle.tn_plain_data.specs.declared.contract.Contract.{Contract}
+use Rattle.tn_plain_data.specs.Network.{own, part, IsNetwork}
 use Rattle.tn_market.specs.Valued.{IsWorthAtMost}
 use Rattle.tn_market.specs.Traded.{Traded}
 use Rattle.tn_market.specs.Limits.{IsOutcomeOf, IsWithinLimits}

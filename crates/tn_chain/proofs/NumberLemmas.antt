@@ -4,8 +4,8 @@ use Rattle.std.proofs.lemmas.Bool.{cases_eq, true≢false}
 use Rattle.tn_base.specs.Sets.{has, toggle, set_of, size}
 use Rattle.tn_base.proofs.SetLemmas.{has-toggle_same, has-toggle_other, has_above, set_of_within, has-zero}
 use Rattle.tn_base.proofs.SizeLemmas.{size-toggle_in, size-zero}
-use Rattle.tn_market.specs.declared.ends.Ends.{Ends}
-use Rattle.tn_market.specs.declared.contract.Contract.{Contract}
+use Rattle.tn_plain_data.specs.declared.ends.Ends.{Ends}
+use Rattle.tn_plain_data.specs.declared.contract.Contract.{Contract}
 use Rattle.tn_market.specs.Signed.{is_signed}
 use Rattle.tn_residual.specs.Residual.{number_from, unsigned, unsigned_from, unsigned_part}
 use Rattle.tn_residual.proofs.TradeLemmas.{free_count}

@@ -11,8 +11,8 @@ use Rattle.tn_base.specs.Walks.{walk_cost, arcs_among, is_admitted, AreDifferent
 use Rattle.tn_base.proofs.SetLemmas.{has-set_of, has-zero, has_below, same_below, set_of_within, within_from}
 use Rattle.tn_base.proofs.SizeLemmas.{size_at}
 use Rattle.tn_base.proofs.WalkLemmas.{walk_parts, both_are, walk-same, among-same}
-use Rattle.tn_market.specs.declared.ends.Ends.{Ends}
-use Rattle.tn_market.specs.declared.contract.Contract.{Contract}
+use Rattle.tn_plain_data.specs.declared.ends.Ends.{Ends}
+use Rattle.tn_plain_data.specs.declared.contract.Contract.{Contract}
 use Rattle.tn_market.specs.Best.{IsSubset}
 use Rattle.tn_market.specs.Signed.{is_signed}
 use Rattle.tn_market.specs.Reduced.{reduced_firms, reduced_arc}
@@ -22,10 +22,10 @@ use Rattle.tn_graph.specs.Matrix.{Matrix, arcs_of}
 use Rattle.tn_graph.specs.Reading.{IsExchangeGraph}
 use Rattle.tn_outcome.specs.Rational.{IsRationalOutcome}
 use Rattle.tn_residual.specs.Residual.{number_from, unsigned, unsigned_part}
-use Rattle.tn_taxed.specs.Taxed.{IsTaxedEquilibrium}
-use Rattle.tn_taxed.proofs.TaxLemmas.{some_on_is_cycle}
-use Rattle.tn_taxed.proofs.CycleLemmas.{among_arc, walk_test, admitted_trade, none_on_is_no_cycle}
-use Rattle.tn_taxed.proofs.OfferLemmas.{fewer, whole_part}
+use Rattle.tn_blocking_laws.specs.Taxed.{IsTaxedEquilibrium}
+use Rattle.tn_blocking_laws.proofs.TaxLemmas.{some_on_is_cycle}
+use Rattle.tn_blocking_laws.proofs.CycleLemmas.{among_arc, walk_test, admitted_trade, none_on_is_no_cycle}
+use Rattle.tn_blocking_laws.proofs.OfferLemmas.{fewer, whole_part}
 use Rattle.tn_chain.specs.Moves.{move_between}
 use Rattle.tn_chain.specs.Listed.{HasNodes}
 use Rattle.tn_chain.specs.Search.{chain_scale, price_for, IsSolvedAmong, HasCycle}

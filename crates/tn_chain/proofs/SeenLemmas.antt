@@ -11,9 +11,9 @@ use Rattle.tn_base.proofs.SizeLemmas.{size_at}
 use Rattle.tn_base.proofs.SumLemmas.{sum_over-toggle_in, sum_over-toggle_out}
 use Rattle.tn_law.proofs.FavourLemmas.{IsFavoured, Favours, favoured_best}
 use Rattle.tn_law.proofs.KeepLemmas.{option_map-some}
-use Rattle.tn_market.specs.declared.ends.Ends.{Ends}
-use Rattle.tn_market.specs.declared.contract.Contract.{Contract}
-use Rattle.tn_market.specs.Network.{own, part, stands_at}
+use Rattle.tn_plain_data.specs.declared.ends.Ends.{Ends}
+use Rattle.tn_plain_data.specs.declared.contract.Contract.{Contract}
+use Rattle.tn_plain_data.specs.Network.{own, part, stands_at}
 use Rattle.tn_market.specs.Best.{IsSubset}
 use Rattle.tn_market.specs.Equilibrium.{prices_at, HasBest, IsEquilibrium}
 use Rattle.tn_market.specs.Admitted.{admitted}
@@ -23,7 +23,7 @@ use Rattle.tn_market.specs.Signed.{is_signed, signed_price, signed_bundle}
 use Rattle.tn_market.specs.Reduced.{reduced, reduced_firms}
 use Rattle.tn_market.proofs.GraphLemmas.{has-part, seller_end, buyer_end, same_firm, IsEnd}
 use Rattle.tn_market.proofs.LevyLemmas.{levy_is}
-use Rattle.tn_market.proofs.NetworkLemmas.{one_trade}
+use Rattle.tn_plain_data.proofs.NetworkLemmas.{one_trade}
 use Rattle.tn_network.proofs.AdmittedLemmas.{admitted_is, admitted_from_firm, among_inside, among_parts, part_inside}
 use Rattle.tn_network.proofs.PartLemmas.{own_once}
 use Rattle.tn_outcome.proofs.SignedLemmas.{has-signed_bundle}
@@ -32,9 +32,9 @@ use Rattle.tn_residual.specs.Residual.{sold_to, bought_from, number_from, unsign
 use Rattle.tn_residual.proofs.TradeLemmas.{have_trades, free_count, half_trades, outside_firm}
 use Rattle.tn_residual.proofs.ResidualLemmas.{first_bought, second_sold, stands_sold, stands_bought, StandsFor}
 use Rattle.tn_residual.proofs.PositionLemmas.{Setting, parties, made, party, made_network, party_at, stands_here, stands_own, own_free, part_beside, taxed_beside, half_prices, half_prices-half, half_price-at, own_price}
-use Rattle.tn_taxed.specs.Taxed.{taxed, taxed_firms, IsTaxedEquilibrium}
-use Rattle.tn_taxed.proofs.TaxLemmas.{taxed_from, tax_is}
-use Rattle.tn_taxed.proofs.ScaleLemmas.{IsCover, firm_cover, scaled_price}
+use Rattle.tn_blocking_laws.specs.Taxed.{taxed, taxed_firms, IsTaxedEquilibrium}
+use Rattle.tn_blocking_laws.proofs.TaxLemmas.{taxed_from, tax_is}
+use Rattle.tn_blocking_laws.proofs.ScaleLemmas.{IsCover, firm_cover, scaled_price}
 
 -- the trades of the residual market that are admitted: the numbers of some unsigned trades, and all halves
 pub record IsAdmitting (z : Setting) (allowed numbers : ℕ) : Type 0 where

@@ -13,10 +13,10 @@ use Rattle.tn_base.specs.Walks.{AreDifferent}
 use Rattle.tn_base.proofs.SetLemmas.{has_above, has-set_of, set_of_within}
 use Rattle.tn_base.proofs.SizeLemmas.{size-toggle_in, size-zero}
 use Rattle.tn_law.proofs.BoundLemmas.{abs_small, times_small}
-use Rattle.tn_market.specs.declared.ends.Ends.{Ends}
-use Rattle.tn_market.specs.declared.contract.Contract.{Contract}
-use Rattle.tn_market.specs.Best.{price_at}
-use Rattle.tn_market.specs.Choices.{IsFeasible}
+use Rattle.tn_plain_data.specs.declared.ends.Ends.{Ends}
+use Rattle.tn_plain_data.specs.declared.contract.Contract.{Contract}
+use Rattle.tn_plain_data.specs.Prices.{price_at}
+use Rattle.tn_plain_data.specs.Choices.{IsFeasible}
 use Rattle.tn_market.specs.Limits.{IsOutcomeOf}
 use Rattle.tn_market.specs.Traded.{Traded}
 use Rattle.tn_market.specs.Signed.{is_signed, signed}
@@ -24,7 +24,7 @@ use Rattle.tn_flow.specs.Solved.{AreSmallPrices}
 use Rattle.tn_outcome.proofs.SignedLemmas.{signed_by}
 use Rattle.tn_residual.specs.Residual.{residual_limit, residual_of, residual_trades, unsigned, unsigned_from, halves_from}
 use Rattle.tn_residual.proofs.MakingLemmas.{halves_few, outcome_feasible}
-use Rattle.tn_taxed.proofs.CycleLemmas.{few, visits-all}
+use Rattle.tn_blocking_laws.proofs.CycleLemmas.{few, visits-all}
 use Rattle.tn_chain.proofs.NumberLemmas.{numbers_all, unsigned_size}
 use Rattle.tn_chain.specs.Search.{chain_scale, IsResidual}
 

@@ -5,11 +5,11 @@ use Rattle.std.proofs.lemmas.Nat.{mul-le}
 use Rattle.std.proofs.lemmas.Bool.{cases_lt, true≢false}
 use Rattle.tn_base.specs.Sets.{has, size}
 use Rattle.tn_base.specs.Firm.{Firm, HasOwnBundles}
-use Rattle.tn_market.specs.declared.ends.Ends.{Ends}
-use Rattle.tn_market.specs.declared.contract.Contract.{Contract}
-use Rattle.tn_market.specs.Network.{IsNetwork}
-use Rattle.tn_market.specs.Best.{price_at}
-use Rattle.tn_market.specs.Choices.{IsFeasible}
+use Rattle.tn_plain_data.specs.declared.ends.Ends.{Ends}
+use Rattle.tn_plain_data.specs.declared.contract.Contract.{Contract}
+use Rattle.tn_plain_data.specs.Network.{IsNetwork}
+use Rattle.tn_plain_data.specs.Prices.{price_at}
+use Rattle.tn_plain_data.specs.Choices.{IsFeasible}
 use Rattle.tn_market.specs.Traded.{Traded}
 use Rattle.tn_flow.specs.Solved.{Solution, IsSolution, AreSmallPrices}
 use Rattle.tn_residual.specs.Residual.{residual_limit, unsigned}

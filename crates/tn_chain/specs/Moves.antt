@@ -1,7 +1,7 @@
 -- The arcs of the exchange graph where no trade is on.
 use Rattle.std.specs.Prelude.{◌≡◌, ℕ, ◌<◌, ℤ, ◌⊎◌, List, slice_get, ◌==◌, if◌then◌else◌, Option, Some, None}
 use Rattle.tn_base.specs.Sets.{toggle}
-use Rattle.tn_market.specs.declared.ends.Ends.{Ends}
+use Rattle.tn_plain_data.specs.declared.ends.Ends.{Ends}
 use Rattle.tn_graph.specs.Matrix.{Matrix, arcs_of}
 
 -- the firm that buys the one trade and sells the other, with the bundle of the two; none where these are two firms, and

@@ -1,7 +1,7 @@
 -- The numbers that the unsigned trades have among themselves, and sets of them.
 use Rattle.std.specs.Prelude.{◌≡◌, ℕ, ◌<◌, ◌≤◌, List, Bool, true, false, if◌then◌else◌, Option, Some, None}
 use Rattle.tn_base.specs.Sets.{has, toggle}
-use Rattle.tn_market.specs.declared.contract.Contract.{Contract}
+use Rattle.tn_plain_data.specs.declared.contract.Contract.{Contract}
 use Rattle.tn_market.specs.Signed.{is_signed}
 use Rattle.tn_residual.specs.Residual.{number_from}
 

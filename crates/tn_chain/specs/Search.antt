@@ -4,17 +4,18 @@ use Rattle.tn_base.specs.Arcs.{IsAtMost}
 use Rattle.tn_base.specs.Sets.{size}
 use Rattle.tn_base.specs.Firm.{Firm}
 use Rattle.tn_base.specs.Walks.{arcs_among, is_admitted, KeepsArcs}
-use Rattle.tn_market.specs.declared.ends.Ends.{Ends}
-use Rattle.tn_market.specs.declared.contract.Contract.{Contract}
-use Rattle.tn_market.specs.Best.{price_at, IsSubset}
-use Rattle.tn_market.specs.Choices.{Blocks}
+use Rattle.tn_plain_data.specs.declared.ends.Ends.{Ends}
+use Rattle.tn_plain_data.specs.declared.contract.Contract.{Contract}
+use Rattle.tn_plain_data.specs.Prices.{price_at}
+use Rattle.tn_market.specs.Best.{IsSubset}
+use Rattle.tn_plain_data.specs.Choices.{Blocks}
 use Rattle.tn_market.specs.Chains.{IsChain}
 use Rattle.tn_market.specs.Signed.{is_signed}
 use Rattle.tn_market.specs.Reduced.{reduced_arc}
 use Rattle.tn_market.specs.Traded.{Traded}
 use Rattle.tn_flow.specs.Solved.{Solution}
 use Rattle.tn_residual.specs.Residual.{number_from, residual_limit, residual_of, residual_trades, unsigned, unsigned_part}
-use Rattle.tn_taxed.specs.Taxed.{IsTaxedEquilibrium}
+use Rattle.tn_blocking_laws.specs.Taxed.{IsTaxedEquilibrium}
 
 -- how many times the unsigned trades and one more: the scale at which the taxes on a chain are less than a whole number
 abbrev pub chain_scale : ℕ → List Contract → ℤ

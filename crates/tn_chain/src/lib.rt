@@ -1,4 +1,5 @@
-//! Chains of contracts that block an outcome, and the exchange graph of its reduced worths.
+//! Chains of contracts that block an outcome.
+//! They are found on the exchange graph of the outcome's reduced worths.
 #![tactic(auto)]
 
 mod chain;

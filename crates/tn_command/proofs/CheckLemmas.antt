@@ -9,12 +9,13 @@ use Rattle.std.proofs.lemmas.List.Elements.{All-get_or}
 use Rattle.tn_base.specs.Arcs.{IsAtMost}
 use Rattle.tn_base.specs.Firm.{Firm}
 use Rattle.tn_firm.specs.declared.value.FirmValue.{FirmValue}
-use Rattle.tn_firm.specs.Firms.{firm_of, firm_laws, firm_few}
-use Rattle.tn_market.specs.declared.ends.Ends.{Ends}
-use Rattle.tn_market.specs.declared.said.Said.{Said}
-use Rattle.tn_market.specs.declared.said.Said.TheVariants.{Equilibrium, Better}
-use Rattle.tn_market.specs.Best.{price_at}
-use Rattle.tn_market.specs.Network.{IsNetwork, own, trades_of}
+use Rattle.tn_firm.specs.Firms.{firm_of}
+use Rattle.tn_firm.specs.FirmLemmas.{firm_laws, firm_few}
+use Rattle.tn_plain_data.specs.declared.ends.Ends.{Ends}
+use Rattle.tn_plain_data.specs.declared.said.Said.{Said}
+use Rattle.tn_plain_data.specs.declared.said.Said.TheVariants.{Equilibrium, Better}
+use Rattle.tn_plain_data.specs.Prices.{price_at}
+use Rattle.tn_plain_data.specs.Network.{IsNetwork, own, trades_of}
 use Rattle.tn_market.specs.Equilibrium.{IsEquilibrium, surplus_of}
 use Rattle.tn_market.specs.Judged.{IsFirstBettered, Judges}
 use Rattle.tn_network.proofs.WelfareLemmas.{equilibrium_is_efficient}

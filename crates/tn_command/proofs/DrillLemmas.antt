@@ -6,9 +6,9 @@ use Rattle.tn_base.specs.Firm.{Firm}
 use Rattle.tn_firm.specs.declared.value.FirmValue.{FirmValue}
 use Rattle.tn_firm.specs.Firms.{firm_of}
 use Rattle.tn_drill.specs.Drill.{firms_of, trades_of}
-use Rattle.tn_market.specs.declared.ends.Ends.{Ends}
+use Rattle.tn_plain_data.specs.declared.ends.Ends.{Ends}
 use Rattle.tn_market.specs.Equilibrium.{IsEfficient, IsEquilibrium, surplus_of}
-use Rattle.tn_market.specs.Network.{IsNetwork}
+use Rattle.tn_plain_data.specs.Network.{IsNetwork}
 use Rattle.tn_network.proofs.WelfareLemmas.{equilibrium_is_efficient}
 use Rattle.tn_command.specs.Drilled.{IsDrilled}
 

@@ -6,23 +6,23 @@ use Rattle.std.proofs.Math.Seq.{take-suc}
 use Rattle.tn_base.specs.Sets.{has}
 use Rattle.tn_firm.specs.declared.value.FirmValue.{FirmValue}
 use Rattle.tn_firm.specs.Firms.{firm_of}
-use Rattle.tn_market.specs.declared.ends.Ends.{Ends}
-use Rattle.tn_market.specs.declared.session.Edit.{Edit}
-use Rattle.tn_market.specs.declared.session.Edit.TheVariants.{Admit, Bar}
-use Rattle.tn_market.specs.declared.session.State.{State}
+use Rattle.tn_plain_data.specs.declared.ends.Ends.{Ends}
+use Rattle.tn_plain_data.specs.declared.session.Edit.{Edit}
+use Rattle.tn_plain_data.specs.declared.session.Edit.TheVariants.{Admit, Bar}
+use Rattle.tn_plain_data.specs.declared.session.State.{State}
 use Rattle.tn_market.specs.Traded.{Traded}
 use Rattle.tn_flow.specs.Solved.{AreSmallPrices, IsSolution}
 use Rattle.tn_session.specs.Standing.{HasSmallPrices, HoldsEquilibrium, Standing}
 use Rattle.std.proofs.lemmas.List.Elements.{All-append, All-cons, All-nil}
-use Rattle.tn_market.specs.declared.contract.Contract.{Contract}
+use Rattle.tn_plain_data.specs.declared.contract.Contract.{Contract}
 use Rattle.tn_market.specs.Admitted.{admitted}
-use Rattle.tn_market.specs.Best.{price_at}
-use Rattle.tn_market.specs.Choices.{contracts_of}
-use Rattle.tn_market.specs.Edits.{edited}
+use Rattle.tn_plain_data.specs.Prices.{price_at}
+use Rattle.tn_plain_data.specs.Choices.{contracts_of}
+use Rattle.tn_plain_data.specs.Edits.{edited}
 use Rattle.tn_market.specs.Equilibrium.{surplus_of}
 use Rattle.tn_market.specs.Graph.{ArePossible}
-use Rattle.tn_market.specs.Network.{trades_on}
-use Rattle.tn_market.proofs.ContractLemmas.{contracts_within}
+use Rattle.tn_plain_data.specs.Network.{trades_on}
+use Rattle.tn_plain_data.proofs.ContractLemmas.{contracts_within}
 use Rattle.tn_network.proofs.AdmittedLemmas.{possible_from_admitted}
 use Rattle.tn_network.proofs.RoundLemmas.{equilibrium_possible}
 use Rattle.tn_answer.specs.Kept.{IsWithinPrices, IsWithinState}

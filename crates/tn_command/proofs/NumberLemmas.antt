@@ -7,8 +7,8 @@ use Rattle.tn_base.specs.Arcs.{IsAtMost}
 use Rattle.tn_base.specs.Sets.{sum_over}
 use Rattle.tn_base.specs.Firm.{Firm, payments, utility}
 use Rattle.tn_law.proofs.KeepLemmas.{option_map-some}
-use Rattle.tn_market.specs.declared.ends.Ends.{Ends}
-use Rattle.tn_market.specs.Network.{part}
+use Rattle.tn_plain_data.specs.declared.ends.Ends.{Ends}
+use Rattle.tn_plain_data.specs.Network.{part}
 use Rattle.tn_market.specs.Equilibrium.{surplus_from}
 use Rattle.tn_market.specs.Valued.{IsWorthAtMost}
 use Rattle.tn_law.proofs.BoundLemmas.{sum_over_small}

@@ -9,16 +9,17 @@ use Rattle.tn_base.specs.Firm.{Firm}
 use Rattle.tn_base.specs.Sets.{sum_over}
 use Rattle.tn_chain.proofs.SizeLemmas.{scale_bound}
 use Rattle.tn_firm.specs.declared.value.FirmValue.{FirmValue}
-use Rattle.tn_firm.specs.Firms.{firm_of, firm_laws}
+use Rattle.tn_firm.specs.Firms.{firm_of}
+use Rattle.tn_firm.specs.FirmLemmas.{firm_laws}
 use Rattle.tn_judge.specs.Judges.{IsBlockedBy}
 use Rattle.tn_judge.specs.Verdict.{IsFirstDrop}
 use Rattle.tn_law.proofs.BoundLemmas.{times_small, sum_over_small}
 use Rattle.tn_law.proofs.KeepLemmas.{option_map-some}
-use Rattle.tn_market.specs.declared.contract.Contract.{Contract}
-use Rattle.tn_market.specs.declared.ends.Ends.{Ends}
-use Rattle.tn_market.specs.Choices.{bundle_by, own_part, paid_by, paid_to, part_utility, payment}
+use Rattle.tn_plain_data.specs.declared.contract.Contract.{Contract}
+use Rattle.tn_plain_data.specs.declared.ends.Ends.{Ends}
+use Rattle.tn_plain_data.specs.Choices.{bundle_by, own_part, paid_by, paid_to, part_utility, payment}
 use Rattle.tn_market.specs.Limits.{IsOutcomeOf}
-use Rattle.tn_market.specs.Network.{trades_of}
+use Rattle.tn_plain_data.specs.Network.{trades_of}
 use Rattle.tn_market.specs.Valued.{IsWorthAtMost}
 use Rattle.tn_residual.proofs.MakingLemmas.{contracts_few}
 use Rattle.tn_command.proofs.CheckLemmas.{value_at}

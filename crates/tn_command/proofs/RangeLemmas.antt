@@ -9,12 +9,13 @@ use Rattle.tn_base.specs.Arcs.{IsAtMost}
 use Rattle.tn_base.specs.Firm.{Firm}
 use Rattle.tn_base.specs.Walks.{AreDifferent}
 use Rattle.tn_firm.specs.declared.value.FirmValue.{FirmValue}
-use Rattle.tn_firm.specs.Firms.{firm_of, firm_laws}
-use Rattle.tn_market.specs.declared.ends.Ends.{Ends}
-use Rattle.tn_market.specs.declared.range.Range.{Range}
+use Rattle.tn_firm.specs.Firms.{firm_of}
+use Rattle.tn_firm.specs.FirmLemmas.{firm_laws}
+use Rattle.tn_plain_data.specs.declared.ends.Ends.{Ends}
+use Rattle.tn_plain_data.specs.declared.range.Range.{Range}
 use Rattle.tn_market.specs.Equilibrium.{IsEquilibrium}
 use Rattle.tn_market.specs.Graph.{exchange_arc}
-use Rattle.tn_market.specs.Network.{IsNetwork, trades_on}
+use Rattle.tn_plain_data.specs.Network.{IsNetwork, trades_on}
 use Rattle.tn_market.specs.Ranges.{AreRanges, IsPath, ShowsHighest, ShowsLowest}
 use Rattle.tn_market.specs.Valued.{IsWorthAtMost}
 use Rattle.tn_cycle.proofs.WalkLemmas.{AreApart, apart_from_different, few_apart, walk_inside}

@@ -12,21 +12,22 @@ use Rattle.tn_cert.specs.Reasons.{Refutes}
 use Rattle.tn_chain.proofs.MoveLemmas.{price_small as signed_price_small}
 use Rattle.tn_cycle.proofs.RoundLemmas.{walk_small}
 use Rattle.tn_firm.specs.declared.value.FirmValue.{FirmValue}
-use Rattle.tn_firm.specs.Firms.{firm_of, firm_laws, firm_few}
+use Rattle.tn_firm.specs.Firms.{firm_of}
+use Rattle.tn_firm.specs.FirmLemmas.{firm_laws, firm_few}
 use Rattle.tn_law.proofs.BoundLemmas.{times_small, sum_over_small}
 use Rattle.tn_law.proofs.KeepLemmas.{option_map-some}
-use Rattle.tn_market.specs.declared.claim.Claim.{Claim}
-use Rattle.tn_market.specs.declared.claim.Claim.TheVariants.{Equilibrium, Better, Impossible, Accepted, ExchangeFails, Supported, Cycle, Solved, Drops, Completes, Blocks}
-use Rattle.tn_market.specs.declared.contract.Outcome.{Outcome}
-use Rattle.tn_market.specs.declared.ends.Ends.{Ends}
-use Rattle.tn_market.specs.declared.reason.Reason.{Reason}
-use Rattle.tn_market.specs.declared.reason.Reason.TheVariants.{Impossible as ImpossibleIs, Better as BetterIs, Possible, Surplus, Gain, Exchange, Holds, Arc, Cost, Contract, Over, Price, Empty, Signed, Choice}
-use Rattle.tn_market.specs.Best.{price_at}
-use Rattle.tn_market.specs.ClaimLimits.{IsClaimWithin, AreNodesWithin}
+use Rattle.tn_plain_data.specs.declared.claim.Claim.{Claim}
+use Rattle.tn_plain_data.specs.declared.claim.Claim.TheVariants.{Equilibrium, Better, Impossible, Accepted, ExchangeFails, Supported, Cycle, Solved, Drops, Completes, Blocks}
+use Rattle.tn_plain_data.specs.declared.contract.Outcome.{Outcome}
+use Rattle.tn_plain_data.specs.declared.ends.Ends.{Ends}
+use Rattle.tn_plain_data.specs.declared.reason.Reason.{Reason}
+use Rattle.tn_plain_data.specs.declared.reason.Reason.TheVariants.{Impossible as ImpossibleIs, Better as BetterIs, Possible, Surplus, Gain, Exchange, Holds, Arc, Cost, Contract, Over, Price, Empty, Signed, Choice}
+use Rattle.tn_plain_data.specs.Prices.{price_at}
+use Rattle.tn_plain_data.specs.ClaimLimits.{IsClaimWithin, AreNodesWithin}
 use Rattle.tn_market.specs.Graph.{exchange_arc}
 use Rattle.tn_market.specs.Equilibrium.{surplus_of}
-use Rattle.tn_market.specs.Network.{IsNetwork, own, part}
-use Rattle.tn_market.specs.OutcomeLimits.{IsOutcomeWithin}
+use Rattle.tn_plain_data.specs.Network.{IsNetwork, own, part}
+use Rattle.tn_plain_data.specs.OutcomeLimits.{IsOutcomeWithin}
 use Rattle.tn_market.specs.Signed.{signed_price, signed_bundle}
 use Rattle.tn_market.specs.Valued.{IsWorthAtMost}
 use Rattle.tn_market.proofs.AskLemmas.{payment_small}

@@ -6,9 +6,9 @@ use Rattle.std.proofs.lemmas.List.{take_all}
 use Rattle.std.proofs.Math.Seq.{take-suc}
 use Rattle.tn_base.specs.Arcs.{IsAtMost}
 use Rattle.tn_base.specs.Firm.{Firm}
-use Rattle.tn_market.specs.declared.ends.Ends.{Ends}
-use Rattle.tn_market.specs.Best.{price_at}
-use Rattle.tn_market.specs.Network.{IsNetwork, part, trades_on}
+use Rattle.tn_plain_data.specs.declared.ends.Ends.{Ends}
+use Rattle.tn_plain_data.specs.Prices.{price_at}
+use Rattle.tn_plain_data.specs.Network.{IsNetwork, part, trades_on}
 use Rattle.tn_market.specs.Equilibrium.{IsEquilibrium, surplus_from, surplus_of}
 use Rattle.tn_market.specs.Graph.{ArePossible}
 use Rattle.tn_firm.specs.declared.value.FirmValue.{FirmValue}

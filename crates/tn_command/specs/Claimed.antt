@@ -3,10 +3,10 @@ use Rattle.std.specs.Prelude.{List}
 use Rattle.tn_base.specs.Firm.{Firm}
 use Rattle.tn_cert.specs.Claims.{IsValid}
 use Rattle.tn_cert.specs.Reasons.{Refutes}
-use Rattle.tn_market.specs.declared.claim.Claim.{Claim}
-use Rattle.tn_market.specs.declared.ends.Ends.{Ends}
-use Rattle.tn_market.specs.declared.said.Said.{Said}
-use Rattle.tn_market.specs.declared.said.Said.TheVariants.{Valid, Invalid}
+use Rattle.tn_plain_data.specs.declared.claim.Claim.{Claim}
+use Rattle.tn_plain_data.specs.declared.ends.Ends.{Ends}
+use Rattle.tn_plain_data.specs.declared.said.Said.{Said}
+use Rattle.tn_plain_data.specs.declared.said.Said.TheVariants.{Valid, Invalid}
 
 -- valid by the definitions, or the first condition of the claim that fails
 abbrev pub DecidesClaim : List Firm → List Ends → Claim → Said → Type 0

@@ -1,8 +1,8 @@
 -- The answer of `drill`: the greatest surplus of a network that is drawn from two numbers.
 use Rattle.std.specs.Prelude.{◌≡◌, ℕ, ℤ, Some}
 use Rattle.tn_drill.specs.Drill.{firms_of, trades_of}
-use Rattle.tn_market.specs.declared.said.Said.{Said}
-use Rattle.tn_market.specs.declared.said.Said.TheVariants.{Drill}
+use Rattle.tn_plain_data.specs.declared.said.Said.{Said}
+use Rattle.tn_plain_data.specs.declared.said.Said.TheVariants.{Drill}
 use Rattle.tn_market.specs.Equilibrium.{IsEfficient, surplus_of}
 
 -- the drill network has so many firms, and the surplus of a set of its trades that no set exceeds

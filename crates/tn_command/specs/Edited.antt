@@ -6,17 +6,18 @@ use Rattle.tn_firm.specs.declared.value.FirmValue.{FirmValue}
 use Rattle.tn_firm.specs.Firms.{firm_of}
 use Rattle.tn_flow.specs.Solved.{AreSmallPrices, IsSolution}
 use Rattle.tn_session.specs.Standing.{Standing}
-use Rattle.tn_market.specs.declared.ends.Ends.{Ends}
-use Rattle.tn_market.specs.declared.session.Edit.{Edit}
-use Rattle.tn_market.specs.declared.session.Edit.TheVariants.{Admit, Bar}
-use Rattle.tn_market.specs.declared.session.State.{State}
-use Rattle.tn_market.specs.declared.said.Said.{Said}
-use Rattle.tn_market.specs.declared.said.Said.TheVariants.{Session}
+use Rattle.tn_plain_data.specs.declared.ends.Ends.{Ends}
+use Rattle.tn_plain_data.specs.declared.session.Edit.{Edit}
+use Rattle.tn_plain_data.specs.declared.session.Edit.TheVariants.{Admit, Bar}
+use Rattle.tn_plain_data.specs.declared.session.State.{State}
+use Rattle.tn_plain_data.specs.declared.said.Said.{Said}
+use Rattle.tn_plain_data.specs.declared.said.Said.TheVariants.{Session}
 use Rattle.tn_market.specs.Admitted.{admitted}
-use Rattle.tn_market.specs.Best.{price_at, IsSubset}
-use Rattle.tn_market.specs.Choices.{contracts_of}
+use Rattle.tn_plain_data.specs.Prices.{price_at}
+use Rattle.tn_market.specs.Best.{IsSubset}
+use Rattle.tn_plain_data.specs.Choices.{contracts_of}
 use Rattle.tn_market.specs.Equilibrium.{IsEquilibrium, surplus_of}
-use Rattle.tn_market.specs.Network.{trades_on}
+use Rattle.tn_plain_data.specs.Network.{trades_on}
 
 -- whether trade t is admitted after some edits, by whether it was before them
 abbrev pub is_admitted_after : Bool → List Edit → ℕ → Bool

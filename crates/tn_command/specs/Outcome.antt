@@ -3,12 +3,12 @@ use Rattle.std.specs.Prelude.{◌≡◌, ℕ, ℤ, List}
 use Rattle.tn_base.specs.Firm.{Firm}
 use Rattle.tn_judge.specs.Judges.{IsBlockedBy}
 use Rattle.tn_judge.specs.Verdict.{IsFirstDrop, IsCompletedBy}
-use Rattle.tn_market.specs.declared.contract.Contract.{Contract}
-use Rattle.tn_market.specs.declared.ends.Ends.{Ends}
-use Rattle.tn_market.specs.declared.said.Said.{Said}
-use Rattle.tn_market.specs.declared.said.Said.TheVariants.{Drops, Completes, Blocks}
-use Rattle.tn_market.specs.Choices.{IsIndividuallyRational}
-use Rattle.tn_market.specs.Network.{trades_of}
+use Rattle.tn_plain_data.specs.declared.contract.Contract.{Contract}
+use Rattle.tn_plain_data.specs.declared.ends.Ends.{Ends}
+use Rattle.tn_plain_data.specs.declared.said.Said.{Said}
+use Rattle.tn_plain_data.specs.declared.said.Said.TheVariants.{Drops, Completes, Blocks}
+use Rattle.tn_plain_data.specs.Choices.{IsIndividuallyRational}
+use Rattle.tn_plain_data.specs.Network.{trades_of}
 
 -- the first firm that would drop contracts, where there is one; otherwise prices that complete the outcome, where there are
 -- any; otherwise a chain of contracts that blocks it

@@ -1,12 +1,12 @@
 -- The answer of `range`: how far each price may move.
 use Rattle.std.specs.Prelude.{◌≡◌, ℕ, List, length}
 use Rattle.tn_base.specs.Firm.{Firm}
-use Rattle.tn_market.specs.declared.ends.Ends.{Ends}
-use Rattle.tn_market.specs.declared.range.Range.{Range}
-use Rattle.tn_market.specs.declared.said.Said.{Said}
-use Rattle.tn_market.specs.declared.said.Said.TheVariants.{Ranges}
+use Rattle.tn_plain_data.specs.declared.ends.Ends.{Ends}
+use Rattle.tn_plain_data.specs.declared.range.Range.{Range}
+use Rattle.tn_plain_data.specs.declared.said.Said.{Said}
+use Rattle.tn_plain_data.specs.declared.said.Said.TheVariants.{Ranges}
 use Rattle.tn_market.specs.Equilibrium.{IsEfficient}
-use Rattle.tn_market.specs.Network.{trades_on}
+use Rattle.tn_plain_data.specs.Network.{trades_on}
 use Rattle.tn_market.specs.Ranges.{AreRanges}
 
 -- the trades of an efficient set, ascending, and the lowest and the highest price of each trade over all equilibria, with

@@ -1,11 +1,11 @@
 -- The answer of `solve`: an equilibrium.
 use Rattle.std.specs.Prelude.{◌≡◌, ℕ, ℤ, pos, List, length, Some}
 use Rattle.tn_base.specs.Firm.{Firm}
-use Rattle.tn_market.specs.declared.ends.Ends.{Ends}
-use Rattle.tn_market.specs.declared.said.Said.{Said}
-use Rattle.tn_market.specs.declared.said.Said.TheVariants.{Solved, Rows}
-use Rattle.tn_market.specs.Best.{price_at}
-use Rattle.tn_market.specs.Network.{trades_on}
+use Rattle.tn_plain_data.specs.declared.ends.Ends.{Ends}
+use Rattle.tn_plain_data.specs.declared.said.Said.{Said}
+use Rattle.tn_plain_data.specs.declared.said.Said.TheVariants.{Solved, Rows}
+use Rattle.tn_plain_data.specs.Prices.{price_at}
+use Rattle.tn_plain_data.specs.Network.{trades_on}
 use Rattle.tn_market.specs.Equilibrium.{IsEquilibrium, surplus_of}
 use Rattle.tn_command.specs.Implied.{IsEfficientAndStable}
 

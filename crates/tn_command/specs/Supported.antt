@@ -1,10 +1,10 @@
 -- The answer of `support`: prices for a set of trades, or why there are none.
 use Rattle.std.specs.Prelude.{ℕ, List}
 use Rattle.tn_base.specs.Firm.{Firm}
-use Rattle.tn_market.specs.declared.ends.Ends.{Ends}
-use Rattle.tn_market.specs.declared.said.Said.{Said}
-use Rattle.tn_market.specs.declared.said.Said.TheVariants.{Impossible, Supported, Cycle}
-use Rattle.tn_market.specs.Best.{price_at}
+use Rattle.tn_plain_data.specs.declared.ends.Ends.{Ends}
+use Rattle.tn_plain_data.specs.declared.said.Said.{Said}
+use Rattle.tn_plain_data.specs.declared.said.Said.TheVariants.{Impossible, Supported, Cycle}
+use Rattle.tn_plain_data.specs.Prices.{price_at}
 use Rattle.tn_market.specs.Supported.{AreSupports, IsFirstUnable, IsNegativeCycle}
 use Rattle.tn_price.specs.Supports.{IsUnsupported}
 use Rattle.tn_command.specs.Implied.{IsEfficientAndStable}

@@ -4,7 +4,7 @@ ghost use Rattle.std.specs.Prelude.{◌≡◌, ◌^◌, ◌≤◌, pos, All, IfO
 ghost use Rattle.tn_answer.specs.Kept.{IsWithinClaims};
 ghost use Rattle.tn_base.specs.Arcs.{IsAtMost};
 ghost use Rattle.tn_firm.specs.Firms.{firm_of};
-ghost use Rattle.tn_market.specs.Best.{price_at};
+ghost use Rattle.tn_plain_data.specs.Prices.{price_at};
 ghost use Rattle.tn_market.specs.Judged.{Judges};
 
 use std::alloc::Global;

@@ -4,9 +4,9 @@ ghost use Rattle.std.specs.Prelude.{◌≡◌, ℕ, Bool, false, ◌<◌, ◌≤
 ghost use Rattle.tn_answer.specs.Kept.{IsWithinClaims, IsWithinState};
 ghost use Rattle.tn_command.specs.Edited.{IsStateOf, StandsWhere, TellsStates, is_admitted_after};
 ghost use Rattle.tn_firm.specs.Firms.{firm_of};
-ghost use Rattle.tn_market.specs.Best.{price_at};
-ghost use Rattle.tn_market.specs.Choices.{contracts_of};
-ghost use Rattle.tn_market.specs.Edits.{edited};
+ghost use Rattle.tn_plain_data.specs.Prices.{price_at};
+ghost use Rattle.tn_plain_data.specs.Choices.{contracts_of};
+ghost use Rattle.tn_plain_data.specs.Edits.{edited};
 
 use crate::solving::{surplus, trades_on};
 use std::alloc::Global;

@@ -1,5 +1,5 @@
-//! The answers of the commands, each to what the command is about: a network or a market, and an arrangement or a set of
-//! trades beside it.
+//! The answers of the commands to a market, and to what is asked of it.
+//! Which answers a command may give is defined in `specs/`, one file for each sort of answer.
 #![tactic(auto)]
 
 mod checking;

@@ -5,7 +5,7 @@ ghost use Rattle.tn_answer.specs.Kept.{IsWithinClaims};
 ghost use Rattle.tn_cert.specs.Replays.{is_on_exchange};
 ghost use Rattle.tn_command.specs.Claimed.{DecidesClaim};
 ghost use Rattle.tn_firm.specs.Firms.{firm_of};
-ghost use Rattle.tn_market.specs.ClaimLimits.{IsClaimWithin};
+ghost use Rattle.tn_plain_data.specs.ClaimLimits.{IsClaimWithin};
 
 use std::alloc::Global;
 use tn_base::{Asked, OutOfMemory, Steps};

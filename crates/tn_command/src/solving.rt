@@ -4,10 +4,10 @@ ghost use Rattle.std.specs.Prelude.{◌≡◌, ◌^◌, ◌≤◌, pos, All, IfO
 ghost use Rattle.tn_answer.specs.Kept.{IsWithinClaim, IsWithinClaims};
 ghost use Rattle.tn_base.specs.Arcs.{IsAtMost};
 ghost use Rattle.tn_firm.specs.Firms.{firm_of};
-ghost use Rattle.tn_market.specs.Best.{price_at};
+ghost use Rattle.tn_plain_data.specs.Prices.{price_at};
 ghost use Rattle.tn_market.specs.Equilibrium.{IsEquilibrium, surplus_of};
 ghost use Rattle.tn_market.specs.Graph.{ArePossible};
-ghost use Rattle.tn_market.specs.Network.{trades_on};
+ghost use Rattle.tn_plain_data.specs.Network.{trades_on};
 ghost use Rattle.tn_command.specs.Solved.{Solves, SolvesInRows};
 
 use std::alloc::Global;

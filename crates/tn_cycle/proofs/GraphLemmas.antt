@@ -7,7 +7,7 @@ use Rattle.tn_base.specs.Arcs.{AreBetweenNodes}
 use Rattle.tn_base.specs.Options.{both}
 use Rattle.tn_base.specs.Walks.{is_admitted, is_looked_at, walk_cost, arcs_among, HasNoNegativeCycle}
 use Rattle.tn_cycle.specs.Graphs.{is_between, with_sink}
-use Rattle.tn_cycle.specs.GraphLaws.{some_if}
+use Rattle.tn_cycle.specs.GraphLemmas.{some_if}
 use Rattle.tn_cycle.specs.Searched.{HasNoNegativeCycleOff}
 use Rattle.tn_cycle.proofs.OrderLemmas.{parts}
 use Rattle.tn_cycle.proofs.WalkLemmas.{walk_cost-same_off}

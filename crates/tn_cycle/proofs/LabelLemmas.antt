@@ -13,7 +13,7 @@ use Rattle.tn_cycle.specs.declared.cell.Cell.{Cell}
 use Rattle.tn_cycle.specs.Order.{IsUpTo}
 use Rattle.tn_cycle.specs.Cells.{HasRoom, trail}
 use Rattle.tn_cycle.specs.Graphs.{with_sink}
-use Rattle.tn_cycle.specs.GraphLaws.{small-with_sink, some_if, between-with_sink}
+use Rattle.tn_cycle.specs.GraphLemmas.{small-with_sink, some_if, between-with_sink}
 use Rattle.tn_cycle.specs.Searched.{IsSettled}
 use Rattle.tn_cycle.specs.Answers.{AreLabels, IsLowest, label_in}
 use Rattle.tn_cycle.proofs.OrderLemmas.{parts}

@@ -56,13 +56,13 @@ pub avoids-append : (t : ℕ) (xs ys : List ℕ) → Avoids t xs → Avoids t ys
 avoids-append t = All-append (λ v. v ≢ t)
 
 -- where t first stands in a list
-pub record Found (t : ℕ) (vs : List ℕ) : Type 0 where
+pub record StandsIn (t : ℕ) (vs : List ℕ) : Type 0 where
   pub before : List ℕ
   pub after : List ℕ
   pub split : vs ≡ before ++ t ∷ after
   pub avoids : Avoids t before
 
-pub found_or_not : (t : ℕ) (vs : List ℕ) → Found t vs ⊎ Avoids t vs
+pub found_or_not : (t : ℕ) (vs : List ℕ) → StandsIn t vs ⊎ Avoids t vs
 found_or_not t [] = inr (All-nil (λ v. v ≢ t))
 found_or_not t (x ∷ xs) = elim (cases_eq x t) [
   | inl same ↦ inl (record { before = []; after = xs; split = ap (λ (v : ℕ). v ∷ xs) same; avoids = All-nil (λ v. v ≢ t) })
@@ -147,7 +147,7 @@ pub record IsShortened (arc : ℕ → ℕ → Option ℤ) (t v : ℕ) (us : List
 
 -- a walk that meets a node again is cut short there
 pub cut : (arc : ℕ → ℕ → Option ℤ) (t : ℕ) → HasNoNegativeCycleOff arc t → (v : ℕ) (us : List ℕ) (cost : ℤ) → v ≢ t → Avoids t us
-    → walk_cost arc v us t ≡ Some cost → Found v us → IsShortened arc t v us cost
+    → walk_cost arc v us t ≡ Some cost → StandsIn v us → IsShortened arc t v us cost
 cut arc t none v us cost off avoids walk found =
     let two = walk_parts arc v us found.before v found.after t cost found.split walk in
     let all : Avoids t (found.before ++ v ∷ found.after) = subst (Avoids t) found.split avoids in

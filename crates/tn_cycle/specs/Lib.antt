@@ -2,7 +2,8 @@ pub mod Order
 pub mod Cells
 pub mod Searched
 pub mod Graphs
-pub mod GraphLaws
+pub mod GraphLemmas
 pub mod Reading
 pub mod Answers
 pub mod Ring
+pub mod RingLemmas

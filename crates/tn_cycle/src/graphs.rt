@@ -1,7 +1,7 @@
 ghost use Rattle.std.specs.Prelude.{◌≡◌, ◌+◌, ◌*◌, ◌^◌, ◌<◌, ◌≤◌};
 ghost use Rattle.tn_base.specs.Walks.{arcs_among, is_admitted, is_looked_at};
 ghost use Rattle.tn_cycle.specs.Graphs.{is_between, turned, with_sink};
-ghost use Rattle.tn_cycle.specs.GraphLaws.{between-arcs_among, between-turned, between-with_sink, small-arcs_among, small-turned, small-with_sink};
+ghost use Rattle.tn_cycle.specs.GraphLemmas.{between-arcs_among, between-turned, between-with_sink, small-arcs_among, small-turned, small-with_sink};
 
 use tn_base::{Costs, TradeSet};
 

@@ -1,4 +1,5 @@
-ghost use Rattle.tn_cycle.specs.Ring.{ring, between-ring, small-ring};
+ghost use Rattle.tn_cycle.specs.Ring.{ring};
+ghost use Rattle.tn_cycle.specs.RingLemmas.{between-ring, small-ring};
 
 use super::*;
 use std::test::Fail;

@@ -15,8 +15,8 @@ use Rattle.tn_market.specs.Reduced.{greater}
 use Rattle.tn_dealer.specs.declared.pair.Pair.{Pair}
 use Rattle.tn_dealer.specs.Pairs.{matched_worth, IsOwnPair}
 use Rattle.tn_dealer.specs.Certificates.{bound_of, KeepsPair, KeepsPairs, TakesIn, MayTakeIn}
-use Rattle.tn_dealer.specs.OnePair.{IsWorth}
-use Rattle.tn_dealer.specs.Worths.{AreOwnPairs, own_rest, matched_left, matched_right, matched_from, matched_none, matched_empty, matched_small}
+use Rattle.tn_law.proofs.PairLemmas.{IsWorth}
+use Rattle.tn_dealer.specs.WorthLemmas.{AreOwnPairs, own_rest, matched_left, matched_right, matched_from, matched_none, matched_empty, matched_small}
 
 -- ---- sums
 

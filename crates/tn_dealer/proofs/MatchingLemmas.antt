@@ -10,8 +10,8 @@ use Rattle.tn_dealer.specs.declared.pair.Pair.{Pair}
 use Rattle.tn_dealer.specs.Pairs.{matched_worth, IsOwnPair}
 use Rattle.tn_dealer.specs.Matchings.{Joins, Matches, IsMatching, cost_of, IsWorthOfLeast}
 use Rattle.tn_dealer.specs.MatchingLaw.{DealersMatch}
-use Rattle.tn_dealer.specs.OnePair.{IsWorth}
-use Rattle.tn_dealer.specs.Worths.{AreOwnPairs, own_pairs, own_rest, matched_left, matched_right, matched_from, matched_none, matched_empty}
+use Rattle.tn_law.proofs.PairLemmas.{IsWorth}
+use Rattle.tn_dealer.specs.WorthLemmas.{AreOwnPairs, own_pairs, own_rest, matched_left, matched_right, matched_from, matched_none, matched_empty}
 
 -- the chosen places of a list with one pair more in front
 abbrev pub with_first : Bool → (ℕ → Bool) → ℕ → Bool

@@ -2,9 +2,6 @@ pub mod Pairs
 pub mod Matchings
 pub mod MatchingLaw
 pub mod Firms
-pub mod Moves
-pub mod OnePair
-pub mod Sides
-pub mod Worths
-pub mod Laws
+pub mod WorthLemmas
+pub mod LawLemmas
 pub mod Certificates

@@ -1,6 +1,6 @@
 ghost use Rattle.std.specs.Prelude.{◌^◌};
 ghost use Rattle.tn_dealer.specs.Firms.{firm_of};
-ghost use Rattle.tn_dealer.specs.Laws.{dealer_laws};
+ghost use Rattle.tn_dealer.specs.LawLemmas.{dealer_laws};
 
 use crate::dealer::Dealer;
 use tn_base::{Asked, Bundle, Side, Steps};

@@ -1,5 +1,5 @@
-//! Dealers: firms that buy several items and sell them on, one to one, in listed pairs at the least cost. What each
-//! bundle is worth to one stands in `specs/`.
+//! Dealers: firms that match purchases one to one with sales at the least cost.
+//! What each bundle is worth to one stands in `specs/`.
 #![tactic(auto)]
 
 mod asked;

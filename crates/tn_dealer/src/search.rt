@@ -18,7 +18,7 @@ const NONE: usize = POSITIONS;
 /// sum to at most the cost of a pair. Otherwise two numbers sum to at most 0 where a pair is listed, and those of all
 /// trades to more.
 #[derive(Drop)]
-pub(crate) struct Found {
+pub(crate) struct Certificate {
     pub(crate) matched: bool,
     pub(crate) numbers: [i64; POSITIONS],
     pub(crate) mates: [usize; POSITIONS],
@@ -43,7 +43,7 @@ struct Reach {
 }
 
 /// A certificate for the bundle `x` of a firm that buys `buys`.
-pub(crate) fn search(pairs: &[Pair], x: Bundle, buys: Bundle) -> Found {
+pub(crate) fn search(pairs: &[Pair], x: Bundle, buys: Bundle) -> Certificate {
     let purchases = x.meet(buys);
     let sales = x.minus(buys);
     if purchases.count() != sales.count() {
@@ -62,7 +62,7 @@ pub(crate) fn search(pairs: &[Pair], x: Bundle, buys: Bundle) -> Found {
             }
         }
     }
-    Found {
+    Certificate {
         matched: true,
         numbers: matching.numbers,
         mates: matching.mates,
@@ -70,7 +70,7 @@ pub(crate) fn search(pairs: &[Pair], x: Bundle, buys: Bundle) -> Found {
 }
 
 /// More trades of one side than of the other.
-fn uneven(purchases: Bundle, sales: Bundle) -> Found {
+fn uneven(purchases: Bundle, sales: Bundle) -> Certificate {
     if purchases.count() < sales.count() {
         unmatched(sales, purchases)
     } else {
@@ -89,7 +89,7 @@ fn costs_of(pairs: &[Pair]) -> [i64; POSITIONS * POSITIONS] {
 }
 
 /// More trades of one side than those of the other that they can be matched with.
-fn unmatched(more: Bundle, fewer: Bundle) -> Found {
+fn unmatched(more: Bundle, fewer: Bundle) -> Certificate {
     let mut numbers = [0; POSITIONS];
     for k in 0..POSITIONS {
         if more.has(k as u32) {
@@ -99,7 +99,7 @@ fn unmatched(more: Bundle, fewer: Bundle) -> Found {
             numbers[k] = -1;
         }
     }
-    Found {
+    Certificate {
         matched: false,
         numbers,
         mates: [NONE; POSITIONS],

@@ -7,11 +7,11 @@ ghost use Rattle.tn_base.specs.Sets.{has, sum_over};
 ghost use Rattle.tn_market.specs.Reduced.{greater};
 ghost use Rattle.tn_dealer.specs.Pairs.{matched_worth, IsNear};
 ghost use Rattle.tn_dealer.specs.Certificates.{number_at, KeepsPair, KeepsPairs, MayTakeIn, bound_of};
-ghost use Rattle.tn_dealer.specs.OnePair.{IsWorth};
+ghost use Rattle.tn_law.proofs.PairLemmas.{IsWorth};
 
 use crate::dealer::Dealer;
 use crate::pair::Pair;
-use crate::search::{Found, POSITIONS, search};
+use crate::search::{Certificate, POSITIONS, search};
 use tn_base::Bundle;
 
 impl Dealer {
@@ -26,7 +26,7 @@ impl Dealer {
     }
 
     /// The worth that what was found shows, None where it shows nothing.
-    fn shown(&self, x: Bundle, found: &Found) -> Option<Option<i128>>
+    fn shown(&self, x: Bundle, found: &Certificate) -> Option<Option<i128>>
         ensures { IfSome result (λ worth. worth ≡ matched_worth self.now.pairs.items x) }
     {
         let sum = sum(x, &found.numbers);

@@ -13,12 +13,12 @@ use Rattle.tn_base.specs.Firm.{Firm}
 use Rattle.tn_base.specs.Table.{buys_of}
 use Rattle.tn_base.specs.declared.side.Side.{Side}
 use Rattle.tn_base.specs.declared.side.Side.TheVariants.{Buy, Sell}
-use Rattle.tn_market.specs.declared.ends.Ends.{Ends}
-use Rattle.tn_market.specs.Network.{IsNetwork}
+use Rattle.tn_plain_data.specs.declared.ends.Ends.{Ends}
+use Rattle.tn_plain_data.specs.Network.{IsNetwork}
 use Rattle.tn_middle.specs.Pairs.{middle_firm}
-use Rattle.tn_market.specs.InOrder.{side_in, sides_of, ComesNext, AreInOrder}
-use Rattle.tn_market.proofs.InOrderLemmas.{AreInOrder-push, sides_of-none}
-use Rattle.tn_market.proofs.InOrderNetworks.{network}
+use Rattle.tn_plain_data.specs.InOrder.{side_in, sides_of, ComesNext, AreInOrder}
+use Rattle.tn_plain_data.proofs.InOrderLemmas.{AreInOrder-push, sides_of-none}
+use Rattle.tn_plain_data.proofs.InOrderNetworks.{network}
 use Rattle.tn_drill.specs.declared.draws.Drawn.{Drawn}
 use Rattle.tn_drill.specs.Draws.{IsWithin, drawn}
 use Rattle.tn_drill.specs.Drill.{AreOwn, buyer_of, consumer, draws_of, ends_after, firm_by, firm_in, firms_of, middleman_of, number_to, producer, seller_of, trades_of}

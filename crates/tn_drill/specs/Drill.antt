@@ -5,9 +5,9 @@ use Rattle.tn_base.specs.Arcs.{IsAtMost}
 use Rattle.tn_base.specs.Firm.{Firm}
 use Rattle.tn_base.specs.declared.side.Side.{Side}
 use Rattle.tn_laminar.specs.Sum.{laminar_firm}
-use Rattle.tn_market.specs.declared.ends.Ends.{Ends}
+use Rattle.tn_plain_data.specs.declared.ends.Ends.{Ends}
 use Rattle.tn_middle.specs.Pairs.{middle_firm}
-use Rattle.tn_market.specs.InOrder.{sides_of}
+use Rattle.tn_plain_data.specs.InOrder.{sides_of}
 use Rattle.tn_drill.specs.declared.draws.Drawn.{Drawn}
 use Rattle.tn_drill.specs.Draws.{drawn}
 

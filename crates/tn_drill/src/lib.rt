@@ -1,4 +1,5 @@
-//! Drill networks: large valid networks that are drawn from two numbers. What is drawn stands in `specs/`.
+//! Networks that are drawn from two numbers.
+//! What is drawn stands in `specs/`.
 #![tactic(auto)]
 
 mod draws;

@@ -1,5 +1,6 @@
-//! Tables as they are read, and the test of the exchange property. When the property holds, and which triples of two
-//! bundles and a position fail, stands in `tn_base`; the order of the test stands in `specs/`.
+//! Tables by bundle number, and whether one meets the exchange property.
+//! When the property holds, and which triples of two bundles and a position fail, stands in `tn_base`; the order of the
+//! test stands in `specs/`.
 #![tactic(auto)]
 
 mod exchange;

@@ -8,32 +8,32 @@ use Rattle.tn_base.specs.declared.fault.FaultKind.TheVariants.{NotJson}
 use Rattle.tn_names.specs.Names.{no_names}
 use Rattle.tn_file.specs.declared.need.Need.{Need}
 use Rattle.tn_file.specs.declared.need.Need.TheVariants.{Market, Raw, Arrangement, On, Outcome, Edits, Claim}
-use Rattle.tn_listed.specs.Beside.{beside}
+use Rattle.tn_read_head.specs.Beside.{with_names}
 use Rattle.tn_shape.specs.Reading.{each, wanted}
 use Rattle.tn_file.specs.Json.{json_of}
-use Rattle.tn_refer.specs.Ordered.{AreTrades, Listed}
-use Rattle.tn_kinds.specs.Firms.{one_firm}
-use Rattle.tn_extra.specs.Arranged.{arrangement_of, trades_on_of, IsArrangement}
-use Rattle.tn_extra.specs.Signed.{outcome_of}
-use Rattle.tn_extra.specs.Edited.{edits_of}
-use Rattle.tn_market.specs.Edits.{AreEdits}
-use Rattle.tn_market.specs.ClaimLimits.{IsClaimWithin}
-use Rattle.tn_market.specs.Network.{IsNetwork}
-use Rattle.tn_market.specs.OutcomeLimits.{IsOutcomeWithin}
-use Rattle.tn_claimed.specs.Claimed.{claim_of, claims_raw, is_raw, kind_is}
-use Rattle.tn_claimed.proofs.ClaimLeads.{claim_leads}
-use Rattle.tn_claimed.proofs.KindLeads.{raw_claims_are_told}
+use Rattle.tn_read_references.specs.Ordered.{AreTrades, Listed}
+use Rattle.tn_read_firms.specs.Firms.{one_firm}
+use Rattle.tn_read_parts.specs.Arranged.{arrangement_of, trades_on_of, IsArrangement}
+use Rattle.tn_read_parts.specs.Signed.{outcome_of}
+use Rattle.tn_read_parts.specs.Edited.{edits_of}
+use Rattle.tn_plain_data.specs.Edits.{AreEdits}
+use Rattle.tn_plain_data.specs.ClaimLimits.{IsClaimWithin}
+use Rattle.tn_plain_data.specs.Network.{IsNetwork}
+use Rattle.tn_plain_data.specs.OutcomeLimits.{IsOutcomeWithin}
+use Rattle.tn_read_claims.specs.Claimed.{claim_of, claims_raw, is_raw, kind_is}
+use Rattle.tn_read_claims.proofs.ClaimLeads.{claim_leads}
+use Rattle.tn_read_claims.proofs.KindLeads.{raw_claims_are_told}
 use Rattle.tn_file.specs.Document.{ExtraData, nothing, arrangement, on_alone, outcome, edits, claim, extra_of, content_of, document_of, is_accepted, is_tested, reading_of}
-use Rattle.tn_listed.specs.Listing.{listed_of}
+use Rattle.tn_read_head.specs.Listing.{listed_of}
 use Rattle.tn_file.specs.Laws.{IsDocument, IsExtra, DocumentsAreNetworks}
 use Rattle.tn_shape.proofs.LeadLemmas.{Leads, leads_ok, leads_bind, leads_after, leads_both}
-use Rattle.tn_listed.proofs.BesideLemmas.{leads_beside}
-use Rattle.tn_kinds.proofs.FirmLeads.{AreFirms, firms_are, firms_are_counted, network_of, positions_ascend}
-use Rattle.tn_kinds.proofs.KindLemmas.{listed_own_bundles, listed_may_abstain}
-use Rattle.tn_extra.proofs.ArrangementLeads.{arrangement_leads, trades_on_leads}
-use Rattle.tn_extra.proofs.OutcomeLeads.{outcome_leads}
-use Rattle.tn_extra.proofs.EditLeads.{edits_lead}
-use Rattle.tn_listed.proofs.ListingLeads.{IsListing, listed_leads}
+use Rattle.tn_read_head.proofs.BesideLemmas.{leads_beside}
+use Rattle.tn_read_firms.proofs.FirmLeads.{AreFirms, firms_are, firms_are_counted, network_of, positions_ascend}
+use Rattle.tn_read_firms.proofs.KindLemmas.{listed_own_bundles, listed_may_abstain}
+use Rattle.tn_read_parts.proofs.ArrangementLeads.{arrangement_leads, trades_on_leads}
+use Rattle.tn_read_parts.proofs.OutcomeLeads.{outcome_leads}
+use Rattle.tn_read_parts.proofs.EditLeads.{edits_lead}
+use Rattle.tn_read_head.proofs.ListingLeads.{IsListing, listed_leads}
 
 module _ (listed : Listed) (trades : AreTrades listed) (firms : List Firm) (named : length listed.names.firms ≡ length firms) (network : IsNetwork firms listed.ends) where
   -- what is said of the count of names is said of the count of trades
@@ -116,13 +116,13 @@ pub document_leads : (need : Need) (top : Data) → Leads (IsDocument need) (doc
 unfolding document_of
 document_leads need top =
     leads_bind IsListing (IsDocument need) (listed_of top) _ (listed_leads top) (λ found listing.
-    leads_bind (IsContent need top found listing) (IsDocument need) (beside found.0.names (content_of need found.0 found.1 top)) _
+    leads_bind (IsContent need top found listing) (IsDocument need) (with_names found.0.names (content_of need found.0 found.1 top)) _
     (leads_beside _ found.0.names (content_of need found.0 found.1 top) (content_leads need found listing top)) (λ content is.
     leads_ok (IsDocument need) (record { names = found.0.names; firms = content.0; ends = found.0.ends; extra = content.1 }) (is_document need top found content listing is)))
 
 reading_leads : (need : Need) (bytes : List ℕ) → Leads (IsDocument need) (reading_of need bytes)
 unfolding reading_of
-reading_leads need bytes = leads_after (IsDocument need) (beside no_names (wanted NotJson [] (json_of bytes))) _ (λ top. document_leads need top)
+reading_leads need bytes = leads_after (IsDocument need) (with_names no_names (wanted NotJson [] (json_of bytes))) _ (λ top. document_leads need top)
 
 pub documents_are_networks : DocumentsAreNetworks
 documents_are_networks need bytes doc e = (reading_leads need bytes).at doc e

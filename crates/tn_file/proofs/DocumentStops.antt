@@ -2,35 +2,35 @@
 use Rattle.std.proofs.Common.{◌≡◌, ℕ, ◌<◌, ◌≤◌, List, [], length, refl, arith}
 use Rattle.serde_json.specs.Data.{Data, Items}
 use Rattle.serde_json.specs.Events.{items_len}
-use Rattle.tn_market.specs.declared.said.Fault.{Fault}
-use Rattle.tn_claimed.specs.Claimed.{claim_of}
-use Rattle.tn_claimed.proofs.ClaimStops.{claim_stops}
-use Rattle.tn_kinds.proofs.FirmLeads.{AreFirms, firms_are, firms_are_counted, few_own_firm}
+use Rattle.tn_plain_data.specs.declared.said.Fault.{Fault}
+use Rattle.tn_read_claims.specs.Claimed.{claim_of}
+use Rattle.tn_read_claims.proofs.ClaimStops.{claim_stops}
+use Rattle.tn_read_firms.proofs.FirmLeads.{AreFirms, firms_are, firms_are_counted, few_own_firm}
 use Rattle.tn_shape.proofs.LeadLemmas.{leads_both}
 use Rattle.tn_base.specs.declared.fault.FaultKind.TheVariants.{NotJson}
 use Rattle.tn_names.specs.Names.{no_names}
 use Rattle.tn_file.specs.declared.need.Need.{Need}
 use Rattle.tn_file.specs.declared.need.Need.TheVariants.{Market, Raw, Arrangement, On, Outcome, Edits, Claim}
-use Rattle.tn_refer.specs.Ordered.{AreTrades, Listed, sides_of}
-use Rattle.tn_listed.specs.Beside.{beside, IsStop}
+use Rattle.tn_read_references.specs.Ordered.{AreTrades, Listed, sides_of}
+use Rattle.tn_read_head.specs.Beside.{with_names, IsStop}
 use Rattle.tn_shape.specs.Reading.{each, wanted}
 use Rattle.tn_file.specs.Json.{json_of}
-use Rattle.tn_extra.specs.Arranged.{arrangement_of, trades_on_of}
-use Rattle.tn_extra.specs.Signed.{outcome_of}
-use Rattle.tn_extra.specs.Edited.{edits_of}
-use Rattle.tn_kinds.specs.Firms.{one_firm}
+use Rattle.tn_read_parts.specs.Arranged.{arrangement_of, trades_on_of}
+use Rattle.tn_read_parts.specs.Signed.{outcome_of}
+use Rattle.tn_read_parts.specs.Edited.{edits_of}
+use Rattle.tn_read_firms.specs.Firms.{one_firm}
 use Rattle.tn_file.specs.Document.{arrangement, nothing, on_alone, outcome, edits, claim, content_of, document_of, extra_of, is_tested, reading_of}
-use Rattle.tn_listed.specs.Listing.{listed_of}
+use Rattle.tn_read_head.specs.Listing.{listed_of}
 use Rattle.tn_file.specs.Laws.{FaultsAreSayable, ReadingsAreNeverTooLong}
-use Rattle.tn_listed.proofs.ListingLeads.{IsListing, listed_leads}
+use Rattle.tn_read_head.proofs.ListingLeads.{IsListing, listed_leads}
 use Rattle.tn_shape.proofs.StopLemmas.{IsPlain, Stops, plain_wanted, stops_after, stops_bind, stops_ok}
-use Rattle.tn_refer.proofs.ToldLemmas.{IsTold, told_from_plain}
-use Rattle.tn_listed.proofs.BesideLemmas.{stops_beside}
-use Rattle.tn_kinds.proofs.FirmStops.{firms_stop}
-use Rattle.tn_extra.proofs.ArrangementStops.{arrangement_stops, trades_on_stop}
-use Rattle.tn_extra.proofs.OutcomeStops.{outcome_stops}
-use Rattle.tn_extra.proofs.EditStops.{edits_stop}
-use Rattle.tn_listed.proofs.ListingStops.{AreNames, no_names_are, told_stop, plain_stop, listed_stops}
+use Rattle.tn_read_references.proofs.ToldLemmas.{IsTold, told_from_plain}
+use Rattle.tn_read_head.proofs.BesideLemmas.{stops_beside}
+use Rattle.tn_read_firms.proofs.FirmStops.{firms_stop}
+use Rattle.tn_read_parts.proofs.ArrangementStops.{arrangement_stops, trades_on_stop}
+use Rattle.tn_read_parts.proofs.OutcomeStops.{outcome_stops}
+use Rattle.tn_read_parts.proofs.EditStops.{edits_stop}
+use Rattle.tn_read_head.proofs.ListingStops.{AreNames, no_names_are, told_stop, plain_stop, listed_stops}
 
 module _ (listed : Listed) (trades : AreTrades listed) (few : length listed.names.trades ≤ 16384) (few_own : (f : ℕ) → f < length listed.names.firms → length (sides_of listed.ends f) ≤ 32) where
   abbrev Told : Fault → Type 0
@@ -65,13 +65,13 @@ document_stops need top =
     stops_after IsStop IsListing (listed_of top) _ (listed_leads top) (listed_stops top) (λ found listing.
     let names = found.0.names in
     let named : AreNames names = record { firms = listing.firm_names; trades = listing.trade_names } in
-    stops_bind IsStop (beside names (content_of need found.0 found.1 top)) _ (stops_beside IsStop (IsTold names.trades) names _ (told_stop names named) (content_stops need found listing top)) (λ content.
+    stops_bind IsStop (with_names names (content_of need found.0 found.1 top)) _ (stops_beside IsStop (IsTold names.trades) names _ (told_stop names named) (content_stops need found listing top)) (λ content.
     stops_ok IsStop (record { names = names; firms = content.0; ends = found.0.ends; extra = content.1 })))
 
 reading_stops : (need : Need) (bytes : List ℕ) → Stops IsStop (reading_of need bytes)
 unfolding reading_of
 reading_stops need bytes =
-    stops_bind IsStop (beside no_names (wanted NotJson [] (json_of bytes))) _ (stops_beside IsStop IsPlain no_names _ (plain_stop no_names no_names_are) (plain_wanted NotJson [] (json_of bytes) refl tt)) (λ top.
+    stops_bind IsStop (with_names no_names (wanted NotJson [] (json_of bytes))) _ (stops_beside IsStop IsPlain no_names _ (plain_stop no_names no_names_are) (plain_wanted NotJson [] (json_of bytes) refl tt)) (λ top.
     document_stops need top)
 
 pub faults_are_sayable : FaultsAreSayable

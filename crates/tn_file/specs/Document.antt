@@ -3,24 +3,24 @@ use Rattle.std.specs.Prelude.{ℕ, [], List, Bool, true, false, not, Result, Ok}
 use Rattle.serde_json.specs.Data.{Data, Items}
 use Rattle.tn_base.specs.declared.fault.FaultKind.TheVariants.{NotJson}
 use Rattle.tn_base.specs.Firm.{Firm}
-use Rattle.tn_market.specs.declared.claim.Claim.{Claim as ClaimIs}
-use Rattle.tn_market.specs.declared.contract.Outcome.{Outcome as OutcomeIs}
-use Rattle.tn_market.specs.declared.ends.Ends.{Ends}
-use Rattle.tn_market.specs.declared.said.Fault.{Fault}
-use Rattle.tn_market.specs.declared.session.Edit.{Edit}
+use Rattle.tn_plain_data.specs.declared.claim.Claim.{Claim as ClaimIs}
+use Rattle.tn_plain_data.specs.declared.contract.Outcome.{Outcome as OutcomeIs}
+use Rattle.tn_plain_data.specs.declared.ends.Ends.{Ends}
+use Rattle.tn_plain_data.specs.declared.said.Fault.{Fault}
+use Rattle.tn_plain_data.specs.declared.session.Edit.{Edit}
 use Rattle.tn_names.specs.Names.{NameLists, no_names}
 use Rattle.tn_file.specs.declared.need.Need.{Need}
 use Rattle.tn_file.specs.declared.need.Need.TheVariants.{Market, Raw, Arrangement, On, Outcome, Edits, Claim}
-use Rattle.tn_refer.specs.Ordered.{Listed}
-use Rattle.tn_listed.specs.Beside.{Stop, beside}
+use Rattle.tn_read_references.specs.Ordered.{Listed}
+use Rattle.tn_read_head.specs.Beside.{Stop, with_names}
 use Rattle.tn_shape.specs.Reading.{◌>>=◌, each, wanted}
 use Rattle.tn_file.specs.Json.{json_of}
-use Rattle.tn_kinds.specs.Firms.{one_firm}
-use Rattle.tn_extra.specs.Arranged.{Arranged, arrangement_of, trades_on_of}
-use Rattle.tn_extra.specs.Signed.{outcome_of}
-use Rattle.tn_extra.specs.Edited.{edits_of}
-use Rattle.tn_claimed.specs.Claimed.{claim_of, claims_raw, is_raw, kind_is}
-use Rattle.tn_listed.specs.Listing.{listed_of}
+use Rattle.tn_read_firms.specs.Firms.{one_firm}
+use Rattle.tn_read_parts.specs.Arranged.{Arranged, arrangement_of, trades_on_of}
+use Rattle.tn_read_parts.specs.Signed.{outcome_of}
+use Rattle.tn_read_parts.specs.Edited.{edits_of}
+use Rattle.tn_read_claims.specs.Claimed.{claim_of, claims_raw, is_raw, kind_is}
+use Rattle.tn_read_head.specs.Listing.{listed_of}
 
 -- what a command reads beside the network
 pub data ExtraData : Type 0 where
@@ -103,11 +103,11 @@ pub record DocumentData : Type 0 where
 unfoldable pub document_of : Need → Data → Result DocumentData Stop
 document_of need top = do
   network ← listed_of top
-  content ← beside network.0.names (content_of need network.0 network.1 top)
+  content ← with_names network.0.names (content_of need network.0 network.1 top)
   Ok (record { names = network.0.names; firms = content.0; ends = network.0.ends; extra = content.1 })
 
 -- the reading of bytes
 unfoldable pub reading_of : Need → List ℕ → Result DocumentData Stop
 reading_of need bytes = do
-  top ← beside no_names (wanted NotJson [] (json_of bytes))
+  top ← with_names no_names (wanted NotJson [] (json_of bytes))
   document_of need top

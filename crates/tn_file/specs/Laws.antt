@@ -3,17 +3,17 @@ use Rattle.std.specs.Prelude.{◌≡◌, ◌≢◌, ℕ, ◌≤◌, ◌<◌, ◌
 use Rattle.tn_base.specs.declared.fault.FaultKind.TheVariants.{TooLong}
 use Rattle.tn_base.specs.Firm.{Firm, HasOwnBundles, MayAbstain}
 use Rattle.tn_market.specs.Accepted.{AreAccepted}
-use Rattle.tn_market.specs.ClaimLimits.{IsClaimWithin}
-use Rattle.tn_market.specs.OutcomeLimits.{IsOutcomeWithin}
-use Rattle.tn_market.specs.declared.ends.Ends.{Ends}
-use Rattle.tn_market.specs.Network.{IsNetwork, HaveAscendingPositions}
+use Rattle.tn_plain_data.specs.ClaimLimits.{IsClaimWithin}
+use Rattle.tn_plain_data.specs.OutcomeLimits.{IsOutcomeWithin}
+use Rattle.tn_plain_data.specs.declared.ends.Ends.{Ends}
+use Rattle.tn_plain_data.specs.Network.{IsNetwork, HaveAscendingPositions}
 use Rattle.tn_names.specs.Names.{IsNameList}
 use Rattle.tn_file.specs.declared.need.Need.{Need}
-use Rattle.tn_listed.specs.Beside.{Stop, IsStop}
+use Rattle.tn_read_head.specs.Beside.{Stop, IsStop}
 use Rattle.tn_file.specs.Document.{DocumentData, ExtraData, nothing, arrangement, on_alone, outcome, edits, claim, is_accepted, reading_of}
-use Rattle.tn_kinds.specs.Laws.{IsListedFirm}
-use Rattle.tn_extra.specs.Arranged.{IsArrangement}
-use Rattle.tn_market.specs.Edits.{AreEdits}
+use Rattle.tn_read_firms.specs.Laws.{IsListedFirm}
+use Rattle.tn_read_parts.specs.Arranged.{IsArrangement}
+use Rattle.tn_plain_data.specs.Edits.{AreEdits}
 
 abbrev pub IsExtra : List Firm → List Ends → ExtraData → Type 0
 IsExtra firms trades nothing = Unit {0}

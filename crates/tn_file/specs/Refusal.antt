@@ -11,7 +11,7 @@ use Rattle.tn_file.specs.declared.document.DocRefusal.{DocRefusal}
 use Rattle.tn_file.specs.declared.document.DocRefusal.TheVariants.{Fault, OutOfMemory}
 use Rattle.tn_file.specs.declared.extra.Extra.{Extra}
 use Rattle.tn_file.specs.declared.extra.Extra.TheVariants.{None as NothingIs, Arrangement as ArrangementIs, On as OnIs, Outcome as OutcomeIs, Edits as EditsIs, Claim as ClaimIs}
-use Rattle.tn_listed.specs.Beside.{Stop}
+use Rattle.tn_read_head.specs.Beside.{Stop}
 use Rattle.tn_file.specs.Document.{NetData, DocumentData, is_accepted}
 use Rattle.tn_file.specs.Extra.{extra_view}
 

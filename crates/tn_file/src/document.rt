@@ -3,9 +3,9 @@ use std::alloc::Global;
 use std::marker::Model;
 use tn_base::{Bundle, OutOfMemory};
 use tn_firm::{FirmValue, RawFirm};
-use tn_kinds::{own_option, trades_of};
 use tn_market::{Ends, Fault, Market, Trades};
 use tn_names::Names;
+use tn_read_firms::{own_option, trades_of};
 
 /// A document that is read.
 #[derive(Drop)]
@@ -44,7 +44,7 @@ impl Model for RawNet {
 
 impl RawNet {
     ghost use Rattle.std.specs.Prelude.{◌≡◌, ◌≤◌, length, option_map, IfOk};
-    ghost use Rattle.tn_market.specs.Network.{own, trades_of};
+    ghost use Rattle.tn_plain_data.specs.Network.{own, trades_of};
 
     pub(crate) fn new(firms: Vec<RawFirm>, ends: Vec<Ends>) -> RawNet
         ensures { result ≡ record { firms = firms.items; ends = ends.items } }

@@ -1,7 +1,7 @@
 ghost use Rattle.std.specs.Prelude.{ℕ, ◌<◌, ◌≤◌, length, IfOk};
 ghost use Rattle.serde_json.specs.View.{view};
 ghost use Rattle.tn_shape.specs.Reading.{Gives};
-ghost use Rattle.tn_refer.specs.Ordered.{AreTrades, Listed, sides_of};
+ghost use Rattle.tn_read_references.specs.Ordered.{AreTrades, Listed, sides_of};
 ghost use Rattle.tn_file.specs.Document.{extra_of};
 ghost use Rattle.tn_file.specs.Extra.{extra_view};
 ghost use Rattle.tn_file.specs.Refusal.{IsExtraFor};
@@ -10,10 +10,10 @@ use crate::need::Need;
 use serde_json::Value;
 use std::alloc::Global;
 use tn_base::TradeSet;
-use tn_claimed::read_claim;
-use tn_extra::{read_arrangement, read_edits, read_outcome, read_trades_on};
 use tn_market::{Arrangement, Claim, Edits, Ends, Outcome};
 use tn_names::Names;
+use tn_read_claims::read_claim;
+use tn_read_parts::{read_arrangement, read_edits, read_outcome, read_trades_on};
 use tn_shape::ReadError;
 
 /// What is read beside the network.

@@ -2,9 +2,9 @@ ghost use Rattle.std.specs.Prelude.{◌≡◌, ◌≤◌, [], length, map, All, 
 ghost use Rattle.serde_json.specs.View.{view, items_view};
 ghost use Rattle.tn_names.specs.Names.{no_names};
 ghost use Rattle.tn_shape.specs.Reading.{Gives, each};
-ghost use Rattle.tn_refer.specs.Ordered.{AreTrades, Listed};
-ghost use Rattle.tn_listed.specs.Beside.{GivesBeside};
-ghost use Rattle.tn_kinds.specs.Firms.{one_firm};
+ghost use Rattle.tn_read_references.specs.Ordered.{AreTrades, Listed};
+ghost use Rattle.tn_read_head.specs.Beside.{GivesBeside};
+ghost use Rattle.tn_read_firms.specs.Firms.{one_firm};
 ghost use Rattle.tn_file.specs.Document.{DocumentData, content_of, document_of, is_accepted, is_tested};
 ghost use Rattle.tn_file.specs.Extra.{extra_view};
 ghost use Rattle.tn_file.specs.Refusal.{IsExtraFor, IsLoadedFor, net_view};
@@ -14,12 +14,12 @@ use crate::extra::{Extra, read_extra};
 use crate::need::Need;
 use serde_json::Value;
 use std::alloc::Global;
-use tn_claimed::claims_raw;
 use tn_firm::{FirmValue, RawFirm};
-use tn_kinds::{FromKinds, read_firms};
-use tn_listed::read_listed;
 use tn_market::{Ends, Market};
 use tn_names::Names;
+use tn_read_claims::claims_raw;
+use tn_read_firms::{FromKinds, read_firms};
+use tn_read_head::read_listed;
 use tn_shape::ReadError;
 
 /// What a document has beside its names.

@@ -3,7 +3,7 @@ ghost use Rattle.serde_json.specs.View.{view};
 ghost use Rattle.tn_base.specs.declared.fault.FaultKind.TheVariants.{NotJson};
 ghost use Rattle.tn_names.specs.Names.{no_names};
 ghost use Rattle.tn_shape.specs.Reading.{Gives, wanted};
-ghost use Rattle.tn_listed.specs.Beside.{GivesBeside};
+ghost use Rattle.tn_read_head.specs.Beside.{GivesBeside};
 ghost use Rattle.tn_file.specs.Document.{DocumentData, reading_of};
 ghost use Rattle.tn_file.specs.Extra.{extra_view};
 ghost use Rattle.tn_file.specs.Json.{json_of};

@@ -1,2 +1,3 @@
 pub mod Firms
+pub mod FirmLemmas
 pub mod Raw

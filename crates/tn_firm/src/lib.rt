@@ -1,4 +1,5 @@
-//! One type over the kinds of firms. Which firm a value is stands in `specs/`.
+//! One type over the four kinds of firms, and firms that weren't tested yet.
+//! Which firm a value is stands in `specs/`.
 #![tactic(auto)]
 
 mod raw;

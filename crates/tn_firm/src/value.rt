@@ -20,7 +20,8 @@ pub enum FirmValue {
 
 impl Valuation for FirmValue {
     ghost use Rattle.std.specs.Prelude.{◌^◌};
-    ghost use Rattle.tn_firm.specs.Firms.{firm_of, firm_laws};
+    ghost use Rattle.tn_firm.specs.Firms.{firm_of};
+    ghost use Rattle.tn_firm.specs.FirmLemmas.{firm_laws};
 
     type Mark = Asked;
 

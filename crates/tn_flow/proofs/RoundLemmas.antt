@@ -9,8 +9,8 @@ use Rattle.tn_base.specs.Sets.{has, toggle}
 use Rattle.tn_base.specs.Firm.{Firm, MayAbstain}
 use Rattle.tn_base.specs.Walks.{walk_cost, arcs_among, is_admitted, is_looked_at, HasNoNegativeCycle}
 use Rattle.tn_base.proofs.WalkLemmas.{SameArcs, walk-same, least_cycle-same, cycles-same, none_negative-same, among-same}
-use Rattle.tn_market.specs.declared.ends.Ends.{Ends}
-use Rattle.tn_market.specs.Network.{part, IsNetwork}
+use Rattle.tn_plain_data.specs.declared.ends.Ends.{Ends}
+use Rattle.tn_plain_data.specs.Network.{part, IsNetwork}
 use Rattle.tn_market.specs.Graph.{exchange_arc, graph_worths, ArePossible}
 use Rattle.tn_graph.specs.Matrix.{Matrix, arcs_of}
 use Rattle.tn_graph.specs.Reading.{changed_worths_from}

@@ -5,16 +5,17 @@ use Rattle.std.proofs.lemmas.List.{get_or_default}
 use Rattle.tn_base.specs.Arcs.{IsAtMost}
 use Rattle.tn_base.specs.Firm.{Firm}
 use Rattle.tn_base.specs.Walks.{arcs_among, is_admitted, KeepsArcs}
-use Rattle.tn_market.specs.declared.ends.Ends.{Ends}
-use Rattle.tn_market.specs.Network.{IsNetwork}
-use Rattle.tn_market.specs.Best.{price_at}
+use Rattle.tn_plain_data.specs.declared.ends.Ends.{Ends}
+use Rattle.tn_plain_data.specs.Network.{IsNetwork}
+use Rattle.tn_plain_data.specs.Prices.{price_at}
 use Rattle.tn_market.specs.Valued.{IsWorthAtMost}
 use Rattle.tn_market.specs.Graph.{exchange_arc}
 use Rattle.tn_market.specs.Admitted.{admitted}
-use Rattle.tn_graph.specs.Matrix.{Matrix, arcs_of-small}
+use Rattle.tn_graph.specs.Matrix.{Matrix}
+use Rattle.tn_graph.specs.MatrixLemmas.{arcs_of-small}
 use Rattle.tn_cycle.specs.Reading.{Reading}
 use Rattle.tn_cycle.specs.Answers.{AreLabels, label_in}
-use Rattle.tn_cycle.specs.GraphLaws.{small-arcs_among}
+use Rattle.tn_cycle.specs.GraphLemmas.{small-arcs_among}
 use Rattle.tn_cycle.proofs.DifferenceLemmas.{label_small, difference_within}
 use Rattle.tn_network.specs.Laws.{MeetExchange}
 use Rattle.tn_network.proofs.AdmittedLemmas.{admitted_network}

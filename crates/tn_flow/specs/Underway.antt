@@ -2,7 +2,7 @@
 use Rattle.std.specs.Prelude.{◌≡◌, ℕ, ◌+◌, nat_lt, ◌&&◌, List, length}
 use Rattle.tn_base.specs.Firm.{Firm}
 use Rattle.tn_base.specs.Sets.{has, toggle}
-use Rattle.tn_market.specs.declared.ends.Ends.{Ends}
+use Rattle.tn_plain_data.specs.declared.ends.Ends.{Ends}
 use Rattle.tn_graph.specs.Matrix.{Matrix}
 use Rattle.tn_graph.specs.Reading.{IsExchangeGraph}
 use Rattle.tn_cycle.specs.Reading.{Reading}

@@ -1,4 +1,4 @@
-//! The solver: an equilibrium of any market, or of the market that some of its trades admit.
+//! The solver: an equilibrium of any market, or of the market that some of its trades make.
 #![tactic(auto)]
 
 mod rounds;

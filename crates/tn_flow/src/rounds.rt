@@ -7,7 +7,7 @@ ghost use Rattle.tn_cycle.specs.Answers.{AreLabels};
 ghost use Rattle.tn_market.specs.Graph.{exchange_arc, graph_worths, ArePossible};
 ghost use Rattle.tn_network.specs.Along.{along};
 ghost use Rattle.tn_network.specs.Laws.{MeetExchange};
-ghost use Rattle.tn_market.specs.Network.{IsNetwork};
+ghost use Rattle.tn_plain_data.specs.Network.{IsNetwork};
 ghost use Rattle.tn_network.specs.Kept.{IsKept};
 ghost use Rattle.tn_flow.specs.Underway.{HaveRoom, AreUnderWay, IsNext};
 

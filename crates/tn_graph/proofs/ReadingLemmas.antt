@@ -6,12 +6,13 @@ use Rattle.std.proofs.lemmas.Option.{same_Some, slice_get_within, slice_get_past
 use Rattle.tn_base.specs.Sets.{has}
 use Rattle.tn_base.specs.Firm.{Firm}
 use Rattle.tn_law.specs.Places.{level, move, CanRise, CanFall}
-use Rattle.tn_market.specs.declared.ends.Ends.{Ends}
-use Rattle.tn_market.specs.Network.{own, part, IsNetwork}
+use Rattle.tn_plain_data.specs.declared.ends.Ends.{Ends}
+use Rattle.tn_plain_data.specs.Network.{own, part, IsNetwork}
 use Rattle.tn_market.specs.Graph.{raised, lowered, raised_by, lowered_by, loss, exchange_arc, graph_worths}
 use Rattle.tn_market.specs.ArcPlaces.{node_at, AreArcPlaces, common_firm, arc_firm}
 use Rattle.tn_market.proofs.GraphLemmas.{node_at-trade, node_at-null, has-part, arc_at, move_of_arc, no_arc, same_firm}
-use Rattle.tn_graph.specs.Matrix.{Matrix, arcs_of, arcs_of-between}
+use Rattle.tn_graph.specs.Matrix.{Matrix, arcs_of}
+use Rattle.tn_graph.specs.MatrixLemmas.{arcs_of-between}
 use Rattle.tn_graph.specs.Reading.{IsWithoutArcs, IsWritten, IsExchangeGraph, Improves, IsStand, HasRow, HasArcsOf, is_toggled, AreForgotten, IsRightFor, IsUnchanged, changed_worths_from}
 
 -- ---- improvements

@@ -11,8 +11,8 @@ use Rattle.tn_base.specs.Firm.{Firm}
 use Rattle.tn_base.proofs.SetLemmas.{toggle_within, set_of_within}
 use Rattle.tn_law.specs.Places.{trade_level, level, toggle_at, move, CanRise, CanFall}
 use Rattle.tn_law.proofs.PlaceLemmas.{level-trade, toggle_at-trade, toggle_at-null, trade_level-le}
-use Rattle.tn_market.specs.declared.ends.Ends.{Ends}
-use Rattle.tn_market.specs.Network.{own}
+use Rattle.tn_plain_data.specs.declared.ends.Ends.{Ends}
+use Rattle.tn_plain_data.specs.Network.{own}
 use Rattle.tn_market.specs.Graph.{loss}
 use Rattle.tn_graph.specs.Reading.{IsStand}
 

@@ -1,10 +1,5 @@
 -- A graph as a table of numbers: one for each two nodes, row by row.
-use Rattle.std.specs.Prelude.{◌≡◌, ℕ, ◌+◌, ◌*◌, ◌^◌, ◌≤◌, nat_lt, ℤ, pos, neg_ℤ, int_le, Bool, true, ◌&&◌, if◌then◌else◌, List, length, get_or, Option, Some, None}
-use Rattle.std.proofs.Common.{sym, ap, ◌∙◌, subst, inl, inr, arith}
-use Rattle.std.proofs.lemmas.Int.{ints}
-use Rattle.std.proofs.lemmas.Bool.{cases_Bool, and_parts, ltb-true}
-use Rattle.std.proofs.lemmas.Option.{same_Some}
-use Rattle.tn_base.specs.Arcs.{IsAtMost, AreBetweenNodes, AreSmall}
+use Rattle.std.specs.Prelude.{◌≡◌, ℕ, ◌+◌, ◌*◌, ◌^◌, ◌≤◌, nat_lt, ℤ, pos, neg_ℤ, int_le, ◌&&◌, if◌then◌else◌, List, length, get_or, Option, Some, None}
 
 pub record Matrix : Type 0 where
   pub nodes : ℕ
@@ -23,40 +18,3 @@ cost_at number = if int_le (neg_ℤ (pos (10 ^ 18))) number && int_le number (po
 -- the cost of the arc from node u to node v, none where there is no arc
 unfoldable pub arcs_of : Matrix → ℕ → ℕ → Option ℤ
 arcs_of graph u v = if nat_lt u graph.nodes && nat_lt v graph.nodes then cost_at (get_or graph.cells (u * graph.nodes + v) (pos (2 ^ 63))) else None
-
-pub cost_at-small : (number cost : ℤ) → cost_at number ≡ Some cost → (number ≡ cost) × IsAtMost cost (10 ^ 18)
-unfolding cost_at
-cost_at-small number cost is = elim (cases_Bool (int_le (neg_ℤ (pos (10 ^ 18))) number && int_le number (pos (10 ^ 18)))) [
-  | inl within ↦
-      let same : number ≡ cost = same_Some _ _ (sym (ap (λ (b : Bool). if b then Some number else None) within) ∙ is) in
-      let parts = and_parts (int_le (neg_ℤ (pos (10 ^ 18))) number) (int_le number (pos (10 ^ 18))) within in
-      (same, subst (λ (z : ℤ). IsAtMost z (10 ^ 18)) same (small parts.0 parts.1))
-  | inr beyond ↦
-      let none : (if int_le (neg_ℤ (pos (10 ^ 18))) number && int_le number (pos (10 ^ 18)) then Some number else None) ≡ None =
-      ap (λ (b : Bool). if b then Some number else None) beyond in
-      absurd (cc (none, is))
-]
-  where
-    small : int_le (neg_ℤ (pos (10 ^ 18))) number ≡ true → int_le number (pos (10 ^ 18)) ≡ true → IsAtMost number (10 ^ 18)
-    small p q = record { low = grind (arith, ints); high = grind (arith, ints) }
-
-arcs_of-cases : (graph : Matrix) (u v : ℕ) (cost : ℤ) → arcs_of graph u v ≡ Some cost
-    → ((nat_lt u graph.nodes && nat_lt v graph.nodes) ≡ true) × (cost_at (get_or graph.cells (u * graph.nodes + v) (pos (2 ^ 63))) ≡ Some cost)
-unfolding arcs_of
-arcs_of-cases graph u v cost is = elim (cases_Bool (nat_lt u graph.nodes && nat_lt v graph.nodes)) [
-  | inl within ↦ (within, sym (ap at within) ∙ is)
-  | inr beyond ↦ absurd (let none = ap at beyond in cc (none, is))
-]
-  where
-    at : Bool → Option ℤ
-    at b = if b then cost_at (get_or graph.cells (u * graph.nodes + v) (pos (2 ^ 63))) else None
-
--- arcs lead from node to node
-pub arcs_of-between : (graph : Matrix) → AreBetweenNodes graph.nodes (arcs_of graph)
-arcs_of-between graph u v cost is =
-    let parts = and_parts (nat_lt u graph.nodes) (nat_lt v graph.nodes) (arcs_of-cases graph u v cost is).0 in
-    (ltb-true u graph.nodes parts.0, ltb-true v graph.nodes parts.1)
-
--- no cost is above 10^18 in size
-pub arcs_of-small : (graph : Matrix) → AreSmall (arcs_of graph) (10 ^ 18)
-arcs_of-small graph u v cost is = (cost_at-small _ cost (arcs_of-cases graph u v cost is).1).1

@@ -2,8 +2,8 @@
 use Rattle.std.specs.Prelude.{◌≡◌, ℕ, ◌+◌, ◌*◌, ◌≤◌, ◌^◌, ℤ, ◌⊎◌, List, [], ◌∷◌, length, slice_get, Bool, true, false, not, ◌==◌, ◌&&◌, ◌||◌, nat_lt, if◌then◌else◌, Option, Some, None}
 use Rattle.tn_base.specs.Sets.{has}
 use Rattle.tn_base.specs.Firm.{Firm}
-use Rattle.tn_market.specs.declared.ends.Ends.{Ends}
-use Rattle.tn_market.specs.Network.{part, IsNetwork}
+use Rattle.tn_plain_data.specs.declared.ends.Ends.{Ends}
+use Rattle.tn_plain_data.specs.Network.{part, IsNetwork}
 use Rattle.tn_market.specs.Graph.{exchange_arc}
 use Rattle.tn_market.specs.ArcPlaces.{node_at, AreArcPlaces, arc_firm}
 use Rattle.tn_market.specs.Valued.{IsWorthAtMost}

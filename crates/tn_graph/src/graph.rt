@@ -95,7 +95,8 @@ impl Graph {
 }
 
 impl Costs for Graph {
-    ghost use Rattle.tn_graph.specs.Matrix.{arcs_of, arcs_of-between, arcs_of-small};
+    ghost use Rattle.tn_graph.specs.Matrix.{arcs_of};
+    ghost use Rattle.tn_graph.specs.MatrixLemmas.{arcs_of-between, arcs_of-small};
 
     ghost node_count = { λ graph. graph.nodes };
 

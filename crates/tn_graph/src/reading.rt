@@ -2,7 +2,7 @@
 
 ghost use Rattle.std.specs.Prelude.{◌≡◌, ℕ, ◌+◌, ◌*◌, ◌≤◌, ◌<◌, ◌^◌, ◌==◌, Some, length, map, slice_get};
 ghost use Rattle.tn_law.specs.Places.{level, CanRise};
-ghost use Rattle.tn_market.specs.Network.{IsNetwork};
+ghost use Rattle.tn_plain_data.specs.Network.{IsNetwork};
 ghost use Rattle.tn_market.specs.ArcPlaces.{node_at, AreArcPlaces};
 ghost use Rattle.tn_market.specs.Graph.{exchange_arc, graph_worths, ArePossible};
 ghost use Rattle.tn_graph.specs.Matrix.{arcs_of};

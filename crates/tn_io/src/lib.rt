@@ -1,5 +1,4 @@
-//! Where bytes come from and go to: sources that are read, sinks that are written, and their ends
-//! in memory and in std.
+//! Sources that are read and sinks that are written: in memory, in memory with failures, over std.
 #![tactic(auto)]
 
 mod memory;

@@ -11,9 +11,9 @@ use Rattle.tn_base.specs.Walks.{KeepsArcs}
 use Rattle.tn_cycle.specs.Answers.{label_in, AreLabels, IsNegative}
 use Rattle.tn_graph.specs.Matrix.{Matrix, arcs_of}
 use Rattle.tn_graph.specs.Reading.{IsExchangeGraph}
-use Rattle.tn_market.specs.declared.ends.Ends.{Ends}
-use Rattle.tn_market.specs.declared.contract.Contract.{Contract}
-use Rattle.tn_market.specs.Best.{price_at}
+use Rattle.tn_plain_data.specs.declared.ends.Ends.{Ends}
+use Rattle.tn_plain_data.specs.declared.contract.Contract.{Contract}
+use Rattle.tn_plain_data.specs.Prices.{price_at}
 use Rattle.tn_market.specs.Signed.{is_signed, signed_price, signed, Completes}
 use Rattle.tn_market.specs.Reduced.{reduced_firms, reduced_arc}
 use Rattle.tn_network.proofs.EachLemmas.{same_prices}

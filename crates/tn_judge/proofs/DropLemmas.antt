@@ -7,13 +7,13 @@ use Rattle.std.proofs.lemmas.Option.{same_Some}
 use Rattle.tn_base.specs.Sets.{has, sum_over, union}
 use Rattle.tn_base.specs.Firm.{Firm, MayAbstain, payments}
 use Rattle.tn_base.proofs.SetLemmas.{has_below, has-union, same_set, set_of_within, within_from, has-zero}
-use Rattle.tn_market.specs.declared.ends.Ends.{Ends}
-use Rattle.tn_market.specs.declared.contract.Contract.{Contract}
-use Rattle.tn_market.specs.Network.{own}
+use Rattle.tn_plain_data.specs.declared.ends.Ends.{Ends}
+use Rattle.tn_plain_data.specs.declared.contract.Contract.{Contract}
+use Rattle.tn_plain_data.specs.Network.{own}
 use Rattle.tn_market.specs.Best.{IsSubset, IsBestBetween}
 use Rattle.tn_residual.specs.Held.{IsBestPart, GivesPart}
 use Rattle.tn_market.specs.Equilibrium.{prices_at}
-use Rattle.tn_market.specs.Choices.{bundle_by, part_utility, own_part, IsPart, IsChoice}
+use Rattle.tn_plain_data.specs.Choices.{bundle_by, part_utility, own_part, IsPart, IsChoice}
 use Rattle.tn_market.specs.Signed.{is_signed, signed, signed_price, signed_bundle, contract_utility}
 use Rattle.tn_outcome.proofs.SignedLemmas.{has-signed_bundle}
 use Rattle.tn_outcome.proofs.RationalLemmas.{IsSigner, part_is_bundle, part_bundle, bundle_signed, is_in, in_is, wanted_part, wanted_is_part, own_is_part, own_bundle, between_signed, inside_signed, rational_from_bundles}

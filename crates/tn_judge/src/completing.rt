@@ -4,7 +4,7 @@ ghost use Rattle.std.specs.Prelude.{◌≡◌, ℕ, ◌+◌, ◌*◌, ◌^◌, �
 ghost use Rattle.tn_base.specs.Arcs.{IsAtMost};
 ghost use Rattle.tn_cycle.specs.Answers.{label_in};
 ghost use Rattle.tn_judge.specs.Completion.{AnswersCompletion, ArePricesTo};
-ghost use Rattle.tn_market.specs.Choices.{IsIndividuallyRational};
+ghost use Rattle.tn_plain_data.specs.Choices.{IsIndividuallyRational};
 ghost use Rattle.tn_market.specs.Limits.{IsOutcomeOf, IsWithinLimits};
 ghost use Rattle.tn_market.specs.Signed.{is_signed, signed_price};
 

@@ -6,7 +6,7 @@ ghost use Rattle.tn_base.specs.Firm.{Firm};
 ghost use Rattle.tn_judge.specs.Drops.{FindsDrop, FindsFirst, TellsDrop};
 ghost use Rattle.tn_market.specs.Best.{IsBestBetween};
 ghost use Rattle.tn_market.specs.Limits.{IsOutcomeOf, IsWithinLimits};
-ghost use Rattle.tn_market.specs.Network.{IsNetwork};
+ghost use Rattle.tn_plain_data.specs.Network.{IsNetwork};
 ghost use Rattle.tn_market.specs.Signed.{contract_utility, signed_bundle};
 
 use tn_base::Bundle;

@@ -1,4 +1,5 @@
-//! The verdict on an outcome: a firm that would drop contracts, prices that complete it, or a chain that blocks it.
+//! The verdict on an outcome.
+//! It is a firm that would drop contracts, prices that complete the outcome, or a chain that blocks it.
 #![tactic(auto)]
 
 mod completing;

@@ -16,7 +16,7 @@ use Rattle.tn_laminar.specs.declared.masks.Masks.{Masks}
 use Rattle.tn_laminar.specs.Masked.{masks_of, net_within}
 use Rattle.tn_laminar.proofs.MaskLemmas.{net_within_is}
 use Rattle.tn_laminar.specs.Sum.{term_of, number_of, HasNumbersWithin}
-use Rattle.tn_laminar.specs.Laws.{listed_small}
+use Rattle.tn_laminar.specs.LawLemmas.{listed_small}
 
 -- the total of the first sets, with the sum over the rest, is the sum; and it is small
 pub record CountsSoFar (buys : ℕ) (sets : List LaminarSet) (x k : ℕ) (total : ℤ) : Type 0 where

@@ -2,4 +2,4 @@ pub mod Masked
 pub mod Faults
 pub mod Sum
 pub mod Firms
-pub mod Laws
+pub mod LawLemmas

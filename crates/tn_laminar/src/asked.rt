@@ -1,6 +1,6 @@
 ghost use Rattle.std.specs.Prelude.{◌^◌};
 ghost use Rattle.tn_laminar.specs.Firms.{firm_of};
-ghost use Rattle.tn_laminar.specs.Laws.{laminar_laws};
+ghost use Rattle.tn_laminar.specs.LawLemmas.{laminar_laws};
 
 use crate::laminar::Laminar;
 use tn_base::{Asked, Bundle, Side, Steps};

@@ -1,6 +1,6 @@
-//! Laminar firms: an amount for each own trade, and for each of a family of nested sets of them a concave list of
-//! numbers by the net count within the set. Capacities, groups and decreasing returns are such sets. The firm that it
-//! is, and what is wrong with sets that are refused, stands in `specs/`.
+//! Laminar firms: amounts, and concave functions of net counts over nested sets of trades.
+//! Capacities, groups and decreasing returns are such sets. The firm that it is, and what is wrong with sets that are
+//! refused, stands in `specs/`.
 #![tactic(auto)]
 
 mod asked;

@@ -16,3 +16,6 @@ pub mod BoundLemmas
 pub mod CloseMoves
 pub mod CloseLemmas
 pub mod ClosePairs
+pub mod MoveLemmas
+pub mod PairLemmas
+pub mod PairSideLemmas

@@ -1,5 +1,5 @@
-//! The laws of discrete convex analysis that the workbench rests on, over every firm that meets exchange. Each law is
-//! the contract of a function with an empty body: calling it proves nothing more, and costs nothing.
+//! Laws of one firm that meets exchange: what keeps it, local to global, ordered exchange, nested sets.
+//! Each law is the contract of a function with an empty body: calling it proves nothing more, and costs nothing.
 #![tactic(auto)]
 
 mod additive;

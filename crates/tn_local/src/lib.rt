@@ -1,5 +1,5 @@
-//! The exchange property of a table whose every bundle is possible, tested on close bundles alone, and the verdict on a
-//! table of any size. That close bundles decide is a law of `tn_law`; a firm's first triple stands in `specs/`.
+//! The exchange test on close bundles alone, for tables whose every bundle is possible.
+//! That close bundles decide is a law of `tn_law`; a firm's first triple stands in `specs/`.
 #![tactic(auto)]
 
 mod local;

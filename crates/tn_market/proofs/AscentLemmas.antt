@@ -13,8 +13,8 @@ use Rattle.tn_base.proofs.SetLemmas.{has_above, has_from_minus-zero, minus-zero_
 use Rattle.tn_law.proofs.KeepLemmas.{meets-plus_sum, meets-among}
 use Rattle.tn_law.proofs.LocalLemmas.{local_to_global}
 use Rattle.tn_law.proofs.BoundLemmas.{times_small}
-use Rattle.tn_market.specs.Best.{price_at}
-use Rattle.tn_market.specs.declared.found.Found.{Found}
+use Rattle.tn_plain_data.specs.Prices.{price_at}
+use Rattle.tn_market.specs.declared.bundle_value.BundleValue.{BundleValue}
 use Rattle.tn_market.specs.Ascent.{aimed, IsBesideBest, IsNearbyBest, IsValued, IsNoWorse, TriesOne, TriesBeside, TriesNearby}
 
 -- ---- sizes
@@ -94,7 +94,7 @@ pub smaller : (z : ℤ) (small large : ℕ) → small ≤ large → IsAtMost z s
 smaller z small large below within = record { low = omega (arith, ints, within.low, below); high = omega (arith, ints, within.high, below) }
 
 -- a step of a step
-pub no_worse-trans : (value_of : ℕ → Option ℤ) (first second third : Found) → IsNoWorse value_of first second → IsNoWorse value_of second third
+pub no_worse-trans : (value_of : ℕ → Option ℤ) (first second third : BundleValue) → IsNoWorse value_of first second → IsNoWorse value_of second third
     → IsNoWorse value_of first third
 no_worse-trans value_of first second third one two = record {
   valued = λ h. two.valued (one.valued h);
@@ -102,7 +102,7 @@ no_worse-trans value_of first second third one two = record {
 }
 
 -- with one more pair tried
-pub one_tried : (value_of : ℕ → Option ℤ) (from i j : ℕ) (first second third : Found) → TriesBeside value_of from i j first second
+pub one_tried : (value_of : ℕ → Option ℤ) (from i j : ℕ) (first second third : BundleValue) → TriesBeside value_of from i j first second
     → TriesOne value_of (toggle (toggle from i) j) second third → TriesBeside value_of from i (j + 1) first third
 one_tried value_of from i j first second third before now = record {
   no_worse = no_worse-trans value_of first second third before.no_worse now.no_worse;
@@ -116,7 +116,7 @@ one_tried value_of from i j first second third before now = record {
 }
 
 -- the single toggle tried
-pub single_tried : (value_of : ℕ → Option ℤ) (from i : ℕ) (first second : Found) → TriesOne value_of (toggle from i) first second
+pub single_tried : (value_of : ℕ → Option ℤ) (from i : ℕ) (first second : BundleValue) → TriesOne value_of (toggle from i) first second
     → TriesBeside value_of from i 0 first second
 single_tried value_of from i first second now = record {
   no_worse = now.no_worse;
@@ -124,7 +124,7 @@ single_tried value_of from i first second now = record {
 }
 
 -- with one more position tried
-pub position_tried : (value_of : ℕ → Option ℤ) (from i : ℕ) (first second third : Found) → TriesNearby value_of from i first second
+pub position_tried : (value_of : ℕ → Option ℤ) (from i : ℕ) (first second third : BundleValue) → TriesNearby value_of from i first second
     → TriesBeside value_of from i i second third → TriesNearby value_of from (i + 1) first third
 position_tried value_of from i first second third before now = record {
   no_worse = no_worse-trans value_of first second third before.no_worse now.no_worse;
@@ -140,7 +140,7 @@ position_tried value_of from i first second third before now = record {
 }
 
 -- no position tried
-pub none_tried : (value_of : ℕ → Option ℤ) (from : ℕ) (found : Found) → TriesNearby value_of from 0 found found
+pub none_tried : (value_of : ℕ → Option ℤ) (from : ℕ) (found : BundleValue) → TriesNearby value_of from 0 found found
 none_tried value_of from found = record {
   no_worse = record { valued = λ h. h; kept = omega (arith, ints) };
   tried = λ k below. absurd (omega (arith, below));
@@ -161,7 +161,7 @@ pub le_from_test : (a b : ℤ) → le_z a b ≡ true → a ≤ℤ b
 le_from_test a b test = grind (arith, ints)
 
 -- where a step gains nothing, the bundle is best
-pub settled : (firm : Firm) (found next : Found) → HasOwnBundles firm × MeetsExchange firm → IsValued firm.worth found
+pub settled : (firm : Firm) (found next : BundleValue) → HasOwnBundles firm × MeetsExchange firm → IsValued firm.worth found
     → TriesNearby firm.worth found.bundle firm.count found next → next.value ≤ℤ found.value → IsBest firm.worth found.bundle found.value
 settled firm found next laws valued tries no_gain =
     best_from_nearby firm found.bundle found.value laws.0 laws.1 valued (λ i below.

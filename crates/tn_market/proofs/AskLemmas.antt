@@ -14,7 +14,8 @@ use Rattle.tn_base.proofs.SetLemmas.{same_set, has-zero, has-meet, has-union, ha
 use Rattle.tn_law.proofs.BoundLemmas.{sum_over_small}
 use Rattle.tn_law.proofs.KeepLemmas.{option_map-some}
 use Rattle.tn_market.specs.Valued.{IsWorthAtMost}
-use Rattle.tn_market.specs.Best.{IsBetween, IsBestBetween, GivesBest, price_at}
+use Rattle.tn_market.specs.Best.{IsBetween, IsBestBetween, GivesBest}
+use Rattle.tn_plain_data.specs.Prices.{price_at}
 use Rattle.tn_market.proofs.AscentLemmas.{scaled_small, smaller}
 
 -- ---- the empty bundle

@@ -16,7 +16,8 @@ use Rattle.tn_base.proofs.SumLemmas.{sum_over-same_terms, sum_over-plus}
 use Rattle.tn_base.specs.declared.side.Side.TheVariants.{Buy, Sell}
 use Rattle.tn_law.proofs.KeepLemmas.{option_map-some}
 use Rattle.tn_market.specs.Valued.{side_at, IsWorthAtMost}
-use Rattle.tn_market.specs.Best.{IsBetween, IsBestBetween, GivesBest, price_at}
+use Rattle.tn_market.specs.Best.{IsBetween, IsBestBetween, GivesBest}
+use Rattle.tn_plain_data.specs.Prices.{price_at}
 use Rattle.tn_market.specs.Ascent.{aimed, bonus, gain_at, payment_of, AreGains}
 use Rattle.tn_market.proofs.AscentLemmas.{aimed_some, scaled_small, smaller}
 

@@ -1,10 +1,6 @@
 pub mod GraphLemmas
 pub mod MarketLemmas
-pub mod NetworkLemmas
-pub mod InOrderLemmas
-pub mod InOrderNetworks
 pub mod AscentLemmas
 pub mod BonusLemmas
 pub mod AskLemmas
-pub mod ContractLemmas
 pub mod LevyLemmas

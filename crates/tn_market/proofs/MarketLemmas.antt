@@ -7,9 +7,10 @@ use Rattle.std.proofs.lemmas.Grind.{common_steps}
 use Rattle.std.proofs.Math.ListN.{length-set}
 use Rattle.tn_base.specs.Sets.{has, toggle, set_of}
 use Rattle.tn_base.specs.Firm.{Firm}
-use Rattle.tn_market.specs.declared.ends.Ends.{Ends}
-use Rattle.tn_market.specs.Network.{own, part, stands_at, IsNetwork}
-use Rattle.tn_market.specs.NetworkLaws.{StandsThere}
+use Rattle.tn_plain_data.specs.declared.ends.Ends.{Ends}
+use Rattle.tn_plain_data.specs.Network.{own, part, stands_at, IsNetwork}
+use Rattle.tn_plain_data.proofs.NetworkLemmas.{own_stands}
+use Rattle.tn_plain_data.proofs.InOrderLemmas.{push_cases}
 use Rattle.tn_market.specs.Traded.{AreOwn, HaveOwn, IsMarket, HasOnePlace, ArePlaced, Traded, sold_at, bought_at, placed}
 
 -- an element of a list after a write
@@ -24,22 +25,6 @@ slice_get-set_other (x ∷ xs) zero v zero other = absurd (other refl)
 slice_get-set_other (x ∷ xs) zero v (suc k) other = refl
 slice_get-set_other (x ∷ xs) (suc i) v zero other = refl
 slice_get-set_other (x ∷ xs) (suc i) v (suc k) other = slice_get-set_other xs i v k (λ e. other (ap (λ (n : ℕ). suc n) e))
-
--- the trade that `own` finds is there, and it stands there
-pub own_stands : (trades : List Ends) (f k : ℕ) → own trades f k < length trades → StandsThere trades f k (own trades f k)
-own_stands [] f k inside = absurd (omega (arith, inside))
-own_stands (trade ∷ trades) f k inside = by_case (stands_at trade f k) refl (own_stands trades f k)
-  where
-    by_case : (b : Bool) → stands_at trade f k ≡ b → (own trades f k < length trades → StandsThere trades f k (own trades f k))
-        → StandsThere (trade ∷ trades) f k (own (trade ∷ trades) f k)
-    by_case true e rest =
-        let at : own (trade ∷ trades) f k ≡ 0 = ap (λ (b : Bool). if b then 0 else own trades f k + 1) e in
-        subst (λ (t : ℕ). StandsThere (trade ∷ trades) f k t) (sym at) (record { trade = trade; is = refl; stands = e })
-    by_case false e rest =
-        let at : own (trade ∷ trades) f k ≡ own trades f k + 1 = ap (λ (b : Bool). if b then 0 else own trades f k + 1) e in
-        let found = rest (omega (arith, inside, at)) in
-        let next : own (trade ∷ trades) f k ≡ suc (own trades f k) = at ∙ omega arith in
-        subst (λ (t : ℕ). StandsThere (trade ∷ trades) f k t) (sym next) (record { trade = found.trade; is = found.is; stands = found.stands })
 
 -- what is written at a position where the trade stands, and what stays elsewhere
 sold_same : (trade : Ends) (f t : ℕ) (list : List ℕ) (k : ℕ) → (trade.seller == f && trade.at_seller == k) ≡ true → k < length list
@@ -223,15 +208,6 @@ pub part_is : (trades : List Ends) (f n on : ℕ) (list : List ℕ) → AreOwn t
 part_is trades f n on list list_is =
     ap (set_of (λ k. has on (get_or list k 0))) list_is.counted
     ∙ set_of-same _ _ n (λ k inside. ap (has on) (own_element trades f n list k 0 list_is inside))
-
--- an element of a list with one more is one of the list, or the new one
-pub push_cases : {X : Type 0} (xs : List X) (y : X) (k : ℕ) (x : X) → slice_get (xs ++ y ∷ []) k ≡ Some x
-    → (slice_get xs k ≡ Some x) ⊎ ((k ≡ length xs) × (x ≡ y))
-push_cases [] y zero x at = inr (refl, sym (same_Some _ _ at))
-push_cases [] y (suc k) x at = absurd (cc at)
-push_cases (first ∷ xs) y zero x at = inl at
-push_cases (first ∷ xs) y (suc k) x at =
-    elim (push_cases xs y k x at) [ inl earlier ↦ inl earlier | inr last ↦ inr (omega (arith, last.0), last.1) ]
 
 -- the lists with one more
 pub one_listed : {V L : Type 0} (firm_of : V → Firm) (items_of : L → List ℕ) (firms : List V) (trades : List Ends) (lists : List L) (v : V) (list : L)

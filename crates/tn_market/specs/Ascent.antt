@@ -5,8 +5,8 @@ use Rattle.tn_base.specs.Arcs.{IsAtMost}
 use Rattle.tn_base.specs.Firm.{Firm, plus_sum, among, payments}
 use Rattle.tn_base.specs.declared.side.Side.{Side}
 use Rattle.tn_base.specs.declared.side.Side.TheVariants.{Buy, Sell}
-use Rattle.tn_market.specs.declared.found.Found.{Found}
-use Rattle.tn_market.specs.Best.{price_at}
+use Rattle.tn_market.specs.declared.bundle_value.BundleValue.{BundleValue}
+use Rattle.tn_plain_data.specs.Prices.{price_at}
 
 -- the values that a search compares, as a firm: only within the allowed positions, the worth counted `scale` times, and
 -- a gain for each position beside it
@@ -33,26 +33,26 @@ abbrev pub IsNearbyBest : (ℕ → Option ℤ) → ℕ → ℕ → ℤ → Type 
 IsNearbyBest value_of from n value = (i : ℕ) → i < n → IsBesideBest value_of from i i value
 
 -- a bundle is possible with its value
-abbrev pub IsValued : (ℕ → Option ℤ) → Found → Type 0
+abbrev pub IsValued : (ℕ → Option ℤ) → BundleValue → Type 0
 IsValued value_of found = value_of found.bundle ≡ Some found.value
 
 -- what was found after is a possible bundle with its value, as it was before, and of no less value
-pub record IsNoWorse (value_of : ℕ → Option ℤ) (before after : Found) : Type 0 where
+pub record IsNoWorse (value_of : ℕ → Option ℤ) (before after : BundleValue) : Type 0 where
   pub valued : IsValued value_of before → IsValued value_of after
   pub kept : before.value ≤ℤ after.value
 
 -- and the bundle x has no more value, if it is possible
-pub record TriesOne (value_of : ℕ → Option ℤ) (x : ℕ) (before after : Found) : Type 0 where
+pub record TriesOne (value_of : ℕ → Option ℤ) (x : ℕ) (before after : BundleValue) : Type 0 where
   pub no_worse : IsNoWorse value_of before after
   pub tried : (other : ℤ) → value_of x ≡ Some other → other ≤ℤ after.value
 
 -- and none with i toggled, or with i and one below j toggled, has more value
-pub record TriesBeside (value_of : ℕ → Option ℤ) (from i j : ℕ) (before after : Found) : Type 0 where
+pub record TriesBeside (value_of : ℕ → Option ℤ) (from i j : ℕ) (before after : BundleValue) : Type 0 where
   pub no_worse : IsNoWorse value_of before after
   pub tried : IsBesideBest value_of from i j after.value
 
 -- and none with one or two different positions below n toggled has more value
-pub record TriesNearby (value_of : ℕ → Option ℤ) (from n : ℕ) (before after : Found) : Type 0 where
+pub record TriesNearby (value_of : ℕ → Option ℤ) (from n : ℕ) (before after : BundleValue) : Type 0 where
   pub no_worse : IsNoWorse value_of before after
   pub tried : IsNearbyBest value_of from n after.value
 

@@ -1,5 +1,5 @@
 -- Best bundles among those that contain wanted positions and have no others than these and some free ones.
-use Rattle.std.specs.Prelude.{◌≡◌, ℕ, ℤ, pos, ◌≤ℤ◌, List, Option, Some, None, true, get_or}
+use Rattle.std.specs.Prelude.{◌≡◌, ℕ, ℤ, ◌≤ℤ◌, Option, Some, None, true}
 use Rattle.tn_base.specs.Sets.{has, union}
 
 -- each member of x is a member of y
@@ -20,7 +20,3 @@ pub record IsBestBetween (need free : ℕ) (value_of : ℕ → Option ℤ) (x : 
 abbrev pub GivesBest : ℕ → ℕ → (ℕ → Option ℤ) → Option (ℕ × ℤ) → Type 0
 GivesBest need free value_of (Some found) = IsBestBetween need free value_of found.0 found.1
 GivesBest need free value_of None = (y : ℕ) → IsBetween need free y → value_of y ≡ None
-
--- the price at a position of a list of prices
-abbrev pub price_at : List ℤ → ℕ → ℤ
-price_at prices k = get_or prices k (pos 0)

@@ -1,10 +1,10 @@
 -- What may be said of an arrangement: a set of trades with prices for all trades.
 use Rattle.std.specs.Prelude.{◌≡◌, ℕ, ◌<◌, ℤ, pos, ◌-ℤ◌, ◌<ℤ◌, List, slice_get, Some, None}
 use Rattle.tn_base.specs.Firm.{Firm, IsBest}
-use Rattle.tn_market.specs.declared.ends.Ends.{Ends}
-use Rattle.tn_market.specs.declared.said.Said.{Said}
-use Rattle.tn_market.specs.declared.said.Said.TheVariants.{Equilibrium, Better, Impossible}
-use Rattle.tn_market.specs.Network.{part, trades_of}
+use Rattle.tn_plain_data.specs.declared.ends.Ends.{Ends}
+use Rattle.tn_plain_data.specs.declared.said.Said.{Said}
+use Rattle.tn_plain_data.specs.declared.said.Said.TheVariants.{Equilibrium, Better, Impossible}
+use Rattle.tn_plain_data.specs.Network.{part, trades_of}
 use Rattle.tn_market.specs.Equilibrium.{utility_at, HasBest, IsEquilibrium, surplus_of}
 
 -- each firm before f has a best bundle

@@ -1,16 +1,9 @@
-pub mod Network
-pub mod NetworkLaws
-pub mod InOrder
 pub mod Equilibrium
 pub mod Graph
 pub mod Supported
 pub mod Ranges
 pub mod ArcPlaces
 pub mod Admitted
-pub mod Choices
-pub mod OutcomeLimits
-pub mod ClaimLimits
-pub mod Edits
 pub mod Signed
 pub mod Reduced
 pub mod Limits
@@ -22,6 +15,8 @@ pub mod Traded
 pub mod Ascent
 pub mod Lawful
 pub mod Levied
+pub mod LeviedLemmas
 pub mod Outside
+pub mod OutsideLemmas
 pub mod Parties
 pub mod Chains

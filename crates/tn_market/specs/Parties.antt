@@ -2,8 +2,10 @@
 use Rattle.std.specs.Prelude.{ℕ, unsigned_abs}
 use Rattle.tn_base.specs.Firm.{Firm}
 use Rattle.tn_market.specs.Lawful.{IsLawful}
-use Rattle.tn_market.specs.Levied.{levied, levied_limit, levied_laws}
-use Rattle.tn_market.specs.Outside.{outside, outside_laws}
+use Rattle.tn_market.specs.Levied.{levied, levied_limit}
+use Rattle.tn_market.specs.LeviedLemmas.{levied_laws}
+use Rattle.tn_market.specs.Outside.{outside}
+use Rattle.tn_market.specs.OutsideLemmas.{outside_laws}
 use Rattle.tn_market.specs.declared.valuation.Valuation.{Ghosts}
 use Rattle.tn_market.specs.declared.party.Party.{Party}
 use Rattle.tn_market.specs.declared.party.Party.TheVariants.{Firm as Member, Outside}

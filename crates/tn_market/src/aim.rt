@@ -7,9 +7,9 @@ ghost use Rattle.tn_base.specs.Arcs.{IsAtMost};
 ghost use Rattle.tn_base.specs.Sets.{has, sum_over, toggle};
 ghost use Rattle.tn_base.specs.Firm.{IsBest};
 ghost use Rattle.tn_market.specs.Ascent.{aimed, IsAim, IsValued, TriesOne, TriesBeside, TriesNearby};
-ghost use Rattle.tn_market.specs.Best.{price_at};
+ghost use Rattle.tn_plain_data.specs.Prices.{price_at};
 
-use crate::found::Found;
+use crate::bundle_value::BundleValue;
 use crate::valuation::Valuation;
 use tn_base::{Bundle, Steps};
 
@@ -72,11 +72,11 @@ impl<V: Valuation> Aim<'_, V> {
     }
 
     /// The better of a bundle found so far and another one: the other only where it is possible and has more.
-    fn better(&self, best: Found, other: Bundle, steps: &mut Steps<V::Mark>) -> Found
+    fn better(&self, best: BundleValue, other: Bundle, steps: &mut Steps<V::Mark>) -> BundleValue
         ensures { TriesOne (aimed self.now.allowed self.now.scale self.now.gains.now (V.firm self.now.firm.now)).worth other best result }
     {
         match self.value(other, steps) {
-            Some(value) if value > best.value => Found {
+            Some(value) if value > best.value => BundleValue {
                 bundle: other,
                 value,
             },
@@ -85,7 +85,13 @@ impl<V: Valuation> Aim<'_, V> {
     }
 
     /// The better of a bundle found so far and those with position `i` toggled, alone or with an earlier position.
-    fn best_beside(&self, best: Found, from: Bundle, i: u32, steps: &mut Steps<V::Mark>) -> Found
+    fn best_beside(
+        &self,
+        best: BundleValue,
+        from: Bundle,
+        i: u32,
+        steps: &mut Steps<V::Mark>,
+    ) -> BundleValue
         requires { i < (V.firm self.now.firm.now).count }
         ensures { TriesBeside (aimed self.now.allowed self.now.scale self.now.gains.now (V.firm self.now.firm.now)).worth from i i best result }
     {
@@ -98,7 +104,7 @@ impl<V: Valuation> Aim<'_, V> {
     }
 
     /// The best of a bundle and those with one or two of its positions toggled.
-    fn step(&self, from: &Found, steps: &mut Steps<V::Mark>) -> Found
+    fn step(&self, from: &BundleValue, steps: &mut Steps<V::Mark>) -> BundleValue
         ensures { TriesNearby (aimed self.now.allowed self.now.scale self.now.gains.now (V.firm self.now.firm.now)).worth
             from.now.bundle (V.firm self.now.firm.now).count from.now result }
     {
@@ -110,7 +116,7 @@ impl<V: Valuation> Aim<'_, V> {
     }
 
     /// A best bundle with its value.
-    pub fn climb(&self, steps: &mut Steps<V::Mark>) -> Found
+    pub fn climb(&self, steps: &mut Steps<V::Mark>) -> BundleValue
         ensures { IsBest (aimed self.now.allowed self.now.scale self.now.gains.now (V.firm self.now.firm.now)).worth result.bundle result.value }
     {
         let mut found = self.start(steps);
@@ -124,11 +130,11 @@ impl<V: Valuation> Aim<'_, V> {
     }
 
     /// The empty bundle, which is always possible.
-    fn start(&self, steps: &mut Steps<V::Mark>) -> Found
+    fn start(&self, steps: &mut Steps<V::Mark>) -> BundleValue
         ensures { IsValued (aimed self.now.allowed self.now.scale self.now.gains.now (V.firm self.now.firm.now)).worth result }
     {
         let bundle = Bundle::empty();
-        Found {
+        BundleValue {
             bundle,
             value: self.value(bundle, steps).unwrap(),
         }

@@ -5,7 +5,8 @@ ghost use Rattle.tn_base.specs.Arcs.{IsAtMost};
 ghost use Rattle.tn_base.specs.Sets.{meet, union};
 ghost use Rattle.tn_base.specs.Firm.{utility};
 ghost use Rattle.tn_market.specs.Ascent.{AreGains, payment_of};
-ghost use Rattle.tn_market.specs.Best.{GivesBest, price_at};
+ghost use Rattle.tn_market.specs.Best.{GivesBest};
+ghost use Rattle.tn_plain_data.specs.Prices.{price_at};
 
 use crate::aim::Aim;
 use crate::oracle::MOST_OWN;

@@ -1,4 +1,4 @@
-ghost use Rattle.tn_market.specs.NetworkLaws.{AreBundleLists, ArePlaces};
+ghost use Rattle.tn_plain_data.specs.NetworkLaws.{AreBundleLists, ArePlaces};
 
 /// The trade at a position of a firm is the one that stands there, and a firm's bundle of a set of trades has the
 /// positions whose trade is in the set.

@@ -47,7 +47,7 @@ fn after_tax(scale: i128, worth: i128, tax: i128, count: u32) -> i128
 
 impl<V: Valuation> Valuation for Levied<'_, V> {
     ghost use Rattle.tn_market.specs.Lawful.{lawful};
-    ghost use Rattle.tn_market.specs.Levied.{levied_laws};
+    ghost use Rattle.tn_market.specs.LeviedLemmas.{levied_laws};
 
     type Mark = V::Mark;
 

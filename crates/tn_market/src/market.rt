@@ -1,13 +1,13 @@
 ghost use Rattle.std.specs.Prelude.{◌≡◌, ◌*◌, ◌<◌, ◌≤◌, Some, All, IfOk, length, map, slice_get, get_or};
 ghost use Rattle.tn_base.specs.Sets.{has, set_of};
-ghost use Rattle.tn_market.specs.Network.{own, part, IsNetwork};
+ghost use Rattle.tn_plain_data.specs.Network.{own, part, IsNetwork};
 ghost use Rattle.tn_market.specs.Traded.{AreOwn, HasOnePlace, placed};
 
-use crate::ends::Ends;
 use crate::valuation::Valuation;
 use std::alloc::Global;
 use std::marker::Model;
 use tn_base::{Bundle, OutOfMemory, TradeSet};
+use tn_plain_data::Ends;
 
 /// Firms and the trades between them, which fit together: at most 1,024 of each.
 ///

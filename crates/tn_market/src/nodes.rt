@@ -3,9 +3,9 @@
 ghost use Rattle.std.specs.Prelude.{◌≡◌, map, IfOk};
 ghost use Rattle.tn_market.specs.Supported.{said_node};
 
-use crate::lists::Nodes;
 use std::alloc::Global;
 use tn_base::OutOfMemory;
+use tn_plain_data::Nodes;
 
 /// A node as it is said: the null node as none.
 fn said_node(node: u32, null: u32) -> Option<u32>

@@ -2,7 +2,8 @@ ghost use Rattle.std.specs.Prelude.{◌≡◌, ◌^◌, ◌*◌, ◌<◌, ◌≤
 ghost use Rattle.tn_base.specs.Arcs.{IsAtMost};
 ghost use Rattle.tn_base.specs.Sets.{meet, union};
 ghost use Rattle.tn_base.specs.Firm.{utility};
-ghost use Rattle.tn_market.specs.Best.{GivesBest, price_at};
+ghost use Rattle.tn_market.specs.Best.{GivesBest};
+ghost use Rattle.tn_plain_data.specs.Prices.{price_at};
 
 use crate::room::Room;
 use crate::valuation::Valuation;

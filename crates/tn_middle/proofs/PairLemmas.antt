@@ -14,8 +14,8 @@ use Rattle.tn_base.proofs.SumLemmas.{sum_over-empty, sum_over-toggle_in}
 use Rattle.tn_base.proofs.FirmLemmas.{meet-toggle_in, meet-toggle_out, minus-toggle_in, minus-toggle_out}
 use Rattle.tn_middle.specs.Pairs.{number_at, by_counts, pair_worth, pairing}
 use Rattle.tn_middle.specs.PairLaw.{IsOnePurchase, IsPair, MiddlemenPair}
-use Rattle.tn_middle.specs.Sets.{empty_from_counts}
-use Rattle.tn_middle.specs.Laws.{pairing-empty, meet-none, minus-none}
+use Rattle.tn_middle.specs.SetLemmas.{empty_from_counts}
+use Rattle.tn_middle.specs.LawLemmas.{pairing-empty, meet-none, minus-none}
 
 both_true : (a b : Bool) → (a && b) ≡ true → (a ≡ true) × (b ≡ true)
 both_true true b e = (refl, e)

@@ -1,5 +1,5 @@
 pub mod Pairs
 pub mod Firms
-pub mod Sets
-pub mod Laws
+pub mod SetLemmas
+pub mod LawLemmas
 pub mod PairLaw

@@ -1,6 +1,6 @@
 ghost use Rattle.std.specs.Prelude.{◌^◌};
 ghost use Rattle.tn_middle.specs.Firms.{firm_of};
-ghost use Rattle.tn_middle.specs.Laws.{middle_laws};
+ghost use Rattle.tn_middle.specs.LawLemmas.{middle_laws};
 
 use crate::middle::Middle;
 use tn_base::{Asked, Bundle, Side, Steps};

@@ -1,4 +1,5 @@
-//! Middlemen: firms that buy one good and sell it on, or keep it. What each bundle is worth to one stands in `specs/`.
+//! Middlemen: firms that pair a purchase with a sale, or keep it.
+//! What each bundle is worth to one stands in `specs/`.
 #![tactic(auto)]
 
 mod asked;

@@ -1,5 +1,5 @@
-//! The names of a document's firms and trades, and the rule that a name keeps. Which faults speak of named trades
-//! alone stands in `specs/`.
+//! The names of a document's firms and trades, and the rule for a name.
+//! Which faults speak of named trades alone stands in `specs/`.
 #![tactic(auto)]
 
 mod name_list;

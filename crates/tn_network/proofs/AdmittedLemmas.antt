@@ -12,8 +12,8 @@ use Rattle.tn_law.specs.Places.{toggle_at, move}
 use Rattle.tn_law.proofs.PlaceLemmas.{toggle_at-trade}
 use Rattle.tn_law.proofs.KeepLemmas.{has-toggle_at, meets-among, option_map-some}
 use Rattle.tn_law.proofs.AdditiveLemmas.{move-within}
-use Rattle.tn_market.specs.declared.ends.Ends.{Ends}
-use Rattle.tn_market.specs.Network.{own, part, IsNetwork}
+use Rattle.tn_plain_data.specs.declared.ends.Ends.{Ends}
+use Rattle.tn_plain_data.specs.Network.{own, part, IsNetwork}
 use Rattle.tn_market.specs.Best.{IsSubset}
 use Rattle.tn_market.specs.Equilibrium.{prices_at, utility_at, HasBest, IsEquilibrium}
 use Rattle.tn_market.specs.Admitted.{admitted_from, admitted}

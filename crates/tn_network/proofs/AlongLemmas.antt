@@ -8,8 +8,8 @@ use Rattle.tn_base.proofs.SetLemmas.{has-toggle_same, has-toggle_other, toggle_c
 use Rattle.tn_law.specs.Places.{trade_level, toggle_at, move}
 use Rattle.tn_law.specs.Ordered.{shifted}
 use Rattle.tn_law.proofs.PlaceLemmas.{level-trade, toggle_at-trade, toggle_at-null, trade_level-le}
-use Rattle.tn_market.specs.declared.ends.Ends.{Ends}
-use Rattle.tn_market.specs.Network.{own, part}
+use Rattle.tn_plain_data.specs.declared.ends.Ends.{Ends}
+use Rattle.tn_plain_data.specs.Network.{own, part}
 use Rattle.tn_market.specs.Graph.{raised_by, lowered_by}
 use Rattle.tn_market.specs.ArcPlaces.{node_at}
 use Rattle.tn_market.proofs.GraphLemmas.{node_at-trade, node_at-null, raised_own, lowered_own, has-part}

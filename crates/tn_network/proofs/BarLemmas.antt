@@ -10,8 +10,8 @@ use Rattle.tn_base.proofs.SetLemmas.{has-zero, has-toggle_other, has_below, has_
 use Rattle.tn_base.proofs.SumLemmas.{sum_over-same_terms}
 use Rattle.tn_base.proofs.WalkLemmas.{walk-same, least_cycle-same}
 use Rattle.tn_law.proofs.KeepLemmas.{option_map-some}
-use Rattle.tn_market.specs.declared.ends.Ends.{Ends}
-use Rattle.tn_market.specs.Network.{own, part, IsNetwork}
+use Rattle.tn_plain_data.specs.declared.ends.Ends.{Ends}
+use Rattle.tn_plain_data.specs.Network.{own, part, IsNetwork}
 use Rattle.tn_market.specs.Best.{IsSubset}
 use Rattle.tn_market.specs.Equilibrium.{prices_at, HasBest, IsEquilibrium}
 use Rattle.tn_market.specs.Admitted.{admitted}

@@ -8,11 +8,11 @@ use Rattle.tn_base.specs.Sets.{sum_over}
 use Rattle.tn_base.specs.Firm.{Firm}
 use Rattle.tn_base.proofs.SumLemmas.{times-plus}
 use Rattle.tn_law.proofs.KeepLemmas.{option_map-some, times-le}
-use Rattle.tn_market.specs.declared.ends.Ends.{Ends}
-use Rattle.tn_market.specs.declared.contract.Contract.{Contract}
-use Rattle.tn_market.specs.Network.{part, IsNetwork}
+use Rattle.tn_plain_data.specs.declared.ends.Ends.{Ends}
+use Rattle.tn_plain_data.specs.declared.contract.Contract.{Contract}
+use Rattle.tn_plain_data.specs.Network.{part, IsNetwork}
 use Rattle.tn_market.specs.Equilibrium.{HasBest, IsEquilibrium}
-use Rattle.tn_market.specs.Choices.{is_end, is_of, paid_to, payment, bundle_by, part_utility, IsPart, IsChoice, together, Blocks, contracts_of}
+use Rattle.tn_plain_data.specs.Choices.{is_end, is_of, paid_to, payment, bundle_by, part_utility, IsPart, IsChoice, together, Blocks, contracts_of}
 use Rattle.tn_network.proofs.SumLemmas.{sum_to, sum_to-same, sum_to-zero, sum_list, sum_list-plus, sum_list-same, sum_list-none, AllFrom, all_from}
 use Rattle.tn_network.proofs.PoolLemmas.{IsPool, pool_together}
 use Rattle.tn_network.proofs.PartLemmas.{at_place, at_place-is, at_place-none, gain_by, paid_for, other_contract, part_paid}

@@ -9,8 +9,8 @@ use Rattle.tn_base.specs.Walks.{walk_cost, KeepsArcs, HasNoNegativeCycle}
 use Rattle.tn_base.proofs.WalkLemmas.{walk-joined, both_are}
 use Rattle.tn_law.proofs.KeepLemmas.{option_map-some}
 use Rattle.tn_law.proofs.LabelLemmas.{walk-kept}
-use Rattle.tn_market.specs.declared.ends.Ends.{Ends}
-use Rattle.tn_market.specs.Network.{part, IsNetwork}
+use Rattle.tn_plain_data.specs.declared.ends.Ends.{Ends}
+use Rattle.tn_plain_data.specs.Network.{part, IsNetwork}
 use Rattle.tn_market.specs.Equilibrium.{IsEquilibrium}
 use Rattle.tn_market.specs.Graph.{exchange_arc, ArePossible}
 use Rattle.tn_market.specs.Ranges.{IsPriceOf, IsHighest, IsLowest}

@@ -7,8 +7,8 @@ use Rattle.tn_base.specs.Sets.{has}
 use Rattle.tn_base.specs.Firm.{Firm, HasOwnBundles, payments}
 use Rattle.tn_base.specs.Exchange.{MeetsExchange}
 use Rattle.tn_base.proofs.SumLemmas.{sum_over-same_terms}
-use Rattle.tn_market.specs.declared.ends.Ends.{Ends}
-use Rattle.tn_market.specs.Network.{own, part, IsNetwork}
+use Rattle.tn_plain_data.specs.declared.ends.Ends.{Ends}
+use Rattle.tn_plain_data.specs.Network.{own, part, IsNetwork}
 use Rattle.tn_market.specs.Valued.{IsWorthAtMost, ExchangesOne, ExchangesNet, meets_exchange}
 use Rattle.tn_market.specs.Equilibrium.{prices_at, utility_at, IsEquilibrium}
 use Rattle.tn_network.specs.Laws.{MeetExchange}

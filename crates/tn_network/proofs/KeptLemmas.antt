@@ -12,8 +12,8 @@ use Rattle.tn_base.specs.Walks.{walk_cost, arcs_among, is_admitted, is_looked_at
 use Rattle.tn_base.proofs.SetLemmas.{has-zero, has-toggle_same, has-toggle_other, same_below, set_of_within}
 use Rattle.tn_base.proofs.WalkLemmas.{walk_parts, SameArcs, walk-same, least_cycle-same}
 use Rattle.tn_law.proofs.LabelLemmas.{walk-kept, numbers_keep_arcs}
-use Rattle.tn_market.specs.declared.ends.Ends.{Ends}
-use Rattle.tn_market.specs.Network.{own, part, IsNetwork}
+use Rattle.tn_plain_data.specs.declared.ends.Ends.{Ends}
+use Rattle.tn_plain_data.specs.Network.{own, part, IsNetwork}
 use Rattle.tn_market.specs.Best.{IsSubset}
 use Rattle.tn_market.specs.Equilibrium.{IsEquilibrium}
 use Rattle.tn_market.specs.Admitted.{admitted}

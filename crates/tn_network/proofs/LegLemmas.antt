@@ -16,8 +16,8 @@ use Rattle.tn_law.proofs.PlaceLemmas.{level-trade}
 use Rattle.tn_law.proofs.KeepLemmas.{option_map-some, meets-plus_sum}
 use Rattle.tn_law.proofs.ExchangeLemmas.{exchange_to_places}
 use Rattle.tn_law.proofs.LocalLemmas.{best_from_unmoved}
-use Rattle.tn_market.specs.declared.ends.Ends.{Ends}
-use Rattle.tn_market.specs.Network.{own, part, IsNetwork}
+use Rattle.tn_plain_data.specs.declared.ends.Ends.{Ends}
+use Rattle.tn_plain_data.specs.Network.{own, part, IsNetwork}
 use Rattle.tn_market.specs.Graph.{loss, exchange_arc, ArePossible}
 use Rattle.tn_market.specs.ArcPlaces.{node_at, AreArcPlaces}
 use Rattle.tn_market.proofs.GraphLemmas.{node_at-trade, node_at-null, arc_at, arc_from}

@@ -8,12 +8,12 @@ use Rattle.tn_base.specs.Sets.{has, toggle, set_of, sum_over}
 use Rattle.tn_base.specs.Firm.{Firm, payments}
 use Rattle.tn_base.proofs.SetLemmas.{has-set_of, has-toggle_same, has-toggle_other, has-zero}
 use Rattle.tn_base.proofs.SumLemmas.{sum_over-same, sum_over-empty, sum_over-toggle_in, sum_over-plus, sum_over-same_terms}
-use Rattle.tn_market.specs.declared.ends.Ends.{Ends}
-use Rattle.tn_market.specs.declared.contract.Contract.{Contract}
-use Rattle.tn_market.specs.Network.{own, stands_at, IsNetwork}
+use Rattle.tn_plain_data.specs.declared.ends.Ends.{Ends}
+use Rattle.tn_plain_data.specs.declared.contract.Contract.{Contract}
+use Rattle.tn_plain_data.specs.Network.{own, stands_at, IsNetwork}
 use Rattle.tn_market.specs.Equilibrium.{prices_at}
-use Rattle.tn_market.specs.Choices.{is_end, is_of, paid_to, paid_by, payment, is_traded, bundle_by, IsPart}
-use Rattle.tn_market.proofs.MarketLemmas.{own_stands}
+use Rattle.tn_plain_data.specs.Choices.{is_end, is_of, paid_to, paid_by, payment, is_traded, bundle_by, IsPart}
+use Rattle.tn_plain_data.proofs.NetworkLemmas.{own_stands}
 use Rattle.tn_market.proofs.GraphLemmas.{IsEnd, seller_end, buyer_end, same_firm}
 
 -- ---- what a contract pays

@@ -5,9 +5,9 @@ use Rattle.std.proofs.lemmas.List.{length-map}
 use Rattle.std.proofs.lemmas.List.Elements.{All-contains}
 use Rattle.std.proofs.lemmas.Option.{get_or_from_slice_get, same_Some, slice_get-get_or, slice_get-map, slice_get_within}
 use Rattle.tn_base.specs.Sets.{has}
-use Rattle.tn_market.specs.declared.contract.Contract.{Contract}
-use Rattle.tn_market.specs.Choices.{counted, together, contracts_of}
-use Rattle.tn_market.proofs.ContractLemmas.{contracts_are, contracts_ascend, contracts_have, contracts_increase}
+use Rattle.tn_plain_data.specs.declared.contract.Contract.{Contract}
+use Rattle.tn_plain_data.specs.Choices.{counted, together, contracts_of}
+use Rattle.tn_plain_data.proofs.ContractLemmas.{contracts_are, contracts_ascend, contracts_have, contracts_increase}
 
 -- ---- two lists in a row
 

@@ -14,8 +14,8 @@ use Rattle.tn_law.specs.Places.{trade_level}
 use Rattle.tn_law.specs.Ordered.{shifted}
 use Rattle.tn_law.proofs.KeepLemmas.{meets-plus_sum, option_map-some}
 use Rattle.tn_law.proofs.FavourLemmas.{IsFavoured, Favours, favoured_best}
-use Rattle.tn_market.specs.declared.ends.Ends.{Ends}
-use Rattle.tn_market.specs.Network.{own, part, IsNetwork}
+use Rattle.tn_plain_data.specs.declared.ends.Ends.{Ends}
+use Rattle.tn_plain_data.specs.Network.{own, part, IsNetwork}
 use Rattle.tn_market.specs.Equilibrium.{prices_at, IsEquilibrium}
 use Rattle.tn_market.specs.Graph.{exchange_arc, ArePossible}
 use Rattle.tn_market.proofs.GraphLemmas.{arc_within, has-part}

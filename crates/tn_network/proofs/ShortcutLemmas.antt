@@ -14,8 +14,8 @@ use Rattle.tn_law.specs.Ordered.{Shift, shifted, IsTight, IsBefore, AreOrdered}
 use Rattle.tn_law.proofs.KeepLemmas.{meets-plus_sum}
 use Rattle.tn_law.proofs.ExchangeLemmas.{exchange_to_places}
 use Rattle.tn_law.proofs.OrderedLemmas.{ordered_keep_best, through_null}
-use Rattle.tn_market.specs.declared.ends.Ends.{Ends}
-use Rattle.tn_market.specs.Network.{part}
+use Rattle.tn_plain_data.specs.declared.ends.Ends.{Ends}
+use Rattle.tn_plain_data.specs.Network.{part}
 use Rattle.tn_market.specs.ArcPlaces.{node_at, AreArcPlaces}
 use Rattle.tn_market.proofs.GraphLemmas.{node_at-null}
 use Rattle.tn_network.proofs.LegLemmas.{Setting, AtFirm, place_price, priced, Leg, IsLeg, IsTightPath, path-joined, path_parts, leg_tight, shift_leg}

@@ -10,12 +10,12 @@ use Rattle.tn_base.specs.Firm.{Firm, payments}
 use Rattle.tn_base.proofs.ExchangeLemmas.{cases_worth}
 use Rattle.tn_base.proofs.SetLemmas.{same_set, has-set_of, set_of_within}
 use Rattle.tn_base.proofs.SumLemmas.{times-plus, sum_over-times, sum_over-same_terms}
-use Rattle.tn_market.specs.declared.ends.Ends.{Ends}
-use Rattle.tn_market.specs.declared.contract.Contract.{Contract}
-use Rattle.tn_market.specs.Network.{own, part, stands_at, IsNetwork}
+use Rattle.tn_plain_data.specs.declared.ends.Ends.{Ends}
+use Rattle.tn_plain_data.specs.declared.contract.Contract.{Contract}
+use Rattle.tn_plain_data.specs.Network.{own, part, stands_at, IsNetwork}
 use Rattle.tn_market.specs.Equilibrium.{prices_at}
-use Rattle.tn_market.specs.Choices.{is_end, is_of, paid_to, paid_by, is_traded, bundle_by, part_utility, IsPart, IsChoice}
-use Rattle.tn_market.proofs.MarketLemmas.{own_stands}
+use Rattle.tn_plain_data.specs.Choices.{is_end, is_of, paid_to, paid_by, is_traded, bundle_by, part_utility, IsPart, IsChoice}
+use Rattle.tn_plain_data.proofs.NetworkLemmas.{own_stands}
 use Rattle.tn_network.proofs.SumLemmas.{sum_to, sum_to-same, sum_to-zero}
 use Rattle.tn_network.proofs.WelfareLemmas.{sum_over-sum_to}
 use Rattle.tn_network.proofs.PoolLemmas.{IsPool}

@@ -17,8 +17,8 @@ use Rattle.tn_law.proofs.PlaceLemmas.{level-trade, toggle_at-trade, toggle_at-nu
 use Rattle.tn_law.proofs.KeepLemmas.{has-toggle_at, option_map-some, meets-plus_sum}
 use Rattle.tn_law.proofs.ExchangeLemmas.{exchange_to_places}
 use Rattle.tn_law.proofs.LocalLemmas.{IsUnmoved, best_from_unmoved}
-use Rattle.tn_market.specs.declared.ends.Ends.{Ends}
-use Rattle.tn_market.specs.Network.{own, part, IsNetwork}
+use Rattle.tn_plain_data.specs.declared.ends.Ends.{Ends}
+use Rattle.tn_plain_data.specs.Network.{own, part, IsNetwork}
 use Rattle.tn_market.specs.Equilibrium.{prices_at, HasBest, IsEquilibrium}
 use Rattle.tn_market.specs.Graph.{loss, exchange_arc, ArePossible}
 use Rattle.tn_market.specs.ArcPlaces.{node_at, AreArcPlaces}

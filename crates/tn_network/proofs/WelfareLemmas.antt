@@ -10,8 +10,8 @@ use Rattle.tn_base.specs.Firm.{Firm, payments}
 use Rattle.tn_base.proofs.SetLemmas.{has-set_of}
 use Rattle.tn_base.proofs.SumLemmas.{times-plus}
 use Rattle.tn_law.proofs.KeepLemmas.{option_map-some, times-le}
-use Rattle.tn_market.specs.declared.ends.Ends.{Ends}
-use Rattle.tn_market.specs.Network.{own, part, stands_at, IsNetwork}
+use Rattle.tn_plain_data.specs.declared.ends.Ends.{Ends}
+use Rattle.tn_plain_data.specs.Network.{own, part, stands_at, IsNetwork}
 use Rattle.tn_market.specs.Equilibrium.{prices_at, HasBest, IsEquilibrium, surplus_from, IsEfficient}
 use Rattle.tn_network.proofs.SumLemmas.{sum_to, sum_to-same, AllFrom, all_from, all_at, sum_list, sum_list-same, sum_list-none, over_all, over_all-plus, over_all-zero, placed_at, over_all-placed}
 

@@ -11,8 +11,8 @@ use Rattle.tn_base.specs.Firm.{Firm, MayAbstain, payments}
 use Rattle.tn_base.specs.Walks.{walk_cost, Avoids}
 use Rattle.tn_base.proofs.SumLemmas.{sum_over-empty}
 use Rattle.tn_law.specs.Places.{trade_level}
-use Rattle.tn_market.specs.declared.ends.Ends.{Ends}
-use Rattle.tn_market.specs.Network.{own, part, IsNetwork}
+use Rattle.tn_plain_data.specs.declared.ends.Ends.{Ends}
+use Rattle.tn_plain_data.specs.Network.{own, part, IsNetwork}
 use Rattle.tn_market.specs.Equilibrium.{prices_at}
 use Rattle.tn_market.specs.Graph.{exchange_arc, raised, lowered, ArePossible}
 use Rattle.tn_market.proofs.GraphLemmas.{has-part, raised_own, lowered_own, buyer_end}

@@ -3,8 +3,8 @@ use Rattle.std.specs.Prelude.{◌≡◌, ℕ, ◌<◌, ℤ, List, ◌∷◌, len
 use Rattle.tn_base.specs.Sets.{has, toggle}
 use Rattle.tn_base.specs.Firm.{Firm, MayAbstain}
 use Rattle.tn_base.specs.Walks.{walk_cost, Avoids, IsLeastCycle}
-use Rattle.tn_market.specs.declared.ends.Ends.{Ends}
-use Rattle.tn_market.specs.Network.{IsNetwork}
+use Rattle.tn_plain_data.specs.declared.ends.Ends.{Ends}
+use Rattle.tn_plain_data.specs.Network.{IsNetwork}
 use Rattle.tn_network.specs.Laws.{MeetExchange}
 use Rattle.tn_network.specs.Along.{along}
 use Rattle.tn_network.specs.Kept.{IsKept}

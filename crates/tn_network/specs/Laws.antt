@@ -3,12 +3,12 @@ use Rattle.std.specs.Prelude.{◌≡◌, ℕ, ℤ, pos, ◌-ℤ◌, ◌≤ℤ◌
 use Rattle.tn_base.specs.Firm.{Firm, HasOwnBundles}
 use Rattle.tn_base.specs.Exchange.{MeetsExchange}
 use Rattle.tn_base.specs.Walks.{walk_cost, KeepsArcs}
-use Rattle.tn_market.specs.declared.ends.Ends.{Ends}
-use Rattle.tn_market.specs.Network.{IsNetwork}
+use Rattle.tn_plain_data.specs.declared.ends.Ends.{Ends}
+use Rattle.tn_plain_data.specs.Network.{IsNetwork}
 use Rattle.tn_market.specs.Equilibrium.{IsEquilibrium, IsEfficient}
 use Rattle.tn_market.specs.Graph.{exchange_arc, ArePossible}
-use Rattle.tn_market.specs.declared.contract.Contract.{Contract}
-use Rattle.tn_market.specs.Choices.{contracts_of, Blocks}
+use Rattle.tn_plain_data.specs.declared.contract.Contract.{Contract}
+use Rattle.tn_plain_data.specs.Choices.{contracts_of, Blocks}
 
 -- each firm has bundles of own trades alone, and meets exchange
 abbrev pub MeetExchange : List Firm → Type 0

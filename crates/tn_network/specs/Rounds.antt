@@ -3,8 +3,8 @@ use Rattle.std.specs.Prelude.{◌≡◌, ℕ, ◌<◌, ℤ, pos, ◌-ℤ◌, ◌
 use Rattle.tn_base.specs.Sets.{has, toggle}
 use Rattle.tn_base.specs.Firm.{Firm, MayAbstain}
 use Rattle.tn_base.specs.Walks.{arcs_among, is_admitted, is_looked_at, CyclesCostAtLeast, IsLeastCycle, KeepsArcs}
-use Rattle.tn_market.specs.declared.ends.Ends.{Ends}
-use Rattle.tn_market.specs.Network.{IsNetwork}
+use Rattle.tn_plain_data.specs.declared.ends.Ends.{Ends}
+use Rattle.tn_plain_data.specs.Network.{IsNetwork}
 use Rattle.tn_market.specs.Equilibrium.{IsEquilibrium}
 use Rattle.tn_market.specs.Admitted.{admitted}
 use Rattle.tn_market.specs.Graph.{exchange_arc}

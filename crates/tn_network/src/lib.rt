@@ -1,5 +1,5 @@
-//! The laws of trading networks, over all networks of firms that meet exchange. Each law is the contract of a function
-//! with an empty body: calling it proves nothing more, and costs nothing.
+//! Laws of networks: efficient, stable, prices and arcs, how far prices go, one cycle for each trade.
+//! Each law is the contract of a function with an empty body: calling it proves nothing more, and costs nothing.
 #![tactic(auto)]
 
 mod bounds;

@@ -7,9 +7,9 @@ use Rattle.tn_base.proofs.SetLemmas.{has-minus, has-zero, has-toggle_same}
 use Rattle.tn_law.specs.Places.{toggle_at, move}
 use Rattle.tn_law.proofs.PlaceLemmas.{toggle_at-trade}
 use Rattle.tn_law.proofs.KeepLemmas.{has-toggle_at}
-use Rattle.tn_market.specs.declared.ends.Ends.{Ends}
-use Rattle.tn_market.specs.declared.contract.Contract.{Contract}
-use Rattle.tn_market.specs.Network.{own, part, IsNetwork}
+use Rattle.tn_plain_data.specs.declared.ends.Ends.{Ends}
+use Rattle.tn_plain_data.specs.declared.contract.Contract.{Contract}
+use Rattle.tn_plain_data.specs.Network.{own, part, IsNetwork}
 use Rattle.tn_market.specs.ArcPlaces.{node_at}
 use Rattle.tn_market.specs.Equilibrium.{prices_at}
 use Rattle.tn_market.specs.Signed.{is_signed, signed_price, signed_bundle}

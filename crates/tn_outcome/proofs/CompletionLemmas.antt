@@ -12,9 +12,9 @@ use Rattle.tn_base.proofs.SetLemmas.{same_below, has-zero, set_of_within}
 use Rattle.tn_law.proofs.KeepLemmas.{option_map-some, meets-plus_sum}
 use Rattle.tn_law.proofs.LabelLemmas.{numbers_keep_arcs}
 use Rattle.tn_law.proofs.LocalLemmas.{IsUnmoved}
-use Rattle.tn_market.specs.declared.ends.Ends.{Ends}
-use Rattle.tn_market.specs.declared.contract.Contract.{Contract}
-use Rattle.tn_market.specs.Network.{own, part, IsNetwork}
+use Rattle.tn_plain_data.specs.declared.ends.Ends.{Ends}
+use Rattle.tn_plain_data.specs.declared.contract.Contract.{Contract}
+use Rattle.tn_plain_data.specs.Network.{own, part, IsNetwork}
 use Rattle.tn_market.specs.Equilibrium.{prices_at, HasBest}
 use Rattle.tn_market.specs.Graph.{exchange_arc}
 use Rattle.tn_market.specs.Signed.{is_signed, signed_price, signed_bundle, Completes}

@@ -11,9 +11,9 @@ use Rattle.tn_base.specs.Walks.{arcs_among, is_admitted, KeepsArcs}
 use Rattle.tn_base.proofs.SetLemmas.{has-zero}
 use Rattle.tn_law.proofs.KeepLemmas.{meets-among}
 use Rattle.tn_law.proofs.LocalLemmas.{IsUnmoved}
-use Rattle.tn_market.specs.declared.ends.Ends.{Ends}
-use Rattle.tn_market.specs.declared.contract.Contract.{Contract}
-use Rattle.tn_market.specs.Network.{part, IsNetwork}
+use Rattle.tn_plain_data.specs.declared.ends.Ends.{Ends}
+use Rattle.tn_plain_data.specs.declared.contract.Contract.{Contract}
+use Rattle.tn_plain_data.specs.Network.{part, IsNetwork}
 use Rattle.tn_market.specs.Best.{IsSubset}
 use Rattle.tn_market.specs.Equilibrium.{HasBest, IsEquilibrium, surplus_from, IsEfficient}
 use Rattle.tn_market.specs.Admitted.{admitted_from, admitted}

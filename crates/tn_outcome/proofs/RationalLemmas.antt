@@ -7,11 +7,11 @@ use Rattle.std.proofs.lemmas.Option.{slice_get_within}
 use Rattle.tn_base.specs.Sets.{has, set_of, sum_over}
 use Rattle.tn_base.specs.Firm.{Firm}
 use Rattle.tn_base.proofs.SetLemmas.{same_below, has-set_of, has-union, has-zero, has_below, set_of_within, within_from}
-use Rattle.tn_market.specs.declared.ends.Ends.{Ends}
-use Rattle.tn_market.specs.declared.contract.Contract.{Contract}
-use Rattle.tn_market.specs.Network.{own, IsNetwork}
+use Rattle.tn_plain_data.specs.declared.ends.Ends.{Ends}
+use Rattle.tn_plain_data.specs.declared.contract.Contract.{Contract}
+use Rattle.tn_plain_data.specs.Network.{own, IsNetwork}
 use Rattle.tn_market.specs.Best.{IsSubset, IsBetween, IsBestBetween}
-use Rattle.tn_market.specs.Choices.{is_of, paid_to, paid_by, payment, is_traded, bundle_by, part_utility, own_part, IsFeasible, IsPart, IsChoice, IsIndividuallyRational}
+use Rattle.tn_plain_data.specs.Choices.{is_of, paid_to, paid_by, payment, is_traded, bundle_by, part_utility, own_part, IsFeasible, IsPart, IsChoice, IsIndividuallyRational}
 use Rattle.tn_market.specs.Signed.{is_signed, signed, signed_price, signed_bundle, contract_utility, HaveBestSigned}
 use Rattle.tn_network.proofs.PartLemmas.{at_place, at_place-is, at_place-none, gain_by, own_once, traded_at, traded_by, part_paid}
 use Rattle.tn_network.proofs.StabilityLemmas.{no_gains, own_is_of}

@@ -7,8 +7,8 @@ use Rattle.tn_base.specs.Sets.{has, meet, minus}
 use Rattle.tn_base.specs.Firm.{Firm, HasOwnBundles, plus_sum, payments}
 use Rattle.tn_base.proofs.SetLemmas.{same_set, has-meet, has-minus, has-union, has-zero}
 use Rattle.tn_base.proofs.ExchangeLemmas.{cases_worth}
-use Rattle.tn_market.specs.declared.ends.Ends.{Ends}
-use Rattle.tn_market.specs.declared.contract.Contract.{Contract}
+use Rattle.tn_plain_data.specs.declared.ends.Ends.{Ends}
+use Rattle.tn_plain_data.specs.declared.contract.Contract.{Contract}
 use Rattle.tn_market.specs.Best.{IsBetween, GivesBest}
 use Rattle.tn_market.specs.Equilibrium.{prices_at}
 use Rattle.tn_market.specs.Signed.{signed_price, signed_bundle}

@@ -3,11 +3,11 @@ use Rattle.std.specs.Prelude.{◌≡◌, ℕ, ◌<◌, ◌≤◌, ℤ, ◌-ℤ�
 use Rattle.tn_base.specs.Sets.{meet}
 use Rattle.tn_base.specs.Firm.{Firm, HasOwnBundles}
 use Rattle.tn_base.specs.Walks.{arcs_among, is_admitted, HasNoNegativeCycle, KeepsArcs}
-use Rattle.tn_market.specs.declared.ends.Ends.{Ends}
-use Rattle.tn_market.specs.declared.contract.Contract.{Contract}
-use Rattle.tn_market.specs.Network.{IsNetwork}
+use Rattle.tn_plain_data.specs.declared.ends.Ends.{Ends}
+use Rattle.tn_plain_data.specs.declared.contract.Contract.{Contract}
+use Rattle.tn_plain_data.specs.Network.{IsNetwork}
 use Rattle.tn_market.specs.Best.{IsSubset}
-use Rattle.tn_market.specs.Choices.{IsFeasible, IsIndividuallyRational}
+use Rattle.tn_plain_data.specs.Choices.{IsFeasible, IsIndividuallyRational}
 use Rattle.tn_market.specs.Equilibrium.{surplus_of}
 use Rattle.tn_market.specs.Signed.{is_signed, signed_price, signed_bundle, HaveBestSigned, Completes}
 use Rattle.tn_market.specs.Reduced.{reduced, reduced_firms, reduced_arc, IsReducedWorth}

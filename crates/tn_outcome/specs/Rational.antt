@@ -1,10 +1,10 @@
 -- Outcomes that no firm would rather drop a part of.
 use Rattle.std.specs.Prelude.{ℤ, pos, ◌≤ℤ◌, List}
 use Rattle.tn_base.specs.Firm.{Firm}
-use Rattle.tn_market.specs.declared.ends.Ends.{Ends}
-use Rattle.tn_market.specs.declared.contract.Contract.{Contract}
-use Rattle.tn_market.specs.Network.{IsNetwork}
-use Rattle.tn_market.specs.Choices.{IsFeasible, IsIndividuallyRational}
+use Rattle.tn_plain_data.specs.declared.ends.Ends.{Ends}
+use Rattle.tn_plain_data.specs.declared.contract.Contract.{Contract}
+use Rattle.tn_plain_data.specs.Network.{IsNetwork}
+use Rattle.tn_plain_data.specs.Choices.{IsFeasible, IsIndividuallyRational}
 use Rattle.tn_network.specs.Laws.{MeetExchange}
 
 -- contracts over a denominator of at least 1 that firms which meet exchange can sign together, and that are individually

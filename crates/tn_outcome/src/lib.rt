@@ -1,6 +1,5 @@
-//! The laws of outcomes: contracts over one denominator that firms of a trading network have signed. When prices for all
-//! trades complete an outcome, and what its unsigned trades can be worth beside its contracts. Each law is the contract
-//! of a function with an empty body: calling it proves nothing more, and costs nothing.
+//! Laws of outcomes: which are individually rational, which prices complete, and what reduced worths are.
+//! Each law is the contract of a function with an empty body: calling it proves nothing more, and costs nothing.
 #![tactic(auto)]
 
 mod completion;

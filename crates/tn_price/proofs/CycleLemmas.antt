@@ -7,8 +7,8 @@ use Rattle.std.proofs.Math.Nat.{mul-le-mul_right}
 use Rattle.std.proofs.lemmas.List.Elements.{All-head, All-tail, All-cons, All-nil}
 use Rattle.tn_base.specs.Arcs.{AreBetweenNodes, IsAtMost}
 use Rattle.tn_base.specs.Firm.{Firm}
-use Rattle.tn_market.specs.declared.ends.Ends.{Ends}
-use Rattle.tn_market.specs.Network.{IsNetwork}
+use Rattle.tn_plain_data.specs.declared.ends.Ends.{Ends}
+use Rattle.tn_plain_data.specs.Network.{IsNetwork}
 use Rattle.tn_market.specs.Graph.{exchange_arc}
 use Rattle.tn_market.specs.Valued.{IsWorthAtMost}
 use Rattle.tn_market.specs.Supported.{IsNegativeCycle, said_node}

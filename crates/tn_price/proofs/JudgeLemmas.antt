@@ -15,13 +15,13 @@ use Rattle.tn_base.specs.Arcs.{IsAtMost}
 use Rattle.tn_base.specs.Firm.{Firm, payments, utility, IsBest}
 use Rattle.tn_base.proofs.SetLemmas.{set_of_within}
 use Rattle.tn_base.proofs.SumLemmas.{sum_over-same_terms}
-use Rattle.tn_market.specs.declared.ends.Ends.{Ends}
-use Rattle.tn_market.specs.Best.{price_at}
-use Rattle.tn_market.specs.Network.{own, part}
+use Rattle.tn_plain_data.specs.declared.ends.Ends.{Ends}
+use Rattle.tn_plain_data.specs.Prices.{price_at}
+use Rattle.tn_plain_data.specs.Network.{own, part}
 use Rattle.tn_market.specs.Equilibrium.{prices_at, utility_at, HasBest, IsEquilibrium, surplus_from, surplus_of}
 use Rattle.tn_market.specs.Judged.{AreBestBefore, IsFirstImpossible, IsFirstBettered}
-use Rattle.tn_price.specs.declared.standing.Standing.{Standing}
-use Rattle.tn_price.specs.declared.standing.Standing.TheVariants.{Best, Impossible, Bettered}
+use Rattle.tn_price.specs.declared.firm_verdict.FirmVerdict.{FirmVerdict}
+use Rattle.tn_price.specs.declared.firm_verdict.FirmVerdict.TheVariants.{Best, Impossible, Bettered}
 use Rattle.tn_price.specs.Standings.{IsBestWorth, Stands, StandsAt, AreOwnPrices}
 use Rattle.tn_price.proofs.SurplusLemmas.{sum_more}
 
@@ -82,7 +82,7 @@ utility_there trades scale prices f n list firm counted listed =
 best-same : (value_of other_of : ℕ → Option ℤ) → ((x : ℕ) → value_of x ≡ other_of x) → (x : ℕ) (value : ℤ) → IsBest value_of x value → IsBest other_of x value
 best-same value_of other_of same x value best = record { is = sym (same x) ∙ best.is; most = λ y other is. best.most y other (same y ∙ is) }
 
-stands-same : (worth value_of other_of : ℕ → Option ℤ) → ((x : ℕ) → value_of x ≡ other_of x) → (x : ℕ) (standing : Standing)
+stands-same : (worth value_of other_of : ℕ → Option ℤ) → ((x : ℕ) → value_of x ≡ other_of x) → (x : ℕ) (standing : FirmVerdict)
     → Stands worth value_of x standing → Stands worth other_of x standing
 stands-same worth value_of other_of same x (Best amount) stands = record {
   worth_is = stands.worth_is;
@@ -106,7 +106,7 @@ firm_is firm_of firms f v is = slice_get-map firm_of firms f ∙ ap (option_map 
 
 -- how a firm stands at the prices that are listed for it is how it stands in the arrangement
 pub stands_there : {V : Type 0} (firm_of : V → Firm) (firms : List V) (trades : List Ends) (scale : ℤ) (on : ℕ) (prices : ℕ → ℤ) (f n own : ℕ) (list : List ℤ)
-    (standing : Standing) (v : V) → slice_get firms f ≡ Some v → n ≡ (firm_of v).count → own ≡ part trades f (firm_of v).count on
+    (standing : FirmVerdict) (v : V) → slice_get firms f ≡ Some v → n ≡ (firm_of v).count → own ≡ part trades f (firm_of v).count on
     → AreOwnPrices trades prices f n list → Stands (firm_of v).worth (utility scale (price_at (take n list)) (firm_of v)) own standing
     → StandsAt (map firm_of firms) trades scale on prices f standing
 stands_there firm_of firms trades scale on prices f n own list standing v is counted own_is listed stands = λ firm there.

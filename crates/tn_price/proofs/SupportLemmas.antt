@@ -6,13 +6,14 @@ use Rattle.std.proofs.lemmas.List.{get_or_default}
 use Rattle.tn_base.specs.Arcs.{IsAtMost}
 use Rattle.tn_base.specs.Firm.{Firm}
 use Rattle.tn_base.proofs.WalkLemmas.{walk-same}
-use Rattle.tn_market.specs.declared.ends.Ends.{Ends}
-use Rattle.tn_market.specs.Network.{part, IsNetwork}
-use Rattle.tn_market.specs.Best.{price_at}
+use Rattle.tn_plain_data.specs.declared.ends.Ends.{Ends}
+use Rattle.tn_plain_data.specs.Network.{part, IsNetwork}
+use Rattle.tn_plain_data.specs.Prices.{price_at}
 use Rattle.tn_market.specs.Graph.{exchange_arc, ArePossible, graph_worths}
 use Rattle.tn_market.specs.Valued.{IsWorthAtMost}
 use Rattle.tn_market.specs.Supported.{AreSupports, IsFirstUnable, IsNegativeCycle, said_node}
-use Rattle.tn_graph.specs.Matrix.{Matrix, arcs_of, arcs_of-small}
+use Rattle.tn_graph.specs.Matrix.{Matrix, arcs_of}
+use Rattle.tn_graph.specs.MatrixLemmas.{arcs_of-small}
 use Rattle.tn_graph.specs.Reading.{IsExchangeGraph}
 use Rattle.tn_cycle.specs.Answers.{AreLabels, BeginsWell, IsNegative, label_in}
 use Rattle.tn_cycle.proofs.DifferenceLemmas.{labels-same, label_small, difference_within}

@@ -10,8 +10,8 @@ use mir.Val.{SFits}
 use Rattle.tn_base.specs.Arcs.{IsAtMost}
 use Rattle.tn_base.specs.Firm.{Firm}
 use Rattle.tn_law.proofs.KeepLemmas.{option_map-some}
-use Rattle.tn_market.specs.declared.ends.Ends.{Ends}
-use Rattle.tn_market.specs.Network.{part}
+use Rattle.tn_plain_data.specs.declared.ends.Ends.{Ends}
+use Rattle.tn_plain_data.specs.Network.{part}
 use Rattle.tn_market.specs.Equilibrium.{surplus_from, surplus_of}
 
 surplus_from-append : (trades : List Ends) (on s : ℕ) (firms : List Firm) (firm : Firm) (f : ℕ) (a b : ℤ) → f ≡ s + length firms

@@ -2,12 +2,12 @@
 use Rattle.std.specs.Prelude.{◌≡◌, ℕ, ◌^◌, ◌<◌, ℤ, pos, ◌-ℤ◌, ◌<ℤ◌, List, length, slice_get, All, Option, Some, None}
 use Rattle.tn_base.specs.Arcs.{IsAtMost}
 use Rattle.tn_base.specs.Firm.{Firm, IsBest}
-use Rattle.tn_market.specs.declared.ends.Ends.{Ends}
-use Rattle.tn_market.specs.Best.{price_at}
-use Rattle.tn_market.specs.Network.{part}
+use Rattle.tn_plain_data.specs.declared.ends.Ends.{Ends}
+use Rattle.tn_plain_data.specs.Prices.{price_at}
+use Rattle.tn_plain_data.specs.Network.{part}
 use Rattle.tn_market.specs.Equilibrium.{prices_at, utility_at}
-use Rattle.tn_price.specs.declared.standing.Standing.{Standing}
-use Rattle.tn_price.specs.declared.standing.Standing.TheVariants.{Best, Impossible, Bettered}
+use Rattle.tn_price.specs.declared.firm_verdict.FirmVerdict.{FirmVerdict}
+use Rattle.tn_price.specs.declared.firm_verdict.FirmVerdict.TheVariants.{Best, Impossible, Bettered}
 
 -- x is possible, and y is a best bundle that has more by the gain
 pub record IsBettered (value_of : ℕ → Option ℤ) (x y : ℕ) (gain : ℤ) : Type 0 where
@@ -25,13 +25,13 @@ pub record IsBestWorth (worth value_of : ℕ → Option ℤ) (x : ℕ) (amount :
   pub value : ℤ
   pub best : IsBest value_of x value
 
-abbrev pub Stands : (ℕ → Option ℤ) → (ℕ → Option ℤ) → ℕ → Standing → Type 0
+abbrev pub Stands : (ℕ → Option ℤ) → (ℕ → Option ℤ) → ℕ → FirmVerdict → Type 0
 Stands worth value_of x (Best amount) = IsBestWorth worth value_of x amount
 Stands worth value_of x Impossible = worth x ≡ None
 Stands worth value_of x (Bettered y gain) = IsBettered value_of x y gain
 
 -- how firm f stands in an arrangement
-abbrev pub StandsAt : List Firm → List Ends → ℤ → ℕ → (ℕ → ℤ) → ℕ → Standing → Type 0
+abbrev pub StandsAt : List Firm → List Ends → ℤ → ℕ → (ℕ → ℤ) → ℕ → FirmVerdict → Type 0
 StandsAt firms trades scale on prices f standing = (firm : Firm) → slice_get firms f ≡ Some firm
     → Stands firm.worth (utility_at trades scale prices f firm) (part trades f firm.count on) standing
 

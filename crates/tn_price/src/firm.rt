@@ -4,10 +4,10 @@ ghost use Rattle.std.specs.Prelude.{◌≡◌, ◌^◌, ◌*◌, ◌+◌, ◌<�
 ghost use Rattle.tn_base.specs.Arcs.{IsAtMost};
 ghost use Rattle.tn_base.specs.Sets.{set_of};
 ghost use Rattle.tn_base.specs.Firm.{utility, IsBest};
-ghost use Rattle.tn_market.specs.Best.{price_at};
+ghost use Rattle.tn_plain_data.specs.Prices.{price_at};
 ghost use Rattle.tn_price.specs.Standings.{Stands};
 
-use crate::standing::Standing;
+use crate::firm_verdict::FirmVerdict;
 use tn_base::Bundle;
 use tn_market::{Oracle, Room, utility_of, worth_of};
 
@@ -47,7 +47,7 @@ pub fn standing<V: Oracle>(
     scale: i128,
     prices: &[i128],
     room: &mut Room,
-) -> Standing
+) -> FirmVerdict
     requires own { own < 2 ^ (V.firm firm.now).count }
     requires priced { length prices.now ≡ (V.firm firm.now).count }
     requires small_prices { All (λ p. IsAtMost p (10 ^ 20)) prices.now }
@@ -58,11 +58,11 @@ pub fn standing<V: Oracle>(
     ensures { Stands (V.firm firm.now).worth (utility scale (price_at prices.now) (V.firm firm.now)) own result }
 {
     let Some(value) = utility_of(firm, own, scale, prices, room) else {
-        return Standing::Impossible;
+        return FirmVerdict::Impossible;
     };
     let (bundle, most) = greatest(firm, scale, prices, room);
     if value < most {
-        return Standing::Bettered(bundle, most - value);
+        return FirmVerdict::Bettered(bundle, most - value);
     }
-    Standing::Best(worth_of(firm, own, room).unwrap())
+    FirmVerdict::Best(worth_of(firm, own, room).unwrap())
 }

@@ -1,12 +1,12 @@
 ghost use Rattle.std.specs.Prelude.{◌≡◌, ℕ, ◌^◌, ◌*◌, ◌<◌, ◌≤◌, Some, pos, ◌≤ℤ◌, length, map, slice_get, All};
 ghost use Rattle.tn_base.specs.Arcs.{IsAtMost};
-ghost use Rattle.tn_market.specs.Best.{price_at};
+ghost use Rattle.tn_plain_data.specs.Prices.{price_at};
 ghost use Rattle.tn_price.specs.Checks.{Checks};
 ghost use Rattle.tn_price.specs.Standings.{AreOwnPrices, StandsAt};
 
 use crate::check::Check;
 use crate::firm::standing;
-use crate::standing::Standing;
+use crate::firm_verdict::FirmVerdict;
 use tn_base::TradeSet;
 use tn_market::{Arrangement, MOST_OWN, Market, Oracle, Prices, Room, Valuation};
 
@@ -39,7 +39,7 @@ fn standing_of<V: Oracle, const W: usize>(
     over: i128,
     f: u32,
     room: &mut Room,
-) -> Standing
+) -> FirmVerdict
     requires width { W ≤ 16 }
     requires wide { length market.now.trades ≤ 64 * W }
     requires priced { length prices.now ≡ length market.now.trades }
@@ -81,9 +81,9 @@ pub fn judge_at<V: Oracle, const W: usize>(
     let mut surplus = 0;
     for f in 0..market.firms() {
         match standing_of(market, on, prices, over, f, room) {
-            Standing::Best(worth) => surplus += worth,
-            Standing::Impossible => return Check::Impossible { firm: f },
-            Standing::Bettered(bundle, gain) => {
+            FirmVerdict::Best(worth) => surplus += worth,
+            FirmVerdict::Impossible => return Check::Impossible { firm: f },
+            FirmVerdict::Bettered(bundle, gain) => {
                 return Check::Better {
                     firm: f,
                     bundle,

@@ -1,12 +1,12 @@
-//! The judgement of arrangements, and prices for sets of trades. What an equilibrium is stands in `tn_market`; what is said,
-//! in `specs/`.
+//! Prices judged, and prices found for a set of trades.
+//! What an equilibrium is stands in `tn_market`; what is said of one, in `specs/`.
 #![tactic(auto)]
 
 mod bundle;
 mod check;
 mod firm;
+mod firm_verdict;
 mod judge;
-mod standing;
 mod supported;
 mod supporting;
 mod surplus;

@@ -4,9 +4,9 @@ ghost use Rattle.std.specs.Prelude.{◌≡◌, ℕ, ◌+◌, ◌*◌, ◌≤◌,
 ghost use Rattle.tn_base.specs.Arcs.{IsAtMost};
 ghost use Rattle.tn_base.specs.Firm.{Firm};
 ghost use Rattle.tn_cycle.specs.Answers.{label_in};
-ghost use Rattle.tn_market.specs.Best.{price_at};
+ghost use Rattle.tn_plain_data.specs.Prices.{price_at};
 ghost use Rattle.tn_market.specs.Graph.{graph_worths, ArePossible};
-ghost use Rattle.tn_market.specs.Network.{part};
+ghost use Rattle.tn_plain_data.specs.Network.{part};
 ghost use Rattle.tn_price.specs.Supports.{Supports, FindsUnable, IsPricedWithin};
 
 use crate::supported::Support;

@@ -4,7 +4,7 @@ ghost use Rattle.std.specs.Prelude.{◌≡◌, ◌+◌, ◌*◌, ◌<◌, ◌≤
 ghost use Rattle.tn_base.specs.Arcs.{IsAtMost};
 ghost use Rattle.tn_base.specs.Firm.{Firm};
 ghost use Rattle.tn_market.specs.Equilibrium.{surplus_of};
-ghost use Rattle.tn_market.specs.Network.{part};
+ghost use Rattle.tn_plain_data.specs.Network.{part};
 
 use tn_base::{Steps, TradeSet};
 use tn_market::{Market, Valuation};

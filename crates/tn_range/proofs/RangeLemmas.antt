@@ -9,12 +9,13 @@ use Rattle.tn_base.specs.Arcs.{IsAtMost}
 use Rattle.tn_base.specs.Firm.{Firm}
 use Rattle.tn_base.specs.Walks.{HasNoNegativeCycle}
 use Rattle.tn_base.proofs.WalkLemmas.{none_negative-same}
-use Rattle.tn_market.specs.declared.ends.Ends.{Ends}
-use Rattle.tn_market.specs.declared.range.Range.{Range}
-use Rattle.tn_market.specs.Network.{IsNetwork}
+use Rattle.tn_plain_data.specs.declared.ends.Ends.{Ends}
+use Rattle.tn_plain_data.specs.declared.range.Range.{Range}
+use Rattle.tn_plain_data.specs.Network.{IsNetwork}
 use Rattle.tn_market.specs.Graph.{exchange_arc}
 use Rattle.tn_market.specs.Ranges.{IsSupported, IsPath, ShowsHighest, ShowsLowest, IsRange, AreRanges}
-use Rattle.tn_graph.specs.Matrix.{Matrix, arcs_of, arcs_of-between, arcs_of-small}
+use Rattle.tn_graph.specs.Matrix.{Matrix, arcs_of}
+use Rattle.tn_graph.specs.MatrixLemmas.{arcs_of-between, arcs_of-small}
 use Rattle.tn_graph.specs.Reading.{IsExchangeGraph}
 use Rattle.tn_cycle.specs.Reading.{Reading}
 use Rattle.tn_cycle.specs.Answers.{IsLeastPath, LeadsLeast, distance_in, walk_in}

@@ -1,4 +1,5 @@
-//! The lowest and the highest price of each trade over all equilibria. What they are stands in `tn_market`.
+//! How far each price may move over all equilibria.
+//! What the lowest and the highest price of a trade are stands in `tn_market`.
 #![tactic(auto)]
 
 mod bounds;

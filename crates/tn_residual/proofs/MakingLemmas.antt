@@ -13,15 +13,15 @@ use Rattle.tn_base.specs.Firm.{Firm}
 use Rattle.tn_base.proofs.SetLemmas.{has-set_of}
 use Rattle.tn_law.proofs.BoundLemmas.{abs_small}
 use Rattle.tn_law.proofs.KeepLemmas.{times-le}
-use Rattle.tn_market.specs.declared.ends.Ends.{Ends}
-use Rattle.tn_market.specs.declared.contract.Contract.{Contract}
-use Rattle.tn_market.specs.Network.{own, part}
-use Rattle.tn_market.specs.Choices.{IsFeasible}
+use Rattle.tn_plain_data.specs.declared.ends.Ends.{Ends}
+use Rattle.tn_plain_data.specs.declared.contract.Contract.{Contract}
+use Rattle.tn_plain_data.specs.Network.{own, part}
+use Rattle.tn_plain_data.specs.Choices.{IsFeasible}
 use Rattle.tn_market.specs.Levied.{levied_limit}
 use Rattle.tn_market.specs.Limits.{IsOutcomeOf}
 use Rattle.tn_market.specs.Outside.{outside}
 use Rattle.tn_market.specs.Signed.{is_signed, signed_price}
-use Rattle.tn_market.proofs.ContractLemmas.{contracts_ascend}
+use Rattle.tn_plain_data.proofs.ContractLemmas.{contracts_ascend}
 use Rattle.tn_residual.specs.Held.{contract_price}
 use Rattle.tn_residual.specs.Residual.{unsigned_from, sold_to, bought_from, halves_of, halves_from, unsigned, levied_from, outsides, residual_limit, residual_trades}
 use Rattle.tn_residual.proofs.TradeLemmas.{levied_firm}

@@ -7,16 +7,17 @@ use Rattle.tn_base.specs.Sets.{has, meet, minus, size, sum_over}
 use Rattle.tn_base.specs.Firm.{Firm, HasOwnBundles, payments}
 use Rattle.tn_base.proofs.SetLemmas.{same_below, has-set_of, has-meet, has-minus, set_of_within, minus_within, meet_within}
 use Rattle.tn_base.proofs.SumLemmas.{sum_over-same_terms, sum_over-times, times-plus}
-use Rattle.tn_market.specs.declared.ends.Ends.{Ends}
-use Rattle.tn_market.specs.declared.contract.Contract.{Contract}
-use Rattle.tn_market.specs.Network.{own, part, stands_at, IsNetwork}
-use Rattle.tn_market.specs.Choices.{IsFeasible}
+use Rattle.tn_plain_data.specs.declared.ends.Ends.{Ends}
+use Rattle.tn_plain_data.specs.declared.contract.Contract.{Contract}
+use Rattle.tn_plain_data.specs.Network.{own, part, stands_at, IsNetwork}
+use Rattle.tn_plain_data.specs.Choices.{IsFeasible}
 use Rattle.tn_market.specs.Equilibrium.{prices_at}
 use Rattle.tn_market.specs.Levied.{levy}
-use Rattle.tn_market.specs.Outside.{outside, outside_sum, outside-worth}
+use Rattle.tn_market.specs.Outside.{outside, outside_sum}
+use Rattle.tn_market.specs.OutsideLemmas.{outside-worth}
 use Rattle.tn_market.specs.Signed.{is_signed, signed_price, signed_bundle}
-use Rattle.tn_market.proofs.MarketLemmas.{own_stands}
-use Rattle.tn_market.proofs.NetworkLemmas.{one_trade}
+use Rattle.tn_plain_data.proofs.NetworkLemmas.{own_stands}
+use Rattle.tn_plain_data.proofs.NetworkLemmas.{one_trade}
 use Rattle.tn_market.proofs.GraphLemmas.{has-part}
 use Rattle.tn_market.proofs.LevyLemmas.{levy_is}
 use Rattle.tn_network.proofs.WelfareLemmas.{paid}

@@ -10,15 +10,15 @@ use Rattle.tn_base.proofs.SetLemmas.{same_set, same_below, has-set_of, has-minus
 use Rattle.tn_base.proofs.ExchangeLemmas.{cases_worth}
 use Rattle.tn_base.proofs.SumLemmas.{times-plus}
 use Rattle.tn_law.proofs.KeepLemmas.{option_map-some}
-use Rattle.tn_market.specs.declared.ends.Ends.{Ends}
-use Rattle.tn_market.specs.declared.contract.Contract.{Contract}
-use Rattle.tn_market.specs.Network.{own, part, stands_at}
+use Rattle.tn_plain_data.specs.declared.ends.Ends.{Ends}
+use Rattle.tn_plain_data.specs.declared.contract.Contract.{Contract}
+use Rattle.tn_plain_data.specs.Network.{own, part, stands_at}
 use Rattle.tn_market.specs.Best.{IsSubset}
 use Rattle.tn_market.specs.Equilibrium.{surplus_from, surplus_of}
 use Rattle.tn_market.specs.Signed.{is_signed, signed_bundle}
 use Rattle.tn_market.specs.Reduced.{reduced, reduced_from, reduced_firms}
-use Rattle.tn_market.proofs.MarketLemmas.{own_stands}
-use Rattle.tn_market.proofs.NetworkLemmas.{one_trade}
+use Rattle.tn_plain_data.proofs.NetworkLemmas.{own_stands}
+use Rattle.tn_plain_data.proofs.NetworkLemmas.{one_trade}
 use Rattle.tn_market.proofs.GraphLemmas.{has-part}
 use Rattle.tn_network.proofs.SumLemmas.{sum_list}
 use Rattle.tn_outcome.proofs.AddingLemmas.{adding_one}

@@ -2,10 +2,10 @@
 use Rattle.std.proofs.Common.{◌≡◌, ℕ, zero, suc, ◌+◌, ◌*◌, Bool, true, false, if◌then◌else◌, List, [], ◌∷◌, ◌++◌, length, slice_get, Option, Some, None, option_map, refl, sym, ap, ◌∙◌, arith, inl, inr, ◌⊎◌, ℤ, ◌*ℤ◌}
 use Rattle.std.proofs.lemmas.Option.{same_Some, slice_get-map, slice_get_cases}
 use Rattle.tn_base.specs.Firm.{Firm}
-use Rattle.tn_market.specs.declared.ends.Ends.{Ends}
-use Rattle.tn_market.specs.declared.contract.Contract.{Contract}
-use Rattle.tn_market.specs.Network.{part}
-use Rattle.tn_market.specs.Choices.{IsFeasible}
+use Rattle.tn_plain_data.specs.declared.ends.Ends.{Ends}
+use Rattle.tn_plain_data.specs.declared.contract.Contract.{Contract}
+use Rattle.tn_plain_data.specs.Network.{part}
+use Rattle.tn_plain_data.specs.Choices.{IsFeasible}
 use Rattle.tn_market.specs.Levied.{levied}
 use Rattle.tn_market.specs.Outside.{outside}
 use Rattle.tn_market.specs.Signed.{is_signed}

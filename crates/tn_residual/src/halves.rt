@@ -2,7 +2,7 @@
 
 ghost use Rattle.std.specs.Prelude.{◌≡◌, ◌++◌, ◌<◌, ◌≤◌, All, IfOk, length, map};
 ghost use Rattle.tn_market.specs.Limits.{IsOutcomeOf, IsWithinLimits};
-ghost use Rattle.tn_market.specs.Network.{IsNetwork};
+ghost use Rattle.tn_plain_data.specs.Network.{IsNetwork};
 ghost use Rattle.tn_residual.specs.Residual.{bought_from, halves_from, residual_trades, sold_to, unsigned_from};
 
 use crate::signed::contract_price;

@@ -1,4 +1,4 @@
-//! What the unsigned trades of an outcome are worth to its firms: reduced worths, and the residual market.
+//! What the unsigned trades of an outcome are worth to its firms, and the market that they make.
 #![tactic(auto)]
 
 mod halves;

@@ -3,7 +3,7 @@
 ghost use Rattle.std.specs.Prelude.{◌≡◌, ℕ, ◌++◌, ◌*◌, ◌+◌, ◌^◌, ◌<◌, ◌≤◌, All, IfOk, pos, ◌≤ℤ◌, ◌*ℤ◌, length, map, slice_get, Some};
 ghost use Rattle.tn_base.specs.Arcs.{IsAtMost};
 ghost use Rattle.tn_market.specs.Limits.{IsOutcomeOf, IsWithinLimits};
-ghost use Rattle.tn_market.specs.Network.{part};
+ghost use Rattle.tn_plain_data.specs.Network.{part};
 ghost use Rattle.tn_residual.specs.Residual.{levied_from, outsides, residual_limit, residual_of, unsigned};
 
 use crate::signed::contract_price;

@@ -33,11 +33,11 @@ pub fn reduced_best<V: Oracle>(
     let held = signed_by(market, firm, outcome);
     let firm = market.firm(firm);
     let prices = &held.prices[..firm.trades() as usize];
-    beside(firm.best(x, held.signed, outcome.over, prices, room), x)
+    without(firm.best(x, held.signed, outcome.over, prices, room), x)
 }
 
 /// What a bundle has beside `x`, with its utility.
-fn beside(found: Option<(Bundle, i128)>, x: Bundle) -> Option<(Bundle, i128)>
+fn without(found: Option<(Bundle, i128)>, x: Bundle) -> Option<(Bundle, i128)>
     ensures { result ≡ option_map (λ found. (minus found.0 x, found.1)) found }
 {
     match found {

@@ -6,6 +6,5 @@ pub mod NumberLemmas
 pub mod OwnLemmas
 pub mod ReplayLemmas
 pub mod CaseLemmas
-pub mod ReplayedLemmas
 pub mod HeadlineLemmas
 pub mod StallLemmas

@@ -5,13 +5,13 @@ use Rattle.std.specs.Prelude.{Ok, Err, All, IfOk, IfSome, get_or}
 use Rattle.std.specs.List.Sorted.{IsStrictlyIncreasing}
 use Rattle.std.proofs.lemmas.Option.{slice_get-get_or}
 use Rattle.tn_base.specs.declared.fault.FaultKind.TheVariants.{TooLong}
-use Rattle.tn_market.specs.declared.said.Fault.{Fault as FaultIs}
-use Rattle.tn_market.specs.declared.said.Said.{Said}
-use Rattle.tn_market.specs.declared.said.Said.TheVariants.{Equilibrium, Better, Impossible, Fault, Accepted, ExchangeFails, Supported, Cycle, Solved, Rows, Ranges, Session as SessionIs, Drops, Completes, Blocks}
-use Rattle.tn_market.specs.Best.{price_at}
-use Rattle.tn_market.specs.Network.{trades_on}
+use Rattle.tn_plain_data.specs.declared.said.Fault.{Fault as FaultIs}
+use Rattle.tn_plain_data.specs.declared.said.Said.{Said}
+use Rattle.tn_plain_data.specs.declared.said.Said.TheVariants.{Equilibrium, Better, Impossible, Fault, Accepted, ExchangeFails, Supported, Cycle, Solved, Rows, Ranges, Session as SessionIs, Drops, Completes, Blocks}
+use Rattle.tn_plain_data.specs.Prices.{price_at}
+use Rattle.tn_plain_data.specs.Network.{trades_on}
 use Rattle.tn_market.specs.Judged.{Judges}
-use Rattle.tn_market.proofs.NetworkLemmas.{on_below, on_ascends}
+use Rattle.tn_plain_data.proofs.NetworkLemmas.{on_below, on_ascends}
 use Rattle.tn_answer.specs.Apart.{HasShortNumbers, IsNamedAnswer}
 use Rattle.tn_names.specs.Names.{NameLists}
 use Rattle.tn_names.specs.Named.{IsNamed}
@@ -21,7 +21,7 @@ use Rattle.tn_file.specs.declared.document.DocRefusal.{DocRefusal}
 use Rattle.tn_file.specs.declared.need.Need.{Need}
 use Rattle.tn_file.specs.Document.{DocumentData, ExtraData, arrangement, on_alone, outcome, edits, claim, reading_of}
 use Rattle.tn_file.specs.Laws.{IsDocument, IsExtra}
-use Rattle.tn_listed.specs.Beside.{IsStop}
+use Rattle.tn_read_head.specs.Beside.{IsStop}
 use Rattle.tn_file.specs.Refusal.{Reads}
 use Rattle.tn_file.proofs.DocumentLeads.{documents_are_networks}
 use Rattle.tn_file.proofs.DocumentStops.{faults_are_sayable}
@@ -31,10 +31,10 @@ use Rattle.tn_command.specs.Edited.{TellsStates}
 use Rattle.tn_command.specs.Outcome.{JudgesOutcome}
 use Rattle.tn_command.specs.Ranged.{TellsRanges}
 use Rattle.tn_command.proofs.RangeLemmas.{high_inside, low_inside}
-use Rattle.tn_market.specs.declared.contract.Contract.{Contract}
-use Rattle.tn_market.specs.declared.session.Edit.{Edit}
-use Rattle.tn_market.specs.Choices.{contracts_of}
-use Rattle.tn_market.proofs.ContractLemmas.{contract_trades, contracts_are}
+use Rattle.tn_plain_data.specs.declared.contract.Contract.{Contract}
+use Rattle.tn_plain_data.specs.declared.session.Edit.{Edit}
+use Rattle.tn_plain_data.specs.Choices.{contracts_of}
+use Rattle.tn_plain_data.proofs.ContractLemmas.{contract_trades, contracts_are}
 use Rattle.tn_command.specs.Solved.{Solves, SolvesInRows}
 use Rattle.tn_command.specs.Supported.{SupportsSet}
 use Rattle.tn_run.specs.Tested.{Tests}

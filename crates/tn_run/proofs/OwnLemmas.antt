@@ -8,11 +8,11 @@ use Rattle.tn_cert.specs.Reasons.{IsFirstToFail}
 use Rattle.tn_file.specs.declared.need.Need.{Need}
 use Rattle.tn_file.specs.Document.{DocumentData}
 use Rattle.tn_file.specs.Laws.{IsDocument}
-use Rattle.tn_kinds.proofs.KindLemmas.{listed_own_bundles}
+use Rattle.tn_read_firms.proofs.KindLemmas.{listed_own_bundles}
 use Rattle.tn_local.proofs.FirstLemmas.{triple_fails}
-use Rattle.tn_kinds.proofs.ShownLemmas.{OwnAreNamed, own_position_of, trades_named, triple_named}
-use Rattle.tn_market.specs.Network.{own, trades_of}
-use Rattle.tn_market.proofs.NetworkLemmas.{ascending_trades}
+use Rattle.tn_read_firms.proofs.ShownLemmas.{OwnAreNamed, own_position_of, trades_named, triple_named}
+use Rattle.tn_plain_data.specs.Network.{own, trades_of}
+use Rattle.tn_plain_data.proofs.NetworkLemmas.{ascending_trades}
 use Rattle.tn_names.specs.Named.{IsNamed, IsNamedTriple, IsAscendingTriple}
 
 module _ (need : Need) (doc : DocumentData) (is : IsDocument need doc) where

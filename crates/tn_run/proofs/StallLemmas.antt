@@ -11,12 +11,13 @@ use Rattle.tn_base.specs.Firm.{Firm, payments}
 use Rattle.tn_base.proofs.SetLemmas.{set_of_within}
 use Rattle.tn_law.proofs.AdditiveLemmas.{meets-additive}
 use Rattle.tn_law.proofs.KeepLemmas.{option_map-some}
-use Rattle.tn_market.specs.declared.ends.Ends.{Ends}
-use Rattle.tn_market.specs.Network.{own, stands_at, IsNetwork, part}
+use Rattle.tn_plain_data.specs.declared.ends.Ends.{Ends}
+use Rattle.tn_plain_data.specs.Network.{own, stands_at, IsNetwork, part}
 use Rattle.tn_market.specs.Equilibrium.{prices_at, utility_at, HasBest}
 use Rattle.tn_market.specs.Graph.{ArePossible}
 use Rattle.tn_market.specs.Ranges.{IsSupported}
-use Rattle.tn_run.specs.Stall.{amounts, amounts_of, stall, stall-worth, trade_between}
+use Rattle.tn_run.specs.Stall.{amounts, amounts_of, stall, trade_between}
+use Rattle.tn_run.specs.StallLemmas.{stall-worth}
 
 -- what the code computes
 pub counted_sum : (buys sells b s : Bool) (cost gain : ℤ) → b ≡ buys → s ≡ sells → cost ≡ (if b then negsuc 2 else pos 0) → gain ≡ (if s then pos 5 else pos 0)

@@ -2,17 +2,17 @@
 use Rattle.std.specs.Prelude.{◌≡◌, ◌≢◌, ℕ, ℤ, ◌+◌, ◌≤◌, ◌⊎◌, pos, List, [], length, Option, None, IfSome, Result, Ok, Err}
 use Rattle.std.specs.Io.KnownBytes.{Consumes, IsAtEnd}
 use Rattle.tn_base.specs.declared.fault.FaultKind.TheVariants.{TooLong}
-use Rattle.tn_market.specs.declared.said.Fault.{Fault as FaultIs}
-use Rattle.tn_market.specs.declared.said.Said.{Said}
-use Rattle.tn_market.specs.declared.said.Said.TheVariants.{Usage, ReadFault, NoMemory, Fault, Equilibrium}
-use Rattle.tn_market.specs.Best.{price_at}
+use Rattle.tn_plain_data.specs.declared.said.Fault.{Fault as FaultIs}
+use Rattle.tn_plain_data.specs.declared.said.Said.{Said}
+use Rattle.tn_plain_data.specs.declared.said.Said.TheVariants.{Usage, ReadFault, NoMemory, Fault, Equilibrium}
+use Rattle.tn_plain_data.specs.Prices.{price_at}
 use Rattle.tn_market.specs.Judged.{Judges}
 use Rattle.tn_io.specs.Counts.{Rose}
 use Rattle.tn_io.specs.Source.{TakesFirst, TakesAtMost}
 use Rattle.tn_answer.specs.Apart.{HasShortNumbers, IsNamedAnswer}
 use Rattle.tn_answer.specs.Kept.{HasAscendingTrades, IsWithinClaims}
 use Rattle.tn_names.specs.Names.{NameLists, IsNameList}
-use Rattle.tn_listed.specs.Beside.{Stop}
+use Rattle.tn_read_head.specs.Beside.{Stop}
 use Rattle.tn_file.specs.Document.{DocumentData, ExtraData, arrangement, on_alone, outcome, edits, claim, reading_of}
 use Rattle.tn_run.specs.declared.command.Command.{Command}
 use Rattle.tn_run.specs.declared.command.Command.TheVariants.{Check, Judge, Range, Replay, Session, Solve, SolveRows, Support, Test}

@@ -4,9 +4,9 @@ use Rattle.std.specs.Io.KnownBytes.{Consumes, IsAtEnd}
 use Rattle.tn_command.specs.Solved.{Solves, SolvesInRows}
 use Rattle.tn_file.specs.Document.{DocumentData, reading_of}
 use Rattle.tn_io.specs.Counts.{Rose}
-use Rattle.tn_listed.specs.Beside.{Stop}
-use Rattle.tn_market.specs.declared.said.Said.{Said}
-use Rattle.tn_market.specs.declared.said.Said.TheVariants.{ReadFault, NoMemory, Fault}
+use Rattle.tn_read_head.specs.Beside.{Stop}
+use Rattle.tn_plain_data.specs.declared.said.Said.{Said}
+use Rattle.tn_plain_data.specs.declared.said.Said.TheVariants.{ReadFault, NoMemory, Fault}
 use Rattle.tn_run.specs.declared.command.Command.{Command}
 use Rattle.tn_run.specs.declared.command.Command.TheVariants.{Check, Judge, Range, Replay, Session, Solve, SolveRows, Support, Test}
 use Rattle.tn_run.specs.Answer.{FindsTooLong, JudgesExtra}

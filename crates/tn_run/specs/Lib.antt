@@ -5,6 +5,6 @@ pub mod Answer
 pub mod Run
 pub mod Cases
 pub mod Complete
-pub mod Replayed
 pub mod Headline
 pub mod Stall
+pub mod StallLemmas

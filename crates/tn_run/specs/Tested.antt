@@ -2,9 +2,9 @@
 use Rattle.std.specs.Prelude.{List, length}
 use Rattle.tn_base.specs.Firm.{Firm}
 use Rattle.tn_cert.specs.Reasons.{MeetBefore, IsFirstToFail}
-use Rattle.tn_market.specs.declared.ends.Ends.{Ends}
-use Rattle.tn_market.specs.declared.said.Said.{Said}
-use Rattle.tn_market.specs.declared.said.Said.TheVariants.{Accepted, ExchangeFails}
+use Rattle.tn_plain_data.specs.declared.ends.Ends.{Ends}
+use Rattle.tn_plain_data.specs.declared.said.Said.{Said}
+use Rattle.tn_plain_data.specs.declared.said.Said.TheVariants.{Accepted, ExchangeFails}
 
 -- every firm meets exchange, or one is the first that fails
 abbrev pub Tests : List Firm → List Ends → Said → Type 0

@@ -3,7 +3,7 @@ ghost use Rattle.tn_run.specs.Words.{asks_for_cases, case_command, command_of, d
 
 use crate::numbers::number_within;
 use tn_file::Need;
-use tn_shape::beside;
+use tn_shape::value_of_word;
 
 /// What the program is asked to do with a document.
 #[derive(Clone, Copy)]
@@ -32,7 +32,7 @@ pub enum Command {
 fn word_command(word: &str) -> Option<Command>
     ensures { result ≡ word_command word.now }
 {
-    beside(
+    value_of_word(
         word,
         &[
             ("check", Command::Check),

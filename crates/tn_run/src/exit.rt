@@ -2,7 +2,7 @@
 
 ghost use Rattle.std.specs.Prelude.{◌≡◌, ℕ, true, false, List, None, Some, map, string_bytes};
 ghost use Rattle.std.specs.Process.{exit_status};
-ghost use Rattle.tn_market.specs.declared.said.Said.{Said};
+ghost use Rattle.tn_plain_data.specs.declared.said.Said.{Said};
 ghost use Rattle.tn_names.specs.Names.{NameLists};
 ghost use Rattle.tn_run.specs.Answer.{MayBeSaid};
 ghost use Rattle.tn_run.specs.Cases.{MayBeCases};

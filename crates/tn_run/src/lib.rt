@@ -11,7 +11,6 @@ mod exit;
 mod judged_tests;
 #[cfg(test)]
 mod kind_tests;
-mod laws;
 #[cfg(test)]
 mod limit_tests;
 mod numbers;
@@ -41,5 +40,4 @@ mod top;
 
 pub use casing::run_cases;
 pub use exit::run_to_exit;
-pub use laws::answers_replay;
 pub use top::{Run, run_market, run_steadily};

@@ -5,8 +5,8 @@ ghost use Rattle.tn_answer.specs.Kept.{IsWithinClaims};
 ghost use Rattle.tn_cert.specs.Replays.{is_on_exchange, reason_in};
 ghost use Rattle.tn_command.specs.Claimed.{DecidesClaim};
 ghost use Rattle.tn_firm.specs.Raw.{CanBeTested, raw_firm_of};
-ghost use Rattle.tn_market.specs.ClaimLimits.{IsClaimWithin};
-ghost use Rattle.tn_market.specs.Network.{own};
+ghost use Rattle.tn_plain_data.specs.ClaimLimits.{IsClaimWithin};
+ghost use Rattle.tn_plain_data.specs.Network.{own};
 
 use std::alloc::Global;
 use tn_base::OutOfMemory;

@@ -3,7 +3,7 @@
 ghost use Rattle.std.specs.Prelude.{◌≡◌, ◌^◌, ◌<◌, List, length, IfOk, false, [], ◌∷◌};
 ghost use Rattle.tn_base.specs.Firm.{Firm};
 ghost use Rattle.tn_cert.specs.Replays.{is_on_exchange};
-ghost use Rattle.tn_market.specs.ClaimLimits.{IsClaimWithin, IsNumberWithin};
+ghost use Rattle.tn_plain_data.specs.ClaimLimits.{IsClaimWithin, IsNumberWithin};
 ghost use Rattle.tn_run.specs.Stall.{trade_between};
 
 use crate::stalls::{both_sold, ends, nothing_signed, sold_at_4, two_stalls};

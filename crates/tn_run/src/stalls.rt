@@ -26,7 +26,8 @@ impl Valuation for Stall {
 
     ghost use Rattle.std.proofs.Common.{refl, lit≤, lit<};
     ghost use Rattle.tn_law.proofs.AdditiveLemmas.{meets-additive};
-    ghost use Rattle.tn_run.specs.Stall.{stall, amounts, stall-within, stall-exchanges_one, stall-exchanges_net};
+    ghost use Rattle.tn_run.specs.Stall.{stall, amounts};
+    ghost use Rattle.tn_run.specs.StallLemmas.{stall-within, stall-exchanges_one, stall-exchanges_net};
 
     ghost firm = { λ _. stall };
 

@@ -3,7 +3,7 @@
 ghost use Rattle.std.specs.Prelude.{◌≡◌, ◌<◌, ◌≤◌, All, IfOk, length, map, option_map};
 ghost use Rattle.tn_answer.specs.Kept.{IsWithinClaims};
 ghost use Rattle.tn_firm.specs.Raw.{CanBeTested, raw_firm_of};
-ghost use Rattle.tn_market.specs.Network.{own, trades_of};
+ghost use Rattle.tn_plain_data.specs.Network.{own, trades_of};
 ghost use Rattle.tn_run.specs.Tested.{Tests};
 
 use std::alloc::Global;

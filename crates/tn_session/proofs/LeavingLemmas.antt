@@ -13,7 +13,7 @@ use Rattle.tn_market.proofs.GraphLemmas.{arc_within}
 use Rattle.tn_graph.specs.Matrix.{Matrix, arcs_of}
 use Rattle.tn_cycle.specs.Reading.{Reading}
 use Rattle.tn_cycle.specs.Answers.{AnswersCycle}
-use Rattle.tn_cycle.specs.GraphLaws.{between-arcs_among, small-arcs_among}
+use Rattle.tn_cycle.specs.GraphLemmas.{between-arcs_among, small-arcs_among}
 use Rattle.tn_cycle.specs.declared.answer.Path.TheVariants as path
 use Rattle.tn_cycle.proofs.GraphLemmas.{none_off_node}
 use Rattle.tn_network.specs.Along.{along}

@@ -10,9 +10,9 @@ use Rattle.tn_base.proofs.SetLemmas.{has-toggle_same, has-toggle_other, toggle-t
 use Rattle.tn_base.specs.Arcs.{IsAtMost}
 use Rattle.tn_base.specs.Firm.{Firm, HasOwnBundles, MayAbstain}
 use Rattle.tn_market.specs.Traded.{Traded}
-use Rattle.tn_market.specs.Network.{IsNetwork}
+use Rattle.tn_plain_data.specs.Network.{IsNetwork}
 use Rattle.tn_market.specs.Valued.{IsWorthAtMost, ExchangesOne, ExchangesNet}
-use Rattle.tn_market.specs.Best.{price_at}
+use Rattle.tn_plain_data.specs.Prices.{price_at}
 use Rattle.tn_graph.specs.Matrix.{Matrix}
 use Rattle.tn_cycle.specs.Reading.{Reading}
 use Rattle.tn_cycle.specs.Answers.{AreLabels, label_in}
@@ -24,7 +24,7 @@ use Rattle.tn_network.proofs.EachLemmas.{each_firm, each_within, meet_all}
 use Rattle.tn_network.proofs.SupportLemmas.{arcs_small}
 use Rattle.tn_network.proofs.BarLemmas.{more_arcs, one_cycle_bars_a_trade}
 use Rattle.tn_network.specs.Kept.{IsKept}
-use Rattle.tn_cycle.specs.GraphLaws.{small-arcs_among}
+use Rattle.tn_cycle.specs.GraphLemmas.{small-arcs_among}
 use Rattle.tn_flow.proofs.SolverLemmas.{small_bound, solution_from}
 use Rattle.tn_session.specs.Standing.{standing_of, differences, HoldsEquilibrium, HasSmallPrices, AreFirmsSmall, AreSettled, IsBound, IsSession}
 

@@ -1,3 +1,3 @@
 pub mod Lowered
-pub mod LoweredLaws
+pub mod LoweredLemmas
 pub mod Standing

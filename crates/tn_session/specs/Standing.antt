@@ -5,7 +5,7 @@ use Rattle.tn_base.specs.Sets.{has, toggle}
 use Rattle.tn_base.specs.Firm.{Firm}
 use Rattle.tn_base.specs.Walks.{arcs_among, is_admitted, KeepsArcs}
 use Rattle.tn_market.specs.Traded.{Traded}
-use Rattle.tn_market.specs.Network.{IsNetwork}
+use Rattle.tn_plain_data.specs.Network.{IsNetwork}
 use Rattle.tn_market.specs.Graph.{exchange_arc}
 use Rattle.tn_graph.specs.Matrix.{Matrix}
 use Rattle.tn_cycle.specs.Reading.{Reading}

@@ -1,5 +1,4 @@
-//! Sessions: trades of a market are admitted and barred one after another, and after each edit the session stands at an
-//! equilibrium of the market that the admitted trades make.
+//! Sessions: trades are admitted and barred, and after each edit there is an equilibrium of the admitted ones.
 //!
 //! Admitting a trade is one round of the solver. Barring one that is on is a round backward: the set is toggled along a
 //! least cycle of the exchange graph through the trade, whatever it costs.

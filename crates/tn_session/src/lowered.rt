@@ -1,7 +1,7 @@
 ghost use Rattle.std.specs.Prelude.{◌≡◌, ◌*◌, ◌^◌, pos, ◌-ℤ◌, option_map, IfSome};
 ghost use Rattle.tn_base.specs.Arcs.{AreSmall, IsAtMost};
 ghost use Rattle.tn_session.specs.Lowered.{lowered_from};
-ghost use Rattle.tn_session.specs.LoweredLaws.{between-lowered, small-lowered};
+ghost use Rattle.tn_session.specs.LoweredLemmas.{between-lowered, small-lowered};
 
 use tn_base::Costs;
 

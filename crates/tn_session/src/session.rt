@@ -1,6 +1,6 @@
 ghost use Rattle.std.specs.Prelude.{◌≡◌, ℕ, ◌+◌, ◌*◌, ◌≤◌, ◌<◌, ◌==◌, ◌&&◌, ◌||◌, not, true, false, length, map, IfOk};
 ghost use Rattle.tn_base.specs.Sets.{has};
-ghost use Rattle.tn_market.specs.Best.{price_at};
+ghost use Rattle.tn_plain_data.specs.Prices.{price_at};
 ghost use Rattle.tn_market.specs.Graph.{graph_worths};
 ghost use Rattle.tn_flow.specs.Underway.{AreUnderWay};
 ghost use Rattle.tn_session.specs.Standing.{AreFirmsSmall, HasSmallPrices, HoldsEquilibrium, IsSession, standing_of};

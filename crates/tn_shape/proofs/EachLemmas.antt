@@ -3,7 +3,7 @@ use Rattle.std.proofs.Common.{◌≡◌, ℕ, zero, suc, ◌+◌, ◌<◌, ◌�
 use Rattle.serde_json.specs.Data.{Data}
 use Rattle.serde_json.specs.View.{view, items_view}
 use Rattle.serde_json.specs.declared.value.Value.{Value}
-use Rattle.tn_market.specs.declared.said.Fault.{Fault}
+use Rattle.tn_plain_data.specs.declared.said.Fault.{Fault}
 use Rattle.tn_shape.specs.declared.error.ReadError.{ReadError}
 use Rattle.tn_shape.specs.declared.error.ReadError.TheVariants.{Fault as FaultIs, OutOfMemory}
 use Rattle.tn_shape.specs.Reading.{◌>>=◌, each, Fails}

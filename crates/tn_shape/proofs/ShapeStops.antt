@@ -5,7 +5,7 @@ use Rattle.serde_json.specs.Data.{Data, no_items}
 use Rattle.serde_json.specs.Events.{items_len}
 use Rattle.serde_json.specs.Find.{as_str, as_array, as_object, as_number, as_i64}
 use Rattle.tn_base.specs.declared.fault.FaultKind.TheVariants.{Shape, Limit, AmountRange}
-use Rattle.tn_market.specs.declared.place.PlaceStep.{PlaceStep}
+use Rattle.tn_plain_data.specs.declared.place.PlaceStep.{PlaceStep}
 use Rattle.tn_shape.specs.declared.members.ObjectKind.{ObjectKind}
 use Rattle.tn_shape.specs.Reading.{wanted, holds}
 use Rattle.tn_shape.specs.Shapes.{text_at, list_at, optional_list_at, few_at, object_at, two_of, two_at, whole_at, number_in, object_of}

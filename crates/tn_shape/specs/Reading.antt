@@ -1,8 +1,8 @@
 -- Reading in order, up to the first fault.
 use Rattle.std.specs.Prelude.{◌≡◌, List, Bool, true, false, Option, Some, None, Result, Ok, Err}
 use Rattle.tn_base.specs.declared.fault.FaultKind.{FaultKind}
-use Rattle.tn_market.specs.declared.place.PlaceStep.{PlaceStep}
-use Rattle.tn_market.specs.declared.said.Fault.{Fault}
+use Rattle.tn_plain_data.specs.declared.place.PlaceStep.{PlaceStep}
+use Rattle.tn_plain_data.specs.declared.said.Fault.{Fault}
 use Rattle.tn_shape.specs.declared.error.ReadError.{ReadError}
 use Rattle.tn_shape.specs.declared.error.ReadError.TheVariants.{Fault as FaultIs, OutOfMemory}
 use Rattle.serde_json.specs.Data.{Data, Items, no_items, item}

@@ -1,8 +1,8 @@
 -- The shapes of values.
 use Rattle.std.specs.Prelude.{ℕ, ℤ, unsigned_abs, nat_le, List, is_some, Option, Some, None, option_and_then, Result, Ok}
 use Rattle.tn_base.specs.declared.fault.FaultKind.TheVariants.{Shape, Limit, AmountRange}
-use Rattle.tn_market.specs.declared.place.PlaceStep.{PlaceStep}
-use Rattle.tn_market.specs.declared.said.Fault.{Fault}
+use Rattle.tn_plain_data.specs.declared.place.PlaceStep.{PlaceStep}
+use Rattle.tn_plain_data.specs.declared.said.Fault.{Fault}
 use Rattle.serde_json.specs.Data.{Data, Items, no_items, item}
 use Rattle.serde_json.specs.Events.{items_len}
 use Rattle.serde_json.specs.Find.{as_str, as_array, as_object, as_number, as_i64}

@@ -3,7 +3,7 @@
 ghost use Rattle.std.specs.Prelude.{◌≡◌};
 ghost use Rattle.tn_shape.specs.Claims.{allows_in_claim, claim_named};
 
-use crate::words::{beside, is_one_of};
+use crate::words::{is_one_of, value_of_word};
 
 /// The kinds of claims, one for each answer that can be claimed.
 #[derive(Clone, Copy)]
@@ -36,7 +36,7 @@ pub enum ClaimKind {
 pub fn claim_named(text: &str) -> Option<ClaimKind>
     ensures { result ≡ claim_named text.now }
 {
-    beside(
+    value_of_word(
         text,
         &[
             ("equilibrium", ClaimKind::Equilibrium),

@@ -3,7 +3,7 @@ ghost use Rattle.tn_shape.specs.declared.error.ReadError.TheVariants.{OutOfMemor
 
 use std::alloc::{AllocError, AllocFailed, Global};
 use tn_base::FaultKind;
-use tn_market::{Fault, Place, PlaceStep};
+use tn_plain_data::{Fault, Place, PlaceStep};
 
 /// Why a part of a document isn't read.
 #[derive(Debug, Drop)]

@@ -1,5 +1,5 @@
-//! The shapes of the values in a document, the members that its objects may have, and the places of faults. Which value
-//! has which shape, and what reading in order is, stands in `specs/`.
+//! Shapes of values in a document, members of its objects, places of faults; reading up to the first fault.
+//! Which value has which shape, and what reading in order is, stands in `specs/`.
 #![tactic(auto)]
 
 mod claims;
@@ -13,7 +13,7 @@ pub use claims::{ClaimKind, claim_named};
 pub use error::ReadError;
 pub use members::{FirmKind, ObjectKind};
 pub use shapes::{
-    check, fault, few, found, list, number, object, object_of, optional_list, present, text, two,
+    fault, few, found, list, number, object, object_of, optional_list, present, require, text, two,
     whole,
 };
-pub use words::beside;
+pub use words::value_of_word;

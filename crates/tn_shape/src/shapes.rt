@@ -12,7 +12,7 @@ use crate::members::{ObjectKind, allows_all};
 use serde_json::Value;
 use std::alloc::Global;
 use tn_base::FaultKind;
-use tn_market::{Fault, Place, PlaceStep};
+use tn_plain_data::{Fault, Place, PlaceStep};
 
 /// A fault without a failing triple, or want of memory.
 pub fn fault(alloc: Global, kind: FaultKind, place: &[PlaceStep]) -> ReadError
@@ -29,7 +29,7 @@ pub fn fault(alloc: Global, kind: FaultKind, place: &[PlaceStep]) -> ReadError
 }
 
 /// A fault where a test fails.
-pub fn check(
+pub fn require(
     alloc: Global,
     met: bool,
     kind: FaultKind,
@@ -115,7 +115,7 @@ pub fn few<'a>(
     ensures few { IfOk result (λ s. length s.now ≤ limit) }
 {
     let items = list(alloc, value, place)?;
-    check(
+    require(
         alloc,
         items.len() <= limit as usize,
         FaultKind::Limit,
@@ -128,7 +128,7 @@ pub fn few<'a>(
 pub fn object(alloc: Global, value: &Value, place: &[PlaceStep]) -> Result<(), ReadError>
     ensures { Gives (λ _. tt) result (object_at place.now (Some (view value.now))) }
 {
-    check(alloc, value.is_object(), FaultKind::Shape, place)
+    require(alloc, value.is_object(), FaultKind::Shape, place)
 }
 
 /// Whether a value is an object with allowed members alone; another, or none, is a fault of shape.
@@ -142,7 +142,7 @@ pub fn object_of(
     ensures { Gives (λ _. tt) result (object_of kind place.now (option_map (λ v. view v.now) value.entry)) }
 {
     match value.and_then(Value::as_object) {
-        Some(members) => check(alloc, allows_all(kind, members), FaultKind::Shape, place),
+        Some(members) => require(alloc, allows_all(kind, members), FaultKind::Shape, place),
         None => Err(fault(alloc, FaultKind::Shape, place)),
     }
 }
@@ -197,7 +197,7 @@ pub fn number(
     ensures small { IfOk result (λ z. IsAtMost z limit) }
 {
     let number = whole(alloc, value, place)?;
-    check(
+    require(
         alloc,
         number.unsigned_abs() <= limit,
         FaultKind::AmountRange,

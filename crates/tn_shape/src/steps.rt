@@ -1,6 +1,6 @@
 //! The members of a document, as steps of a place.
 
-use tn_market::{PlaceStep, Word};
+use tn_plain_data::{PlaceStep, Word};
 
 /// The member `version`.
 pub const VERSION: PlaceStep = PlaceStep::Word(Word::Version);

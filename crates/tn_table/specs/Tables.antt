@@ -1,16 +1,8 @@
 -- The firm that a table is, and what a refusal of a table says.
-use Rattle.std.specs.Prelude.{◌≡◌, ◌^◌, ◌≤◌, ℤ}
-use Rattle.std.proofs.Common.{arith}
-use Rattle.std.proofs.lemmas.Int.{ints}
-use Rattle.tn_base.specs.Arcs.{IsAtMost}
+use Rattle.std.specs.Prelude.{◌≡◌}
 use Rattle.tn_base.specs.Firm.{Firm}
-use Rattle.tn_base.specs.Exchange.{MeetsExchange}
-use Rattle.tn_base.proofs.ExchangeLemmas.{exchange_from_none_fails}
-use Rattle.tn_base.proofs.TableLemmas.{buys_of_within}
 use Rattle.tn_exchange.specs.Rows.{TableRows, firm_of_table}
-use Rattle.tn_exchange.proofs.RowLemmas.{own_bundles, may_abstain, worth_is_small}
 use Rattle.tn_local.specs.First.{IsFirstTriple}
-use Rattle.tn_market.specs.Lawful.{IsLawful}
 use Rattle.tn_table.specs.declared.table.Table.{Table}
 use Rattle.tn_table.specs.declared.table.TableRefused.{TableRefused}
 
@@ -21,29 +13,3 @@ firm_of table = firm_of_table table.raw
 pub record Refuses (raw : TableRows) (refused : TableRefused) : Type 0 where
   pub same : refused.raw ≡ raw
   pub first : IsFirstTriple (firm_of_table raw) (record { x = refused.x; y = refused.y; at = refused.at })
-
-at_most_bound : (z : ℤ) → IsAtMost z (10 ^ 9) → IsAtMost z (10 ^ 11)
-at_most_bound z small =
-    let low = small.low in
-    let high = small.high in
-    record { low = omega (arith, ints, low); high = omega (arith, ints, high) }
-
--- a table is a firm that may be asked, and no worth of it is above 10^11
-pub table_laws : (table : Table) → IsLawful (10 ^ 11) (firm_of table)
-table_laws table =
-    let few = table.within.few in
-    let meets : MeetsExchange (firm_of table) = exchange_from_none_fails (firm_of table) (own_bundles table.raw) table.none_fails in
-    record {
-      few_trades = omega (arith, few);
-      own_purchases = buys_of_within table.raw.sides;
-      own_bundles = own_bundles table.raw;
-      empty_is_possible = may_abstain table.raw;
-      exchange_one = meets.one;
-      exchange_net = meets.net_count;
-      within = λ x a is. at_most_bound a (worth_is_small table.raw table.within x a is);
-      small_limit = omega arith;
-    }
-
--- a table has at most 14 own trades
-pub table_few : (table : Table) → (firm_of table).count ≤ 14
-table_few table = table.within.few

@@ -1,5 +1,6 @@
 ghost use Rattle.std.specs.Prelude.{◌^◌};
-ghost use Rattle.tn_table.specs.Tables.{firm_of, table_laws};
+ghost use Rattle.tn_table.specs.Tables.{firm_of};
+ghost use Rattle.tn_table.specs.TableLemmas.{table_laws};
 
 use crate::table::Table;
 use tn_base::{Asked, Bundle, Side, Steps};

@@ -1,5 +1,5 @@
-//! Table firms: a number for each listed bundle, where the table meets exchange. What a table's firm is stands in
-//! `specs/`.
+//! A table that was tested, as a firm.
+//! What a table's firm is stands in `specs/`.
 #![tactic(auto)]
 
 mod asked;

@@ -8,7 +8,8 @@ use Rattle.std.proofs.lemmas.List.Elements.{All-take}
 use Rattle.tn_base.specs.Arcs.{IsAtMost}
 use Rattle.tn_base.specs.Firm.{utility}
 use Rattle.tn_base.proofs.SetLemmas.{union_within}
-use Rattle.tn_market.specs.Best.{price_at, GivesBest}
+use Rattle.tn_plain_data.specs.Prices.{price_at}
+use Rattle.tn_market.specs.Best.{GivesBest}
 use Rattle.tn_market.proofs.AskLemmas.{none_meet, IsAsked, utility_small}
 use Rattle.tn_cert.specs.Greatest.{IsGreatest}
 use Rattle.tn_cert.proofs.KeptLemmas.{listed}

@@ -1,4 +1,4 @@
-use Rattle.tn_market.specs.Best.{price_at}
+use Rattle.tn_plain_data.specs.Prices.{price_at}
 use Rattle.tn_cert.specs.Reasons.{AgreeBefore}
 use Rattle.tn_cert.proofs.completing.first_mispriced.Given as goal
 

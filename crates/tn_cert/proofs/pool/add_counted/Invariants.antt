@@ -1,5 +1,5 @@
 use Rattle.std.proofs.Common.{◌≡◌, ◌++◌, take}
-use Rattle.tn_market.specs.Choices.{counted}
+use Rattle.tn_plain_data.specs.Choices.{counted}
 use Rattle.tn_cert.proofs.pool.add_counted.Given as goal
 
 abbrev pub invariant-loop-k : goal.invariant-loop-k

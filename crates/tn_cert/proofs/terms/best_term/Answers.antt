@@ -3,7 +3,7 @@ use Rattle.std.proofs.lemmas.Int.{to_z-of_z}
 use mir.Syntax.{w128}
 use mir.Val.{SFits}
 use Rattle.std.proofs.lemmas.Option.{same_Some}
-use Rattle.tn_market.specs.declared.contract.Contract.{Contract}
+use Rattle.tn_plain_data.specs.declared.contract.Contract.{Contract}
 use Rattle.tn_cert.specs.Terms.{better, IsOffered, FindsTerm}
 use Rattle.tn_cert.proofs.TermLemmas.{is_left_out, is_kept, term_more, term_same}
 use Rattle.tn_cert.proofs.terms.best_term.Goals.{then-contract-t+then-ne, else-contract-t, else-contract-t-via-then-contract-t+else-ne, else-contract-t-via-else-contract-t}

@@ -1,6 +1,6 @@
 use Rattle.std.proofs.Common.{◌≡◌}
-use Rattle.tn_market.specs.Best.{price_at}
-use Rattle.tn_market.specs.Choices.{contracts_of}
+use Rattle.tn_plain_data.specs.Prices.{price_at}
+use Rattle.tn_plain_data.specs.Choices.{contracts_of}
 use Rattle.tn_command.proofs.editing.admitted_prices.Given as goal
 
 abbrev pub invariant-loop-t : goal.invariant-loop-t

@@ -1,7 +1,7 @@
 use Rattle.std.proofs.Common.{◌+◌, ℕ, false, List, [], ◌∷◌, All, map, take, ap, sym, subst, ◌∙◌, arith}
 use Rattle.tn_base.specs.Sets.{has}
 use Rattle.tn_base.proofs.SetLemmas.{has-zero}
-use Rattle.tn_market.specs.declared.session.State.{State}
+use Rattle.tn_plain_data.specs.declared.session.State.{State}
 use Rattle.tn_answer.specs.Kept.{IsWithinState}
 use Rattle.tn_firm.specs.Firms.{firm_of}
 use Rattle.tn_command.specs.Edited.{AreStates, is_admitted_after}

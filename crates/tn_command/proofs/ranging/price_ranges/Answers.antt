@@ -1,4 +1,4 @@
-use Rattle.tn_market.specs.Best.{price_at}
+use Rattle.tn_plain_data.specs.Prices.{price_at}
 use Rattle.tn_command.proofs.RangeLemmas.{ranged_from, ranges_small}
 use Rattle.tn_command.proofs.ranging.price_ranges.Goals as goal
 

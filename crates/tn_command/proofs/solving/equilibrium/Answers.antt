@@ -2,7 +2,7 @@ use Rattle.std.proofs.Common.{ℕ, ℤ, ◌+◌, ◌*◌, ◌^◌, ◌≤◌, Li
 use Rattle.std.specs.Prelude.{All}
 use Rattle.tn_base.specs.Arcs.{IsAtMost}
 use Rattle.tn_firm.specs.Firms.{firm_of}
-use Rattle.tn_market.specs.Best.{price_at}
+use Rattle.tn_plain_data.specs.Prices.{price_at}
 use Rattle.tn_market.specs.Equilibrium.{IsEquilibrium}
 use Rattle.tn_command.proofs.SolveLemmas.{small_prices}
 use Rattle.tn_command.proofs.solving.equilibrium.Goals as goal

@@ -2,7 +2,7 @@ use Rattle.std.proofs.Common.{◌≡◌, map, arith, to_z, of_z}
 use Rattle.std.specs.Int.{w128}
 use Rattle.std.proofs.lemmas.Int.{ints}
 use Rattle.tn_firm.specs.Firms.{firm_of}
-use Rattle.tn_market.specs.Best.{price_at}
+use Rattle.tn_plain_data.specs.Prices.{price_at}
 use Rattle.tn_network.proofs.RoundLemmas.{equilibrium_possible}
 use Rattle.tn_command.proofs.SolveLemmas.{solved_from}
 use Rattle.tn_command.proofs.solving.solve.Goals as goal

@@ -1,5 +1,5 @@
 use Rattle.std.proofs.Common.{◌≡◌}
-use Rattle.tn_market.specs.Network.{trades_on}
+use Rattle.tn_plain_data.specs.Network.{trades_on}
 use Rattle.tn_command.proofs.solving.trades_on.Given as goal
 
 abbrev pub invariant-loop-t : goal.invariant-loop-t

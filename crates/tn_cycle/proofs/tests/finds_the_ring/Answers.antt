@@ -7,7 +7,7 @@ use Rattle.tn_base.specs.Sets.{has}
 use Rattle.tn_base.proofs.SetLemmas.{has-toggle_other, has-zero}
 use Rattle.tn_base.specs.Walks.{arcs_among, HasNoNegativeCycle, KeepsArcs}
 use Rattle.tn_base.specs.Walks.{is_admitted}
-use Rattle.tn_cycle.specs.GraphLaws.{some_if}
+use Rattle.tn_cycle.specs.GraphLemmas.{some_if}
 use Rattle.tn_cycle.specs.Reading.{Reading, nothing}
 use Rattle.tn_cycle.specs.Ring.{ring}
 use Rattle.tn_cycle.proofs.LabelLemmas.{none_negative_kept}

@@ -4,7 +4,8 @@ use mir.Syntax.{w128}
 use mir.Val.{SFits}
 use Rattle.tn_base.specs.Firm.{IsBest, utility}
 use Rattle.tn_base.proofs.SizeLemmas.{size_at}
-use Rattle.tn_market.specs.Best.{IsBestBetween, price_at}
+use Rattle.tn_market.specs.Best.{IsBestBetween}
+use Rattle.tn_plain_data.specs.Prices.{price_at}
 use Rattle.tn_market.specs.Ascent.{aimed}
 use Rattle.tn_market.proofs.AscentLemmas.{emptied, not_emptied}
 use Rattle.tn_market.proofs.BonusLemmas.{IsQuestion, best_some, best_none, value_small, need_within, plain_value, plain_fits}

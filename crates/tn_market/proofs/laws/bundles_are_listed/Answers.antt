@@ -1,4 +1,4 @@
-use Rattle.tn_market.proofs.NetworkLemmas.{listed_trades, ascending_trades}
+use Rattle.tn_plain_data.proofs.NetworkLemmas.{listed_trades, ascending_trades}
 use Rattle.tn_market.proofs.laws.bundles_are_listed.Goals as goal
 
 pub returns : goal.returns

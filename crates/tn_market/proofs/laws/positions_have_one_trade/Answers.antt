@@ -1,4 +1,4 @@
-use Rattle.tn_market.proofs.NetworkLemmas.{one_trade, member_of_part}
+use Rattle.tn_plain_data.proofs.NetworkLemmas.{one_trade, member_of_part}
 use Rattle.tn_market.proofs.laws.positions_have_one_trade.Goals as goal
 
 pub returns : goal.returns

@@ -4,7 +4,8 @@ use mir.Syntax.{w128}
 use mir.Val.{SFits}
 use Rattle.tn_base.specs.Arcs.{IsAtMost}
 use Rattle.tn_base.specs.Firm.{utility}
-use Rattle.tn_market.specs.Best.{price_at, GivesBest}
+use Rattle.tn_plain_data.specs.Prices.{price_at}
+use Rattle.tn_market.specs.Best.{GivesBest}
 use Rattle.tn_market.proofs.AskLemmas.{meet_none, union_none, asked_some, asked_none, IsAsked, utility_small, as_is}
 use Rattle.tn_market.proofs.oracle.utility_of.Goals as goal
 

@@ -1,5 +1,5 @@
 use Rattle.std.proofs.Common.{◌≡◌}
-use Rattle.tn_market.specs.Network.{trades_of}
+use Rattle.tn_plain_data.specs.Network.{trades_of}
 use Rattle.tn_price.proofs.bundle.trades_in.Given as goal
 
 abbrev pub invariant-loop-k : goal.invariant-loop-k

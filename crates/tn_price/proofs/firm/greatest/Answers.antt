@@ -4,7 +4,8 @@ use mir.Syntax.{w128}
 use mir.Val.{SFits}
 use Rattle.tn_base.specs.Sets.{set_of}
 use Rattle.tn_base.specs.Firm.{utility}
-use Rattle.tn_market.specs.Best.{price_at, GivesBest}
+use Rattle.tn_plain_data.specs.Prices.{price_at}
+use Rattle.tn_market.specs.Best.{GivesBest}
 use Rattle.tn_market.proofs.AskLemmas.{none_meet, all_within, some_greatest, greatest_is_best, IsAsked, utility_small}
 use Rattle.tn_price.proofs.firm.greatest.Goals as goal
 

@@ -3,11 +3,11 @@ use Rattle.std.proofs.lemmas.Int.{to_z-of_z}
 use Rattle.std.proofs.lemmas.List.{length-map}
 use mir.Syntax.{w128}
 use mir.Val.{SFits, to_z, of_z}
-use Rattle.tn_market.specs.Best.{price_at}
+use Rattle.tn_plain_data.specs.Prices.{price_at}
 use Rattle.tn_market.specs.Judged.{IsFirstBettered}
 use Rattle.tn_market.proofs.AscentLemmas.{smaller}
 use Rattle.tn_price.specs.Standings.{StandsAt}
-use Rattle.tn_price.specs.declared.standing.Standing.TheVariants.{Impossible, Bettered}
+use Rattle.tn_price.specs.declared.firm_verdict.FirmVerdict.TheVariants.{Impossible, Bettered}
 use Rattle.tn_market.proofs.AskLemmas.{as_is}
 use Rattle.tn_price.proofs.JudgeLemmas.{AreJudged, some_item, firm_is, one_judged, all_judged, first_impossible, first_bettered, sum_fits}
 use Rattle.tn_price.proofs.judge.judge_at.Goals as goal

@@ -1,5 +1,5 @@
 use Rattle.std.proofs.Common.{map}
-use Rattle.tn_market.specs.Best.{price_at}
+use Rattle.tn_plain_data.specs.Prices.{price_at}
 use Rattle.tn_price.proofs.JudgeLemmas.{AreJudged}
 use Rattle.tn_price.proofs.judge.judge_at.Given as goal
 

@@ -3,7 +3,7 @@ use Rattle.std.proofs.lemmas.Int.{ints}
 use Rattle.std.proofs.lemmas.List.Elements.{All-replicate}
 use Rattle.std.proofs.Math.ListN.{set}
 use Rattle.tn_base.specs.Arcs.{IsAtMost}
-use Rattle.tn_market.specs.Best.{price_at}
+use Rattle.tn_plain_data.specs.Prices.{price_at}
 use Rattle.tn_price.specs.Standings.{AreOwnPrices}
 use Rattle.tn_market.proofs.AskLemmas.{as_is}
 use Rattle.tn_price.proofs.JudgeLemmas.{none_priced, one_priced, price_fits}

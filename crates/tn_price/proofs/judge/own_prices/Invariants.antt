@@ -1,4 +1,4 @@
-use Rattle.tn_market.specs.Best.{price_at}
+use Rattle.tn_plain_data.specs.Prices.{price_at}
 use Rattle.tn_price.specs.Standings.{AreOwnPrices}
 use Rattle.tn_price.proofs.judge.own_prices.Given as goal
 

@@ -8,7 +8,7 @@ use Rattle.std.proofs.lemmas.List.Elements.{All-push}
 use mir.Syntax.{w128}
 use mir.Val.{SFits, of_z, to_z}
 use Rattle.tn_base.specs.Arcs.{IsAtMost}
-use Rattle.tn_market.specs.declared.contract.Contract.{Contract}
+use Rattle.tn_plain_data.specs.declared.contract.Contract.{Contract}
 use Rattle.tn_market.specs.Outside.{outside}
 use Rattle.tn_market.specs.declared.party.Party.{Party}
 use Rattle.tn_market.specs.Parties.{party_firm, party_limit}

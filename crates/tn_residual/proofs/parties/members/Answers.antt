@@ -7,7 +7,7 @@ use mir.Val.{SFits, of_z, to_z}
 use Rattle.tn_market.specs.Levied.{levied}
 use Rattle.tn_market.specs.declared.party.Party.{Party}
 use Rattle.tn_market.specs.Parties.{party_firm, party_limit}
-use Rattle.tn_market.specs.Network.{part}
+use Rattle.tn_plain_data.specs.Network.{part}
 use Rattle.tn_residual.specs.Residual.{levied_from, residual_limit, unsigned}
 use Rattle.tn_residual.proofs.MakingLemmas.{levied_from-next, levy_fits, levy_limit, one_more}
 use Rattle.tn_residual.proofs.TradeLemmas.{levied_firm}

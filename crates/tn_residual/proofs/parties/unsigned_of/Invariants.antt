@@ -1,5 +1,5 @@
 use Rattle.std.proofs.Common.{◌≡◌, length}
-use Rattle.tn_market.specs.Network.{part}
+use Rattle.tn_plain_data.specs.Network.{part}
 use Rattle.tn_residual.specs.Residual.{unsigned}
 use Rattle.tn_residual.proofs.parties.unsigned_of.Given as goal
 

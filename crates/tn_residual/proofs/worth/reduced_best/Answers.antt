@@ -5,7 +5,8 @@ use mir.Val.{SFits}
 use Rattle.tn_base.specs.Sets.{meet}
 use Rattle.tn_base.specs.Firm.{utility}
 use Rattle.tn_base.proofs.SetLemmas.{union_within, set_of_within}
-use Rattle.tn_market.specs.Best.{GivesBest, price_at}
+use Rattle.tn_market.specs.Best.{GivesBest}
+use Rattle.tn_plain_data.specs.Prices.{price_at}
 use Rattle.tn_market.specs.Signed.{signed_bundle, contract_utility}
 use Rattle.tn_residual.specs.Held.{GivesPart}
 use Rattle.tn_outcome.proofs.ReducedLemmas.{reduced_worths_are_greatest}
@@ -34,7 +35,7 @@ returns-clause-part g c = λ v is.
     (to_z-of_z w128 c.args.outcome.now.over fits) c.best.ensures in
     let given = signed_bundle c.args.market.now.trades c.args.outcome.now.contracts c.args.firm (g.V.Valuation.firm v) in
     let value_of = contract_utility c.args.market.now.trades c.args.outcome.now.over c.args.outcome.now.contracts c.args.firm (g.V.Valuation.firm v) in
-    subst (GivesPart c.args.x given value_of) (sym c.beside.ensures) (part_of_best c.args.x given value_of c.best.result
+    subst (GivesPart c.args.x given value_of) (sym c.without.ensures) (part_of_best c.args.x given value_of c.best.result
     (best_at_held g.V.Valuation.firm c.args.market.now.firms c.args.market.now.trades c.args.outcome.now.over c.args.outcome.now.contracts c.args.firm c.trades.result
     c.signed_by-held.result.signed c.args.x c.signed_by-held.result.prices c.best.result c.firm-firm.result.now c.firm-firm.ensures c.trades.ensures.count
     (c.requires.limits.few_own c.args.firm c.firm-firm.result.now c.firm-firm.ensures) holds best v is))
@@ -49,6 +50,6 @@ returns-clause-worth g c = λ v is.
     let found = best_at_held g.V.Valuation.firm c.args.market.now.firms c.args.market.now.trades c.args.outcome.now.over c.args.outcome.now.contracts c.args.firm c.trades.result
     c.signed_by-held.result.signed c.args.x c.signed_by-held.result.prices c.best.result c.firm-firm.result.now c.firm-firm.ensures c.trades.ensures.count
     (c.requires.limits.few_own c.args.firm c.firm-firm.result.now c.firm-firm.ensures) holds best v is in
-    ap (option_map (λ (p : ℕ × ℤ). p.1)) c.beside.ensures ∙ same_utility c.args.x c.best.result
+    ap (option_map (λ (p : ℕ × ℤ). p.1)) c.without.ensures ∙ same_utility c.args.x c.best.result
     ∙ sym ((reduced_worths_are_greatest c.args.market.now.trades c.args.outcome.now.over c.args.outcome.now.contracts c.args.firm (g.V.Valuation.firm v) c.args.x
     (option_map (λ found. found.1) c.best.result) (g.met.V.Valuation.own_bundles v) (c.requires.unsigned v is)).1 (c.best.result, found, refl))

@@ -1,7 +1,7 @@
 use Rattle.std.proofs.Common.{pos, sym, subst}
 use Rattle.std.proofs.lemmas.Result.{IfOk-weaker}
-use Rattle.tn_market.specs.Best.{price_at}
-use Rattle.tn_market.specs.Network.{IsNetwork}
+use Rattle.tn_plain_data.specs.Prices.{price_at}
+use Rattle.tn_plain_data.specs.Network.{IsNetwork}
 use Rattle.tn_market.specs.Judged.{Judges}
 use Rattle.tn_file.specs.declared.document.Loaded.{Loaded}
 use Rattle.tn_file.specs.declared.extra.Extra.{Extra}
@@ -10,7 +10,7 @@ use Rattle.tn_file.specs.Refusal.{net_view, document_view}
 use Rattle.tn_run.specs.Answer.{ChecksExtra}
 use Rattle.tn_command.proofs.CheckLemmas.{judged_implies}
 use Rattle.tn_command.specs.Implied.{IsEfficientAndStable}
-use Rattle.tn_market.specs.declared.said.Said.TheVariants.{Equilibrium}
+use Rattle.tn_plain_data.specs.declared.said.Said.TheVariants.{Equilibrium}
 use Rattle.std.proofs.Common.{◌≡◌, ℤ}
 use Rattle.tn_run.proofs.answer.check_document.Goals as goal
 

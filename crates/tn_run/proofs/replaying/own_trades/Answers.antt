@@ -1,5 +1,5 @@
 use Rattle.std.proofs.Common.{◌∙◌}
-use Rattle.tn_market.specs.Network.{own}
+use Rattle.tn_plain_data.specs.Network.{own}
 use Rattle.tn_run.proofs.ReplayLemmas.{named_push}
 use Rattle.tn_run.proofs.replaying.own_trades.Goals as goal
 

@@ -1,5 +1,5 @@
 use Rattle.std.proofs.Common.{◌≡◌, map, take}
-use Rattle.tn_market.specs.Network.{own}
+use Rattle.tn_plain_data.specs.Network.{own}
 use Rattle.tn_run.proofs.replaying.own_trades.Given as goal
 
 abbrev pub invariant-loop-k : goal.invariant-loop-k

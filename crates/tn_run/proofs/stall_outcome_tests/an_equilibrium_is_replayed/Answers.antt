@@ -1,6 +1,6 @@
 use Rattle.std.proofs.Common.{◌≡◌, List, [], ◌∷◌, rules}
 use Rattle.tn_base.specs.Firm.{Firm}
-use Rattle.tn_market.specs.ClaimLimits.{IsClaimWithin}
+use Rattle.tn_plain_data.specs.ClaimLimits.{IsClaimWithin}
 use Rattle.tn_run.specs.Stall.{trade_between}
 use Rattle.tn_run.proofs.stall_outcome_tests.an_equilibrium_is_replayed.Goals as goal
 

@@ -3,7 +3,7 @@ use Rattle.tn_base.specs.Sets.{toggle}
 use Rattle.tn_base.specs.declared.memory.OutOfMemory.{OutOfMemory}
 use Rattle.tn_market.specs.Traded.{Traded}
 use Rattle.tn_market.specs.Ranges.{IsSupported}
-use Rattle.tn_market.specs.declared.ends.Ends.{Ends}
+use Rattle.tn_plain_data.specs.declared.ends.Ends.{Ends}
 use Rattle.tn_run.specs.Stall.{stall, trade_between}
 use Rattle.tn_run.specs.declared.stalls.Stall.{Stall}
 use Rattle.tn_run.proofs.StallLemmas.{stalls-supported}

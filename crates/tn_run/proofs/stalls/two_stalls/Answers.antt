@@ -1,5 +1,5 @@
 use Rattle.std.proofs.Common.{◌≡◌, [], ◌∷◌, ap₂, ◌∙◌}
-use Rattle.tn_market.specs.declared.ends.Ends.{Ends}
+use Rattle.tn_plain_data.specs.declared.ends.Ends.{Ends}
 use Rattle.tn_run.specs.Stall.{trade_between}
 use Rattle.tn_run.proofs.StallLemmas.{stalls-network}
 use Rattle.tn_run.proofs.stalls.two_stalls.Goals as goal

@@ -2,7 +2,7 @@ use Rattle.std.proofs.Common.{List, map, sym, subst, ap, ◌∙◌, arith}
 use Rattle.std.specs.Prelude.{slice_get}
 use Rattle.tn_firm.specs.declared.raw.RawFirm.{RawFirm}
 use Rattle.tn_firm.specs.Raw.{raw_firm_of}
-use Rattle.tn_market.specs.Network.{trades_of}
+use Rattle.tn_plain_data.specs.Network.{trades_of}
 use Rattle.tn_price.proofs.JudgeLemmas.{firm_is}
 use Rattle.tn_cert.specs.Reasons.{MeetBefore}
 use Rattle.tn_cert.proofs.ExchangeLemmas.{one_more_meets}

@@ -5,7 +5,7 @@ use mir.Syntax.{w128}
 use mir.Val.{SFits}
 use Rattle.tn_base.specs.Sets.{has, toggle}
 use Rattle.tn_dealer.specs.Pairs.{matched_worth}
-use Rattle.tn_dealer.specs.Worths.{own_pairs}
+use Rattle.tn_dealer.specs.WorthLemmas.{own_pairs}
 use Rattle.tn_dealer.proofs.CertificateLemmas.{last_none, last_empty, next_with, next_without, with_is, small_after, both_there, first_out, second_out}
 use Rattle.tn_dealer.proofs.dealer.Dealer.+worth_from.Goals as goal
 use Rattle.tn_dealer.proofs.dealer.Dealer.+worth_from.Goals.{else-has-via-then-has+else-has-2, else-has-via-else-has}

@@ -4,8 +4,8 @@ use Rattle.std.proofs.lemmas.Option.{slice_get_read}
 use mir.Syntax.{w128}
 use mir.Val.{SFits}
 use Rattle.tn_dealer.specs.Pairs.{matched_worth}
-use Rattle.tn_dealer.specs.OnePair.{IsWorth}
-use Rattle.tn_dealer.specs.Worths.{own_pairs}
+use Rattle.tn_law.proofs.PairLemmas.{IsWorth}
+use Rattle.tn_dealer.specs.WorthLemmas.{own_pairs}
 use Rattle.tn_dealer.proofs.CertificateLemmas.{no_pairs_taken, taken_step, taken_small}
 use Rattle.tn_dealer.proofs.dealer.Dealer.taken.Goals as goal
 

@@ -2,7 +2,7 @@ use Rattle.std.proofs.Common.{◌-◌, ◌*◌, ◌^◌, ◌≤◌, length, drop
 use Rattle.std.specs.Prelude.{neg_ℤ}
 use Rattle.tn_base.specs.Arcs.{IsAtMost}
 use Rattle.tn_dealer.specs.Pairs.{matched_worth}
-use Rattle.tn_dealer.specs.OnePair.{IsWorth}
+use Rattle.tn_law.proofs.PairLemmas.{IsWorth}
 use Rattle.tn_dealer.proofs.dealer.Dealer.taken.Given as goal
 
 abbrev pub invariant-loop-done : goal.invariant-loop-done

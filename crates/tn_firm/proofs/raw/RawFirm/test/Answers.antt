@@ -4,13 +4,13 @@ use Rattle.tn_base.specs.Firm.{Firm}
 use Rattle.tn_base.specs.Exchange.{NoneFails}
 use Rattle.tn_base.proofs.ExchangeLemmas.{none_fails_from_exchange}
 use Rattle.tn_dealer.specs.declared.dealer.Dealer.{Dealer}
-use Rattle.tn_dealer.specs.Laws.{dealer_laws}
+use Rattle.tn_dealer.specs.LawLemmas.{dealer_laws}
 use Rattle.tn_exchange.specs.declared.verdict.Verdict.TheVariants.{Holds}
 use Rattle.tn_laminar.specs.declared.laminar.Laminar.{Laminar}
-use Rattle.tn_laminar.specs.Laws.{laminar_laws}
+use Rattle.tn_laminar.specs.LawLemmas.{laminar_laws}
 use Rattle.tn_market.specs.Lawful.{IsLawful}
 use Rattle.tn_middle.specs.declared.middle.Middle.{Middle}
-use Rattle.tn_middle.specs.Laws.{middle_laws}
+use Rattle.tn_middle.specs.LawLemmas.{middle_laws}
 use Rattle.tn_firm.specs.declared.raw.RawFirm.{RawFirm}
 use Rattle.tn_firm.specs.declared.raw.RawFirm.TheVariants.{Laminar as IsLaminar, Middle as IsMiddle, Dealer as IsDealer}
 use Rattle.tn_firm.specs.Raw.{raw_firm_of}

@@ -2,7 +2,8 @@ use Rattle.std.proofs.Common.{◌≡◌, sym, subst, arith, to_z, of_z, ℤ}
 use Rattle.std.specs.Int.{w128}
 use Rattle.std.proofs.lemmas.Int.{ints}
 use Rattle.tn_base.specs.Firm.{utility}
-use Rattle.tn_market.specs.Best.{GivesBest, price_at}
+use Rattle.tn_market.specs.Best.{GivesBest}
+use Rattle.tn_plain_data.specs.Prices.{price_at}
 use Rattle.tn_dealer.specs.Firms.{firm_of as dealer_firm_of}
 use Rattle.tn_table.specs.Tables.{firm_of as table_firm_of}
 use Rattle.tn_firm.specs.declared.value.FirmValue.{FirmValue}

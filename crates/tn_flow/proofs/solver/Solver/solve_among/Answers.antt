@@ -1,6 +1,6 @@
 use Rattle.std.proofs.Common.{◌≡◌, ℕ, ◌<◌, ◌≤◌, ◌-ℤ◌, ℤ, List, ◌∙◌, sym, subst, rules, map, length}
 use Rattle.tn_cycle.specs.Answers.{label_in}
-use Rattle.tn_market.specs.Best.{price_at}
+use Rattle.tn_plain_data.specs.Prices.{price_at}
 use Rattle.tn_flow.specs.Solved.{IsSolution}
 use Rattle.tn_network.proofs.EachLemmas.{meet_all}
 use Rattle.tn_flow.proofs.SolverLemmas.{small_bound, labels_small, solution_from, prices_within}

@@ -1,6 +1,6 @@
 use Rattle.std.proofs.Common.{arith}
 use Rattle.std.proofs.lemmas.Int.{ints}
-use Rattle.tn_market.specs.Best.{price_at}
+use Rattle.tn_plain_data.specs.Prices.{price_at}
 use Rattle.tn_market.proofs.AscentLemmas.{sum_over-next}
 use Rattle.tn_market.proofs.aim.Aim.gain.Goals as goal
 

@@ -3,7 +3,8 @@ use Rattle.std.proofs.lemmas.Int.{to_z-of_z}
 use mir.Syntax.{w128}
 use mir.Val.{SFits}
 use Rattle.tn_base.specs.Firm.{Firm}
-use Rattle.tn_market.specs.Outside.{outside, outside-worth}
+use Rattle.tn_market.specs.Outside.{outside}
+use Rattle.tn_market.specs.OutsideLemmas.{outside-worth}
 use Rattle.tn_market.specs.Parties.{party_firm}
 use Rattle.tn_market.proofs.party.PartyValuation.value.Goals as goal
 

@@ -1,5 +1,5 @@
 use Rattle.std.proofs.Common.{ℤ, Some, ap, ◌∙◌, sym}
-use Rattle.tn_run.specs.Stall.{stall-worth}
+use Rattle.tn_run.specs.StallLemmas.{stall-worth}
 use Rattle.tn_run.proofs.StallLemmas.{counted_sum}
 use Rattle.tn_run.proofs.stalls.StallValuation.value.Goals as goal
 

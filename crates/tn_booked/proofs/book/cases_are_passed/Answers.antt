@@ -1,5 +1,0 @@
-use Rattle.tn_booked.proofs.Passed.{cases_are_passed}
-use Rattle.tn_booked.proofs.book.cases_are_passed.Goals as goal
-
-pub returns : goal.returns
-returns c = cases_are_passed

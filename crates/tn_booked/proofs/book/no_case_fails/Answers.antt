@@ -1,5 +1,0 @@
-use Rattle.tn_booked.proofs.Passed.{no_case_fails}
-use Rattle.tn_booked.proofs.book.no_case_fails.Goals as goal
-
-pub returns : goal.returns
-returns c = no_case_fails

@@ -1,0 +1,5 @@
+use Rattle.tn_case_laws.proofs.Cases.{each_case_has_one_answer}
+use Rattle.tn_case_laws.proofs.book.each_case_has_one_answer.Goals as goal
+
+pub returns : goal.returns
+returns c = each_case_has_one_answer

@@ -1,0 +1,5 @@
+use Rattle.tn_case_laws.proofs.Passed.{no_case_fails}
+use Rattle.tn_case_laws.proofs.book.no_case_fails.Goals as goal
+
+pub returns : goal.returns
+returns c = no_case_fails

@@ -1,5 +1,0 @@
-use Rattle.tn_claimed.proofs.ClaimLeads.{claims_are_within}
-use Rattle.tn_claimed.proofs.laws.claims_are_within.Goals as goal
-
-pub returns : goal.returns
-returns c = claims_are_within

@@ -1,5 +1,0 @@
-use Rattle.tn_claimed.proofs.KindLeads.{nodes_are_few}
-use Rattle.tn_claimed.proofs.laws.nodes_are_few.Goals as goal
-
-pub returns : goal.returns
-returns c = nodes_are_few

@@ -1,5 +1,0 @@
-use Rattle.tn_claimed.proofs.KindLeads.{raw_claims_are_told}
-use Rattle.tn_claimed.proofs.laws.raw_claims_are_told.Goals as goal
-
-pub returns : goal.returns
-returns c = raw_claims_are_told

@@ -1,0 +1,23 @@
+-- The laws of a dealer.
+use Rattle.std.proofs.Common.{◌^◌, arith, pos}
+use Rattle.tn_market.specs.Lawful.{IsLawful}
+use Rattle.tn_dealer.specs.declared.dealer.Dealer.{Dealer}
+use Rattle.tn_dealer.specs.Firms.{firm_of}
+use Rattle.tn_dealer.specs.WorthLemmas.{own_pairs, matched_exchange, matched_empty, matched_limit}
+
+-- a dealer is a firm that may be asked, and no worth of it is above 10^11
+pub dealer_laws : (dealer : Dealer) → IsLawful (10 ^ 11) (firm_of dealer)
+dealer_laws dealer =
+    let few = dealer.dealer.few in
+    let own = own_pairs dealer.trades dealer.buys dealer.pairs.items dealer.dealer.own in
+    let exchange = matched_exchange dealer.trades dealer.buys dealer.pairs.items own in
+    record {
+      few_trades = omega (arith, few);
+      own_purchases = dealer.dealer.bought;
+      own_bundles = exchange.0;
+      empty_is_possible = (pos 0, matched_empty dealer.pairs.items);
+      exchange_one = exchange.1.one;
+      exchange_net = exchange.1.net_count;
+      within = matched_limit dealer.trades dealer.buys dealer.pairs.items few own;
+      small_limit = omega arith;
+    }

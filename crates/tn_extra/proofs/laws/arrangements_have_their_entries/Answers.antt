@@ -1,5 +1,0 @@
-use Rattle.tn_extra.proofs.ArrangementLaws.{arrangements_have_their_entries}
-use Rattle.tn_extra.proofs.laws.arrangements_have_their_entries.Goals as goal
-
-pub returns : goal.returns
-returns c = arrangements_have_their_entries

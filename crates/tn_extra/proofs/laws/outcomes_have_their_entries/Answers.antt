@@ -1,5 +1,0 @@
-use Rattle.tn_extra.proofs.OutcomeLaws.{outcomes_have_their_entries}
-use Rattle.tn_extra.proofs.laws.outcomes_have_their_entries.Goals as goal
-
-pub returns : goal.returns
-returns c = outcomes_have_their_entries

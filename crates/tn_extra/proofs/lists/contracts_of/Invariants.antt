@@ -1,7 +1,0 @@
-use Rattle.std.proofs.Common.{◌≡◌}
-use Rattle.tn_market.specs.Best.{price_at}
-use Rattle.tn_market.specs.Choices.{contracts_of}
-use Rattle.tn_extra.proofs.lists.contracts_of.Given as goal
-
-abbrev pub invariant-loop-t : goal.invariant-loop-t
-invariant-loop-t l = l.contracts.items ≡ contracts_of l.named (price_at l.prices) l.t

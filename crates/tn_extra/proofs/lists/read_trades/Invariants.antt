@@ -1,8 +1,0 @@
-use Rattle.std.proofs.Common.{◌≡◌, drop}
-use Rattle.serde_json.specs.View.{items_view}
-use Rattle.tn_shape.specs.Reading.{each}
-use Rattle.tn_extra.specs.Lists.{list_place, one_on}
-use Rattle.tn_extra.proofs.lists.read_trades.Given as goal
-
-abbrev pub invariant-loop-reference : goal.invariant-loop-reference
-invariant-loop-reference l = each (one_on l.names.trades (list_place l.at)) l.on (items_view (drop l.reference-index l.references)) ≡ each (one_on l.names.trades (list_place l.at)) 0 (items_view l.references)

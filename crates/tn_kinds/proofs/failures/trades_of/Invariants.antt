@@ -1,6 +1,0 @@
-use Rattle.std.proofs.Common.{◌≡◌}
-use Rattle.tn_market.specs.Network.{trades_of}
-use Rattle.tn_kinds.proofs.failures.trades_of.Given as goal
-
-abbrev pub invariant-loop-k : goal.invariant-loop-k
-invariant-loop-k l = l.trades.items ≡ trades_of l.ends l.f l.k l.bundle

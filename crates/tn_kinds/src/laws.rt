@@ -1,6 +1,0 @@
-ghost use Rattle.tn_kinds.specs.FirstFailure.{IsTheFirstFailure};
-
-/// The failing triple that a fault shows is the first triple of the table.
-pub fn first_failures_are_first()
-    ensures { IsTheFirstFailure }
-{}

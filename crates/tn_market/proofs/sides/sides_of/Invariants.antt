@@ -1,6 +1,0 @@
-use Rattle.std.proofs.Common.{◌≡◌, take}
-use Rattle.tn_market.specs.InOrder.{sides_of}
-use Rattle.tn_market.proofs.sides.sides_of.Given as goal
-
-abbrev pub invariant-loop-trade : goal.invariant-loop-trade
-invariant-loop-trade l = l.sides.items ≡ sides_of (take l.trade-index l.trades) l.f

@@ -1,8 +1,0 @@
-use tn_base::Bundle;
-
-/// A possible bundle with its value.
-#[derive(Clone, Copy, Debug)]
-pub struct Found {
-    pub bundle: Bundle,
-    pub value: i128,
-}

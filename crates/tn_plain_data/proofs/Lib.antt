@@ -1,0 +1,4 @@
+pub mod NetworkLemmas
+pub mod InOrderLemmas
+pub mod InOrderNetworks
+pub mod ContractLemmas

@@ -1,0 +1,8 @@
+pub mod Network
+pub mod NetworkLaws
+pub mod InOrder
+pub mod Prices
+pub mod Choices
+pub mod OutcomeLimits
+pub mod ClaimLimits
+pub mod Edits

@@ -1,0 +1,29 @@
+//! Plain data: ends of trades, contracts, claims, answers, places in a document; what a network is, and limits.
+//! The definitions stand in `specs/`: networks, contracts and choices, the limits of outcomes, claims and edits.
+#![tactic(auto)]
+
+mod arrangement;
+mod claim;
+mod contract;
+mod ends;
+mod lists;
+mod place;
+mod range;
+mod reason;
+mod said;
+mod session;
+mod sides;
+
+pub use arrangement::Arrangement;
+pub use claim::Claim;
+pub use contract::{Contract, Outcome};
+pub use ends::Ends;
+pub use lists::{
+    Amounts, Contracts, Edits, Lent, Listed, Nodes, Numbers, Place, Prices, Ranges, States, Trades,
+};
+pub use place::{PlaceStep, Word};
+pub use range::Range;
+pub use reason::Reason;
+pub use said::{Fault, Said, Shown};
+pub use session::{Edit, State};
+pub use sides::{count_own, sides_of};

@@ -1,0 +1,221 @@
+-- What the claim is that reading gives: of the kind that its answer names, and within the limits of claims.
+use Rattle.std.proofs.Common.{◌≡◌, ℕ, ◌^◌, ◌<◌, List, length, Option, Some, sym, subst, arith}
+use Rattle.std.specs.Prelude.{codes, All, IfSome}
+use Rattle.serde_json.specs.Data.{Data}
+use Rattle.serde_json.specs.Find.{get}
+use Rattle.tn_base.specs.declared.fault.FaultKind.TheVariants.{Shape}
+use Rattle.tn_base.specs.Firm.{Firm}
+use Rattle.tn_plain_data.specs.declared.claim.Claim.{Claim}
+use Rattle.tn_plain_data.specs.declared.claim.Claim.TheVariants.{Equilibrium, Better, Impossible, Accepted, ExchangeFails, Supported, Cycle, Solved, Drops, Completes, Blocks}
+use Rattle.tn_plain_data.specs.declared.place.Word.{Word as WordIs}
+use Rattle.tn_plain_data.specs.declared.place.Word.TheVariants.{At, Bundle, Cost, Firm as FirmWord, Gain, Keeps, Surplus, X, Y}
+use Rattle.tn_plain_data.specs.ClaimLimits.{ArePricesWithin, IsClaimWithin, IsFirmWith, IsNumberWithin, IsOverWithin}
+use Rattle.tn_plain_data.specs.OutcomeLimits.{IsOutcomeWithin}
+use Rattle.tn_plain_data.specs.Network.{IsNetwork}
+use Rattle.tn_plain_data.proofs.InOrderNetworks.{there}
+use Rattle.tn_shape.specs.declared.claims.ClaimKind.{ClaimKind}
+use Rattle.tn_shape.specs.declared.claims.ClaimKind.TheVariants.{Equilibrium as EquilibriumKind, Better as BetterKind, Impossible as ImpossibleKind, Accepted as AcceptedKind, ExchangeFails as ExchangeFailsKind, Supported as SupportedKind, Cycle as CycleKind, Solved as SolvedKind, Drops as DropsKind, Completes as CompletesKind, Blocks as BlocksKind}
+use Rattle.tn_shape.specs.Reading.{wanted}
+use Rattle.tn_shape.specs.Shapes.{object_at}
+use Rattle.tn_shape.proofs.LeadLemmas.{Leads, leads_after, leads_bind, leads_ok}
+use Rattle.tn_read_references.specs.Ordered.{AreInOrder, AreTrades, Listed, sides_of}
+use Rattle.tn_read_references.proofs.ReferenceLeads.{bundle_leads, firm_at_leads}
+use Rattle.tn_read_parts.specs.Arranged.{arrangement_of, trades_on_of, IsArrangement}
+use Rattle.tn_read_parts.specs.Signed.{outcome_of}
+use Rattle.tn_read_parts.proofs.ArrangementLeads.{arrangement_leads, trades_on_leads}
+use Rattle.tn_read_parts.proofs.OutcomeLeads.{outcome_leads}
+use Rattle.tn_read_claims.specs.Claimed.{accepted_of, better_of, blocks_of, claim_by, claim_of, completes_of, cycle_of, drops_of, equilibrium_of, failure_of, frame_of, impossible_of, kind_of, solved_of, supported_of}
+use Rattle.tn_read_claims.specs.Laws.{ClaimsAreWithin}
+use Rattle.tn_read_claims.specs.Members.{claim_place, claimed_bundle, claimed_contracts, claimed_firm, claimed_nodes, claimed_number, claimed_on, claimed_over, claimed_prices, gain_or_null, member_place, most_nodes, own_or_null}
+use Rattle.tn_read_claims.proofs.MemberLeads.{AreClaimedContracts, AreNodes, at_leads, claimed_contracts_lead, claimed_number_leads, claimed_prices_lead, gain_leads, most_nodes_few, nodes_lead, on_lead, over_lead}
+use Rattle.tn_read_claims.proofs.OwnCounts.{counts_own}
+
+-- ---- the limits
+
+module _ (listed : Listed) (trades : AreTrades listed) (firms : List Firm) (named : length listed.names.firms ≡ length firms) (network : IsNetwork firms listed.ends) where
+  abbrev names : List (List ℕ)
+  names = listed.names.trades
+
+  -- what is said of the count of names is said of the count of trades
+  counted : (P : ℕ → Type 0) → P (length names) → P (length listed.ends)
+  counted P said = subst P trades.named said
+
+  abbrev n : ℕ
+  n = length listed.ends
+
+  abbrev IsWithin : Claim → Type 0
+  IsWithin claim = IsClaimWithin firms listed.ends claim
+
+  arranged : (top : Data) → Leads (IsArrangement n) (arrangement_of names top)
+  arranged top = counted (λ m. Leads (IsArrangement m) (arrangement_of names top)) (arrangement_leads names top)
+
+  abbrev IsSet : ℕ → Type 0
+  IsSet on = on < 2 ^ n
+
+  on_alone : (top : Data) → Leads IsSet (trades_on_of names top)
+  on_alone top = counted (λ m. Leads (λ on. on < 2 ^ m) (trades_on_of names top)) (trades_on_leads names top)
+
+  signed : (top : Data) → Leads (IsOutcomeWithin n) (outcome_of names top)
+  signed top = counted (λ m. Leads (IsOutcomeWithin m) (outcome_of names top)) (outcome_leads names top)
+
+  priced : (claim : Data) → Leads (ArePricesWithin n (10 ^ 18)) (claimed_prices names claim)
+  priced claim = counted (λ m. Leads (ArePricesWithin m (10 ^ 18)) (claimed_prices names claim)) (claimed_prices_lead names claim)
+
+  own_on : (claim : Data) → Leads IsSet (claimed_on names claim)
+  own_on claim = counted (λ m. Leads (λ on. on < 2 ^ m) (claimed_on names claim)) (on_lead names claim)
+
+  order : AreInOrder (length firms) listed.ends
+  order = subst (λ m. AreInOrder m listed.ends) named trades.order
+
+  -- what is said of the count of a firm's own trades
+  own_firm : (f : ℕ) (P : ℕ → Type 0) → f < length listed.names.firms → P (length (sides_of listed.ends f)) → IsFirmWith firms f (λ firm. P firm.count)
+  own_firm f P known said =
+      let at = there firms f (omega (arith, known, named)) in
+      (at.0, at.1, subst P (sym (counts_own firms listed.ends order network f at.0 at.1)) said)
+
+  abbrev IsKnown : ℕ → Type 0
+  IsKnown f = f < length listed.names.firms
+
+  abbrev IsOwn : ℕ → ℕ → Type 0
+  IsOwn f x = x < 2 ^ length (sides_of listed.ends f)
+
+  firm_lead : (claim : Data) → Leads IsKnown (claimed_firm listed.names.firms claim)
+  firm_lead claim = firm_at_leads listed.names.firms (member_place FirmWord) (get (codes "firm") claim)
+
+  bundle_lead : (f : ℕ) (word : WordIs) (value : Option Data) → Leads (IsOwn f) (claimed_bundle listed f word value)
+  bundle_lead f word value = bundle_leads listed trades f (member_place word) value
+
+  equilibrium_leads : (top claim : Data) → Leads IsWithin (equilibrium_of names top claim)
+  unfolding equilibrium_of
+  equilibrium_leads top claim =
+      leads_bind (IsArrangement n) IsWithin (arrangement_of names top) _ (arranged top) (λ at is.
+      leads_after IsWithin (frame_of EquilibriumKind claim) _ (λ frame.
+      leads_bind IsNumberWithin IsWithin (claimed_number Surplus (get (codes "surplus") claim)) _ (claimed_number_leads Surplus (get (codes "surplus") claim)) (λ surplus small.
+      leads_ok IsWithin (Equilibrium (record { on = at.on; prices = at.prices }) surplus) (is.on, record { one_each = is.count; small = is.small }, small))))
+
+  better_leads : (top claim : Data) → Leads IsWithin (better_of listed top claim)
+  unfolding better_of
+  better_leads top claim =
+      leads_bind (IsArrangement n) IsWithin (arrangement_of names top) _ (arranged top) (λ at is.
+      leads_after IsWithin (frame_of BetterKind claim) _ (λ frame.
+      leads_bind IsKnown IsWithin (claimed_firm listed.names.firms claim) _ (firm_lead claim) (λ f known.
+      leads_bind (IsOwn f) IsWithin (claimed_bundle listed f Bundle (get (codes "bundle") claim)) _ (bundle_lead f Bundle (get (codes "bundle") claim)) (λ x own.
+      leads_bind IsNumberWithin IsWithin (claimed_number Gain (get (codes "gain") claim)) _ (claimed_number_leads Gain (get (codes "gain") claim)) (λ gain small.
+      leads_ok IsWithin (Better (record { on = at.on; prices = at.prices }) f x gain) (is.on, record { one_each = is.count; small = is.small }, own_firm f (λ m. x < 2 ^ m) known own, small))))))
+
+  impossible_leads : (top claim : Data) → Leads IsWithin (impossible_of listed.names top claim)
+  unfolding impossible_of
+  impossible_leads top claim =
+      leads_bind IsSet IsWithin (trades_on_of names top) _ (on_alone top) (λ on below.
+      leads_after IsWithin (frame_of ImpossibleKind claim) _ (λ frame.
+      leads_bind IsKnown IsWithin (claimed_firm listed.names.firms claim) _ (firm_lead claim) (λ f known.
+      leads_ok IsWithin (Impossible on f) (below, omega (arith, known, named)))))
+
+  accepted_leads : (claim : Data) → Leads IsWithin (accepted_of claim)
+  unfolding accepted_of
+  accepted_leads claim = leads_after IsWithin (frame_of AcceptedKind claim) _ (λ frame. leads_ok IsWithin Accepted tt)
+
+  failure_leads : (claim : Data) → Leads IsWithin (failure_of listed claim)
+  unfolding failure_of
+  failure_leads claim =
+      leads_after IsWithin (frame_of ExchangeFailsKind claim) _ (λ frame.
+      leads_bind IsKnown IsWithin (claimed_firm listed.names.firms claim) _ (firm_lead claim) (λ f known.
+      leads_bind (λ at. IfSome at (λ k. k < length (sides_of listed.ends f))) IsWithin (own_or_null listed f (member_place At) (get (codes "at") claim)) _ (at_leads listed trades f (member_place At) (get (codes "at") claim)) (λ at own_at.
+      leads_bind (IsOwn f) IsWithin (claimed_bundle listed f X (get (codes "x") claim)) _ (bundle_lead f X (get (codes "x") claim)) (λ x own_x.
+      leads_bind (IsOwn f) IsWithin (claimed_bundle listed f Y (get (codes "y") claim)) _ (bundle_lead f Y (get (codes "y") claim)) (λ y own_y.
+      leads_ok IsWithin (ExchangeFails f x y at) (own_firm f (λ m. (x < 2 ^ m) × (y < 2 ^ m) × IfSome at (λ k. k < m)) known (own_x, own_y, own_at)))))))
+
+  supported_leads : (top claim : Data) → Leads IsWithin (supported_of names top claim)
+  unfolding supported_of
+  supported_leads top claim =
+      leads_bind IsSet IsWithin (trades_on_of names top) _ (on_alone top) (λ on below.
+      leads_after IsWithin (frame_of SupportedKind claim) _ (λ frame.
+      leads_bind (ArePricesWithin n (10 ^ 18)) IsWithin (claimed_prices names claim) _ (priced claim) (λ prices are.
+      leads_ok IsWithin (Supported on prices) (below, are))))
+
+  cycle_leads : (top claim : Data) → Leads IsWithin (cycle_of names top claim)
+  unfolding cycle_of
+  cycle_leads top claim =
+      leads_bind IsSet IsWithin (trades_on_of names top) _ (on_alone top) (λ on below.
+      leads_after IsWithin (frame_of CycleKind claim) _ (λ frame.
+      leads_bind IsNumberWithin IsWithin (claimed_number Cost (get (codes "cost") claim)) _ (claimed_number_leads Cost (get (codes "cost") claim)) (λ cost small.
+      leads_bind (AreNodes names (most_nodes top)) IsWithin (claimed_nodes names (most_nodes top) claim) _ (nodes_lead names (most_nodes top) claim) (λ nodes are.
+      let most = are.most in
+      leads_ok IsWithin (Cycle on nodes cost) (
+        below,
+        record {
+          least = are.least;
+          most = omega (arith, most, most_nodes_few top);
+          known = counted (λ m. All (λ node. IfSome node (λ t. t < m)) nodes) are.known;
+        },
+        small,
+      )))))
+
+  solved_leads : (claim : Data) → Leads IsWithin (solved_of names claim)
+  unfolding solved_of
+  solved_leads claim =
+      leads_after IsWithin (frame_of SolvedKind claim) _ (λ frame.
+      leads_bind IsSet IsWithin (claimed_on names claim) _ (own_on claim) (λ on below.
+      leads_bind (ArePricesWithin n (10 ^ 18)) IsWithin (claimed_prices names claim) _ (priced claim) (λ prices are.
+      leads_bind IsNumberWithin IsWithin (claimed_number Surplus (get (codes "surplus") claim)) _ (claimed_number_leads Surplus (get (codes "surplus") claim)) (λ surplus small.
+      leads_ok IsWithin (Solved (record { on = on; prices = prices }) surplus) (below, are, small)))))
+
+  drops_leads : (top claim : Data) → Leads IsWithin (drops_of listed top claim)
+  unfolding drops_of
+  drops_leads top claim =
+      leads_bind (IsOutcomeWithin n) IsWithin (outcome_of names top) _ (signed top) (λ outcome is.
+      leads_after IsWithin (frame_of DropsKind claim) _ (λ frame.
+      leads_bind IsKnown IsWithin (claimed_firm listed.names.firms claim) _ (firm_lead claim) (λ f known.
+      leads_bind (λ gain. IfSome gain IsNumberWithin) IsWithin (gain_or_null (get (codes "gain") claim)) _ (gain_leads (get (codes "gain") claim)) (λ gain small.
+      leads_bind (IsOwn f) IsWithin (claimed_bundle listed f Keeps (get (codes "keeps") claim)) _ (bundle_lead f Keeps (get (codes "keeps") claim)) (λ keeps own.
+      leads_bind IsOverWithin IsWithin (claimed_over claim) _ (over_lead claim) (λ over is_over.
+      leads_ok IsWithin (Drops outcome f keeps gain over) (is, own_firm f (λ m. keeps < 2 ^ m) known own, small, is_over)))))))
+
+  completes_leads : (top claim : Data) → Leads IsWithin (completes_of names top claim)
+  unfolding completes_of
+  completes_leads top claim =
+      leads_bind (IsOutcomeWithin n) IsWithin (outcome_of names top) _ (signed top) (λ outcome is.
+      leads_after IsWithin (frame_of CompletesKind claim) _ (λ frame.
+      leads_bind IsOverWithin IsWithin (claimed_over claim) _ (over_lead claim) (λ over is_over.
+      leads_bind (ArePricesWithin n (10 ^ 18)) IsWithin (claimed_prices names claim) _ (priced claim) (λ prices are.
+      leads_ok IsWithin (Completes outcome prices over) (is, are, is_over)))))
+
+  blocks_leads : (top claim : Data) → Leads IsWithin (blocks_of names top claim)
+  unfolding blocks_of
+  blocks_leads top claim =
+      leads_bind (IsOutcomeWithin n) IsWithin (outcome_of names top) _ (signed top) (λ outcome is.
+      leads_after IsWithin (frame_of BlocksKind claim) _ (λ frame.
+      leads_bind (AreClaimedContracts names) IsWithin (claimed_contracts names claim) _ (claimed_contracts_lead names claim) (λ contracts are.
+      leads_bind IsOverWithin IsWithin (claimed_over claim) _ (over_lead claim) (λ over is_over.
+      leads_ok IsWithin (Blocks outcome contracts over) (
+        is,
+        record {
+          feasible = record { known = λ k contract at. subst (λ m. contract.trade < m) trades.named (are.known k contract at); once = are.once };
+          small = are.small;
+        },
+        is_over,
+      )))))
+
+  by_kind : (kind : ClaimKind) (top claim : Data) → Leads IsWithin (claim_by listed kind top claim)
+  by_kind EquilibriumKind top claim = equilibrium_leads top claim
+  by_kind BetterKind top claim = better_leads top claim
+  by_kind ImpossibleKind top claim = impossible_leads top claim
+  by_kind AcceptedKind top claim = accepted_leads claim
+  by_kind ExchangeFailsKind top claim = failure_leads claim
+  by_kind SupportedKind top claim = supported_leads top claim
+  by_kind CycleKind top claim = cycle_leads top claim
+  by_kind SolvedKind top claim = solved_leads claim
+  by_kind DropsKind top claim = drops_leads top claim
+  by_kind CompletesKind top claim = completes_leads top claim
+  by_kind BlocksKind top claim = blocks_leads top claim
+
+  pub claim_leads : (top : Data) → Leads IsWithin (claim_of listed top)
+  unfolding claim_of
+  claim_leads top =
+      leads_after IsWithin (wanted Shape claim_place (get (codes "claim") top)) _ (λ claim.
+      leads_after IsWithin (object_at claim_place (Some claim)) _ (λ object.
+      leads_after IsWithin (kind_of claim) _ (λ kind.
+      by_kind kind top claim)))
+
+pub claims_are_within : ClaimsAreWithin
+claims_are_within listed firms top claim trades named network e = (claim_leads listed trades firms named network top).at claim e

@@ -1,0 +1,5 @@
+use Rattle.tn_read_claims.proofs.KindLeads.{nodes_are_few}
+use Rattle.tn_read_claims.proofs.laws.nodes_are_few.Goals as goal
+
+pub returns : goal.returns
+returns c = nodes_are_few

@@ -1,0 +1,54 @@
+-- What holds of every claim that is read, and of every fault of one, in words that know nothing of the reading.
+use Rattle.std.specs.Prelude.{◌≡◌, ℕ, ℤ, ◌≤◌, List, length, Bool, true, false, Option, Ok, Err}
+use Rattle.serde_json.specs.Data.{Data}
+use Rattle.tn_base.specs.declared.fault.FaultKind.{FaultKind}
+use Rattle.tn_base.specs.declared.fault.FaultKind.TheVariants.{NotJson, TooLong, Shape, BadName, SameName, UnknownFirm, SelfTrade, UnknownTrade, Limit, AmountRange, NotOwnTrade, SameBundle, NoEmpty, NotLaminar, NotConcave, ExchangeFails, SameTrade, PriceMissing, BadOver, SamePair}
+use Rattle.tn_base.specs.Firm.{Firm}
+use Rattle.tn_plain_data.specs.declared.said.Fault.{Fault}
+use Rattle.tn_plain_data.specs.declared.claim.Claim.{Claim}
+use Rattle.tn_plain_data.specs.declared.claim.Claim.TheVariants.{Cycle}
+use Rattle.tn_plain_data.specs.ClaimLimits.{IsClaimWithin}
+use Rattle.tn_plain_data.specs.Network.{IsNetwork}
+use Rattle.tn_read_references.specs.Ordered.{Listed, AreTrades}
+use Rattle.tn_read_claims.specs.Claimed.{claim_of, claims_raw, is_raw, kind_is}
+use Rattle.tn_read_claims.specs.Members.{most_nodes}
+
+-- a claim of a document whose firms and trades are a network speaks of its firms, trades and positions, within the
+-- limits of claims
+abbrev pub ClaimsAreWithin : Type 0
+ClaimsAreWithin = (listed : Listed) (firms : List Firm) (top : Data) (claim : Claim) → AreTrades listed → length listed.names.firms ≡ length firms → IsNetwork firms listed.ends
+    → claim_of listed top ≡ Ok claim → IsClaimWithin firms listed.ends claim
+
+-- its nodes are at most one more than the most trades of a document of its version
+abbrev pub NodesAreFew : Type 0
+NodesAreFew = (listed : Listed) (top : Data) (on : ℕ) (nodes : List (Option ℕ)) (cost : ℤ) → claim_of listed top ≡ Ok (Cycle on nodes cost) → length nodes ≤ most_nodes top
+
+-- whether it is a claim on exchange is told before it is read
+abbrev pub RawClaimsAreTold : Type 0
+RawClaimsAreTold = (listed : Listed) (top : Data) (claim : Claim) → claim_of listed top ≡ Ok claim → claims_raw top ≡ is_raw (kind_is claim)
+
+-- the kinds of faults that a claim, or the part that it speaks of, may have
+abbrev pub is_claim_fault : FaultKind → Bool
+is_claim_fault NotJson = false
+is_claim_fault TooLong = false
+is_claim_fault Shape = true
+is_claim_fault BadName = false
+is_claim_fault SameName = false
+is_claim_fault UnknownFirm = true
+is_claim_fault SelfTrade = false
+is_claim_fault UnknownTrade = true
+is_claim_fault Limit = true
+is_claim_fault AmountRange = true
+is_claim_fault NotOwnTrade = true
+is_claim_fault SameBundle = false
+is_claim_fault NoEmpty = false
+is_claim_fault NotLaminar = false
+is_claim_fault NotConcave = false
+is_claim_fault ExchangeFails = false
+is_claim_fault SameTrade = true
+is_claim_fault PriceMissing = true
+is_claim_fault BadOver = true
+is_claim_fault SamePair = false
+
+abbrev pub FaultsOfClaims : Type 0
+FaultsOfClaims = (listed : Listed) (top : Data) (fault : Fault) → claim_of listed top ≡ Err fault → is_claim_fault fault.kind ≡ true

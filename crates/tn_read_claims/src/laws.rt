@@ -1,0 +1,24 @@
+ghost use Rattle.tn_read_claims.specs.Laws.{ClaimsAreWithin, FaultsOfClaims, NodesAreFew, RawClaimsAreTold};
+
+/// A claim that is read of a network's document speaks of its firms, trades and positions, and its numbers keep the limits
+/// of claims. Of its contracts no two are on one trade.
+pub fn claims_are_within()
+    ensures { ClaimsAreWithin }
+{}
+
+/// A claimed cycle has at most 65 nodes in a document of version 1, and at most 129 in one of version 2.
+pub fn nodes_are_few()
+    ensures { NodesAreFew }
+{}
+
+/// Whether the claim that is read is one on exchange is told by the text of its answer.
+pub fn raw_claims_are_told()
+    ensures { RawClaimsAreTold }
+{}
+
+/// A claim, or the part of the document that it speaks of, is refused for a shape, an unknown firm or trade, a trade that
+/// isn't the firm's own or is named twice, a number out of its range, a count out of its limit, a price that is missing, or
+/// a denominator out of its range, and for nothing else.
+pub fn faults_of_claims()
+    ensures { FaultsOfClaims }
+{}

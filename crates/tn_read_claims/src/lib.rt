@@ -1,0 +1,15 @@
+//! Reads the claim of a document, with the part of the document that it speaks of.
+//! Which value is which claim, and in which order its parts are tested, stands in `specs/`.
+#![tactic(auto)]
+
+mod claim;
+mod contracts;
+mod kinds;
+mod laws;
+mod members;
+mod nodes;
+mod raw;
+
+pub use claim::read_claim;
+pub use laws::{claims_are_within, faults_of_claims, nodes_are_few, raw_claims_are_told};
+pub use raw::claims_raw;

@@ -1,0 +1,133 @@
+-- What the laminar firms are that reading gives.
+use Rattle.std.proofs.Common.{◌≡◌, ℕ, ◌+◌, ◌^◌, ◌<◌, ◌≤◌, true, List, [], ◌∷◌, ◌++◌, length, Option, Some, refl, arith, length-append}
+use Rattle.std.specs.Prelude.{ℤ, nat_le, unsigned_abs, codes, All}
+use Rattle.std.proofs.lemmas.List.Elements.{All-push}
+use Rattle.serde_json.specs.Data.{Data}
+use Rattle.serde_json.specs.Events.{items_len}
+use Rattle.serde_json.specs.Find.{get}
+use Rattle.tn_base.specs.Arcs.{IsAtMost}
+use Rattle.tn_base.specs.declared.fault.FaultKind.TheVariants.{Limit}
+use Rattle.tn_laminar.specs.declared.set.LaminarSet.{LaminarSet}
+use Rattle.tn_laminar.specs.Faults.{AreSound}
+use Rattle.tn_laminar.specs.Sum.{HasNumbersWithin, IsOwnSet, laminar_firm}
+use Rattle.tn_plain_data.specs.declared.place.PlaceStep.{PlaceStep}
+use Rattle.tn_plain_data.specs.declared.place.PlaceStep.TheVariants.{Index, Word}
+use Rattle.tn_plain_data.specs.declared.place.Word.TheVariants.{Trades, Sets, From, Values}
+use Rattle.tn_shape.specs.declared.members.ObjectKind.TheVariants.{LaminarSet as LaminarSetObject}
+use Rattle.tn_shape.specs.Reading.{each, holds}
+use Rattle.tn_shape.specs.Shapes.{few_at, number_at, object_of, optional_list_at, whole_at}
+use Rattle.tn_read_references.specs.Ordered.{Listed, sides_of, AreTrades}
+use Rattle.tn_read_references.specs.References.{bundle_at, firm_place}
+use Rattle.tn_read_firms.specs.OwnNumbers.{no_numbers, own_numbers}
+use Rattle.tn_read_firms.specs.Laminars.{amounts_list, check_sets, checked_laminar, laminar_of, low_at, one_set, one_value, set_of, set_place, sets_at, values_at}
+use Rattle.tn_read_firms.specs.Laws.{IsLaminarFirm}
+use Rattle.tn_read_references.proofs.EntryLeads.{AreNumbers, zeros}
+use Rattle.tn_read_firms.proofs.OwnLemmas.{own_numbers_lead}
+use Rattle.tn_shape.proofs.ShapeLeads.{few_lead, number_leads}
+use Rattle.tn_read_references.proofs.ReferenceLeads.{bundle_leads}
+use Rattle.tn_read_firms.proofs.SoundLemmas.{sound_sets}
+use Rattle.tn_shape.proofs.LeadLemmas.{Leads, leads_ok, leads_bind, leads_after, leads_each, leads_count, leads_both, leads_holds, leads_as, le_from_test, small_from_test}
+
+low_leads : (place : List PlaceStep) (value : Option Data) → Leads (λ low. IsAtMost low 32) (low_at place value)
+unfolding low_at
+low_leads place value = leads_after (λ low. IsAtMost low 32) (whole_at place value) _ (λ low.
+    leads_bind (λ _. nat_le (unsigned_abs low) 32 ≡ true) (λ low. IsAtMost low 32) (holds Limit place (nat_le (unsigned_abs low) 32)) _ (leads_holds Limit place (nat_le (unsigned_abs low) 32)) (λ u near.
+    leads_ok (λ low. IsAtMost low 32) low (small_from_test low 32 near)))
+
+-- few small numbers
+record AreValues (numbers : List ℤ) : Type 0 where
+  few : length numbers ≤ 65
+  small : All (λ z. IsAtMost z (10 ^ 9)) numbers
+
+module _ (f s : ℕ) where
+  value_leads : (numbers : List ℤ) (value : Data) → All (λ z. IsAtMost z (10 ^ 9)) numbers → Leads (All (λ z. IsAtMost z (10 ^ 9))) (one_value f s numbers value)
+  unfolding one_value
+  value_leads numbers value small =
+      leads_bind (λ z. IsAtMost z (10 ^ 9)) (All (λ z. IsAtMost z (10 ^ 9))) (number_at (10 ^ 9) (set_place f s ++ Word Values ∷ Index (length numbers) ∷ []) value) _ (number_leads (10 ^ 9) (set_place f s ++ Word Values ∷ Index (length numbers) ∷ []) (Some value)) (λ z is.
+      leads_ok (All (λ z. IsAtMost z (10 ^ 9))) (numbers ++ z ∷ []) (All-push (λ z. IsAtMost z (10 ^ 9)) numbers z small is))
+
+  pub value_counts : (numbers : List ℤ) (value : Data) → Leads (λ next. length next ≡ length numbers + 1) (one_value f s numbers value)
+  unfolding one_value
+  value_counts numbers value =
+      leads_after (λ next. length next ≡ length numbers + 1) (number_at (10 ^ 9) (set_place f s ++ Word Values ∷ Index (length numbers) ∷ []) value) _ (λ z.
+      leads_ok (λ next. length next ≡ length numbers + 1) (numbers ++ z ∷ []) (length-append numbers (z ∷ [])))
+
+  values_lead : (value : Option Data) → Leads AreValues (values_at f s value)
+  unfolding values_at
+  values_lead value =
+      leads_bind (λ items. items_len items ≤ 65) AreValues (few_at 65 (set_place f s ++ Word Values ∷ []) value) _ (few_lead 65 (set_place f s ++ Word Values ∷ []) value) (λ items few.
+      leads_as (λ numbers. All (λ z. IsAtMost z (10 ^ 9)) numbers × (length numbers ≡ 0 + items_len items)) AreValues (each (one_value f s) [] items) (λ numbers are. record { few = omega (arith, few, are.1); small = are.0 })
+      (leads_both (All (λ z. IsAtMost z (10 ^ 9))) (λ numbers. length numbers ≡ 0 + items_len items) (each (one_value f s) [] items)
+      (leads_each (All (λ z. IsAtMost z (10 ^ 9))) (one_value f s) value_leads [] items (λ k d h. absurd (omega (arith, h))))
+      (leads_count length (one_value f s) value_counts [] items)))
+
+module _ (listed : Listed) (trades : AreTrades listed) (f : ℕ) where
+  -- a set of own trades with few small numbers
+  record IsSetOf (set : LaminarSet) : Type 0 where
+    own : IsOwnSet (length (sides_of listed.ends f)) set
+    numbered : HasNumbersWithin set
+
+  set_leads : (s : ℕ) (set : Data) → Leads IsSetOf (set_of listed f s set)
+  unfolding set_of
+  set_leads s set =
+      leads_after IsSetOf (object_of LaminarSetObject (set_place f s) (Some set)) _ (λ object.
+      leads_bind (λ b. b < 2 ^ length (sides_of listed.ends f)) IsSetOf (bundle_at listed f (set_place f s ++ Word Trades ∷ []) (get (codes "trades") set)) _ (bundle_leads listed trades f (set_place f s ++ Word Trades ∷ []) (get (codes "trades") set)) (λ members own.
+      leads_bind (λ low. IsAtMost low 32) IsSetOf (low_at (set_place f s ++ Word From ∷ []) (get (codes "from") set)) _ (low_leads (set_place f s ++ Word From ∷ []) (get (codes "from") set)) (λ low near.
+      leads_bind AreValues IsSetOf (values_at f s (get (codes "values") set)) _ (values_lead f s (get (codes "values") set)) (λ numbers are.
+      leads_ok IsSetOf (record { members = members; low = low; numbers = numbers }) (record { own = own; numbered = record { low = near; few = are.few; small = are.small } })))))
+
+  -- the sets so far
+  pub record AreSetsOf (sets : List LaminarSet) : Type 0 where
+    pub own : All (IsOwnSet (length (sides_of listed.ends f))) sets
+    pub numbered : All HasNumbersWithin sets
+
+  one_set_leads : (sets : List LaminarSet) (set : Data) → AreSetsOf sets → Leads AreSetsOf (one_set listed f sets set)
+  unfolding one_set
+  one_set_leads sets set are =
+      leads_bind IsSetOf AreSetsOf (set_of listed f (length sets) set) _ (set_leads (length sets) set) (λ next is.
+      leads_ok AreSetsOf (sets ++ next ∷ []) (record { own = All-push (IsOwnSet (length (sides_of listed.ends f))) sets next are.own is.own; numbered = All-push HasNumbersWithin sets next are.numbered is.numbered }))
+
+  pub one_set_counts : (sets : List LaminarSet) (set : Data) → Leads (λ next. length next ≡ length sets + 1) (one_set listed f sets set)
+  unfolding one_set
+  one_set_counts sets set =
+      leads_after (λ next. length next ≡ length sets + 1) (set_of listed f (length sets) set) _ (λ next.
+      leads_ok (λ more. length more ≡ length sets + 1) (sets ++ next ∷ []) (length-append sets (next ∷ [])))
+
+  abbrev pub AreFewSets : List LaminarSet → Type 0
+  AreFewSets sets = AreSetsOf sets × (length sets ≤ 64)
+
+  pub sets_lead : (value : Option Data) → Leads AreFewSets (sets_at listed f value)
+  unfolding sets_at
+  sets_lead value =
+      leads_after AreFewSets (optional_list_at (firm_place f ++ Word Sets ∷ []) value) _ (λ items.
+      leads_bind (λ _. nat_le (items_len items) 64 ≡ true) AreFewSets (holds Limit (firm_place f ++ Word Sets ∷ []) (nat_le (items_len items) 64)) _ (leads_holds Limit (firm_place f ++ Word Sets ∷ []) (nat_le (items_len items) 64)) (λ u few.
+      leads_as (λ sets. AreSetsOf sets × (length sets ≡ 0 + items_len items)) AreFewSets (each (one_set listed f) [] items) (λ sets are. (are.0, (let most = le_from_test (items_len items) 64 few in let count = are.1 in omega (arith, most, count))))
+      (leads_both AreSetsOf (λ sets. length sets ≡ 0 + items_len items) (each (one_set listed f) [] items)
+      (leads_each AreSetsOf (one_set listed f) one_set_leads [] items (record { own = λ k d h. absurd (omega (arith, h)); numbered = λ k d h. absurd (omega (arith, h)) }))
+      (leads_count length (one_set listed f) one_set_counts [] items))))
+
+  checked_leads : (amounts : List ℤ) (sets : List LaminarSet) → AreNumbers (length (sides_of listed.ends f)) (10 ^ 9) amounts → AreFewSets sets → length (sides_of listed.ends f) ≤ 32
+      → Leads (IsLaminarFirm listed.ends f) (checked_laminar f (sides_of listed.ends f) amounts sets)
+  unfolding checked_laminar
+  checked_leads amounts sets are so few =
+      leads_bind (λ _. AreSound sets) (IsLaminarFirm listed.ends f) (check_sets f [] sets) _ (record { at = λ u e. sound_sets f sets e }) (λ u sound.
+      leads_ok (IsLaminarFirm listed.ends f) (laminar_firm (sides_of listed.ends f) amounts sets) (record {
+        amounts = amounts;
+        sets = sets;
+        is = refl;
+        few = few;
+        as_many = are.count;
+        small = are.small;
+        few_sets = so.1;
+        own = so.0.own;
+        numbered = so.0.numbered;
+        sound = sound;
+      }))
+
+  pub laminar_leads : (firm : Data) → length (sides_of listed.ends f) ≤ 32 → Leads (IsLaminarFirm listed.ends f) (laminar_of listed f firm)
+  unfolding laminar_of
+  laminar_leads firm few =
+      leads_bind (AreNumbers (length (sides_of listed.ends f)) (10 ^ 9)) (IsLaminarFirm listed.ends f) (own_numbers listed (amounts_list f) (no_numbers listed.ends f) (get (codes "amounts") firm)) _
+      (own_numbers_lead listed (amounts_list f) (length (sides_of listed.ends f)) (no_numbers listed.ends f) (get (codes "amounts") firm) (zeros (length (sides_of listed.ends f)) (10 ^ 9))) (λ amounts are.
+      leads_bind AreFewSets (IsLaminarFirm listed.ends f) (sets_at listed f (get (codes "sets") firm)) _ (sets_lead (get (codes "sets") firm)) (λ sets so.
+      checked_leads amounts sets are so few))

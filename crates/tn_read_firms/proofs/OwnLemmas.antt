@@ -1,0 +1,39 @@
+-- The numbers that entries give to a firm's own trades.
+use Rattle.std.proofs.Common.{ℕ, ◌^◌, List, length, Option, arith, ◌≤◌}
+use Rattle.std.specs.Prelude.{ℤ}
+use Rattle.serde_json.specs.Data.{Data}
+use Rattle.tn_read_firms.specs.declared.own_numbers.OwnList.{OwnList}
+use Rattle.tn_shape.specs.Reading.{each}
+use Rattle.tn_shape.specs.Shapes.{optional_list_at}
+use Rattle.tn_read_references.specs.Ordered.{Listed, sides_of, AreTrades}
+use Rattle.tn_read_references.specs.References.{new_own}
+use Rattle.tn_read_firms.specs.OwnNumbers.{list_place, one_own, own_numbers}
+use Rattle.tn_shape.proofs.LeadLemmas.{Leads, leads_ok, leads_bind, leads_after}
+use Rattle.tn_read_references.proofs.ReferenceLeads.{new_own_leads}
+use Rattle.tn_shape.proofs.StopLemmas.{StopsPlainly, IsPlain, IsPlainPlace, stops_ok, stops_bind}
+use Rattle.tn_shape.proofs.ShapeStops.{optional_list_stops}
+use Rattle.tn_read_references.proofs.ReferenceStops.{new_own_stops, RefersPlainly, entries_stop}
+use Rattle.tn_read_references.proofs.EntryLeads.{AreNumbers, entries_lead}
+
+pub own_numbers_lead : (listed : Listed) (list : OwnList) (count : ℕ) (numbers : List ℤ) (value : Option Data) → AreNumbers count (10 ^ 9) numbers → Leads (AreNumbers count (10 ^ 9)) (own_numbers listed list numbers value)
+unfolding own_numbers
+own_numbers_lead listed list count numbers value are =
+    leads_after (AreNumbers count (10 ^ 9)) (optional_list_at (list_place list) value) _ (λ entries.
+    leads_bind (λ end. AreNumbers count (10 ^ 9) end.numbers) (AreNumbers count (10 ^ 9)) (each (one_own listed list) (record { named = 0; numbers = numbers }) entries) _
+    (entries_lead (new_own listed list.firm list.side) (list_place list) count (10 ^ 9) (record { named = 0; numbers = numbers }) entries are) (λ end so.
+    leads_ok (AreNumbers count (10 ^ 9)) end.numbers so))
+
+module _ (listed : Listed) (trades : AreTrades listed) (list : OwnList) (few : length (sides_of listed.ends list.firm) ≤ 32) (plain : IsPlainPlace (list_place list)) where
+  own_refers : RefersPlainly (length (sides_of listed.ends list.firm)) (new_own listed list.firm list.side)
+  own_refers = record {
+    stops = λ place named value at. new_own_stops place at listed list.firm list.side named value;
+    below = λ place named value. new_own_leads listed trades list.firm list.side place named value;
+  }
+
+  pub own_numbers_stop : (numbers : List ℤ) (value : Option Data) → StopsPlainly (own_numbers listed list numbers value)
+  unfolding own_numbers
+  own_numbers_stop numbers value =
+      stops_bind IsPlain (optional_list_at (list_place list) value) _ (optional_list_stops (list_place list) plain value) (λ entries.
+      stops_bind IsPlain (each (one_own listed list) (record { named = 0; numbers = numbers }) entries) _
+      (entries_stop (length (sides_of listed.ends list.firm)) (omega (arith, few)) (new_own listed list.firm list.side) own_refers (list_place list) plain (10 ^ 9) numbers entries) (λ end.
+      stops_ok IsPlain end.numbers))

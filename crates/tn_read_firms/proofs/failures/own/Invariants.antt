@@ -1,0 +1,9 @@
+use Rattle.std.proofs.Common.{◌≡◌, ◌+◌, drop}
+use Rattle.tn_plain_data.specs.Network.{own}
+use Rattle.tn_read_firms.proofs.failures.own.Given as goal
+
+abbrev pub invariant-loop-trade : goal.invariant-loop-trade
+invariant-loop-trade l = record {
+  count : l.t ≡ l.trade-index;
+  rest : own l.ends l.f l.k ≡ l.t + own (drop l.trade-index l.ends) l.f l.k;
+}

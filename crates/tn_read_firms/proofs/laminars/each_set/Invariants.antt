@@ -1,0 +1,11 @@
+use Rattle.std.proofs.Common.{◌≡◌, length, drop, []}
+use Rattle.serde_json.specs.View.{items_view}
+use Rattle.tn_shape.specs.Reading.{each}
+use Rattle.tn_read_firms.specs.Laminars.{one_set}
+use Rattle.tn_read_firms.proofs.laminars.each_set.Given as goal
+
+abbrev pub invariant-loop-item : goal.invariant-loop-item
+invariant-loop-item l = record {
+  count : length l.sets.items ≡ l.item-index;
+  rest : each (one_set (record { names = l.names; ends = l.ends }) l.f) (l.sets.items) (items_view (drop l.item-index l.items)) ≡ each (one_set (record { names = l.names; ends = l.ends }) l.f) ([]) (items_view l.items);
+}

@@ -1,0 +1,61 @@
+-- Dealers: pairs of a purchase and a sale, each with what it costs.
+use Rattle.std.specs.Prelude.{ℕ, ◌^◌, ◌++◌, [], ◌∷◌, ◌==◌, ◌&&◌, not, Bool, List, length, codes, Option, Some, None, Result, Ok}
+use Rattle.std.specs.List.{list_any}
+use Rattle.serde_json.specs.Data.{Data, Items, no_items, item}
+use Rattle.serde_json.specs.Find.{get}
+use Rattle.tn_base.specs.Firm.{Firm}
+use Rattle.tn_base.specs.declared.fault.FaultKind.TheVariants.{Shape, SamePair}
+use Rattle.tn_base.specs.declared.side.Side.TheVariants.{Buy, Sell}
+use Rattle.tn_dealer.specs.declared.pair.Pair.{Pair}
+use Rattle.tn_dealer.specs.Pairs.{dealer_firm}
+use Rattle.tn_plain_data.specs.declared.place.PlaceStep.{PlaceStep}
+use Rattle.tn_plain_data.specs.declared.place.PlaceStep.TheVariants.{Index, Word}
+use Rattle.tn_plain_data.specs.declared.place.Word.TheVariants.{Firms, Pairs}
+use Rattle.tn_plain_data.specs.declared.said.Fault.{Fault}
+use Rattle.tn_shape.specs.Reading.{◌>>=◌, each, wanted, holds}
+use Rattle.tn_shape.specs.Shapes.{list_at, optional_list_at, number_at}
+use Rattle.tn_read_references.specs.Ordered.{Listed, sides_of}
+use Rattle.tn_read_references.specs.References.{own_position}
+
+abbrev pub three_of : Items → Option (Data × Data × Data)
+three_of (item d (item e (item g no_items))) = Some (d, e, g)
+three_of _ = None
+
+-- a list of three
+unfoldable pub three_at : List PlaceStep → Data → Result (Data × Data × Data) Fault
+three_at place value = do
+  items ← list_at place (Some value)
+  wanted Shape place (three_of items)
+
+abbrev pub pairs_place : ℕ → List PlaceStep
+pairs_place f = Word Firms ∷ Index f ∷ Word Pairs ∷ []
+
+abbrev pub pair_place : ℕ → ℕ → List PlaceStep
+pair_place f k = Word Firms ∷ Index f ∷ Word Pairs ∷ Index k ∷ []
+
+-- the pair of an entry: an own purchase, an own sale, and what it costs
+unfoldable pub pair_of : Listed → ℕ → ℕ → Data → Result Pair Fault
+pair_of listed f k entry = do
+  three ← three_at (pair_place f k) entry
+  buy ← own_position listed f (Some Buy) (pair_place f k ++ Index 0 ∷ []) three.0
+  sell ← own_position listed f (Some Sell) (pair_place f k ++ Index 1 ∷ []) three.1
+  cost ← number_at (10 ^ 9) (pair_place f k ++ Index 2 ∷ []) three.2
+  Ok (record { buy = buy; sell = sell; cost = cost })
+
+-- whether a pair has the purchase and the sale of another
+abbrev pub is_same_pair : Pair → Pair → Bool
+is_same_pair pair earlier = (earlier.buy == pair.buy) && (earlier.sell == pair.sell)
+
+-- one more pair, whose purchase and sale no earlier one has; its index is the count of those before it
+unfoldable pub one_pair : Listed → ℕ → List Pair → Data → Result (List Pair) Fault
+one_pair listed f pairs entry = do
+  next ← pair_of listed f (length pairs) entry
+  new ← holds SamePair (pair_place f (length pairs)) (not (list_any (is_same_pair next) pairs))
+  Ok (pairs ++ next ∷ [])
+
+-- the dealer f
+unfoldable pub dealer_of : Listed → ℕ → Data → Result Firm Fault
+dealer_of listed f firm = do
+  entries ← optional_list_at (pairs_place f) (get (codes "pairs") firm)
+  pairs ← each (one_pair listed f) [] entries
+  Ok (dealer_firm (sides_of listed.ends f) pairs)

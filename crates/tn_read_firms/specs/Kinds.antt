@@ -1,0 +1,40 @@
+-- The kinds of firms, and what holds of a firm by its kind.
+use Rattle.std.specs.Prelude.{ℕ, ◌++◌, [], ◌∷◌, List, length, codes, nat_le, if◌then◌else◌, Option, Some, None, Result}
+use Rattle.std.specs.Str.{bytes_eq}
+use Rattle.serde_json.specs.Data.{Data}
+use Rattle.serde_json.specs.Find.{get}
+use Rattle.tn_base.specs.declared.fault.FaultKind.TheVariants.{Shape, Limit}
+use Rattle.tn_plain_data.specs.declared.ends.Ends.{Ends}
+use Rattle.tn_plain_data.specs.declared.place.PlaceStep.TheVariants.{Word}
+use Rattle.tn_plain_data.specs.declared.place.Word.TheVariants.{Kind}
+use Rattle.tn_plain_data.specs.declared.said.Fault.{Fault}
+use Rattle.tn_shape.specs.declared.members.FirmKind.{FirmKind}
+use Rattle.tn_shape.specs.declared.members.FirmKind.TheVariants.{Table, Laminar, Middleman, Dealer}
+use Rattle.tn_shape.specs.declared.members.ObjectKind.TheVariants.{Firm}
+use Rattle.tn_shape.specs.Reading.{◌>>=◌, wanted, holds}
+use Rattle.tn_shape.specs.Shapes.{text_at, object_of}
+use Rattle.tn_read_references.specs.Ordered.{sides_of}
+use Rattle.tn_read_references.specs.References.{firm_place}
+
+-- the kind that a text names
+abbrev pub kind_named : List ℕ → Option FirmKind
+kind_named text = if bytes_eq text (codes "table") then Some Table else (if bytes_eq text (codes "laminar") then Some Laminar else (if bytes_eq text (codes "middleman") then Some Middleman else (if bytes_eq text (codes "dealer") then Some Dealer else None)))
+
+-- the kind of firm f
+unfoldable pub kind_of : ℕ → Data → Result FirmKind Fault
+kind_of f firm = do
+  kind ← text_at (firm_place f ++ Word Kind ∷ []) (get (codes "kind") firm)
+  wanted Shape (firm_place f ++ Word Kind ∷ []) (kind_named kind)
+
+-- the most own trades of a firm
+abbrev pub most_own : FirmKind → ℕ
+most_own Table = 14
+most_own Laminar = 32
+most_own Middleman = 32
+most_own Dealer = 32
+
+-- firm f has the members of its kind alone, and few own trades
+unfoldable pub frame_of : List Ends → ℕ → FirmKind → Data → Result (Unit {0}) Fault
+frame_of trades f kind firm = do
+  object ← object_of (Firm kind) (firm_place f) (Some firm)
+  holds Limit (firm_place f) (nat_le (length (sides_of trades f)) (most_own kind))

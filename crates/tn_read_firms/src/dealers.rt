@@ -1,0 +1,151 @@
+//! Dealers.
+
+ghost use Rattle.std.specs.Prelude.{◌≡◌, ◌≤◌, ◌++◌, ◌∷◌, [], length, option_map};
+ghost use Rattle.std.specs.List.{list_any};
+ghost use Rattle.serde_json.specs.View.{view, items_view};
+ghost use Rattle.tn_base.specs.Table.{buys_of};
+ghost use Rattle.tn_dealer.specs.Firms.{firm_of};
+ghost use Rattle.tn_dealer.specs.Pairs.{AreDifferent, IsOwnPair};
+ghost use Rattle.tn_read_firms.specs.Dealers.{dealer_of, is_same_pair, one_pair, pair_of, three_at, three_of};
+ghost use Rattle.tn_read_references.specs.Ordered.{AreTrades, Listed, sides_of};
+ghost use Rattle.tn_shape.specs.Reading.{Gives, each};
+
+use crate::rows::AMOUNT_LIMIT;
+use serde_json::Value;
+use std::alloc::Global;
+use tn_base::{FaultKind, Side};
+use tn_dealer::{Dealer, Pair, SamePair};
+use tn_market::PlaceStep::Index;
+use tn_market::{Ends, PlaceStep};
+use tn_names::Names;
+use tn_read_references::{own_position, sides_of};
+use tn_shape::steps::{FIRMS, PAIRS};
+use tn_shape::{ReadError, fault, list, number, optional_list, require};
+
+/// The dealer `f`.
+#[tactic(auto, unfolding(crate::specs::Dealers::dealer_of))]
+pub(crate) fn dealer_of(
+    alloc: Global,
+    names: &Names,
+    ends: &[Ends],
+    f: u32,
+    firm: &Value,
+) -> Result<Dealer, ReadError>
+    requires trades { AreTrades (record { names = names.now; ends = ends.now }) }
+    requires few { length (sides_of ends.now f) ≤ 32 }
+    ensures { Gives firm_of result
+        (dealer_of (record { names = names.now; ends = ends.now }) f (view firm.now)) }
+{
+    let sides = sides_of(alloc, ends, f)?;
+    let place = [FIRMS, Index(f), PAIRS];
+    let entries = optional_list(alloc, firm.get("pairs"), &place)?;
+    let pairs = read_pairs(alloc, names, ends, f, entries)?;
+    match Dealer::new(sides, pairs) {
+        Ok(dealer) => Ok(dealer),
+        // No pair that was read is repeated.
+        Err(SamePair { .. }) => unreachable!(),
+    }
+}
+
+/// The pairs of the entries, of which none is repeated.
+fn read_pairs(
+    alloc: Global,
+    names: &Names,
+    ends: &[Ends],
+    f: u32,
+    entries: &[Value],
+) -> Result<Vec<Pair>, ReadError>
+    requires trades { AreTrades (record { names = names.now; ends = ends.now }) }
+    requires few { length (sides_of ends.now f) ≤ 32 }
+    ensures { Gives (λ pairs. pairs.items) result
+        (each (one_pair (record { names = names.now; ends = ends.now }) f) [] (items_view entries.now)) }
+{
+    let mut pairs = Vec::new(alloc);
+    for entry in entries {
+        let pair = new_pair(alloc, names, ends, f, &pairs, entry)?;
+        pairs.push(pair)?;
+    }
+    Ok(pairs)
+}
+
+/// One more pair, which has not the purchase and the sale of an earlier one.
+#[tactic(auto, unfolding(crate::specs::Dealers::one_pair))]
+fn new_pair(
+    alloc: Global,
+    names: &Names,
+    ends: &[Ends],
+    f: u32,
+    pairs: &[Pair],
+    entry: &Value,
+) -> Result<Pair, ReadError>
+    requires trades { AreTrades (record { names = names.now; ends = ends.now }) }
+    requires few { length pairs.now ≤ 1024 }
+    ensures { Gives (λ pair. pairs.now ++ pair ∷ []) result
+        (one_pair (record { names = names.now; ends = ends.now }) f pairs.now (view entry.now)) }
+{
+    let k = pairs.len() as u32;
+    let pair = pair_of(alloc, names, ends, f, k, entry)?;
+    let place = [FIRMS, Index(f), PAIRS, Index(k)];
+    require(alloc, !is_listed(&pair, pairs), FaultKind::SamePair, &place)?;
+    Ok(pair)
+}
+
+/// Whether a list has the purchase and the sale of a pair.
+fn is_listed(pair: &Pair, pairs: &[Pair]) -> bool
+    ensures { result ≡ list_any (is_same_pair pair.now) pairs.now }
+{
+    pairs.iter().any(|earlier| earlier.buy == pair.buy && earlier.sell == pair.sell)
+}
+
+/// The pair of an entry.
+#[tactic(auto, unfolding(crate::specs::Dealers::pair_of))]
+fn pair_of(
+    alloc: Global,
+    names: &Names,
+    ends: &[Ends],
+    f: u32,
+    k: u32,
+    entry: &Value,
+) -> Result<Pair, ReadError>
+    requires { AreTrades (record { names = names.now; ends = ends.now }) }
+    ensures { Gives (λ pair. pair) result
+        (pair_of (record { names = names.now; ends = ends.now }) f k (view entry.now)) }
+{
+    let (f_step, k_step) = (Index(f), Index(k));
+    let (purchase, sale, cost) = three(alloc, entry, &[FIRMS, f_step, PAIRS, k_step])?;
+    let place = [FIRMS, f_step, PAIRS, k_step, Index(0)];
+    let buy = own_position(alloc, names, ends, f, Some(Side::Buy), purchase, &place)?;
+    let place = [FIRMS, f_step, PAIRS, k_step, Index(1)];
+    let sell = own_position(alloc, names, ends, f, Some(Side::Sell), sale, &place)?;
+    let place = [FIRMS, f_step, PAIRS, k_step, Index(2)];
+    let cost = number(alloc, AMOUNT_LIMIT, Some(cost), &place)?;
+    Ok(Pair { buy, sell, cost })
+}
+
+/// The three items of a list of three; another value is a fault of shape.
+#[tactic(auto, unfolding(crate::specs::Dealers::three_at))]
+fn three<'a>(
+    alloc: Global,
+    value: &'a Value,
+    place: &[PlaceStep],
+) -> Result<(&'a Value, &'a Value, &'a Value), ReadError>
+    ensures { Gives (λ p. (view p.0.now, view p.1.now, view p.2.now)) result (three_at place.now (view value.now)) }
+{
+    let items = list(alloc, Some(value), place)?;
+    match three_of(items) {
+        Some(three) => Ok(three),
+        None => Err(fault(alloc, FaultKind::Shape, place)),
+    }
+}
+
+fn three_of(items: &[Value]) -> Option<(&Value, &Value, &Value)>
+    ensures { option_map (λ p. (view p.0.now, view p.1.now, view p.2.now)) result ≡ three_of (items_view items.now) }
+{
+    match items {
+        [] => None,
+        [_] => None,
+        [_, _] => None,
+        [one, two, three] => Some((one, two, three)),
+        [_, _, _, _, ..] => None,
+    }
+}

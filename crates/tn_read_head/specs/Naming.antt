@@ -1,0 +1,63 @@
+-- The names of firms and of trades, and the two ends of each trade.
+use Rattle.std.specs.Prelude.{ℕ, List, codes, Option, Some, Result, Ok, ◌++◌, [], ◌∷◌, length, not, ◌==◌}
+use Rattle.tn_base.specs.declared.fault.FaultKind.TheVariants.{BadName, SameName, SelfTrade}
+use Rattle.tn_plain_data.specs.declared.place.PlaceStep.{PlaceStep}
+use Rattle.tn_plain_data.specs.declared.said.Fault.{Fault}
+use Rattle.serde_json.specs.Data.{Data}
+use Rattle.tn_names.specs.Names.{is_name, NameLists, has_name, with_firm, with_trade}
+use Rattle.tn_shape.specs.Reading.{◌>>=◌, holds}
+use Rattle.serde_json.specs.Find.{get}
+use Rattle.tn_plain_data.specs.declared.ends.Ends.{Ends}
+use Rattle.tn_plain_data.specs.declared.place.PlaceStep.TheVariants.{Index, Word}
+use Rattle.tn_plain_data.specs.declared.place.Word.TheVariants.{Firms, Trades, Name, Seller, Buyer}
+use Rattle.tn_shape.specs.declared.members.ObjectKind.TheVariants.{Trade as TradeObject}
+use Rattle.tn_read_head.specs.Beside.{Stop, with_names}
+use Rattle.tn_shape.specs.Shapes.{text_at, object_at, object_of}
+use Rattle.tn_read_references.specs.Ordered.{sides_of, Listed}
+use Rattle.tn_read_references.specs.References.{firm_at}
+
+-- a text that keeps the rule for names
+unfoldable pub name_at : List PlaceStep → Option Data → Result (List ℕ) Fault
+name_at place value = do
+  name ← text_at place value
+  named ← holds BadName place (is_name name)
+  Ok name
+
+-- a name that isn't among the names yet
+unfoldable pub new_name : List (List ℕ) → List PlaceStep → Option Data → Result (List ℕ) Fault
+new_name names place value = do
+  name ← name_at place value
+  new ← holds SameName place (not (has_name names name))
+  Ok name
+
+-- one more firm; its number is the count of those before it
+unfoldable pub firm_name : NameLists → Data → Result NameLists Fault
+firm_name names firm = do
+  object ← object_at (Word Firms ∷ Index (length names.firms) ∷ []) (Some firm)
+  name ← new_name names.firms (Word Firms ∷ Index (length names.firms) ∷ Word Name ∷ []) (get (codes "name") firm)
+  Ok (with_firm names name)
+
+abbrev pub one_firm_name : NameLists → Data → Result NameLists Stop
+one_firm_name names firm = with_names names (firm_name names firm)
+
+-- one more trade; its number is the count of those before it
+unfoldable pub trade_name : NameLists → Data → Result NameLists Fault
+trade_name names trade = do
+  object ← object_of TradeObject (Word Trades ∷ Index (length names.trades) ∷ []) (Some trade)
+  name ← new_name names.trades (Word Trades ∷ Index (length names.trades) ∷ Word Name ∷ []) (get (codes "name") trade)
+  Ok (with_trade names name)
+
+-- the two ends of trade t, which comes after others
+unfoldable pub ends_at : List (List ℕ) → List Ends → ℕ → Data → Result Ends Fault
+ends_at firms before t trade = do
+  seller ← firm_at firms (Word Trades ∷ Index t ∷ Word Seller ∷ []) (get (codes "seller") trade)
+  buyer ← firm_at firms (Word Trades ∷ Index t ∷ Word Buyer ∷ []) (get (codes "buyer") trade)
+  apart ← holds SelfTrade (Word Trades ∷ Index t ∷ []) (not (seller == buyer))
+  Ok (record { seller = seller; buyer = buyer; at_seller = length (sides_of before seller); at_buyer = length (sides_of before buyer) })
+
+-- a trade is named before its ends are looked at
+unfoldable pub one_trade : Listed → Data → Result Listed Stop
+one_trade listed trade = do
+  names ← with_names listed.names (trade_name listed.names trade)
+  ends ← with_names names (ends_at names.firms listed.ends (length listed.ends) trade)
+  Ok (record { names = names; ends = listed.ends ++ ends ∷ [] })

@@ -1,0 +1,43 @@
+-- What the arrangement is that reading gives.
+use Rattle.std.proofs.Common.{ℕ, ◌^◌, List, [], ◌∷◌, length, Some}
+use Rattle.std.specs.Prelude.{codes}
+use Rattle.serde_json.specs.Data.{Data}
+use Rattle.serde_json.specs.Find.{get}
+use Rattle.tn_base.specs.declared.fault.FaultKind.TheVariants.{Shape}
+use Rattle.tn_plain_data.specs.declared.place.PlaceStep.TheVariants.{Word}
+use Rattle.tn_plain_data.specs.declared.place.Word.TheVariants.{Arrangement}
+use Rattle.tn_shape.specs.declared.members.ObjectKind.TheVariants.{Arrangement as ArrangementObject}
+use Rattle.tn_shape.specs.Reading.{each, wanted}
+use Rattle.tn_shape.specs.Shapes.{list_at, object_of}
+use Rattle.tn_shape.proofs.LeadLemmas.{Leads, leads_ok, leads_bind, leads_after}
+use Rattle.tn_read_references.proofs.EntryLeads.{AreNumbers}
+use Rattle.tn_read_parts.specs.Lists.{one_on, prices_of}
+use Rattle.tn_read_parts.specs.Arranged.{on_place, prices_place, on_of, trades_on_of, arrangement_of, IsArrangement}
+use Rattle.tn_read_parts.proofs.ListLeads.{IsSetOf, set_leads, prices_lead}
+
+module _ (trades : List (List ℕ)) where
+  abbrev pub HasSet : Data × ℕ → Type 0
+  HasSet part = IsSetOf trades on_place part.1
+
+  pub on_leads : (top : Data) → Leads HasSet (on_of trades top)
+  unfolding on_of
+  on_leads top =
+      leads_after HasSet (wanted Shape (Word Arrangement ∷ []) (get (codes "arrangement") top)) _ (λ part.
+      leads_after HasSet (object_of ArrangementObject (Word Arrangement ∷ []) (Some part)) _ (λ object.
+      leads_after HasSet (list_at on_place (get (codes "on") part)) _ (λ references.
+      leads_bind (IsSetOf trades on_place) HasSet (each (one_on trades on_place) 0 references) _ (set_leads trades on_place references) (λ on below.
+      leads_ok HasSet (part, on) below))))
+
+  pub trades_on_leads : (top : Data) → Leads (IsSetOf trades on_place) (trades_on_of trades top)
+  unfolding trades_on_of
+  trades_on_leads top =
+      leads_bind HasSet (IsSetOf trades on_place) (on_of trades top) _ (on_leads top) (λ part below.
+      leads_ok (IsSetOf trades on_place) part.1 below)
+
+  pub arrangement_leads : (top : Data) → Leads (IsArrangement (length trades)) (arrangement_of trades top)
+  unfolding arrangement_of
+  arrangement_leads top =
+      leads_bind HasSet (IsArrangement (length trades)) (on_of trades top) _ (on_leads top) (λ part below.
+      leads_after (IsArrangement (length trades)) (list_at prices_place (get (codes "prices") part.0)) _ (λ entries.
+      leads_bind (AreNumbers (length trades) (10 ^ 14)) (IsArrangement (length trades)) (prices_of trades prices_place (10 ^ 14) entries) _ (prices_lead trades prices_place (10 ^ 14) entries) (λ prices are.
+      leads_ok (IsArrangement (length trades)) (record { on = part.1; prices = prices }) (record { on = below; count = are.count; small = are.small }))))

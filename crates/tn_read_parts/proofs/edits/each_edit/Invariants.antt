@@ -1,0 +1,11 @@
+use Rattle.std.proofs.Common.{◌≡◌, length, drop, []}
+use Rattle.serde_json.specs.View.{items_view}
+use Rattle.tn_shape.specs.Reading.{each}
+use Rattle.tn_read_parts.specs.Edited.{one_edit}
+use Rattle.tn_read_parts.proofs.edits.each_edit.Given as goal
+
+abbrev pub invariant-loop-entry : goal.invariant-loop-entry
+invariant-loop-entry l = record {
+  count : length l.edits.items ≡ l.entry-index;
+  rest : each (one_edit l.names.trades) l.edits.items (items_view (drop l.entry-index l.entries)) ≡ each (one_edit l.names.trades) [] (items_view l.entries);
+}

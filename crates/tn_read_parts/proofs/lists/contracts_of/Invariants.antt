@@ -1,0 +1,7 @@
+use Rattle.std.proofs.Common.{◌≡◌}
+use Rattle.tn_plain_data.specs.Prices.{price_at}
+use Rattle.tn_plain_data.specs.Choices.{contracts_of}
+use Rattle.tn_read_parts.proofs.lists.contracts_of.Given as goal
+
+abbrev pub invariant-loop-t : goal.invariant-loop-t
+invariant-loop-t l = l.contracts.items ≡ contracts_of l.named (price_at l.prices) l.t

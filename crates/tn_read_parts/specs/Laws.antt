@@ -1,0 +1,98 @@
+-- What an arrangement, an outcome and edits that are read say, in words that know nothing of the order of reading.
+use Rattle.std.specs.Prelude.{◌≡◌, ℕ, ℤ, true, List, length, slice_get, codes, ◌↔◌, Contains, Some, Ok, option_and_then}
+use Rattle.serde_json.specs.Data.{Data, array, Items, no_items, item}
+use Rattle.serde_json.specs.Events.{items_len}
+use Rattle.serde_json.specs.Find.{get, get_item, as_array, as_i64, as_number, as_str}
+use Rattle.tn_base.specs.Sets.{has}
+use Rattle.tn_plain_data.specs.declared.contract.Contract.{Contract}
+use Rattle.tn_plain_data.specs.declared.contract.Outcome.{Outcome}
+use Rattle.tn_plain_data.specs.declared.session.Edit.{Edit}
+use Rattle.tn_plain_data.specs.declared.session.Edit.TheVariants.{Admit, Bar}
+use Rattle.tn_names.specs.Names.{number_of}
+use Rattle.tn_read_parts.specs.Arranged.{Arranged, arrangement_of}
+use Rattle.tn_read_parts.specs.Edited.{edits_of}
+use Rattle.tn_plain_data.specs.Edits.{edited}
+use Rattle.tn_read_parts.specs.Signed.{outcome_of}
+
+-- a text that is the name of a trade
+pub record NamesTrade (trades : List (List ℕ)) (reference : Data) (t : ℕ) : Type 0 where
+  pub name : List ℕ
+  pub is : as_str reference ≡ Some name
+  pub known : number_of trades name ≡ Some t
+
+-- a list of a trade's name and a whole number: the contract on this trade at this numerator
+pub record SaysContract (trades : List (List ℕ)) (entry : Data) (contract : Contract) : Type 0 where
+  pub reference : Data
+  pub numerator : Data
+  pub is : entry ≡ array (item reference (item numerator no_items))
+  pub trade : NamesTrade trades reference contract.trade
+  pub price : option_and_then as_i64 (as_number numerator) ≡ Some contract.price
+
+-- one of the entries says the contract
+pub record IsSaid (trades : List (List ℕ)) (entries : Items) (contract : Contract) : Type 0 where
+  pub at : ℕ
+  pub entry : Data
+  pub there : get_item at entries ≡ Some entry
+  pub says : SaysContract trades entry contract
+
+-- one of the references names the trade
+pub record IsNamedIn (trades : List (List ℕ)) (references : Items) (t : ℕ) : Type 0 where
+  pub at : ℕ
+  pub reference : Data
+  pub there : get_item at references ≡ Some reference
+  pub names : NamesTrade trades reference t
+
+-- a document's arrangement has exactly the trades on that its references name, and exactly the prices that its entries say
+pub record SaysArrangement (trades : List (List ℕ)) (top : Data) (arranged : Arranged) : Type 0 where
+  pub part : Data
+  pub part_is : get (codes "arrangement") top ≡ Some part
+  pub references : Items
+  pub references_are : option_and_then as_array (get (codes "on") part) ≡ Some references
+  pub on : (t : ℕ) → (has arranged.on t ≡ true) ↔ IsNamedIn trades references t
+  pub entries : Items
+  pub entries_are : option_and_then as_array (get (codes "prices") part) ≡ Some entries
+  pub prices : (t : ℕ) (price : ℤ) → (slice_get arranged.prices t ≡ Some price) ↔ IsSaid trades entries (record { trade = t; price = price })
+
+abbrev pub ArrangementsHaveTheirEntries : Type 0
+ArrangementsHaveTheirEntries = (trades : List (List ℕ)) (top : Data) (arranged : Arranged) → arrangement_of trades top ≡ Ok arranged → SaysArrangement trades top arranged
+
+-- a document's outcome has the denominator that it says, and exactly the contracts that its entries say
+pub record SaysOutcome (trades : List (List ℕ)) (top : Data) (outcome : Outcome) : Type 0 where
+  pub part : Data
+  pub part_is : get (codes "outcome") top ≡ Some part
+  pub over : option_and_then as_i64 (option_and_then as_number (get (codes "over") part)) ≡ Some outcome.over
+  pub entries : Items
+  pub entries_are : option_and_then as_array (get (codes "contracts") part) ≡ Some entries
+  pub contracts : (contract : Contract) → Contains outcome.contracts contract ↔ IsSaid trades entries contract
+
+abbrev pub OutcomesHaveTheirEntries : Type 0
+OutcomesHaveTheirEntries = (trades : List (List ℕ)) (top : Data) (outcome : Outcome) → outcome_of trades top ≡ Ok outcome → SaysOutcome trades top outcome
+
+-- the text of what an edit does
+abbrev pub edit_text : Edit → List ℕ
+edit_text (Admit t) = codes "admit"
+edit_text (Bar t) = codes "bar"
+
+-- a list of such a text and a trade's name: the edit of this trade
+pub record SaysEdit (trades : List (List ℕ)) (entry : Data) (edit : Edit) : Type 0 where
+  pub word : Data
+  pub reference : Data
+  pub is : entry ≡ array (item word (item reference no_items))
+  pub text : as_str word ≡ Some (edit_text edit)
+  pub trade : NamesTrade trades reference (edited edit)
+
+-- the entry with this index says the edit
+pub record IsEditAt (trades : List (List ℕ)) (entries : Items) (k : ℕ) (edit : Edit) : Type 0 where
+  pub entry : Data
+  pub there : get_item k entries ≡ Some entry
+  pub says : SaysEdit trades entry edit
+
+-- a document's edits are as many as its entries, and each is what the entry with its index says
+pub record SaysEdits (trades : List (List ℕ)) (top : Data) (edits : List Edit) : Type 0 where
+  pub entries : Items
+  pub entries_are : option_and_then as_array (get (codes "edits") top) ≡ Some entries
+  pub count : length edits ≡ items_len entries
+  pub each : (k : ℕ) (edit : Edit) → slice_get edits k ≡ Some edit → IsEditAt trades entries k edit
+
+abbrev pub EditsHaveTheirEntries : Type 0
+EditsHaveTheirEntries = (trades : List (List ℕ)) (top : Data) (edits : List Edit) → edits_of trades top ≡ Ok edits → SaysEdits trades top edits

@@ -1,0 +1,71 @@
+ghost use Rattle.std.specs.Prelude.{◌≤◌, length};
+ghost use Rattle.serde_json.specs.View.{view};
+ghost use Rattle.tn_shape.specs.Reading.{Gives};
+ghost use Rattle.tn_read_parts.specs.Arranged.{Arranged, arrangement_of, on_of, trades_on_of};
+
+use crate::lists::{ListAt, read_prices, read_trades};
+use serde_json::Value;
+use std::alloc::Global;
+use tn_base::TradeSet;
+use tn_names::Names;
+use tn_plain_data::{Arrangement, Prices};
+use tn_shape::steps::{ARRANGEMENT, ON, PRICES};
+use tn_shape::{ObjectKind, ReadError, list, object_of, present};
+
+/// The largest price of an arrangement.
+const PRICE_LIMIT: u64 = 100_000_000_000_000;
+
+/// The arrangement of a document.
+#[tactic(auto, unfolding(crate::specs::Arranged::arrangement_of))]
+pub fn read_arrangement(
+    alloc: Global,
+    names: &Names,
+    top: &Value,
+) -> Result<Arrangement<2>, ReadError>
+    requires { length names.now.trades ≤ 128 }
+    ensures { Gives (λ part. record { on = part.on; prices = part.prices }) result
+        (arrangement_of names.now.trades (view top.now)) }
+{
+    let (part, on) = read_on(alloc, names, top)?;
+    let at = ListAt {
+        part: ARRANGEMENT,
+        member: PRICES,
+    };
+    let entries = list(alloc, part.get("prices"), &[at.part, at.member])?;
+    let prices = read_prices(alloc, names, at, PRICE_LIMIT, entries)?;
+    Ok(Arrangement {
+        on,
+        prices: Prices::from_vec(prices),
+    })
+}
+
+/// The trades that are on in a document's arrangement, whatever its prices are.
+#[tactic(auto, unfolding(crate::specs::Arranged::trades_on_of))]
+pub fn read_trades_on(alloc: Global, names: &Names, top: &Value) -> Result<TradeSet<2>, ReadError>
+    requires { length names.now.trades ≤ 128 }
+    ensures { Gives (λ on. on) result (trades_on_of names.now.trades (view top.now)) }
+{
+    let (_, on) = read_on(alloc, names, top)?;
+    Ok(on)
+}
+
+/// The part that is the arrangement, and the trades that are on.
+#[tactic(auto, unfolding(crate::specs::Arranged::on_of))]
+fn read_on<'a>(
+    alloc: Global,
+    names: &Names,
+    top: &'a Value,
+) -> Result<(&'a Value, TradeSet<2>), ReadError>
+    requires { length names.now.trades ≤ 128 }
+    ensures { Gives (λ p. (view p.0.now, p.1)) result (on_of names.now.trades (view top.now)) }
+{
+    let part = present(alloc, top.get("arrangement"), &[ARRANGEMENT])?;
+    object_of(alloc, ObjectKind::Arrangement, Some(part), &[ARRANGEMENT])?;
+    let at = ListAt {
+        part: ARRANGEMENT,
+        member: ON,
+    };
+    let references = list(alloc, part.get("on"), &[at.part, at.member])?;
+    let on = read_trades(alloc, names, at, references)?;
+    Ok((part, on))
+}

@@ -1,0 +1,54 @@
+ghost use Rattle.std.specs.Prelude.{◌≤◌, length, option_map};
+ghost use Rattle.serde_json.specs.View.{view};
+ghost use Rattle.tn_shape.specs.Reading.{Gives};
+ghost use Rattle.tn_read_parts.specs.Signed.{outcome_of, over_at};
+
+use crate::lists::{ListAt, read_contracts};
+use serde_json::Value;
+use std::alloc::Global;
+use tn_base::FaultKind;
+use tn_names::Names;
+use tn_plain_data::{Outcome, PlaceStep};
+use tn_shape::steps::{CONTRACTS, OUTCOME, OVER};
+use tn_shape::{ObjectKind, ReadError, list, object_of, present, require, whole};
+
+/// The largest denominator of an outcome.
+const OVER_LIMIT: u32 = 100;
+
+/// The largest numerator of an outcome.
+const NUMERATOR_LIMIT: u64 = 100_000_000_000;
+
+/// The outcome of a document. Its denominator is read before its contracts.
+#[tactic(auto, unfolding(crate::specs::Signed::outcome_of))]
+pub fn read_outcome(alloc: Global, names: &Names, top: &Value) -> Result<Outcome, ReadError>
+    requires { length names.now.trades ≤ 128 }
+    ensures { Gives (λ outcome. outcome) result (outcome_of names.now.trades (view top.now)) }
+{
+    let part = present(alloc, top.get("outcome"), &[OUTCOME])?;
+    object_of(alloc, ObjectKind::Outcome, Some(part), &[OUTCOME])?;
+    let over = read_over(alloc, OVER_LIMIT, part.get("over"), &[OUTCOME, OVER])?;
+    let at = ListAt {
+        part: OUTCOME,
+        member: CONTRACTS,
+    };
+    let entries = list(alloc, part.get("contracts"), &[at.part, at.member])?;
+    let contracts = read_contracts(alloc, names, at, NUMERATOR_LIMIT, entries)?;
+    Ok(Outcome { over, contracts })
+}
+
+/// A denominator, from 1 to the limit.
+#[tactic(auto, unfolding(crate::specs::Signed::over_at))]
+pub fn read_over(
+    alloc: Global,
+    limit: u32,
+    value: Option<&Value>,
+    place: &[PlaceStep],
+) -> Result<i128, ReadError>
+    ensures { Gives (λ over. over) result
+        (over_at limit place.now (option_map (λ v. view v.now) value.entry)) }
+{
+    let over = whole(alloc, value, place)?;
+    let within = 1 <= over && over <= limit as i64;
+    require(alloc, within, FaultKind::BadOver, place)?;
+    Ok(over as i128)
+}

@@ -1,0 +1,10 @@
+//! Reads references to trades and own trades, and entries with a number; the positions of a firm's trades.
+//! The listed trades with their positions, and the lists of references and of entries, stand in `specs/`.
+#![tactic(auto)]
+
+mod own_lists;
+mod references;
+
+pub use own_lists::{OwnPart, PartAt, own_bundle};
+pub use references::{firm, new_trade, own_position, trade};
+pub use tn_plain_data::{count_own, sides_of};

@@ -1,0 +1,169 @@
+-- The claims that answers are read as.
+use Rattle.std.proofs.Common.{◌≡◌, ℕ, ◌<◌, ◌≤◌, ◌^◌, ℤ, pos, true, List, [], map, length, slice_get, Option, Some, None, Ok, refl, ◌∙◌, arith}
+use Rattle.std.specs.Prelude.{codes, All, IfSome, ◌≤ℤ◌, nat_le, option_map}
+use Rattle.std.proofs.lemmas.List.{length-map}
+use Rattle.std.proofs.lemmas.Option.{slice_get_within}
+use Rattle.serde_json.specs.Data.{Data}
+use Rattle.serde_json.specs.Events.{items_len}
+use Rattle.serde_json.specs.Find.{get}
+use Rattle.serde_json.specs.View.{items_of}
+use Rattle.tn_base.specs.Arcs.{IsAtMost}
+use Rattle.tn_base.specs.Firm.{Firm}
+use Rattle.tn_base.specs.Sets.{has, set_of}
+use Rattle.tn_plain_data.specs.declared.claim.Claim.TheVariants.{Equilibrium, Better, Impossible, Accepted, ExchangeFails, Supported, Cycle, Solved, Drops, Completes, Blocks}
+use Rattle.tn_plain_data.specs.declared.contract.Contract.{Contract}
+use Rattle.tn_plain_data.specs.declared.contract.Outcome.{Outcome}
+use Rattle.tn_plain_data.specs.declared.place.Word.TheVariants.{At, Bundle, Contracts, Cost, Firm as FirmWord, Gain, Keeps, On, Over, Prices, Surplus, X, Y}
+use Rattle.tn_plain_data.specs.declared.said.Said.TheVariants as Said
+use Rattle.tn_plain_data.specs.Network.{own, trades_of, trades_on}
+use Rattle.tn_names.specs.Names.{IsNameList}
+use Rattle.tn_shape.specs.Claims.{allows_in_claim}
+use Rattle.tn_shape.specs.Members.{allows}
+use Rattle.tn_shape.specs.Shapes.{few_at, object_of}
+use Rattle.tn_read_references.specs.Ordered.{Listed}
+use Rattle.tn_read_parts.specs.Arranged.{Arranged, arrangement_of, trades_on_of}
+use Rattle.tn_read_parts.specs.Signed.{outcome_of}
+use Rattle.tn_read_claims.specs.Claimed.{accepted_of, better_of, blocks_of, claim_of, completes_of, cycle_of, drops_of, equilibrium_of, failure_of, impossible_of, kind_of, solved_of, supported_of}
+use Rattle.tn_read_claims.specs.Members.{claimed_contracts, claimed_nodes, claimed_on, claimed_prices, gain_or_null, member_place, most_nodes}
+use Rattle.tn_answer.specs.AnswerText.{answer_data, contracts_data, nodes_data, prices_data}
+use Rattle.tn_answer.specs.Values.{bound_data, names_data, option_data}
+use Rattle.tn_replay_laws.proofs.EntryLemmas.{contracts_back, prices_back}
+use Rattle.tn_replay_laws.proofs.ListLemmas.{AreRead, at_back, bundle_back, each_node_back, items_len-of, set_back}
+use Rattle.tn_replay_laws.proofs.NameLemmas.{firm_back, number_back, over_back}
+
+-- ---- members
+
+module _ (names : List (List ℕ)) (are : IsNameList names) (value : Data) where
+  pub nodes_back : (limit : ℕ) (nodes : List (Option ℕ)) → All (λ node. IfSome node (λ t. t < length names)) nodes → 2 ≤ length nodes → length nodes ≤ limit
+      → get (codes "nodes") value ≡ Some (nodes_data names nodes) → claimed_nodes names limit value ≡ Ok nodes
+  unfolding claimed_nodes few_at
+  nodes_back limit nodes known least most there =
+      let count : items_len (items_of (map (option_data names) nodes)) ≡ length nodes = items_len-of (map (option_data names) nodes) ∙ length-map nodes (option_data names) in
+      let few : nat_le (items_len (items_of (map (option_data names) nodes))) limit ≡ true = grind (arith, count, most) in
+      let enough : nat_le 2 (items_len (items_of (map (option_data names) nodes))) ≡ true = grind (arith, count, least) in
+      rw (there, few, enough, each_node_back names are [] nodes known)
+
+  pub on_back : (x : ℕ) → get (codes "on") value ≡ Some (names_data names (trades_on x (length names))) → claimed_on names value ≡ Ok (set_of (has x) (length names))
+  unfolding claimed_on
+  on_back x there = rw (there, set_back names are (member_place On) x)
+
+  pub claimed_prices_back : (prices : List ℤ) → length prices ≡ length names → All (λ z. IsAtMost z (10 ^ 18)) prices → get (codes "prices") value ≡ Some (prices_data names prices)
+      → claimed_prices names value ≡ Ok prices
+  unfolding claimed_prices
+  claimed_prices_back prices counted small there = rw (there, prices_back names are (member_place Prices) (10 ^ 18) (omega arith) prices counted small)
+
+  pub claimed_contracts_back : (contracts : List Contract) → ((k : ℕ) (contract : Contract) → slice_get contracts k ≡ Some contract → contract.trade < length names)
+      → ((j k : ℕ) (one other : Contract) → slice_get contracts j ≡ Some one → slice_get contracts k ≡ Some other → one.trade ≡ other.trade → j ≡ k) → All (λ contract. IsAtMost contract.price (10 ^ 18)) contracts
+      → get (codes "contracts") value ≡ Some (contracts_data names contracts) → claimed_contracts names value ≡ Ok contracts
+  unfolding claimed_contracts
+  claimed_contracts_back contracts known once small there =
+      let read = contracts_back names are (member_place Contracts) (10 ^ 18) (omega arith) contracts known once small in
+      rw (there, read.1)
+
+gain_back : (gain : Option ℤ) → IfSome gain (λ z. IsAtMost z (10 ^ 18)) → gain_or_null (Some (bound_data gain)) ≡ Ok gain
+gain_back None small = refl
+gain_back (Some z) small = rw (number_back (10 ^ 18) (member_place Gain) z (omega arith) small)
+
+-- ---- claims
+
+-- what is put into a document as its claim is there, beside the part that it speaks of
+module _ (listed : Listed) (firms : List Firm) (are : AreRead listed firms) (top : Data) where
+  -- a number of a claim
+  short : 10 ^ 18 < 2 ^ 63
+  short = omega arith
+
+  abbrev names : List (List ℕ)
+  names = listed.names.trades
+
+  pub equilibrium_back : (at : Arranged) (surplus : ℤ) → get (codes "claim") top ≡ Some (answer_data listed.names (Said.Equilibrium surplus)) → arrangement_of names top ≡ Ok at → IsAtMost surplus (10 ^ 18)
+      → claim_of listed top ≡ Ok (Equilibrium (record { on = at.on; prices = at.prices }) surplus)
+  unfolding claim_of kind_of equilibrium_of object_of allows allows_in_claim
+  equilibrium_back at surplus there part small = rw (there, part, number_back (10 ^ 18) (member_place Surplus) surplus short small)
+
+  pub better_back : (at : Arranged) (f : ℕ) (firm : Firm) (x : ℕ) (gain : ℤ) → slice_get firms f ≡ Some firm → x < 2 ^ firm.count
+      → get (codes "claim") top ≡ Some (answer_data listed.names (Said.Better f (trades_of listed.ends f firm.count x) gain)) → arrangement_of names top ≡ Ok at → IsAtMost gain (10 ^ 18)
+      → claim_of listed top ≡ Ok (Better (record { on = at.on; prices = at.prices }) f x gain)
+  unfolding claim_of kind_of better_of object_of allows allows_in_claim
+  better_back at f firm x gain is below there part small =
+      let inside : f < length listed.names.firms = let within = slice_get_within firms f firm is in let counted = are.firms_named in omega (arith, within, counted) in
+      rw (there, part, firm_back listed.names.firms are.firm_names (member_place FirmWord) f inside, bundle_back listed firms are f firm is (member_place Bundle) x below, number_back (10 ^ 18) (member_place Gain) gain short small)
+
+  pub impossible_back : (on f : ℕ) → f < length firms → get (codes "claim") top ≡ Some (answer_data listed.names (Said.Impossible f)) → trades_on_of names top ≡ Ok on
+      → claim_of listed top ≡ Ok (Impossible on f)
+  unfolding claim_of kind_of impossible_of object_of allows allows_in_claim
+  impossible_back on f below there part =
+      let inside : f < length listed.names.firms = let counted = are.firms_named in omega (arith, below, counted) in
+      rw (there, part, firm_back listed.names.firms are.firm_names (member_place FirmWord) f inside)
+
+  pub accepted_back : get (codes "claim") top ≡ Some (answer_data listed.names Said.Accepted) → claim_of listed top ≡ Ok Accepted
+  unfolding claim_of kind_of accepted_of object_of allows allows_in_claim
+  accepted_back there = rw there
+
+  pub failure_back : (f : ℕ) (firm : Firm) (x y : ℕ) (at : Option ℕ) → slice_get firms f ≡ Some firm → x < 2 ^ firm.count → y < 2 ^ firm.count → IfSome at (λ k. k < firm.count)
+      → get (codes "claim") top ≡ Some (answer_data listed.names (Said.ExchangeFails f (trades_of listed.ends f firm.count x) (trades_of listed.ends f firm.count y) (option_map (own listed.ends f) at)))
+      → claim_of listed top ≡ Ok (ExchangeFails f x y at)
+  unfolding claim_of kind_of failure_of object_of allows allows_in_claim
+  failure_back f firm x y at is below_x below_y within there =
+      let inside : f < length listed.names.firms = let here = slice_get_within firms f firm is in let counted = are.firms_named in omega (arith, here, counted) in
+      rw (
+        there,
+        firm_back listed.names.firms are.firm_names (member_place FirmWord) f inside,
+        at_back listed firms are f firm is (member_place At) at within,
+        bundle_back listed firms are f firm is (member_place X) x below_x,
+        bundle_back listed firms are f firm is (member_place Y) y below_y,
+      )
+
+  pub supported_back : (on : ℕ) (prices : List ℤ) → length prices ≡ length names → All (λ z. IsAtMost z (10 ^ 18)) prices
+      → get (codes "claim") top ≡ Some (answer_data listed.names (Said.Supported prices)) → trades_on_of names top ≡ Ok on → claim_of listed top ≡ Ok (Supported on prices)
+  unfolding claim_of kind_of supported_of object_of allows allows_in_claim
+  supported_back on prices counted small there part =
+      rw (there, part, claimed_prices_back names are.trade_names (answer_data listed.names (Said.Supported prices)) prices counted small refl)
+
+  pub cycle_back : (on : ℕ) (nodes : List (Option ℕ)) (cost : ℤ) → All (λ node. IfSome node (λ t. t < length names)) nodes → 2 ≤ length nodes → length nodes ≤ most_nodes top → IsAtMost cost (10 ^ 18)
+      → get (codes "claim") top ≡ Some (answer_data listed.names (Said.Cycle nodes cost)) → trades_on_of names top ≡ Ok on → claim_of listed top ≡ Ok (Cycle on nodes cost)
+  unfolding claim_of kind_of cycle_of object_of allows allows_in_claim
+  cycle_back on nodes cost known least most small there part =
+      rw (
+        there,
+        part,
+        number_back (10 ^ 18) (member_place Cost) cost short small,
+        nodes_back names are.trade_names (answer_data listed.names (Said.Cycle nodes cost)) (most_nodes top) nodes known least most refl,
+      )
+
+  pub solved_back : (x : ℕ) (prices : List ℤ) (surplus : ℤ) → length prices ≡ length names → All (λ z. IsAtMost z (10 ^ 18)) prices → IsAtMost surplus (10 ^ 18)
+      → get (codes "claim") top ≡ Some (answer_data listed.names (Said.Solved (trades_on x (length names)) prices surplus))
+      → claim_of listed top ≡ Ok (Solved (record { on = set_of (has x) (length names); prices = prices }) surplus)
+  unfolding claim_of kind_of solved_of object_of allows allows_in_claim
+  solved_back x prices surplus counted small_prices small there =
+      let value = answer_data listed.names (Said.Solved (trades_on x (length names)) prices surplus) in
+      rw (there, on_back names are.trade_names value x refl, claimed_prices_back names are.trade_names value prices counted small_prices refl, number_back (10 ^ 18) (member_place Surplus) surplus short small)
+
+  pub drops_back : (outcome : Outcome) (f : ℕ) (firm : Firm) (keeps : ℕ) (gain : Option ℤ) (over : ℤ) → slice_get firms f ≡ Some firm → keeps < 2 ^ firm.count
+      → IfSome gain (λ z. IsAtMost z (10 ^ 18)) → pos 1 ≤ℤ over → over ≤ℤ pos 100000
+      → get (codes "claim") top ≡ Some (answer_data listed.names (Said.Drops f (trades_of listed.ends f firm.count keeps) gain over)) → outcome_of names top ≡ Ok outcome
+      → claim_of listed top ≡ Ok (Drops outcome f keeps gain over)
+  unfolding claim_of kind_of drops_of object_of allows allows_in_claim
+  drops_back outcome f firm keeps gain over is below small least most there part =
+      let inside : f < length listed.names.firms = let here = slice_get_within firms f firm is in let counted = are.firms_named in omega (arith, here, counted) in
+      rw (
+        there,
+        part,
+        firm_back listed.names.firms are.firm_names (member_place FirmWord) f inside,
+        gain_back gain small,
+        bundle_back listed firms are f firm is (member_place Keeps) keeps below,
+        over_back (member_place Over) over least most,
+      )
+
+  pub completes_back : (outcome : Outcome) (prices : List ℤ) (over : ℤ) → length prices ≡ length names → All (λ z. IsAtMost z (10 ^ 18)) prices → pos 1 ≤ℤ over → over ≤ℤ pos 100000
+      → get (codes "claim") top ≡ Some (answer_data listed.names (Said.Completes prices over)) → outcome_of names top ≡ Ok outcome → claim_of listed top ≡ Ok (Completes outcome prices over)
+  unfolding claim_of kind_of completes_of object_of allows allows_in_claim
+  completes_back outcome prices over counted small least most there part =
+      rw (there, part, over_back (member_place Over) over least most, claimed_prices_back names are.trade_names (answer_data listed.names (Said.Completes prices over)) prices counted small refl)
+
+  pub blocks_back : (outcome : Outcome) (contracts : List Contract) (over : ℤ) → ((k : ℕ) (contract : Contract) → slice_get contracts k ≡ Some contract → contract.trade < length names)
+      → ((j k : ℕ) (one other : Contract) → slice_get contracts j ≡ Some one → slice_get contracts k ≡ Some other → one.trade ≡ other.trade → j ≡ k) → All (λ contract. IsAtMost contract.price (10 ^ 18)) contracts
+      → pos 1 ≤ℤ over → over ≤ℤ pos 100000
+      → get (codes "claim") top ≡ Some (answer_data listed.names (Said.Blocks contracts over)) → outcome_of names top ≡ Ok outcome → claim_of listed top ≡ Ok (Blocks outcome contracts over)
+  unfolding claim_of kind_of blocks_of object_of allows allows_in_claim
+  blocks_back outcome contracts over known once small least most there part =
+      rw (there, part, claimed_contracts_back names are.trade_names (answer_data listed.names (Said.Blocks contracts over)) contracts known once small refl, over_back (member_place Over) over least most)

@@ -1,0 +1,5 @@
+use Rattle.tn_replay_laws.proofs.LineLemmas.{lines_are_read}
+use Rattle.tn_replay_laws.proofs.laws.lines_are_read.Goals as goal
+
+pub returns : goal.returns
+returns c = lines_are_read

@@ -1,0 +1,5 @@
+use Rattle.tn_replay_laws.proofs.FoundLemmas.{solutions_replay}
+use Rattle.tn_replay_laws.proofs.laws.solutions_replay.Goals as goal
+
+pub returns : goal.returns
+returns c = solutions_replay

@@ -1,0 +1,5 @@
+use Rattle.tn_replay_laws.proofs.CheckedLemmas.{tests_replay}
+use Rattle.tn_replay_laws.proofs.laws.tests_replay.Goals as goal
+
+pub returns : goal.returns
+returns c = tests_replay

@@ -1,5 +1,0 @@
-use Rattle.tn_replayed.proofs.FitLemmas.{answers_fit_claims}
-use Rattle.tn_replayed.proofs.laws.answers_fit_claims.Goals as goal
-
-pub returns : goal.returns
-returns c = answers_fit_claims

@@ -1,4 +1,0 @@
-pub mod Fits
-pub mod Replayed
-pub mod Laws
-pub mod Lines

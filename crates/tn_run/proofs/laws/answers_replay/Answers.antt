@@ -1,5 +1,0 @@
-use Rattle.tn_run.proofs.ReplayedLemmas.{answers_replay}
-use Rattle.tn_run.proofs.laws.answers_replay.Goals as goal
-
-pub returns : goal.returns
-returns c = answers_replay c.refuted_is_not_valid.ensures

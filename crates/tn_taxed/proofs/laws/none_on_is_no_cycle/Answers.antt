@@ -1,5 +1,0 @@
-use Rattle.tn_taxed.proofs.CycleLemmas.{none_on_is_no_cycle}
-use Rattle.tn_taxed.proofs.laws.none_on_is_no_cycle.Goals as goal
-
-pub returns : goal.returns
-returns c = none_on_is_no_cycle

@@ -1,8 +1,0 @@
-//! The laws of chains that block an outcome: what an equilibrium of its unsigned trades says, where every firm has its
-//! reduced worths and pays a tax for each trade. Each law is the contract of a function with an empty body: calling it
-//! proves nothing more, and costs nothing.
-#![tactic(auto)]
-
-mod laws;
-
-pub use laws::{all_on_block, none_on_is_no_cycle, some_on_is_cycle};
