@@ -12,24 +12,21 @@ use Rattle.tn_plain_data.specs.declared.ends.Ends.{Ends}
 use Rattle.tn_plain_data.specs.declared.contract.Contract.{Contract}
 use Rattle.tn_plain_data.specs.Network.{part, IsNetwork}
 use Rattle.tn_market.specs.Equilibrium.{HasBest, IsEquilibrium}
-use Rattle.tn_plain_data.specs.Choices.{is_end, is_of, paid_to, payment, bundle_by, part_utility, IsPart, IsChoice, together, Blocks, contracts_of}
+use Rattle.tn_plain_data.specs.Choices.{is_end, is_of, paid_to, payment, bundle_by, part_utility, IsPart, IsChoice, together, Blocks, IsStable, contracts_of}
 use Rattle.tn_network.proofs.SumLemmas.{sum_to, sum_to-same, sum_to-zero, sum_list, sum_list-plus, sum_list-same, sum_list-none, AllFrom, all_from}
-use Rattle.tn_network.proofs.PoolLemmas.{IsPool, pool_together}
+use Rattle.tn_network.proofs.PoolLemmas.{AreContractsOf, arrangement_has_contracts, IsPool, pool_together}
 use Rattle.tn_network.proofs.PartLemmas.{at_place, at_place-is, at_place-none, gain_by, paid_for, other_contract, part_paid}
 use Rattle.tn_network.proofs.StabilityLemmas.{times-times, paid_for-times, no_choice, signed_part, signed_member, signed_is_part, signed_bundle, late_gain, all_gains, no_gains, gains}
 
 -- ---- one firm
 
--- what is known of offers that block the outcome of an arrangement
-record IsBlocked (firms : List Firm) (trades : List Ends) (d : ℤ) (on : ℕ) (prices : ℕ → ℤ) (e : ℤ) (offers : List Contract) : Type 0 where
+-- what is known of offers that block contracts at the prices of an equilibrium, one for each of its trades
+record IsBlocked (firms : List Firm) (trades : List Ends) (d : ℤ) (on : ℕ) (prices : ℕ → ℤ) (outcome : List Contract) (e : ℤ) (offers : List Contract) : Type 0 where
   network : IsNetwork firms trades
   equilibrium : IsEquilibrium firms trades d on prices
+  contracts : AreContractsOf (length trades) on prices outcome
   from_zero : pos 0 ≤ℤ e
-  blocks : Blocks firms trades d (contracts_of on prices (length trades)) e offers
-
--- the offers and the outcome together
-abbrev pool_of : List Ends → ℤ → ℕ → (ℕ → ℤ) → ℤ → List Contract → List Contract
-pool_of trades d on prices e offers = together e offers d (contracts_of on prices (length trades))
+  blocks : Blocks firms trades d outcome e offers
 
 -- an early contract that isn't one of the firm gains it nothing
 early_gain : (trades : List Ends) (on : ℕ) (prices : ℕ → ℤ) (offers pool : List Contract) → IsPool (length trades) on prices offers pool → (f k : ℕ)
@@ -47,39 +44,39 @@ early_gain trades on prices offers pool is_pool f k other = elim (cases_lt k (le
 ]
 
 -- a firm without an offer gains nothing
-firm_without : (firms : List Firm) (trades : List Ends) (d : ℤ) (on : ℕ) (prices : ℕ → ℤ) (e : ℤ) (offers : List Contract) (f : ℕ)
-    → ((k : ℕ) (offer : Contract) → slice_get offers k ≡ Some offer → is_of trades f offer ≡ false)
-    → gains trades (λ t. e *ℤ prices t) (pool_of trades d on prices e offers) f ≡ pos 0
-firm_without firms trades d on prices e offers f other =
-    sum_to-same (at_place (gain_by trades f (λ t. e *ℤ prices t)) (pool_of trades d on prices e offers)) (λ k. pos 0) (length (pool_of trades d on prices e offers))
-    (λ k below. early_gain trades on (λ t. e *ℤ prices t) offers (pool_of trades d on prices e offers) (pool_together e d (length trades) on prices offers) f k (other k))
-    ∙ sum_to-zero (length (pool_of trades d on prices e offers))
+firm_without : (firms : List Firm) (trades : List Ends) (d : ℤ) (on : ℕ) (prices : ℕ → ℤ) (outcome : List Contract) (e : ℤ) (offers : List Contract)
+    → IsBlocked firms trades d on prices outcome e offers → (f : ℕ) → ((k : ℕ) (offer : Contract) → slice_get offers k ≡ Some offer → is_of trades f offer ≡ false)
+    → gains trades (λ t. e *ℤ prices t) (together e offers d outcome) f ≡ pos 0
+firm_without firms trades d on prices outcome e offers blocked f other =
+    sum_to-same (at_place (gain_by trades f (λ t. e *ℤ prices t)) (together e offers d outcome)) (λ k. pos 0) (length (together e offers d outcome))
+    (λ k below. early_gain trades on (λ t. e *ℤ prices t) offers (together e offers d outcome) (pool_together e d (length trades) on prices offers outcome blocked.contracts) f k (other k))
+    ∙ sum_to-zero (length (together e offers d outcome))
 
 -- a firm with an offer gains
-firm_with : (firms : List Firm) (trades : List Ends) (d : ℤ) (on : ℕ) (prices : ℕ → ℤ) (e : ℤ) (offers : List Contract)
-    → IsBlocked firms trades d on prices e offers → (f : ℕ) (firm : Firm) → slice_get firms f ≡ Some firm → (k : ℕ) (offer : Contract)
+firm_with : (firms : List Firm) (trades : List Ends) (d : ℤ) (on : ℕ) (prices : ℕ → ℤ) (outcome : List Contract) (e : ℤ) (offers : List Contract)
+    → IsBlocked firms trades d on prices outcome e offers → (f : ℕ) (firm : Firm) → slice_get firms f ≡ Some firm → (k : ℕ) (offer : Contract)
     → slice_get offers k ≡ Some offer → is_of trades f offer ≡ true
-    → pos 0 <ℤ gains trades (λ t. e *ℤ prices t) (pool_of trades d on prices e offers) f
-firm_with firms trades d on prices e offers blocked f firm is k offer offer_is of =
+    → pos 0 <ℤ gains trades (λ t. e *ℤ prices t) (together e offers d outcome) f
+firm_with firms trades d on prices outcome e offers blocked f firm is k offer offer_is of =
     by_lt_z {P = pos 0 <ℤ gain} (pos 0) gain (λ h. h) (λ no_more. absurd (no_choice trades (d *ℤ e) f firm pool signed value is_part utility_is (λ x choice. against x choice no_more)))
   where
     pool : List Contract
-    pool = pool_of trades d on prices e offers
+    pool = together e offers d outcome
 
     counted_prices : ℕ → ℤ
     counted_prices t = e *ℤ prices t
 
     gain : ℤ
-    gain = gains trades (λ t. e *ℤ prices t) (pool_of trades d on prices e offers) f
+    gain = gains trades (λ t. e *ℤ prices t) (together e offers d outcome) f
 
-    is_pool : IsPool (length trades) on (λ t. e *ℤ prices t) offers (pool_of trades d on prices e offers)
-    is_pool = pool_together e d (length trades) on prices offers
+    is_pool : IsPool (length trades) on (λ t. e *ℤ prices t) offers (together e offers d outcome)
+    is_pool = pool_together e d (length trades) on prices offers outcome blocked.contracts
 
     signed : ℕ
-    signed = signed_part trades f (pool_of trades d on prices e offers) (length offers)
+    signed = signed_part trades f (together e offers d outcome) (length offers)
 
-    is_part : IsPart trades f (pool_of trades d on prices e offers) (signed_part trades f (pool_of trades d on prices e offers) (length offers))
-    is_part = signed_is_part trades on (λ t. e *ℤ prices t) offers (pool_of trades d on prices e offers) is_pool f
+    is_part : IsPart trades f (together e offers d outcome) (signed_part trades f (together e offers d outcome) (length offers))
+    is_part = signed_is_part trades on (λ t. e *ℤ prices t) offers (together e offers d outcome) is_pool f
 
     best : HasBest trades d on prices f firm
     best = blocked.equilibrium f firm is
@@ -91,23 +88,23 @@ firm_with firms trades d on prices e offers blocked f firm is k offer offer_is o
     mine = option_map-some (λ a. d *ℤ a +ℤ paid_for firm trades f prices (part trades f firm.count on)) (firm.worth (part trades f firm.count on)) best.0 best.1.is
 
     pays : ℕ → ℤ
-    pays x = sum_over (payment trades f (pool_of trades d on prices e offers)) (length (pool_of trades d on prices e offers)) x
+    pays x = sum_over (payment trades f (together e offers d outcome)) (length (together e offers d outcome)) x
 
-    bundle_is : bundle_by trades f firm.count (pool_of trades d on prices e offers) signed ≡ part trades f firm.count on
-    bundle_is = signed_bundle firms trades blocked.network on (λ t. e *ℤ prices t) offers (pool_of trades d on prices e offers) is_pool f firm is
+    bundle_is : bundle_by trades f firm.count (together e offers d outcome) signed ≡ part trades f firm.count on
+    bundle_is = signed_bundle firms trades blocked.network on (λ t. e *ℤ prices t) offers (together e offers d outcome) is_pool f firm is
 
     value : ℤ
     value = (d *ℤ e) *ℤ mine.0 +ℤ pays signed
 
-    utility_is : part_utility trades (d *ℤ e) f firm (pool_of trades d on prices e offers) signed ≡ Some value
+    utility_is : part_utility trades (d *ℤ e) f firm (together e offers d outcome) signed ≡ Some value
     utility_is = ap (λ (y : ℕ). option_map (λ a. (d *ℤ e) *ℤ a +ℤ pays signed) (firm.worth y)) bundle_is ∙ ap (option_map (λ a. (d *ℤ e) *ℤ a +ℤ pays signed)) mine.1
 
     -- the signed contracts give the firm its best utility, counted e times
     value_is : value ≡ e *ℤ best.0
     value_is =
         let parts = part_paid firms trades blocked.network f firm is pool signed is_part counted_prices in
-        let none = no_gains (at_place (gain_by trades f (λ t. e *ℤ prices t)) (pool_of trades d on prices e offers)) (length (pool_of trades d on prices e offers)) signed
-        (λ j below member. late_gain trades on (λ t. e *ℤ prices t) offers (pool_of trades d on prices e offers) is_pool f j (signed_member trades f (pool_of trades d on prices e offers) (length offers) j member).late) in
+        let none = no_gains (at_place (gain_by trades f (λ t. e *ℤ prices t)) (together e offers d outcome)) (length (together e offers d outcome)) signed
+        (λ j below member. late_gain trades on (λ t. e *ℤ prices t) offers (together e offers d outcome) is_pool f j (signed_member trades f (together e offers d outcome) (length offers) j member).late) in
         let flow : paid_for firm trades f counted_prices (bundle_by trades f firm.count pool signed) ≡ e *ℤ paid_for firm trades f prices here =
         ap (paid_for firm trades f (λ t. e *ℤ prices t)) bundle_is ∙ paid_for-times firm trades f e prices (part trades f firm.count on) in
         let worth = times-times d e mine.0 in
@@ -119,19 +116,19 @@ firm_with firms trades d on prices e offers blocked f firm is k offer offer_is o
         add a p g q b c u parts none flow worth sum = omega (arith, ints, parts, none, flow, worth, sum)
 
     -- a choice takes each offer of the firm, so its gains are all gains
-    chosen_gains : (x : ℕ) → IsChoice trades (d *ℤ e) f firm (pool_of trades d on prices e offers) x
-        → sum_over (at_place (gain_by trades f (λ t. e *ℤ prices t)) (pool_of trades d on prices e offers)) (length (pool_of trades d on prices e offers)) x ≡ gain
-    chosen_gains x choice = all_gains (at_place (gain_by trades f (λ t. e *ℤ prices t)) (pool_of trades d on prices e offers)) (length (pool_of trades d on prices e offers)) x (λ j below away.
-        early_gain trades on (λ t. e *ℤ prices t) offers (pool_of trades d on prices e offers) is_pool f j (λ other other_is. elim (cases_Bool (is_of trades f other)) [
+    chosen_gains : (x : ℕ) → IsChoice trades (d *ℤ e) f firm (together e offers d outcome) x
+        → sum_over (at_place (gain_by trades f (λ t. e *ℤ prices t)) (together e offers d outcome)) (length (together e offers d outcome)) x ≡ gain
+    chosen_gains x choice = all_gains (at_place (gain_by trades f (λ t. e *ℤ prices t)) (together e offers d outcome)) (length (together e offers d outcome)) x (λ j below away.
+        early_gain trades on (λ t. e *ℤ prices t) offers (together e offers d outcome) is_pool f j (λ other other_is. elim (cases_Bool (is_of trades f other)) [
           | inr not_own ↦ not_own
           | inl owned ↦ let taken = blocked.blocks.chosen f firm x is choice j other other_is owned in absurd (cc (taken, away))
         ]))
 
     -- a choice that is better than the signed contracts gains
-    better : (x : ℕ) (choice : IsChoice trades (d *ℤ e) f firm (pool_of trades d on prices e offers) x) → value <ℤ choice.value → gain ≤ℤ pos 0 → ⊥
+    better : (x : ℕ) (choice : IsChoice trades (d *ℤ e) f firm (together e offers d outcome) x) → value <ℤ choice.value → gain ≤ℤ pos 0 → ⊥
     better x choice more no_more =
         let y = bundle_by trades f firm.count pool x in
-        let theirs = option_map-some (λ a. (d *ℤ e) *ℤ a +ℤ pays x) (firm.worth (bundle_by trades f firm.count (pool_of trades d on prices e offers) x)) choice.value choice.is in
+        let theirs = option_map-some (λ a. (d *ℤ e) *ℤ a +ℤ pays x) (firm.worth (bundle_by trades f firm.count (together e offers d outcome) x)) choice.value choice.is in
         let most = best.1.most y (d *ℤ theirs.0 +ℤ paid_for firm trades f prices y) (ap (option_map (λ a. d *ℤ a +ℤ paid_for firm trades f prices y)) theirs.1) in
         let counted = times-le e (d *ℤ theirs.0 +ℤ paid_for firm trades f prices y) best.0 blocked.from_zero most in
         let sum = times-plus e (d *ℤ theirs.0) (paid_for firm trades f prices y) in
@@ -144,11 +141,11 @@ firm_with firms trades d on prices e offers blocked f firm is k offer offer_is o
         less a p v s u b c g q gain value is counted sum parts flow worth all value_is more no_more =
             absurd (omega (arith, ints, is, counted, sum, parts, flow, worth, all, value_is, more, no_more))
 
-    against : (x : ℕ) → IsChoice trades (d *ℤ e) f firm (pool_of trades d on prices e offers) x → gain ≤ℤ pos 0 → ⊥
+    against : (x : ℕ) → IsChoice trades (d *ℤ e) f firm (together e offers d outcome) x → gain ≤ℤ pos 0 → ⊥
     against x choice no_more = by_lt_z {P = ⊥} value choice.value
         (λ more. better x choice more no_more)
         (λ enough.
-        let too : IsChoice trades (d *ℤ e) f firm (pool_of trades d on prices e offers) signed = record {
+        let too : IsChoice trades (d *ℤ e) f firm (together e offers d outcome) signed = record {
           part = is_part;
           value = value;
           is = utility_is;
@@ -268,17 +265,17 @@ some_or_none {A} test (first ∷ xs) = elim (cases_Bool (test first)) [
     by_place fails never (suc k) x is = never k x is
 
 -- no firm loses
-firm_gains : (firms : List Firm) (trades : List Ends) (d : ℤ) (on : ℕ) (prices : ℕ → ℤ) (e : ℤ) (offers : List Contract)
-    → IsBlocked firms trades d on prices e offers → (f : ℕ) (firm : Firm) → slice_get firms f ≡ Some firm
-    → pos 0 ≤ℤ gains trades (λ t. e *ℤ prices t) (pool_of trades d on prices e offers) f
-firm_gains firms trades d on prices e offers blocked f firm is = elim (some_or_none (is_of trades f) offers) [
-  | inl found ↦ let more = firm_with firms trades d on prices e offers blocked f firm is found.0 found.1 found.2 found.3 in omega (arith, ints, more)
-  | inr never ↦ let none = firm_without firms trades d on prices e offers f never in omega (arith, ints, none)
+firm_gains : (firms : List Firm) (trades : List Ends) (d : ℤ) (on : ℕ) (prices : ℕ → ℤ) (outcome : List Contract) (e : ℤ) (offers : List Contract)
+    → IsBlocked firms trades d on prices outcome e offers → (f : ℕ) (firm : Firm) → slice_get firms f ≡ Some firm
+    → pos 0 ≤ℤ gains trades (λ t. e *ℤ prices t) (together e offers d outcome) f
+firm_gains firms trades d on prices outcome e offers blocked f firm is = elim (some_or_none (is_of trades f) offers) [
+  | inl found ↦ let more = firm_with firms trades d on prices outcome e offers blocked f firm is found.0 found.1 found.2 found.3 in omega (arith, ints, more)
+  | inr never ↦ let none = firm_without firms trades d on prices outcome e offers blocked f never in omega (arith, ints, none)
 ]
 
 -- but the seller of the first offer gains
-nothing_blocks : (firms : List Firm) (trades : List Ends) (d : ℤ) (on : ℕ) (prices : ℕ → ℤ) (e : ℤ) (offers : List Contract) → IsBlocked firms trades d on prices e offers → ⊥
-nothing_blocks firms trades d on prices e offers blocked = elim (slice_get_cases offers 0).1 [
+nothing_blocks : (firms : List Firm) (trades : List Ends) (d : ℤ) (on : ℕ) (prices : ℕ → ℤ) (outcome : List Contract) (e : ℤ) (offers : List Contract) → IsBlocked firms trades d on prices outcome e offers → ⊥
+nothing_blocks firms trades d on prices outcome e offers blocked = elim (slice_get_cases offers 0).1 [
   | inr past ↦ let some = blocked.blocks.some in let none = past.0 in absurd (omega (arith, some, none))
   | inl offer ↦ elim (slice_get_cases trades offer.0.trade).1 [
     | inr past ↦ let known = blocked.blocks.feasible.known 0 offer.0 offer.2 in let none = past.0 in absurd (omega (arith, known, none))
@@ -287,17 +284,29 @@ nothing_blocks firms trades d on prices e offers blocked = elim (slice_get_cases
         let of : is_of trades trade.0.seller offer.0 ≡ true =
         ap (λ (o : Option Ends). unwrap_or (option_map (is_end trade.0.seller) o) false) trade.2
         ∙ ap (λ (b : Bool). b || (trade.0.buyer == trade.0.seller)) (eq-eqb trade.0.seller trade.0.seller refl) in
-        let more = firm_with firms trades d on prices e offers blocked trade.0.seller sold.0 sold.1 0 offer.0 offer.2 of in
-        let all = gains_cancel firms trades blocked.network (λ t. e *ℤ prices t) (pool_of trades d on prices e offers) (length (pool_of trades d on prices e offers)) in
-        let sum = sum_list-positive (λ f (firm : Firm). gains trades (λ t. e *ℤ prices t) (pool_of trades d on prices e offers) f) 0 trade.0.seller trade.0.seller firms sold.0
+        let more = firm_with firms trades d on prices outcome e offers blocked trade.0.seller sold.0 sold.1 0 offer.0 offer.2 of in
+        let all = gains_cancel firms trades blocked.network (λ t. e *ℤ prices t) (together e offers d outcome) (length (together e offers d outcome)) in
+        let sum = sum_list-positive (λ f (firm : Firm). gains trades (λ t. e *ℤ prices t) (together e offers d outcome) f) 0 trade.0.seller trade.0.seller firms sold.0
         (all_from _ 0 firms (λ i f firm at is.
         let same : i ≡ f = omega (arith, at) in
-        firm_gains firms trades d on prices e offers blocked f firm (ap (slice_get firms) (sym same) ∙ is))) (omega arith) sold.1 more in
+        firm_gains firms trades d on prices outcome e offers blocked f firm (ap (slice_get firms) (sym same) ∙ is))) (omega arith) sold.1 more in
         absurd (omega (arith, ints, all, sum))
   ]
 ]
 
+-- contracts at the prices of an equilibrium, one for each of its trades, are stable, in any order
+pub signed_is_stable : (firms : List Firm) (trades : List Ends) (d : ℤ) (on : ℕ) (prices : ℕ → ℤ) (outcome : List Contract) → IsNetwork firms trades → IsEquilibrium firms trades d on prices
+    → AreContractsOf (length trades) on prices outcome → IsStable firms trades d outcome
+signed_is_stable firms trades d on prices outcome network equilibrium contracts e offers from_one blocks =
+    nothing_blocks firms trades d on prices outcome e offers (record {
+      network = network;
+      equilibrium = equilibrium;
+      contracts = contracts;
+      from_zero = omega (arith, ints, from_one);
+      blocks = blocks;
+    })
+
 pub equilibrium_is_stable : (firms : List Firm) (trades : List Ends) (d : ℤ) (on : ℕ) (prices : ℕ → ℤ) → IsNetwork firms trades → IsEquilibrium firms trades d on prices
-    → (e : ℤ) (offers : List Contract) → pos 1 ≤ℤ e → Blocks firms trades d (contracts_of on prices (length trades)) e offers → ⊥
-equilibrium_is_stable firms trades d on prices network equilibrium e offers from_one blocks =
-    nothing_blocks firms trades d on prices e offers (record { network = network; equilibrium = equilibrium; from_zero = omega (arith, ints, from_one); blocks = blocks })
+    → IsStable firms trades d (contracts_of on prices (length trades))
+equilibrium_is_stable firms trades d on prices network equilibrium =
+    signed_is_stable firms trades d on prices (contracts_of on prices (length trades)) network equilibrium (arrangement_has_contracts (length trades) on prices)

@@ -68,9 +68,25 @@ signed_once on prices n j k one other one_is other_is same =
       ]
     ]
 
+-- ---- the contracts of a set of trades
+
+-- contracts in any order, one for each trade of a set below a number, at prices by trade
+pub record AreContractsOf (count on : ℕ) (prices : ℕ → ℤ) (contracts : List Contract) : Type 0 where
+  pub signed : (k : ℕ) (contract : Contract) → slice_get contracts k ≡ Some contract → IsSigned on prices count contract
+  pub found : (t : ℕ) → t < count → has on t ≡ true → (k : ℕ) × (contract : Contract) × (slice_get contracts k ≡ Some contract) × (contract.trade ≡ t)
+  pub once : (j k : ℕ) (one other : Contract) → slice_get contracts j ≡ Some one → slice_get contracts k ≡ Some other → one.trade ≡ other.trade → j ≡ k
+
+-- those of an arrangement are
+pub arrangement_has_contracts : (count on : ℕ) (prices : ℕ → ℤ) → AreContractsOf count on prices (contracts_of on prices count)
+arrangement_has_contracts count on prices = record {
+  signed = signed_at on prices count;
+  found = λ t below there. let found = signed_found on prices count t below there in (found.0, record { trade = t; price = prices t }, found.1, refl);
+  once = signed_once on prices count;
+}
+
 -- ---- the pool of offers and an outcome
 
--- a list that has first the offers' trades and then, at prices by trade, the contracts of an arrangement
+-- a list that has first the offers' trades and then, at prices by trade, a contract for each trade of a set
 pub record IsPool (count on : ℕ) (prices : ℕ → ℤ) (offers pool : List Contract) : Type 0 where
   pub early : (k : ℕ) (contract : Contract) → slice_get pool k ≡ Some contract → k < length offers
       → (offer : Contract) × (slice_get offers k ≡ Some offer) × (contract.trade ≡ offer.trade)
@@ -90,39 +106,39 @@ counted_at times contracts k contract is =
     by_case None there e = absurd (cc e)
     by_case (Some original) there e = (original, there, same_Some _ _ (sym e))
 
-pub pool_together : (e d : ℤ) (count on : ℕ) (prices : ℕ → ℤ) (offers : List Contract)
-    → IsPool count on (λ t. e *ℤ prices t) offers (together e offers d (contracts_of on prices count))
-pool_together e d count on prices offers = record {
-  early = λ k contract is inside. elim (append_cases (counted d offers) (counted e (contracts_of on prices count)) k contract is) [
+pub pool_together : (e d : ℤ) (count on : ℕ) (prices : ℕ → ℤ) (offers outcome : List Contract) → AreContractsOf count on prices outcome
+    → IsPool count on (λ t. e *ℤ prices t) offers (together e offers d outcome)
+pool_together e d count on prices offers outcome are = record {
+  early = λ k contract is inside. elim (append_cases (counted d offers) (counted e outcome) k contract is) [
     | inl front ↦ let from = counted_at d offers k contract front.0 in (from.0, from.1, ap (λ (c : Contract). c.trade) from.2)
     | inr behind ↦ let at = behind.at in absurd (omega (arith, at, inside, wide))
   ];
-  late = λ k contract is past. elim (append_cases (counted d offers) (counted e (contracts_of on prices count)) k contract is) [
+  late = λ k contract is past. elim (append_cases (counted d offers) (counted e outcome) k contract is) [
     | inl front ↦ let below = front.1 in absurd (omega (arith, below, past, wide))
     | inr behind ↦ signed behind.place contract behind.is
   ];
   found = λ t below there.
-      let signed_there = signed_found on prices count t below there in
-      let at : slice_get (counted e (contracts_of on prices count)) signed_there.0 ≡ Some (record { trade = t; price = e *ℤ prices t }) =
-      slice_get-map (λ (c : Contract). record { trade = c.trade; price = e *ℤ c.price }) (contracts_of on prices count) signed_there.0
-      ∙ ap (option_map (λ (c : Contract). record { trade = c.trade; price = e *ℤ c.price })) signed_there.1 in (
-        length offers + signed_there.0,
-        record { trade = t; price = e *ℤ prices t },
+      let original = are.found t below there in
+      let at : slice_get (counted e outcome) original.0 ≡ Some (record { trade = original.1.trade; price = e *ℤ original.1.price }) =
+      slice_get-map (λ (c : Contract). record { trade = c.trade; price = e *ℤ c.price }) outcome original.0
+      ∙ ap (option_map (λ (c : Contract). record { trade = c.trade; price = e *ℤ c.price })) original.2 in (
+        length offers + original.0,
+        record { trade = original.1.trade; price = e *ℤ original.1.price },
         omega arith,
-        append_behind (counted d offers) (counted e (contracts_of on prices count)) signed_there.0 (length offers + signed_there.0) _ (omega (arith, wide)) at,
-        refl,
+        append_behind (counted d offers) (counted e outcome) original.0 (length offers + original.0) _ (omega (arith, wide)) at,
+        original.3,
       );
   once = λ j k one other one_is other_is j_past k_past same.
-      elim (append_cases (counted d offers) (counted e (contracts_of on prices count)) j one one_is) [
+      elim (append_cases (counted d offers) (counted e outcome) j one one_is) [
         | inl front ↦ let below = front.1 in absurd (omega (arith, below, j_past, wide))
-        | inr first ↦ elim (append_cases (counted d offers) (counted e (contracts_of on prices count)) k other other_is) [
+        | inr first ↦ elim (append_cases (counted d offers) (counted e outcome) k other other_is) [
           | inl front ↦ let below = front.1 in absurd (omega (arith, below, k_past, wide))
           | inr second ↦
-              let one_from = counted_at e (contracts_of on prices count) first.place one first.is in
-              let other_from = counted_at e (contracts_of on prices count) second.place other second.is in
+              let one_from = counted_at e outcome first.place one first.is in
+              let other_from = counted_at e outcome second.place other second.is in
               let trades : one_from.0.trade ≡ other_from.0.trade =
               sym (ap (λ (c : Contract). c.trade) one_from.2) ∙ same ∙ ap (λ (c : Contract). c.trade) other_from.2 in
-              let places = signed_once on prices count first.place second.place one_from.0 other_from.0 one_from.1 other_from.1 trades in
+              let places = are.once first.place second.place one_from.0 other_from.0 one_from.1 other_from.1 trades in
               let a = first.at in
               let b = second.at in
               omega (arith, a, b, places)
@@ -133,10 +149,10 @@ pool_together e d count on prices offers = record {
     wide : length (counted d offers) ≡ length offers
     wide = length-map offers (λ (c : Contract). record { trade = c.trade; price = d *ℤ c.price })
 
-    signed : (place : ℕ) (contract : Contract) → slice_get (counted e (contracts_of on prices count)) place ≡ Some contract → IsSigned on (λ t. e *ℤ prices t) count contract
+    signed : (place : ℕ) (contract : Contract) → slice_get (counted e outcome) place ≡ Some contract → IsSigned on (λ t. e *ℤ prices t) count contract
     signed place contract is =
-        let from = counted_at e (contracts_of on prices count) place contract is in
-        let original = signed_at on prices count place from.0 from.1 in
+        let from = counted_at e outcome place contract is in
+        let original = are.signed place from.0 from.1 in
         subst (IsSigned on (λ t. e *ℤ prices t) count) (sym from.2)
         (record { below = original.below; there = original.there; price = ap (λ (z : ℤ). e *ℤ z) original.price })
 

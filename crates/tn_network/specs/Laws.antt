@@ -7,8 +7,7 @@ use Rattle.tn_plain_data.specs.declared.ends.Ends.{Ends}
 use Rattle.tn_plain_data.specs.Network.{IsNetwork}
 use Rattle.tn_market.specs.Equilibrium.{IsEquilibrium, IsEfficient}
 use Rattle.tn_market.specs.Graph.{exchange_arc, ArePossible}
-use Rattle.tn_plain_data.specs.declared.contract.Contract.{Contract}
-use Rattle.tn_plain_data.specs.Choices.{contracts_of, Blocks}
+use Rattle.tn_plain_data.specs.Choices.{contracts_of, IsStable}
 
 -- each firm has bundles of own trades alone, and meets exchange
 abbrev pub MeetExchange : List Firm → Type 0
@@ -44,5 +43,4 @@ NegativeCyclesForbidSupports = (firms : List Firm) (trades : List Ends) (on u : 
 -- no contracts over any denominator block the outcome of an equilibrium
 abbrev pub EquilibriaAreStable : Type 0
 EquilibriaAreStable = (firms : List Firm) (trades : List Ends) (scale : ℤ) (on : ℕ) (prices : ℕ → ℤ) → IsNetwork firms trades
-    → pos 1 ≤ℤ scale → IsEquilibrium firms trades scale on prices
-    → (over : ℤ) (offers : List Contract) → pos 1 ≤ℤ over → Blocks firms trades scale (contracts_of on prices (length trades)) over offers → ⊥
+    → pos 1 ≤ℤ scale → IsEquilibrium firms trades scale on prices → IsStable firms trades scale (contracts_of on prices (length trades))

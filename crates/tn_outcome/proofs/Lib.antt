@@ -2,6 +2,7 @@ pub mod AddingLemmas
 pub mod ReducedLemmas
 pub mod SignedLemmas
 pub mod RationalLemmas
+pub mod StableLemmas
 pub mod MirrorLemmas
 pub mod SplitLemmas
 pub mod CompletionLemmas

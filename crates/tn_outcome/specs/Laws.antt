@@ -1,5 +1,5 @@
 -- The laws, each as one statement over all outcomes.
-use Rattle.std.specs.Prelude.{◌≡◌, ℕ, ◌<◌, ◌≤◌, ℤ, ◌-ℤ◌, ◌≤ℤ◌, ◌↔◌, false, List, length, if◌then◌else◌, Option, Some}
+use Rattle.std.specs.Prelude.{◌≡◌, ℕ, ◌<◌, ◌≤◌, ℤ, pos, ◌-ℤ◌, ◌≤ℤ◌, ◌↔◌, false, List, length, if◌then◌else◌, Option, Some}
 use Rattle.tn_base.specs.Sets.{meet}
 use Rattle.tn_base.specs.Firm.{Firm, HasOwnBundles}
 use Rattle.tn_base.specs.Walks.{arcs_among, is_admitted, HasNoNegativeCycle, KeepsArcs}
@@ -7,7 +7,7 @@ use Rattle.tn_plain_data.specs.declared.ends.Ends.{Ends}
 use Rattle.tn_plain_data.specs.declared.contract.Contract.{Contract}
 use Rattle.tn_plain_data.specs.Network.{IsNetwork}
 use Rattle.tn_market.specs.Best.{IsSubset}
-use Rattle.tn_plain_data.specs.Choices.{IsFeasible, IsIndividuallyRational}
+use Rattle.tn_plain_data.specs.Choices.{IsFeasible, IsIndividuallyRational, IsStable}
 use Rattle.tn_market.specs.Equilibrium.{surplus_of}
 use Rattle.tn_market.specs.Signed.{is_signed, signed_price, signed_bundle, HaveBestSigned, Completes}
 use Rattle.tn_market.specs.Reduced.{reduced, reduced_firms, reduced_arc, IsReducedWorth}
@@ -49,6 +49,11 @@ pub record CompletionIsLabels : Type 0 where
   -- and such prices, with 0 for null, keep its arcs
   pub to_labels : (firms : List Firm) (trades : List Ends) (over : ℤ) (contracts : List Contract) (prices : ℕ → ℤ) → IsRationalOutcome firms trades over contracts
       → Completes firms trades over contracts prices → KeepsArcs (reduced_arc firms trades over contracts) (price_of_node (length trades) prices)
+
+-- an outcome that prices complete is stable
+abbrev pub CompletedOutcomesAreStable : Type 0
+CompletedOutcomesAreStable = (firms : List Firm) (trades : List Ends) (over : ℤ) (contracts : List Contract) (prices : ℕ → ℤ) → IsNetwork firms trades
+    → pos 1 ≤ℤ over → IsFeasible trades contracts → Completes firms trades over contracts prices → IsStable firms trades over contracts
 
 -- with no unsigned trade the firms have a sum of reduced worths, and no set of the allowed trades has more
 pub record HasNoMore (firms : List Firm) (trades : List Ends) (over : ℤ) (contracts : List Contract) (allowed : ℕ) : Type 0 where

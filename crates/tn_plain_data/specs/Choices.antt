@@ -86,6 +86,10 @@ pub record Blocks (firms : List Firm) (trades : List Ends) (d : ℤ) (outcome : 
   pub chosen : (f : ℕ) (firm : Firm) (x : ℕ) → slice_get firms f ≡ Some firm → IsChoice trades (d *ℤ e) f firm (together e offers d outcome) x
       → (k : ℕ) (offer : Contract) → slice_get offers k ≡ Some offer → is_of trades f offer ≡ true → has x k ≡ true
 
+-- stable: no contracts over any denominator block the outcome over d
+abbrev pub IsStable : List Firm → List Ends → ℤ → List Contract → Type 0
+IsStable firms trades d outcome = (e : ℤ) (offers : List Contract) → pos 1 ≤ℤ e → Blocks firms trades d outcome e offers → ⊥
+
 -- the outcome of an arrangement: its trades below n at their prices, ascending
 abbrev pub contracts_of : ℕ → (ℕ → ℤ) → ℕ → List Contract
 contracts_of on prices zero = []
