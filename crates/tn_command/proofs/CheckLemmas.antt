@@ -1,9 +1,9 @@
 -- From the judgement of an arrangement to the answer about it.
-use Rattle.std.proofs.Common.{◌≡◌, ℕ, ◌^◌, ◌<◌, ◌≤◌, ℤ, pos, List, [], ◌∷◌, length, map, refl, sym, ap, ◌∙◌, subst, arith, inl, inr}
+use Rattle.std.proofs.Common.{◌≡◌, ℕ, ◌^◌, ◌<◌, ◌≤◌, ℤ, pos, true, List, [], ◌∷◌, length, map, refl, sym, ap, ◌∙◌, subst, arith, inl, inr}
 use Rattle.std.specs.Prelude.{Option, Some, None, option_map, slice_get, All}
 use Rattle.std.proofs.lemmas.Int.{ints}
 use Rattle.std.proofs.lemmas.List.{length-map, get_or_past}
-use Rattle.std.proofs.lemmas.Bool.{cases_lt}
+use Rattle.std.proofs.lemmas.Bool.{cases_lt, true≢false}
 use Rattle.std.proofs.lemmas.Option.{none-some, same_Some, slice_get-map, slice_get_within}
 use Rattle.std.proofs.lemmas.List.Elements.{All-get_or}
 use Rattle.tn_base.specs.Arcs.{IsAtMost}
@@ -11,16 +11,28 @@ use Rattle.tn_base.specs.Firm.{Firm}
 use Rattle.tn_firm.specs.declared.value.FirmValue.{FirmValue}
 use Rattle.tn_firm.specs.Firms.{firm_of}
 use Rattle.tn_firm.specs.FirmLemmas.{firm_laws, firm_few}
+use Rattle.tn_cert.specs.Claims.{IsValid}
+use Rattle.tn_cert.specs.Replays.{is_on_exchange}
+use Rattle.tn_plain_data.specs.declared.claim.Claim.{Claim}
+use Rattle.tn_plain_data.specs.declared.claim.Claim.TheVariants.{Equilibrium as EquilibriumClaim, Better as BetterClaim, Impossible as ImpossibleClaim, Accepted as AcceptedClaim, ExchangeFails as ExchangeFailsClaim, Supported as SupportedClaim, Cycle as CycleClaim, Solved as SolvedClaim, Drops as DropsClaim, Completes as CompletesClaim, Blocks as BlocksClaim}
+use Rattle.tn_plain_data.specs.declared.contract.Contract.{Contract}
+use Rattle.tn_plain_data.specs.declared.contract.Outcome.{Outcome}
 use Rattle.tn_plain_data.specs.declared.ends.Ends.{Ends}
 use Rattle.tn_plain_data.specs.declared.said.Said.{Said}
 use Rattle.tn_plain_data.specs.declared.said.Said.TheVariants.{Equilibrium, Better}
 use Rattle.tn_plain_data.specs.Prices.{price_at}
+use Rattle.tn_plain_data.specs.ClaimLimits.{IsClaimWithin}
+use Rattle.tn_market.specs.Limits.{IsOutcomeOf}
+use Rattle.tn_plain_data.specs.OutcomeLimits.{IsOutcomeWithin}
+use Rattle.tn_market.specs.Signed.{signed, Completes}
 use Rattle.tn_plain_data.specs.Network.{IsNetwork, own, trades_of}
 use Rattle.tn_market.specs.Equilibrium.{IsEquilibrium, surplus_of}
 use Rattle.tn_market.specs.Judged.{IsFirstBettered, Judges}
 use Rattle.tn_network.proofs.WelfareLemmas.{equilibrium_is_efficient}
 use Rattle.tn_network.proofs.BlockLemmas.{equilibrium_is_stable}
-use Rattle.tn_command.specs.Implied.{IsEfficientAndStable}
+use Rattle.tn_outcome.proofs.StableLemmas.{completed_is_stable}
+use Rattle.tn_residual.proofs.MakingLemmas.{outcome_feasible}
+use Rattle.tn_command.specs.Implied.{ClaimImplies, IsEfficientAndStable, IsLastingOutcome}
 use Rattle.tn_command.proofs.NumberLemmas.{AreSmallFirms, surplus_small, utility_small}
 
 -- what stands at a place of a mapped list comes from there
@@ -95,3 +107,44 @@ implied_by firms trades on prices network equilibrium = record {
 pub judged_implies : (firms : List Firm) (trades : List Ends) (on : ℕ) (prices : ℕ → ℤ) (said : Said) → IsNetwork firms trades → Judges firms trades (pos 1) on prices said
     → (surplus : ℤ) → said ≡ Equilibrium surplus → IsEfficientAndStable firms trades on prices
 judged_implies firms trades on prices said network judges surplus e = implied_by firms trades on prices network (subst (Judges firms trades (pos 1) on prices) e judges).0
+
+-- and so is an outcome that prices complete
+pub completed_lasts : (firms : List Firm) (trades : List Ends) (over : ℤ) (contracts : List Contract) (prices : ℕ → ℤ) → IsNetwork firms trades → IsOutcomeOf trades over contracts
+    → Completes firms trades over contracts prices → IsLastingOutcome firms trades over contracts
+completed_lasts firms trades over contracts prices network outcome completes = record {
+  efficient = equilibrium_is_efficient firms trades over (signed (length trades) contracts) prices network outcome.least completes.equilibrium;
+  stable = completed_is_stable firms trades over contracts prices network (outcome_feasible trades over contracts outcome) completes;
+}
+
+-- what a valid claim implies
+pub claim_implies : (firms : List Firm) (trades : List Ends) (claim : Claim) → IsNetwork firms trades → IsClaimWithin firms trades claim → IsValid firms trades claim → ClaimImplies firms trades claim
+claim_implies firms trades (EquilibriumClaim at surplus) network within valid = implied_by firms trades at.on (price_at at.prices) network valid.0
+claim_implies firms trades (SolvedClaim at surplus) network within valid = implied_by firms trades at.on (price_at at.prices) network valid.0
+claim_implies firms trades (SupportedClaim on prices) network within valid = implied_by firms trades on (price_at prices) network valid
+claim_implies firms trades (CompletesClaim outcome prices over) network within valid =
+    completed_lasts firms trades outcome.over outcome.contracts (price_at prices) network (of_outcome outcome within.0)
+    (subst (λ (o : ℤ). Completes firms trades o outcome.contracts (price_at prices)) valid.0 valid.1)
+  where
+    of_outcome : (o : Outcome) → IsOutcomeWithin (length trades) o → IsOutcomeOf trades o.over o.contracts
+    of_outcome o within = record { least = within.least; most = within.most; contracts = within.contracts }
+claim_implies firms trades (BetterClaim at f x gain) network within valid = tt
+claim_implies firms trades (ImpossibleClaim on f) network within valid = tt
+claim_implies firms trades (CycleClaim on nodes cost) network within valid = tt
+claim_implies firms trades (DropsClaim outcome f keeps gain over) network within valid = tt
+claim_implies firms trades (BlocksClaim outcome contracts over) network within valid = tt
+claim_implies firms trades AcceptedClaim network within valid = tt
+claim_implies firms trades (ExchangeFailsClaim f x y at) network within valid = tt
+
+-- one on the exchange property implies nothing of the kind
+pub exchange_implies : (firms : List Firm) (trades : List Ends) (claim : Claim) → is_on_exchange claim ≡ true → ClaimImplies firms trades claim
+exchange_implies firms trades AcceptedClaim on_exchange = tt
+exchange_implies firms trades (ExchangeFailsClaim f x y at) on_exchange = tt
+exchange_implies firms trades (EquilibriumClaim at surplus) on_exchange = absurd (true≢false (sym on_exchange))
+exchange_implies firms trades (SolvedClaim at surplus) on_exchange = absurd (true≢false (sym on_exchange))
+exchange_implies firms trades (SupportedClaim on prices) on_exchange = absurd (true≢false (sym on_exchange))
+exchange_implies firms trades (CompletesClaim outcome prices over) on_exchange = absurd (true≢false (sym on_exchange))
+exchange_implies firms trades (BetterClaim at f x gain) on_exchange = tt
+exchange_implies firms trades (ImpossibleClaim on f) on_exchange = tt
+exchange_implies firms trades (CycleClaim on nodes cost) on_exchange = tt
+exchange_implies firms trades (DropsClaim outcome f keeps gain over) on_exchange = tt
+exchange_implies firms trades (BlocksClaim outcome contracts over) on_exchange = tt

@@ -21,9 +21,9 @@ use Rattle.tn_plain_data.specs.Choices.{contracts_of}
 use Rattle.tn_plain_data.specs.Edits.{edited}
 use Rattle.tn_market.specs.Equilibrium.{surplus_of}
 use Rattle.tn_market.specs.Graph.{ArePossible}
-use Rattle.tn_plain_data.specs.Network.{trades_on}
+use Rattle.tn_plain_data.specs.Network.{trades_on, IsNetwork}
 use Rattle.tn_plain_data.proofs.ContractLemmas.{contracts_within}
-use Rattle.tn_network.proofs.AdmittedLemmas.{possible_from_admitted}
+use Rattle.tn_network.proofs.AdmittedLemmas.{possible_from_admitted, admitted_most}
 use Rattle.tn_network.proofs.RoundLemmas.{equilibrium_possible}
 use Rattle.tn_answer.specs.Kept.{IsWithinPrices, IsWithinState}
 use Rattle.tn_command.proofs.SolveLemmas.{small_prices}
@@ -121,8 +121,9 @@ module _ (firms : List FirmValue) (trades : List Ends) (test : ℕ → Bool) (se
 
   pub state_from : (on other count : ℕ) (listed : List ℕ) (contracts : List Contract) (surplus told : ℤ) → on ≡ session.solution.on → other ≡ session.solution.on → count ≡ length trades
       → listed ≡ trades_on on count → contracts ≡ contracts_of session.admitted (price_at session.solution.prices) count → told ≡ surplus
-      → surplus_of (map firm_of firms) trades other ≡ Some surplus → IsStateOf (map firm_of firms) trades session.admitted (record { on = listed; prices = contracts; surplus = told })
-  state_from on other count listed contracts surplus told on_is other_is counted listed_is contracts_are same surplus_is = record {
+      → surplus_of (map firm_of firms) trades other ≡ Some surplus → IsNetwork (map firm_of firms) trades
+      → IsStateOf (map firm_of firms) trades session.admitted (record { on = listed; prices = contracts; surplus = told })
+  state_from on other count listed contracts surplus told on_is other_is counted listed_is contracts_are same surplus_is network = record {
     set = session.solution.on;
     inside = stands.equilibrium.inside;
     on_is = listed_is ∙ ap₂ trades_on on_is counted;
@@ -130,8 +131,13 @@ module _ (firms : List FirmValue) (trades : List Ends) (test : ℕ → Bool) (se
     one_each = stands.equilibrium.one_each;
     prices_are = contracts_are ∙ ap (contracts_of session.admitted (price_at session.solution.prices)) counted;
     equilibrium = stands.equilibrium.equilibrium;
-    surplus_is = ap (surplus_of (map firm_of firms) trades) (sym other_is) ∙ surplus_is ∙ ap Some (sym same);
+    surplus_is = told_is;
+    most = admitted_most (map firm_of firms) trades session.admitted session.solution.on (price_at session.solution.prices) told network stands.equilibrium.inside
+        stands.equilibrium.equilibrium told_is;
   }
+    where
+      told_is : surplus_of (map firm_of firms) trades session.solution.on ≡ Some told
+      told_is = ap (surplus_of (map firm_of firms) trades) (sym other_is) ∙ surplus_is ∙ ap Some (sym same)
 
   pub state_small : (count : ℕ) (contracts : List Contract) → length trades ≤ 128 → count ≡ length trades → contracts ≡ contracts_of session.admitted (price_at session.solution.prices) count
       → All (λ contract. IsWithinPrices contract.price) contracts

@@ -7,9 +7,10 @@ use Rattle.tn_plain_data.specs.declared.claim.Claim.{Claim}
 use Rattle.tn_plain_data.specs.declared.ends.Ends.{Ends}
 use Rattle.tn_plain_data.specs.declared.said.Said.{Said}
 use Rattle.tn_plain_data.specs.declared.said.Said.TheVariants.{Valid, Invalid}
+use Rattle.tn_command.specs.Implied.{ClaimImplies}
 
--- valid by the definitions, or the first condition of the claim that fails
+-- valid by the definitions, with what that implies; or the first condition of the claim that fails
 abbrev pub DecidesClaim : List Firm → List Ends → Claim → Said → Type 0
-DecidesClaim firms trades claim Valid = IsValid firms trades claim
+DecidesClaim firms trades claim Valid = IsValid firms trades claim × ClaimImplies firms trades claim
 DecidesClaim firms trades claim (Invalid reason) = Refutes firms trades claim reason
 DecidesClaim firms trades claim said = ⊥

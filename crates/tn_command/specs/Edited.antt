@@ -1,5 +1,5 @@
 -- The answer of `session`: an equilibrium of the admitted trades after each edit.
-use Rattle.std.specs.Prelude.{◌≡◌, ℕ, ◌+◌, ◌*◌, ◌^◌, ℤ, pos, List, [], ◌∷◌, length, map, take, slice_get, Bool, false, not, ◌==◌, ◌&&◌, ◌||◌, Some}
+use Rattle.std.specs.Prelude.{◌≡◌, ℕ, ◌+◌, ◌*◌, ◌^◌, ℤ, pos, ◌≤ℤ◌, List, [], ◌∷◌, length, map, take, slice_get, Bool, false, not, ◌==◌, ◌&&◌, ◌||◌, Some}
 use Rattle.tn_base.specs.Firm.{Firm}
 use Rattle.tn_base.specs.Sets.{has}
 use Rattle.tn_firm.specs.declared.value.FirmValue.{FirmValue}
@@ -26,7 +26,7 @@ is_admitted_after before (Admit s ∷ edits) t = is_admitted_after (t == s || be
 is_admitted_after before (Bar s ∷ edits) t = is_admitted_after (not (t == s) && before) edits t
 
 -- the trades of a set of admitted trades, ascending, and the admitted trades at prices at which the set is an equilibrium
--- of the market that they make, with its surplus
+-- of the market that they make, with its surplus, which no set of admitted trades exceeds
 pub record IsStateOf (firms : List Firm) (trades : List Ends) (allowed : ℕ) (state : State) : Type 0 where
   pub set : ℕ
   pub inside : IsSubset set allowed
@@ -36,6 +36,7 @@ pub record IsStateOf (firms : List Firm) (trades : List Ends) (allowed : ℕ) (s
   pub prices_are : state.prices ≡ contracts_of allowed (price_at prices) (length trades)
   pub equilibrium : IsEquilibrium (admitted trades allowed firms) trades (pos 1) set (price_at prices)
   pub surplus_is : surplus_of firms trades set ≡ Some state.surplus
+  pub most : (other : ℕ) (surplus : ℤ) → IsSubset other allowed → surplus_of firms trades other ≡ Some surplus → surplus ≤ℤ state.surplus
 
 -- a state of the trades that edits admit; at first no trade is admitted
 pub record IsStateAfter (firms : List Firm) (trades : List Ends) (edits : List Edit) (state : State) : Type 0 where

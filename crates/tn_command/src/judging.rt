@@ -26,6 +26,7 @@ pub fn judge_outcome(
     ensures answer { IfOk result (JudgesOutcome (map firm_of market.now.firms) market.now.trades outcome.now.over outcome.now.contracts) }
     ensures within { IfOk result IsWithinClaims }
 {
+    let _count = market.trades();
     match judge(alloc, market, outcome, &mut Steps::new(Asked))? {
         Judged::Drops { firm, keeps, gain } => {
             let keeps = trades_in(alloc, market, firm, keeps)?;

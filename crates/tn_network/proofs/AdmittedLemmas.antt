@@ -1,6 +1,7 @@
 -- The exchange graph of the market that some trades admit: the arcs among these trades and null.
 use Rattle.std.proofs.Common.{◌+ℤ◌, ◌*ℤ◌, ◌≡◌, ◌≢◌, ℕ, zero, suc, ◌+◌, ◌^◌, ◌<◌, ◌≤◌, Bool, true, false, not, ◌==◌, ◌&&◌, ◌||◌, if◌then◌else◌, refl, sym, ap, ap₂, ◌∙◌, subst, arith, inl, inr, ◌⊎◌, ℤ, List, [], ◌∷◌, length, slice_get, Option, Some, None, option_map}
-use Rattle.std.specs.Prelude.{IsSome}
+use Rattle.std.specs.Prelude.{pos, ◌≤ℤ◌, IsSome, option_and_then}
+use Rattle.std.proofs.lemmas.Int.{ints}
 use Rattle.std.proofs.lemmas.Bool.{cases_eq, cases_lt, cases_Bool, eq-eqb, eqb-true, and_parts, or_cases}
 use Rattle.std.proofs.lemmas.Option.{same_Some}
 use Rattle.tn_base.specs.Sets.{has, minus, sum_over}
@@ -15,13 +16,14 @@ use Rattle.tn_law.proofs.AdditiveLemmas.{move-within}
 use Rattle.tn_plain_data.specs.declared.ends.Ends.{Ends}
 use Rattle.tn_plain_data.specs.Network.{own, part, IsNetwork}
 use Rattle.tn_market.specs.Best.{IsSubset}
-use Rattle.tn_market.specs.Equilibrium.{prices_at, utility_at, HasBest, IsEquilibrium}
+use Rattle.tn_market.specs.Equilibrium.{prices_at, utility_at, HasBest, IsEquilibrium, surplus_from, surplus_of}
 use Rattle.tn_market.specs.Admitted.{admitted_from, admitted}
 use Rattle.tn_market.specs.Graph.{loss, exchange_arc, ArePossible}
 use Rattle.tn_market.specs.ArcPlaces.{node_at, AreArcPlaces}
 use Rattle.tn_market.proofs.GraphLemmas.{node_at-trade, node_at-null, arc_at, ArcAt, arc_from, has-part}
 use Rattle.tn_network.specs.Laws.{MeetExchange}
 use Rattle.tn_network.proofs.SupportLemmas.{loss_parts, loss_of}
+use Rattle.tn_network.proofs.WelfareLemmas.{equilibrium_is_efficient}
 
 -- ---- the firms of the admitted market
 
@@ -108,6 +110,28 @@ possible_from_admitted firms trades allowed on possible f firm is =
         by : (p : Option ℤ) → worth (part trades f firm.count on) ≡ p → IsSome p → IsSome o
         by None e h = absurd (cc h)
         by (Some a) e h = subst IsSome (sym (parts a e).1) refl
+
+-- ---- the surplus of admitted trades
+
+-- a set of admitted trades has the same surplus in the market that they admit
+pub admitted_surplus : (firms : List Firm) (trades : List Ends) (allowed on : ℕ) → IsSubset on allowed → surplus_of (admitted trades allowed firms) trades on ≡ surplus_of firms trades on
+admitted_surplus firms trades allowed on inside = from 0 firms
+  where
+    from : (f : ℕ) (firms : List Firm) → surplus_from trades on f (admitted_from trades allowed f firms) ≡ surplus_from trades on f firms
+    from f [] = refl
+    from f (firm ∷ firms) =
+        ap₂ (λ (first rest : Option ℤ). option_and_then (λ worth. option_map (λ more. worth +ℤ more) rest) first)
+        (among_inside (part trades f firm.count allowed) firm (part trades f firm.count on) (part_inside trades f firm.count allowed on inside)) (from (f + 1) firms)
+
+-- so no set of admitted trades has more than an equilibrium of that market
+pub admitted_most : (firms : List Firm) (trades : List Ends) (allowed on : ℕ) (prices : ℕ → ℤ) (surplus : ℤ) → IsNetwork firms trades → IsSubset on allowed
+    → IsEquilibrium (admitted trades allowed firms) trades (pos 1) on prices → surplus_of firms trades on ≡ Some surplus
+    → (other : ℕ) (more : ℤ) → IsSubset other allowed → surplus_of firms trades other ≡ Some more → more ≤ℤ surplus
+admitted_most firms trades allowed on prices surplus network inside equilibrium is other more within has_more =
+    let efficient = equilibrium_is_efficient (admitted trades allowed firms) trades (pos 1) on prices (admitted_network firms trades allowed network) (omega (arith, ints)) equilibrium in
+    let same : efficient.0 ≡ surplus = same_Some _ _ (sym efficient.1.is ∙ admitted_surplus firms trades allowed on inside ∙ is) in
+    let most = efficient.1.most other more (admitted_surplus firms trades allowed other within ∙ has_more) in
+    omega (arith, ints, same, most)
 
 -- ---- the arcs of the admitted market
 

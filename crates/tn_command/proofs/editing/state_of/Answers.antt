@@ -17,7 +17,7 @@ returns-clause-state c =
     let same : to_z w128 (of_z w128 c.surplus.result) ≡ c.surplus.result = omega (arith, ints, within.low, within.high) in
     state_from c.args.market.now.firms c.args.market.now.trades c.requires.stands.0 c.args.session.now c.requires.stands.1 c.on.result.now c.on-2.result.now c.trades-count.result
     c.in_ok-trades_on.field-0 c.in_ok-admitted_prices.field-0 c.surplus.result _ c.on.ensures c.on-2.ensures c.trades-count.ensures.count c.in_ok-trades_on.ensures c.in_ok-admitted_prices.ensures
-    same c.surplus.ensures.surplus
+    same c.surplus.ensures.surplus c.trades-count.ensures.network
 
 pub returns-clause-within : goal.returns-clause-within
 returns-clause-within c =

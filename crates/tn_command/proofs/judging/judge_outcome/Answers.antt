@@ -3,6 +3,8 @@ use Rattle.std.specs.Int.{w128}
 use Rattle.std.proofs.lemmas.Int.{ints}
 use Rattle.tn_firm.specs.Firms.{firm_of}
 use Rattle.tn_judge.specs.Judges.{JudgesContracts}
+use Rattle.tn_plain_data.specs.Prices.{price_at}
+use Rattle.tn_command.proofs.CheckLemmas.{completed_lasts}
 use Rattle.tn_command.proofs.OutcomeLemmas.{drop_keeps, drop_small, blocking_over_small, blocking_prices_small}
 use Rattle.tn_command.proofs.judging.judge_outcome.Goals as goal
 
@@ -33,6 +35,21 @@ returns-in-Drops-clause-within c =
     let same : to_z w128 (of_z w128 over) ≡ over = omega (arith, ints, low, high) in (
       drop_small firms trades over contracts c.in-Drops.firm c.in-Drops.keeps c.in-Drops.gain c.requires.outcome c.requires.wide first,
       record { low = omega (arith, ints, low, same); high = omega (arith, ints, high, same) },
+    )
+
+pub returns-in-Completes-clause-answer : goal.returns-in-Completes-clause-answer
+returns-in-Completes-clause-answer c =
+    let firms = c.args.market.now.firms in
+    let trades = c.args.market.now.trades in
+    let over = c.args.outcome.now.over in
+    let contracts = c.args.outcome.now.contracts in
+    let completed = subst (JudgesContracts (map firm_of firms) trades over contracts) c.in-Completes.is c.in_ok-firm.ensures in
+    let low = c.requires.outcome.least in
+    let high = c.requires.outcome.most in (
+      completed.0,
+      completed.1,
+      omega (arith, ints, low, high),
+      completed_lasts (map firm_of firms) trades over contracts (price_at c.in-Completes.prices) c.trades-count.ensures.network c.requires.outcome completed.1.completes,
     )
 
 pub returns-clause-within : goal.returns-clause-within

@@ -1,6 +1,7 @@
 use Rattle.std.proofs.Common.{map, subst, arith}
 use Rattle.tn_cert.specs.Replays.{Replays}
 use Rattle.tn_firm.specs.Firms.{firm_of}
+use Rattle.tn_command.proofs.CheckLemmas.{claim_implies}
 use Rattle.tn_command.proofs.ReasonLemmas.{reason_small}
 use Rattle.tn_command.proofs.replaying.replay_claim.Goals as goal
 
@@ -11,3 +12,10 @@ returns-clause-within c =
     let few = c.requires.few_firms in
     reason_small firms trades c.args.claim.now c.in-Invalid.reason (omega (arith, few)) c.trades-count.ensures.network c.requires.claim
     (subst (Replays (map firm_of firms) trades c.args.claim.now) c.in-Invalid.is c.in_ok-replay.ensures)
+
+pub returns-in-Valid-clause-answer : goal.returns-in-Valid-clause-answer
+returns-in-Valid-clause-answer c =
+    let firms = map firm_of c.args.market.now.firms in
+    let trades = c.args.market.now.trades in
+    let valid = subst (Replays firms trades c.args.claim.now) c.in-Valid.is c.in_ok-replay.ensures in
+    (valid, claim_implies firms trades c.args.claim.now c.trades-count.ensures.network c.requires.claim valid)
