@@ -24,7 +24,7 @@ pub use party::{Outside, Party};
 pub use room::Room;
 pub use tn_plain_data::{
     Amounts, Arrangement, Claim, Contract, Contracts, Edit, Edits, Ends, Fault, Lent, Listed,
-    Nodes, Numbers, Outcome, Place, PlaceStep, Prices, Range, Ranges, Reason, Said, Shown, State,
-    States, Trades, Word, count_own, sides_of,
+    Nodes, Numbers, Outcome, Page, Place, PlaceStep, Prices, Range, Ranges, Reason, Said, Shown,
+    State, States, Trades, Word, count_own, sides_of,
 };
 pub use valuation::Valuation;

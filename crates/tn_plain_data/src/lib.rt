@@ -24,6 +24,6 @@ pub use lists::{
 pub use place::{PlaceStep, Word};
 pub use range::Range;
 pub use reason::Reason;
-pub use said::{Fault, Said, Shown};
+pub use said::{Fault, Page, Said, Shown};
 pub use session::{Edit, State};
 pub use sides::{count_own, sides_of};

@@ -24,6 +24,15 @@ pub struct Fault {
     pub shown: Option<Shown>,
 }
 
+/// A text of the program about itself.
+#[derive(Clone, Copy, Debug)]
+pub enum Page {
+    /// What can be asked: each command, with an example.
+    Help,
+    /// Which program this is, and by which kit it was proved.
+    Version,
+}
+
 /// An answer of the program. Firms and trades stand in it by their numbers.
 #[derive(Debug, Drop)]
 pub enum Said {
@@ -156,4 +165,6 @@ pub enum Said {
         /// The numbers, from 1, of those with another answer than they should have, ascending.
         failed: Numbers,
     },
+    /// The program tells of itself.
+    Page(Page),
 }
