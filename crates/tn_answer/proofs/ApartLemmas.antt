@@ -1,5 +1,5 @@
 -- Answers over the same names whose data are equal are written alike.
-use Rattle.std.proofs.Common.{◌≡◌, ℕ, suc, ℤ, pos, negsuc, ◌+◌, ◌*◌, List, [], ◌∷◌, slice_get, get_or, Option, None, Some, is_some, true≢false, option_and_then, unwrap_or, find, All, IfSome, codes, bytes_eq, refl, sym, ap, ◌∙◌, subst, Bool, true, false, if◌then◌else◌, ◌++◌, arith}
+use Rattle.std.proofs.Common.{◌≡◌, ℕ, suc, ℤ, pos, negsuc, ◌+◌, ◌*◌, List, [], ◌∷◌, slice_get, get_or, Option, None, Some, is_some, true≢false, option_and_then, unwrap_or, find, All, IfSome, codes, bytes_eq, refl, sym, ap, ◌∙◌, subst, ◌++◌, arith}
 use Rattle.std.proofs.lemmas.List.Elements.{All-head, All-tail}
 use Rattle.std.proofs.lemmas.Option.{same_Some, slice_get-get_or, unwrap_or-slice_get}
 use Rattle.std.specs.List.{AllZip}
@@ -22,13 +22,16 @@ use Rattle.tn_plain_data.specs.declared.said.Shown.{Shown}
 use Rattle.tn_plain_data.specs.declared.contract.Contract.{Contract}
 use Rattle.tn_plain_data.specs.declared.range.Range.{Range}
 use Rattle.tn_plain_data.specs.declared.session.State.{State}
+use Rattle.tn_plain_data.specs.declared.said.Page.{Page}
+use Rattle.tn_plain_data.specs.declared.said.Page.TheVariants.{Help, Version as VersionPage}
 use Rattle.tn_plain_data.specs.declared.said.Said.{Said}
-use Rattle.tn_plain_data.specs.declared.said.Said.TheVariants.{Usage, ReadFault, NoMemory, Fault as FaultIs, Equilibrium, Better, Impossible, Accepted, ExchangeFails, Supported, Cycle, Solved, Rows, Drill, Ranges, Session, Drops, Completes, Blocks, Valid, Invalid, Cases}
+use Rattle.tn_plain_data.specs.declared.said.Said.TheVariants.{Usage, ReadFault, NoMemory, Fault as FaultIs, Equilibrium, Better, Impossible, Accepted, ExchangeFails, Supported, Cycle, Solved, Rows, Drill, Ranges, Session, Drops, Completes, Blocks, Valid, Invalid, Cases, Page as PageIs}
 use Rattle.tn_names.specs.Names.{NameLists, IsNameList}
 use Rattle.tn_answer.specs.Words.{word_text}
 use Rattle.tn_names.specs.Named.{IsNamed, IsNamedStep, IsNamedTriple}
+use Rattle.tn_answer.specs.Pages.{lines_text, page_lines}
 use Rattle.tn_answer.specs.Rows.{each_from}
-use Rattle.tn_answer.specs.AnswerText.{contracts_data, range_data, state_data, states_data, prices_from, nodes_data, step_data, place_data, fault_data, Layout, json, rows, answer_layout, data_in, layout_text, answer, answer_data, answer_line}
+use Rattle.tn_answer.specs.AnswerText.{contracts_data, range_data, state_data, states_data, prices_from, nodes_data, step_data, place_data, fault_data, Layout, json, rows, lines, answer_layout, data_in, layout_text, answer, answer_data, answer_line}
 use Rattle.tn_answer.specs.Values.{bound_data, name_data, names_data, option_data, integer_data, numbers_data}
 use Rattle.tn_answer.specs.ReasonText.{reason_members, IsNamedReason}
 use Rattle.tn_answer.specs.Apart.{HasNamedPaths, HasShortNumbers, IsNamedAnswer, IsNamedState, IsSameStep, IsSameFault, IsSameAnswer, AnswersAreToldApart}
@@ -249,6 +252,19 @@ module _ (names : List (List ℕ)) (kept : IsNameList names) where
         shown = is_first ∙ ap Some triple ∙ sym is_second;
       }
 
+-- ---- pages
+
+abbrev first_byte : List ℕ → ℕ
+first_byte text = get_or text 0 0
+
+abbrev eighth_byte : List ℕ → ℕ
+eighth_byte text = get_or text 7 0
+
+-- each page begins with the program's name
+page_begins : (page : Page) → first_byte (lines_text (page_lines page)) ≡ 109
+page_begins Help = refl
+page_begins VersionPage = refl
+
 -- ---- answers
 
 abbrev answer_text : Said → List ℕ
@@ -274,6 +290,7 @@ answer_text (Blocks contracts over) = codes "blocks"
 answer_text Valid = codes "valid"
 answer_text (Invalid reason) = codes "invalid"
 answer_text (Cases count failed) = codes "cases"
+answer_text (PageIs page) = []
 
 -- the first three bytes tell these texts apart
 abbrev mark : List ℕ → ℕ
@@ -306,6 +323,7 @@ answer_says names (Blocks contracts over) = refl
 answer_says names Valid = refl
 answer_says names (Invalid reason) = refl
 answer_says names (Cases count failed) = refl
+answer_says names (PageIs page) = refl
 
 same_numbers : (xs ys : List ℕ) → numbers_data xs ≡ numbers_data ys → xs ≡ ys
 same_numbers [] [] e = refl
@@ -388,7 +406,7 @@ module _ (names : NameLists) (firms : IsNameList names.firms) (trades : IsNameLi
   same_mark : (first second : Said) → answer_data names first ≡ answer_data names second → mark (answer_text first) ≡ mark (answer_text second)
   same_mark first second e = ap mark (sym (answer_says names first) ∙ ap (λ d. text_in (part (codes "answer") d)) e ∙ answer_says names second)
 
-  -- of rows the text is told, of others the data
+  -- of rows and pages the text is told, of others the data
   same_answer : (first second : Said) → IsNamedAnswer names first → IsNamedAnswer names second → HasShortNumbers first → HasShortNumbers second
       → layout_text (answer_layout names first) ≡ layout_text (answer_layout names second) → answer_data names first ≡ answer_data names second → IsSameAnswer names first second
   same_answer Usage Usage h k short short' line e = refl
@@ -451,20 +469,25 @@ module _ (names : NameLists) (firms : IsNameList names.firms) (trades : IsNameLi
       let same_count = ap (λ d. natural_in (part (codes "count") d)) e in
       let same_failed = same_numbers failed failed' (ap (part (codes "failed")) e) in
       λ i. Cases (same_count i) (same_failed i)
+  same_answer (PageIs Help) (PageIs Help) h k short short' line e = refl
+  same_answer (PageIs VersionPage) (PageIs VersionPage) h k short short' line e = refl
+  same_answer (PageIs Help) (PageIs VersionPage) h k short short' line e = absurd (clash 102 49 refl (ap eighth_byte line))
+  same_answer (PageIs VersionPage) (PageIs Help) h k short short' line e = absurd (clash 49 102 refl (ap eighth_byte line))
+  same_answer (Rows on prices surplus) (PageIs page) h k short short' line e = absurd (clash 116 109 refl (ap first_byte line ∙ page_begins page))
+  same_answer (PageIs page) (Rows on prices surplus) h k short short' line e = absurd (clash 116 109 refl (ap first_byte (sym line) ∙ page_begins page))
   same_answer first second h k short short' line e = absurd (clash (mark (answer_text first)) (mark (answer_text second)) refl (same_mark first second e))
 
 -- ---- layouts
 
-abbrev is_rows : Layout → Bool
-is_rows (json value) = false
-is_rows (rows fields) = true
+-- a line of JSON begins with a brace, rows with their head's first letter, and a page with the program's
+abbrev beginning : Layout → ℕ
+beginning (json value) = 123
+beginning (rows fields) = 116
+beginning (lines texts) = 109
 
-abbrev first_byte : List ℕ → ℕ
-first_byte text = get_or text 0 0
-
--- a line of JSON begins with a brace, and rows with the head's first letter
-begins : (names : NameLists) (said : Said) → first_byte (layout_text (answer_layout names said)) ≡ (if is_rows (answer_layout names said) then 116 else 123)
+begins : (names : NameLists) (said : Said) → first_byte (layout_text (answer_layout names said)) ≡ beginning (answer_layout names said)
 begins names (Rows on prices surplus) = refl
+begins names (PageIs page) = page_begins page
 begins names (FaultIs fault) = by fault.shown
   where
     by : (shown : Option Shown) → first_byte (compact_text (fault_data names.trades fault shown) ++ 10 ∷ []) ≡ 123
@@ -473,14 +496,23 @@ begins names (FaultIs fault) = by fault.shown
 begins names said = refl
 
 module _ (names : NameLists) (first second : Said) where
-  starts : (said : Said) (l : Layout) → answer_layout names said ≡ l → first_byte (layout_text l) ≡ (if is_rows l then 116 else 123)
-  starts said l e = subst (λ l. first_byte (layout_text l) ≡ (if is_rows l then 116 else 123)) e (begins names said)
+  starts : (said : Said) (l : Layout) → answer_layout names said ≡ l → first_byte (layout_text l) ≡ beginning l
+  starts said l e = subst (λ l. first_byte (layout_text l) ≡ beginning l) e (begins names said)
+
+  -- equal texts begin alike
+  same_beginning : (l m : Layout) → answer_layout names first ≡ l → answer_layout names second ≡ m → layout_text l ≡ layout_text m → beginning l ≡ beginning m
+  same_beginning l m p q same = sym (starts first l p) ∙ ap first_byte same ∙ starts second m q
 
   same_data : (l m : Layout) → answer_layout names first ≡ l → answer_layout names second ≡ m → IsPlain (data_in l) → IsPlain (data_in m) → layout_text l ≡ layout_text m → data_in l ≡ data_in m
   same_data (json d) (json e) p q plain_d plain_e same = compact_text-tells d e 10 plain_d plain_e (λ h. omega (arith, h)) same
-  same_data (json d) (rows s) p q plain_d plain_e same = absurd (clash 123 116 refl (sym (starts first (json d) p) ∙ ap first_byte same ∙ starts second (rows s) q))
-  same_data (rows r) (json e) p q plain_d plain_e same = absurd (clash 116 123 refl (sym (starts first (rows r) p) ∙ ap first_byte same ∙ starts second (json e) q))
+  same_data (json d) (rows s) p q plain_d plain_e same = absurd (clash 123 116 refl (same_beginning (json d) (rows s) p q same))
+  same_data (json d) (lines t) p q plain_d plain_e same = absurd (clash 123 109 refl (same_beginning (json d) (lines t) p q same))
+  same_data (rows r) (json e) p q plain_d plain_e same = absurd (clash 116 123 refl (same_beginning (rows r) (json e) p q same))
+  same_data (lines t) (json e) p q plain_d plain_e same = absurd (clash 109 123 refl (same_beginning (lines t) (json e) p q same))
   same_data (rows r) (rows s) p q plain_d plain_e same = refl
+  same_data (rows r) (lines t) p q plain_d plain_e same = refl
+  same_data (lines t) (rows s) p q plain_d plain_e same = refl
+  same_data (lines t) (lines u) p q plain_d plain_e same = refl
 
 pub answers_told_apart : AnswersAreToldApart
 unfolding answer_line

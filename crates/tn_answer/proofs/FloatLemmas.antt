@@ -14,7 +14,7 @@ use Rattle.tn_plain_data.specs.declared.contract.Contract.{Contract}
 use Rattle.tn_plain_data.specs.declared.range.Range.{Range}
 use Rattle.tn_plain_data.specs.declared.session.State.{State}
 use Rattle.tn_plain_data.specs.declared.said.Said.{Said}
-use Rattle.tn_plain_data.specs.declared.said.Said.TheVariants.{Usage, ReadFault, NoMemory, Fault as FaultIs, Equilibrium, Better, Impossible, Accepted, ExchangeFails, Supported, Cycle, Solved, Rows, Drill, Ranges, Session, Drops, Completes, Blocks, Valid, Invalid, Cases}
+use Rattle.tn_plain_data.specs.declared.said.Said.TheVariants.{Usage, ReadFault, NoMemory, Fault as FaultIs, Equilibrium, Better, Impossible, Accepted, ExchangeFails, Supported, Cycle, Solved, Rows, Drill, Ranges, Session, Drops, Completes, Blocks, Valid, Invalid, Cases, Page as PageIs}
 use Rattle.tn_answer.specs.AnswerText.{prices_from, nodes_data, step_data, place_data, fault_data, contracts_data, range_data, states_data, answer, answer_data}
 use Rattle.tn_answer.specs.ReasonText.{reason_members}
 use Rattle.tn_answer.specs.Values.{names_data, option_data, bound_data, numbers_data}
@@ -117,6 +117,7 @@ answer_has_no_float names (Session edits) = neither _ _ (states_have_no_float na
 answer_has_no_float names (Drops firm keeps gain over) = neither _ _ (bound_has_no_float names.trades gain) (neither _ _ (names_have_no_float names.trades keeps) (neither _ _ (integer_is_no_float over) refl))
 answer_has_no_float names (Completes prices over) = neither _ _ (integer_is_no_float over) (neither _ _ (prices_have_no_float names.trades 0 prices) refl)
 answer_has_no_float names Valid = refl
+answer_has_no_float names (PageIs page) = refl
 answer_has_no_float names (Invalid reason) = reason_has_no_float names reason
 answer_has_no_float names (Cases count failed) = neither _ _ (numbers_have_no_float failed) refl
 answer_has_no_float names (Blocks contracts over) = neither _ _ (contracts_have_no_float names.trades contracts) (neither _ _ (integer_is_no_float over) refl)

@@ -15,7 +15,7 @@ use Rattle.tn_plain_data.specs.declared.contract.Contract.{Contract}
 use Rattle.tn_plain_data.specs.declared.range.Range.{Range}
 use Rattle.tn_plain_data.specs.declared.session.State.{State}
 use Rattle.tn_plain_data.specs.declared.said.Said.{Said}
-use Rattle.tn_plain_data.specs.declared.said.Said.TheVariants.{Usage, ReadFault, NoMemory, Fault as FaultIs, Equilibrium, Better, Impossible, Accepted, ExchangeFails, Supported, Cycle, Solved, Rows, Drill, Ranges, Session, Drops, Completes, Blocks, Valid, Invalid, Cases}
+use Rattle.tn_plain_data.specs.declared.said.Said.TheVariants.{Usage, ReadFault, NoMemory, Fault as FaultIs, Equilibrium, Better, Impossible, Accepted, ExchangeFails, Supported, Cycle, Solved, Rows, Drill, Ranges, Session, Drops, Completes, Blocks, Valid, Invalid, Cases, Page as PageIs}
 use Rattle.tn_names.specs.Names.{NameLists}
 use Rattle.tn_answer.specs.AnswerText.{contracts_data, state_data, prices_data, nodes_data, step_data, answer, fault_members, fault_data, json, answer_layout, layout_text, answer_line}
 use Rattle.tn_answer.specs.Values.{names_data, option_data, integer_data}
@@ -130,6 +130,7 @@ same_layout (Blocks contracts over) names others e = ap (λ d. json (answer (cod
 same_layout Valid names others e = refl
 same_layout (Invalid reason) names others e = ap (λ ms. json (answer (codes "invalid") ms)) (same_reason reason names others e)
 same_layout (Cases count failed) names others e = refl
+same_layout (PageIs page) names others e = refl
 
 pub same_line : (said : Said) (names others : NameLists) → names_nothing said ≡ true → answer_line names said ≡ answer_line others said
 unfolding answer_line
@@ -203,6 +204,7 @@ within_sayable (Session edits) within = λ k d below. state_fits (get_or edits k
 within_sayable (Drops firm keeps gain over) within = (gain_fits gain within.0, fits_from_within over within.1)
 within_sayable (Completes prices over) within = ((λ k d below. fits_from_within (get_or prices k d) (within.0 k d below)), fits_from_within over within.1)
 within_sayable Valid within = tt
+within_sayable (PageIs page) within = tt
 within_sayable (Invalid reason) within = reason_fits reason within
 within_sayable (Cases count failed) within = (omega (arith, within.0), λ k d below. wide (get_or failed k d) (within.1 k d below))
   where

@@ -21,7 +21,7 @@ use Rattle.tn_plain_data.specs.declared.contract.Contract.{Contract}
 use Rattle.tn_plain_data.specs.declared.range.Range.{Range}
 use Rattle.tn_plain_data.specs.declared.session.State.{State}
 use Rattle.tn_plain_data.specs.declared.said.Said.{Said}
-use Rattle.tn_plain_data.specs.declared.said.Said.TheVariants.{Usage, ReadFault, NoMemory, Fault as FaultIs, Equilibrium, Better, Impossible, Accepted, ExchangeFails, Supported, Cycle, Solved, Rows, Drill, Ranges, Session, Drops, Completes, Blocks, Valid, Invalid, Cases}
+use Rattle.tn_plain_data.specs.declared.said.Said.TheVariants.{Usage, ReadFault, NoMemory, Fault as FaultIs, Equilibrium, Better, Impossible, Accepted, ExchangeFails, Supported, Cycle, Solved, Rows, Drill, Ranges, Session, Drops, Completes, Blocks, Valid, Invalid, Cases, Page as PageIs}
 use Rattle.tn_names.specs.Names.{NameLists, IsNameList, is_name}
 use Rattle.tn_answer.specs.Words.{kind_name, word_text}
 use Rattle.tn_answer.specs.Rows.{each_from}
@@ -182,6 +182,7 @@ answer_is_plain names firms trades (Drops firm keeps gain over) h =
     (refl, refl, (refl, name_is_plain names.firms firms firm, (refl, bound_is_plain names.trades trades gain h.0, (refl, names_are_plain names.trades trades keeps, (refl, integer_is_short over h.1, tt)))))
 answer_is_plain names firms trades (Completes prices over) h = (refl, refl, (refl, integer_is_short over h.1, (refl, prices_are_plain names.trades trades 0 prices h.0, tt)))
 answer_is_plain names firms trades Valid h = (refl, refl, tt)
+answer_is_plain names firms trades (PageIs page) h = tt
 answer_is_plain names firms trades (Invalid reason) h = reason_is_plain names firms trades reason h
 answer_is_plain names firms trades (Cases count failed) h = (refl, refl, (refl, h.0, (refl, numbers_are_plain failed h.1, tt)))
 answer_is_plain names firms trades (Blocks contracts over) h = (refl, refl, (refl, contracts_are_plain names.trades trades contracts h.0, (refl, integer_is_short over h.1, tt)))

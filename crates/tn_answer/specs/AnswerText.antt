@@ -1,4 +1,4 @@
--- What is written for an answer: compact JSON, the members of an object in byte order, and one line end; or rows.
+-- What is written for an answer: compact JSON, the members of an object in byte order, and one line end; or rows; or a page.
 use Rattle.std.specs.Prelude.{ℕ, ℤ, List, [], ◌∷◌, ◌++◌, map, Option, None, Some, codes}
 use Rattle.serde_json.specs.Data.{Data, null, number, string, array, object, unsigned, no_items, item, Members, no_members, member}
 use Rattle.serde_json.specs.View.{items_of}
@@ -13,8 +13,9 @@ use Rattle.tn_plain_data.specs.declared.session.State.{State}
 use Rattle.tn_plain_data.specs.declared.said.Fault.{Fault}
 use Rattle.tn_plain_data.specs.declared.said.Shown.{Shown}
 use Rattle.tn_plain_data.specs.declared.said.Said.{Said}
-use Rattle.tn_plain_data.specs.declared.said.Said.TheVariants.{Usage, ReadFault, NoMemory, Fault as FaultIs, Equilibrium, Better, Impossible, Accepted, ExchangeFails, Supported, Cycle, Solved, Rows, Drill, Ranges, Session, Drops, Completes, Blocks, Valid, Invalid, Cases}
+use Rattle.tn_plain_data.specs.declared.said.Said.TheVariants.{Usage, ReadFault, NoMemory, Fault as FaultIs, Equilibrium, Better, Impossible, Accepted, ExchangeFails, Supported, Cycle, Solved, Rows, Drill, Ranges, Session, Drops, Completes, Blocks, Valid, Invalid, Cases, Page as PageIs}
 use Rattle.tn_names.specs.Names.{NameLists}
+use Rattle.tn_answer.specs.Pages.{lines_text, page_lines}
 use Rattle.tn_answer.specs.ReasonText.{reason_members}
 use Rattle.tn_answer.specs.Rows.{each_from, rows_text, table_of}
 use Rattle.tn_answer.specs.Values.{name_data, names_data, option_data, integer_data, bound_data, numbers_data}
@@ -76,10 +77,11 @@ abbrev pub fault_data : List (List ℕ) → Fault → Option Shown → Data
 fault_data trades fault None = answer (codes "fault") (fault_members fault.kind (place_data trades fault.place) no_members)
 fault_data trades fault (Some shown) = answer (codes "fault") (member (codes "at") (option_data trades shown.at) (fault_members fault.kind (place_data trades fault.place) (member (codes "x") (names_data trades shown.x) (member (codes "y") (names_data trades shown.y) no_members))))
 
--- how an answer is laid out: as one JSON value, or as rows of fields
+-- how an answer is laid out: as one JSON value, as rows of fields, or as lines of text
 pub data Layout : Type 0 where
   json : Data → Layout
   rows : List (List (List ℕ)) → Layout
+  lines : List (List ℕ) → Layout
 
 -- the layout of an answer
 abbrev pub answer_layout : NameLists → Said → Layout
@@ -105,11 +107,13 @@ answer_layout names (Blocks contracts over) = json (answer (codes "blocks") (mem
 answer_layout names Valid = json (answer (codes "valid") no_members)
 answer_layout names (Invalid reason) = json (answer (codes "invalid") (reason_members names reason))
 answer_layout names (Cases count failed) = json (answer (codes "cases") (member (codes "count") (number (unsigned count)) (member (codes "failed") (numbers_data failed) no_members)))
+answer_layout names (PageIs page) = lines (page_lines page)
 
--- the JSON value of a layout, null where it is rows
+-- the JSON value of a layout, null where it is rows or lines
 abbrev pub data_in : Layout → Data
 data_in (json value) = value
 data_in (rows fields) = null
+data_in (lines texts) = null
 
 abbrev pub answer_data : NameLists → Said → Data
 answer_data names said = data_in (answer_layout names said)
@@ -118,6 +122,7 @@ answer_data names said = data_in (answer_layout names said)
 abbrev pub layout_text : Layout → List ℕ
 layout_text (json value) = compact_text value ++ 10 ∷ []
 layout_text (rows fields) = rows_text fields
+layout_text (lines texts) = lines_text texts
 
 -- an answer as text
 unfoldable pub answer_line : NameLists → Said → List ℕ

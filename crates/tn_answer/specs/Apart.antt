@@ -7,7 +7,7 @@ use Rattle.tn_plain_data.specs.declared.range.Range.{Range}
 use Rattle.tn_plain_data.specs.declared.session.State.{State}
 use Rattle.tn_plain_data.specs.declared.said.Fault.{Fault}
 use Rattle.tn_plain_data.specs.declared.said.Said.{Said}
-use Rattle.tn_plain_data.specs.declared.said.Said.TheVariants.{Usage, ReadFault, NoMemory, Fault as FaultIs, Equilibrium, Better, Impossible, Accepted, ExchangeFails, Supported, Cycle, Solved, Rows, Drill, Ranges, Session, Drops, Completes, Blocks, Valid, Invalid, Cases}
+use Rattle.tn_plain_data.specs.declared.said.Said.TheVariants.{Usage, ReadFault, NoMemory, Fault as FaultIs, Equilibrium, Better, Impossible, Accepted, ExchangeFails, Supported, Cycle, Solved, Rows, Drill, Ranges, Session, Drops, Completes, Blocks, Valid, Invalid, Cases, Page as PageIs}
 use Rattle.tn_names.specs.Names.{NameLists, IsNameList}
 use Rattle.tn_answer.specs.Words.{word_text}
 use Rattle.tn_names.specs.Named.{IsNamed, IsNamedStep, IsNamedTriple, HasShortIndex}
@@ -49,6 +49,7 @@ IsNamedAnswer names (Blocks contracts over) = All (λ contract. IsNamed names.tr
 IsNamedAnswer names Valid = Unit {0}
 IsNamedAnswer names (Invalid reason) = IsNamedReason names reason
 IsNamedAnswer names (Cases count failed) = Unit {0}
+IsNamedAnswer names (PageIs page) = Unit {0}
 
 -- the numbers of an answer fit 64 bits, and so do the indices of a fault's place
 abbrev pub HasShortNumbers : Said → Type 0

@@ -5,7 +5,7 @@ use Rattle.tn_base.specs.Arcs.{IsAtMost}
 use Rattle.tn_plain_data.specs.declared.range.Range.{Range}
 use Rattle.tn_plain_data.specs.declared.session.State.{State}
 use Rattle.tn_plain_data.specs.declared.said.Said.{Said}
-use Rattle.tn_plain_data.specs.declared.said.Said.TheVariants.{Usage, ReadFault, NoMemory, Fault as FaultIs, Equilibrium, Better, Impossible, Accepted, ExchangeFails, Supported, Cycle, Solved, Rows, Drill, Ranges, Session, Drops, Completes, Blocks, Valid, Invalid, Cases}
+use Rattle.tn_plain_data.specs.declared.said.Said.TheVariants.{Usage, ReadFault, NoMemory, Fault as FaultIs, Equilibrium, Better, Impossible, Accepted, ExchangeFails, Supported, Cycle, Solved, Rows, Drill, Ranges, Session, Drops, Completes, Blocks, Valid, Invalid, Cases, Page as PageIs}
 use Rattle.tn_names.specs.Named.{IsAscendingTriple}
 use Rattle.tn_answer.specs.ReasonText.{IsReasonWithin, HasAscendingBundles}
 
@@ -50,6 +50,7 @@ IsWithinClaims (Blocks contracts over) = All (λ contract. IsWithinClaim contrac
 IsWithinClaims Valid = Unit {0}
 IsWithinClaims (Invalid reason) = IsReasonWithin reason
 IsWithinClaims (Cases count failed) = (count < 2 ^ 32) × All (λ n. n < 2 ^ 32) failed
+IsWithinClaims (PageIs page) = Unit {0}
 
 -- the trades of a state that are on, and those that have a price, ascend strictly
 pub record IsAscendingState (state : State) : Type 0 where
@@ -80,3 +81,4 @@ HasAscendingTrades (Blocks contracts over) = Unit {0}
 HasAscendingTrades Valid = Unit {0}
 HasAscendingTrades (Invalid reason) = HasAscendingBundles reason
 HasAscendingTrades (Cases count failed) = IsStrictlyIncreasing failed
+HasAscendingTrades (PageIs page) = Unit {0}

@@ -4,7 +4,7 @@ use Rattle.std.specs.Int.{w64}
 use Rattle.tn_plain_data.specs.declared.range.Range.{Range}
 use Rattle.tn_plain_data.specs.declared.session.State.{State}
 use Rattle.tn_plain_data.specs.declared.said.Said.{Said}
-use Rattle.tn_plain_data.specs.declared.said.Said.TheVariants.{Usage, ReadFault, NoMemory, Fault as FaultIs, Equilibrium, Better, Impossible, Accepted, ExchangeFails, Supported, Cycle, Solved, Rows, Drill, Ranges, Session, Drops, Completes, Blocks, Valid, Invalid, Cases}
+use Rattle.tn_plain_data.specs.declared.said.Said.TheVariants.{Usage, ReadFault, NoMemory, Fault as FaultIs, Equilibrium, Better, Impossible, Accepted, ExchangeFails, Supported, Cycle, Solved, Rows, Drill, Ranges, Session, Drops, Completes, Blocks, Valid, Invalid, Cases, Page as PageIs}
 use Rattle.tn_answer.specs.ReasonText.{IsShortReason}
 
 -- the numbers of a range, and of a state, fit 64 bits
@@ -39,3 +39,4 @@ IsSayable (Blocks contracts over) = All (λ contract. FitsSigned w64 contract.pr
 IsSayable Valid = Unit {0}
 IsSayable (Invalid reason) = IsShortReason reason
 IsSayable (Cases count failed) = (count < 2 ^ 64) × All (λ n. n < 2 ^ 64) failed
+IsSayable (PageIs page) = Unit {0}

@@ -4,6 +4,7 @@
 
 mod fields;
 mod laws;
+mod pages;
 mod ranges;
 mod reasons;
 mod rows;
@@ -15,5 +16,6 @@ mod words;
 pub use laws::{
     answers_are_told_apart, answers_within_claims_are_sayable, some_answers_need_no_names,
 };
+pub use pages::page_text;
 pub use text::{answer_text, no_memory_text, read_fault_text, usage_text};
 pub use tn_names::{Names, is_name};

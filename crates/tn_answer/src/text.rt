@@ -4,6 +4,7 @@ ghost use Rattle.tn_answer.specs.AnswerText.{answer_data, answer_line};
 ghost use Rattle.tn_names.specs.Names.{NameLists};
 ghost use Rattle.tn_answer.specs.Sayable.{IsSayable};
 
+use crate::pages::page_text;
 use crate::rows::rows_text;
 use crate::values::answer_value;
 use std::alloc::Global;
@@ -21,6 +22,7 @@ pub fn answer_text(alloc: Global, names: &Names, said: &Said) -> Result<Vec<u8>,
 {
     match said {
         Said::Rows { on, prices, .. } => rows_text(alloc, names, on, prices),
+        Said::Page(page) => Ok(page_text(*page).to_vec(alloc)?),
         said => line(alloc, names, said),
     }
 }

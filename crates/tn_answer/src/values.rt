@@ -1,4 +1,4 @@
-// Answers as JSON values, null for one that is written as rows. An object has its members in byte order, whatever order
+// Answers as JSON values, null for one that is written as rows or as a page. An object has its members in byte order, whatever order
 // they are put in.
 ghost use Rattle.std.specs.Prelude.{◌≡◌, [], All, unwrap_or, slice_get, IfOk, IfSome, FitsSigned};
 ghost use Rattle.std.specs.Int.{w64};
@@ -43,8 +43,8 @@ pub(crate) fn answer_value(alloc: Global, names: &Names, said: &Said) -> Result<
             prices,
             surplus,
         } => solved_value(alloc, names, on, prices, *surplus),
-        // (written as rows)
-        Said::Rows { .. } => Ok(Value::Null),
+        // (written as rows, or as a page)
+        Said::Rows { .. } | Said::Page(_) => Ok(Value::Null),
         Said::Drill {
             size,
             start,

@@ -1,0 +1,67 @@
+//! The pages: what the program tells of itself.
+
+ghost use Rattle.std.specs.Prelude.{◌≡◌};
+ghost use Rattle.tn_answer.specs.AnswerText.{answer_line};
+ghost use Rattle.tn_answer.specs.Pages.{help_lines, lines_text, version_lines};
+ghost use Rattle.tn_names.specs.Names.{NameLists};
+
+use tn_plain_data::{Page, Said};
+
+/// What can be asked: each command, with an example.
+fn help_text() -> &'static str
+    ensures { result.now ≡ lines_text help_lines }
+{
+    concat!(
+        "market finds, checks and judges equilibria of trading networks.\n",
+        "\n",
+        "  check      Is the arrangement an equilibrium?\n",
+        "             market check < examples/used-cars.json\n",
+        "  test       Does every firm meet the exchange property?\n",
+        "             market test < examples/complements.json\n",
+        "  support    Which prices make the arrangement's trades an equilibrium?\n",
+        "             market support < examples/one-trade.json\n",
+        "  solve      Which trades and prices are an equilibrium? With --csv it writes rows.\n",
+        "             market solve --csv < examples/used-cars.json\n",
+        "  range      How low and how high may each price be in an equilibrium?\n",
+        "             market range < examples/used-cars.json\n",
+        "  session    Which equilibria follow as trades are admitted and barred?\n",
+        "             market session < examples/used-cars-edits.json\n",
+        "  judge      Would firms drop contracts of the outcome, or sign others?\n",
+        "             market judge < examples/used-cars-signed.json\n",
+        "  replay     Is the claim valid, and if not, why?\n",
+        "             market replay < examples/claim-valid.json\n",
+        "  drill      How much can trade bring in a network that is drawn from two numbers?\n",
+        "             market drill 64 7\n",
+        "  cases      Does this copy pass the cases that it carries?\n",
+        "             market cases\n",
+        "  help       What can be asked?\n",
+        "             market help\n",
+        "  -h         The same.\n",
+        "             market -h\n",
+        "  --help     The same.\n",
+        "             market --help\n",
+        "  --version  Which program is this, and which kit proved it?\n",
+        "             market --version\n",
+        "\n",
+        "From check to replay a document is read from standard input; the others read nothing.\n",
+        "The answer goes to standard output.\n",
+    )
+}
+
+/// The versions of the program and of the kit that proved it.
+fn version_text() -> &'static str
+    ensures { result.now ≡ lines_text version_lines }
+{
+    concat!("market 1.9.0\n", "rattle-kit-13f logic dac8208d650f15bf\n")
+}
+
+/// The text of a page.
+#[tactic(auto, unfolding(crate::specs::AnswerText::answer_line))]
+pub fn page_text(page: Page) -> &'static [u8]
+    ensures { (names : NameLists) → result.now ≡ answer_line names (Said.Page page) }
+{
+    match page {
+        Page::Help => help_text().as_bytes(),
+        Page::Version => version_text().as_bytes(),
+    }
+}
