@@ -14,6 +14,6 @@ def firm($name; $own; $sign): ([$own | length / 2 | floor, 1] | max) as $most
 | [range($size) | {name: "t\(.)", seller: "S\(. % 4)", buyer: "B\((. + (. / 4 | floor)) % 4)", cost: ($drawn[2 * .] % 100), gain: (50 + $drawn[2 * . + 1] % 100)}] as $trades
 | {version: (if $size > 64 then 2 else 1 end),
    firms: [
-     (range(4) | "S\(.)" as $name | firm($name; [$trades[] | select(.seller == $name) | [.name, -.cost]]; -1)),
+     (range(4) | "S\(.)" as $name | firm($name; [$trades[] | select(.seller == $name) | [.name, 0 - .cost]]; -1)),
      (range(4) | "B\(.)" as $name | firm($name; [$trades[] | select(.buyer == $name) | [.name, .gain]]; 1))],
    trades: ($trades | map({name, seller, buyer}))}

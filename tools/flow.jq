@@ -29,7 +29,7 @@ def arc($from; $to; $cost): {from: $from, to: $to, cost: $cost};
     | {ends: [sides[] | {key: .name, value:
         (if .buyer == $firm then {node: "\($firm) in", worth: -(.name as $name | $own.costs // [] | amount($name))}
          else {node: "\($firm) out", worth: (.name as $name | $own.gains // [] | amount($name))} end)}],
-       arcs: [arc("\($firm) in"; "\($firm) out"; 0), (.keep | values | arc("\($firm) out"; "ground"; -.))], constant: 0};
+       arcs: [arc("\($firm) in"; "\($firm) out"; 0), (.keep | values | arc("\($firm) out"; "ground"; 0 - .))], constant: 0};
   def dealer:
     .name as $firm
     | {ends: [sides[] | {key: .name, value: {node: "\($firm) \(.name)", worth: 0}}],
