@@ -5,7 +5,7 @@ use tn_base::Bundle;
 pub enum Verdict {
     /// No triple fails.
     Holds,
-    /// The first failing triple, in test order.
+    /// The first failing triple in test order: of all triples, or of those with close bundles where a test looks at these alone.
     Fails {
         /// The first bundle.
         x: Bundle,

@@ -3,7 +3,7 @@ use std::test::Fail;
 use tn_base::{Asked, Bundle, Side, Steps};
 use tn_market::{Oracle, Room, Valuation};
 
-// A dealer with room for one car, who may buy it from two owners, and sell it to two buyers.
+// A middleman with room for one car, who may buy it from two owners, and sell it to two buyers.
 #[test]
 #[tactic(auto, unfolding(tn_base::specs::Sets::meet, tn_base::specs::Sets::union))]
 fn a_dealer_in_one_car(rt: HostRuntime) -> Result<(), Fail> {
