@@ -150,9 +150,9 @@ impl Graph {
         }
     }
 
-    /// Turns the exchange graph at the set `before` into the one at the set `on`. It asks only the firms whose bundles
-    /// differ, for a worth for each two places of the firm at most, and takes no memory. The market has at most `64 *
-    /// W` trades; each firm's bundle of the set `on` is possible, and twice no worth is above 10^18.
+    /// Turns the exchange graph at the set `before` into the one at the set `on`. It asks for at most a worth for
+    /// each two places of the firms whose bundles differ, and takes no memory. The market has at most `64 * W` trades;
+    /// each firm's bundle of the set `on` is possible, and twice no worth is above 10^18.
     pub fn refresh<V: Valuation, const W: usize>(
         &mut self,
         market: &Market<V>,
