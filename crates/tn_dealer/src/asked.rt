@@ -6,7 +6,7 @@ use crate::dealer::Dealer;
 use tn_base::{Asked, Bundle, Side, Steps};
 use tn_market::{Oracle, Room, Valuation, best_by_ascent};
 
-/// The size that no worth of a firm is above.
+/// A bound on the size of every worth of a firm.
 const BOUND: i128 = 100_000_000_000;
 
 impl Valuation for Dealer {

@@ -10,7 +10,7 @@ use tn_base::{Costs, OutOfMemory};
 /// The number of no arc: it is above every cost.
 const NO_ARC: i64 = i64::MAX;
 
-/// The size that no cost is above.
+/// A bound on the size of every cost.
 const MOST_COST: i64 = 1_000_000_000_000_000_000;
 
 /// A directed graph by the costs of its arcs, which are at most 10^18 in size. Contracts see how many nodes there are,

@@ -6,7 +6,7 @@ use crate::laminar::Laminar;
 use tn_base::{Asked, Bundle, Side, Steps};
 use tn_market::{Oracle, Room, Valuation, best_by_ascent};
 
-/// The size that no worth of a firm is above: 32 amounts and 64 numbers of 10^9 are less.
+/// A bound on the size of every worth of a firm: 32 amounts and 64 numbers of 10^9 are less.
 const BOUND: i128 = 100_000_000_000;
 
 impl Valuation for Laminar {

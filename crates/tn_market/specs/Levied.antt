@@ -11,7 +11,7 @@ levy taxed tax k = if has taxed k then neg_ℤ tax else pos 0
 abbrev pub levied : ℤ → ℕ → ℤ → Firm → Firm
 levied scale taxed tax firm = plus_sum scale (levy taxed tax) firm
 
--- the size that none of its worths is above, where none of the firm's is above the limit
+-- a bound on the size of its worths, where the limit bounds those of the firm
 abbrev pub levied_limit : ℤ → ℤ → ℕ → ℕ
 levied_limit scale tax limit = unsigned_abs scale * limit + 64 * unsigned_abs tax
 

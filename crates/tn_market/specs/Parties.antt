@@ -15,7 +15,7 @@ abbrev pub party_firm : {V M : Type 0} (market : Ghosts V M) → Party V M marke
 party_firm market (Member v) = levied v.scale v.taxed v.tax (market.firm v.inner.now)
 party_firm market (Outside out) = outside out.price
 
--- the size that none of its worths is above
+-- a bound on the size of its worths
 abbrev pub party_limit : {V M : Type 0} (market : Ghosts V M) → Party V M market → ℕ
 party_limit market (Member v) = levied_limit v.scale v.tax (market.limit v.inner.now)
 party_limit market (Outside out) = unsigned_abs out.price

@@ -16,7 +16,7 @@ pub trait Valuation {
     /// The firm, as the definitions see it.
     ghost firm: { Self → Firm };
 
-    /// The size that no worth is above.
+    /// A bound on the size of every worth.
     ghost limit: { Self → ℕ };
 
     /// How many own trades there are.
@@ -29,7 +29,7 @@ pub trait Valuation {
         requires { k < (firm self.now).count }
         ensures { result ≡ side_at (firm self.now).buys k };
 
-    /// The size that no worth is above.
+    /// A bound on the size of every worth.
     fn bound(&self) -> i128
         ensures size { result ≡ pos (limit self.now) }
         ensures small { limit self.now ≤ 10 ^ 18 };

@@ -57,7 +57,7 @@ outsides scale contracts = map (λ contract. outside (scale *ℤ contract.price)
 abbrev pub residual_of : List Firm → List Ends → ℤ → List Contract → ℤ → ℤ → List Firm
 residual_of firms trades over contracts scale tax = levied_from trades contracts (over *ℤ scale) tax 0 firms ++ outsides scale contracts
 
--- the size that no worth of a firm is above, where worths of at most 10^11 and prices of at most 10^11 count `scale` times
+-- a bound on the size of every worth of a firm, where worths of at most 10^11 and prices of at most 10^11 count `scale` times
 abbrev pub residual_limit : ℤ → ℕ
 residual_limit scale = unsigned_abs scale * 10 ^ 11 + 64
 
