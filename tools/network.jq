@@ -79,20 +79,23 @@ def over($over): if $over == 1 or $over == 0 then . elif . % $over == 0 then . /
       "fault \($said.fault), \($said.name)\(if $said.place == [] then "" else ", at \($said.place | map(tostring) | join(" / "))" end)"
     else $said.answer end;
   "digraph network {",
-  "  rankdir=LR; nodesep=0.4; ranksep=1.1; fontname=\"Helvetica\"; fontsize=13; labelloc=b;",
+  "  rankdir=LR; outputorder=edgesfirst; nodesep=0.25; ranksep=0.5; fontname=\"Helvetica\"; fontsize=13; labelloc=b;",
   "  node [shape=box, style=\"rounded,filled\", fillcolor=\"#f8fafc\", color=\"#475569\", fontname=\"Helvetica\", fontsize=12];",
   "  edge [color=\"#64748b\", fontname=\"Helvetica\", fontsize=10];",
   (caption | values | "  label=\(quoted);"),
   ($firms[]
    | "  \(.name | quoted) [label=\("\(.name)\n\(.kind)" | quoted)"
      + (if .name != null and (.name == $said.firm or .name == $faulty) then ", color=\"\($colour.x)\", fillcolor=\"#ffedd5\", penwidth=2" else "" end) + "];"),
-  ($network.trades | items | objects
+  # (a trade's label is a node on its arrow, so that no label lies on another or on a line)
+  ([$network.trades | items | objects] | to_entries[] | "trade \(.key)" as $at | .value
    | .name as $name
    | (if ($name | type) == "string" then $prices[$name] else null end) as $price
    | colour_of($name) as $ink
-   | "  \(.seller | quoted) -> \(.buyer | quoted) [label=\("\($name)\(if $price == null then "" else "\n\($price)" end)" | quoted)"
-     + (if $on | in_list($name) then ", penwidth=3"
-        elif $state != null and $price == null then ", style=dotted"
-        elif ($on | type) == "array" then ", style=dashed" else "" end)
-     + (if $ink then ", color=\"\($ink)\", fontcolor=\"\($ink)\"" else "" end) + "];"),
+   | ((if $on | in_list($name) then ", penwidth=3"
+       elif $state != null and $price == null then ", style=dotted"
+       elif ($on | type) == "array" then ", style=dashed" else "" end)
+      + (if $ink then ", color=\"\($ink)\"" else "" end)) as $line
+   | "  \($at | quoted) [label=\("\($name)\(if $price == null then "" else "\n\($price)" end)" | quoted), shape=box, style=filled, color=white, fillcolor=white, margin=\"0.04,0.02\", width=0, height=0, fontsize=10\(if $ink then ", fontcolor=\"\($ink)\"" else "" end)];",
+     "  \(.seller | quoted) -> \($at | quoted) [arrowhead=none\($line)];",
+     "  \($at | quoted) -> \(.buyer | quoted) [dir=forward\($line)];"),
   "}"
