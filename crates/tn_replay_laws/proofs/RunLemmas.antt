@@ -11,10 +11,12 @@ use Rattle.tn_base.specs.Firm.{Firm}
 use Rattle.tn_cert.specs.Claims.{IsValid}
 use Rattle.tn_cert.specs.RefutedLaw.{RefutedIsNotValid}
 use Rattle.tn_command.specs.Claimed.{DecidesClaim}
+use Rattle.tn_command.proofs.CheckLemmas.{claim_implies}
 use Rattle.tn_answer.specs.AnswerText.{answer_data}
 use Rattle.tn_file.specs.declared.need.Need.{Need}
 use Rattle.tn_file.specs.Document.{DocumentData, ExtraData, arrangement, document_of, on_alone, outcome, reading_of}
 use Rattle.tn_file.specs.Json.{json_of}
+use Rattle.tn_file.proofs.DocumentLeads.{documents_are_networks}
 use Rattle.tn_replay_laws.specs.Fits.{FitsClaim}
 use Rattle.tn_replay_laws.specs.Replayed.{IsReplayed, claimed_in, with_claim}
 use Rattle.tn_replay_laws.proofs.CheckedLemmas.{tests_replay, verdicts_replay}
@@ -72,7 +74,9 @@ pub answers_replay : RefutedIsNotValid → AnswersReplay
 answers_replay refuted command bytes claimed top doc said claims is read answered within there names answer =
     let replays = replayed command top doc said claims (sym (read_as (need_of command) bytes top is) ∙ read) answered within in
     let reads : reading_of (need_of Replay) claimed ≡ Ok (claimed_in doc replays.read) = read_as (need_of Replay) claimed (with_claim (answer_data doc.names said) top) there ∙ replays.reads in
+    let is_document = documents_are_networks (need_of Replay) claimed (claimed_in doc replays.read) reads in
+    let implied = claim_implies doc.firms doc.ends replays.read is_document.network is_document.extra replays.valid in
     subst (λ r. IsAnswerTo Replay r names answer ↔ ((answer ≡ Valid) × (names ≡ doc.names))) (sym reads) (
       λ to. (only_valid refuted doc.firms doc.ends replays.read replays.valid answer to.0, to.1),
-      λ is_valid. (subst (DecidesClaim doc.firms doc.ends replays.read) (sym is_valid.0) replays.valid, is_valid.1),
+      λ is_valid. (subst (DecidesClaim doc.firms doc.ends replays.read) (sym is_valid.0) (replays.valid, implied), is_valid.1),
     )

@@ -25,8 +25,8 @@ is_headlined Support = false
 is_headlined Test = false
 
 -- for `solve`, trades and whole prices for all trades at which every firm's bundle is among its best, so no trades have
--- more surplus and no contracts block; for `judge`, a firm that drops contracts, prices that complete an equilibrium, or
--- contracts that block
+-- more surplus and no contracts block; for `judge`, a firm that drops contracts, prices that complete an equilibrium, so
+-- no trades have more surplus and no contracts block the outcome, or contracts that block it
 abbrev pub IsPromised : Command → DocumentData → Said → Type 0
 IsPromised Solve doc said = Solves doc.firms doc.ends said
 IsPromised SolveRows doc said = SolvesInRows doc.firms doc.ends said

@@ -2,6 +2,7 @@
 
 ghost use Rattle.std.specs.Prelude.{◌≡◌, ℕ, true, false, List, None, Some, map, string_bytes};
 ghost use Rattle.std.specs.Process.{exit_status};
+ghost use Rattle.tn_answer.specs.Kept.{IsWithinClaims};
 ghost use Rattle.tn_plain_data.specs.declared.said.Said.{Said};
 ghost use Rattle.tn_names.specs.Names.{NameLists};
 ghost use Rattle.tn_run.specs.Answer.{MayBeSaid};
@@ -25,6 +26,8 @@ pub fn run_to_exit<S: Source, K: Sink>(
     source: &mut S,
     sink: &mut K,
 ) -> ExitCode
+    // One answer over some names: what was read is answered, completely where a source tells its bytes and no fault was
+    // counted at either end; its text was written, or a prefix; and the status is its own, or that of a failed write.
     ensures answer { (said : Said) × (names : NameLists)
         × (command_of (map string_bytes words.now) ≡ None → drill_of (map string_bytes words.now) ≡ None → asks_for_cases (map string_bytes words.now) ≡ false
         → (said ≡ Said.Usage) × (source.new ≡ source.old))
@@ -34,11 +37,11 @@ pub fn run_to_exit<S: Source, K: Sink>(
         → MayBeSaid command (S.left source.old) (S.left source.new) (S.faults source.old) (S.faults source.new) names said)
         × ((command : Command) → command_of (map string_bytes words.now) ≡ Some command → is_headlined command ≡ true
         → IsHeadline command (S.left source.old) (S.left source.new) (S.faults source.old) (S.faults source.new) said)
-        × IsWritten (K.written sink.old) (K.written sink.new) (K.faults sink.old) (K.faults sink.new) names said (exit_status result) }
-    // A source that tells its bytes, and no fault counted at either end: the defined answer for them, or want of memory.
-    ensures complete { (command : Command) (all : List ℕ) → command_of (map string_bytes words.now) ≡ Some command → S.left source.old ≡ Some all
+        × ((command : Command) (all : List ℕ) → command_of (map string_bytes words.now) ≡ Some command → S.left source.old ≡ Some all
         → NoneCounted (S.faults source.old) (S.faults source.new) → NoneCounted (K.faults sink.old) (K.faults sink.new)
-        → (said : Said) × (names : NameLists) × AnswersAll command all (K.written sink.old) (K.written sink.new) names said (exit_status result) }
+        → AnswersAll command all (K.written sink.old) (K.written sink.new) names said (exit_status result))
+        × IsWithinClaims said
+        × IsWritten (K.written sink.old) (K.written sink.new) (K.faults sink.old) (K.faults sink.new) names said (exit_status result) }
 {
     ExitCode::from(run_market(alloc, words, source, sink).status)
 }

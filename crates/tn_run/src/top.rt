@@ -169,19 +169,19 @@ pub fn run_market<S: Source, K: Sink>(
         → (result.said ≡ Said.Usage) × (source.new ≡ source.old) }
     ensures cases { asks_for_cases (map string_bytes words.now) ≡ true → (source.new ≡ source.old) × MayBeCases result.said }
     ensures drill { (size start : ℕ) → drill_of (map string_bytes words.now) ≡ Some (size, start) → (source.new ≡ source.old) × MayBeDrilled size start result.said }
-    // Words that are a command: what the source gave is answered. What was written is the answer's text, or a prefix.
+    // Words that are a command: what the source gave is answered. A source that tells its bytes, and no fault counted at
+    // either end: the defined answer for them, or want of memory. What was written is the answer's text, or a prefix.
     ensures answer { (names : NameLists)
         × ((command : Command) → command_of (map string_bytes words.now) ≡ Some command
         → MayBeSaid command (S.left source.old) (S.left source.new) (S.faults source.old) (S.faults source.new) names result.said)
+        × ((command : Command) (all : List ℕ) → command_of (map string_bytes words.now) ≡ Some command → S.left source.old ≡ Some all
+        → NoneCounted (S.faults source.old) (S.faults source.new) → NoneCounted (K.faults sink.old) (K.faults sink.new)
+        → AnswersAll command all (K.written sink.old) (K.written sink.new) names result.said result.status)
         × IsWritten (K.written sink.old) (K.written sink.new) (K.faults sink.old) (K.faults sink.new) names result.said result.status }
     // The headline, of `solve` and `judge`: whatever bytes they read, the answer is what is promised, or a fault that the input
     // or the source shows, or want of memory. (That the sink shows a fault is in `answer`.)
     ensures headline { (command : Command) → command_of (map string_bytes words.now) ≡ Some command → is_headlined command ≡ true
         → IsHeadline command (S.left source.old) (S.left source.new) (S.faults source.old) (S.faults source.new) result.said }
-    // A source that tells its bytes, and no fault counted at either end: the defined answer for them, or want of memory.
-    ensures complete { (command : Command) (all : List ℕ) → command_of (map string_bytes words.now) ≡ Some command → S.left source.old ≡ Some all
-        → NoneCounted (S.faults source.old) (S.faults source.new) → NoneCounted (K.faults sink.old) (K.faults sink.new)
-        → (names : NameLists) × AnswersAll command all (K.written sink.old) (K.written sink.new) names result.said result.status }
     ensures within { IsWithinClaims result.said }
 {
     let mut names = Names::empty(alloc);
@@ -199,14 +199,14 @@ pub fn run_steadily(
         → (result.said ≡ Said.Usage) × (source.new ≡ source.old) }
     ensures cases { asks_for_cases (map string_bytes words.now) ≡ true → (source.new ≡ source.old) × MayBeCases result.said }
     ensures drill { (size start : ℕ) → drill_of (map string_bytes words.now) ≡ Some (size, start) → (source.new ≡ source.old) × MayBeDrilled size start result.said }
-    // Words that are a command: what the source gave is answered. The answer's text was written whole.
+    // Words that are a command: what the source gave is answered, by the defined answer for all bytes or want of memory. The
+    // answer's text was written whole.
     ensures answer { (names : NameLists)
         × ((command : Command) → command_of (map string_bytes words.now) ≡ Some command
         → MayBeSaid command (Some source.old.unread) (Some source.new.unread) 0 0 names result.said)
+        × ((command : Command) → command_of (map string_bytes words.now) ≡ Some command
+        → AnswersAll command source.old.unread sink.old.told sink.new.told names result.said result.status)
         × IsWrittenWhole sink.old.told sink.new.told names result.said result.status }
-    // The answer is the defined one for all bytes, or want of memory.
-    ensures complete { (command : Command) → command_of (map string_bytes words.now) ≡ Some command
-        → (names : NameLists) × AnswersAll command source.old.unread sink.old.told sink.new.told names result.said result.status }
     ensures within { IsWithinClaims result.said }
     ensures read { result.status ≢ 3 }
     ensures written { result.status ≢ 4 }

@@ -5,6 +5,7 @@ use Rattle.tn_cert.specs.Reasons.{Refutes}
 use Rattle.tn_cert.specs.Replays.{Replays, in_trades, reason_in}
 use Rattle.tn_firm.specs.declared.raw.RawFirm.{RawFirm}
 use Rattle.tn_firm.specs.Raw.{raw_firm_of}
+use Rattle.tn_command.proofs.CheckLemmas.{exchange_implies}
 use Rattle.tn_run.proofs.ReplayLemmas.{exchange_reason_small}
 use Rattle.tn_run.proofs.replaying.replay_raw.Goals as goal
 
@@ -12,8 +13,10 @@ pub returns-in-Valid-clause-answer : goal.returns-in-Valid-clause-answer
 returns-in-Valid-clause-answer c =
     let ends = c.args.net.now.ends in
     let claim = c.args.claim.now in
+    let valid =
     subst (λ (firms : List RawFirm). Replays (map raw_firm_of firms) ends claim (in_trades ends Replayed.Valid)) c.firms.ensures
-    (subst (λ (replayed : Replayed). Replays (map raw_firm_of c.firms.result.now) ends claim (in_trades ends replayed)) c.in-Valid.is (c.in_ok-replay_exchange.ensures ends))
+    (subst (λ (replayed : Replayed). Replays (map raw_firm_of c.firms.result.now) ends claim (in_trades ends replayed)) c.in-Valid.is (c.in_ok-replay_exchange.ensures ends)) in
+    (valid, exchange_implies (map raw_firm_of c.args.net.now.firms) ends claim c.requires.kind)
 
 pub returns-in_ok-reason_in-in-Invalid-clause-answer : goal.returns-in_ok-reason_in-in-Invalid-clause-answer
 returns-in_ok-reason_in-in-Invalid-clause-answer c =
