@@ -6,6 +6,8 @@ use Rattle.std.specs.Str.{bytes_eq}
 use Rattle.std.specs.Str.Parse.{digits_value}
 use Rattle.tn_file.specs.declared.need.Need.{Need}
 use Rattle.tn_file.specs.declared.need.Need.TheVariants.{Market, Raw, Arrangement, On, Outcome, Edits, Claim}
+use Rattle.tn_plain_data.specs.declared.said.Page.{Page}
+use Rattle.tn_plain_data.specs.declared.said.Page.TheVariants.{Help, Version}
 use Rattle.tn_run.specs.declared.command.Command.{Command}
 use Rattle.tn_run.specs.declared.command.Command.TheVariants.{Check, Judge, Range, Replay, Session, Solve, SolveRows, Support, Test}
 
@@ -65,3 +67,13 @@ drill_of words = None
 abbrev pub asks_for_cases : List (List ℕ) → Bool
 asks_for_cases (word ∷ []) = bytes_eq word (codes "cases")
 asks_for_cases words = false
+
+-- the page that the words ask for
+abbrev pub page_of : List (List ℕ) → Option Page
+page_of (word ∷ []) =
+    if bytes_eq word (codes "help") then Some Help
+    else if bytes_eq word (codes "-h") then Some Help
+    else if bytes_eq word (codes "--help") then Some Help
+    else if bytes_eq word (codes "--version") then Some Version
+    else None
+page_of words = None

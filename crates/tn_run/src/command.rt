@@ -1,8 +1,9 @@
 ghost use Rattle.std.specs.Prelude.{◌≡◌, ◌≤◌, map, string_bytes, IfSome};
-ghost use Rattle.tn_run.specs.Words.{asks_for_cases, case_command, command_of, drill_of, need_of, two_numbers, word_command};
+ghost use Rattle.tn_run.specs.Words.{asks_for_cases, case_command, command_of, drill_of, need_of, page_of, two_numbers, word_command};
 
 use crate::numbers::number_within;
 use tn_file::Need;
+use tn_market::Page;
 use tn_shape::value_of_word;
 
 /// What the program is asked to do with a document.
@@ -118,6 +119,24 @@ pub fn asks_for_cases(words: &[String]) -> bool
     match words {
         [word] => word.as_str() == "cases",
         [] | [_, _, ..] => false,
+    }
+}
+
+/// The page that the words ask for, none where they ask for none.
+pub fn page_of(words: &[String]) -> Option<Page>
+    ensures { result ≡ page_of (map string_bytes words.now) }
+{
+    match words {
+        [word] => value_of_word(
+            word,
+            &[
+                ("help", Page::Help),
+                ("-h", Page::Help),
+                ("--help", Page::Help),
+                ("--version", Page::Version),
+            ],
+        ),
+        [] | [_, _, ..] => None,
     }
 }
 

@@ -3,6 +3,7 @@
 ghost use Rattle.std.specs.Prelude.{◌≡◌, ℕ, true, false, List, None, Some, map, string_bytes};
 ghost use Rattle.std.specs.Process.{exit_status};
 ghost use Rattle.tn_answer.specs.Kept.{IsWithinClaims};
+ghost use Rattle.tn_plain_data.specs.declared.said.Page.{Page};
 ghost use Rattle.tn_plain_data.specs.declared.said.Said.{Said};
 ghost use Rattle.tn_names.specs.Names.{NameLists};
 ghost use Rattle.tn_run.specs.Answer.{MayBeSaid};
@@ -11,7 +12,7 @@ ghost use Rattle.tn_run.specs.Complete.{AnswersAll, NoneCounted};
 ghost use Rattle.tn_run.specs.Headline.{IsHeadline, is_headlined};
 ghost use Rattle.tn_run.specs.Run.{IsWritten};
 ghost use Rattle.tn_run.specs.Drilled.{MayBeDrilled};
-ghost use Rattle.tn_run.specs.Words.{asks_for_cases, command_of, drill_of};
+ghost use Rattle.tn_run.specs.Words.{asks_for_cases, command_of, drill_of, page_of};
 ghost use Rattle.tn_run.specs.declared.command.Command.{Command};
 
 use crate::top::run_market;
@@ -29,8 +30,9 @@ pub fn run_to_exit<S: Source, K: Sink>(
     // One answer over some names: what was read is answered, completely where a source tells its bytes and no fault was
     // counted at either end; its text was written, or a prefix; and the status is its own, or that of a failed write.
     ensures answer { (said : Said) × (names : NameLists)
-        × (command_of (map string_bytes words.now) ≡ None → drill_of (map string_bytes words.now) ≡ None → asks_for_cases (map string_bytes words.now) ≡ false
+        × (command_of (map string_bytes words.now) ≡ None → drill_of (map string_bytes words.now) ≡ None → asks_for_cases (map string_bytes words.now) ≡ false → page_of (map string_bytes words.now) ≡ None
         → (said ≡ Said.Usage) × (source.new ≡ source.old))
+        × ((page : Page) → page_of (map string_bytes words.now) ≡ Some page → (source.new ≡ source.old) × (said ≡ Said.Page page))
         × (asks_for_cases (map string_bytes words.now) ≡ true → (source.new ≡ source.old) × MayBeCases said)
         × ((size start : ℕ) → drill_of (map string_bytes words.now) ≡ Some (size, start) → (source.new ≡ source.old) × MayBeDrilled size start said)
         × ((command : Command) → command_of (map string_bytes words.now) ≡ Some command

@@ -2,6 +2,7 @@
 
 ghost use Rattle.std.specs.Prelude.{◌≡◌, ◌≢◌, ◌≤◌, ◌⊎◌, ℕ, true, false, List, None, Some, map, string_bytes};
 ghost use Rattle.tn_answer.specs.AnswerText.{answer_line};
+ghost use Rattle.tn_plain_data.specs.declared.said.Page.{Page};
 ghost use Rattle.tn_names.specs.Names.{NameLists};
 ghost use Rattle.tn_answer.specs.Kept.{IsWithinClaims};
 ghost use Rattle.tn_io.specs.Sink.{Grows, GrowsByPrefix};
@@ -11,14 +12,14 @@ ghost use Rattle.tn_run.specs.Complete.{AnswersAll, NoneCounted};
 ghost use Rattle.tn_run.specs.Headline.{IsHeadline, is_headlined};
 ghost use Rattle.tn_run.specs.Run.{IsWritten, IsWrittenWhole, status_of};
 ghost use Rattle.tn_run.specs.Drilled.{MayBeDrilled};
-ghost use Rattle.tn_run.specs.Words.{asks_for_cases, command_of, drill_of};
+ghost use Rattle.tn_run.specs.Words.{asks_for_cases, command_of, drill_of, page_of};
 ghost use Rattle.tn_run.specs.declared.command.Command.{Command};
 
 use crate::answer::answer_source;
 use crate::casing::cases;
-use crate::command::{asks_for_cases, command_of, drill_of};
+use crate::command::{asks_for_cases, command_of, drill_of, page_of};
 use std::alloc::Global;
-use tn_answer::{Names, answer_text, no_memory_text, read_fault_text, usage_text};
+use tn_answer::{Names, answer_text, no_memory_text, page_text, read_fault_text, usage_text};
 use tn_base::OutOfMemory;
 use tn_command::drill_surplus;
 use tn_io::{Sink, Source, SteadySink, SteadySource, WriteFailed, write_all};
@@ -46,7 +47,8 @@ pub fn status_of(said: &Said) -> u8
         | Said::Ranges { .. }
         | Said::Session { .. }
         | Said::Completes { .. }
-        | Said::Valid => 0,
+        | Said::Valid
+        | Said::Page(_) => 0,
         Said::Fault(_) => 1,
         Said::Usage => 2,
         Said::ReadFault => 3,
@@ -109,9 +111,11 @@ fn drilled(alloc: Global, size: u32, start: u32) -> Said
     }
 }
 
-/// The run on words that ask for no document: a drill, the program's own cases, or no command.
+/// The run on words that ask for no document: a drill, the program's own cases, a page, or no command.
 fn run_without_reading<K: Sink>(alloc: Global, words: &[String], sink: &mut K, names: &Names) -> Run
-    ensures usage { drill_of (map string_bytes words.now) ≡ None → asks_for_cases (map string_bytes words.now) ≡ false → result.said ≡ Said.Usage }
+    ensures usage { drill_of (map string_bytes words.now) ≡ None → asks_for_cases (map string_bytes words.now) ≡ false → page_of (map string_bytes words.now) ≡ None
+        → result.said ≡ Said.Usage }
+    ensures page { (page : Page) → page_of (map string_bytes words.now) ≡ Some page → result.said ≡ Said.Page page }
     ensures cases { asks_for_cases (map string_bytes words.now) ≡ true → MayBeCases result.said }
     ensures drill { (size start : ℕ) → drill_of (map string_bytes words.now) ≡ Some (size, start) → MayBeDrilled size start result.said }
     ensures within { IsWithinClaims result.said }
@@ -120,6 +124,9 @@ fn run_without_reading<K: Sink>(alloc: Global, words: &[String], sink: &mut K, n
     if asks_for_cases(words) {
         let said = cases(alloc);
         return tell(alloc, names, said, sink);
+    }
+    if let Some(page) = page_of(words) {
+        return write_line(sink, page_text(page), Said::Page(page));
     }
     match drill_of(words) {
         None => write_line(sink, usage_text(), Said::Usage),
@@ -138,8 +145,9 @@ fn run_with<S: Source, K: Sink>(
     sink: &mut K,
     names: &mut Names,
 ) -> Run
-    ensures usage { command_of (map string_bytes words.now) ≡ None → drill_of (map string_bytes words.now) ≡ None → asks_for_cases (map string_bytes words.now) ≡ false
+    ensures usage { command_of (map string_bytes words.now) ≡ None → drill_of (map string_bytes words.now) ≡ None → asks_for_cases (map string_bytes words.now) ≡ false → page_of (map string_bytes words.now) ≡ None
         → (result.said ≡ Said.Usage) × (source.new ≡ source.old) }
+    ensures page { (page : Page) → page_of (map string_bytes words.now) ≡ Some page → (source.new ≡ source.old) × (result.said ≡ Said.Page page) }
     ensures cases { asks_for_cases (map string_bytes words.now) ≡ true → (source.new ≡ source.old) × MayBeCases result.said }
     ensures drill { (size start : ℕ) → drill_of (map string_bytes words.now) ≡ Some (size, start) → (source.new ≡ source.old) × MayBeDrilled size start result.said }
     ensures answer { (command : Command) → command_of (map string_bytes words.now) ≡ Some command
@@ -156,7 +164,7 @@ fn run_with<S: Source, K: Sink>(
     }
 }
 
-/// Runs the program on its words: reads the source, unless they are no command, a drill or the cases, answers, and
+/// Runs the program on its words: reads the source, unless they are no command, a drill, the cases or a page, answers, and
 /// writes the answer's text to the sink.
 pub fn run_market<S: Source, K: Sink>(
     alloc: Global,
@@ -165,8 +173,9 @@ pub fn run_market<S: Source, K: Sink>(
     sink: &mut K,
 ) -> Run
     // Words that are no command: the source is as at entry.
-    ensures usage { command_of (map string_bytes words.now) ≡ None → drill_of (map string_bytes words.now) ≡ None → asks_for_cases (map string_bytes words.now) ≡ false
+    ensures usage { command_of (map string_bytes words.now) ≡ None → drill_of (map string_bytes words.now) ≡ None → asks_for_cases (map string_bytes words.now) ≡ false → page_of (map string_bytes words.now) ≡ None
         → (result.said ≡ Said.Usage) × (source.new ≡ source.old) }
+    ensures page { (page : Page) → page_of (map string_bytes words.now) ≡ Some page → (source.new ≡ source.old) × (result.said ≡ Said.Page page) }
     ensures cases { asks_for_cases (map string_bytes words.now) ≡ true → (source.new ≡ source.old) × MayBeCases result.said }
     ensures drill { (size start : ℕ) → drill_of (map string_bytes words.now) ≡ Some (size, start) → (source.new ≡ source.old) × MayBeDrilled size start result.said }
     // Words that are a command: what the source gave is answered. A source that tells its bytes, and no fault counted at
@@ -195,8 +204,9 @@ pub fn run_steadily(
     source: &mut SteadySource,
     sink: &mut SteadySink,
 ) -> Run
-    ensures usage { command_of (map string_bytes words.now) ≡ None → drill_of (map string_bytes words.now) ≡ None → asks_for_cases (map string_bytes words.now) ≡ false
+    ensures usage { command_of (map string_bytes words.now) ≡ None → drill_of (map string_bytes words.now) ≡ None → asks_for_cases (map string_bytes words.now) ≡ false → page_of (map string_bytes words.now) ≡ None
         → (result.said ≡ Said.Usage) × (source.new ≡ source.old) }
+    ensures page { (page : Page) → page_of (map string_bytes words.now) ≡ Some page → (source.new ≡ source.old) × (result.said ≡ Said.Page page) }
     ensures cases { asks_for_cases (map string_bytes words.now) ≡ true → (source.new ≡ source.old) × MayBeCases result.said }
     ensures drill { (size start : ℕ) → drill_of (map string_bytes words.now) ≡ Some (size, start) → (source.new ≡ source.old) × MayBeDrilled size start result.said }
     // Words that are a command: what the source gave is answered, by the defined answer for all bytes or want of memory. The

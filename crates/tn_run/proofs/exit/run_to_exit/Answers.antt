@@ -12,6 +12,7 @@ returns g c =
         run.said,
         answers.0,
         c.run_market.ensures.usage,
+        c.run_market.ensures.page,
         c.run_market.ensures.cases,
         c.run_market.ensures.drill,
         answers.1,
