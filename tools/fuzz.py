@@ -7,7 +7,8 @@ A third of the documents are drawn: small networks of all four kinds of firms. A
 and a third are either of these with changes that a reader has to refuse. Each command is asked of each document. Answers
 are compared with what Python finds by trying all bundles and all sets of trades; those that can be claims are put back and
 have to be valid, and with another number they must not be. Whatever is answered, the status has to be its own, and nothing
-but one line may be written. What isn't confirmed is kept in FOLDER, and ends the run with status 1.
+but one line may be written; and a fault is answered exactly where tools/faults.py, which reads by the words of docs/FORMAT.md,
+finds one, and it is the same one at the same place. What isn't confirmed is kept in FOLDER, and ends the run with status 1.
 
 With --quick one command is asked of a document, and its answer is held to the program alone, which is many times as fast:
 claims to `replay`, what is solved to `check`, ranges to `check` at their ends and beyond them, and a state of a session to
@@ -16,12 +17,15 @@ claims to `replay`, what is solved to `check`, ranges to `check` at their ends a
 import argparse
 import collections
 import csv
+import functools
 import json
 import os
 import pathlib
 import random
 import sys
 import time
+
+from faults import first_fault
 
 HOME = pathlib.Path(__file__).resolve().parent.parent
 COMMANDS = ("check", "test", "support", "solve", "solve --csv", "judge", "range", "session", "replay")
@@ -30,6 +34,7 @@ STATUS = dict(fault=1, usage=2, read_fault=3, no_memory=5, **{answer: 6 for answ
 CLAIMS = ("equilibrium", "accepted", "prices", "solved", "completes", *NO[:-1])
 NUMBERS = dict(equilibrium="surplus", better="gain", cycle="cost", solved="surplus", drops="gain")
 MOST_TRADES = 9  # of networks of which all sets are tried
+MOST_BUNDLES = 24  # of tables of which all triples are tried
 
 
 class Unconfirmed(Exception):
@@ -65,11 +70,13 @@ class Program:
         want(errors == b"", "text on standard error", words, errors)
         if output.startswith(b"trade,on,price\n"):
             want(status == 0, "the status of rows", words, status)
+            hold_fault(words, text, {"answer": "rows"})
             self.counts[words, "rows"] += 1
             return output.decode()
         want(output.endswith(b"\n") and output.count(b"\n") == 1, "not one line", words, output)
         answer = json.loads(output)
         want(status == STATUS.get(answer["answer"], 0), "the status", words, answer, status)
+        hold_fault(words, text, answer)
         self.counts[words, answer["answer"]] += 1
         return answer
 
@@ -358,21 +365,33 @@ def spoil(draw, text):
 
 # ---- what has to hold of answers
 
-def hold_place(document, fault):
-    """The place of a fault leads to a value, or to where one is missing."""
-    value, place = document, fault["place"]
-    for k, step in enumerate(place):
-        there = isinstance(value, dict) and step in value or isinstance(value, list) and isinstance(step, int) and step < len(value)
-        want(there or k + 1 == len(place) and (fault["fault"] in (3, 18)), "the place of a fault", fault)
-        value = value[step] if there else None
+@functools.lru_cache(maxsize=10_000)
+def first_shown(worths, bought, own):
+    """The first failing triple of a table, by trades; None where none fails."""
+    triple = first_triple(dict(worths), bought, (1 << len(own)) - 1)
+    if triple is None:
+        return None
+    x, y, at = ([name for k, name in enumerate(own) if part >> k & 1] for part in triple)
+    return dict(x=x, y=y, at=at[0] if at else None)
 
 
-def hold_fault(document, fault, tested):
-    """`test` reads the same, but asks for no exchange property: it says the same fault, or the same triple."""
-    hold_place(document, fault)
-    if fault["fault"] != 16:
-        want(fault == tested, "another fault of test", fault, tested)
-    elif tested["answer"] == "exchange_fails":
+def hold_fault(words, text, said):
+    """A fault is the first one, and where there is one it is answered."""
+    def triple_of(firm, place, own, buys):
+        if len(firm["rows"]) > MOST_BUNDLES:  # too many triples to try them all
+            is_said = said.get("fault") == 16 and said["place"] == place
+            return {member: said[member] for member in ("x", "y", "at")} if is_said else None
+        worths = {0: 0, **{sum(1 << own.index(name) for name in names): number for names, number in firm["rows"]}}
+        return first_shown(tuple(sorted(worths.items())), sum(1 << own.index(name) for name in buys), tuple(own))
+
+    if said["answer"] not in ("usage", "read_fault", "no_memory"):
+        fault = first_fault(words, text, triple_of)
+        want(said == (fault or said) and (fault is not None) == (said["answer"] == "fault"), "the first fault", words, said, fault)
+
+
+def hold_triple(document, fault, tested):
+    """`test` asks for no exchange property before it answers: it says the same triple as the fault, or a later fault."""
+    if fault["fault"] == 16 and tested["answer"] == "exchange_fails":
         want(all(fault[member] == tested[member] for member in ("at", "x", "y")), "another triple of test", fault, tested)
         want(document["firms"][fault["place"][1]]["name"] == tested["firm"], "another firm of test", fault, tested)
     else:
@@ -415,7 +434,7 @@ def hold_test(program, document):
         return said
     network, failed = Network(document), None
     for k, firm in enumerate(network.firms):
-        if firm["kind"] == "table" and len(network.worths[k]) > 24:
+        if firm["kind"] == "table" and len(network.worths[k]) > MOST_BUNDLES:
             failed = said  # (too many triples to try them all)
             break
         triple = first_triple(network.worths[k], network.bought[k], network.own[k])
@@ -517,7 +536,7 @@ def hold_all(program, document, draw):
     tested = hold_test(program, document)
     solved = program.ask("solve", document)
     if solved["answer"] == "fault":
-        hold_fault(document, solved, tested)
+        hold_triple(document, solved, tested)
         return
     want(tested["answer"] == "accepted", "a network that isn't accepted", tested)
     hold_claim(program, document, solved)
@@ -583,7 +602,7 @@ def hold_quickly(program, document, draw):
         on, prices = [name for name, is_on, _ in rows if is_on == "1"], {name: int(price) for name, _, price in rows}
         want(quick_check(program, document, on, prices)["answer"] == "equilibrium", "rows", said)
     elif said["answer"] == "fault":
-        hold_place(document, said)
+        return
     elif words == "session":
         hold_state(program, document, said["edits"], draw)
     elif words == "range":
@@ -596,16 +615,14 @@ def hold_quickly(program, document, draw):
 
 
 def hold_refusals(program, document, draw, commands=4):
-    """Asks some commands of a text that may be anything: each answer has its status and is one line."""
+    """Asks some commands of a text that may be anything: each answer has its status and is one line, and a fault is the first."""
     for _ in range(draw.randint(1, 3)):
         change(draw, document, small=False)
     text = json.dumps(document, ensure_ascii=draw.random() < 0.5).encode()
     if draw.random() < 0.3:
         text = spoil(draw, text)
     for words in draw.sample(COMMANDS, commands):
-        said = program.run(words, text)
-        if isinstance(said, dict) and said["answer"] == "fault" and said["fault"] > 2:
-            hold_place(json.loads(text), said)
+        program.run(words, text)
 
 
 # ---- the run
