@@ -6,9 +6,11 @@ use Rattle.json.specs.Print.{escape_byte}
 use Rattle.tn_base.specs.Sets.{has, set_of, toggle}
 use Rattle.tn_answer.specs.AnswerText.{answer_line}
 use Rattle.tn_cases.specs.Book.{cases_of_the_book}
-use Rattle.tn_command.proofs.CheckLemmas.{implied_by}
+use Rattle.tn_command.proofs.CheckLemmas.{completed_lasts, implied_by}
+use Rattle.tn_command.specs.Implied.{IsLastingOutcome}
 use Rattle.tn_exchange.specs.Rows.{worth_in}
-use Rattle.tn_file.specs.declared.need.Need.TheVariants.{Market, Raw, Arrangement}
+use Rattle.tn_file.specs.declared.need.Need.TheVariants.{Market, Raw, Arrangement, Outcome}
+use Rattle.tn_file.specs.Laws.{IsDocument}
 use Rattle.tn_file.proofs.DocumentLeads.{documents_are_networks}
 use Rattle.tn_plain_data.specs.declared.said.Said.TheVariants.{Equilibrium, Better, Impossible, Accepted, Cycle, Solved, Drops, Completes, Invalid}
 use Rattle.tn_plain_data.specs.declared.reason.Reason.TheVariants.{Choice}
@@ -94,9 +96,12 @@ case_7 = one_answer (Trees.numbered 7) Support (Readings.deal_document None Read
 case_8 : HasOneAnswer (Trees.numbered 8)
 unfolding answer_line escape_byte digits
 case_8 = one_answer (Trees.numbered 8) Judge (Readings.deal_document asks_5 Readings.extra_8) (Completes (pos 5 ∷ []) (pos 1)) refl Readings.reading_8
-    (rational_5, completed_5, refl)
+    (rational_5, completed_5, refl, lasts (documents_are_networks Outcome Trees.bytes_8 _ Readings.reading_8))
     (only_completes (deal_firms asks_5) deal_trades (pos 1) [] (pos 5 ∷ []) rational_5 completed_5 only_5)
     refl refl
+  where
+    lasts : IsDocument Outcome (Readings.deal_document asks_5 Readings.extra_8) → IsLastingOutcome (deal_firms asks_5) deal_trades (pos 1) []
+    lasts is = completed_lasts (deal_firms asks_5) deal_trades (pos 1) [] (price_at (pos 5 ∷ [])) is.network is.extra completed_5.completes
 
 -- a contract that its seller would drop
 case_9 : HasOneAnswer (Trees.numbered 9)
@@ -107,9 +112,12 @@ case_9 = one_answer (Trees.numbered 9) Judge (Readings.deal_document asks_3 Read
 case_10 : HasOneAnswer (Trees.numbered 10)
 unfolding answer_line escape_byte digits
 case_10 = one_answer (Trees.numbered 10) Judge (Readings.deal_document asks_3 Readings.extra_10) (Completes (pos 9 ∷ []) (pos 2)) refl Readings.reading_10
-    (rational_9, completed_9, refl)
+    (rational_9, completed_9, refl, lasts (documents_are_networks Outcome Trees.bytes_10 _ Readings.reading_10))
     (only_completes (deal_firms asks_3) deal_trades (pos 2) at_9 (pos 9 ∷ []) rational_9 completed_9 only_9)
     refl refl
+  where
+    lasts : IsDocument Outcome (Readings.deal_document asks_3 Readings.extra_10) → IsLastingOutcome (deal_firms asks_3) deal_trades (pos 2) at_9
+    lasts is = completed_lasts (deal_firms asks_3) deal_trades (pos 2) at_9 (price_at (pos 9 ∷ [])) is.network is.extra completed_9.completes
 
 -- a negative cycle
 case_11 : HasOneAnswer (Trees.numbered 11)

@@ -73,6 +73,6 @@ only_reason (Choice f t) refuted = let known = first_left f t refuted.2 in let f
 only_reason reason refuted = absurd refuted
 
 pub only_left : (said : Said) → DecidesClaim (deal_firms asks_3) deal_trades blocks_claim said → said ≡ Invalid (Choice 0 0)
-only_left Valid valid = absurd (taken (valid.chosen 0 (seller asks_3) 0 refl leaves 0 offer refl refl))
+only_left Valid valid = absurd (taken (valid.0.chosen 0 (seller asks_3) 0 refl leaves 0 offer refl refl))
 only_left (Invalid reason) refuted = ap (λ r. Invalid r) (only_reason reason refuted)
 only_left said decides = absurd decides
