@@ -2,6 +2,7 @@
 
 use crate::kind_tests::{comma, pairs};
 use crate::tests::run_on;
+use serde_json::Value;
 use std::alloc::Global;
 use std::test::Fail;
 
@@ -70,6 +71,43 @@ fn ring(alloc: Global, count: u32, on: u32) -> Result<String, Fail> {
     ring_on(alloc, &mut text, on)?;
     text.push_str("]}}")?;
     Ok(text)
+}
+
+/// The prices of an answer, in order.
+fn told_prices(alloc: Global, written: &[u8]) -> Result<Vec<i64>, Fail> {
+    let answer = Value::from_slice(alloc, written)
+        .ok()
+        .ok_or("the answer isn't JSON")?;
+    let entries = answer
+        .get("prices")
+        .and_then(Value::as_array)
+        .ok_or("no prices")?;
+    let mut prices = Vec::new(alloc);
+    for entry in entries {
+        let price = entry.get(1).and_then(Value::as_i64);
+        prices.push(price.ok_or("no price")?)?;
+    }
+    Ok(prices)
+}
+
+/// Round a ring of three all trades are on: each firm gets at least as much for its sale and the 1 that both are worth as
+/// it pays.
+#[test]
+fn prices_a_ring_of_three_firms(rt: HostRuntime) -> Result<(), Fail> {
+    let document = ring(rt.alloc(), 3, 0)?;
+    let (status, written) = run_on(rt.alloc(), "solve", document.as_bytes())?;
+    assert_eq!(rt; status, 0);
+    assert!(rt; written.starts_with(b"{\"answer\":\"solved\",\"on\":[\"r0\",\"r1\",\"r2\"],"));
+    assert!(rt; written.ends_with(b",\"surplus\":3}\n"));
+    match told_prices(rt.alloc(), &written)?.as_slice() {
+        [first, second, third] => {
+            for (sale, purchase) in [(first, third), (second, first), (third, second)] {
+                assert!(rt; sale.wrapping_sub(*purchase) >= -1);
+            }
+            Ok(())
+        }
+        _ => Err("no three prices")?,
+    }
 }
 
 /// A ring as large as may be has prices with all trades on, and a cycle of all trades with none on.

@@ -63,11 +63,11 @@ check
 
 solve
 {"version":1,"firms":[{"name":"S","kind":"table","rows":[[["a"],-3]]},{"name":"B","kind":"table","rows":[[["a"],5]]}],"trades":[{"name":"a","seller":"S","buyer":"B"}]}
-0 {"answer":"solved","on":["a"],"prices":[["a",..]],"surplus":2}
+0 {"answer":"solved","on":["a"],"prices":[["a",3~5]],"surplus":2}
 
 solve
 {"version":2,"firms":[{"name":"S","kind":"table","rows":[[["a"],-3]]},{"name":"B","kind":"table","rows":[[["a"],5]]}],"trades":[{"name":"a","seller":"S","buyer":"B"}]}
-0 {"answer":"solved","on":["a"],"prices":[["a",..]],"surplus":2}
+0 {"answer":"solved","on":["a"],"prices":[["a",3~5]],"surplus":2}
 
 solve
 {"version":1,"firms":[{"name":"S","kind":"table","rows":[[[],7]]},{"name":"B","kind":"table","rows":[]}],"trades":[]}
@@ -87,11 +87,11 @@ solve
 
 solve
 {"version":1,"firms":[{"name":"S","kind":"table","rows":[]},{"name":"B","kind":"table","rows":[[["a"],5]]}],"trades":[{"name":"a","seller":"S","buyer":"B"}]}
-0 {"answer":"solved","on":[],"prices":[["a",..]],"surplus":0}
+0 {"answer":"solved","on":[],"prices":[["a",5~100000000000000]],"surplus":0}
 
 solve
 {"version":1,"firms":[{"name":"O1","kind":"laminar","amounts":[["o1d",-4],["o1b1",-4],["o1b2",-4]],"sets":[{"trades":["o1d","o1b1","o1b2"],"from":-1,"values":[0,0]}]},{"name":"O2","kind":"laminar","amounts":[["o2d",-6],["o2b1",-6],["o2b2",-6],["o2b3",-6]],"sets":[{"trades":["o2d","o2b1","o2b2","o2b3"],"from":-1,"values":[0,0]}]},{"name":"D","kind":"middleman","costs":[["o1d",1],["o2d",2]]},{"name":"B1","kind":"laminar","amounts":[["db1",12],["o1b1",9],["o2b1",9]],"sets":[{"trades":["db1","o1b1","o2b1"],"from":0,"values":[0,0]}]},{"name":"B2","kind":"laminar","amounts":[["db2",9],["o1b2",8],["o2b2",9]],"sets":[{"trades":["db2","o1b2","o2b2"],"from":0,"values":[0,0]}]},{"name":"B3","kind":"laminar","amounts":[["db3",11],["o2b3",8]],"sets":[{"trades":["db3","o2b3"],"from":0,"values":[0,0]}]}],"trades":[{"name":"o1d","seller":"O1","buyer":"D"},{"name":"o2d","seller":"O2","buyer":"D"},{"name":"db1","seller":"D","buyer":"B1"},{"name":"db2","seller":"D","buyer":"B2"},{"name":"db3","seller":"D","buyer":"B3"},{"name":"o1b1","seller":"O1","buyer":"B1"},{"name":"o1b2","seller":"O1","buyer":"B2"},{"name":"o2b1","seller":"O2","buyer":"B1"},{"name":"o2b2","seller":"O2","buyer":"B2"},{"name":"o2b3","seller":"O2","buyer":"B3"}]}
-0 {"answer":"solved","on":["o1d","db1","o2b2"],"prices":[["o1d",..]],"surplus":10}
+0 {"answer":"solved","on":["o1d","db1","o2b2"],"prices":[["o1d",8~10],["o2d",7~9],["db1",11~12],["db2",8~12],["db3",11~12],["o1b1",8~10],["o1b2",7~10],["o2b1",8~9],["o2b2",8~9],["o2b3",8~9]],"surplus":10}
 
 solve
 {"version":1,"firms":[{"name":"S","kind":"laminar"},{"name":"B","kind":"laminar","sets":[{"trades":["a","b"],"from":0,"values":[0,3,7]}]}],"trades":[{"name":"a","seller":"S","buyer":"B"},{"name":"b","seller":"S","buyer":"B"}]}
@@ -107,7 +107,7 @@ solve
 
 solve
 {"version":1,"firms":[{"name":"S","kind":"table","rows":[[["a"],-1]]},{"name":"M","kind":"middleman","costs":[["a",2]],"gains":[["b",3]],"keep":8},{"name":"B","kind":"table","rows":[[["b"],1]]}],"trades":[{"name":"a","seller":"S","buyer":"M"},{"name":"b","seller":"M","buyer":"B"}]}
-0 {"answer":"solved","on":["a"],"prices":[["a",..]],"surplus":5}
+0 {"answer":"solved","on":["a"],"prices":[["a",1~6],["b",1~5]],"surplus":5}
 
 solve
 {"version":3,"firms":[{"name":"S","kind":"table","rows":[[["a"],-3]]},{"name":"B","kind":"table","rows":[[["a"],5]]}],"trades":[{"name":"a","seller":"S","buyer":"B"}]}
@@ -119,7 +119,7 @@ support
 
 support
 {"version":1,"firms":[{"name":"S","kind":"table","rows":[[["a"],-3]]},{"name":"B","kind":"table","rows":[[["a"],5]]}],"trades":[{"name":"a","seller":"S","buyer":"B"}],"arrangement":{"on":["a"]}}
-0 {"answer":"prices","prices":[["a",..]]}
+0 {"answer":"prices","prices":[["a",3~5]]}
 
 support
 {"version":1,"firms":[{"name":"S","kind":"table","rows":[]},{"name":"B","kind":"table","rows":[[["a"],5]]}],"trades":[{"name":"a","seller":"S","buyer":"B"}],"arrangement":{"on":["a"]}}
@@ -163,11 +163,11 @@ range
 
 session
 {"version":1,"firms":[{"name":"S","kind":"table","rows":[[["a"],-3]]},{"name":"B","kind":"table","rows":[[["a"],5]]}],"trades":[{"name":"a","seller":"S","buyer":"B"}],"edits":[["admit","a"],["bar","a"],["bar","a"]]}
-0 {"answer":"session","edits":[{"on":["a"],"prices":[["a",..]],"surplus":2},{"on":[],"prices":[],"surplus":0},{"on":[],"prices":[],"surplus":0}]}
+0 {"answer":"session","edits":[{"on":["a"],"prices":[["a",3~5]],"surplus":2},{"on":[],"prices":[],"surplus":0},{"on":[],"prices":[],"surplus":0}]}
 
 session
 {"version":1,"firms":[{"name":"O1","kind":"laminar","amounts":[["o1d",-4],["o1b1",-4],["o1b2",-4]],"sets":[{"trades":["o1d","o1b1","o1b2"],"from":-1,"values":[0,0]}]},{"name":"O2","kind":"laminar","amounts":[["o2d",-6],["o2b1",-6],["o2b2",-6],["o2b3",-6]],"sets":[{"trades":["o2d","o2b1","o2b2","o2b3"],"from":-1,"values":[0,0]}]},{"name":"D","kind":"middleman","costs":[["o1d",1],["o2d",2]]},{"name":"B1","kind":"laminar","amounts":[["db1",12],["o1b1",9],["o2b1",9]],"sets":[{"trades":["db1","o1b1","o2b1"],"from":0,"values":[0,0]}]},{"name":"B2","kind":"laminar","amounts":[["db2",9],["o1b2",8],["o2b2",9]],"sets":[{"trades":["db2","o1b2","o2b2"],"from":0,"values":[0,0]}]},{"name":"B3","kind":"laminar","amounts":[["db3",11],["o2b3",8]],"sets":[{"trades":["db3","o2b3"],"from":0,"values":[0,0]}]}],"trades":[{"name":"o1d","seller":"O1","buyer":"D"},{"name":"o2d","seller":"O2","buyer":"D"},{"name":"db1","seller":"D","buyer":"B1"},{"name":"db2","seller":"D","buyer":"B2"},{"name":"db3","seller":"D","buyer":"B3"},{"name":"o1b1","seller":"O1","buyer":"B1"},{"name":"o1b2","seller":"O1","buyer":"B2"},{"name":"o2b1","seller":"O2","buyer":"B1"},{"name":"o2b2","seller":"O2","buyer":"B2"},{"name":"o2b3","seller":"O2","buyer":"B3"}],"edits":[["admit","o1d"],["admit","o2d"],["admit","db1"],["admit","db2"],["admit","db3"],["admit","o1b1"],["admit","o1b2"],["admit","o2b1"],["admit","o2b2"],["admit","o2b3"],["bar","db1"],["bar","o2b1"]]}
-0 {"answer":"session","edits":[{"on":[],"prices":[["o1d",.."surplus":9}]}
+0 {"answer":"session","edits":[{"on":[],"prices":[["o1d",-100000000000000~4]],"surplus":0},{"on":[],"prices":[["o1d",-100000000000000~4],["o2d",-100000000000000~6]],"surplus":0},{"on":["o1d","db1"],"prices":[["o1d",4~7],["o2d",3~6],["db1",5~12]],"surplus":7},{"on":["o1d","db1"],"prices":[["o1d",4~7],["o2d",3~6],["db1",9~12],["db2",9~12]],"surplus":7},{"on":["o1d","db1"],"prices":[["o1d",4~7],["o2d",3~6],["db1",11~12],["db2",9~12],["db3",11~12]],"surplus":7},{"on":["o2d","db3","o1b1"],"prices":[["o1d",7~8],["o2d",6~7],["db1",10~11],["db2",9~11],["db3",10~11],["o1b1",7~8]],"surplus":8},{"on":["o2d",..,..],"prices":[["o1d",7~8],["o2d",6~7],["db1",11~11],["db2",9~11],["db3",11~11],["o1b1",8~8],["o1b2",8~8]],"surplus":8},{"on":["o1d","db3","o2b1"],"prices":[["o1d",8~9],["o2d",7~8],["db1",10~11],["db2",9~11],["db3",10~11],["o1b1",7~9],["o1b2",8~9],["o2b1",7~8]],"surplus":9},{"on":["o1d","db1","o2b2"],"prices":[["o1d",8~10],["o2d",7~9],["db1",11~12],["db2",8~12],["db3",11~12],["o1b1",8~10],["o1b2",7~10],["o2b1",8~9],["o2b2",8~9]],"surplus":10},{"on":["o1d","db1","o2b2"],"prices":[["o1d",8~10],["o2d",7~9],["db1",11~12],["db2",8~12],["db3",11~12],["o1b1",8~10],["o1b2",7~10],["o2b1",8~9],["o2b2",8~9],["o2b3",8~9]],"surplus":10},{"on":["o1d","db3",..],"prices":[["o1d",9~10],["o2d",8~9],["db2",9~11],["db3",10~11],["o1b1",9~10],["o1b2",8~10],["o2b1",9~9],["o2b2",9~9],["o2b3",7~9]],"surplus":9},{"on":["o1d","db3","o2b2"],"prices":[["o1d",9~10],["o2d",8~9],["db2",8~11],["db3",10~11],["o1b1",9~10],["o1b2",7~10],["o2b2",8~9],["o2b3",7~9]],"surplus":9}]}
 
 session
 {"version":1,"firms":[{"name":"S","kind":"table","rows":[[["a"],-3]]},{"name":"B","kind":"table","rows":[[["a"],5]]}],"trades":[{"name":"a","seller":"S","buyer":"B"}],"edits":[]}
@@ -224,6 +224,10 @@ solve --rows
 check
 {"version":1,"firms":[{"name":"O1","kind":"table","rows":[[["a"],-4]]},{"name":"O2","kind":"table","rows":[[["b"],-6]]},{"name":"D","kind":"dealer","pairs":[["a","x",1],["a","y",3],["b","x",2],["b","y",1]]},{"name":"X","kind":"table","rows":[[["x"],12]]},{"name":"Y","kind":"table","rows":[[["y"],9]]}],"trades":[{"name":"a","seller":"O1","buyer":"D"},{"name":"b","seller":"O2","buyer":"D"},{"name":"x","seller":"D","buyer":"X"},{"name":"y","seller":"D","buyer":"Y"}],"arrangement":{"on":["a","b","x","y"],"prices":[["a",5],["b",7],["x",11],["y",8]]}}
 0 {"answer":"equilibrium","surplus":9}
+
+solve
+{"version":1,"firms":[{"name":"S","kind":"laminar","amounts":[["p0",-20],["p1",-25],["p2",-30],["p3",-22],["p4",-27],["p5",-32],["p6",-24],["p7",-29],["p8",-21],["p9",-26],["p10",-31],["p11",-23]]},{"name":"D","kind":"dealer","pairs":[["p0","s0",0],["p0","s1",29],["p0","s2",34],["p0","s3",15],["p0","s4",13],["p0","s5",28],["p0","s6",19],["p0","s7",27],["p0","s8",11],["p0","s9",12],["p0","s10",30],["p0","s11",24],["p1","s0",24],["p1","s1",23],["p1","s2",39],["p1","s3",31],["p1","s4",40],["p1","s5",25],["p1","s6",27],["p1","s7",5],["p1","s8",0],["p1","s9",12],["p1","s10",0],["p1","s11",5],["p2","s0",0],["p2","s1",10],["p2","s2",37],["p2","s3",40],["p2","s4",19],["p2","s5",15],["p2","s6",28],["p2","s7",17],["p2","s8",23],["p2","s9",5],["p2","s10",4],["p2","s11",20],["p3","s0",10],["p3","s1",31],["p3","s2",28],["p3","s3",1],["p3","s4",32],["p3","s5",39],["p3","s6",22],["p3","s7",22],["p3","s8",39],["p3","s9",32],["p3","s10",1],["p3","s11",28],["p4","s0",13],["p4","s1",4],["p4","s2",12],["p4","s3",37],["p4","s4",38],["p4","s5",15],["p4","s6",9],["p4","s7",20],["p4","s8",7],["p4","s9",11],["p4","s10",32],["p4","s11",29],["p5","s0",9],["p5","s1",11],["p5","s2",30],["p5","s3",25],["p5","s4",37],["p5","s5",25],["p5","s6",30],["p5","s7",11],["p5","s8",9],["p5","s9",24],["p5","s10",15],["p5","s11",23],["p6","s0",39],["p6","s1",11],["p6","s2",0],["p6","s3",6],["p6","s4",29],["p6","s5",28],["p6","s6",3],["p6","s7",36],["p6","s8",4],["p6","s9",30],["p6","s10",32],["p6","s11",10],["p7","s0",21],["p7","s1",4],["p7","s2",4],["p7","s3",21],["p7","s4",14],["p7","s5",24],["p7","s6",10],["p7","s7",13],["p7","s8",33],["p7","s9",29],["p7","s10",1],["p7","s11",31],["p8","s0",37],["p8","s1",31],["p8","s2",1],["p8","s3",29],["p8","s4",33],["p8","s5",13],["p8","s6",10],["p8","s7",24],["p8","s8",14],["p8","s9",21],["p8","s10",4],["p8","s11",4],["p9","s0",5],["p9","s1",10],["p9","s2",32],["p9","s3",30],["p9","s4",4],["p9","s5",36],["p9","s6",3],["p9","s7",28],["p9","s8",29],["p9","s9",6],["p9","s10",0],["p9","s11",11],["p10","s0",7],["p10","s1",23],["p10","s2",15],["p10","s3",24],["p10","s4",9],["p10","s5",11],["p10","s6",30],["p10","s7",25],["p10","s8",37],["p10","s9",25],["p10","s10",30],["p10","s11",11],["p11","s0",2],["p11","s1",29],["p11","s2",32],["p11","s3",11],["p11","s4",7],["p11","s5",20],["p11","s6",9],["p11","s7",15],["p11","s8",38],["p11","s9",37],["p11","s10",12],["p11","s11",4]]},{"name":"B","kind":"laminar","amounts":[["s0",30],["s1",37],["s2",44],["s3",34],["s4",41],["s5",31],["s6",38],["s7",45],["s8",35],["s9",42],["s10",32],["s11",39]]}],"trades":[{"name":"p0","seller":"S","buyer":"D"},{"name":"p1","seller":"S","buyer":"D"},{"name":"p2","seller":"S","buyer":"D"},{"name":"p3","seller":"S","buyer":"D"},{"name":"p4","seller":"S","buyer":"D"},{"name":"p5","seller":"S","buyer":"D"},{"name":"p6","seller":"S","buyer":"D"},{"name":"p7","seller":"S","buyer":"D"},{"name":"p8","seller":"S","buyer":"D"},{"name":"p9","seller":"S","buyer":"D"},{"name":"p10","seller":"S","buyer":"D"},{"name":"p11","seller":"S","buyer":"D"},{"name":"s0","seller":"D","buyer":"B"},{"name":"s1","seller":"D","buyer":"B"},{"name":"s2","seller":"D","buyer":"B"},{"name":"s3","seller":"D","buyer":"B"},{"name":"s4","seller":"D","buyer":"B"},{"name":"s5","seller":"D","buyer":"B"},{"name":"s6","seller":"D","buyer":"B"},{"name":"s7","seller":"D","buyer":"B"},{"name":"s8","seller":"D","buyer":"B"},{"name":"s9","seller":"D","buyer":"B"},{"name":"s10","seller":"D","buyer":"B"},{"name":"s11","seller":"D","buyer":"B"}]}
+0 {"answer":"solved","on":["p0","p1","p2","p3","p4","p6","p7","p8","p9","p11","s0","s1","s2","s3","s4","s6","s7","s9","s10","s11"],"prices":[..],"surplus":107}
 
 solve
 {"version":1,"firms":[{"name":"O1","kind":"table","rows":[[["a"],-4]]},{"name":"O2","kind":"table","rows":[[["b"],-6]]},{"name":"D","kind":"dealer","pairs":[["a","x",1],["a","y",3],["b","x",2],["b","y",1]]},{"name":"X","kind":"table","rows":[[["x"],12]]},{"name":"Y","kind":"table","rows":[[["y"],9]]}],"trades":[{"name":"a","seller":"O1","buyer":"D"},{"name":"b","seller":"O2","buyer":"D"},{"name":"x","seller":"D","buyer":"X"},{"name":"y","seller":"D","buyer":"Y"}]}
@@ -283,11 +287,11 @@ test
 
 support
 {"version":1,"firms":[{"name":"S","kind":"table","rows":[[["a"],-3]]},{"name":"B","kind":"table","rows":[[["a"],5]]}],"trades":[{"name":"a","seller":"S","buyer":"B"}],"arrangement":{"on":["a"],"prices":1}}
-0 {"answer":"prices","prices":[["a",..]]}
+0 {"answer":"prices","prices":[["a",3~5]]}
 
 support
 {"version":1,"firms":[{"name":"S","kind":"table","rows":[[["a"],-3]]},{"name":"B","kind":"table","rows":[[["a"],5]]}],"trades":[{"name":"a","seller":"S","buyer":"B"}],"arrangement":{"on":["a"],"prices":[["z"]]}}
-0 {"answer":"prices","prices":[["a",..]]}
+0 {"answer":"prices","prices":[["a",3~5]]}
 
 support
 {"version":1,"firms":[{"name":"S","kind":"table","rows":[[["a"],-3]]},{"name":"B","kind":"table","rows":[[["a"],5]]}],"trades":[{"name":"a","seller":"S","buyer":"B"}],"arrangement":{"on":["a","a"]}}
