@@ -6,6 +6,7 @@ mod arrangement;
 mod claim;
 mod contract;
 mod ends;
+mod holding;
 mod lists;
 mod place;
 mod range;
@@ -18,8 +19,10 @@ pub use arrangement::Arrangement;
 pub use claim::Claim;
 pub use contract::{Contract, Outcome};
 pub use ends::Ends;
+pub use holding::Holding;
 pub use lists::{
-    Amounts, Contracts, Edits, Lent, Listed, Nodes, Numbers, Place, Prices, Ranges, States, Trades,
+    Amounts, Contracts, Edits, Holdings, Lent, Listed, Nodes, Numbers, Place, Prices, Ranges,
+    States, Trades,
 };
 pub use place::{PlaceStep, Word};
 pub use range::Range;

@@ -1,6 +1,7 @@
 ghost use Rattle.std.specs.Prelude.{◌≡◌, ◌<◌, Some, length, slice_get};
 
 use crate::contract::Contract;
+use crate::holding::Holding;
 use crate::place::PlaceStep;
 use crate::range::Range;
 use crate::session::{Edit, State};
@@ -21,6 +22,8 @@ pub type Numbers = Listed<u32>;
 /// Whole numbers of worth.
 pub type Amounts = Listed<i128>;
 
+/// What each firm has in an arrangement, by firm number.
+pub type Holdings = Lent<Holding>;
 /// What the prices of each trade may be, by trade number.
 pub type Ranges = Lent<Range>;
 /// Changes of the admitted trades, in the order in which they are made.

@@ -1,4 +1,4 @@
-use crate::lists::{Contracts, Nodes, Numbers, Place, Prices, Ranges, States, Trades};
+use crate::lists::{Contracts, Holdings, Nodes, Numbers, Place, Prices, Ranges, States, Trades};
 use crate::reason::Reason;
 use tn_base::FaultKind;
 
@@ -167,4 +167,13 @@ pub enum Said {
     },
     /// The program tells of itself.
     Page(Page),
+    /// What each firm has in an arrangement, and which bundle it would rather have.
+    Firms {
+        /// How many firms are content: each of them has a best bundle.
+        content: u32,
+        /// What each firm has, by firm number.
+        firms: Holdings,
+        /// The sum of the firms' worths, none where the bundle of one is impossible.
+        surplus: Option<i128>,
+    },
 }
