@@ -20,21 +20,22 @@ use Rattle.tn_plain_data.specs.declared.reason.Reason.TheVariants.{Impossible as
 use Rattle.tn_plain_data.specs.declared.said.Fault.{Fault}
 use Rattle.tn_plain_data.specs.declared.said.Shown.{Shown}
 use Rattle.tn_plain_data.specs.declared.contract.Contract.{Contract}
+use Rattle.tn_plain_data.specs.declared.holding.Holding.{Holding}
 use Rattle.tn_plain_data.specs.declared.range.Range.{Range}
 use Rattle.tn_plain_data.specs.declared.session.State.{State}
 use Rattle.tn_plain_data.specs.declared.said.Page.{Page}
 use Rattle.tn_plain_data.specs.declared.said.Page.TheVariants.{Help, Version as VersionPage}
 use Rattle.tn_plain_data.specs.declared.said.Said.{Said}
-use Rattle.tn_plain_data.specs.declared.said.Said.TheVariants.{Usage, ReadFault, NoMemory, Fault as FaultIs, Equilibrium, Better, Impossible, Accepted, ExchangeFails, Supported, Cycle, Solved, Rows, Drill, Ranges, Session, Drops, Completes, Blocks, Valid, Invalid, Cases, Page as PageIs}
+use Rattle.tn_plain_data.specs.declared.said.Said.TheVariants.{Usage, ReadFault, NoMemory, Fault as FaultIs, Equilibrium, Better, Impossible, Accepted, ExchangeFails, Supported, Cycle, Solved, Rows, Drill, Ranges, Session, Drops, Completes, Blocks, Valid, Invalid, Cases, Page as PageIs, Firms as FirmsIs}
 use Rattle.tn_names.specs.Names.{NameLists, IsNameList}
 use Rattle.tn_answer.specs.Words.{word_text}
 use Rattle.tn_names.specs.Named.{IsNamed, IsNamedStep, IsNamedTriple}
 use Rattle.tn_answer.specs.Pages.{lines_text, page_lines}
 use Rattle.tn_answer.specs.Rows.{each_from}
-use Rattle.tn_answer.specs.AnswerText.{contracts_data, range_data, state_data, states_data, prices_from, nodes_data, step_data, place_data, fault_data, Layout, json, rows, lines, answer_layout, data_in, layout_text, answer, answer_data, answer_line}
+use Rattle.tn_answer.specs.AnswerText.{contracts_data, holding_data, range_data, state_data, states_data, prices_from, nodes_data, step_data, place_data, fault_data, Layout, json, rows, lines, answer_layout, data_in, layout_text, answer, answer_data, answer_line}
 use Rattle.tn_answer.specs.Values.{bound_data, name_data, names_data, option_data, integer_data, numbers_data}
 use Rattle.tn_answer.specs.ReasonText.{reason_members, IsNamedReason}
-use Rattle.tn_answer.specs.Apart.{HasNamedPaths, HasShortNumbers, IsNamedAnswer, IsNamedState, IsSameStep, IsSameFault, IsSameAnswer, AnswersAreToldApart}
+use Rattle.tn_answer.specs.Apart.{HasNamedPaths, HasShortNumbers, IsNamedAnswer, IsNamedHolding, IsNamedState, IsSameStep, IsSameFault, IsSameAnswer, AnswersAreToldApart}
 use Rattle.tn_answer.proofs.DataTexts.{IsPlain, clash, compact_text-tells}
 use Rattle.tn_answer.proofs.RowLemmas.{same_rows}
 use Rattle.serde_json.specs.Written.{compact_text}
@@ -291,6 +292,7 @@ answer_text Valid = codes "valid"
 answer_text (Invalid reason) = codes "invalid"
 answer_text (Cases count failed) = codes "cases"
 answer_text (PageIs page) = []
+answer_text (FirmsIs content firms surplus) = codes "firms"
 
 -- the first three bytes tell these texts apart
 abbrev mark : List ℕ → ℕ
@@ -324,6 +326,7 @@ answer_says names Valid = refl
 answer_says names (Invalid reason) = refl
 answer_says names (Cases count failed) = refl
 answer_says names (PageIs page) = refl
+answer_says names (FirmsIs content firms surplus) = refl
 
 same_numbers : (xs ys : List ℕ) → numbers_data xs ≡ numbers_data ys → xs ≡ ys
 same_numbers [] [] e = refl
@@ -402,6 +405,29 @@ module _ (names : NameLists) (firms : IsNameList names.firms) (trades : IsNameLi
       λ i. Choice (firm_is i) (trade_is i)
   same_reason first second h k e = absurd (clash (mark (reason_text first)) (mark (reason_text second)) refl (same_reason_mark first second e))
 
+-- what firms have
+module _ (names : NameLists) (trades : IsNameList names.trades) where
+  same_holding : (k : ℕ) (x y : Holding) → IsNamedHolding names.trades x → IsNamedHolding names.trades y → holding_data names k x ≡ holding_data names k y → x ≡ y
+  same_holding k x y h i e =
+      let best = same_names names.trades trades x.best y.best h.best i.best (ap (part (codes "best")) e) in
+      let best_utility = same_integer x.best_utility y.best_utility (ap (part (codes "best_utility")) e) in
+      let gain = same_bound names.trades trades x.gain y.gain (ap (part (codes "gain")) e) in
+      let has = same_names names.trades trades x.has y.has h.has i.has (ap (part (codes "has")) e) in
+      let utility = same_bound names.trades trades x.utility y.utility (ap (part (codes "utility")) e) in
+      let worth = same_bound names.trades trades x.worth y.worth (ap (part (codes "worth")) e) in
+      λ j. record { has = has j; worth = worth j; utility = utility j; best = best j; best_utility = best_utility j; gain = gain j }
+
+  same_holdings : (k : ℕ) (xs ys : List Holding) → All (IsNamedHolding names.trades) xs → All (IsNamedHolding names.trades) ys
+      → array (items_of (each_from (holding_data names) k xs)) ≡ array (items_of (each_from (holding_data names) k ys)) → xs ≡ ys
+  same_holdings k [] [] h i e = refl
+  same_holdings k [] (y ∷ ys) h i e = absurd (omega (arith, ap (λ d. items_len (items_in d)) e))
+  same_holdings k (x ∷ xs) [] h i e = absurd (omega (arith, ap (λ d. items_len (items_in d)) e))
+  same_holdings k (x ∷ xs) (y ∷ ys) h i e =
+      let named = IsNamedHolding names.trades in
+      let first = same_holding k x y (All-head named x xs h) (All-head named y ys i) (ap first_in e) in
+      let rest = same_holdings (suc k) xs ys (All-tail named x xs h) (All-tail named y ys i) (ap rest_in e) in
+      λ j. first j ∷ rest j
+
 module _ (names : NameLists) (firms : IsNameList names.firms) (trades : IsNameList names.trades) where
   same_mark : (first second : Said) → answer_data names first ≡ answer_data names second → mark (answer_text first) ≡ mark (answer_text second)
   same_mark first second e = ap mark (sym (answer_says names first) ∙ ap (λ d. text_in (part (codes "answer") d)) e ∙ answer_says names second)
@@ -469,6 +495,11 @@ module _ (names : NameLists) (firms : IsNameList names.firms) (trades : IsNameLi
       let same_count = ap (λ d. natural_in (part (codes "count") d)) e in
       let same_failed = same_numbers failed failed' (ap (part (codes "failed")) e) in
       λ i. Cases (same_count i) (same_failed i)
+  same_answer (FirmsIs content holdings surplus) (FirmsIs content' holdings' surplus') h k short short' line e =
+      let same_content = ap (λ d. natural_in (part (codes "content") d)) e in
+      let same_list = same_holdings names trades 0 holdings holdings' h.1 k.1 (ap (part (codes "firms")) e) in
+      let same_surplus = same_bound names.trades trades surplus surplus' (ap (part (codes "surplus")) e) in
+      λ i. FirmsIs (same_content i) (same_list i) (same_surplus i)
   same_answer (PageIs Help) (PageIs Help) h k short short' line e = refl
   same_answer (PageIs VersionPage) (PageIs VersionPage) h k short short' line e = refl
   same_answer (PageIs Help) (PageIs VersionPage) h k short short' line e = absurd (clash 102 49 refl (ap eighth_byte line))

@@ -11,11 +11,12 @@ use Rattle.tn_plain_data.specs.declared.reason.Reason.TheVariants.{Better as Bet
 use Rattle.tn_plain_data.specs.declared.said.Fault.{Fault}
 use Rattle.tn_plain_data.specs.declared.said.Shown.{Shown}
 use Rattle.tn_plain_data.specs.declared.contract.Contract.{Contract}
+use Rattle.tn_plain_data.specs.declared.holding.Holding.{Holding}
 use Rattle.tn_plain_data.specs.declared.range.Range.{Range}
 use Rattle.tn_plain_data.specs.declared.session.State.{State}
 use Rattle.tn_plain_data.specs.declared.said.Said.{Said}
-use Rattle.tn_plain_data.specs.declared.said.Said.TheVariants.{Usage, ReadFault, NoMemory, Fault as FaultIs, Equilibrium, Better, Impossible, Accepted, ExchangeFails, Supported, Cycle, Solved, Rows, Drill, Ranges, Session, Drops, Completes, Blocks, Valid, Invalid, Cases, Page as PageIs}
-use Rattle.tn_answer.specs.AnswerText.{prices_from, nodes_data, step_data, place_data, fault_data, contracts_data, range_data, states_data, answer, answer_data}
+use Rattle.tn_plain_data.specs.declared.said.Said.TheVariants.{Usage, ReadFault, NoMemory, Fault as FaultIs, Equilibrium, Better, Impossible, Accepted, ExchangeFails, Supported, Cycle, Solved, Rows, Drill, Ranges, Session, Drops, Completes, Blocks, Valid, Invalid, Cases, Page as PageIs, Firms}
+use Rattle.tn_answer.specs.AnswerText.{prices_from, nodes_data, step_data, place_data, fault_data, contracts_data, range_data, states_data, holding_data, answer, answer_data}
 use Rattle.tn_answer.specs.ReasonText.{reason_members}
 use Rattle.tn_answer.specs.Values.{names_data, option_data, bound_data, numbers_data}
 use Rattle.tn_answer.specs.Rows.{each_from}
@@ -92,6 +93,18 @@ reason_has_no_float names (BetterIs firm bundle) = neither _ _ (names_have_no_fl
 reason_has_no_float names (Exchange firm x y at) = neither _ _ (option_has_no_float names.trades at) (neither _ _ (names_have_no_float names.trades x) (neither _ _ (names_have_no_float names.trades y) refl))
 reason_has_no_float names reason = refl
 
+holdings_have_no_float : (names : NameLists) (k : ℕ) (holdings : List Holding) → has_float (array (items_of (each_from (holding_data names) k holdings))) ≡ false
+holdings_have_no_float names k [] = refl
+holdings_have_no_float names k (holding ∷ holdings) = neither _ _ here (holdings_have_no_float names (suc k) holdings)
+  where
+    here : has_float (holding_data names k holding) ≡ false
+    here =
+        neither _ _ (names_have_no_float names.trades holding.best)
+        (neither _ _ (integer_is_no_float holding.best_utility)
+        (neither _ _ (bound_has_no_float names.trades holding.gain)
+        (neither _ _ (names_have_no_float names.trades holding.has)
+        (neither _ _ (bound_has_no_float names.trades holding.utility) (neither _ _ (bound_has_no_float names.trades holding.worth) refl)))))
+
 numbers_have_no_float : (numbers : List ℕ) → has_float (numbers_data numbers) ≡ false
 numbers_have_no_float [] = refl
 numbers_have_no_float (n ∷ numbers) = numbers_have_no_float numbers
@@ -118,6 +131,7 @@ answer_has_no_float names (Drops firm keeps gain over) = neither _ _ (bound_has_
 answer_has_no_float names (Completes prices over) = neither _ _ (integer_is_no_float over) (neither _ _ (prices_have_no_float names.trades 0 prices) refl)
 answer_has_no_float names Valid = refl
 answer_has_no_float names (PageIs page) = refl
+answer_has_no_float names (Firms content firms surplus) = neither _ _ (holdings_have_no_float names 0 firms) (neither _ _ (bound_has_no_float names.trades surplus) refl)
 answer_has_no_float names (Invalid reason) = reason_has_no_float names reason
 answer_has_no_float names (Cases count failed) = neither _ _ (numbers_have_no_float failed) refl
 answer_has_no_float names (Blocks contracts over) = neither _ _ (contracts_have_no_float names.trades contracts) (neither _ _ (integer_is_no_float over) refl)

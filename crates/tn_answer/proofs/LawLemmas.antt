@@ -12,16 +12,17 @@ use Rattle.tn_plain_data.specs.declared.reason.Reason.TheVariants.{Impossible as
 use Rattle.tn_plain_data.specs.declared.said.Fault.{Fault}
 use Rattle.tn_plain_data.specs.declared.said.Shown.{Shown}
 use Rattle.tn_plain_data.specs.declared.contract.Contract.{Contract}
+use Rattle.tn_plain_data.specs.declared.holding.Holding.{Holding}
 use Rattle.tn_plain_data.specs.declared.range.Range.{Range}
 use Rattle.tn_plain_data.specs.declared.session.State.{State}
 use Rattle.tn_plain_data.specs.declared.said.Said.{Said}
-use Rattle.tn_plain_data.specs.declared.said.Said.TheVariants.{Usage, ReadFault, NoMemory, Fault as FaultIs, Equilibrium, Better, Impossible, Accepted, ExchangeFails, Supported, Cycle, Solved, Rows, Drill, Ranges, Session, Drops, Completes, Blocks, Valid, Invalid, Cases, Page as PageIs}
+use Rattle.tn_plain_data.specs.declared.said.Said.TheVariants.{Usage, ReadFault, NoMemory, Fault as FaultIs, Equilibrium, Better, Impossible, Accepted, ExchangeFails, Supported, Cycle, Solved, Rows, Drill, Ranges, Session, Drops, Completes, Blocks, Valid, Invalid, Cases, Page as PageIs, Firms}
 use Rattle.tn_names.specs.Names.{NameLists}
 use Rattle.tn_answer.specs.AnswerText.{contracts_data, state_data, prices_data, nodes_data, step_data, answer, fault_members, fault_data, json, answer_layout, layout_text, answer_line}
 use Rattle.tn_answer.specs.Values.{names_data, option_data, integer_data}
 use Rattle.tn_answer.specs.ReasonText.{reason_members, reason_names_nothing, IsReasonWithin, IsShortReason}
-use Rattle.tn_answer.specs.Sayable.{HasShortBounds, IsSayable, IsShortState}
-use Rattle.tn_answer.specs.Kept.{HasWithinBounds, IsWithinState, IsWithinClaim, IsWithinPrices, IsWithinClaims}
+use Rattle.tn_answer.specs.Sayable.{HasShortBounds, IsSayable, IsShortHolding, IsShortState}
+use Rattle.tn_answer.specs.Kept.{HasWithinBounds, IsWithinHolding, IsWithinState, IsWithinClaim, IsWithinPrices, IsWithinClaims}
 use Rattle.tn_answer.specs.Laws.{are_none, is_empty, state_names_nothing, names_no_trade_at, names_no_trade_in, names_nothing}
 
 both : (a b : Bool) → (a && b) ≡ true → (a ≡ true) × (b ≡ true)
@@ -131,6 +132,8 @@ same_layout Valid names others e = refl
 same_layout (Invalid reason) names others e = ap (λ ms. json (answer (codes "invalid") ms)) (same_reason reason names others e)
 same_layout (Cases count failed) names others e = refl
 same_layout (PageIs page) names others e = refl
+same_layout (Firms content [] surplus) names others e = refl
+same_layout (Firms content (holding ∷ holdings) surplus) names others e = absurd (true≢false (sym e))
 
 pub same_line : (said : Said) (names others : NameLists) → names_nothing said ≡ true → answer_line names said ≡ answer_line others said
 unfolding answer_line
@@ -166,6 +169,14 @@ state_fits state within = record {
   where
     fits : (z : ℤ) → IsWithinPrices z → FitsSigned w64 z
     fits z small = omega (arith, ints, small.low, small.high)
+
+holding_fits : (holding : Holding) → IsWithinHolding holding → IsShortHolding holding
+holding_fits holding within = record {
+  best_utility = fits_from_within holding.best_utility within.best_utility;
+  gain = gain_fits holding.gain within.gain;
+  utility = gain_fits holding.utility within.utility;
+  worth = gain_fits holding.worth within.worth;
+}
 
 reason_fits : (reason : Reason) → IsReasonWithin reason → IsShortReason reason
 reason_fits (Surplus surplus) within = fits_from_within surplus within
@@ -205,6 +216,7 @@ within_sayable (Drops firm keeps gain over) within = (gain_fits gain within.0, f
 within_sayable (Completes prices over) within = ((λ k d below. fits_from_within (get_or prices k d) (within.0 k d below)), fits_from_within over within.1)
 within_sayable Valid within = tt
 within_sayable (PageIs page) within = tt
+within_sayable (Firms content firms surplus) within = (omega (arith, within.0), (λ k d below. holding_fits (get_or firms k d) (within.1 k d below)), gain_fits surplus within.2)
 within_sayable (Invalid reason) within = reason_fits reason within
 within_sayable (Cases count failed) within = (omega (arith, within.0), λ k d below. wide (get_or failed k d) (within.1 k d below))
   where

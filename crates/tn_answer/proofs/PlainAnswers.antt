@@ -18,16 +18,17 @@ use Rattle.tn_plain_data.specs.declared.reason.Reason.TheVariants.{Impossible as
 use Rattle.tn_plain_data.specs.declared.said.Fault.{Fault}
 use Rattle.tn_plain_data.specs.declared.said.Shown.{Shown}
 use Rattle.tn_plain_data.specs.declared.contract.Contract.{Contract}
+use Rattle.tn_plain_data.specs.declared.holding.Holding.{Holding}
 use Rattle.tn_plain_data.specs.declared.range.Range.{Range}
 use Rattle.tn_plain_data.specs.declared.session.State.{State}
 use Rattle.tn_plain_data.specs.declared.said.Said.{Said}
-use Rattle.tn_plain_data.specs.declared.said.Said.TheVariants.{Usage, ReadFault, NoMemory, Fault as FaultIs, Equilibrium, Better, Impossible, Accepted, ExchangeFails, Supported, Cycle, Solved, Rows, Drill, Ranges, Session, Drops, Completes, Blocks, Valid, Invalid, Cases, Page as PageIs}
+use Rattle.tn_plain_data.specs.declared.said.Said.TheVariants.{Usage, ReadFault, NoMemory, Fault as FaultIs, Equilibrium, Better, Impossible, Accepted, ExchangeFails, Supported, Cycle, Solved, Rows, Drill, Ranges, Session, Drops, Completes, Blocks, Valid, Invalid, Cases, Page as PageIs, Firms}
 use Rattle.tn_names.specs.Names.{NameLists, IsNameList, is_name}
 use Rattle.tn_answer.specs.Words.{kind_name, word_text}
 use Rattle.tn_answer.specs.Rows.{each_from}
 use Rattle.tn_answer.specs.ReasonText.{reason_members, IsShortReason}
-use Rattle.tn_answer.specs.Sayable.{HasShortBounds, IsShortState}
-use Rattle.tn_answer.specs.AnswerText.{contract_data, range_data, state_data, prices_from, step_data, fault_data, answer, answer_data}
+use Rattle.tn_answer.specs.Sayable.{HasShortBounds, IsShortHolding, IsShortState}
+use Rattle.tn_answer.specs.AnswerText.{contract_data, holding_data, range_data, state_data, prices_from, step_data, fault_data, answer, answer_data}
 use Rattle.tn_answer.specs.Values.{bound_data, name_data, option_data}
 use Rattle.tn_names.specs.Named.{HasShortIndex}
 use Rattle.tn_answer.specs.Apart.{HasShortNumbers}
@@ -153,6 +154,35 @@ module _ (names : NameLists) (firms : IsNameList names.firms) (trades : IsNameLi
   reason_is_plain (Signed trade) h = (refl, refl, (refl, refl, (refl, name_is_plain names.trades trades trade, tt)))
   reason_is_plain (Choice firm trade) h = (refl, refl, (refl, firm_is_plain firm, (refl, refl, (refl, name_is_plain names.trades trades trade, tt))))
 
+module _ (names : NameLists) (firms : IsNameList names.firms) (trades : IsNameList names.trades) where
+  holding_is_plain : (k : ℕ) (holding : Holding) → IsShortHolding holding → IsPlain (holding_data names k holding)
+  holding_is_plain k holding h = (
+    refl,
+    names_are_plain names.trades trades holding.best,
+    (
+      refl,
+      integer_is_short holding.best_utility h.best_utility,
+      (
+        refl,
+        name_is_plain names.firms firms k,
+        (
+          refl,
+          bound_is_plain names.trades trades holding.gain h.gain,
+          (
+            refl,
+            names_are_plain names.trades trades holding.has,
+            (refl, bound_is_plain names.trades trades holding.utility h.utility, (refl, bound_is_plain names.trades trades holding.worth h.worth, tt)),
+          ),
+        ),
+      ),
+    ),
+  )
+
+  holdings_are_plain : (k : ℕ) (holdings : List Holding) → All IsShortHolding holdings → ItemsArePlain (items_of (each_from (holding_data names) k holdings))
+  holdings_are_plain k [] h = tt
+  holdings_are_plain k (holding ∷ holdings) h =
+      (holding_is_plain k holding (All-head IsShortHolding holding holdings h), holdings_are_plain (suc k) holdings (All-tail IsShortHolding holding holdings h))
+
 numbers_are_plain : (numbers : List ℕ) → All (λ n. n < 2 ^ 64) numbers → ItemsArePlain (items_of (map (λ n. number (unsigned n)) numbers))
 numbers_are_plain [] h = tt
 numbers_are_plain (n ∷ numbers) h = (All-head (λ n. n < 2 ^ 64) n numbers h, numbers_are_plain numbers (All-tail (λ n. n < 2 ^ 64) n numbers h))
@@ -183,6 +213,8 @@ answer_is_plain names firms trades (Drops firm keeps gain over) h =
 answer_is_plain names firms trades (Completes prices over) h = (refl, refl, (refl, integer_is_short over h.1, (refl, prices_are_plain names.trades trades 0 prices h.0, tt)))
 answer_is_plain names firms trades Valid h = (refl, refl, tt)
 answer_is_plain names firms trades (PageIs page) h = tt
+answer_is_plain names firms trades (Firms content holdings surplus) h =
+    (refl, refl, (refl, h.0, (refl, holdings_are_plain names firms trades 0 holdings h.1, (refl, bound_is_plain names.trades trades surplus h.2, tt))))
 answer_is_plain names firms trades (Invalid reason) h = reason_is_plain names firms trades reason h
 answer_is_plain names firms trades (Cases count failed) h = (refl, refl, (refl, h.0, (refl, numbers_are_plain failed h.1, tt)))
 answer_is_plain names firms trades (Blocks contracts over) h = (refl, refl, (refl, contracts_are_plain names.trades trades contracts h.0, (refl, integer_is_short over h.1, tt)))

@@ -8,12 +8,13 @@ use Rattle.tn_base.specs.Faults.{fault_number}
 use Rattle.tn_plain_data.specs.declared.place.PlaceStep.{PlaceStep}
 use Rattle.tn_plain_data.specs.declared.place.PlaceStep.TheVariants.{Word, Index, Trade}
 use Rattle.tn_plain_data.specs.declared.contract.Contract.{Contract}
+use Rattle.tn_plain_data.specs.declared.holding.Holding.{Holding}
 use Rattle.tn_plain_data.specs.declared.range.Range.{Range}
 use Rattle.tn_plain_data.specs.declared.session.State.{State}
 use Rattle.tn_plain_data.specs.declared.said.Fault.{Fault}
 use Rattle.tn_plain_data.specs.declared.said.Shown.{Shown}
 use Rattle.tn_plain_data.specs.declared.said.Said.{Said}
-use Rattle.tn_plain_data.specs.declared.said.Said.TheVariants.{Usage, ReadFault, NoMemory, Fault as FaultIs, Equilibrium, Better, Impossible, Accepted, ExchangeFails, Supported, Cycle, Solved, Rows, Drill, Ranges, Session, Drops, Completes, Blocks, Valid, Invalid, Cases, Page as PageIs}
+use Rattle.tn_plain_data.specs.declared.said.Said.TheVariants.{Usage, ReadFault, NoMemory, Fault as FaultIs, Equilibrium, Better, Impossible, Accepted, ExchangeFails, Supported, Cycle, Solved, Rows, Drill, Ranges, Session, Drops, Completes, Blocks, Valid, Invalid, Cases, Page as PageIs, Firms}
 use Rattle.tn_names.specs.Names.{NameLists}
 use Rattle.tn_answer.specs.Pages.{lines_text, page_lines}
 use Rattle.tn_answer.specs.ReasonText.{reason_members}
@@ -55,6 +56,13 @@ state_data names state = object (member (codes "on") (names_data names state.on)
 
 abbrev pub states_data : List (List ℕ) → List State → Data
 states_data names states = array (items_of (map (state_data names) states))
+
+-- what a firm has, with its name, and what each firm has
+abbrev pub holding_data : NameLists → ℕ → Holding → Data
+holding_data names k holding = object (member (codes "best") (names_data names.trades holding.best) (member (codes "best_utility") (integer_data holding.best_utility) (member (codes "firm") (name_data names.firms k) (member (codes "gain") (bound_data holding.gain) (member (codes "has") (names_data names.trades holding.has) (member (codes "utility") (bound_data holding.utility) (member (codes "worth") (bound_data holding.worth) no_members)))))))
+
+abbrev pub holdings_data : NameLists → List Holding → Data
+holdings_data names holdings = array (items_of (each_from (holding_data names) 0 holdings))
 
 abbrev pub step_data : List (List ℕ) → PlaceStep → Data
 step_data trades (Word word) = string (word_text word)
@@ -108,6 +116,7 @@ answer_layout names Valid = json (answer (codes "valid") no_members)
 answer_layout names (Invalid reason) = json (answer (codes "invalid") (reason_members names reason))
 answer_layout names (Cases count failed) = json (answer (codes "cases") (member (codes "count") (number (unsigned count)) (member (codes "failed") (numbers_data failed) no_members)))
 answer_layout names (PageIs page) = lines (page_lines page)
+answer_layout names (Firms content firms surplus) = json (answer (codes "firms") (member (codes "content") (number (unsigned content)) (member (codes "firms") (holdings_data names firms) (member (codes "surplus") (bound_data surplus) no_members))))
 
 -- the JSON value of a layout, null where it is rows or lines
 abbrev pub data_in : Layout → Data

@@ -3,11 +3,12 @@ use Rattle.std.specs.Prelude.{◌≡◌, ℕ, ℤ, List, length, All, IfSome, sl
 use Rattle.std.specs.List.{AllZip}
 use Rattle.tn_plain_data.specs.declared.place.PlaceStep.{PlaceStep}
 use Rattle.tn_plain_data.specs.declared.place.PlaceStep.TheVariants.{Word, Trade}
+use Rattle.tn_plain_data.specs.declared.holding.Holding.{Holding}
 use Rattle.tn_plain_data.specs.declared.range.Range.{Range}
 use Rattle.tn_plain_data.specs.declared.session.State.{State}
 use Rattle.tn_plain_data.specs.declared.said.Fault.{Fault}
 use Rattle.tn_plain_data.specs.declared.said.Said.{Said}
-use Rattle.tn_plain_data.specs.declared.said.Said.TheVariants.{Usage, ReadFault, NoMemory, Fault as FaultIs, Equilibrium, Better, Impossible, Accepted, ExchangeFails, Supported, Cycle, Solved, Rows, Drill, Ranges, Session, Drops, Completes, Blocks, Valid, Invalid, Cases, Page as PageIs}
+use Rattle.tn_plain_data.specs.declared.said.Said.TheVariants.{Usage, ReadFault, NoMemory, Fault as FaultIs, Equilibrium, Better, Impossible, Accepted, ExchangeFails, Supported, Cycle, Solved, Rows, Drill, Ranges, Session, Drops, Completes, Blocks, Valid, Invalid, Cases, Page as PageIs, Firms}
 use Rattle.tn_names.specs.Names.{NameLists, IsNameList}
 use Rattle.tn_answer.specs.Words.{word_text}
 use Rattle.tn_names.specs.Named.{IsNamed, IsNamedStep, IsNamedTriple, HasShortIndex}
@@ -16,7 +17,7 @@ use Rattle.tn_answer.specs.ReasonText.{IsNamedReason}
 use Rattle.tn_answer.specs.Sayable.{IsSayable}
 use Rattle.tn_answer.specs.AnswerText.{answer_line}
 
--- the paths of a range are of trades that have a name, and so are the trades of a state
+-- the paths of a range are of trades that have a name, and so are the trades of a state, and those of a firm
 pub record HasNamedPaths (names : List (List ℕ)) (range : Range) : Type 0 where
   pub high : All (λ node. IfSome node (IsNamed names)) range.high_path
   pub low : All (λ node. IfSome node (IsNamed names)) range.low_path
@@ -24,6 +25,10 @@ pub record HasNamedPaths (names : List (List ℕ)) (range : Range) : Type 0 wher
 pub record IsNamedState (names : List (List ℕ)) (state : State) : Type 0 where
   pub on : All (IsNamed names) state.on
   pub prices : All (λ contract. IsNamed names contract.trade) state.prices
+
+pub record IsNamedHolding (names : List (List ℕ)) (holding : Holding) : Type 0 where
+  pub best : All (IsNamed names) holding.best
+  pub has : All (IsNamed names) holding.has
 
 -- an answer speaks only of firms and trades that have a name, and prices are one for each name of a trade
 abbrev pub IsNamedAnswer : NameLists → Said → Type 0
@@ -50,6 +55,7 @@ IsNamedAnswer names Valid = Unit {0}
 IsNamedAnswer names (Invalid reason) = IsNamedReason names reason
 IsNamedAnswer names (Cases count failed) = Unit {0}
 IsNamedAnswer names (PageIs page) = Unit {0}
+IsNamedAnswer names (Firms content firms surplus) = (length firms ≡ length names.firms) × All (IsNamedHolding names.trades) firms
 
 -- the numbers of an answer fit 64 bits, and so do the indices of a fault's place
 abbrev pub HasShortNumbers : Said → Type 0

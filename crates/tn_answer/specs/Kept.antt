@@ -2,10 +2,11 @@
 use Rattle.std.specs.Prelude.{◌<◌, ◌^◌, ℤ, map, All, IfSome}
 use Rattle.std.specs.List.Sorted.{IsStrictlyIncreasing}
 use Rattle.tn_base.specs.Arcs.{IsAtMost}
+use Rattle.tn_plain_data.specs.declared.holding.Holding.{Holding}
 use Rattle.tn_plain_data.specs.declared.range.Range.{Range}
 use Rattle.tn_plain_data.specs.declared.session.State.{State}
 use Rattle.tn_plain_data.specs.declared.said.Said.{Said}
-use Rattle.tn_plain_data.specs.declared.said.Said.TheVariants.{Usage, ReadFault, NoMemory, Fault as FaultIs, Equilibrium, Better, Impossible, Accepted, ExchangeFails, Supported, Cycle, Solved, Rows, Drill, Ranges, Session, Drops, Completes, Blocks, Valid, Invalid, Cases, Page as PageIs}
+use Rattle.tn_plain_data.specs.declared.said.Said.TheVariants.{Usage, ReadFault, NoMemory, Fault as FaultIs, Equilibrium, Better, Impossible, Accepted, ExchangeFails, Supported, Cycle, Solved, Rows, Drill, Ranges, Session, Drops, Completes, Blocks, Valid, Invalid, Cases, Page as PageIs, Firms}
 use Rattle.tn_names.specs.Named.{IsAscendingTriple}
 use Rattle.tn_answer.specs.ReasonText.{IsReasonWithin, HasAscendingBundles}
 
@@ -17,7 +18,7 @@ IsWithinClaim z = IsAtMost z (10 ^ 18)
 abbrev pub IsWithinPrices : ℤ → Type 0
 IsWithinPrices z = IsAtMost z (10 ^ 14)
 
--- the prices of a range, and the numbers of a state, are within the limits
+-- the prices of a range, the numbers of a state, and those of what a firm has are within the limits
 pub record HasWithinBounds (range : Range) : Type 0 where
   pub high : IfSome range.high IsWithinPrices
   pub low : IfSome range.low IsWithinPrices
@@ -25,6 +26,12 @@ pub record HasWithinBounds (range : Range) : Type 0 where
 pub record IsWithinState (state : State) : Type 0 where
   pub prices : All (λ contract. IsWithinPrices contract.price) state.prices
   pub surplus : IsWithinClaim state.surplus
+
+pub record IsWithinHolding (holding : Holding) : Type 0 where
+  pub best_utility : IsWithinClaim holding.best_utility
+  pub gain : IfSome holding.gain IsWithinClaim
+  pub utility : IfSome holding.utility IsWithinClaim
+  pub worth : IfSome holding.worth IsWithinClaim
 
 -- the numbers of an answer are within the limits of claims
 abbrev pub IsWithinClaims : Said → Type 0
@@ -51,11 +58,17 @@ IsWithinClaims Valid = Unit {0}
 IsWithinClaims (Invalid reason) = IsReasonWithin reason
 IsWithinClaims (Cases count failed) = (count < 2 ^ 32) × All (λ n. n < 2 ^ 32) failed
 IsWithinClaims (PageIs page) = Unit {0}
+IsWithinClaims (Firms content firms surplus) = (content < 2 ^ 32) × All IsWithinHolding firms × IfSome surplus IsWithinClaim
 
 -- the trades of a state that are on, and those that have a price, ascend strictly
 pub record IsAscendingState (state : State) : Type 0 where
   pub on : IsStrictlyIncreasing state.on
   pub prices : IsStrictlyIncreasing (map (λ contract. contract.trade) state.prices)
+
+-- and so do the trades that a firm has, and those of its best bundle
+pub record IsAscendingHolding (holding : Holding) : Type 0 where
+  pub best : IsStrictlyIncreasing holding.best
+  pub has : IsStrictlyIncreasing holding.has
 
 -- each list of trades in an answer ascends strictly
 abbrev pub HasAscendingTrades : Said → Type 0
@@ -82,3 +95,4 @@ HasAscendingTrades Valid = Unit {0}
 HasAscendingTrades (Invalid reason) = HasAscendingBundles reason
 HasAscendingTrades (Cases count failed) = IsStrictlyIncreasing failed
 HasAscendingTrades (PageIs page) = Unit {0}
+HasAscendingTrades (Firms content firms surplus) = All IsAscendingHolding firms

@@ -6,7 +6,7 @@ use Rattle.tn_plain_data.specs.declared.place.PlaceStep.TheVariants.{Word, Index
 use Rattle.tn_plain_data.specs.declared.said.Shown.{Shown}
 use Rattle.tn_plain_data.specs.declared.session.State.{State}
 use Rattle.tn_plain_data.specs.declared.said.Said.{Said}
-use Rattle.tn_plain_data.specs.declared.said.Said.TheVariants.{Usage, ReadFault, NoMemory, Fault as FaultIs, Equilibrium, Better, Impossible, Accepted, ExchangeFails, Supported, Cycle, Solved, Rows, Drill, Ranges, Session, Drops, Completes, Blocks, Valid, Invalid, Cases, Page as PageIs}
+use Rattle.tn_plain_data.specs.declared.said.Said.TheVariants.{Usage, ReadFault, NoMemory, Fault as FaultIs, Equilibrium, Better, Impossible, Accepted, ExchangeFails, Supported, Cycle, Solved, Rows, Drill, Ranges, Session, Drops, Completes, Blocks, Valid, Invalid, Cases, Page as PageIs, Firms}
 use Rattle.tn_names.specs.Names.{NameLists}
 use Rattle.tn_answer.specs.ReasonText.{reason_names_nothing}
 use Rattle.tn_answer.specs.Sayable.{IsSayable}
@@ -58,6 +58,7 @@ names_nothing Valid = true
 names_nothing (Invalid reason) = reason_names_nothing reason
 names_nothing (Cases count failed) = true
 names_nothing (PageIs page) = true
+names_nothing (Firms content firms surplus) = is_empty firms
 
 -- the text of such an answer is the same over any names
 abbrev pub NeedsNoNames : Type 0

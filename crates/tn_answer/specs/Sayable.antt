@@ -1,13 +1,14 @@
 -- Which answers can be written: their numbers fit 64 bits.
 use Rattle.std.specs.Prelude.{◌<◌, ◌^◌, All, IfSome, FitsSigned}
 use Rattle.std.specs.Int.{w64}
+use Rattle.tn_plain_data.specs.declared.holding.Holding.{Holding}
 use Rattle.tn_plain_data.specs.declared.range.Range.{Range}
 use Rattle.tn_plain_data.specs.declared.session.State.{State}
 use Rattle.tn_plain_data.specs.declared.said.Said.{Said}
-use Rattle.tn_plain_data.specs.declared.said.Said.TheVariants.{Usage, ReadFault, NoMemory, Fault as FaultIs, Equilibrium, Better, Impossible, Accepted, ExchangeFails, Supported, Cycle, Solved, Rows, Drill, Ranges, Session, Drops, Completes, Blocks, Valid, Invalid, Cases, Page as PageIs}
+use Rattle.tn_plain_data.specs.declared.said.Said.TheVariants.{Usage, ReadFault, NoMemory, Fault as FaultIs, Equilibrium, Better, Impossible, Accepted, ExchangeFails, Supported, Cycle, Solved, Rows, Drill, Ranges, Session, Drops, Completes, Blocks, Valid, Invalid, Cases, Page as PageIs, Firms}
 use Rattle.tn_answer.specs.ReasonText.{IsShortReason}
 
--- the numbers of a range, and of a state, fit 64 bits
+-- the numbers of a range, of a state, and of what a firm has fit 64 bits
 pub record HasShortBounds (range : Range) : Type 0 where
   pub high : IfSome range.high (FitsSigned w64)
   pub low : IfSome range.low (FitsSigned w64)
@@ -15,6 +16,12 @@ pub record HasShortBounds (range : Range) : Type 0 where
 pub record IsShortState (state : State) : Type 0 where
   pub prices : All (λ contract. FitsSigned w64 contract.price) state.prices
   pub surplus : FitsSigned w64 state.surplus
+
+pub record IsShortHolding (holding : Holding) : Type 0 where
+  pub best_utility : FitsSigned w64 holding.best_utility
+  pub gain : IfSome holding.gain (FitsSigned w64)
+  pub utility : IfSome holding.utility (FitsSigned w64)
+  pub worth : IfSome holding.worth (FitsSigned w64)
 
 abbrev pub IsSayable : Said → Type 0
 IsSayable Usage = Unit {0}
@@ -40,3 +47,4 @@ IsSayable Valid = Unit {0}
 IsSayable (Invalid reason) = IsShortReason reason
 IsSayable (Cases count failed) = (count < 2 ^ 64) × All (λ n. n < 2 ^ 64) failed
 IsSayable (PageIs page) = Unit {0}
+IsSayable (Firms content firms surplus) = (content < 2 ^ 64) × All IsShortHolding firms × IfSome surplus (FitsSigned w64)

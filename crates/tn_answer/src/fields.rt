@@ -43,7 +43,7 @@ pub(crate) enum Field<'a> {
 }
 
 /// A number that may be none, which is null.
-fn bound_value(bound: Option<i128>) -> Value
+pub(crate) fn bound_value(bound: Option<i128>) -> Value
     requires { IfSome bound (FitsSigned w64) }
     ensures { view result ≡ bound_data bound }
 {

@@ -3,6 +3,7 @@
 #![tactic(auto)]
 
 mod fields;
+mod holdings;
 mod laws;
 mod pages;
 mod ranges;

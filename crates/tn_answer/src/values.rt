@@ -9,6 +9,7 @@ ghost use Rattle.tn_answer.specs.Values.{name_data, names_data, option_data};
 ghost use Rattle.tn_answer.specs.Sayable.{HasShortBounds, IsSayable, IsShortState};
 
 use crate::fields::{Field, object_of};
+use crate::holdings::firms_value;
 use crate::ranges::ranges_value;
 use crate::reasons::invalid_value;
 use crate::states::states_value;
@@ -64,6 +65,11 @@ pub(crate) fn answer_value(alloc: Global, names: &Names, said: &Said) -> Result<
         Said::Valid => plain_value(alloc, names, "valid"),
         Said::Invalid(reason) => invalid_value(alloc, names, reason),
         Said::Cases { count, failed } => cases_value(alloc, names, *count, failed),
+        Said::Firms {
+            content,
+            firms,
+            surplus,
+        } => firms_value(alloc, names, *content, firms, *surplus),
     }
 }
 

@@ -1,0 +1,76 @@
+// What firms have in an arrangement, as JSON values.
+ghost use Rattle.std.specs.Prelude.{◌≡◌, [], All, IfOk, IfSome, FitsSigned, slice_get, unwrap_or};
+ghost use Rattle.std.specs.Int.{w64};
+ghost use Rattle.serde_json.specs.View.{view};
+ghost use Rattle.tn_plain_data.specs.declared.said.Said.TheVariants.{Firms};
+ghost use Rattle.tn_answer.specs.AnswerText.{answer_data, holding_data, holdings_data};
+ghost use Rattle.tn_answer.specs.Sayable.{IsShortHolding};
+
+use crate::fields::{Field, bound_value, object_of};
+use serde_json::{Value, json};
+use std::alloc::{AllocError, Global};
+use tn_names::Names;
+use tn_plain_data::{Holding, Holdings};
+
+/// The name of the firm at a place, empty where there is none.
+fn firm_name_at(names: &Names, k: usize) -> &str
+    ensures { result.now ≡ unwrap_or (slice_get names.now.firms k) [] }
+{
+    if k < names.firms() as usize {
+        names.firm(k as u32)
+    } else {
+        ""
+    }
+}
+
+fn holding_value<'a>(
+    alloc: Global,
+    names: &'a Names,
+    k: usize,
+    holding: &'a Holding,
+) -> Result<Value, AllocError>
+    requires { IsShortHolding holding.now }
+    ensures { IfOk result (λ value. view value ≡ holding_data names.now k holding.now) }
+{
+    let fields = [
+        ("best", Field::Trades(&holding.best)),
+        ("best_utility", Field::Number(holding.best_utility)),
+        ("firm", Field::Word(firm_name_at(names, k))),
+        ("gain", Field::Bound(holding.gain)),
+        ("has", Field::Trades(&holding.has)),
+        ("utility", Field::Bound(holding.utility)),
+        ("worth", Field::Bound(holding.worth)),
+    ];
+    object_of(alloc, names, &fields)
+}
+
+fn holdings_value(alloc: Global, names: &Names, holdings: &Holdings) -> Result<Value, AllocError>
+    requires { All IsShortHolding holdings.now }
+    ensures { IfOk result (λ value. view value ≡ holdings_data names.now holdings.now) }
+{
+    let mut values = Vec::new(alloc);
+    for k in 0..holdings.len() {
+        values.push(holding_value(alloc, names, k, holdings.at(k))?)?;
+    }
+    Ok(Value::Array(values))
+}
+
+pub(crate) fn firms_value(
+    alloc: Global,
+    names: &Names,
+    content: u32,
+    firms: &Holdings,
+    surplus: Option<i128>,
+) -> Result<Value, AllocError>
+    requires firms { All IsShortHolding firms.now }
+    requires surplus { IfSome surplus (FitsSigned w64) }
+    ensures { IfOk result
+        (λ value. view value ≡ answer_data names.now (Firms content firms.now surplus)) }
+{
+    json!(in alloc; {
+        "answer": "firms",
+        "content": content,
+        "firms": holdings_value(alloc, names, firms)?,
+        "surplus": bound_value(surplus),
+    })
+}
