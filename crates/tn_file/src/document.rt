@@ -5,7 +5,8 @@ use tn_base::{Bundle, OutOfMemory};
 use tn_firm::{FirmValue, RawFirm};
 use tn_market::{Ends, Fault, Market, Trades};
 use tn_names::Names;
-use tn_read_firms::{own_option, trades_of};
+use tn_plain_data::trades_of;
+use tn_read_firms::own_option;
 
 /// A document that is read.
 #[derive(Drop)]

@@ -9,6 +9,7 @@ mod ends;
 mod holding;
 mod lists;
 mod place;
+mod positions;
 mod range;
 mod reason;
 mod said;
@@ -25,6 +26,7 @@ pub use lists::{
     States, Trades,
 };
 pub use place::{PlaceStep, Word};
+pub use positions::{own, trades_of};
 pub use range::Range;
 pub use reason::Reason;
 pub use said::{Fault, Page, Said, Shown};

@@ -1,12 +1,13 @@
-ghost use Rattle.std.specs.Prelude.{◌≡◌, ◌<◌, ◌≤◌, length, option_map, IfOk, IsTrue, ◌↔◌};
+ghost use Rattle.std.specs.Prelude.{◌≡◌, ◌≤◌, length, option_map, IfOk};
 ghost use Rattle.tn_exchange.specs.TestOrder.{Triple};
-ghost use Rattle.tn_plain_data.specs.Network.{own, stands_at, trades_of};
+ghost use Rattle.tn_plain_data.specs.Network.{own};
 ghost use Rattle.tn_read_firms.specs.Firms.{failure_of};
 
 use std::alloc::Global;
 use tn_base::{Bundle, FaultKind, OutOfMemory};
 use tn_market::PlaceStep::Index;
 use tn_market::{Ends, Fault, Place, Shown, Trades};
+use tn_plain_data::{own, trades_of};
 use tn_shape::steps::FIRMS;
 
 /// The fault of firm `f`, which has so many own trades, that a triple fails.
@@ -38,27 +39,6 @@ pub(crate) fn failure(
     })
 }
 
-/// The trades of firm `f` in a bundle, ascending.
-pub fn trades_of(
-    alloc: Global,
-    ends: &[Ends],
-    f: u32,
-    count: u32,
-    bundle: Bundle,
-) -> Result<Vec<u32>, OutOfMemory>
-    requires few { length ends.now ≤ 128 }
-    requires count { count ≤ 64 }
-    ensures { IfOk result (λ trades. trades.items ≡ trades_of ends.now f count bundle) }
-{
-    let mut trades = Vec::new(alloc);
-    for k in 0..count {
-        if bundle.has(k) {
-            trades.push(own(ends, f, k))?;
-        }
-    }
-    Ok(trades)
-}
-
 /// The trade at a position of firm `f`, where there is one.
 pub fn own_option(ends: &[Ends], f: u32, at: Option<u32>) -> Option<u32>
     requires { length ends.now ≤ 128 }
@@ -68,25 +48,4 @@ pub fn own_option(ends: &[Ends], f: u32, at: Option<u32>) -> Option<u32>
         Some(k) => Some(own(ends, f, k)),
         None => None,
     }
-}
-
-/// The trade at position `k` of firm `f`.
-fn own(ends: &[Ends], f: u32, k: u32) -> u32
-    requires { length ends.now ≤ 128 }
-    ensures { result ≡ own ends.now f k }
-{
-    let mut t = 0;
-    for trade in ends {
-        if stands_at(trade, f, k) {
-            return t;
-        }
-        t += 1;
-    }
-    t
-}
-
-fn stands_at(trade: &Ends, f: u32, k: u32) -> bool
-    ensures { result ≡ stands_at trade.now f k }
-{
-    (trade.seller == f && trade.at_seller == k) || (trade.buyer == f && trade.at_buyer == k)
 }

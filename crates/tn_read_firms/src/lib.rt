@@ -12,7 +12,7 @@ mod middlemen;
 mod own_numbers;
 mod rows;
 
-pub use failures::{own_option, trades_of};
+pub use failures::own_option;
 pub use firms::read_firms;
 pub use laws::first_failures_are_first;
 pub use made::FromKinds;

@@ -1,6 +1,6 @@
 use Rattle.std.proofs.Common.{◌≡◌}
 use Rattle.tn_plain_data.specs.Network.{trades_of}
-use Rattle.tn_read_firms.proofs.failures.trades_of.Given as goal
+use Rattle.tn_plain_data.proofs.positions.trades_of.Given as goal
 
 abbrev pub invariant-loop-k : goal.invariant-loop-k
 invariant-loop-k l = l.trades.items ≡ trades_of l.ends l.f l.k l.bundle

@@ -1,6 +1,6 @@
 use Rattle.std.proofs.Common.{◌≡◌, ◌+◌, drop}
 use Rattle.tn_plain_data.specs.Network.{own}
-use Rattle.tn_read_firms.proofs.failures.own.Given as goal
+use Rattle.tn_plain_data.proofs.positions.own.Given as goal
 
 abbrev pub invariant-loop-trade : goal.invariant-loop-trade
 invariant-loop-trade l = record {
