@@ -12,7 +12,8 @@ use tn_base::{Bundle, Side, Steps};
 /// and sells to its buyer, at position 1.
 #[derive(Clone, Copy, Debug)]
 pub struct Outside {
-    price: i128,
+    /// The price, at most 10^17 in size.
+    pub price: i128,
     ghost small: { IsAtMost price (10 ^ 17) },
 }
 
