@@ -5,13 +5,14 @@ use Rattle.std.proofs.lemmas.Bool.{cases_eq}
 use Rattle.std.proofs.lemmas.Int.{ints}
 use Rattle.tn_base.specs.Firm.{Firm}
 use Rattle.tn_law.specs.Places.{level, move, one_at}
+use Rattle.tn_law.specs.Quads.{value}
 use Rattle.tn_law.proofs.SumLemmas.{one_at-same, one_at-other}
 use Rattle.tn_law.proofs.PlaceLemmas.{places}
 use Rattle.tn_law.proofs.DistanceLemmas.{up_moves, up_apart_down, gap, gap-nearer}
-use Rattle.tn_law.proofs.CloseMoves.{value, move-within, gap-itself, Moves, ExchangesAt, DoesNotExchange, Chosen, chosen, moves_or_loses, exchanges_at_one}
+use Rattle.tn_law.proofs.CloseMoves.{move-within, gap-itself, Moves, ExchangesAt, DoesNotExchange, Chosen, chosen, moves_or_loses, exchanges_at_one}
 
 -- what a move of one unit from place j to place i, of the up side of x and y, does to the levels of y
-levels_of : (firm : Firm) (x y i j k : ℕ) → i ≤ firm.count → j ≤ firm.count
+pub levels_of : (firm : Firm) (x y i j k : ℕ) → i ≤ firm.count → j ≤ firm.count
     → level firm.count firm.buys y i < level firm.count firm.buys x i → level firm.count firm.buys x j < level firm.count firm.buys y j → k ≤ firm.count
     → level firm.count firm.buys (move firm.count y i j) k + one_at j k ≡ level firm.count firm.buys y k + one_at i k
 levels_of firm x y i j k i_place j_place i_up j_down k_place =

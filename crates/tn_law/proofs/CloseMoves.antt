@@ -7,6 +7,7 @@ use Rattle.tn_base.specs.Firm.{Firm}
 use Rattle.tn_base.specs.Every.{HasEveryBundle}
 use Rattle.tn_base.proofs.SetLemmas.{toggle_within}
 use Rattle.tn_law.specs.Places.{level, move, toggle_at, sum_to, one_at}
+use Rattle.tn_law.specs.Quads.{number, value}
 use Rattle.tn_law.proofs.SumLemmas.{sum_to-le, sum_to-one}
 use Rattle.tn_law.proofs.PlaceLemmas.{places, toggle_at-trade, toggle_at-null}
 use Rattle.tn_law.proofs.DistanceLemmas.{above_or_none, gap, levels_same, gap-nearer}
@@ -60,7 +61,7 @@ gap-symmetric firm x y =
     omega (arith, differ, first, second)
 
 -- bundles that aren't apart are the same
-same_from_gap : (firm : Firm) (x y : ℕ) → x < 2 ^ firm.count → y < 2 ^ firm.count → gap_in firm x y ≡ 0 → x ≡ y
+pub same_from_gap : (firm : Firm) (x y : ℕ) → x < 2 ^ firm.count → y < 2 ^ firm.count → gap_in firm x y ≡ 0 → x ≡ y
 unfolding gap
 same_from_gap firm x y x_own y_own none =
     same_from_levels firm.count firm.buys x y x_own y_own (λ k h.
@@ -83,14 +84,7 @@ pub move-within : (n x i j : ℕ) → x < 2 ^ n → move n x i j < 2 ^ n
 unfolding move
 move-within n x i j own = toggle_at-within n (toggle_at n x i) j (toggle_at-within n x i own)
 
--- what a bundle is worth, with 0 where it is impossible
-abbrev number : Option ℤ → ℤ
-number (Some a) = a
-number None = pos 0
-
-unfoldable pub value : Firm → ℕ → ℤ
-value firm x = number (firm.worth x)
-
+-- what a possible bundle is worth
 pub value_is : (firm : Firm) → HasEveryBundle firm → (x : ℕ) → x < 2 ^ firm.count → firm.worth x ≡ Some (value firm x)
 unfolding value
 value_is firm every x own = by (firm.worth x) (every x own)
@@ -232,24 +226,23 @@ pub record Chosen (firm : Firm) (x y u up down : ℕ) : Type 0 where
       → (value firm (move firm.count y up k) +ℤ value firm (move firm.count x u k)) ≤ℤ (value firm (move firm.count y up down) +ℤ value firm (move firm.count x u down))
 
 -- beside one unit of u the up side has another one
-another_unit : (firm : Firm) (d x y u : ℕ) → 1 ≤ d → DoesNotExchange firm d x y u
+pub unit_beside : (firm : Firm) (d x y u : ℕ) → 1 ≤ d → u ≤ firm.count
+    → gap firm.count (level firm.count firm.buys x) (level firm.count firm.buys y) ≡ suc d
     → (up : ℕ) × (up < suc firm.count) × (level firm.count firm.buys y up + one_at u up < level firm.count firm.buys x up)
 unfolding gap
-another_unit firm d x y u far here =
+unit_beside firm d x y u far u_place apart =
     elim (above_or_none (level firm.count firm.buys x) (λ k. level firm.count firm.buys y k + one_at u k) (suc firm.count)) [
       | inl found ↦ found
       | inr none ↦
-          let u_place = here.u_place in
           let single = sum_to-single u (suc firm.count) (omega (arith, u_place)) in
           let small = sum_to-le (λ k. level firm.count firm.buys x k - level firm.count firm.buys y k) (one_at u) (suc firm.count)
           (λ k h. let at_k = none k h in omega (arith, at_k)) in
-          let apart = here.far in
           absurd (omega (arith, single, small, apart, far))
     ]
 
 pub chosen : (firm : Firm) (d x y u : ℕ) → 1 ≤ d → DoesNotExchange firm d x y u → (up : ℕ) × ((down : ℕ) × Chosen firm x y u up down)
 chosen firm d x y u far here =
-    let other = another_unit firm d x y u far here in
+    let other = unit_beside firm d x y u far here.u_place here.far in
     elim (greatest_or_none (level firm.count firm.buys x) (level firm.count firm.buys y)
     (λ k. value firm (move firm.count y other.0 k) +ℤ value firm (move firm.count x u k)) (suc firm.count)) [
       | inl best ↦ (

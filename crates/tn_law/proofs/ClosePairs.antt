@@ -14,11 +14,12 @@ use Rattle.tn_base.proofs.SizeLemmas.{size_at}
 use Rattle.tn_base.proofs.ExchangeLemmas.{up_within, exchanges_or_not, swaps_or_not, none_fails_from_exchange}
 use Rattle.tn_law.specs.Places.{trade_level, null_level, level, move, sum_to, SwapsAt, ExchangesOverPlaces}
 use Rattle.tn_law.specs.Close.{distance, AreClose, NoneCloseFails}
+use Rattle.tn_law.specs.Quads.{value}
 use Rattle.tn_law.proofs.SumLemmas.{sum_to-same}
 use Rattle.tn_law.proofs.PlaceLemmas.{level-trade, level-null, move-both, move-to_null, move-from_null}
 use Rattle.tn_law.proofs.ExchangeLemmas.{net-null_level, null_is_net_count, up_is_level, exchange_from_places}
 use Rattle.tn_law.proofs.DistanceLemmas.{gap}
-use Rattle.tn_law.proofs.CloseMoves.{value, value_is, move-within, gap-symmetric, gap-positive, Moves, ExchangesAt}
+use Rattle.tn_law.proofs.CloseMoves.{value_is, move-within, gap-symmetric, gap-positive, Moves, ExchangesAt}
 use Rattle.tn_law.proofs.CloseLemmas.{exchanges_everywhere}
 
 -- each position in just one of two bundles is one level that one of them has more
@@ -101,12 +102,12 @@ level_to_up n buys x y k own h =
     (up_is_level buys x y k).1 (omega (arith, p, q, h))
 
 -- the value of a possible bundle
-value_from : (firm : Firm) (x : ℕ) (a : ℤ) → firm.worth x ≡ Some a → value firm x ≡ a
+pub value_from : (firm : Firm) (x : ℕ) (a : ℤ) → firm.worth x ≡ Some a → value firm x ≡ a
 unfolding value
 value_from firm x a is = rw is refl
 
 -- bundles that are enough have enough value
-enough_value : (firm : Firm) (x y x' y' : ℕ) (total : ℤ) → x' ≡ x → y' ≡ y → AreEnough firm x y total
+pub enough_value : (firm : Firm) (x y x' y' : ℕ) (total : ℤ) → x' ≡ x → y' ≡ y → AreEnough firm x y total
     → total ≤ℤ (value firm x' +ℤ value firm y')
 enough_value firm x y x' y' total p q e =
     let first : value firm x' ≡ e.first = ap (value firm) p ∙ value_from firm x e.first e.first_is in
@@ -174,7 +175,7 @@ close_exchanges firm every none x y i x_own y_own i_place i_up apart = elim (cas
 ]
 
 -- what moves at all distances exchanges over places
-exchanges_over_places : (firm : Firm) → HasOwnBundles firm → HasEveryBundle firm → ((d : ℕ) → ExchangesAt firm (suc d)) → ExchangesOverPlaces firm
+pub exchanges_over_places : (firm : Firm) → HasOwnBundles firm → HasEveryBundle firm → ((d : ℕ) → ExchangesAt firm (suc d)) → ExchangesOverPlaces firm
 exchanges_over_places firm own every moves x y a b x_is y_is i i_place i_up =
     swap (at_gap _ refl)
   where

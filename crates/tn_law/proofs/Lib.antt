@@ -16,6 +16,7 @@ pub mod BoundLemmas
 pub mod CloseMoves
 pub mod CloseLemmas
 pub mod ClosePairs
+pub mod QuadLemmas
 pub mod MoveLemmas
 pub mod PairLemmas
 pub mod PairSideLemmas

@@ -64,7 +64,7 @@ null_level-same (suc n) buys x y same =
     rw (before, here) refl
 
 -- what a trade's level gains by a toggle, null's loses
-null_level-toggle : (n buys x k : ℕ) → k < n
+pub null_level-toggle : (n buys x k : ℕ) → k < n
     → null_level n buys (toggle x k) + trade_level buys (toggle x k) k ≡ null_level n buys x + trade_level buys x k
 unfolding null_level
 null_level-toggle zero buys x k below = absurd (omega (arith, below))
@@ -164,7 +164,7 @@ toggle_at-twice n x i = elim (cases_lt i n) [
 ]
 
 -- the order of two toggles doesn't matter
-toggle_at-order : (n x i j : ℕ) → toggle_at n (toggle_at n x i) j ≡ toggle_at n (toggle_at n x j) i
+pub toggle_at-order : (n x i j : ℕ) → toggle_at n (toggle_at n x i) j ≡ toggle_at n (toggle_at n x j) i
 toggle_at-order n x i j = elim (cases_lt i n) [
   | inl p ↦ elim (cases_lt j n) [
     | inl q ↦ toggle_at-trade n (toggle_at n x i) j q ∙ ap (λ (y : ℕ). toggle y j) (toggle_at-trade n x i p) ∙ toggle_comm x i j

@@ -5,3 +5,4 @@ pub mod Nested
 pub mod Ordered
 pub mod Laws
 pub mod Close
+pub mod Quads

@@ -10,6 +10,7 @@ mod local;
 mod nested;
 mod ordered;
 mod places;
+mod quads;
 
 pub use additive::exchange_of_additive_firms;
 pub use close::close_pairs_decide;
@@ -19,3 +20,4 @@ pub use local::{local_is_global, locally_best_is_best};
 pub use nested::{exchange_of_nested_sums, listed_numbers_are_concave};
 pub use ordered::ordered_shifts_keep_best;
 pub use places::{bundles_have_places, exchange_over_places, null_is_net_count};
+pub use quads::quads_decide;

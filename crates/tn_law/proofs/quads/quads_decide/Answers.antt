@@ -1,0 +1,5 @@
+use Rattle.tn_law.proofs.QuadLemmas.{quads_decide}
+use Rattle.tn_law.proofs.quads.quads_decide.Goals as goal
+
+pub returns : goal.returns
+returns c = quads_decide
