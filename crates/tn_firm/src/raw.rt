@@ -29,7 +29,7 @@ impl RawFirm {
     /// How many own trades there are.
     pub fn trades(&self) -> u32
         ensures count { result ≡ (raw_firm_of self.now).count }
-        ensures few { result ≤ 64 }
+        ensures few { result ≤ 32 }
     {
         match self {
             RawFirm::Table(table) => table.trades(),

@@ -13,6 +13,7 @@ mod surplus;
 
 pub use bundle::trades_in;
 pub use check::Check;
+pub use firm::greatest;
 pub use judge::{judge_arrangement, judge_at, own_prices};
 pub use supported::Support;
 pub use supporting::{first_unable, support};

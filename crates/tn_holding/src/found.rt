@@ -1,0 +1,8 @@
+use tn_base::Bundle;
+
+/// A bundle with its utility.
+#[derive(Clone, Copy, Debug)]
+pub struct Found {
+    pub bundle: Bundle,
+    pub value: i128,
+}
