@@ -10,6 +10,8 @@ help_lines =
     ∷ []
     ∷ codes "  check      Is the arrangement an equilibrium?"
     ∷ codes "             market check < examples/used-cars.json"
+    ∷ codes "  firms      What does each firm earn, and what would it rather have?"
+    ∷ codes "             market firms < examples/no-clearing-prices.json"
     ∷ codes "  test       Does every firm meet the exchange property?"
     ∷ codes "             market test < examples/complements.json"
     ∷ codes "  support    Which prices make the arrangement's trades an equilibrium?"

@@ -16,6 +16,8 @@ fn help_text() -> &'static str
         "\n",
         "  check      Is the arrangement an equilibrium?\n",
         "             market check < examples/used-cars.json\n",
+        "  firms      What does each firm earn, and what would it rather have?\n",
+        "             market firms < examples/no-clearing-prices.json\n",
         "  test       Does every firm meet the exchange property?\n",
         "             market test < examples/complements.json\n",
         "  support    Which prices make the arrangement's trades an equilibrium?\n",
