@@ -3,3 +3,4 @@ pub mod WalkLemmas
 pub mod VerdictLemmas
 pub mod FirstLemmas
 mod FullLemmas
+mod QuadLemmas

@@ -3,6 +3,7 @@
 #![tactic(auto)]
 
 mod local;
+mod quads;
 #[cfg(test)]
 mod tests;
 mod verdict;

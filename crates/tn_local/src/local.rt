@@ -8,6 +8,7 @@ ghost use Rattle.tn_exchange.specs.Rows.{firm_of_table, IsWithinLimits};
 ghost use Rattle.tn_exchange.specs.Verdicts.{IfFails, IsVerdictOn};
 ghost use Rattle.tn_local.specs.First.{IsFirstCloseFailure};
 
+use crate::quads::quads_exchange;
 use crate::walk::{Sides, Two, test_close};
 use tn_base::Bundle;
 use tn_exchange::{RawTable, Verdict};
@@ -21,6 +22,10 @@ pub fn local_test(table: &RawTable) -> Verdict
     ensures within { IsWithinLimits table.now }
 {
     let buys = table.buys();
+    // that a table meets exchange shows soonest so
+    if quads_exchange(table) {
+        return Verdict::Holds;
+    }
     for bits in (0..table.bundles()).rev() {
         let x = Bundle::from_bits(bits);
         if let Some(first) = table.worth(x) {

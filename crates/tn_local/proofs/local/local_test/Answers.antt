@@ -4,6 +4,7 @@ use Rattle.tn_exchange.specs.Verdicts.{IfFails, IsVerdictOn}
 use Rattle.tn_exchange.proofs.RowLemmas.{own_bundles}
 use Rattle.tn_base.specs.Table.{buys_of}
 use Rattle.tn_law.specs.Close.{AreClose}
+use Rattle.tn_law.proofs.QuadLemmas.{none_fails_from_quads}
 use Rattle.tn_local.specs.First.{IsFirstCloseFailure}
 use Rattle.tn_local.proofs.VerdictLemmas.{first_close, no_more_close, none_above_close, none_fails_close, close_not_none}
 use Rattle.tn_local.proofs.local.local_test.Goals as goal
@@ -34,3 +35,7 @@ returns-in_default-test_from-clause-holds c =
 pub returns-clause-holds : goal.returns-clause-holds
 returns-clause-holds c =
     ((λ e. none_fails_close (firm_of_table c.args.table.now) (own_bundles c.args.table.now) c.requires (λ s above. c.loop-bits.invariant s (omega (arith, above)))), (λ none. refl))
+
+pub returns-then-quads_exchange-clause-holds : goal.returns-then-quads_exchange-clause-holds
+returns-then-quads_exchange-clause-holds c =
+    ((λ e. none_fails_from_quads (firm_of_table c.args.table.now) (own_bundles c.args.table.now) c.requires (c.quads_exchange.ensures.0 c.if-quads_exchange.true)), λ none. refl)
