@@ -1,3 +1,4 @@
 pub mod StandLemmas
 pub mod TableLemmas
 pub mod ContentLemmas
+pub mod HoldingLemmas

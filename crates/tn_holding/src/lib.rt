@@ -3,9 +3,11 @@
 #![tactic(auto)]
 
 mod found;
+mod holding;
 mod laws;
 mod stand;
 mod table;
 
+pub use holding::firm_holdings;
 pub use laws::{all_content_is_equilibrium, check_names_the_first};
 pub use stand::{Stand, stand_of};
