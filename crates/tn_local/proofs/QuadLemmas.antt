@@ -1,6 +1,6 @@
 -- Four free places in any order, from those in rising order, and the loops over them.
-use Rattle.std.proofs.Common.{◌≡◌, ◌≢◌, ℕ, ◌+◌, ◌<◌, ◌≤◌, Bool, true, false, not, ◌&&◌, ◌||◌, refl, sym, ap, ◌∙◌, subst, arith, ◌⊎◌, inl, inr, if◌then◌else◌, ◌+ℤ◌, pos}
-use Rattle.std.specs.Prelude.{◌↔◌, ◌≤ℤ◌, ℤ, Option, Some, None}
+use Rattle.std.proofs.Common.{◌≡◌, ◌≢◌, ℕ, ◌+◌, ◌<◌, ◌≤◌, Bool, true, false, not, ◌&&◌, ◌||◌, refl, sym, ap, ◌∙◌, subst, arith, ◌⊎◌, inl, inr, if◌then◌else◌, pos}
+use Rattle.std.specs.Prelude.{◌↔◌, ◌≤ℤ◌, ℤ, Some, None}
 use Rattle.std.proofs.lemmas.Bool.{cases_eq, cases_lt, false≢true}
 use Rattle.std.proofs.lemmas.Int.{ints}
 use Rattle.tn_base.specs.Sets.{has, toggle, union, minus}
@@ -84,10 +84,11 @@ free_set n buys z k place = elim (cases_lt k n) [
       let is = by (has buys k) (has z k) in
       ((λ member. (place, λ t. is.0 (sym digits ∙ member))), λ free. digits ∙ is.1 (free.1 trade))
   | inr null ↦
-      let member : has (toggle (toggle 0 n) (n + 1)) k ≡ true = twice k place null in
-      ((λ m. (place, λ t. absurd (omega (arith, t, null)))),
-      λ free. has-union (union (minus buys z) (minus z buys)) (toggle (toggle 0 n) (n + 1)) k
-          ∙ ap (λ b. has (union (minus buys z) (minus z buys)) k || b) member ∙ or_true (has (union (minus buys z) (minus z buys)) k))
+      let member : has (toggle (toggle 0 n) (n + 1)) k ≡ true = twice k place null in (
+        (λ m. (place, λ t. absurd (omega (arith, t, null)))),
+        λ free. has-union (union (minus buys z) (minus z buys)) (toggle (toggle 0 n) (n + 1)) k
+            ∙ ap (λ b. has (union (minus buys z) (minus z buys)) k || b) member ∙ or_true (has (union (minus buys z) (minus z buys)) k),
+      )
 ]
   where
     by : (b h : Bool) → ((((b && not h) || (h && not b)) || false) ≡ true) ↔ (level_by b h ≡ 0)
@@ -203,8 +204,7 @@ ordered_from_quads firm z quads a a_free b a_b b_free c b_c c_free d c_d d_free 
     }) in
     let b_and_c = pair_turned firm z b c in
     let c_and_d = pair_turned firm z c d in
-    let b_and_d = pair_turned firm z b d in
-    (
+    let b_and_d = pair_turned firm z b d in (
       quads a b c d (record {
         free = (a_free, b_free, c_free, d_free);
         apart = (below a b a_b, below a c (omega (arith, a_b, b_c)), below a d (omega (arith, a_b, b_c, c_d)), below b c b_c, below b d (omega (arith, b_c, c_d)), below c d c_d);
