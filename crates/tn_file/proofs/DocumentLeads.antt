@@ -7,7 +7,7 @@ use Rattle.tn_base.specs.Firm.{Firm}
 use Rattle.tn_base.specs.declared.fault.FaultKind.TheVariants.{NotJson}
 use Rattle.tn_names.specs.Names.{no_names}
 use Rattle.tn_file.specs.declared.need.Need.{Need}
-use Rattle.tn_file.specs.declared.need.Need.TheVariants.{Market, Raw, Arrangement, On, Outcome, Edits, Claim}
+use Rattle.tn_file.specs.declared.need.Need.TheVariants.{Market, Raw, Arrangement, RawArrangement, On, Outcome, Edits, Claim}
 use Rattle.tn_read_head.specs.Beside.{with_names}
 use Rattle.tn_shape.specs.Reading.{each, wanted}
 use Rattle.tn_file.specs.Json.{json_of}
@@ -48,6 +48,7 @@ module _ (listed : Listed) (trades : AreTrades listed) (firms : List Firm) (name
   extra_leads Market top = leads_ok IsRead nothing tt
   extra_leads Raw top = leads_ok IsRead nothing tt
   extra_leads Arrangement top = leads_bind (IsArrangement (length listed.names.trades)) IsRead (arrangement_of listed.names.trades top) _ (arrangement_leads listed.names.trades top) (λ part is. leads_ok IsRead (arrangement part) (counted (λ n. IsArrangement n part) is))
+  extra_leads RawArrangement top = leads_bind (IsArrangement (length listed.names.trades)) IsRead (arrangement_of listed.names.trades top) _ (arrangement_leads listed.names.trades top) (λ part is. leads_ok IsRead (arrangement part) (counted (λ n. IsArrangement n part) is))
   extra_leads On top = leads_bind (λ on. on < 2 ^ length listed.names.trades) IsRead (trades_on_of listed.names.trades top) _ (trades_on_leads listed.names.trades top) (λ on below. leads_ok IsRead (on_alone on) (counted (λ n. on < 2 ^ n) below))
   extra_leads Outcome top = leads_bind (IsOutcomeWithin (length listed.names.trades)) IsRead (outcome_of listed.names.trades top) _ (outcome_leads listed.names.trades top) (λ signed is. leads_ok IsRead (outcome signed) (counted (λ n. IsOutcomeWithin n signed) is))
   extra_leads Edits top = leads_bind (AreEdits (length listed.names.trades)) IsRead (edits_of listed.names.trades top) _ (edits_lead listed.names.trades top) (λ changes are. leads_ok IsRead (edits changes) (counted (λ n. AreEdits n changes) are))
@@ -59,6 +60,7 @@ unfolding extra_of
 accepted_leads Market listed top = record { at = λ extra e. refl }
 accepted_leads Raw listed top = record { at = λ extra e. refl }
 accepted_leads Arrangement listed top = record { at = λ extra e. refl }
+accepted_leads RawArrangement listed top = record { at = λ extra e. refl }
 accepted_leads On listed top = record { at = λ extra e. refl }
 accepted_leads Outcome listed top = record { at = λ extra e. refl }
 accepted_leads Edits listed top = record { at = λ extra e. refl }

@@ -10,7 +10,7 @@ use Rattle.tn_shape.proofs.LeadLemmas.{leads_both}
 use Rattle.tn_base.specs.declared.fault.FaultKind.TheVariants.{NotJson}
 use Rattle.tn_names.specs.Names.{no_names}
 use Rattle.tn_file.specs.declared.need.Need.{Need}
-use Rattle.tn_file.specs.declared.need.Need.TheVariants.{Market, Raw, Arrangement, On, Outcome, Edits, Claim}
+use Rattle.tn_file.specs.declared.need.Need.TheVariants.{Market, Raw, Arrangement, RawArrangement, On, Outcome, Edits, Claim}
 use Rattle.tn_read_references.specs.Ordered.{AreTrades, Listed, sides_of}
 use Rattle.tn_read_head.specs.Beside.{with_names, IsStop}
 use Rattle.tn_shape.specs.Reading.{each, wanted}
@@ -41,6 +41,7 @@ module _ (listed : Listed) (trades : AreTrades listed) (few : length listed.name
   extra_stops Market top = stops_ok Told nothing
   extra_stops Raw top = stops_ok Told nothing
   extra_stops Arrangement top = stops_bind Told (arrangement_of listed.names.trades top) _ (arrangement_stops listed.names.trades few top) (λ part. stops_ok Told (arrangement part))
+  extra_stops RawArrangement top = stops_bind Told (arrangement_of listed.names.trades top) _ (arrangement_stops listed.names.trades few top) (λ part. stops_ok Told (arrangement part))
   extra_stops On top = stops_bind Told (trades_on_of listed.names.trades top) _ (told_from_plain listed.names.trades _ (trades_on_stop listed.names.trades few top)) (λ on. stops_ok Told (on_alone on))
   extra_stops Outcome top = stops_bind Told (outcome_of listed.names.trades top) _ (told_from_plain listed.names.trades _ (outcome_stops listed.names.trades few top)) (λ signed. stops_ok Told (outcome signed))
   extra_stops Edits top = stops_bind Told (edits_of listed.names.trades top) _ (told_from_plain listed.names.trades _ (edits_stop listed.names.trades top)) (λ changes. stops_ok Told (edits changes))

@@ -10,7 +10,7 @@ use Rattle.tn_plain_data.specs.declared.said.Fault.{Fault}
 use Rattle.tn_plain_data.specs.declared.session.Edit.{Edit}
 use Rattle.tn_names.specs.Names.{NameLists, no_names}
 use Rattle.tn_file.specs.declared.need.Need.{Need}
-use Rattle.tn_file.specs.declared.need.Need.TheVariants.{Market, Raw, Arrangement, On, Outcome, Edits, Claim}
+use Rattle.tn_file.specs.declared.need.Need.TheVariants.{Market, Raw, Arrangement, RawArrangement, On, Outcome, Edits, Claim}
 use Rattle.tn_read_references.specs.Ordered.{Listed}
 use Rattle.tn_read_head.specs.Beside.{Stop, with_names}
 use Rattle.tn_shape.specs.Reading.{◌>>=◌, each, wanted}
@@ -37,6 +37,7 @@ abbrev pub is_tested : Need → Data → Bool
 is_tested Market top = true
 is_tested Raw top = false
 is_tested Arrangement top = true
+is_tested RawArrangement top = false
 is_tested On top = true
 is_tested Outcome top = true
 is_tested Edits top = true
@@ -56,6 +57,7 @@ abbrev pub is_accepted : Need → ExtraData → Bool
 is_accepted Market extra = true
 is_accepted Raw extra = false
 is_accepted Arrangement extra = true
+is_accepted RawArrangement extra = false
 is_accepted On extra = true
 is_accepted Outcome extra = true
 is_accepted Edits extra = true
@@ -65,6 +67,9 @@ unfoldable pub extra_of : Need → Listed → Data → Result ExtraData Fault
 extra_of Market listed top = Ok nothing
 extra_of Raw listed top = Ok nothing
 extra_of Arrangement listed top = do
+  arranged ← arrangement_of listed.names.trades top
+  Ok (arrangement arranged)
+extra_of RawArrangement listed top = do
   arranged ← arrangement_of listed.names.trades top
   Ok (arrangement arranged)
 extra_of On listed top = do

@@ -3,7 +3,7 @@ use Rattle.std.specs.Prelude.{◌≡◌, map, All, true, false, Result, Ok, Err}
 use Rattle.tn_firm.specs.Firms.{firm_of}
 use Rattle.tn_firm.specs.Raw.{CanBeTested, raw_firm_of}
 use Rattle.tn_file.specs.declared.need.Need.{Need}
-use Rattle.tn_file.specs.declared.need.Need.TheVariants.{Market, Raw, Arrangement, On, Outcome, Edits, Claim}
+use Rattle.tn_file.specs.declared.need.Need.TheVariants.{Market, Raw, Arrangement, RawArrangement, On, Outcome, Edits, Claim}
 use Rattle.tn_file.specs.declared.document.Document.{Document}
 use Rattle.tn_file.specs.declared.document.Loaded.TheVariants.{Market as MarketIs, Raw as RawIs}
 use Rattle.tn_file.specs.declared.document.Loaded.{Loaded}
@@ -38,6 +38,8 @@ IsLoadedFor Raw extra (MarketIs market) = ⊥
 IsLoadedFor Raw extra (RawIs net) = All CanBeTested net.firms
 IsLoadedFor Arrangement extra (MarketIs market) = Unit {0}
 IsLoadedFor Arrangement extra (RawIs net) = ⊥
+IsLoadedFor RawArrangement extra (MarketIs market) = ⊥
+IsLoadedFor RawArrangement extra (RawIs net) = All CanBeTested net.firms
 IsLoadedFor On extra (MarketIs market) = Unit {0}
 IsLoadedFor On extra (RawIs net) = ⊥
 IsLoadedFor Outcome extra (MarketIs market) = Unit {0}
@@ -52,6 +54,7 @@ abbrev pub IsExtraFor : Need → Extra → Type 0
 IsExtraFor Market NothingIs = Unit {0}
 IsExtraFor Raw NothingIs = Unit {0}
 IsExtraFor Arrangement (ArrangementIs part) = Unit {0}
+IsExtraFor RawArrangement (ArrangementIs part) = Unit {0}
 IsExtraFor On (OnIs on) = Unit {0}
 IsExtraFor Outcome (OutcomeIs signed) = Unit {0}
 IsExtraFor Edits (EditsIs listed) = Unit {0}

@@ -50,7 +50,7 @@ pub(crate) fn read_extra(
 {
     match need {
         Need::Market | Need::Raw => Ok(Extra::None),
-        Need::Arrangement => {
+        Need::Arrangement | Need::RawArrangement => {
             let arrangement = read_arrangement(alloc, names, top)?;
             Ok(Extra::Arrangement(arrangement))
         }

@@ -7,6 +7,8 @@ pub enum Need {
     Raw,
     /// The network, as for a market, and the arrangement.
     Arrangement,
+    /// The network, whether its firms meet the exchange property or not, and the arrangement.
+    RawArrangement,
     /// The network, as for a market, and of the arrangement only the trades that are on.
     On,
     /// The network, as for a market, and the outcome.

@@ -82,7 +82,7 @@ fn is_tested(need: Need, top: &Value) -> bool
     ensures { result ≡ is_tested need (view top.now) }
 {
     match need {
-        Need::Raw => false,
+        Need::Raw | Need::RawArrangement => false,
         Need::Market | Need::Arrangement | Need::On | Need::Outcome | Need::Edits => true,
         Need::Claim => !claims_raw(top),
     }
