@@ -111,6 +111,12 @@ def over($over): if $over == 1 or $over == 0 then . elif . % $over == 0 then . /
     "This is an equilibrium: at these prices each firm has a bundle that is best for it, and nobody would rather do something else.",
     trading, keeping_off,
     "The worths of the firms sum to \(.surplus), and no other set of trades has more."
+  elif .answer == "firms" then
+    "\(.content) of \(.firms | length) firms are content at these prices.",
+    (.firms[] | "\(.firm) has \(.has | listed), "
+      + (if .utility == null then "which is impossible" else "worth \(.worth), with the utility \(.utility)" end)
+      + (if .gain == 0 then ": it is content." else ": it would rather have \(.best | listed), with the utility \(.best_utility)." end)),
+    (if .surplus == null then empty else "The worths sum to \(.surplus)." end)
   elif .answer == "solved" then
     "An equilibrium is found: at these prices each firm has a bundle that is best for it, and nobody would rather do something else.",
     trading, keeping_off,

@@ -26,7 +26,12 @@ fn all_positions(n: u32) -> Bundle
 
 /// A best bundle with its utility. There is one, since the empty bundle is possible. Prices, scale and firm are within the
 /// limits of `best`.
-pub fn greatest<V: Oracle>(firm: &V, scale: i128, prices: &[i128], room: &mut Room) -> (Bundle, i128)
+pub fn greatest<V: Oracle>(
+    firm: &V,
+    scale: i128,
+    prices: &[i128],
+    room: &mut Room,
+) -> (Bundle, i128)
     requires priced { length prices.now ≡ (V.firm firm.now).count }
     requires small_prices { All (λ p. IsAtMost p (10 ^ 20)) prices.now }
     requires scaled { pos 1 ≤ℤ scale }

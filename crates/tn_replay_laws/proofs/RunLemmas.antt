@@ -23,7 +23,7 @@ use Rattle.tn_replay_laws.proofs.CheckedLemmas.{tests_replay, verdicts_replay}
 use Rattle.tn_replay_laws.proofs.FoundLemmas.{solutions_replay, supports_replay}
 use Rattle.tn_replay_laws.proofs.OutcomeLemmas.{judgements_replay}
 use Rattle.tn_run.specs.declared.command.Command.{Command}
-use Rattle.tn_run.specs.declared.command.Command.TheVariants.{Check, Judge, Range, Replay, Session, Solve, SolveRows, Support, Test}
+use Rattle.tn_run.specs.declared.command.Command.TheVariants.{Check, Firms, Judge, Range, Replay, Session, Solve, SolveRows, Support, Test}
 use Rattle.tn_run.specs.Answer.{ChecksExtra, IsAnswerOf, IsAnswerTo, JudgesExtra, SupportsExtra}
 use Rattle.tn_replay_laws.specs.Runs.{AnswersReplay, answers_claims}
 use Rattle.tn_run.specs.Tested.{Tests}
@@ -51,6 +51,7 @@ replayed : (command : Command) (top : Data) (doc : DocumentData) (said : Said) �
     → IsReplayed top doc said
 replayed Check top doc said claims read answer within = checked top doc said within read doc.extra refl answer
 replayed Judge top doc said claims read answer within = judged top doc said within read doc.extra refl answer
+replayed Firms top doc said claims read answer within = absurd (true≢false (sym claims))
 replayed Range top doc said claims read answer within = absurd (true≢false (sym claims))
 replayed Replay top doc said claims read answer within = absurd (true≢false (sym claims))
 replayed Session top doc said claims read answer within = absurd (true≢false (sym claims))

@@ -10,13 +10,14 @@ use Rattle.tn_names.specs.Names.{NameLists}
 use Rattle.tn_replay_laws.specs.Fits.{FitsClaim}
 use Rattle.tn_replay_laws.specs.Replayed.{with_claim}
 use Rattle.tn_run.specs.declared.command.Command.{Command}
-use Rattle.tn_run.specs.declared.command.Command.TheVariants.{Check, Judge, Range, Replay, Session, Solve, SolveRows, Support, Test}
+use Rattle.tn_run.specs.declared.command.Command.TheVariants.{Check, Firms, Judge, Range, Replay, Session, Solve, SolveRows, Support, Test}
 use Rattle.tn_run.specs.Answer.{IsAnswerOf, IsAnswerTo}
 use Rattle.tn_run.specs.Words.{need_of}
 
 -- whether the answers of a command are claims
 abbrev pub answers_claims : Command → Bool
 answers_claims Check = true
+answers_claims Firms = false
 answers_claims Judge = true
 answers_claims Range = false
 answers_claims Replay = false

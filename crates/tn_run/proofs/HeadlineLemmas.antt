@@ -7,7 +7,7 @@ use Rattle.tn_plain_data.specs.declared.said.Said.{Said}
 use Rattle.tn_plain_data.specs.declared.said.Said.TheVariants.{Usage, ReadFault, NoMemory}
 use Rattle.tn_names.specs.Names.{NameLists}
 use Rattle.tn_run.specs.declared.command.Command.{Command}
-use Rattle.tn_run.specs.declared.command.Command.TheVariants.{Check, Judge, Range, Replay, Session, Solve, SolveRows, Support, Test}
+use Rattle.tn_run.specs.declared.command.Command.TheVariants.{Check, Firms, Judge, Range, Replay, Session, Solve, SolveRows, Support, Test}
 use Rattle.tn_run.specs.Answer.{AnswersBytes, IsAnswerTo, MayBeSaid}
 use Rattle.tn_run.specs.Headline.{IsHeadline, KeepsPromise, ShowsFault, is_headlined}
 use Rattle.tn_run.specs.Words.{need_of}
@@ -20,6 +20,7 @@ kept_or_shown Solve bytes (Ok doc) names said headlined reads answer = inl (reco
 kept_or_shown SolveRows bytes (Ok doc) names said headlined reads answer = inl (record { doc = doc; reads = reads; promised = answer.0 })
 kept_or_shown Judge bytes (Ok doc) names said headlined reads answer = inl (record { doc = doc; reads = reads; promised = answer.0 })
 kept_or_shown Check bytes (Ok doc) names said headlined reads answer = absurd (true≢false (sym headlined))
+kept_or_shown Firms bytes (Ok doc) names said headlined reads answer = absurd (true≢false (sym headlined))
 kept_or_shown Range bytes (Ok doc) names said headlined reads answer = absurd (true≢false (sym headlined))
 kept_or_shown Replay bytes (Ok doc) names said headlined reads answer = absurd (true≢false (sym headlined))
 kept_or_shown Session bytes (Ok doc) names said headlined reads answer = absurd (true≢false (sym headlined))

@@ -7,9 +7,9 @@ use Rattle.std.proofs.lemmas.Option.{slice_get-get_or}
 use Rattle.tn_base.specs.declared.fault.FaultKind.TheVariants.{TooLong}
 use Rattle.tn_plain_data.specs.declared.said.Fault.{Fault as FaultIs}
 use Rattle.tn_plain_data.specs.declared.said.Said.{Said}
-use Rattle.tn_plain_data.specs.declared.said.Said.TheVariants.{Equilibrium, Better, Impossible, Fault, Accepted, ExchangeFails, Supported, Cycle, Solved, Rows, Ranges, Session as SessionIs, Drops, Completes, Blocks}
+use Rattle.tn_plain_data.specs.declared.said.Said.TheVariants.{Firms as FirmsIs, Equilibrium, Better, Impossible, Fault, Accepted, ExchangeFails, Supported, Cycle, Solved, Rows, Ranges, Session as SessionIs, Drops, Completes, Blocks}
 use Rattle.tn_plain_data.specs.Prices.{price_at}
-use Rattle.tn_plain_data.specs.Network.{trades_on}
+use Rattle.tn_plain_data.specs.Network.{part, trades_on}
 use Rattle.tn_market.specs.Judged.{Judges}
 use Rattle.tn_plain_data.proofs.NetworkLemmas.{on_below, on_ascends}
 use Rattle.tn_answer.specs.Apart.{HasShortNumbers, IsNamedAnswer}
@@ -25,7 +25,7 @@ use Rattle.tn_read_head.specs.Beside.{IsStop}
 use Rattle.tn_file.specs.Refusal.{Reads}
 use Rattle.tn_file.proofs.DocumentLeads.{documents_are_networks}
 use Rattle.tn_file.proofs.DocumentStops.{faults_are_sayable}
-use Rattle.tn_run.specs.Answer.{ChecksExtra, EditsExtra, JudgesExtra, ReplaysExtra, SupportsExtra, IsAnswerOf, KeepsRules}
+use Rattle.tn_run.specs.Answer.{ChecksExtra, EditsExtra, FirmsExtra, JudgesExtra, ReplaysExtra, SupportsExtra, IsAnswerOf, KeepsRules}
 use Rattle.tn_price.proofs.CycleLemmas.{nodes_inside}
 use Rattle.tn_command.specs.Edited.{TellsStates}
 use Rattle.tn_command.specs.Outcome.{JudgesOutcome}
@@ -37,12 +37,14 @@ use Rattle.tn_plain_data.specs.Choices.{contracts_of}
 use Rattle.tn_plain_data.proofs.ContractLemmas.{contract_trades, contracts_are}
 use Rattle.tn_command.specs.Solved.{Solves, SolvesInRows}
 use Rattle.tn_command.specs.Supported.{SupportsSet}
+use Rattle.tn_holding.specs.Held.{TellsHoldings}
+use Rattle.tn_price.proofs.JudgeLemmas.{some_item}
 use Rattle.tn_run.specs.Tested.{Tests}
 use Rattle.tn_run.proofs.OwnLemmas.{firm_named, bundle_named, bundle_ascends, failure_named, failure_ascends}
 use Rattle.tn_run.proofs.ReplayLemmas.{decided_named, decided_ascends}
 use Rattle.tn_run.specs.Words.{need_of}
 use Rattle.tn_run.specs.declared.command.Command.{Command}
-use Rattle.tn_run.specs.declared.command.Command.TheVariants.{Check, Judge, Range, Replay, Session, Solve, SolveRows, Support, Test}
+use Rattle.tn_run.specs.declared.command.Command.TheVariants.{Check, Firms, Judge, Range, Replay, Session, Solve, SolveRows, Support, Test}
 
 module _ (need : Need) (doc : DocumentData) (is : IsDocument need doc) where
   -- the answer of `check`
@@ -59,6 +61,40 @@ module _ (need : Need) (doc : DocumentData) (is : IsDocument need doc) where
   checked_named : (extra : ExtraData) (said : Said) → ChecksExtra doc extra said → IsNamedAnswer doc.names said
   checked_named (arrangement at) said checks = judged_named (pos 1) at.on (price_at at.prices) said checks.0
   checked_named extra said checks = absurd checks
+
+  -- the answer of `firms`
+  told_named : (on : ℕ) (prices : ℕ → ℤ) (said : Said) → TellsHoldings doc.firms doc.ends (pos 1) on prices said → IsNamedAnswer doc.names said
+  told_named on prices (FirmsIs content told surplus) tells = (
+    tells.one_each ∙ sym is.firms_named,
+    (λ k d below.
+        let one_each = tells.one_each in
+        let firm = some_item doc.firms k (omega (arith, below, one_each)) in
+        let holding = tells.each k firm.0 (get_or told k d) firm.1 (slice_get-get_or told k d below) in
+        record {
+          best = subst (All (IsNamed doc.names.trades)) (sym holding.best_is) (bundle_named need doc is k firm.0 holding.bundle firm.1);
+          has = subst (All (IsNamed doc.names.trades)) (sym holding.has_is) (bundle_named need doc is k firm.0 (part doc.ends k firm.0.count on) firm.1);
+        }),
+  )
+  told_named on prices said tells = absurd tells
+
+  firms_named : (extra : ExtraData) (said : Said) → FirmsExtra doc extra said → IsNamedAnswer doc.names said
+  firms_named (arrangement at) said tells = told_named at.on (price_at at.prices) said tells
+  firms_named extra said tells = absurd tells
+
+  told_ascends : (on : ℕ) (prices : ℕ → ℤ) (said : Said) → TellsHoldings doc.firms doc.ends (pos 1) on prices said → HasAscendingTrades said
+  told_ascends on prices (FirmsIs content told surplus) tells = λ k d below.
+      let one_each = tells.one_each in
+      let firm = some_item doc.firms k (omega (arith, below, one_each)) in
+      let holding = tells.each k firm.0 (get_or told k d) firm.1 (slice_get-get_or told k d below) in
+      record {
+        best = subst IsStrictlyIncreasing (sym holding.best_is) (bundle_ascends need doc is k firm.0 holding.bundle firm.1);
+        has = subst IsStrictlyIncreasing (sym holding.has_is) (bundle_ascends need doc is k firm.0 (part doc.ends k firm.0.count on) firm.1);
+      }
+  told_ascends on prices said tells = absurd tells
+
+  firms_ascend : (extra : ExtraData) (said : Said) → FirmsExtra doc extra said → HasAscendingTrades said
+  firms_ascend (arrangement at) said tells = told_ascends at.on (price_at at.prices) said tells
+  firms_ascend extra said tells = absurd tells
 
   -- the answer of `test`
   tested_named : (said : Said) → Tests doc.firms doc.ends said → IsNamedAnswer doc.names said
@@ -222,6 +258,7 @@ module _ (need : Need) (doc : DocumentData) (is : IsDocument need doc) where
 -- the answer of a command on a document
 document_ascends : (command : Command) (doc : DocumentData) → IsDocument (need_of command) doc → (said : Said) → IsAnswerOf command doc said → HasAscendingTrades said
 document_ascends Check doc is said answer = checked_ascends (need_of Check) doc is doc.extra said answer
+document_ascends Firms doc is said answer = firms_ascend (need_of Firms) doc is doc.extra said answer
 document_ascends Judge doc is said answer = judged_outcome_ascends (need_of Judge) doc is doc.extra said answer
 document_ascends Range doc is said answer = ranged_ascends (need_of Range) doc is said answer
 document_ascends Replay doc is said answer = replayed_ascends (need_of Replay) doc is doc.extra said answer
@@ -233,6 +270,7 @@ document_ascends Test doc is said answer = tested_ascends (need_of Test) doc is 
 
 document_named : (command : Command) (doc : DocumentData) → IsDocument (need_of command) doc → (said : Said) → IsAnswerOf command doc said → IsNamedAnswer doc.names said
 document_named Check doc is said answer = checked_named (need_of Check) doc is doc.extra said answer
+document_named Firms doc is said answer = firms_named (need_of Firms) doc is doc.extra said answer
 document_named Judge doc is said answer = judged_outcome_named (need_of Judge) doc is doc.extra said answer
 document_named Range doc is said answer = ranged_named (need_of Range) doc is said answer
 document_named Replay doc is said answer = replayed_named (need_of Replay) doc is doc.extra said is.extra answer
@@ -249,6 +287,11 @@ no_fault Check doc fault answer = by_extra doc.extra answer
     by_extra : (extra : ExtraData) → ChecksExtra doc extra (Fault fault) → ⊥
     by_extra (arrangement at) checks = checks.0
     by_extra extra checks = checks
+no_fault Firms doc fault answer = by_extra doc.extra answer
+  where
+    by_extra : (extra : ExtraData) → FirmsExtra doc extra (Fault fault) → ⊥
+    by_extra (arrangement at) tells = tells
+    by_extra extra tells = tells
 no_fault Judge doc fault answer = by_extra doc.extra answer
   where
     by_extra : (extra : ExtraData) → JudgesExtra doc extra (Fault fault) → ⊥

@@ -15,7 +15,7 @@ use Rattle.tn_names.specs.Names.{NameLists, IsNameList}
 use Rattle.tn_read_head.specs.Beside.{Stop}
 use Rattle.tn_file.specs.Document.{DocumentData, ExtraData, arrangement, on_alone, outcome, edits, claim, reading_of}
 use Rattle.tn_run.specs.declared.command.Command.{Command}
-use Rattle.tn_run.specs.declared.command.Command.TheVariants.{Check, Judge, Range, Replay, Session, Solve, SolveRows, Support, Test}
+use Rattle.tn_run.specs.declared.command.Command.TheVariants.{Check, Firms, Judge, Range, Replay, Session, Solve, SolveRows, Support, Test}
 use Rattle.tn_command.specs.Implied.{IsEfficientAndStable}
 use Rattle.tn_command.specs.Claimed.{DecidesClaim}
 use Rattle.tn_command.specs.Edited.{TellsStates}
@@ -23,6 +23,7 @@ use Rattle.tn_command.specs.Outcome.{JudgesOutcome}
 use Rattle.tn_command.specs.Ranged.{TellsRanges}
 use Rattle.tn_command.specs.Solved.{Solves, SolvesInRows}
 use Rattle.tn_command.specs.Supported.{SupportsSet}
+use Rattle.tn_holding.specs.Held.{TellsHoldings}
 use Rattle.tn_run.specs.Tested.{Tests}
 use Rattle.tn_run.specs.Words.{need_of}
 
@@ -35,6 +36,11 @@ abbrev pub ChecksExtra : DocumentData → ExtraData → Said → Type 0
 ChecksExtra doc (arrangement at) said = Judges doc.firms doc.ends (pos 1) at.on (price_at at.prices) said
     × ((surplus : ℤ) → said ≡ Equilibrium surplus → IsEfficientAndStable doc.firms doc.ends at.on (price_at at.prices))
 ChecksExtra doc extra said = ⊥
+
+-- what each firm has in the arrangement of a document, at scale 1, whether the firms meet exchange or not
+abbrev pub FirmsExtra : DocumentData → ExtraData → Said → Type 0
+FirmsExtra doc (arrangement at) said = TellsHoldings doc.firms doc.ends (pos 1) at.on (price_at at.prices) said
+FirmsExtra doc extra said = ⊥
 
 -- the verdict on a document's outcome
 abbrev pub JudgesExtra : DocumentData → ExtraData → Said → Type 0
@@ -59,6 +65,7 @@ EditsExtra doc extra said = ⊥
 -- the defined answer of a command on a document
 abbrev pub IsAnswerOf : Command → DocumentData → Said → Type 0
 IsAnswerOf Check doc said = ChecksExtra doc doc.extra said
+IsAnswerOf Firms doc said = FirmsExtra doc doc.extra said
 IsAnswerOf Judge doc said = JudgesExtra doc doc.extra said
 IsAnswerOf Range doc said = TellsRanges doc.firms doc.ends said
 IsAnswerOf Replay doc said = ReplaysExtra doc doc.extra said

@@ -8,13 +8,14 @@ use Rattle.tn_read_head.specs.Beside.{Stop}
 use Rattle.tn_plain_data.specs.declared.said.Said.{Said}
 use Rattle.tn_plain_data.specs.declared.said.Said.TheVariants.{ReadFault, NoMemory, Fault}
 use Rattle.tn_run.specs.declared.command.Command.{Command}
-use Rattle.tn_run.specs.declared.command.Command.TheVariants.{Check, Judge, Range, Replay, Session, Solve, SolveRows, Support, Test}
+use Rattle.tn_run.specs.declared.command.Command.TheVariants.{Check, Firms, Judge, Range, Replay, Session, Solve, SolveRows, Support, Test}
 use Rattle.tn_run.specs.Answer.{FindsTooLong, JudgesExtra}
 use Rattle.tn_run.specs.Words.{need_of}
 
 -- whether the headline speaks of a command
 abbrev pub is_headlined : Command → Bool
 is_headlined Check = false
+is_headlined Firms = false
 is_headlined Judge = true
 is_headlined Range = false
 is_headlined Replay = false

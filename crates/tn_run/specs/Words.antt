@@ -5,16 +5,17 @@ use Rattle.std.specs.Char.{is_ascii_digit}
 use Rattle.std.specs.Str.{bytes_eq}
 use Rattle.std.specs.Str.Parse.{digits_value}
 use Rattle.tn_file.specs.declared.need.Need.{Need}
-use Rattle.tn_file.specs.declared.need.Need.TheVariants.{Market, Raw, Arrangement, On, Outcome, Edits, Claim}
+use Rattle.tn_file.specs.declared.need.Need.TheVariants.{Market, Raw, Arrangement, RawArrangement, On, Outcome, Edits, Claim}
 use Rattle.tn_plain_data.specs.declared.said.Page.{Page}
 use Rattle.tn_plain_data.specs.declared.said.Page.TheVariants.{Help, Version}
 use Rattle.tn_run.specs.declared.command.Command.{Command}
-use Rattle.tn_run.specs.declared.command.Command.TheVariants.{Check, Judge, Range, Replay, Session, Solve, SolveRows, Support, Test}
+use Rattle.tn_run.specs.declared.command.Command.TheVariants.{Check, Firms, Judge, Range, Replay, Session, Solve, SolveRows, Support, Test}
 
 -- the command that reads a document and is one word
 abbrev pub word_command : List ℕ → Option Command
 word_command word =
     if bytes_eq word (codes "check") then Some Check
+    else if bytes_eq word (codes "firms") then Some Firms
     else if bytes_eq word (codes "judge") then Some Judge
     else if bytes_eq word (codes "range") then Some Range
     else if bytes_eq word (codes "replay") then Some Replay
@@ -37,6 +38,7 @@ case_command text = if bytes_eq text (codes "solve --csv") then Some SolveRows e
 
 abbrev pub need_of : Command → Need
 need_of Check = Arrangement
+need_of Firms = RawArrangement
 need_of Judge = Outcome
 need_of Range = Market
 need_of Replay = Claim

@@ -19,6 +19,7 @@ use tn_command::{
     states_after,
 };
 use tn_file::{DocRefusal, Document, Extra, Loaded, Need, read_doc};
+use tn_holding::firm_holdings;
 use tn_io::{ReadStop, Source, read_all};
 use tn_market::{Fault, Place, Said};
 
@@ -40,6 +41,24 @@ fn check_document(alloc: Global, doc: &Document) -> Result<Said, OutOfMemory>
                 unreachable!(),
         },
         Loaded::Raw(_) => unreachable!(),
+    }
+}
+
+/// The answer of `firms` on a document.
+fn firms_document(alloc: Global, doc: &Document) -> Result<Said, OutOfMemory>
+    requires document { IsDocument Need.RawArrangement (document_view doc.now) }
+    requires loaded { IsLoadedFor Need.RawArrangement doc.now.extra doc.now.firms }
+    requires extra { IsExtraFor Need.RawArrangement doc.now.extra }
+    ensures answer { IfOk result (IsAnswerOf Command.Firms (document_view doc.now)) }
+    ensures within { IfOk result IsWithinClaims }
+{
+    match &doc.firms {
+        Loaded::Raw(net) => match &doc.extra {
+            Extra::Arrangement(at) => firm_holdings(alloc, net.firms(), net.ends(), at),
+            Extra::None | Extra::On(_) | Extra::Outcome(_) | Extra::Edits(_) | Extra::Claim(_) =>
+                unreachable!(),
+        },
+        Loaded::Market(_) => unreachable!(),
     }
 }
 
@@ -186,6 +205,7 @@ fn answer_document(alloc: Global, command: Command, doc: &Document) -> Result<Sa
 {
     match command {
         Command::Check => check_document(alloc, doc),
+        Command::Firms => firms_document(alloc, doc),
         Command::Judge => judge_document(alloc, doc),
         Command::Range => range_document(alloc, doc),
         Command::Replay => replay_document(alloc, doc),

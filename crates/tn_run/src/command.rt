@@ -11,6 +11,8 @@ use tn_shape::value_of_word;
 pub enum Command {
     /// To judge a document's arrangement.
     Check,
+    /// To say what each firm has in a document's arrangement, and what it would rather have.
+    Firms,
     /// To give the verdict on a document's outcome.
     Judge,
     /// To find how far each price of a document's network may move.
@@ -37,6 +39,7 @@ fn word_command(word: &str) -> Option<Command>
         word,
         &[
             ("check", Command::Check),
+            ("firms", Command::Firms),
             ("judge", Command::Judge),
             ("range", Command::Range),
             ("replay", Command::Replay),
@@ -83,6 +86,7 @@ pub fn need_of(command: Command) -> Need
 {
     match command {
         Command::Check => Need::Arrangement,
+        Command::Firms => Need::RawArrangement,
         Command::Judge => Need::Outcome,
         Command::Range | Command::Solve | Command::SolveRows => Need::Market,
         Command::Replay => Need::Claim,

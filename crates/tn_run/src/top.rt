@@ -61,6 +61,13 @@ pub fn status_of(said: &Said) -> u8
         | Said::Blocks { .. }
         | Said::Invalid(_) => 6,
         Said::Cases { failed, .. } => { if failed.len() == 0 { 0 } else { 6 } }
+        Said::Firms { content, firms, .. } => {
+            if *content as usize == firms.len() {
+                0
+            } else {
+                6
+            }
+        }
     }
 }
 

@@ -295,4 +295,36 @@ support
 
 support
 {"version":1,"firms":[{"name":"S","kind":"table","rows":[[["a"],-3]]},{"name":"B","kind":"table","rows":[[["a"],5]]}],"trades":[{"name":"a","seller":"S","buyer":"B"}],"arrangement":{"on":["a","a"]}}
-1 {"answer":"fault","fault":17,"name":"SameTrade","place":["arrangement","on",1]}"#;
+1 {"answer":"fault","fault":17,"name":"SameTrade","place":["arrangement","on",1]}
+
+firms
+{"version":1,"firms":[{"name":"O1","kind":"laminar","amounts":[["o1d",-4],["o1b1",-4],["o1b2",-4]],"sets":[{"trades":["o1d","o1b1","o1b2"],"from":-1,"values":[0,0]}]},{"name":"O2","kind":"laminar","amounts":[["o2d",-6],["o2b1",-6],["o2b2",-6],["o2b3",-6]],"sets":[{"trades":["o2d","o2b1","o2b2","o2b3"],"from":-1,"values":[0,0]}]},{"name":"D","kind":"middleman","costs":[["o1d",1],["o2d",2]]},{"name":"B1","kind":"laminar","amounts":[["db1",12],["o1b1",9],["o2b1",9]],"sets":[{"trades":["db1","o1b1","o2b1"],"from":0,"values":[0,0]}]},{"name":"B2","kind":"laminar","amounts":[["db2",9],["o1b2",8],["o2b2",9]],"sets":[{"trades":["db2","o1b2","o2b2"],"from":0,"values":[0,0]}]},{"name":"B3","kind":"laminar","amounts":[["db3",11],["o2b3",8]],"sets":[{"trades":["db3","o2b3"],"from":0,"values":[0,0]}]}],"trades":[{"name":"o1d","seller":"O1","buyer":"D"},{"name":"o2d","seller":"O2","buyer":"D"},{"name":"db1","seller":"D","buyer":"B1"},{"name":"db2","seller":"D","buyer":"B2"},{"name":"db3","seller":"D","buyer":"B3"},{"name":"o1b1","seller":"O1","buyer":"B1"},{"name":"o1b2","seller":"O1","buyer":"B2"},{"name":"o2b1","seller":"O2","buyer":"B1"},{"name":"o2b2","seller":"O2","buyer":"B2"},{"name":"o2b3","seller":"O2","buyer":"B3"}],"arrangement":{"on":["o1d","db1","o2b2"],"prices":[["o1d",8],["o2d",8],["db1",11],["db2",11],["db3",11],["o1b1",8],["o1b2",8],["o2b1",8],["o2b2",8],["o2b3",8]]}}
+0 {"answer":"firms","content":6,"firms":[{"best":["o1d"],"best_utility":4,"firm":"O1","gain":0,"has":["o1d"],"utility":4,"worth":-4},{"best":["o2b2"],"best_utility":2,"firm":"O2","gain":0,"has":["o2b2"],"utility":2,"worth":-6},{"best":["o1d","db1"],"best_utility":2,"firm":"D","gain":0,"has":["o1d","db1"],"utility":2,"worth":-1},{"best":["db1"],"best_utility":1,"firm":"B1","gain":0,"has":["db1"],"utility":1,"worth":12},{"best":["o2b2"],"best_utility":1,"firm":"B2","gain":0,"has":["o2b2"],"utility":1,"worth":9},{"best":[],"best_utility":0,"firm":"B3","gain":0,"has":[],"utility":0,"worth":0}],"surplus":10}
+
+firms
+{"version":1,"firms":[{"name":"S","kind":"table","rows":[[["a"],-1],[["b"],-1],[["a","b"],-2]]},{"name":"B","kind":"table","rows":[[["a"],0],[["b"],0],[["a","b"],10]]}],"trades":[{"name":"a","seller":"S","buyer":"B"},{"name":"b","seller":"S","buyer":"B"}],"arrangement":{"on":[],"prices":[["a",0],["b",0]]}}
+6 {"answer":"firms","content":1,"firms":[{"best":[],"best_utility":0,"firm":"S","gain":0,"has":[],"utility":0,"worth":0},{"best":["a","b"],"best_utility":10,"firm":"B","gain":10,"has":[],"utility":0,"worth":0}],"surplus":0}
+
+firms
+{"version":1,"firms":[{"name":"S","kind":"table","rows":[[["a"],-1],[["b"],-1],[["a","b"],-2]]},{"name":"B","kind":"table","rows":[[["a"],0],[["b"],0],[["a","b"],10]]}],"trades":[{"name":"a","seller":"S","buyer":"B"},{"name":"b","seller":"S","buyer":"B"}],"arrangement":{"on":["a","b"],"prices":[["a",4],["b",4]]}}
+0 {"answer":"firms","content":2,"firms":[{"best":["a","b"],"best_utility":6,"firm":"S","gain":0,"has":["a","b"],"utility":6,"worth":-2},{"best":["a","b"],"best_utility":2,"firm":"B","gain":0,"has":["a","b"],"utility":2,"worth":10}],"surplus":8}
+
+firms
+{"version":1,"firms":[{"name":"S","kind":"table","rows":[[["a"],-1],[["b"],-1],[["a","b"],-2]]},{"name":"B","kind":"table","rows":[[["a"],0],[["b"],0],[["a","b"],10]]}],"trades":[{"name":"a","seller":"S","buyer":"B"},{"name":"b","seller":"S","buyer":"B"}],"arrangement":{"on":["a"],"prices":[["a",6],["b",6]]}}
+6 {"answer":"firms","content":0,"firms":[{"best":["a","b"],"best_utility":10,"firm":"S","gain":5,"has":["a"],"utility":5,"worth":-1},{"best":[],"best_utility":0,"firm":"B","gain":6,"has":["a"],"utility":-6,"worth":0}],"surplus":-1}
+
+firms
+{"version":2,"firms":[{"name":"S","kind":"laminar"},{"name":"B","kind":"table","rows":[[["a","b","c"],10]]}],"trades":[{"name":"a","seller":"S","buyer":"B"},{"name":"b","seller":"S","buyer":"B"},{"name":"c","seller":"S","buyer":"B"}],"arrangement":{"on":[],"prices":[["a",1],["b",1],["c",1]]}}
+6 {"answer":"firms","content":0,"firms":[{"best":["a","b","c"],"best_utility":3,"firm":"S","gain":3,"has":[],"utility":0,"worth":0},{"best":["a","b","c"],"best_utility":7,"firm":"B","gain":7,"has":[],"utility":0,"worth":0}],"surplus":0}
+
+firms
+{"version":1,"firms":[{"name":"S","kind":"table","rows":[]},{"name":"B","kind":"table","rows":[[["a"],5]]}],"trades":[{"name":"a","seller":"S","buyer":"B"}],"arrangement":{"on":["a"],"prices":[["a",3]]}}
+6 {"answer":"firms","content":1,"firms":[{"best":[],"best_utility":0,"firm":"S","gain":null,"has":["a"],"utility":null,"worth":null},{"best":["a"],"best_utility":2,"firm":"B","gain":0,"has":["a"],"utility":2,"worth":5}],"surplus":null}
+
+firms
+{"version":1,"firms":[],"trades":[],"arrangement":{"on":[],"prices":[]}}
+0 {"answer":"firms","content":0,"firms":[],"surplus":0}
+
+firms
+{"version":1,"firms":[{"name":"S","kind":"table","rows":[[["a"],-1],[["b"],-1],[["a","b"],-2]]},{"name":"B","kind":"table","rows":[[["a"],0],[["b"],0],[["a","b"],10]]}],"trades":[{"name":"a","seller":"S","buyer":"B"},{"name":"b","seller":"S","buyer":"B"}],"arrangement":{"on":[],"prices":[["a",0]]}}
+1 {"answer":"fault","fault":18,"name":"PriceMissing","place":["arrangement","prices","b"]}"#;

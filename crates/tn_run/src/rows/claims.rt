@@ -126,4 +126,8 @@ judge
 
 judge
 {"version":1,"firms":[{"name":"S","kind":"laminar"},{"name":"B","kind":"laminar"}],"trades":[{"name":"a","seller":"S","buyer":"B"},{"name":"b","seller":"S","buyer":"B"}],"outcome":{"over":100,"contracts":[["b",-100000000000],["a",100000000000]]}}
-6 {"answer":"drops","firm":"S","gain":100000000000,"keeps":["a"],"over":100}"#;
+6 {"answer":"drops","firm":"S","gain":100000000000,"keeps":["a"],"over":100}
+
+replay
+{"version":1,"firms":[{"name":"S","kind":"table","rows":[[["a"],-3]]},{"name":"B","kind":"table","rows":[[["a"],5]]}],"trades":[{"name":"a","seller":"S","buyer":"B"}],"arrangement":{"on":["a"],"prices":[["a",4]]},"claim":{"answer":"firms"}}
+1 {"answer":"fault","fault":3,"name":"Shape","place":["claim","answer"]}"#;
