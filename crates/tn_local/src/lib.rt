@@ -1,5 +1,6 @@
-//! The exchange test on close bundles alone, for tables whose every bundle is possible.
-//! That close bundles decide is a law of `tn_law`; a firm's first triple stands in `specs/`.
+//! The exchange test of tables whose every bundle is possible: by four places at a time.
+//! That close bundles decide, and four places at a time with them, are laws of `tn_law`; a firm's first
+//! triple stands in `specs/`.
 #![tactic(auto)]
 
 mod local;
