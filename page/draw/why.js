@@ -1,0 +1,81 @@
+// The picture of why an answer is so: the changes of a cycle or of ranges, contracts that block, or a failing triple.
+import {changesAlong} from "../read/changes.js";
+import {costs} from "../read/firms.js";
+import {extent, standing} from "../read/standing.js";
+import {itemsOf} from "../read/network.js";
+import {chainPicture} from "./chain.js";
+import {FIRST, foot, INK, LARGE, picture, SECOND, tag, text, widthOf} from "./svg.js";
+import {failingOf, triplePicture} from "./triple.js";
+import {walk} from "./walk.js";
+
+const COST = "A cost is what the firm loses in worth by its change, and a negative one what it gains.";
+
+/** The picture as SVG, or null where an answer has no reason that is drawn. */
+export async function whyPicture(network, said, ask) {
+    if (said.answer === "cycle") return cyclePicture(network, said, ask);
+    if (said.answer === "ranges" && said.ranges.length > 0) return rangesPicture(network, said, ask);
+    if (said.answer === "blocks") return chainPicture(network, said, ask);
+    return failingOf(network, said) === null ? null : triplePicture(network, said, ask);
+}
+
+async function cyclePicture(network, said, ask) {
+    const on = standing(network, said).on ?? [];
+    const changes = changesAlong(network, on, [...said.nodes, said.nodes[0]]);
+    const words = wordsOf(changes, await costs(ask, network, on, changes));
+    const round = {words, nodes: said.nodes, ink: FIRST, isRound: true, says: ""};
+    return framed([round], network, on, `No prices go with these trades: the costs sum to ${said.cost}.`);
+}
+
+async function rangesPicture(network, said, ask) {
+    const paths = said.ranges.flatMap((range) => {
+        const {trade, low, high} = range;
+        const above = high === null ? "no highest price" : `not above ${high}, since these costs sum to ${high}`;
+        const below = low === null ? "no lowest price" : `not below ${low}, since these costs sum to ${-low}`;
+        return [{nodes: range.high_path, ink: FIRST, title: `${trade}: ${extent(range)}`, says: above}, {nodes: range.low_path, ink: SECOND, says: below}];
+    });
+    const changes = paths.map(({nodes}) => changesAlong(network, said.on, nodes));
+    const known = await costs(ask, network, said.on, changes.flat());
+    let used = 0;
+    const parts = paths.map((path, k) => {
+        const ofPath = known.slice(used, (used += changes[k].length));
+        return {...path, isRound: false, words: wordsOf(changes[k], ofPath)};
+    });
+    return framed(parts, network, said.on, "");
+}
+
+/** The words of arrows: the firm, what it would do, and what that costs it. */
+function wordsOf(changes, known) {
+    return changes.map(({firm, acts}, k) => {
+        const told = acts.map(({does, trade}, place) => (place < acts.length - 1 ? `${does} ${trade},` : `${does} ${trade}`));
+        return [`${firm} would`, ...told, ...(known[k] === null ? [] : [`cost ${known[k]}`])];
+    });
+}
+
+/** Walks below each other, each under its title and over what it says. */
+function framed(parts, network, on, caption) {
+    let top = 10, width = 300;
+    const drawn = [];
+    for (const {nodes, words, ink, isRound, title, says} of parts) {
+        if (title) drawn.push(text(16, (top += 22), title, {size: LARGE, anchor: "start", weight: "bold"}));
+        if (says !== "") drawn.push(text(16, (top += 20), says, {ink, anchor: "start"}));
+        width = Math.max(width, widthOf(title ?? "", LARGE) + 32, widthOf(says, 12) + 40);
+        if (nodes.length === 0) continue;
+        const part = walk(nodes.map((node) => nodeOf(network, on, node)), words, {left: 16, top: top + 8, ink, isRound});
+        drawn.push(part.drawn);
+        top += part.height + 8;
+        width = Math.max(width, part.width + 32);
+    }
+    const isPriced = parts.some(({words}) => words.some((lines) => lines.at(-1).startsWith("cost ")));
+    const isOn = parts.some(({nodes}) => nodes.some((node) => on.includes(node)));
+    const thick = (x, y) => tag("rect", {x, y: y - 7, width: 36, height: 14, rx: 4, fill: "#f8fafc", stroke: INK, "stroke-width": 3});
+    const legend = isOn ? [{sample: thick, says: "takes place"}] : [];
+    const lines = [caption, isPriced ? COST : ""].filter(Boolean);
+    const {drawn: below, bottom} = foot(top, Math.max(width, 420), lines, legend);
+    return picture(Math.max(width, 420), bottom, caption || "price ranges", drawn, below);
+}
+
+function nodeOf(network, on, node) {
+    if (node === null) return {name: "no trade", below: "", isOn: false};
+    const {seller, buyer} = network.trade(node);
+    return {name: node, below: `${seller} to ${buyer}`, isOn: itemsOf(on).includes(node)};
+}

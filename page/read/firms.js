@@ -1,0 +1,93 @@
+// What bundles are worth, asked of the program: all numbers that no answer has come from its command `firms`, which is asked
+// about the document with another arrangement.
+import {plain, parse} from "./json.js";
+import {objectOf, withMember} from "./network.js";
+
+/** What `firms` says of an arrangement: a Map from each firm to its line, or null where there is no program or a fault. */
+async function linesAt(ask, network, on, prices = new Map()) {
+    if (ask === null || network.root.kind !== "object") return null;
+    const entries = network.trades.map(({name}) => `[${JSON.stringify(name)},${prices.get(name) ?? 0}]`);
+    const asked = withMember(network, "arrangement", `{"on":${JSON.stringify(on)},"prices":[${entries}]}`);
+    const said = objectOf(plain(parse(await ask(["firms"], asked))));
+    return said.answer === "firms" ? new Map(said.firms.map((line) => [line.firm, line])) : null;
+}
+
+/** What each of some bundles is worth to a firm, in their order; null where it is impossible, or nobody can be asked. */
+export async function worths(ask, network, firm, bundles) {
+    const found = [];
+    for (const bundle of bundles) found.push((await linesAt(ask, network, bundle))?.get(firm)?.worth ?? null);
+    return found;
+}
+
+/**
+ * What each change costs its firm in worth, by the trades that are on; null where that isn't known. A change is `{firm, toggled}`.
+ * Changes that leave each other's firms alone are asked for together.
+ */
+export async function costs(ask, network, on, changes) {
+    const now = await linesAt(ask, network, on);
+    const known = new Map();
+    for (const together of now === null ? [] : apart(network, changes)) {
+        const toggled = new Set(together.flatMap((change) => change.toggled));
+        const then = await linesAt(ask, network, [...on.filter((name) => !toggled.has(name)), ...[...toggled].filter((name) => !on.includes(name))]);
+        for (const change of together) {
+            const worth = then?.get(change.firm)?.worth ?? null, before = now.get(change.firm)?.worth ?? null;
+            if (worth !== null && before !== null) known.set(keyOf(change), before - worth);
+        }
+    }
+    return changes.map((change) => known.get(keyOf(change)) ?? null);
+}
+
+function keyOf({firm, toggled}) {
+    return JSON.stringify([firm, ...[...toggled].sort()]);
+}
+
+/** Changes in groups, each of which toggles at a firm that changes what this firm changes alone. Equal changes are taken once. */
+function apart(network, changes) {
+    const groups = [];
+    for (const change of new Map(changes.map((each) => [keyOf(each), each])).values()) {
+        const meets = (one, other) => other.toggled.some((name) => network.isOf(name, one.firm));
+        const group = groups.find((others) => others.every((other) => !meets(change, other) && !meets(other, change)));
+        if (group) group.push(change);
+        else groups.push([change]);
+    }
+    return groups;
+}
+
+/**
+ * What the firms of contracts that block have by what is signed, and could have with the new ones, as a Map from each to
+ * `{now, then, keeps}`: utilities as numerators over `said.over`, and the signed trades that go on. It asks for a best bundle at
+ * whole prices, at which the new contracts are no dearer than they are, and no trade without a contract is wanted.
+ */
+export async function gains(ask, network, said) {
+    const scale = said.over / network.outcome.over;
+    const signed = new Map(network.outcome.contracts.map(([name, price]) => [name, price * scale]));
+    const all = new Map([...signed, ...said.contracts]);
+    const firms = new Set(said.contracts.flatMap(([name]) => [network.trade(name).seller, network.trade(name).buyer]));
+    const found = new Map();
+    for (const firm of firms) {
+        const line = (await linesAt(ask, network, [...signed.keys()], whole(network, firm, all, said.over)))?.get(firm);
+        if (!line || line.worth === null) continue;
+        const paid = (names, prices) => names.reduce((sum, name) => sum + signOf(network, firm, name) * prices(name), 0n);
+        const asked = whole(network, firm, all, said.over);
+        const now = line.worth * said.over + paid(line.has, (name) => signed.get(name));
+        const then = (line.best_utility - paid(line.best, (name) => asked.get(name))) * said.over + paid(line.best, (name) => all.get(name));
+        if (then > now) found.set(firm, {now, then, keeps: line.best.filter((name) => signed.has(name))});
+    }
+    return found;
+}
+
+function signOf(network, firm, name) {
+    return network.trade(name).seller === firm ? 1n : -1n;
+}
+
+/** Whole prices for one firm: of a contract the next one in its favour, of all else one that it doesn't want. */
+function whole(network, firm, contracts, over) {
+    const unwanted = 100000000000000n;
+    return new Map(network.trades.map(({name}) => {
+        const sign = signOf(network, firm, name);
+        if (!contracts.has(name)) return [name, -sign * unwanted];
+        const towards = contracts.get(name) * sign;
+        const rounded = towards / over + (towards % over > 0n ? 1n : 0n);
+        return [name, rounded * sign];
+    }));
+}

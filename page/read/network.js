@@ -1,0 +1,81 @@
+// A document as what pictures and sentences speak of: its firms, its trades, and its other parts. One with a fault is read as far
+// as it goes, since faults are told too.
+import {NotJson, parse, plain} from "./json.js";
+
+export class Network {
+    /**
+     * Reads the text of a document. Where it is no JSON, `problem` says so, and there are no firms and no trades; of bytes that are
+     * no UTF-8 whoever read them has the problem already.
+     */
+    constructor(text, problem = null) {
+        this.text = text;
+        this.problem = problem;
+        this.root = {kind: "null", start: 0, end: text.length, value: null};
+        try {
+            if (problem === null) this.root = parse(text);
+        } catch (error) {
+            if (!(error instanceof NotJson)) throw error;
+            this.problem = error;
+        }
+        this.data = objectOf(plain(this.root));
+        this.firms = itemsOf(this.data.firms).filter(isObject).map(({name, kind}) => ({name: String(name ?? ""), kind: String(kind ?? "")}));
+        this.trades = itemsOf(this.data.trades).filter(isObject)
+            .map(({name, seller, buyer}) => ({name: String(name ?? ""), seller: String(seller ?? ""), buyer: String(buyer ?? "")}));
+        this.arrangement = objectOf(this.data.arrangement);
+        this.outcome = objectOf(this.data.outcome);
+        this.claim = objectOf(this.data.claim);
+        this.edits = itemsOf(this.data.edits);
+        this.byName = new Map(this.trades.map((trade) => [trade.name, trade]).reverse());
+    }
+
+    /** The trade of a name; of one that isn't there, nobody knows the ends. */
+    trade(name) {
+        return this.byName.get(name) ?? {name: String(name), seller: "?", buyer: "?"};
+    }
+
+    isOf(name, firm) {
+        const {seller, buyer} = this.trade(name);
+        return seller === firm || buyer === firm;
+    }
+
+    /** The names, among some, of a firm's own trades, in the order of the document. */
+    own(firm, names) {
+        const wanted = new Set(names);
+        return this.trades.filter(({name}) => wanted.has(name) && this.isOf(name, firm)).map(({name}) => name);
+    }
+
+    /** The names of the firms that stand before one in the document. */
+    before(firm) {
+        const names = this.firms.map(({name}) => name);
+        return names.slice(0, Math.max(names.indexOf(firm), 0));
+    }
+}
+
+export function isObject(value) {
+    return typeof value === "object" && value !== null && Object.getPrototypeOf(value) === null;
+}
+
+export function objectOf(value) {
+    return isObject(value) ? value : Object.create(null);
+}
+
+export function itemsOf(value) {
+    return Array.isArray(value) ? value : [];
+}
+
+/** The entries of a list of `[name, number]`, as a Map. */
+export function entriesOf(value) {
+    return new Map(itemsOf(value).filter((entry) => Array.isArray(entry) && typeof entry[0] === "string").map(([name, number]) => [name, number]));
+}
+
+/** A numerator over a denominator, as a whole number where it is one. */
+export function fraction(numerator, denominator) {
+    if (typeof numerator !== "bigint" || typeof denominator !== "bigint" || denominator === 0n) return String(numerator);
+    return numerator % denominator === 0n ? String(numerator / denominator) : `${numerator}/${denominator}`;
+}
+
+/** The text of a document with another member, put at its end, since of equal members the last one counts. */
+export function withMember(network, name, value) {
+    const end = network.root.end - 1;
+    return `${network.text.slice(0, end)}${network.root.value.size > 0 ? "," : ""}"${name}":${value}${network.text.slice(end)}`;
+}

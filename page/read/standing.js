@@ -1,0 +1,41 @@
+// What takes place, and at which prices, by a document and an answer to it.
+import {entriesOf, fraction, itemsOf} from "./network.js";
+
+const JUDGED = ["drops", "completes", "blocks"];
+
+/** Whether the answer, or the claim that it decides, is one of `judge`. */
+export function isJudged(network, said) {
+    const decided = said.answer === "valid" || said.answer === "invalid";
+    return JUDGED.includes(decided ? network.claim.answer : said.answer);
+}
+
+/**
+ * As `{on, prices, isSigned}`: the names of the trades that take place, or null where nothing says so, and the price of each as text. An
+ * answer's own trades and prices come before those of the document; of an outcome those are on that are signed,
+ * and `isSigned` says that it is one.
+ */
+export function standing(network, said) {
+    if (isJudged(network, said)) {
+        const {over, contracts} = network.outcome;
+        const own = texts(said.prices ? entriesOf(said.prices) : entriesOf(contracts), over), asked = texts(entriesOf(said.contracts), said.over);
+        return {on: itemsOf(contracts).map((contract) => String(itemsOf(contract)[0])), prices: new Map([...own, ...asked]), isSigned: true};
+    }
+    if (said.answer === "session") {
+        const last = itemsOf(said.edits).at(-1) ?? {on: [], prices: []};
+        return {on: last.on, prices: texts(entriesOf(last.prices))};
+    }
+    const on = said.on ?? network.arrangement.on;
+    return {on: Array.isArray(on) ? on.map(String) : null, prices: texts(entriesOf(said.prices ?? network.arrangement.prices))};
+}
+
+function texts(prices, over = 1n) {
+    return new Map([...prices].map(([name, price]) => [name, fraction(price, over)]));
+}
+
+/** A range of prices in words. */
+export function extent({low, high}) {
+    if (low === null && high === null) return "any price";
+    if (low === high) return String(low);
+    if (high === null) return `${low} or more`;
+    return low === null ? `${high} or less` : `${low} to ${high}`;
+}

@@ -1,0 +1,58 @@
+// Claims in words, and why one isn't so.
+import {entriesOf, fraction, itemsOf} from "../read/network.js";
+import {failingLines} from "./exchange.js";
+import {listed, set} from "./words.js";
+
+const CLAIMED = {
+    equilibrium: ({surplus}) => `that the arrangement is an equilibrium of the surplus ${surplus}`,
+    solved: ({surplus}) => `that its trades and prices are an equilibrium of the surplus ${surplus}`,
+    prices: () => "that its prices support the trades that are on",
+    better: ({firm, gain, bundle}) => `that ${firm} would gain ${gain} with ${set(bundle)}`,
+    impossible: ({firm}) => `that what ${firm} has is impossible`,
+    cycle: ({nodes, cost}) => `that ${listed(nodes.map(String))} are a cycle of the cost ${cost}`,
+    accepted: () => "that each firm meets the exchange property",
+    exchange_fails: ({firm, x, y, at}) => at === null ? `that ${firm} fails the exchange property between x = ${set(x)} and y = ${set(y)}`
+        : `that ${firm} fails the exchange property between x = ${set(x)} and y = ${set(y)}, at ${at}`,
+    drops: ({firm, keeps, gain, over}) => gain === null ? `that ${firm} would keep ${listed(keeps)} of its contracts, which together are impossible`
+        : `that ${firm} would keep ${listed(keeps)} of its contracts and gain ${fraction(gain, over)}`,
+    completes: () => "that its prices complete what is signed",
+    blocks: ({contracts, over}) => contracts.length === 0 ? "that no contracts would block what is signed"
+        : `that ${listed(contracts.map(([name, price]) => `${name} at ${fraction(price, over)}`))} would block what is signed`,
+};
+
+/** What a claim says, after "It says". */
+export function claimed({claim}) {
+    return CLAIMED[claim.answer]?.(claim) ?? "what it says";
+}
+
+/** The condition of the claim that fails, in sentences. */
+export async function failed(network, said, ask) {
+    if (said.reason === "exchange") return [`${said.firm} doesn't.`, ...await failingLines(network, said, ask)];
+    return [REASONS[said.reason]?.(said, network) ?? `The reason is ${said.reason}.`];
+}
+
+const REASONS = {
+    impossible: ({firm}, {claim}) => claim.answer === "better" ? `What ${firm} has, or what it is said to want, is impossible for it.`
+        : claim.answer === "drops" ? `What ${firm} is said to keep is impossible for it.` : `What ${firm} has is impossible for it.`,
+    better: ({firm, bundle}) => bundle.length === 0 ? `${firm} would rather trade nothing: at these prices that is best for it, and what it has isn't.`
+        : `${firm} would rather have ${listed(bundle)}: at these prices that is best for it, and what it has isn't.`,
+    possible: () => "It is possible.",
+    surplus: ({surplus}) => `The worths sum to ${surplus}.`,
+    gain: ({firm, gain}, {claim, outcome}) => {
+        if (gain === null) return `All contracts of ${firm} together are impossible, so there is nothing to compare with.`;
+        const number = claim.answer === "drops" ? fraction(gain, outcome.over) : gain;
+        return gain > 0n ? `It would gain ${number}.` : `It would gain nothing: its utility would change by ${number}.`;
+    },
+    holds: () => "There they meet it.",
+    arc: ({index}, {claim: {nodes}}) => `There is no arc from ${nodes[Number(index)]} to ${nodes[(Number(index) + 1) % nodes.length]}.`,
+    cost: ({cost}) => cost < 0n ? `The costs sum to ${cost}.` : `The costs sum to ${cost}, which isn't negative.`,
+    contract: ({trade}) => `${trade} isn't signed.`,
+    over: ({over}) => `The denominator of what is signed is ${over}.`,
+    price: ({trade}, {claim, outcome}) => {
+        const [signed, said] = [outcome.contracts, claim.prices].map((entries) => entriesOf(itemsOf(entries)).get(trade));
+        return `${trade} is signed at ${fraction(signed, outcome.over)}, and not at ${fraction(said, claim.over)}.`;
+    },
+    empty: () => "It names no contract.",
+    signed: ({trade}) => `${trade} is signed already, at this very price.`,
+    choice: ({firm, trade}) => `${firm} does as well as it can without ${trade}.`,
+};

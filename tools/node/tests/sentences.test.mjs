@@ -1,0 +1,69 @@
+// Whether every answer to an example has sentences, with the numbers that `firms` says, and none is said of another document.
+import assert from "node:assert/strict";
+import {test} from "node:test";
+import {belongs, isSo, NoAnswer, readAnswer} from "../../../page/read/answer.js";
+import {costs, gains, worths} from "../../../page/read/firms.js";
+import {Network} from "../../../page/read/network.js";
+import {explain} from "../../../page/say/explain.js";
+import {askOf} from "../ask.mjs";
+import {examples, has} from "./support.mjs";
+
+const ask = askOf(), skip = ask === null && "there is no program";
+const COMMANDS = ["check", "test", "support", "solve", "range", "session", "judge", "replay"];
+
+test("every answer to an example is told in sentences", {skip}, async () => {
+    const hasFirms = await has(ask, "firms");
+    for (const {name, bytes} of examples()) {
+        const network = new Network(bytes.toString());
+        for (const command of hasFirms ? [...COMMANDS, "firms"] : COMMANDS) {
+            const said = readAnswer(await ask([command], bytes));
+            belongs(network, said);
+            await isSo(network, said, ask);
+            const lines = await explain(network, said, hasFirms ? ask : null);
+            for (const line of lines) assert.match(line, /^(  )?\S.*[.:]$/, `${name} ${command}`);
+            assert.doesNotMatch(lines.join(" "), /undefined|\[object|NaN|\?/, `${name} ${command}`);
+        }
+    }
+});
+
+/** A program for the network of one trade that is worth -3 to S and 5 to B, of which it knows `firms` alone. */
+async function small(words, document) {
+    assert.deepEqual(words, ["firms"]);
+    const {arrangement: {on}} = JSON.parse(document);
+    const line = (firm, worth) => ({best: on, best_utility: 9, firm, gain: 0, has: on, utility: 9, worth});
+    return JSON.stringify({answer: "firms", content: 2, firms: [line("S", on.length * -3), line("B", on.length * 5)], surplus: 2});
+}
+
+test("what a change costs, and what bundles are worth, is asked of the program", async () => {
+    const network = new Network(examples().find(({name}) => name === "one-trade-off.json").bytes.toString());
+    const changes = [{firm: "S", toggled: ["a"]}, {firm: "B", toggled: ["a"]}];
+    assert.deepEqual(await costs(small, network, [], changes), [3n, -5n]);
+    assert.deepEqual(await costs(null, network, [], changes), [null, null]);
+    assert.deepEqual(await worths(small, network, "B", [["a"], []]), [5n, 0n]);
+    const lines = await explain(network, readAnswer('{"answer":"cycle","cost":-2,"nodes":[null,"a"]}'), small);
+    assert.deepEqual(lines.slice(1, 3), ["S would sell a to B at a cost of 3 in worth.", "B would buy a from S and gain 5 in worth."]);
+});
+
+test("what firms have before and after contracts that block", {skip}, async (context) => {
+    if (!await has(ask, "firms")) return context.skip("the program has no firms");
+    const {bytes} = examples().find(({name}) => name === "used-cars-bypassed.json"), network = new Network(bytes.toString());
+    const found = await gains(ask, network, readAnswer(await ask(["judge"], bytes)));
+    assert.deepEqual(found.get("O1"), {now: 51n, then: 52n, keeps: []});
+    return undefined;
+});
+
+test("a fault is told with its limit and its place in the text", async () => {
+    const trades = JSON.stringify({version: 2, firms: [], trades: Array(246).fill({})}).replace('"trades"', '\n"trades"');
+    const lines = await explain(new Network(trades), readAnswer('{"answer":"fault","fault":9,"name":"Limit","place":["trades"]}'), null);
+    assert.deepEqual(lines.slice(1), ["It is found at trades: line 2, column 10.", "246 trades; a document of version 2 has at most 128."]);
+    const broken = await explain(new Network('{"a":1,}'), readAnswer('{"answer":"fault","fault":1,"name":"NotJson","place":[]}'), null);
+    assert.equal(broken[1], "It is found at line 1, column 8: a member begins with its name in quotes.");
+});
+
+test("an answer to another document is told", () => {
+    const network = new Network(examples().find(({name}) => name === "one-trade.json").bytes.toString());
+    const others = ['{"answer":"better","bundle":["o2d"],"firm":"S","gain":1}', '{"answer":"impossible","firm":"D"}', '{"answer":"prices","prices":[["a",1],["a",2]]}',
+        '{"answer":"fault","fault":1,"name":"NotJson","place":[]}', '{"answer":"fault","fault":8,"name":"UnknownTrade","place":["edits",3,0]}'];
+    for (const text of others) assert.throws(() => belongs(network, readAnswer(text)), NoAnswer, text);
+    for (const text of ["", "[]", "{}", "trade,on,price", '{"answer":"solved"}']) assert.throws(() => readAnswer(text), NoAnswer);
+});
