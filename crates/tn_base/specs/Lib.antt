@@ -3,6 +3,7 @@ pub mod Firm
 pub mod Exchange
 pub mod Table
 pub mod Faults
+pub mod Widths
 pub mod Arcs
 pub mod Options
 pub mod Walks

@@ -1,5 +1,6 @@
-ghost use Rattle.std.specs.Prelude.{◌≡◌, ℕ, ◌<◌, ◌^◌, ℤ, Option};
+ghost use Rattle.std.specs.Prelude.{◌≡◌, ℕ, ◌<◌, ℤ, Option};
 ghost use Rattle.tn_base.specs.Arcs.{AreBetweenNodes, AreSmall};
+ghost use Rattle.tn_base.specs.Widths.{most_cost};
 
 /// A directed graph by the costs of its arcs. Nodes are numbered from 0.
 pub trait Costs {
@@ -23,5 +24,5 @@ pub trait Costs {
     ghost between_nodes: { (costs : Self) → AreBetweenNodes (node_count costs) (arc costs) };
 
     /// No cost is above 10^18 in size.
-    ghost small: { (costs : Self) → AreSmall (arc costs) (10 ^ 18) };
+    ghost small: { (costs : Self) → AreSmall (arc costs) most_cost };
 }

@@ -1,7 +1,8 @@
-ghost use Rattle.std.specs.Prelude.{◌≡◌, ℕ, ◌*◌, ◌^◌, ◌<◌, ◌≤◌, nat_eq};
+ghost use Rattle.std.specs.Prelude.{◌≡◌, ◌*◌, ◌^◌, ◌<◌, ◌≤◌, nat_eq};
 ghost use Rattle.std.specs.Cmp.{partial_equiv_from_equiv};
 ghost use Rattle.std.proofs.lemmas.Cmp.{nat_eq_equiv};
 ghost use Rattle.tn_base.specs.Sets.{has, toggle, union, meet, minus, size};
+ghost use Rattle.tn_base.specs.Widths.{most_limbs};
 
 use std::marker::Model;
 
@@ -12,19 +13,20 @@ pub struct TradeSet<const W: usize> {
 }
 
 impl<const W: usize> Model for TradeSet<W> {
-    ghost use Rattle.std.specs.Prelude.{ℕ};
+    ghost use Rattle.std.specs.Prelude.{ℕ, ◌≤◌};
     ghost use Rattle.tn_base.specs.Limbs.{AreLimbs, joined, limbs_of};
     ghost use Rattle.tn_base.specs.LimbLemmas.{limbs_of-joined};
+    ghost use Rattle.tn_base.specs.Widths.{most_limbs};
 
     ghost Value = { ℕ };
 
     ghost view = { λ set. joined set.limbs };
 
-    ghost invariant = { λ set. AreLimbs W set.limbs };
+    ghost invariant = { λ set. (W ≤ most_limbs) × AreLimbs W set.limbs };
 
     ghost inverse = { λ x. record { limbs = limbs_of W x } };
 
-    ghost inverse_ok = { λ set fine i. record { limbs = limbs_of-joined W set.limbs fine.counted fine.words i } };
+    ghost inverse_ok = { λ set fine i. record { limbs = limbs_of-joined W set.limbs fine.1.counted fine.1.words i } };
 }
 
 // By hand, since a derived comparison would be known as one of lists of words, and not as one of sets.
@@ -45,7 +47,7 @@ impl<const W: usize> Eq for TradeSet<W> {
 impl<const W: usize> TradeSet<W> {
     /// The set of no trade.
     pub fn empty() -> TradeSet<W>
-        requires { W ≤ 16 }
+        requires width { W ≤ most_limbs }
         ensures { result ≡ 0 }
     {
         TradeSet { limbs: [0; W] }
@@ -53,7 +55,6 @@ impl<const W: usize> TradeSet<W> {
 
     /// Whether trade `t` is a member. `t` is below `64 * W`.
     pub fn has(&self, t: u32) -> bool
-        requires width { W ≤ 16 }
         requires inside { t < 64 * W }
         ensures { result ≡ has self.now t }
     {
@@ -62,7 +63,6 @@ impl<const W: usize> TradeSet<W> {
 
     /// Moves trade `t` in or out. `t` is below `64 * W`.
     pub fn toggle(&mut self, t: u32)
-        requires width { W ≤ 16 }
         requires inside { t < 64 * W }
         ensures toggled { self.new ≡ toggle self.old t }
         ensures within { self.new < 2 ^ (64 * W) }
@@ -72,7 +72,6 @@ impl<const W: usize> TradeSet<W> {
 
     /// How many trades are members.
     pub fn count(&self) -> u32
-        requires { W ≤ 16 }
         ensures members { result ≡ size self.now }
         ensures few { result ≤ 64 * W }
     {
@@ -85,7 +84,6 @@ impl<const W: usize> TradeSet<W> {
 
     /// The trades in either set.
     pub fn union(&self, other: &TradeSet<W>) -> TradeSet<W>
-        requires { W ≤ 16 }
         ensures members { result ≡ union self.now other.now }
         ensures within { result < 2 ^ (64 * W) }
     {
@@ -98,7 +96,6 @@ impl<const W: usize> TradeSet<W> {
 
     /// The trades in both sets.
     pub fn meet(&self, other: &TradeSet<W>) -> TradeSet<W>
-        requires { W ≤ 16 }
         ensures members { result ≡ meet self.now other.now }
         ensures within { result < 2 ^ (64 * W) }
     {
@@ -111,7 +108,6 @@ impl<const W: usize> TradeSet<W> {
 
     /// The trades that aren't in the other set.
     pub fn minus(&self, other: &TradeSet<W>) -> TradeSet<W>
-        requires { W ≤ 16 }
         ensures members { result ≡ minus self.now other.now }
         ensures within { result < 2 ^ (64 * W) }
     {

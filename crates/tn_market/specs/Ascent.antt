@@ -7,6 +7,7 @@ use Rattle.tn_base.specs.declared.side.Side.{Side}
 use Rattle.tn_base.specs.declared.side.Side.TheVariants.{Buy, Sell}
 use Rattle.tn_market.specs.declared.bundle_value.BundleValue.{BundleValue}
 use Rattle.tn_plain_data.specs.Prices.{price_at}
+use Rattle.tn_market.specs.Widths.{most_own, most_worth, most_scale, most_utility}
 
 -- the values that a search compares, as a firm: only within the allowed positions, the worth counted `scale` times, and
 -- a gain for each position beside it
@@ -16,12 +17,12 @@ aimed allowed scale gains firm = among allowed (plus_sum scale (price_at gains) 
 -- the numbers of a search are within its limits
 pub record IsAim (allowed : ℕ) (scale : ℤ) (gains : List ℤ) (limit : ℕ) (firm : Firm) : Type 0 where
   pub own : allowed < 2 ^ firm.count
-  pub few : firm.count ≤ 32
+  pub few : firm.count ≤ most_own
   pub counted : firm.count ≤ length gains
-  pub small_gains : All (λ gain. IsAtMost gain (2 * 10 ^ 22)) gains
+  pub small_gains : All (λ gain. IsAtMost gain (2 * most_utility)) gains
   pub from_one : pos 1 ≤ℤ scale
-  pub small_scale : scale ≤ℤ pos 10000000
-  pub small_worths : limit ≤ 10 ^ 11
+  pub small_scale : scale ≤ℤ pos most_scale
+  pub small_worths : limit ≤ most_worth
 
 -- no possible bundle with position i toggled, or with it and one below j, has more than the value
 pub record IsBesideBest (value_of : ℕ → Option ℤ) (from i j : ℕ) (value : ℤ) : Type 0 where
@@ -58,7 +59,7 @@ pub record TriesNearby (value_of : ℕ → Option ℤ) (from n : ℕ) (before af
 
 -- what a wanted position is worth beside everything else
 abbrev pub bonus : ℕ → ℕ → ℤ
-bonus need k = if has need k then pos (10 ^ 22) else pos 0
+bonus need k = if has need k then pos most_utility else pos 0
 
 -- what a position adds to the value of a bundle: what the firm gets for it, and the bonus
 abbrev pub gain_at : ℕ → (ℕ → ℤ) → ℕ → ℕ → ℤ
@@ -71,6 +72,6 @@ payment_of Sell price = price
 
 -- the list has what each of the first n positions adds
 pub record AreGains (buys need : ℕ) (prices : List ℤ) (n : ℕ) (gains : List ℤ) : Type 0 where
-  pub counted : length gains ≡ 32
-  pub small : All (λ gain. IsAtMost gain (2 * 10 ^ 22)) gains
+  pub counted : length gains ≡ most_own
+  pub small : All (λ gain. IsAtMost gain (2 * most_utility)) gains
   pub each : (k : ℕ) → k < n → price_at gains k ≡ gain_at buys (price_at prices) need k

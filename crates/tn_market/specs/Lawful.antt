@@ -2,6 +2,7 @@
 use Rattle.std.specs.Prelude.{ℕ, ◌^◌, ◌<◌, ◌≤◌}
 use Rattle.tn_base.specs.Firm.{Firm, HasOwnBundles, MayAbstain}
 use Rattle.tn_market.specs.Valued.{ExchangesOne, ExchangesNet, IsWorthAtMost}
+use Rattle.tn_market.specs.Widths.{most_limit}
 
 pub record IsLawful (limit : ℕ) (firm : Firm) : Type 0 where
   pub few_trades : firm.count ≤ 64
@@ -11,12 +12,12 @@ pub record IsLawful (limit : ℕ) (firm : Firm) : Type 0 where
   pub exchange_one : ExchangesOne firm
   pub exchange_net : ExchangesNet firm
   pub within : IsWorthAtMost limit firm
-  pub small_limit : limit ≤ 10 ^ 18
+  pub small_limit : limit ≤ most_limit
 
 -- what a type of firms shows one by one, for each of its firms
 pub lawful : {V : Type 0} (firm_of : V → Firm) (limit_of : V → ℕ) → ((v : V) → (firm_of v).count ≤ 64) → ((v : V) → (firm_of v).buys < 2 ^ (firm_of v).count)
     → ((v : V) → HasOwnBundles (firm_of v)) → ((v : V) → MayAbstain (firm_of v)) → ((v : V) → ExchangesOne (firm_of v)) → ((v : V) → ExchangesNet (firm_of v))
-    → ((v : V) → IsWorthAtMost (limit_of v) (firm_of v)) → ((v : V) → limit_of v ≤ 10 ^ 18) → (v : V) → IsLawful (limit_of v) (firm_of v)
+    → ((v : V) → IsWorthAtMost (limit_of v) (firm_of v)) → ((v : V) → limit_of v ≤ most_limit) → (v : V) → IsLawful (limit_of v) (firm_of v)
 lawful firm_of limit_of few own_purchases own_bundles empty one net_count within small v = record {
   few_trades = few v;
   own_purchases = own_purchases v;

@@ -2,6 +2,7 @@
 use Rattle.std.specs.Prelude.{ℕ, ◌+◌, ◌*◌, ◌^◌, ◌≤◌, ℤ, pos, neg_ℤ, ◌≤ℤ◌, unsigned_abs, if◌then◌else◌}
 use Rattle.tn_base.specs.Sets.{has}
 use Rattle.tn_base.specs.Firm.{Firm, plus_sum}
+use Rattle.tn_market.specs.Widths.{most_limit}
 
 -- what a position adds: minus the tax where it is taxed
 abbrev pub levy : ℕ → ℤ → ℕ → ℤ
@@ -19,4 +20,4 @@ levied_limit scale tax limit = unsigned_abs scale * limit + 64 * unsigned_abs ta
 pub record IsLevy (scale tax : ℤ) (limit : ℕ) : Type 0 where
   pub from_one : pos 1 ≤ℤ scale
   pub from_zero : pos 0 ≤ℤ tax
-  pub small : levied_limit scale tax limit ≤ 10 ^ 18
+  pub small : levied_limit scale tax limit ≤ most_limit

@@ -1,3 +1,4 @@
+pub mod Widths
 pub mod Equilibrium
 pub mod Graph
 pub mod Supported

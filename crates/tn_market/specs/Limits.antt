@@ -1,17 +1,19 @@
 -- The limits of markets and outcomes that may be judged.
-use Rattle.std.specs.Prelude.{◌≡◌, ℕ, ◌^◌, ◌≤◌, ℤ, List, length, slice_get, Some}
+use Rattle.std.specs.Prelude.{◌≡◌, ℕ, ◌≤◌, ℤ, List, length, slice_get, Some}
 use Rattle.tn_base.specs.Firm.{Firm}
 use Rattle.tn_plain_data.specs.declared.ends.Ends.{Ends}
 use Rattle.tn_plain_data.specs.declared.contract.Contract.{Contract}
+use Rattle.tn_plain_data.specs.Limits.{most_firms, most_trades}
 use Rattle.tn_plain_data.specs.OutcomeLimits.{IsOutcomeWithin}
 use Rattle.tn_market.specs.Traded.{Traded}
+use Rattle.tn_market.specs.Widths.{most_own, most_worth}
 
--- a market of at most 128 firms and 128 trades, where each firm has at most 32 trades and no worth above 10^11
+-- a market with no more firms and trades than a document, where each firm may be asked for best bundles
 pub record IsWithinLimits {V : Type 0} (firm_of : V → Firm) (limit_of : V → ℕ) (market : Traded V) : Type 0 where
-  pub few_firms : length market.firms ≤ 128
-  pub few_trades : length market.trades ≤ 128
-  pub few_own : (f : ℕ) (v : V) → slice_get market.firms f ≡ Some v → (firm_of v).count ≤ 32
-  pub small_worths : (f : ℕ) (v : V) → slice_get market.firms f ≡ Some v → limit_of v ≤ 10 ^ 11
+  pub few_firms : length market.firms ≤ most_firms
+  pub few_trades : length market.trades ≤ most_trades
+  pub few_own : (f : ℕ) (v : V) → slice_get market.firms f ≡ Some v → (firm_of v).count ≤ most_own
+  pub small_worths : (f : ℕ) (v : V) → slice_get market.firms f ≡ Some v → limit_of v ≤ most_worth
 
 -- an outcome of a market with these trades: contracts over a denominator, within the limits of outcomes
 abbrev pub IsOutcomeOf : List Ends → ℤ → List Contract → Type 0

@@ -3,6 +3,7 @@ use Rattle.std.specs.Prelude.{◌≡◌, ℕ, ◌<◌, ◌≤◌, List, length, 
 use Rattle.tn_base.specs.Firm.{Firm}
 use Rattle.tn_plain_data.specs.declared.ends.Ends.{Ends}
 use Rattle.tn_plain_data.specs.Network.{own, stands_at, IsNetwork}
+use Rattle.tn_market.specs.Widths.{most_market_firms, most_market_trades}
 
 -- the firms of a market, of whatever type, and its trades
 pub record Traded (V : Type 0) : Type 0 where
@@ -22,8 +23,8 @@ HaveOwn firms trades lists = (f : ℕ) (firm : Firm) (list : List ℕ) → slice
 -- what a market keeps
 pub record IsMarket (firms : List Firm) (trades : List Ends) (lists : List (List ℕ)) : Type 0 where
   pub network : IsNetwork firms trades
-  pub few_firms : length firms ≤ 1024
-  pub few_trades : length trades ≤ 1024
+  pub few_firms : length firms ≤ most_market_firms
+  pub few_trades : length trades ≤ most_market_trades
   pub as_many : length lists ≡ length firms
   pub own : HaveOwn firms trades lists
 

@@ -8,6 +8,7 @@ ghost use Rattle.tn_base.specs.Sets.{has, sum_over, toggle};
 ghost use Rattle.tn_base.specs.Firm.{IsBest};
 ghost use Rattle.tn_market.specs.Ascent.{aimed, IsAim, IsValued, TriesOne, TriesBeside, TriesNearby};
 ghost use Rattle.tn_plain_data.specs.Prices.{price_at};
+ghost use Rattle.tn_market.specs.Widths.{most_worth, most_scale, most_own, most_utility};
 
 use crate::bundle_value::BundleValue;
 use crate::valuation::Valuation;
@@ -27,9 +28,9 @@ pub struct Aim<'a, V: Valuation> {
 /// A worth counted `scale` times, with a gain beside it.
 fn valued(scale: i128, worth: i128, gain: i128) -> i128
     requires from_one { pos 1 ≤ℤ scale }
-    requires small_scale { scale ≤ℤ pos 10000000 }
-    requires small_worth { IsAtMost worth (10 ^ 11) }
-    requires small_gain { IsAtMost gain (32 * (2 * 10 ^ 22)) }
+    requires small_scale { scale ≤ℤ pos most_scale }
+    requires small_worth { IsAtMost worth most_worth }
+    requires small_gain { IsAtMost gain (most_own * (2 * most_utility)) }
     ensures value { result ≡ scale *ℤ worth +ℤ gain }
     ensures small { IsAtMost result (10 ^ 24) }
 {
@@ -41,7 +42,7 @@ impl<V: Valuation> Aim<'_, V> {
     fn gain_at(&self, x: Bundle, k: u32) -> i128
         requires { k < (V.firm self.now.firm.now).count }
         ensures term { result ≡ (if has x k then price_at self.now.gains.now k else pos 0) }
-        ensures small { IsAtMost result (2 * 10 ^ 22) }
+        ensures small { IsAtMost result (2 * most_utility) }
     {
         if x.has(k) { self.gains[k as usize] } else { 0 }
     }
@@ -50,7 +51,7 @@ impl<V: Valuation> Aim<'_, V> {
     #[tactic(auto, unfolding(tn_base::specs::Sets::sum_over))]
     fn gain(&self, x: Bundle) -> i128
         ensures sum { result ≡ sum_over (price_at self.now.gains.now) (V.firm self.now.firm.now).count x }
-        ensures small { IsAtMost result (32 * (2 * 10 ^ 22)) }
+        ensures small { IsAtMost result (most_own * (2 * most_utility)) }
     {
         let mut total = 0;
         for k in 0..self.firm.trades() {

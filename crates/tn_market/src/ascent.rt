@@ -7,6 +7,7 @@ ghost use Rattle.tn_base.specs.Firm.{utility};
 ghost use Rattle.tn_market.specs.Ascent.{AreGains, payment_of};
 ghost use Rattle.tn_market.specs.Best.{GivesBest};
 ghost use Rattle.tn_plain_data.specs.Prices.{price_at};
+ghost use Rattle.tn_market.specs.Widths.{most_own, most_worth, most_asked_price, most_scale, most_utility};
 
 use crate::aim::Aim;
 use crate::oracle::MOST_OWN;
@@ -19,9 +20,9 @@ const BONUS: i128 = 10_000_000_000_000_000_000_000;
 
 /// What the search counts for a position: what the firm gets for it, and the bonus if it is wanted.
 fn gain(side: Side, price: i128, wanted: bool) -> i128
-    requires { IsAtMost price (10 ^ 20) }
-    ensures value { result ≡ payment_of side price +ℤ (if wanted then pos (10 ^ 22) else pos 0) }
-    ensures small { IsAtMost result (2 * 10 ^ 22) }
+    requires { IsAtMost price most_asked_price }
+    ensures value { result ≡ payment_of side price +ℤ (if wanted then pos most_utility else pos 0) }
+    ensures small { IsAtMost result (2 * most_utility) }
 {
     let payment = match side {
         Side::Buy => -price,
@@ -33,8 +34,8 @@ fn gain(side: Side, price: i128, wanted: bool) -> i128
 /// What the search counts for each position.
 fn gains<V: Valuation>(firm: &V, need: Bundle, prices: &[i128]) -> [i128; MOST_OWN]
     requires priced { length prices.now ≡ (V.firm firm.now).count }
-    requires few { (V.firm firm.now).count ≤ 32 }
-    requires small { All (λ p. IsAtMost p (10 ^ 20)) prices.now }
+    requires few { (V.firm firm.now).count ≤ most_own }
+    requires small { All (λ p. IsAtMost p most_asked_price) prices.now }
     ensures { AreGains (V.firm firm.now).buys need prices.now (V.firm firm.now).count result }
 {
     let mut gains = [0; MOST_OWN];
@@ -63,11 +64,11 @@ pub fn best_by_ascent<V: Valuation>(
     requires apart { meet need free ≡ 0 }
     requires own { union need free < 2 ^ (V.firm firm.now).count }
     requires priced { length prices.now ≡ (V.firm firm.now).count }
-    requires small_prices { All (λ p. IsAtMost p (10 ^ 20)) prices.now }
+    requires small_prices { All (λ p. IsAtMost p most_asked_price) prices.now }
     requires scaled { pos 1 ≤ℤ scale }
-    requires small_scale { scale ≤ℤ pos 10000000 }
-    requires few_trades { (V.firm firm.now).count ≤ 32 }
-    requires small_worths { V.limit firm.now ≤ 10 ^ 11 }
+    requires small_scale { scale ≤ℤ pos most_scale }
+    requires few_trades { (V.firm firm.now).count ≤ most_own }
+    requires small_worths { V.limit firm.now ≤ most_worth }
     ensures { GivesBest need free (utility scale (price_at prices.now) (V.firm firm.now)) result }
 {
     let gains = gains(firm, need, prices);

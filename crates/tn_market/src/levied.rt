@@ -1,6 +1,7 @@
 ghost use Rattle.std.specs.Prelude.{◌≡◌, ◌^◌, ◌≤◌, pos, ◌≤ℤ◌, ◌-ℤ◌, ◌*ℤ◌};
 ghost use Rattle.tn_base.specs.Arcs.{IsAtMost};
 ghost use Rattle.tn_market.specs.Levied.{levied, levied_limit, IsLevy};
+ghost use Rattle.tn_market.specs.Widths.{most_limit};
 
 use crate::valuation::Valuation;
 use tn_base::{Bundle, Side, Steps};
@@ -23,7 +24,7 @@ impl<'a, V: Valuation> Levied<'a, V> {
     pub fn new(inner: &'a V, scale: i128, taxed: Bundle, tax: i128) -> Levied<'a, V>
         requires scaled { pos 1 ≤ℤ scale }
         requires taxed { pos 0 ≤ℤ tax }
-        requires small { levied_limit scale tax (V.limit inner.now) ≤ 10 ^ 18 }
+        requires small { levied_limit scale tax (V.limit inner.now) ≤ most_limit }
         ensures firm { ⟦<Levied<'a, V> as Valuation>⟧.firm result ≡ levied scale taxed tax (V.firm inner.now) }
         ensures limit { ⟦<Levied<'a, V> as Valuation>⟧.limit result ≡ levied_limit scale tax (V.limit inner.now) }
     {
@@ -38,8 +39,8 @@ impl<'a, V: Valuation> Levied<'a, V> {
 
 /// A worth counted `scale` times, less the tax for each of `count` positions.
 fn after_tax(scale: i128, worth: i128, tax: i128, count: u32) -> i128
-    requires worth { IsAtMost (scale *ℤ worth) (10 ^ 18) }
-    requires taxes { IsAtMost (tax *ℤ pos count) (10 ^ 18) }
+    requires worth { IsAtMost (scale *ℤ worth) most_limit }
+    requires taxes { IsAtMost (tax *ℤ pos count) most_limit }
     ensures { result ≡ scale *ℤ worth -ℤ tax *ℤ pos count }
 {
     scale * worth - tax * count as i128

@@ -2,6 +2,7 @@ ghost use Rattle.std.specs.Prelude.{◌≡◌, ◌*◌, ◌<◌, ◌≤◌, Some
 ghost use Rattle.tn_base.specs.Sets.{has, set_of};
 ghost use Rattle.tn_plain_data.specs.Network.{own, part, IsNetwork};
 ghost use Rattle.tn_market.specs.Traded.{AreOwn, HasOnePlace, placed};
+ghost use Rattle.tn_market.specs.Widths.{most_market_firms, most_market_trades};
 
 use crate::valuation::Valuation;
 use std::alloc::Global;
@@ -36,7 +37,7 @@ impl<V: Valuation> Market<V> {
     /// How many firms there are.
     pub fn firms(&self) -> u32
         ensures count { result ≡ length self.now.firms }
-        ensures few { result ≤ 1024 }
+        ensures few { result ≤ most_market_firms }
         ensures network { IsNetwork (map V.firm self.now.firms) self.now.trades }
     {
         self.firms.len() as u32
@@ -45,7 +46,7 @@ impl<V: Valuation> Market<V> {
     /// How many trades there are.
     pub fn trades(&self) -> u32
         ensures count { result ≡ length self.now.trades }
-        ensures few { result ≤ 1024 }
+        ensures few { result ≤ most_market_trades }
         ensures network { IsNetwork (map V.firm self.now.firms) self.now.trades }
     {
         self.trades.len() as u32
@@ -81,7 +82,6 @@ impl<V: Valuation> Market<V> {
     /// The bundle that firm `f` has of a set of trades. The market has at most `64 * W` trades, and the firm is one of
     /// it.
     pub fn bundle_of<const W: usize>(&self, f: u32, on: &TradeSet<W>) -> Bundle
-        requires width { W ≤ 16 }
         requires wide { length self.now.trades ≤ 64 * W }
         requires firm { f < length self.now.firms }
         ensures { (v : V) → slice_get self.now.firms f ≡ Some v → result ≡ part self.now.trades f (V.firm v).count on.now }
@@ -93,7 +93,6 @@ impl<V: Valuation> Market<V> {
 /// The positions of the trades that are in the set.
 #[tactic(auto, unfolding(tn_base::specs::Sets::set_of))]
 fn positions_in<const W: usize>(own: &[u32], on: &TradeSet<W>) -> Bundle
-    requires width { W ≤ 16 }
     requires few { length own.now ≤ 64 }
     requires inside { All (λ t. t < 64 * W) own.now }
     ensures { result ≡ set_of (λ k. has on.now (get_or own.now k 0)) (length own.now) }
@@ -109,7 +108,7 @@ fn positions_in<const W: usize>(own: &[u32], on: &TradeSet<W>) -> Bundle
 
 /// The trades of firm `f`, in the order of its `n` positions. It fails only where memory runs out.
 fn own_trades(alloc: Global, trades: &[Ends], f: u32, n: u32) -> Result<Vec<u32>, OutOfMemory>
-    requires few { length trades.now ≤ 1024 }
+    requires few { length trades.now ≤ most_market_trades }
     requires placed { HasOnePlace trades.now f n }
     ensures { IfOk result (λ own. AreOwn trades.now f n own.items) }
 {
@@ -135,12 +134,12 @@ fn place(own: &mut [u32], f: u32, t: u32, trade: Ends)
 }
 
 impl<V: Valuation + Drop> Market<V> {
-    /// The market of these firms and trades. It fails only where memory runs out. There are at most 1,024 firms and
-    /// 1,024 trades, which fit together: the two ends of a trade are different firms of the list, and each firm has as
+    /// The market of these firms and trades. It fails only where memory runs out. There are at most 2,048 firms and
+    /// 2,048 trades, which fit together: the two ends of a trade are different firms of the list, and each firm has as
     /// many own trades as ends, on the sides that the ends say.
     pub fn new(alloc: Global, firms: Vec<V>, trades: Vec<Ends>) -> Result<Market<V>, OutOfMemory>
-        requires few_firms { length firms.items ≤ 1024 }
-        requires few_trades { length trades.items ≤ 1024 }
+        requires few_firms { length firms.items ≤ most_market_firms }
+        requires few_trades { length trades.items ≤ most_market_trades }
         requires network { IsNetwork (map V.firm firms.items) trades.items }
         ensures { IfOk result (λ market. market ≡ record { firms = firms.items; trades = trades.items }) }
     {

@@ -4,6 +4,7 @@ ghost use Rattle.tn_base.specs.Sets.{meet, union};
 ghost use Rattle.tn_base.specs.Firm.{utility};
 ghost use Rattle.tn_market.specs.Best.{GivesBest};
 ghost use Rattle.tn_plain_data.specs.Prices.{price_at};
+ghost use Rattle.tn_market.specs.Widths.{most_own, most_worth, most_asked_price, most_scale, most_utility};
 
 use crate::room::Room;
 use crate::valuation::Valuation;
@@ -30,11 +31,11 @@ pub trait Oracle: Valuation {
         requires apart { meet need free ≡ 0 }
         requires own { union need free < 2 ^ (Self.firm self.now).count }
         requires priced { length prices.now ≡ (Self.firm self.now).count }
-        requires small_prices { All (λ p. IsAtMost p (10 ^ 20)) prices.now }
+        requires small_prices { All (λ p. IsAtMost p most_asked_price) prices.now }
         requires scaled { pos 1 ≤ℤ scale }
-        requires small_scale { scale ≤ℤ pos 10000000 }
-        requires few_trades { (Self.firm self.now).count ≤ 32 }
-        requires small_worths { Self.limit self.now ≤ 10 ^ 11 }
+        requires small_scale { scale ≤ℤ pos most_scale }
+        requires few_trades { (Self.firm self.now).count ≤ most_own }
+        requires small_worths { Self.limit self.now ≤ most_worth }
         ensures { GivesBest need free (utility scale (price_at prices.now) (Self.firm self.now)) result };
 }
 
@@ -49,13 +50,13 @@ pub fn utility_of<V: Oracle>(
 ) -> Option<i128>
     requires own { x < 2 ^ (V.firm firm.now).count }
     requires priced { length prices.now ≡ (V.firm firm.now).count }
-    requires small_prices { All (λ p. IsAtMost p (10 ^ 20)) prices.now }
+    requires small_prices { All (λ p. IsAtMost p most_asked_price) prices.now }
     requires scaled { pos 1 ≤ℤ scale }
-    requires small_scale { scale ≤ℤ pos 10000000 }
-    requires few_trades { (V.firm firm.now).count ≤ 32 }
-    requires small_worths { V.limit firm.now ≤ 10 ^ 11 }
+    requires small_scale { scale ≤ℤ pos most_scale }
+    requires few_trades { (V.firm firm.now).count ≤ most_own }
+    requires small_worths { V.limit firm.now ≤ most_worth }
     ensures value { result ≡ utility scale (price_at prices.now) (V.firm firm.now) x }
-    ensures small { IfSome result (λ value. IsAtMost value (10 ^ 22)) }
+    ensures small { IfSome result (λ value. IsAtMost value most_utility) }
 {
     // No other bundle is as asked.
     match firm.best(x, Bundle::empty(), scale, prices, room) {
@@ -68,8 +69,8 @@ pub fn utility_of<V: Oracle>(
 /// has at most 32 own trades and no worth above 10^11.
 pub fn worth_of<V: Oracle>(firm: &V, x: Bundle, room: &mut Room) -> Option<i128>
     requires own { x < 2 ^ (V.firm firm.now).count }
-    requires few_trades { (V.firm firm.now).count ≤ 32 }
-    requires small_worths { V.limit firm.now ≤ 10 ^ 11 }
+    requires few_trades { (V.firm firm.now).count ≤ most_own }
+    requires small_worths { V.limit firm.now ≤ most_worth }
     ensures { result ≡ (V.firm firm.now).worth x }
 {
     // At scale 1 and prices of 0 the utility is the worth.

@@ -1,6 +1,7 @@
 ghost use Rattle.std.specs.Prelude.{◌≡◌, ℕ, ◌+◌, ◌^◌, ◌<◌, ◌≤◌, pos};
 ghost use Rattle.tn_base.specs.Firm.{Firm, HasOwnBundles, MayAbstain};
 ghost use Rattle.tn_market.specs.Valued.{side_at, ExchangesOne, ExchangesNet, IsWorthAtMost};
+ghost use Rattle.tn_market.specs.Widths.{most_limit};
 
 use tn_base::{Bundle, Side, Steps};
 
@@ -32,7 +33,7 @@ pub trait Valuation {
     /// A bound on the size of every worth.
     fn bound(&self) -> i128
         ensures size { result ≡ pos (limit self.now) }
-        ensures small { limit self.now ≤ 10 ^ 18 };
+        ensures small { limit self.now ≤ most_limit };
 
     /// The worth of a bundle, None where it is impossible. It counts as one step and takes no memory. The bundle has
     /// own positions alone.
@@ -63,5 +64,5 @@ pub trait Valuation {
     ghost within: { (v : Self) → IsWorthAtMost (limit v) (firm v) };
 
     /// The limit is at most 10^18.
-    ghost small_limit: { (v : Self) → limit v ≤ 10 ^ 18 };
+    ghost small_limit: { (v : Self) → limit v ≤ most_limit };
 }

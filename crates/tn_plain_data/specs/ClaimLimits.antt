@@ -7,6 +7,7 @@ use Rattle.tn_plain_data.specs.declared.claim.Claim.TheVariants.{Equilibrium, Be
 use Rattle.tn_plain_data.specs.declared.contract.Contract.{Contract}
 use Rattle.tn_plain_data.specs.declared.ends.Ends.{Ends}
 use Rattle.tn_plain_data.specs.Choices.{IsFeasible}
+use Rattle.tn_plain_data.specs.Limits.{most_price, most_number, most_claimed_over, least_nodes, most_nodes}
 use Rattle.tn_plain_data.specs.OutcomeLimits.{IsOutcomeWithin}
 
 -- a price of at most so much in size for each trade
@@ -14,23 +15,23 @@ pub record ArePricesWithin (trades limit : ℕ) (prices : List ℤ) : Type 0 whe
   pub one_each : length prices ≡ trades
   pub small : All (λ price. IsAtMost price limit) prices
 
--- a denominator of a claim, which is 1 to 100,000, and any other number of it
+-- a denominator of a claim, and any other number of it
 pub record IsOverWithin (over : ℤ) : Type 0 where
   pub least : pos 1 ≤ℤ over
-  pub most : over ≤ℤ pos 100000
+  pub most : over ≤ℤ pos most_claimed_over
 
 abbrev pub IsNumberWithin : ℤ → Type 0
-IsNumberWithin number = IsAtMost number (10 ^ 18)
+IsNumberWithin number = IsAtMost number most_number
 
 -- contracts of a claim, in any order: no two on one trade
 pub record AreOffersWithin (trades : List Ends) (contracts : List Contract) : Type 0 where
   pub feasible : IsFeasible trades contracts
   pub small : All (λ contract. IsNumberWithin contract.price) contracts
 
--- 2 to 129 nodes, each of them null or a trade
+-- neither too few nodes nor too many, each of them null or a trade
 pub record AreNodesWithin (trades : ℕ) (nodes : List (Option ℕ)) : Type 0 where
-  pub least : 2 ≤ length nodes
-  pub most : length nodes ≤ 129
+  pub least : least_nodes ≤ length nodes
+  pub most : length nodes ≤ most_nodes
   pub known : All (λ node. IfSome node (λ t. t < trades)) nodes
 
 -- f is a firm, of which a property holds
@@ -39,14 +40,14 @@ IsFirmWith firms f holds = (firm : Firm) × (slice_get firms f ≡ Some firm) ×
 
 -- a claim on a network speaks of its firms, trades and positions, within the limits of numbers
 abbrev pub IsClaimWithin : List Firm → List Ends → Claim → Type 0
-IsClaimWithin firms trades (Equilibrium at surplus) = (at.on < 2 ^ length trades) × ArePricesWithin (length trades) (10 ^ 14) at.prices × IsNumberWithin surplus
-IsClaimWithin firms trades (Better at f x gain) = (at.on < 2 ^ length trades) × ArePricesWithin (length trades) (10 ^ 14) at.prices × IsFirmWith firms f (λ firm. x < 2 ^ firm.count) × IsNumberWithin gain
+IsClaimWithin firms trades (Equilibrium at surplus) = (at.on < 2 ^ length trades) × ArePricesWithin (length trades) most_price at.prices × IsNumberWithin surplus
+IsClaimWithin firms trades (Better at f x gain) = (at.on < 2 ^ length trades) × ArePricesWithin (length trades) most_price at.prices × IsFirmWith firms f (λ firm. x < 2 ^ firm.count) × IsNumberWithin gain
 IsClaimWithin firms trades (Impossible on f) = (on < 2 ^ length trades) × (f < length firms)
 IsClaimWithin firms trades Accepted = Unit {0}
 IsClaimWithin firms trades (ExchangeFails f x y at) = IsFirmWith firms f (λ firm. (x < 2 ^ firm.count) × (y < 2 ^ firm.count) × IfSome at (λ k. k < firm.count))
-IsClaimWithin firms trades (Supported on prices) = (on < 2 ^ length trades) × ArePricesWithin (length trades) (10 ^ 18) prices
+IsClaimWithin firms trades (Supported on prices) = (on < 2 ^ length trades) × ArePricesWithin (length trades) most_number prices
 IsClaimWithin firms trades (Cycle on nodes cost) = (on < 2 ^ length trades) × AreNodesWithin (length trades) nodes × IsNumberWithin cost
-IsClaimWithin firms trades (Solved at surplus) = (at.on < 2 ^ length trades) × ArePricesWithin (length trades) (10 ^ 18) at.prices × IsNumberWithin surplus
+IsClaimWithin firms trades (Solved at surplus) = (at.on < 2 ^ length trades) × ArePricesWithin (length trades) most_number at.prices × IsNumberWithin surplus
 IsClaimWithin firms trades (Drops outcome f keeps gain over) = IsOutcomeWithin (length trades) outcome × IsFirmWith firms f (λ firm. keeps < 2 ^ firm.count) × IfSome gain IsNumberWithin × IsOverWithin over
-IsClaimWithin firms trades (Completes outcome prices over) = IsOutcomeWithin (length trades) outcome × ArePricesWithin (length trades) (10 ^ 18) prices × IsOverWithin over
+IsClaimWithin firms trades (Completes outcome prices over) = IsOutcomeWithin (length trades) outcome × ArePricesWithin (length trades) most_number prices × IsOverWithin over
 IsClaimWithin firms trades (Blocks outcome contracts over) = IsOutcomeWithin (length trades) outcome × AreOffersWithin trades contracts × IsOverWithin over

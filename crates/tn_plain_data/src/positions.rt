@@ -2,14 +2,15 @@
 
 ghost use Rattle.std.specs.Prelude.{◌≡◌, ◌≤◌, length, IfOk};
 ghost use Rattle.tn_plain_data.specs.Network.{own, stands_at, trades_of};
+ghost use Rattle.tn_plain_data.specs.Limits.{most_trades};
 
 use crate::ends::Ends;
 use std::alloc::Global;
 use tn_base::{Bundle, OutOfMemory};
 
-/// The trade at position `k` of firm `f`. There are at most 128 trades.
+/// The trade at position `k` of firm `f`. There are at most 1,024 trades.
 pub fn own(ends: &[Ends], f: u32, k: u32) -> u32
-    requires { length ends.now ≤ 128 }
+    requires { length ends.now ≤ most_trades }
     ensures { result ≡ own ends.now f k }
 {
     let mut t = 0;
@@ -36,7 +37,7 @@ pub fn trades_of(
     count: u32,
     bundle: Bundle,
 ) -> Result<Vec<u32>, OutOfMemory>
-    requires few { length ends.now ≤ 128 }
+    requires few { length ends.now ≤ most_trades }
     requires count { count ≤ 64 }
     ensures { IfOk result (λ trades. trades.items ≡ trades_of ends.now f count bundle) }
 {

@@ -2,14 +2,15 @@
 
 ghost use Rattle.std.specs.Prelude.{◌≡◌, ◌≤◌, length, IfOk};
 ghost use Rattle.tn_plain_data.specs.InOrder.{side_in, sides_of};
+ghost use Rattle.tn_plain_data.specs.Limits.{most_trades};
 
 use crate::ends::Ends;
 use std::alloc::Global;
 use tn_base::{OutOfMemory, Side};
 
-/// How many of the trades are the firm's own. There are at most 128 trades.
+/// How many of the trades are the firm's own. There are at most 1,024 trades.
 pub fn count_own(trades: &[Ends], f: u32) -> u32
-    requires { length trades.now ≤ 128 }
+    requires { length trades.now ≤ most_trades }
     ensures { result ≡ length (sides_of trades.now f) }
 {
     let mut count = 0;

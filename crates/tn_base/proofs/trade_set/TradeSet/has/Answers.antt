@@ -10,5 +10,5 @@ unfolding has
 returns g c =
     let limbs = c.self.inside.limbs in
     ap (λ (d : ℕ). nat_eq d 1) (shr_and_one _ (c.args.t % 64))
-    ∙ sym (has-limb limbs c.args.t c.self.invariant.words)
+    ∙ sym (has-limb limbs c.args.t c.self.invariant.1.words)
     ∙ ap (λ (x : ℕ). has x c.args.t) c.self.view_is

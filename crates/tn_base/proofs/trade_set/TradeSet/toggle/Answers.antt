@@ -14,15 +14,15 @@ written limbs t = ap (λ (mask : ℕ). set limbs (t / 64) (bit_xor (get_or limbs
 pub invariant_of-self : goal.invariant_of-self
 invariant_of-self g c =
     let limbs = c.self.inside.limbs in
-    subst (AreLimbs g.row.W) (sym (written limbs c.args.t)) (toggle_done g.row.W limbs c.args.t c.self.invariant c.requires.inside).0
+    (c.self.invariant.0, subst (AreLimbs g.row.W) (sym (written limbs c.args.t)) (toggle_done g.row.W limbs c.args.t c.self.invariant.1 c.requires.inside).0)
 
 pub returns-clause-toggled : goal.returns-clause-toggled
 returns-clause-toggled g c =
     let limbs = c.self.inside.limbs in
-    ap joined (written limbs c.args.t) ∙ (toggle_done g.row.W limbs c.args.t c.self.invariant c.requires.inside).1
+    ap joined (written limbs c.args.t) ∙ (toggle_done g.row.W limbs c.args.t c.self.invariant.1 c.requires.inside).1
     ∙ ap (λ (x : ℕ). toggle x c.args.t) c.self.view_is
 
 pub returns-clause-within : goal.returns-clause-within
 returns-clause-within g c =
     let limbs = c.self.inside.limbs in
-    joined_within g.row.W _ (subst (AreLimbs g.row.W) (sym (written limbs c.args.t)) (toggle_done g.row.W limbs c.args.t c.self.invariant c.requires.inside).0)
+    joined_within g.row.W _ (subst (AreLimbs g.row.W) (sym (written limbs c.args.t)) (toggle_done g.row.W limbs c.args.t c.self.invariant.1 c.requires.inside).0)

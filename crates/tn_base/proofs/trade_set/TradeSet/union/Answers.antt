@@ -11,13 +11,13 @@ loop-k-preserved g c =
 
 pub invariant_of-result : goal.invariant_of-result
 invariant_of-result g c =
-    (union_done g.row.W _ _ _ _ c.self.invariant c.other.invariant c.loop-k.invariant c.loop-k-test.false).0
+    (c.self.invariant.0, (union_done g.row.W _ _ _ _ c.self.invariant.1 c.other.invariant.1 c.loop-k.invariant c.loop-k-test.false).0)
 
 pub returns-clause-members : goal.returns-clause-members
 returns-clause-members g c =
-    (union_done g.row.W _ _ _ _ c.self.invariant c.other.invariant c.loop-k.invariant c.loop-k-test.false).1
+    (union_done g.row.W _ _ _ _ c.self.invariant.1 c.other.invariant.1 c.loop-k.invariant c.loop-k-test.false).1
     ∙ ap₂ union c.self.view_is c.other.view_is
 
 pub returns-clause-within : goal.returns-clause-within
 returns-clause-within g c =
-    joined_within g.row.W _ (union_done g.row.W _ _ _ _ c.self.invariant c.other.invariant c.loop-k.invariant c.loop-k-test.false).0
+    joined_within g.row.W _ (union_done g.row.W _ _ _ _ c.self.invariant.1 c.other.invariant.1 c.loop-k.invariant c.loop-k-test.false).0

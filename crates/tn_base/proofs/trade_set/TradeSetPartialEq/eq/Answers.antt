@@ -5,4 +5,4 @@ use Rattle.tn_base.proofs.trade_set.TradeSetPartialEq.eq.Goals as goal
 
 pub returns : goal.returns
 returns g c =
-    c.eq.ensures ∙ same_words g.row.W _ _ c.self.invariant c.other.invariant ∙ ap₂ nat_eq c.self.view_is c.other.view_is
+    c.eq.ensures ∙ same_words g.row.W _ _ c.self.invariant.1 c.other.invariant.1 ∙ ap₂ nat_eq c.self.view_is c.other.view_is

@@ -14,14 +14,13 @@ positions_in-requires g c =
     let counted = o.list.counted in
     let same : length c.deref.result.now ≡ length c.index.result.now.items = ap length c.deref.ensures.value in
     let wide = c.requires.wide in
-    let width = c.requires.width in
     let each : (k d : ℕ) → k < length c.deref.result.now → get_or c.deref.result.now k d < length c.args.self.now.trades = λ k d inside.
     let here : get_or c.deref.result.now k d ≡ own c.args.self.now.trades c.args.f k =
     ap (λ (xs : List ℕ). get_or xs k d) c.deref.ensures.value
     ∙ own_element c.args.self.now.trades c.args.f _ c.index.result.now.items k d o.list (omega (arith, inside, counted, same)) in
     let below = o.inside k (omega (arith, inside, same)) in
     omega (arith, here, below) in
-    (search rules, (search rules, (omega (arith, few, counted, same), λ k d inside. let h = each k d inside in omega (arith, h, wide))))
+    (search rules, (omega (arith, few, counted, same), λ k d inside. let h = each k d inside in omega (arith, h, wide)))
 
 pub returns : goal.returns
 returns g c = λ v is.

@@ -1,0 +1,33 @@
+-- What there is room for in a market, whatever a document says.
+use Rattle.std.specs.Prelude.{ℕ, ◌^◌}
+
+-- a market has at most so many firms
+abbrev pub most_market_firms : ℕ
+most_market_firms = 2048
+
+-- a market has at most so many trades, which is as many as a set of trades takes
+abbrev pub most_market_trades : ℕ
+most_market_trades = 2048
+
+-- the bound on the worths of a firm is at most so much
+abbrev pub most_limit : ℕ
+most_limit = 10 ^ 18
+
+-- a firm that is asked for best bundles has at most so many own trades
+abbrev pub most_own : ℕ
+most_own = 32
+
+-- its bound on worths is at most so much
+abbrev pub most_worth : ℕ
+most_worth = 10 ^ 11
+
+-- the prices that it is asked at are at most so much in size, and a worth counts at most so many times
+abbrev pub most_asked_price : ℕ
+most_asked_price = 10 ^ 20
+
+abbrev pub most_scale : ℕ
+most_scale = 10000000
+
+-- a utility is at most so much in size
+abbrev pub most_utility : ℕ
+most_utility = 10 ^ 22
