@@ -2,3 +2,4 @@ pub mod NetworkLemmas
 pub mod InOrderLemmas
 pub mod InOrderNetworks
 pub mod ContractLemmas
+pub mod LimitLemmas

@@ -1,5 +1,7 @@
 -- The limits that hold for documents of every version, and so for all that is answered.
-use Rattle.std.specs.Prelude.{ℕ, ◌^◌}
+use Rattle.std.specs.Prelude.{◌≡◌, ℕ, ◌+◌, ◌^◌, ◌≤◌, ◌==◌, if◌then◌else◌, Option, Some, None}
+use Rattle.tn_base.specs.Widths.{most_amount}
+use Rattle.tn_plain_data.specs.declared.limits.Limits.{Limits}
 
 -- the most firms of a document
 abbrev pub most_firms : ℕ
@@ -8,6 +10,10 @@ most_firms = 1024
 -- the most trades of a document
 abbrev pub most_trades : ℕ
 most_trades = 1024
+
+-- a document of the versions that are read lists at most so many firms and trades: a set of its trades has two words
+abbrev pub most_listed : ℕ
+most_listed = 128
 
 -- the most edits of a document
 abbrev pub most_edits : ℕ
@@ -37,3 +43,65 @@ least_nodes = 2
 
 abbrev pub most_nodes : ℕ
 most_nodes = 129
+
+-- the most own trades of a table, and of a firm of another kind
+abbrev pub most_own_of_table : ℕ
+most_own_of_table = 14
+
+abbrev pub most_own_trades : ℕ
+most_own_trades = 32
+
+-- the most sets of a laminar firm; the farthest net count from 0 that the first number of a set may be for, and the most
+-- numbers of a set
+abbrev pub most_sets : ℕ
+most_sets = 64
+
+abbrev pub most_from : ℕ
+most_from = 32
+
+abbrev pub most_values : ℕ
+most_values = 65
+
+-- the limits of a version with at most so many firms and trades; all else is the same in every version
+abbrev pub limits_with : ℕ → Limits
+limits_with most = record {
+  firms = most;
+  trades = most;
+  own_of_table = most_own_of_table;
+  own = most_own_trades;
+  amount = most_amount;
+  sets = most_sets;
+  from = most_from;
+  values = most_values;
+  price = most_price;
+  numerator = most_numerator;
+  over = most_over;
+  edits = most_edits;
+  number = most_number;
+  claimed_over = most_claimed_over;
+  nodes = most + 1;
+}
+
+-- the limits of each version, none where there is no such version
+unfoldable pub limits_of : ℕ → Option Limits
+limits_of version = if version == 1 then Some (limits_with 64) else (if version == 2 then Some (limits_with most_listed) else None)
+
+-- what holds of the limits of every version: there is room for what they allow, a cycle may go through every trade and
+-- the null node, and what is claimed may be as large in each version
+pub record AreLimits (limits : Limits) : Type 0 where
+  pub firms : limits.firms ≤ most_listed
+  pub trades : limits.trades ≤ most_listed
+  pub own_of_table : limits.own_of_table ≤ most_own_of_table
+  pub own : limits.own ≤ most_own_trades
+  pub amount : limits.amount ≤ most_amount
+  pub sets : limits.sets ≤ most_sets
+  pub from : limits.from ≤ most_from
+  pub values : limits.values ≤ most_values
+  pub price : limits.price ≤ most_price
+  pub numerator : limits.numerator ≤ most_numerator
+  pub over : limits.over ≤ most_over
+  pub edits : limits.edits ≤ most_edits
+  pub number : limits.number ≡ most_number
+  pub claimed_over : limits.claimed_over ≡ most_claimed_over
+  pub enough_nodes : limits.trades + 1 ≤ limits.nodes
+  pub nodes : limits.nodes ≤ most_nodes

@@ -7,6 +7,7 @@ mod claim;
 mod contract;
 mod ends;
 mod holding;
+mod limits;
 mod lists;
 mod place;
 mod positions;
@@ -21,6 +22,7 @@ pub use claim::Claim;
 pub use contract::{Contract, Outcome};
 pub use ends::Ends;
 pub use holding::Holding;
+pub use limits::Limits;
 pub use lists::{
     Amounts, Contracts, Edits, Holdings, Lent, Listed, Nodes, Numbers, Place, Prices, Ranges,
     States, Trades,
