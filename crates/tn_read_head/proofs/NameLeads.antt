@@ -16,10 +16,10 @@ use Rattle.tn_shape.specs.declared.members.ObjectKind.TheVariants.{Trade as Trad
 use Rattle.tn_read_head.specs.Beside.{with_names}
 use Rattle.tn_shape.specs.Reading.{each, holds}
 use Rattle.tn_shape.specs.Shapes.{text_at, object_at, object_of}
-use Rattle.tn_read_head.specs.Naming.{name_at, new_name, firm_name, one_firm_name, trade_name, ends_at, one_trade}
+use Rattle.tn_read_head.specs.Naming.{NamedTrades, name_at, new_name, firm_name, one_firm_name, trade_name, ends_at, one_trade}
 use Rattle.tn_read_references.specs.References.{firm_at}
 use Rattle.tn_read_references.proofs.ReferenceLeads.{firm_at_leads}
-use Rattle.tn_read_references.specs.Ordered.{Listed, ComesNext, AreInOrder, sides_of}
+use Rattle.tn_read_references.specs.Ordered.{ComesNext, AreInOrder, sides_of}
 use Rattle.tn_plain_data.proofs.InOrderLemmas.{AreInOrder-push}
 use Rattle.tn_shape.proofs.LeadLemmas.{Leads, leads_ok, leads_bind, leads_after, leads_each, leads_count, leads_holds, leads_as, is_true_not, apart_from_test}
 use Rattle.tn_read_head.proofs.BesideLemmas.{leads_beside}
@@ -100,13 +100,13 @@ ends_lead firms before t trade =
     (record { seller = seller_known; buyer = buyer_known; apart = apart_from_test seller buyer apart; at_seller = refl; at_buyer = refl }))))
 
 -- the trades so far, over these firms
-pub record AreListed (firms : List (List ℕ)) (listed : Listed) : Type 0 where
+pub record AreListed (firms : List (List ℕ)) (listed : NamedTrades) : Type 0 where
   pub kept : IsListWhileFew listed.names.trades
   pub named : length listed.names.trades ≡ length listed.ends
   pub order : AreInOrder (length firms) listed.ends
   pub firms_are : listed.names.firms ≡ firms
 
-pub one_trade_leads : (firms : List (List ℕ)) (listed : Listed) (trade : Data) → AreListed firms listed → Leads (AreListed firms) (one_trade listed trade)
+pub one_trade_leads : (firms : List (List ℕ)) (listed : NamedTrades) (trade : Data) → AreListed firms listed → Leads (AreListed firms) (one_trade listed trade)
 unfolding one_trade
 one_trade_leads firms listed trade are =
     leads_bind (λ next. IsMore listed.names.trades next.trades × (next.firms ≡ listed.names.firms)) (AreListed firms) (with_names listed.names (trade_name listed.names trade)) _ (leads_beside _ listed.names (trade_name listed.names trade) (trade_name_leads listed.names trade)) (λ names more.
@@ -130,12 +130,12 @@ no_trades_listed names no_trades = record {
 pub trades_lead : (names : NameLists) (trades : Items) → names.trades ≡ [] → Leads (AreListed names.firms) (each one_trade (record { names = names; ends = [] }) trades)
 trades_lead names trades no_trades = leads_each (AreListed names.firms) one_trade (one_trade_leads names.firms) (record { names = names; ends = [] }) trades (no_trades_listed names no_trades)
 
-pub one_trade_count : (listed : Listed) (trade : Data) → Leads (λ next. length next.ends ≡ length listed.ends + 1) (one_trade listed trade)
+pub one_trade_count : (listed : NamedTrades) (trade : Data) → Leads (λ next. length next.ends ≡ length listed.ends + 1) (one_trade listed trade)
 unfolding one_trade
 one_trade_count listed trade =
     leads_after _ (with_names listed.names (trade_name listed.names trade)) _ (λ names.
     leads_after _ (with_names names (ends_at names.firms listed.ends (length listed.ends) trade)) _ (λ ends.
     leads_ok (λ next. length next.ends ≡ length listed.ends + 1) (record { names = names; ends = listed.ends ++ ends ∷ [] }) (length-append listed.ends (ends ∷ []))))
 
-pub trades_count : (listed : Listed) (trades : Items) → Leads (λ end. length end.ends ≡ length listed.ends + items_len trades) (each one_trade listed trades)
-trades_count listed trades = leads_count (λ (l : Listed). length l.ends) one_trade one_trade_count listed trades
+pub trades_count : (listed : NamedTrades) (trades : Items) → Leads (λ end. length end.ends ≡ length listed.ends + items_len trades) (each one_trade listed trades)
+trades_count listed trades = leads_count (λ (l : NamedTrades). length l.ends) one_trade one_trade_count listed trades

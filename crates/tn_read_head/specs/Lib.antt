@@ -1,3 +1,4 @@
 pub mod Beside
+pub mod Refused
 pub mod Naming
 pub mod Listing

@@ -1,8 +1,10 @@
--- The head of a document: its version, the names, and the ends of the trades.
-use Rattle.std.specs.Prelude.{ℕ, [], ◌∷◌, codes, ◌==◌, if◌then◌else◌, Option, Some, None, option_and_then, Result, Ok}
+-- The head of a document: the limits of its version, the names, and the ends of the trades.
+use Rattle.std.specs.Prelude.{[], ◌∷◌, codes, Some, option_and_then, Result, Ok}
 use Rattle.serde_json.specs.Data.{Data, Items}
 use Rattle.serde_json.specs.Find.{get, as_number, as_u64}
 use Rattle.tn_base.specs.declared.fault.FaultKind.TheVariants.{Shape}
+use Rattle.tn_plain_data.specs.Limits.{limits_of}
+use Rattle.tn_plain_data.specs.declared.limits.Limits.{Limits}
 use Rattle.tn_plain_data.specs.declared.place.PlaceStep.TheVariants.{Word}
 use Rattle.tn_plain_data.specs.declared.place.Word.TheVariants.{Version, Firms, Trades}
 use Rattle.tn_plain_data.specs.declared.said.Fault.{Fault}
@@ -14,22 +16,19 @@ use Rattle.tn_shape.specs.Shapes.{few_at, object_of}
 use Rattle.tn_read_references.specs.Ordered.{Listed}
 use Rattle.tn_read_head.specs.Naming.{one_firm_name, one_trade}
 
--- the most firms, and the most trades, of each version
-abbrev pub limit_of : ℕ → Option ℕ
-limit_of version = if version == 1 then Some 64 else (if version == 2 then Some 128 else None)
-
-unfoldable pub version_limit : Data → Result ℕ Fault
-version_limit top = do
+-- the limits of the document's version
+unfoldable pub limits_at : Data → Result Limits Fault
+limits_at top = do
   version ← wanted Shape (Word Version ∷ []) (option_and_then as_u64 (option_and_then as_number (get (codes "version") top)))
-  wanted Shape (Word Version ∷ []) (limit_of version)
+  wanted Shape (Word Version ∷ []) (limits_of version)
 
--- the names and the trades, and the list of the firms
+-- the head, and the list of the firms
 unfoldable pub listed_of : Data → Result (Listed × Items) Stop
 listed_of top = do
   object ← with_names no_names (object_of Top [] (Some top))
-  limit ← with_names no_names (version_limit top)
-  firms ← with_names no_names (few_at limit (Word Firms ∷ []) (get (codes "firms") top))
+  limits ← with_names no_names (limits_at top)
+  firms ← with_names no_names (few_at limits.firms (Word Firms ∷ []) (get (codes "firms") top))
   names ← each one_firm_name no_names firms
-  trades ← with_names names (few_at limit (Word Trades ∷ []) (get (codes "trades") top))
-  listed ← each one_trade (record { names = names; ends = [] }) trades
-  Ok (listed, firms)
+  trades ← with_names names (few_at limits.trades (Word Trades ∷ []) (get (codes "trades") top))
+  named ← each one_trade (record { names = names; ends = [] }) trades
+  Ok (record { limits = limits; names = named.names; ends = named.ends }, firms)

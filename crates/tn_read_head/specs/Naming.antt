@@ -13,7 +13,7 @@ use Rattle.tn_plain_data.specs.declared.place.Word.TheVariants.{Firms, Trades, N
 use Rattle.tn_shape.specs.declared.members.ObjectKind.TheVariants.{Trade as TradeObject}
 use Rattle.tn_read_head.specs.Beside.{Stop, with_names}
 use Rattle.tn_shape.specs.Shapes.{text_at, object_at, object_of}
-use Rattle.tn_read_references.specs.Ordered.{sides_of, Listed}
+use Rattle.tn_read_references.specs.Ordered.{sides_of}
 use Rattle.tn_read_references.specs.References.{firm_at}
 
 -- a text that keeps the rule for names
@@ -55,9 +55,14 @@ ends_at firms before t trade = do
   apart ← holds SelfTrade (Word Trades ∷ Index t ∷ []) (not (seller == buyer))
   Ok (record { seller = seller; buyer = buyer; at_seller = length (sides_of before seller); at_buyer = length (sides_of before buyer) })
 
+-- the names so far, and the ends of the trades so far
+pub record NamedTrades : Type 0 where
+  pub names : NameLists
+  pub ends : List Ends
+
 -- a trade is named before its ends are looked at
-unfoldable pub one_trade : Listed → Data → Result Listed Stop
-one_trade listed trade = do
-  names ← with_names listed.names (trade_name listed.names trade)
-  ends ← with_names names (ends_at names.firms listed.ends (length listed.ends) trade)
-  Ok (record { names = names; ends = listed.ends ++ ends ∷ [] })
+unfoldable pub one_trade : NamedTrades → Data → Result NamedTrades Stop
+one_trade before trade = do
+  names ← with_names before.names (trade_name before.names trade)
+  ends ← with_names names (ends_at names.firms before.ends (length before.ends) trade)
+  Ok (record { names = names; ends = before.ends ++ ends ∷ [] })

@@ -1,8 +1,10 @@
-//! Reads the head of a document: its version, names, and the ends of its trades.
+//! Reads the head of a document: the limits of its version, names, and the ends of its trades.
 #![tactic(auto)]
 
 mod listing;
 mod names;
+mod refusal;
 mod trades;
 
-pub use listing::read_listed;
+pub use listing::read_head;
+pub use refusal::DocRefusal;

@@ -1,6 +1,7 @@
 ghost use Rattle.std.specs.Prelude.{◌≡◌, ◌+◌, ◌<◌, ◌≤◌, length, option_map, true, IfOk, OnOk};
 ghost use Rattle.serde_json.specs.View.{view, items_view};
 ghost use Rattle.tn_names.specs.Names.{NameLists, is_name};
+ghost use Rattle.tn_plain_data.specs.Limits.{most_firms, most_trades};
 ghost use Rattle.tn_shape.specs.Reading.{Gives, each};
 ghost use Rattle.tn_read_head.specs.Beside.{GivesBeside, with_names};
 ghost use Rattle.tn_read_head.specs.Naming.{firm_name, name_at, one_firm_name, trade_name};
@@ -20,7 +21,7 @@ pub(crate) fn read_firm_names(
     firms: &[Value],
 ) -> Result<(), ReadError>
     requires none { length names.old.firms ≡ 0 }
-    requires few { length firms.now ≤ 128 }
+    requires few { length firms.now ≤ most_firms }
     ensures gives { GivesBeside names.new (λ _. names.new) result
         (each one_firm_name names.old (items_view firms.now)) }
     ensures count { OnOk result (length names.new.firms ≡ length firms.now) }
@@ -35,7 +36,7 @@ pub(crate) fn read_firm_names(
 /// Puts the name of one more firm to the names.
 #[tactic(auto, unfolding(crate::specs::Naming::firm_name, crate::specs::Naming::new_name))]
 fn read_firm_name(alloc: Global, names: &mut Names, firm: &Value) -> Result<(), ReadError>
-    requires { length names.old.firms < 128 }
+    requires { length names.old.firms < most_firms }
     ensures gives { GivesBeside names.new (λ _. names.new) result
         (one_firm_name names.old (view firm.now)) }
     ensures count { OnOk result (length names.new.firms ≡ length names.old.firms + 1) }
@@ -58,7 +59,7 @@ pub(crate) fn read_trade_name(
     names: &mut Names,
     trade: &Value,
 ) -> Result<(), ReadError>
-    requires { length names.old.trades < 128 }
+    requires { length names.old.trades < most_trades }
     ensures gives { GivesBeside names.new (λ _. names.new) result
         (with_names names.old (trade_name names.old (view trade.now))) }
     ensures count { OnOk result (length names.new.trades ≡ length names.old.trades + 1) }

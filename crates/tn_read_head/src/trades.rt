@@ -1,10 +1,11 @@
 ghost use Rattle.std.specs.Prelude.{◌≡◌, ◌+◌, ◌<◌, ◌≤◌, ◌++◌, [], ◌∷◌, length, IfOk, OnOk};
 ghost use Rattle.serde_json.specs.View.{view, items_view};
 ghost use Rattle.tn_names.specs.Names.{NameLists};
+ghost use Rattle.tn_plain_data.specs.Limits.{most_trades};
 ghost use Rattle.tn_shape.specs.Reading.{Gives, each};
-ghost use Rattle.tn_read_references.specs.Ordered.{AreInOrder, ComesNext, Listed};
+ghost use Rattle.tn_read_references.specs.Ordered.{AreInOrder, ComesNext};
 ghost use Rattle.tn_read_head.specs.Beside.{GivesBeside};
-ghost use Rattle.tn_read_head.specs.Naming.{ends_at, one_trade};
+ghost use Rattle.tn_read_head.specs.Naming.{NamedTrades, ends_at, one_trade};
 
 use crate::names::read_trade_name;
 use serde_json::Value;
@@ -23,7 +24,7 @@ pub(crate) fn read_trades(
     trades: &[Value],
 ) -> Result<Vec<Ends>, ReadError>
     requires none { length names.old.trades ≡ 0 }
-    requires few { length trades.now ≤ 128 }
+    requires few { length trades.now ≤ most_trades }
     ensures gives { GivesBeside names.new
         (λ ends. record { names = names.new; ends = ends.items })
         result (each one_trade (record { names = names.old; ends = [] }) (items_view trades.now)) }
@@ -49,7 +50,7 @@ fn read_trade(
     trade: &Value,
 ) -> Result<Ends, ReadError>
     requires count { length names.old.trades ≡ length before.now }
-    requires few { length before.now < 128 }
+    requires few { length before.now < most_trades }
     ensures gives { GivesBeside names.new
         (λ ends. record { names = names.new; ends = before.now ++ ends ∷ [] })
         result (one_trade (record { names = names.old; ends = before.now }) (view trade.now)) }
@@ -68,7 +69,7 @@ fn read_ends(
     before: &[Ends],
     trade: &Value,
 ) -> Result<Ends, ReadError>
-    requires { length before.now < 128 }
+    requires { length before.now < most_trades }
     ensures gives { Gives (λ ends. ends) result
         (ends_at names.now.firms before.now (length before.now) (view trade.now)) }
     ensures next { IfOk result (ComesNext (length names.now.firms) before.now) }

@@ -8,6 +8,7 @@ use Rattle.tn_base.proofs.SetLemmas.{toggle_within}
 use Rattle.tn_base.proofs.SizeLemmas.{size_le}
 use Rattle.tn_base.specs.declared.side.Side.{Side}
 use Rattle.tn_base.specs.declared.fault.FaultKind.TheVariants.{UnknownFirm, UnknownTrade, NotOwnTrade, SameTrade}
+use Rattle.tn_plain_data.specs.Limits.{most_own_trades}
 use Rattle.tn_plain_data.specs.declared.place.PlaceStep.{PlaceStep}
 use Rattle.tn_plain_data.specs.declared.place.PlaceStep.TheVariants.{Index}
 use Rattle.tn_names.specs.Names.{number_of}
@@ -53,7 +54,7 @@ pub few_members : (n set : ℕ) → set < 2 ^ n → n ≤ 16384 → size set ≤
 few_members n set below few = omega (arith, size_le n set below, few)
 
 -- a list of references
-module _ (listed : Listed) (trades : AreTrades listed) (f : ℕ) (few : length (sides_of listed.ends f) ≤ 32) (place : List PlaceStep) (plain : IsPlainPlace place) where
+module _ (listed : Listed) (trades : AreTrades listed) (f : ℕ) (few : length (sides_of listed.ends f) ≤ most_own_trades) (place : List PlaceStep) (plain : IsPlainPlace place) where
   reference_stops : (bundle : ℕ) (value : Data) → bundle < 2 ^ length (sides_of listed.ends f) → StopsPlainly (own_reference listed f place bundle value)
   unfolding own_reference
   reference_stops bundle value own =

@@ -1,17 +1,22 @@
--- The trades that are listed, with their names.
+-- The head of a document: its limits, and the trades that are listed, with their names.
 use Rattle.std.specs.Prelude.{◌≡◌, List, length, ◌≤◌}
+use Rattle.tn_plain_data.specs.Limits.{AreLimits}
+use Rattle.tn_plain_data.specs.declared.limits.Limits.{Limits}
 use Rattle.tn_plain_data.specs.declared.ends.Ends.{Ends}
 use Rattle.tn_names.specs.Names.{NameLists}
 pub use Rattle.tn_plain_data.specs.InOrder.{side_in, ComesNext, AreInOrder}
 unfoldable pub use Rattle.tn_plain_data.specs.InOrder.{sides_of}
 
--- the names that are known, and the ends of the trades among them
+-- the limits of the document's version, the names that are known, and the ends of the trades among them
 pub record Listed : Type 0 where
+  pub limits : Limits
   pub names : NameLists
   pub ends : List Ends
 
--- names and ends are of the same trades
+-- names and ends are of the same trades, in order, and no more than the limits allow, which are those of a version
 pub record AreTrades (listed : Listed) : Type 0 where
+  pub limits : AreLimits listed.limits
+  pub few_firms : length listed.names.firms ≤ listed.limits.firms
   pub named : length listed.names.trades ≡ length listed.ends
-  pub few : length listed.ends ≤ 128
+  pub few : length listed.ends ≤ listed.limits.trades
   pub order : AreInOrder (length listed.names.firms) listed.ends

@@ -2,9 +2,11 @@
 //! The listed trades with their positions, and the lists of references and of entries, stand in `specs/`.
 #![tactic(auto)]
 
+mod head;
 mod own_lists;
 mod references;
 
+pub use head::Head;
 pub use own_lists::{OwnPart, PartAt, own_bundle};
 pub use references::{firm, new_trade, own_position, trade};
 pub use tn_plain_data::{count_own, sides_of};

@@ -3,19 +3,20 @@
 ghost use Rattle.std.specs.Prelude.{◌≡◌, ◌^◌, ◌<◌, ◌≤◌, ◌++◌, [], ◌∷◌, length, option_map, IfOk, None};
 ghost use Rattle.serde_json.specs.View.{view, items_view};
 ghost use Rattle.tn_base.specs.Sets.{size};
+ghost use Rattle.tn_plain_data.specs.Limits.{most_own_trades};
 ghost use Rattle.tn_plain_data.specs.declared.place.PlaceStep.TheVariants.{Index};
 ghost use Rattle.tn_shape.specs.Reading.{Gives, each};
 ghost use Rattle.tn_shape.specs.Shapes.{list_at};
 ghost use Rattle.tn_read_references.specs.Ordered.{AreTrades, Listed, sides_of};
 ghost use Rattle.tn_read_references.specs.References.{bundle_at, new_own, own_reference, part_place};
 
+use crate::head::Head;
 use crate::references::own_position;
 use serde_json::Value;
 use std::alloc::Global;
 use tn_base::{Bundle, FaultKind};
-use tn_names::Names;
+use tn_plain_data::PlaceStep;
 use tn_plain_data::PlaceStep::Index;
-use tn_plain_data::{Ends, PlaceStep};
 use tn_shape::steps::FIRMS;
 use tn_shape::{ReadError, list, require};
 
@@ -53,20 +54,18 @@ pub enum PartAt {
 #[tactic(auto, unfolding(crate::specs::References::bundle_at))]
 pub fn own_bundle(
     alloc: Global,
-    names: &Names,
-    ends: &[Ends],
+    head: &Head,
     part: OwnPart,
     value: Option<&Value>,
 ) -> Result<Bundle, ReadError>
-    requires trades { AreTrades (record { names = names.now; ends = ends.now }) }
-    requires few { length (sides_of ends.now part.firm) ≤ 32 }
+    requires few { length (sides_of head.now.ends part.firm) ≤ most_own_trades }
     ensures gives { Gives (λ bundle. bundle) result
-        (bundle_at (record { names = names.now; ends = ends.now }) part.firm (part_place part.firm part.at)
+        (bundle_at head.now part.firm (part_place part.firm part.at)
         (option_map (λ v. view v.now) value.entry)) }
-    ensures own { IfOk result (λ bundle. bundle < 2 ^ length (sides_of ends.now part.firm)) }
+    ensures own { IfOk result (λ bundle. bundle < 2 ^ length (sides_of head.now.ends part.firm)) }
 {
     let references = references_at(alloc, part, value)?;
-    each_own(alloc, names, ends, part, references)
+    each_own(alloc, head, part, references)
 }
 
 /// The references of a list.
@@ -92,21 +91,19 @@ fn references_at<'a>(
 /// The bundle that references name, one after the other.
 fn each_own(
     alloc: Global,
-    names: &Names,
-    ends: &[Ends],
+    head: &Head,
     part: OwnPart,
     references: &[Value],
 ) -> Result<Bundle, ReadError>
-    requires trades { AreTrades (record { names = names.now; ends = ends.now }) }
-    requires few { length (sides_of ends.now part.firm) ≤ 32 }
+    requires few { length (sides_of head.now.ends part.firm) ≤ most_own_trades }
     ensures gives { Gives (λ bundle. bundle) result
-        (each (own_reference (record { names = names.now; ends = ends.now }) part.firm (part_place part.firm part.at)) 0
+        (each (own_reference head.now part.firm (part_place part.firm part.at)) 0
         (items_view references.now)) }
-    ensures own { IfOk result (λ bundle. bundle < 2 ^ length (sides_of ends.now part.firm)) }
+    ensures own { IfOk result (λ bundle. bundle < 2 ^ length (sides_of head.now.ends part.firm)) }
 {
     let mut bundle = Bundle::empty();
     for reference in references {
-        bundle = own_reference(alloc, names, ends, part, bundle, reference)?;
+        bundle = own_reference(alloc, head, part, bundle, reference)?;
     }
     Ok(bundle)
 }
@@ -115,47 +112,43 @@ fn each_own(
 #[tactic(auto, unfolding(crate::specs::References::own_reference), using(tn_base::proofs::SetLemmas::toggle_within))]
 fn own_reference(
     alloc: Global,
-    names: &Names,
-    ends: &[Ends],
+    head: &Head,
     part: OwnPart,
     bundle: Bundle,
     value: &Value,
 ) -> Result<Bundle, ReadError>
-    requires trades { AreTrades (record { names = names.now; ends = ends.now }) }
-    requires few { length (sides_of ends.now part.firm) ≤ 32 }
-    requires own { bundle < 2 ^ length (sides_of ends.now part.firm) }
+    requires few { length (sides_of head.now.ends part.firm) ≤ most_own_trades }
+    requires own { bundle < 2 ^ length (sides_of head.now.ends part.firm) }
     ensures gives { Gives (λ b. b) result
-        (own_reference (record { names = names.now; ends = ends.now }) part.firm (part_place part.firm part.at) bundle (view value.now)) }
-    ensures own { IfOk result (λ b. b < 2 ^ length (sides_of ends.now part.firm)) }
+        (own_reference head.now part.firm (part_place part.firm part.at) bundle (view value.now)) }
+    ensures own { IfOk result (λ b. b < 2 ^ length (sides_of head.now.ends part.firm)) }
 {
-    let k = next_position(alloc, names, ends, part, bundle, value)?;
+    let k = next_position(alloc, head, part, bundle, value)?;
     Ok(bundle.toggle(k))
 }
 
 /// The position that the next reference of a list names, after those of a bundle.
 fn next_position(
     alloc: Global,
-    names: &Names,
-    ends: &[Ends],
+    head: &Head,
     part: OwnPart,
     bundle: Bundle,
     value: &Value,
 ) -> Result<u32, ReadError>
-    requires trades { AreTrades (record { names = names.now; ends = ends.now }) }
-    requires few { length (sides_of ends.now part.firm) ≤ 32 }
+    requires few { length (sides_of head.now.ends part.firm) ≤ most_own_trades }
     ensures gives { Gives (λ k. k) result
-        (new_own (record { names = names.now; ends = ends.now }) part.firm None
+        (new_own head.now part.firm None
         (part_place part.firm part.at ++ Index (size bundle) ∷ []) bundle (view value.now)) }
-    ensures own { IfOk result (λ k. k < length (sides_of ends.now part.firm)) }
+    ensures own { IfOk result (λ k. k < length (sides_of head.now.ends part.firm)) }
 {
     let (f, k) = (part.firm, Index(bundle.count()));
     match part.at {
         PartAt::Item { list, item, part } => {
             let place = [FIRMS, Index(f), list, Index(item), part, k];
-            new_own(alloc, names, ends, f, bundle, value, &place)
+            new_own(alloc, head, f, bundle, value, &place)
         }
         PartAt::Member { part, member } => {
-            new_own(alloc, names, ends, f, bundle, value, &[part, member, k])
+            new_own(alloc, head, f, bundle, value, &[part, member, k])
         }
     }
 }
@@ -164,20 +157,18 @@ fn next_position(
 #[tactic(auto, unfolding(crate::specs::References::new_own))]
 fn new_own(
     alloc: Global,
-    names: &Names,
-    ends: &[Ends],
+    head: &Head,
     f: u32,
     bundle: Bundle,
     value: &Value,
     place: &[PlaceStep],
 ) -> Result<u32, ReadError>
-    requires trades { AreTrades (record { names = names.now; ends = ends.now }) }
-    requires few { length (sides_of ends.now f) ≤ 32 }
+    requires few { length (sides_of head.now.ends f) ≤ most_own_trades }
     ensures gives { Gives (λ k. k) result
-        (new_own (record { names = names.now; ends = ends.now }) f None place.now bundle (view value.now)) }
-    ensures own { IfOk result (λ k. k < length (sides_of ends.now f)) }
+        (new_own head.now f None place.now bundle (view value.now)) }
+    ensures own { IfOk result (λ k. k < length (sides_of head.now.ends f)) }
 {
-    let k = own_position(alloc, names, ends, f, None, value, place)?;
+    let k = own_position(alloc, head, f, None, value, place)?;
     require(alloc, !bundle.has(k), FaultKind::SameTrade, place)?;
     Ok(k)
 }

@@ -2,10 +2,12 @@
 
 ghost use Rattle.std.specs.Prelude.{◌≡◌, ◌<◌, ◌≤◌, length, option_map, IfOk, Some};
 ghost use Rattle.serde_json.specs.View.{view};
+ghost use Rattle.tn_plain_data.specs.Limits.{most_listed};
 ghost use Rattle.tn_shape.specs.Reading.{Gives};
 ghost use Rattle.tn_read_references.specs.Ordered.{AreTrades, Listed, sides_of};
 ghost use Rattle.tn_read_references.specs.References.{firm_at, new_trade, own_position, position_in, position_on, trade_at};
 
+use crate::head::Head;
 use serde_json::Value;
 use std::alloc::Global;
 use tn_base::{FaultKind, Side, TradeSet};
@@ -33,15 +35,21 @@ pub fn firm(
 #[tactic(auto, unfolding(crate::specs::References::trade_at), using(std::proofs::lemmas::Option::slice_get_within))]
 pub fn trade(
     alloc: Global,
-    names: &Names,
+    head: &Head,
     value: &Value,
     place: &[PlaceStep],
 ) -> Result<u32, ReadError>
-    ensures gives { Gives (λ t. t) result (trade_at names.now.trades place.now (view value.now)) }
-    ensures known { IfOk result (λ t. t < length names.now.trades) }
+    ensures gives { Gives (λ t. t) result (trade_at head.now.names.trades place.now (view value.now)) }
+    ensures known { IfOk result (λ t. t < length head.now.names.trades) }
+    ensures listed { IfOk result (λ t. t < most_listed) }
 {
     let name = text(alloc, Some(value), place)?;
-    found(alloc, names.trade_of(name), FaultKind::UnknownTrade, place)
+    found(
+        alloc,
+        head.names().trade_of(name),
+        FaultKind::UnknownTrade,
+        place,
+    )
 }
 
 /// The trade that a reference names, where it isn't a member of the set yet; the faults are, in this order, no text, no
@@ -49,17 +57,16 @@ pub fn trade(
 #[tactic(auto, unfolding(crate::specs::References::new_trade))]
 pub fn new_trade(
     alloc: Global,
-    names: &Names,
+    head: &Head,
     named: &TradeSet<2>,
     value: &Value,
     place: &[PlaceStep],
 ) -> Result<u32, ReadError>
-    requires { length names.now.trades ≤ 128 }
     ensures gives { Gives (λ t. t) result
-        (new_trade names.now.trades place.now named.now (view value.now)) }
-    ensures known { IfOk result (λ t. t < length names.now.trades) }
+        (new_trade head.now.names.trades place.now named.now (view value.now)) }
+    ensures known { IfOk result (λ t. t < length head.now.names.trades) }
 {
-    let t = trade(alloc, names, value, place)?;
+    let t = trade(alloc, head, value, place)?;
     require(alloc, !named.has(t), FaultKind::SameTrade, place)?;
     Ok(t)
 }
@@ -69,20 +76,18 @@ pub fn new_trade(
 #[tactic(auto, unfolding(crate::specs::References::own_position))]
 pub fn own_position(
     alloc: Global,
-    names: &Names,
-    ends: &[Ends],
+    head: &Head,
     f: u32,
     side: Option<Side>,
     value: &Value,
     place: &[PlaceStep],
 ) -> Result<u32, ReadError>
-    requires { AreTrades (record { names = names.now; ends = ends.now }) }
     ensures gives { Gives (λ k. k) result
-        (own_position (record { names = names.now; ends = ends.now }) f side place.now (view value.now)) }
-    ensures own { IfOk result (λ k. k < length (sides_of ends.now f)) }
+        (own_position head.now f side place.now (view value.now)) }
+    ensures own { IfOk result (λ k. k < length (sides_of head.now.ends f)) }
 {
-    let t = trade(alloc, names, value, place)?;
-    let position = position_on(side, &ends[t as usize], f);
+    let t = trade(alloc, head, value, place)?;
+    let position = position_on(side, &head.ends()[t as usize], f);
     found(alloc, position, FaultKind::NotOwnTrade, place)
 }
 

@@ -7,6 +7,6 @@ use Rattle.tn_read_references.proofs.own_lists.each_own.Given as goal
 
 abbrev pub invariant-loop-reference : goal.invariant-loop-reference
 invariant-loop-reference l = record {
-  own : l.bundle < 2 ^ length (sides_of l.ends l.part.firm);
-  rest : each (own_reference (record { names = l.names; ends = l.ends }) l.part.firm (part_place l.part.firm l.part.at)) l.bundle (items_view (drop l.reference-index l.references)) ≡ each (own_reference (record { names = l.names; ends = l.ends }) l.part.firm (part_place l.part.firm l.part.at)) 0 (items_view l.references);
+  own : l.bundle < 2 ^ length (sides_of l.head.ends l.part.firm);
+  rest : each (own_reference l.head l.part.firm (part_place l.part.firm l.part.at)) l.bundle (items_view (drop l.reference-index l.references)) ≡ each (own_reference l.head l.part.firm (part_place l.part.firm l.part.at)) 0 (items_view l.references);
 }
