@@ -2,6 +2,7 @@
 use Rattle.std.specs.Prelude.{◌<◌, ◌^◌, ℤ, map, All, IfSome}
 use Rattle.std.specs.List.Sorted.{IsStrictlyIncreasing}
 use Rattle.tn_base.specs.Arcs.{IsAtMost}
+use Rattle.tn_plain_data.specs.Limits.{most_number, most_price}
 use Rattle.tn_plain_data.specs.declared.holding.Holding.{Holding}
 use Rattle.tn_plain_data.specs.declared.range.Range.{Range}
 use Rattle.tn_plain_data.specs.declared.session.State.{State}
@@ -12,11 +13,11 @@ use Rattle.tn_answer.specs.ReasonText.{IsReasonWithin, HasAscendingBundles}
 
 -- no number of a claim is above this size
 abbrev pub IsWithinClaim : ℤ → Type 0
-IsWithinClaim z = IsAtMost z (10 ^ 18)
+IsWithinClaim z = IsAtMost z most_number
 
 -- no price that `support`, `solve`, `range` and `session` answer is above this size
 abbrev pub IsWithinPrices : ℤ → Type 0
-IsWithinPrices z = IsAtMost z (10 ^ 14)
+IsWithinPrices z = IsAtMost z most_price
 
 -- the prices of a range, the numbers of a state, and those of what a firm has are within the limits
 pub record HasWithinBounds (range : Range) : Type 0 where

@@ -4,6 +4,7 @@ use Rattle.std.specs.Int.{w64}
 use Rattle.std.specs.List.Sorted.{IsStrictlyIncreasing}
 use Rattle.serde_json.specs.Data.{number, string, unsigned, Members, no_members, member}
 use Rattle.tn_base.specs.Arcs.{IsAtMost}
+use Rattle.tn_plain_data.specs.Limits.{most_number}
 use Rattle.tn_plain_data.specs.declared.reason.Reason.{Reason}
 use Rattle.tn_plain_data.specs.declared.reason.Reason.TheVariants.{Impossible, Better, Possible, Surplus, Gain, Exchange, Holds, Arc, Cost, Contract, Over, Price, Empty, Signed, Choice}
 use Rattle.tn_names.specs.Names.{NameLists}
@@ -59,7 +60,7 @@ abbrev pub IsShortReason : Reason → Type 0
 IsShortReason reason = KeepsNumbers (FitsSigned w64) 64 reason
 
 abbrev pub IsReasonWithin : Reason → Type 0
-IsReasonWithin reason = KeepsNumbers (λ z. IsAtMost z (10 ^ 18)) 32 reason
+IsReasonWithin reason = KeepsNumbers (λ z. IsAtMost z most_number) 32 reason
 
 -- a reason speaks only of firms and trades that have a name
 abbrev pub IsNamedReason : NameLists → Reason → Type 0
