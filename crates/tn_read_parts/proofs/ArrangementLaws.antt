@@ -1,6 +1,6 @@
 -- An arrangement that is read has exactly the trades on that its references name, and exactly the prices that its entries
 -- say.
-use Rattle.std.proofs.Common.{◌≡◌, ◌≢◌, ℕ, zero, suc, ◌+◌, ◌<◌, ◌^◌, ℤ, pos, Bool, true, false, cond, List, [], ◌∷◌, ◌++◌, length, slice_get, Option, Some, None, inl, inr, ◌⊎◌, refl, sym, ap, subst, ◌∙◌, arith, true≢false}
+use Rattle.std.proofs.Common.{◌≡◌, ◌≢◌, ℕ, zero, suc, ◌+◌, ◌<◌, ℤ, pos, Bool, true, false, cond, List, [], ◌∷◌, ◌++◌, length, slice_get, Option, Some, None, inl, inr, ◌⊎◌, refl, sym, ap, subst, ◌∙◌, arith, true≢false}
 use Rattle.std.specs.Prelude.{◌↔◌, codes, not, option_and_then}
 use Rattle.std.proofs.lemmas.Bool.{cases_eq}
 use Rattle.std.proofs.lemmas.Option.{get_or_from_slice_get, none-some, same_Some, slice_get-get_or, slice_get_within}
@@ -18,6 +18,7 @@ use Rattle.tn_shape.specs.declared.members.ObjectKind.TheVariants.{Arrangement a
 use Rattle.tn_shape.specs.Reading.{each, wanted}
 use Rattle.tn_shape.specs.Shapes.{list_at, object_of}
 use Rattle.tn_shape.proofs.LeadLemmas.{Leads, leads_after, leads_as, leads_bind, leads_both, leads_ok, leads_wanted}
+use Rattle.tn_read_references.specs.Ordered.{Listed}
 use Rattle.tn_read_references.specs.References.{new_trade}
 use Rattle.tn_read_references.proofs.EntryLeads.{AreNumbers}
 use Rattle.tn_read_parts.specs.Arranged.{arrangement_of, on_of, on_place, prices_place}
@@ -144,12 +145,14 @@ on_says trades top =
     leads_bind (OnBy trades 0 references) (IsOnOf trades top) (each (one_on trades on_place) 0 references) _ (on_by trades on_place 0 references) (λ on by.
     leads_ok (IsOnOf trades top) (part, on) (record { part_is = part_is; references = references; references_are = references_are; on = on_from_start trades references on by })))))
 
-arrangement_says : (trades : List (List ℕ)) (top : Data) → Leads (SaysArrangement trades top) (arrangement_of trades top)
+arrangement_says : (listed : Listed) (top : Data) → Leads (SaysArrangement listed.names.trades top) (arrangement_of listed top)
 unfolding arrangement_of
-arrangement_says trades top =
+arrangement_says listed top =
+    let trades = listed.names.trades in
+    let limit = listed.limits.price in
     leads_bind (IsOnOf trades top) (SaysArrangement trades top) (on_of trades top) _ (on_says trades top) (λ part is.
     leads_bind (λ entries. option_and_then as_array (get (codes "prices") part.0) ≡ Some entries) (SaysArrangement trades top) (list_at prices_place (get (codes "prices") part.0)) _ (leads_wanted Shape prices_place (option_and_then as_array (get (codes "prices") part.0))) (λ entries entries_are.
-    leads_bind (ArePricesSaid trades entries) (SaysArrangement trades top) (prices_of trades prices_place (10 ^ 14) entries) _ (prices_said trades prices_place (10 ^ 14) entries) (λ prices are.
+    leads_bind (ArePricesSaid trades entries) (SaysArrangement trades top) (prices_of trades prices_place limit entries) _ (prices_said trades prices_place limit entries) (λ prices are.
     leads_ok (SaysArrangement trades top) (record { on = part.1; prices = prices }) (record {
       part = part.0;
       part_is = is.part_is;
@@ -162,4 +165,4 @@ arrangement_says trades top =
     }))))
 
 pub arrangements_have_their_entries : ArrangementsHaveTheirEntries
-arrangements_have_their_entries trades top arranged e = (arrangement_says trades top).at arranged e
+arrangements_have_their_entries listed top arranged e = (arrangement_says listed top).at arranged e

@@ -1,9 +1,10 @@
 -- What the arrangement is that reading gives.
-use Rattle.std.proofs.Common.{ℕ, ◌^◌, List, [], ◌∷◌, length, Some}
-use Rattle.std.specs.Prelude.{codes}
+use Rattle.std.proofs.Common.{ℕ, List, [], ◌∷◌, length, Some}
+use Rattle.std.specs.Prelude.{codes, get_or}
 use Rattle.serde_json.specs.Data.{Data}
 use Rattle.serde_json.specs.Find.{get}
 use Rattle.tn_base.specs.declared.fault.FaultKind.TheVariants.{Shape}
+use Rattle.tn_plain_data.specs.Limits.{AreLimits, most_price}
 use Rattle.tn_plain_data.specs.declared.place.PlaceStep.TheVariants.{Word}
 use Rattle.tn_plain_data.specs.declared.place.Word.TheVariants.{Arrangement}
 use Rattle.tn_shape.specs.declared.members.ObjectKind.TheVariants.{Arrangement as ArrangementObject}
@@ -11,8 +12,10 @@ use Rattle.tn_shape.specs.Reading.{each, wanted}
 use Rattle.tn_shape.specs.Shapes.{list_at, object_of}
 use Rattle.tn_shape.proofs.LeadLemmas.{Leads, leads_ok, leads_bind, leads_after}
 use Rattle.tn_read_references.proofs.EntryLeads.{AreNumbers}
+use Rattle.tn_read_references.specs.Ordered.{Listed}
 use Rattle.tn_read_parts.specs.Lists.{one_on, prices_of}
 use Rattle.tn_read_parts.specs.Arranged.{on_place, prices_place, on_of, trades_on_of, arrangement_of, IsArrangement}
+use Rattle.tn_read_parts.proofs.LimitLemmas.{at_most_more}
 use Rattle.tn_read_parts.proofs.ListLeads.{IsSetOf, set_leads, prices_lead}
 
 module _ (trades : List (List ℕ)) where
@@ -34,10 +37,12 @@ module _ (trades : List (List ℕ)) where
       leads_bind HasSet (IsSetOf trades on_place) (on_of trades top) _ (on_leads top) (λ part below.
       leads_ok (IsSetOf trades on_place) part.1 below)
 
-  pub arrangement_leads : (top : Data) → Leads (IsArrangement (length trades)) (arrangement_of trades top)
-  unfolding arrangement_of
-  arrangement_leads top =
-      leads_bind HasSet (IsArrangement (length trades)) (on_of trades top) _ (on_leads top) (λ part below.
-      leads_after (IsArrangement (length trades)) (list_at prices_place (get (codes "prices") part.0)) _ (λ entries.
-      leads_bind (AreNumbers (length trades) (10 ^ 14)) (IsArrangement (length trades)) (prices_of trades prices_place (10 ^ 14) entries) _ (prices_lead trades prices_place (10 ^ 14) entries) (λ prices are.
-      leads_ok (IsArrangement (length trades)) (record { on = part.1; prices = prices }) (record { on = below; count = are.count; small = are.small }))))
+pub arrangement_leads : (listed : Listed) → AreLimits listed.limits → (top : Data) → Leads (IsArrangement (length listed.names.trades)) (arrangement_of listed top)
+unfolding arrangement_of
+arrangement_leads listed limits top =
+    let trades = listed.names.trades in
+    let limit = listed.limits.price in
+    leads_bind (HasSet trades) (IsArrangement (length trades)) (on_of trades top) _ (on_leads trades top) (λ part below.
+    leads_after (IsArrangement (length trades)) (list_at prices_place (get (codes "prices") part.0)) _ (λ entries.
+    leads_bind (AreNumbers (length trades) limit) (IsArrangement (length trades)) (prices_of trades prices_place limit entries) _ (prices_lead trades prices_place limit entries) (λ prices are.
+    leads_ok (IsArrangement (length trades)) (record { on = part.1; prices = prices }) (record { on = below; count = are.count; small = λ k d inside. at_most_more limit most_price (get_or prices k d) limits.price (are.small k d inside) }))))

@@ -1,5 +1,5 @@
 -- Wherever the reading of an arrangement stops, its fault speaks of named trades.
-use Rattle.std.proofs.Common.{ℕ, ◌^◌, ◌≤◌, List, [], ◌∷◌, length, Some, refl}
+use Rattle.std.proofs.Common.{ℕ, ◌≤◌, List, [], ◌∷◌, length, Some, refl}
 use Rattle.std.specs.Prelude.{codes}
 use Rattle.serde_json.specs.Data.{Data}
 use Rattle.serde_json.specs.Find.{get}
@@ -11,6 +11,7 @@ use Rattle.tn_shape.specs.Reading.{each, wanted}
 use Rattle.tn_shape.specs.Shapes.{list_at, object_of}
 use Rattle.tn_shape.proofs.ShapeStops.{list_stops, object_stops}
 use Rattle.tn_shape.proofs.StopLemmas.{IsPlain, Stops, StopsPlainly, plain_wanted, stops_bind, stops_ok}
+use Rattle.tn_read_references.specs.Ordered.{Listed}
 use Rattle.tn_read_references.proofs.ToldLemmas.{IsTold, told_from_plain}
 use Rattle.tn_read_parts.specs.Lists.{one_on, prices_of}
 use Rattle.tn_read_parts.specs.Arranged.{on_place, prices_place, on_of, trades_on_of, arrangement_of}
@@ -32,10 +33,12 @@ module _ (trades : List (List ℕ)) (few : length trades ≤ 16384) where
       stops_bind IsPlain (on_of trades top) _ (on_stops top) (λ part.
       stops_ok IsPlain part.1)
 
-  pub arrangement_stops : (top : Data) → Stops (IsTold trades) (arrangement_of trades top)
-  unfolding arrangement_of
-  arrangement_stops top =
-      stops_bind (IsTold trades) (on_of trades top) _ (told_from_plain trades _ (on_stops top)) (λ part.
-      stops_bind (IsTold trades) (list_at prices_place (get (codes "prices") part.0)) _ (told_from_plain trades _ (list_stops prices_place (tt, (tt, tt)) (get (codes "prices") part.0))) (λ entries.
-      stops_bind (IsTold trades) (prices_of trades prices_place (10 ^ 14) entries) _ (prices_stop trades few prices_place (tt, (tt, tt)) (10 ^ 14) entries) (λ prices.
-      stops_ok (IsTold trades) (record { on = part.1; prices = prices }))))
+pub arrangement_stops : (listed : Listed) → length listed.names.trades ≤ 16384 → (top : Data) → Stops (IsTold listed.names.trades) (arrangement_of listed top)
+unfolding arrangement_of
+arrangement_stops listed few top =
+    let trades = listed.names.trades in
+    let limit = listed.limits.price in
+    stops_bind (IsTold trades) (on_of trades top) _ (told_from_plain trades _ (on_stops trades few top)) (λ part.
+    stops_bind (IsTold trades) (list_at prices_place (get (codes "prices") part.0)) _ (told_from_plain trades _ (list_stops prices_place (tt, (tt, tt)) (get (codes "prices") part.0))) (λ entries.
+    stops_bind (IsTold trades) (prices_of trades prices_place limit entries) _ (prices_stop trades few prices_place (tt, (tt, tt)) limit entries) (λ prices.
+    stops_ok (IsTold trades) (record { on = part.1; prices = prices }))))

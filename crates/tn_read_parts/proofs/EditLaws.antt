@@ -15,6 +15,7 @@ use Rattle.tn_names.proofs.NameLemmas.{push_cases}
 use Rattle.tn_shape.specs.Reading.{each, holds, wanted}
 use Rattle.tn_shape.specs.Shapes.{few_at, list_at, text_at, two_at}
 use Rattle.tn_shape.proofs.LeadLemmas.{Leads, leads_after, leads_as, leads_bind, leads_both, leads_count, leads_ok, leads_wanted}
+use Rattle.tn_read_references.specs.Ordered.{Listed}
 use Rattle.tn_read_references.specs.References.{trade_at}
 use Rattle.tn_read_parts.specs.declared.edits.Change.{Change}
 use Rattle.tn_read_parts.specs.declared.edits.Change.TheVariants.{Admit, Bar}
@@ -89,17 +90,19 @@ from_start trades entries end longer k edit there = elim (longer k edit there) [
       subst (λ n. IsEditAt trades entries n edit) first later.said
 ]
 
-edits_say : (trades : List (List ℕ)) (top : Data) → Leads (SaysEdits trades top) (edits_of trades top)
+edits_say : (listed : Listed) (top : Data) → Leads (SaysEdits listed.names.trades top) (edits_of listed top)
 unfolding edits_of few_at
-edits_say trades top =
-    leads_bind (λ entries. option_and_then as_array (get (codes "edits") top) ≡ Some entries) (SaysEdits trades top) (few_at 256 (Word Edits ∷ []) (get (codes "edits") top)) _
+edits_say listed top =
+    let trades = listed.names.trades in
+    let limit = listed.limits.edits in
+    leads_bind (λ entries. option_and_then as_array (get (codes "edits") top) ≡ Some entries) (SaysEdits trades top) (few_at limit (Word Edits ∷ []) (get (codes "edits") top)) _
     (leads_bind (λ entries. option_and_then as_array (get (codes "edits") top) ≡ Some entries) (λ entries. option_and_then as_array (get (codes "edits") top) ≡ Some entries) (list_at (Word Edits ∷ []) (get (codes "edits") top)) _
     (leads_wanted Shape (Word Edits ∷ []) (option_and_then as_array (get (codes "edits") top))) (λ entries are.
-    leads_after (λ entries. option_and_then as_array (get (codes "edits") top) ≡ Some entries) (holds Limit (Word Edits ∷ []) (nat_le (items_len entries) 256)) _ (λ few.
+    leads_after (λ entries. option_and_then as_array (get (codes "edits") top) ≡ Some entries) (holds Limit (Word Edits ∷ []) (nat_le (items_len entries) limit)) _ (λ few.
     leads_ok (λ entries. option_and_then as_array (get (codes "edits") top) ≡ Some entries) entries are))) (λ entries are.
     leads_as (λ end. IsLonger trades [] entries end × (length end ≡ 0 + items_len entries)) (SaysEdits trades top) (each (one_edit trades) [] entries)
     (λ end both. record { entries = entries; entries_are = are; count = both.1 ∙ omega arith; each = from_start trades entries end both.0 })
     (leads_both (IsLonger trades [] entries) (λ end. length end ≡ 0 + items_len entries) (each (one_edit trades) [] entries) (edits_longer trades [] entries) (leads_count length (one_edit trades) (one_edit_counts trades) [] entries)))
 
 pub edits_have_their_entries : EditsHaveTheirEntries
-edits_have_their_entries trades top edits e = (edits_say trades top).at edits e
+edits_have_their_entries listed top edits e = (edits_say listed top).at edits e

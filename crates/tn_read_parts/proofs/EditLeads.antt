@@ -7,6 +7,7 @@ use Rattle.serde_json.specs.Data.{Data}
 use Rattle.serde_json.specs.Events.{items_len}
 use Rattle.serde_json.specs.Find.{get}
 use Rattle.tn_base.specs.declared.fault.FaultKind.TheVariants.{Shape}
+use Rattle.tn_plain_data.specs.Limits.{AreLimits}
 use Rattle.tn_plain_data.specs.declared.session.Edit.{Edit}
 use Rattle.tn_plain_data.specs.declared.place.PlaceStep.TheVariants.{Index, Word}
 use Rattle.tn_plain_data.specs.declared.place.Word.TheVariants.{Edits}
@@ -14,6 +15,7 @@ use Rattle.tn_shape.specs.Reading.{each, wanted}
 use Rattle.tn_shape.specs.Shapes.{few_at, text_at, two_at}
 use Rattle.tn_shape.proofs.LeadLemmas.{Leads, leads_ok, leads_bind, leads_after, leads_as, leads_both, leads_count, leads_each}
 use Rattle.tn_shape.proofs.ShapeLeads.{few_lead}
+use Rattle.tn_read_references.specs.Ordered.{Listed}
 use Rattle.tn_read_references.specs.References.{trade_at}
 use Rattle.tn_read_references.proofs.ReferenceLeads.{trade_leads}
 use Rattle.tn_read_parts.specs.declared.edits.Change.{Change}
@@ -50,11 +52,13 @@ module _ (trades : List (List ℕ)) where
       leads_after (λ next. length next ≡ length edits + 1) (edit_at trades (length edits) entry) _ (λ edit.
       leads_ok (λ next. length next ≡ length edits + 1) (edits ++ edit ∷ []) (length-append edits (edit ∷ [])))
 
-  pub edits_lead : (top : Data) → Leads (AreEdits (length trades)) (edits_of trades top)
-  unfolding edits_of
-  edits_lead top =
-      leads_bind (λ items. items_len items ≤ 256) (AreEdits (length trades)) (few_at 256 (Word Edits ∷ []) (get (codes "edits") top)) _ (few_lead 256 (Word Edits ∷ []) (get (codes "edits") top)) (λ entries few.
-      leads_as (λ edits. All IsKnown edits × (length edits ≡ 0 + items_len entries)) (AreEdits (length trades)) (each (one_edit trades) [] entries) (λ edits are. record { few = omega (arith, few, are.1); known = are.0 })
-      (leads_both (All IsKnown) (λ edits. length edits ≡ 0 + items_len entries) (each (one_edit trades) [] entries)
-      (leads_each (All IsKnown) (one_edit trades) one_edit_leads [] entries (All-nil IsKnown))
-      (leads_count length (one_edit trades) one_edit_counts [] entries)))
+pub edits_lead : (listed : Listed) → AreLimits listed.limits → (top : Data) → Leads (AreEdits (length listed.names.trades)) (edits_of listed top)
+unfolding edits_of
+edits_lead listed limits top =
+    let trades = listed.names.trades in
+    let limit = listed.limits.edits in
+    leads_bind (λ items. items_len items ≤ limit) (AreEdits (length trades)) (few_at limit (Word Edits ∷ []) (get (codes "edits") top)) _ (few_lead limit (Word Edits ∷ []) (get (codes "edits") top)) (λ entries few.
+    leads_as (λ edits. All (IsKnown trades) edits × (length edits ≡ 0 + items_len entries)) (AreEdits (length trades)) (each (one_edit trades) [] entries) (λ edits are. record { few = omega (arith, few, are.1, limits.edits); known = are.0 })
+    (leads_both (All (IsKnown trades)) (λ edits. length edits ≡ 0 + items_len entries) (each (one_edit trades) [] entries)
+    (leads_each (All (IsKnown trades)) (one_edit trades) (one_edit_leads trades) [] entries (All-nil (IsKnown trades)))
+    (leads_count length (one_edit trades) (one_edit_counts trades) [] entries)))

@@ -1,4 +1,5 @@
 pub mod PriceLemmas
+pub mod LimitLemmas
 pub mod ListLeads
 pub mod ListStops
 pub mod ArrangementLeads

@@ -1,5 +1,5 @@
 -- Wherever the reading of an outcome stops, its fault is plain.
-use Rattle.std.proofs.Common.{ℕ, ◌^◌, ◌≤◌, ◌&&◌, pos, List, length, Option, Some, refl}
+use Rattle.std.proofs.Common.{ℕ, ◌≤◌, ◌&&◌, pos, List, length, Option, Some, refl}
 use Rattle.std.specs.Prelude.{codes, int_le}
 use Rattle.serde_json.specs.Data.{Data, Items}
 use Rattle.serde_json.specs.Find.{get}
@@ -10,6 +10,7 @@ use Rattle.tn_shape.specs.Reading.{wanted, holds}
 use Rattle.tn_shape.specs.Shapes.{list_at, object_of, whole_at}
 use Rattle.tn_shape.proofs.ShapeStops.{list_stops, object_stops, whole_stops}
 use Rattle.tn_shape.proofs.StopLemmas.{IsPlain, IsPlainPlace, StopsPlainly, plain_holds, plain_wanted, stops_bind, stops_ok}
+use Rattle.tn_read_references.specs.Ordered.{Listed}
 use Rattle.tn_read_parts.specs.Lists.{named_prices, contracts_at}
 use Rattle.tn_read_parts.specs.Signed.{outcome_place, over_place, contracts_place, over_at, outcome_of}
 use Rattle.tn_read_parts.proofs.ListStops.{named_stops}
@@ -28,12 +29,15 @@ module _ (trades : List (List ℕ)) (few : length trades ≤ 16384) where
       stops_bind IsPlain (named_prices trades place limit entries) _ (named_stops trades few place plain limit entries) (λ priced.
       stops_ok IsPlain _)
 
-  pub outcome_stops : (top : Data) → StopsPlainly (outcome_of trades top)
-  unfolding outcome_of
-  outcome_stops top =
-      stops_bind IsPlain (wanted Shape outcome_place (get (codes "outcome") top)) _ (plain_wanted Shape outcome_place (get (codes "outcome") top) refl (tt, tt)) (λ part.
-      stops_bind IsPlain (object_of OutcomeObject outcome_place (Some part)) _ (object_stops outcome_place (tt, tt) OutcomeObject (Some part)) (λ object.
-      stops_bind IsPlain (over_at 100 over_place (get (codes "over") part)) _ (over_stops 100 over_place (tt, (tt, tt)) (get (codes "over") part)) (λ over.
-      stops_bind IsPlain (list_at contracts_place (get (codes "contracts") part)) _ (list_stops contracts_place (tt, (tt, tt)) (get (codes "contracts") part)) (λ entries.
-      stops_bind IsPlain (contracts_at trades contracts_place (10 ^ 11) entries) _ (contracts_stop contracts_place (tt, (tt, tt)) (10 ^ 11) entries) (λ contracts.
-      stops_ok IsPlain (record { over = over; contracts = contracts }))))))
+pub outcome_stops : (listed : Listed) → length listed.names.trades ≤ 16384 → (top : Data) → StopsPlainly (outcome_of listed top)
+unfolding outcome_of
+outcome_stops listed few top =
+    let trades = listed.names.trades in
+    let most = listed.limits.over in
+    let limit = listed.limits.numerator in
+    stops_bind IsPlain (wanted Shape outcome_place (get (codes "outcome") top)) _ (plain_wanted Shape outcome_place (get (codes "outcome") top) refl (tt, tt)) (λ part.
+    stops_bind IsPlain (object_of OutcomeObject outcome_place (Some part)) _ (object_stops outcome_place (tt, tt) OutcomeObject (Some part)) (λ object.
+    stops_bind IsPlain (over_at most over_place (get (codes "over") part)) _ (over_stops most over_place (tt, (tt, tt)) (get (codes "over") part)) (λ over.
+    stops_bind IsPlain (list_at contracts_place (get (codes "contracts") part)) _ (list_stops contracts_place (tt, (tt, tt)) (get (codes "contracts") part)) (λ entries.
+    stops_bind IsPlain (contracts_at trades contracts_place limit entries) _ (contracts_stop trades few contracts_place (tt, (tt, tt)) limit entries) (λ contracts.
+    stops_ok IsPlain (record { over = over; contracts = contracts }))))))

@@ -4,6 +4,7 @@ use Rattle.serde_json.specs.Data.{Data}
 use Rattle.serde_json.specs.Find.{get}
 use Rattle.tn_base.specs.Arcs.{IsAtMost}
 use Rattle.tn_base.specs.declared.fault.FaultKind.TheVariants.{Shape}
+use Rattle.tn_plain_data.specs.Limits.{most_price}
 use Rattle.tn_plain_data.specs.declared.place.PlaceStep.{PlaceStep}
 use Rattle.tn_plain_data.specs.declared.place.PlaceStep.TheVariants.{Word}
 use Rattle.tn_plain_data.specs.declared.place.Word.TheVariants.{Arrangement, On, Prices}
@@ -11,6 +12,7 @@ use Rattle.tn_plain_data.specs.declared.said.Fault.{Fault}
 use Rattle.tn_shape.specs.declared.members.ObjectKind.TheVariants.{Arrangement as ArrangementObject}
 use Rattle.tn_shape.specs.Reading.{◌>>=◌, each, wanted}
 use Rattle.tn_shape.specs.Shapes.{list_at, object_of}
+use Rattle.tn_read_references.specs.Ordered.{Listed}
 use Rattle.tn_read_parts.specs.Lists.{one_on, prices_of}
 
 abbrev pub on_place : List PlaceStep
@@ -38,15 +40,16 @@ pub record Arranged : Type 0 where
   pub on : ℕ
   pub prices : List ℤ
 
-unfoldable pub arrangement_of : List (List ℕ) → Data → Result Arranged Fault
-arrangement_of trades top = do
-  part ← on_of trades top
+-- the trades that are on, and their prices within the limit of the document
+unfoldable pub arrangement_of : Listed → Data → Result Arranged Fault
+arrangement_of listed top = do
+  part ← on_of listed.names.trades top
   entries ← list_at prices_place (get (codes "prices") part.0)
-  prices ← prices_of trades prices_place (10 ^ 14) entries
+  prices ← prices_of listed.names.trades prices_place listed.limits.price entries
   Ok (record { on = part.1; prices = prices })
 
--- a set of so many trades, and a price of at most 10^14 for each
+-- a set of so many trades, and a price for each, as large as one may be
 pub record IsArrangement (trades : ℕ) (part : Arranged) : Type 0 where
   pub on : part.on < 2 ^ trades
   pub count : length part.prices ≡ trades
-  pub small : All (λ z. IsAtMost z (10 ^ 14)) part.prices
+  pub small : All (λ z. IsAtMost z most_price) part.prices

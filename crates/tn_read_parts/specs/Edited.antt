@@ -12,6 +12,7 @@ use Rattle.tn_plain_data.specs.declared.place.Word.TheVariants.{Edits}
 use Rattle.tn_plain_data.specs.declared.said.Fault.{Fault}
 use Rattle.tn_shape.specs.Reading.{◌>>=◌, each, wanted}
 use Rattle.tn_shape.specs.Shapes.{few_at, text_at, two_at}
+use Rattle.tn_read_references.specs.Ordered.{Listed}
 use Rattle.tn_read_references.specs.References.{trade_at}
 use Rattle.tn_read_parts.specs.declared.edits.Change.{Change}
 use Rattle.tn_read_parts.specs.declared.edits.Change.TheVariants.{Admit as AdmitIs, Bar as BarIs}
@@ -42,8 +43,8 @@ one_edit trades edits entry = do
   edit ← edit_at trades (length edits) entry
   Ok (edits ++ edit ∷ [])
 
--- at most 256 edits, in their order
-unfoldable pub edits_of : List (List ℕ) → Data → Result (List Edit) Fault
-edits_of trades top = do
-  entries ← few_at 256 (Word Edits ∷ []) (get (codes "edits") top)
-  each (one_edit trades) [] entries
+-- no more edits than the limit of the document, in their order
+unfoldable pub edits_of : Listed → Data → Result (List Edit) Fault
+edits_of listed top = do
+  entries ← few_at listed.limits.edits (Word Edits ∷ []) (get (codes "edits") top)
+  each (one_edit listed.names.trades) [] entries

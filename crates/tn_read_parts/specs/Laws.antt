@@ -9,6 +9,7 @@ use Rattle.tn_plain_data.specs.declared.contract.Outcome.{Outcome}
 use Rattle.tn_plain_data.specs.declared.session.Edit.{Edit}
 use Rattle.tn_plain_data.specs.declared.session.Edit.TheVariants.{Admit, Bar}
 use Rattle.tn_names.specs.Names.{number_of}
+use Rattle.tn_read_references.specs.Ordered.{Listed}
 use Rattle.tn_read_parts.specs.Arranged.{Arranged, arrangement_of}
 use Rattle.tn_read_parts.specs.Edited.{edits_of}
 use Rattle.tn_plain_data.specs.Edits.{edited}
@@ -54,7 +55,7 @@ pub record SaysArrangement (trades : List (List ℕ)) (top : Data) (arranged : A
   pub prices : (t : ℕ) (price : ℤ) → (slice_get arranged.prices t ≡ Some price) ↔ IsSaid trades entries (record { trade = t; price = price })
 
 abbrev pub ArrangementsHaveTheirEntries : Type 0
-ArrangementsHaveTheirEntries = (trades : List (List ℕ)) (top : Data) (arranged : Arranged) → arrangement_of trades top ≡ Ok arranged → SaysArrangement trades top arranged
+ArrangementsHaveTheirEntries = (listed : Listed) (top : Data) (arranged : Arranged) → arrangement_of listed top ≡ Ok arranged → SaysArrangement listed.names.trades top arranged
 
 -- a document's outcome has the denominator that it says, and exactly the contracts that its entries say
 pub record SaysOutcome (trades : List (List ℕ)) (top : Data) (outcome : Outcome) : Type 0 where
@@ -66,7 +67,7 @@ pub record SaysOutcome (trades : List (List ℕ)) (top : Data) (outcome : Outcom
   pub contracts : (contract : Contract) → Contains outcome.contracts contract ↔ IsSaid trades entries contract
 
 abbrev pub OutcomesHaveTheirEntries : Type 0
-OutcomesHaveTheirEntries = (trades : List (List ℕ)) (top : Data) (outcome : Outcome) → outcome_of trades top ≡ Ok outcome → SaysOutcome trades top outcome
+OutcomesHaveTheirEntries = (listed : Listed) (top : Data) (outcome : Outcome) → outcome_of listed top ≡ Ok outcome → SaysOutcome listed.names.trades top outcome
 
 -- the text of what an edit does
 abbrev pub edit_text : Edit → List ℕ
@@ -95,4 +96,4 @@ pub record SaysEdits (trades : List (List ℕ)) (top : Data) (edits : List Edit)
   pub each : (k : ℕ) (edit : Edit) → slice_get edits k ≡ Some edit → IsEditAt trades entries k edit
 
 abbrev pub EditsHaveTheirEntries : Type 0
-EditsHaveTheirEntries = (trades : List (List ℕ)) (top : Data) (edits : List Edit) → edits_of trades top ≡ Ok edits → SaysEdits trades top edits
+EditsHaveTheirEntries = (listed : Listed) (top : Data) (edits : List Edit) → edits_of listed top ≡ Ok edits → SaysEdits listed.names.trades top edits

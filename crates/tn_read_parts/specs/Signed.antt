@@ -1,5 +1,5 @@
 -- The outcome: contracts over a denominator.
-use Rattle.std.specs.Prelude.{ℕ, ◌^◌, [], ◌∷◌, ℤ, pos, int_le, List, codes, ◌&&◌, Option, Some, Result, Ok}
+use Rattle.std.specs.Prelude.{ℕ, [], ◌∷◌, ℤ, pos, int_le, List, codes, ◌&&◌, Option, Some, Result, Ok}
 use Rattle.serde_json.specs.Data.{Data}
 use Rattle.serde_json.specs.Find.{get}
 use Rattle.tn_base.specs.declared.fault.FaultKind.TheVariants.{Shape, BadOver}
@@ -11,6 +11,7 @@ use Rattle.tn_plain_data.specs.declared.said.Fault.{Fault}
 use Rattle.tn_shape.specs.declared.members.ObjectKind.TheVariants.{Outcome as OutcomeObject}
 use Rattle.tn_shape.specs.Reading.{◌>>=◌, wanted, holds}
 use Rattle.tn_shape.specs.Shapes.{list_at, object_of, whole_at}
+use Rattle.tn_read_references.specs.Ordered.{Listed}
 use Rattle.tn_read_parts.specs.Lists.{contracts_at}
 
 abbrev pub outcome_place : List PlaceStep
@@ -30,11 +31,11 @@ over_at limit place value = do
   Ok over
 
 -- the denominator is read before the contracts
-unfoldable pub outcome_of : List (List ℕ) → Data → Result Outcome Fault
-outcome_of trades top = do
+unfoldable pub outcome_of : Listed → Data → Result Outcome Fault
+outcome_of listed top = do
   part ← wanted Shape outcome_place (get (codes "outcome") top)
   object ← object_of OutcomeObject outcome_place (Some part)
-  over ← over_at 100 over_place (get (codes "over") part)
+  over ← over_at listed.limits.over over_place (get (codes "over") part)
   entries ← list_at contracts_place (get (codes "contracts") part)
-  contracts ← contracts_at trades contracts_place (10 ^ 11) entries
+  contracts ← contracts_at listed.names.trades contracts_place listed.limits.numerator entries
   Ok (record { over = over; contracts = contracts })

@@ -1,4 +1,3 @@
-ghost use Rattle.std.specs.Prelude.{◌≤◌, length};
 ghost use Rattle.serde_json.specs.View.{view};
 ghost use Rattle.tn_shape.specs.Reading.{Gives};
 ghost use Rattle.tn_read_parts.specs.Arranged.{Arranged, arrangement_of, on_of, trades_on_of};
@@ -7,32 +6,28 @@ use crate::lists::{ListAt, read_prices, read_trades};
 use serde_json::Value;
 use std::alloc::Global;
 use tn_base::TradeSet;
-use tn_names::Names;
 use tn_plain_data::{Arrangement, Prices};
+use tn_read_references::Head;
 use tn_shape::steps::{ARRANGEMENT, ON, PRICES};
 use tn_shape::{ObjectKind, ReadError, list, object_of, present};
-
-/// The largest price of an arrangement.
-const PRICE_LIMIT: u64 = 100_000_000_000_000;
 
 /// The arrangement of a document.
 #[tactic(auto, unfolding(crate::specs::Arranged::arrangement_of))]
 pub fn read_arrangement(
     alloc: Global,
-    names: &Names,
+    head: &Head,
     top: &Value,
 ) -> Result<Arrangement<2>, ReadError>
-    requires { length names.now.trades ≤ 128 }
     ensures { Gives (λ part. record { on = part.on; prices = part.prices }) result
-        (arrangement_of names.now.trades (view top.now)) }
+        (arrangement_of head.now (view top.now)) }
 {
-    let (part, on) = read_on(alloc, names, top)?;
+    let (part, on) = read_on(alloc, head, top)?;
     let at = ListAt {
         part: ARRANGEMENT,
         member: PRICES,
     };
     let entries = list(alloc, part.get("prices"), &[at.part, at.member])?;
-    let prices = read_prices(alloc, names, at, PRICE_LIMIT, entries)?;
+    let prices = read_prices(alloc, head, at, head.limits().price, entries)?;
     Ok(Arrangement {
         on,
         prices: Prices::from_vec(prices),
@@ -41,11 +36,10 @@ pub fn read_arrangement(
 
 /// The trades that are on in a document's arrangement, whatever its prices are.
 #[tactic(auto, unfolding(crate::specs::Arranged::trades_on_of))]
-pub fn read_trades_on(alloc: Global, names: &Names, top: &Value) -> Result<TradeSet<2>, ReadError>
-    requires { length names.now.trades ≤ 128 }
-    ensures { Gives (λ on. on) result (trades_on_of names.now.trades (view top.now)) }
+pub fn read_trades_on(alloc: Global, head: &Head, top: &Value) -> Result<TradeSet<2>, ReadError>
+    ensures { Gives (λ on. on) result (trades_on_of head.now.names.trades (view top.now)) }
 {
-    let (_, on) = read_on(alloc, names, top)?;
+    let (_, on) = read_on(alloc, head, top)?;
     Ok(on)
 }
 
@@ -53,11 +47,10 @@ pub fn read_trades_on(alloc: Global, names: &Names, top: &Value) -> Result<Trade
 #[tactic(auto, unfolding(crate::specs::Arranged::on_of))]
 fn read_on<'a>(
     alloc: Global,
-    names: &Names,
+    head: &Head,
     top: &'a Value,
 ) -> Result<(&'a Value, TradeSet<2>), ReadError>
-    requires { length names.now.trades ≤ 128 }
-    ensures { Gives (λ p. (view p.0.now, p.1)) result (on_of names.now.trades (view top.now)) }
+    ensures { Gives (λ p. (view p.0.now, p.1)) result (on_of head.now.names.trades (view top.now)) }
 {
     let part = present(alloc, top.get("arrangement"), &[ARRANGEMENT])?;
     object_of(alloc, ObjectKind::Arrangement, Some(part), &[ARRANGEMENT])?;
@@ -66,6 +59,6 @@ fn read_on<'a>(
         member: ON,
     };
     let references = list(alloc, part.get("on"), &[at.part, at.member])?;
-    let on = read_trades(alloc, names, at, references)?;
+    let on = read_trades(alloc, head, at, references)?;
     Ok((part, on))
 }

@@ -2,6 +2,7 @@
 
 ghost use Rattle.std.specs.Prelude.{◌≡◌, ◌<◌, ◌≤◌, length, IfOk, Some};
 ghost use Rattle.serde_json.specs.View.{view, items_view};
+ghost use Rattle.tn_plain_data.specs.Limits.{most_listed};
 ghost use Rattle.tn_plain_data.specs.Prices.{price_at};
 ghost use Rattle.tn_plain_data.specs.Choices.{contracts_of};
 ghost use Rattle.tn_shape.specs.Reading.{Gives, each};
@@ -11,10 +12,9 @@ ghost use Rattle.tn_read_parts.specs.Lists.{contracts_at, first_without, list_pl
 use serde_json::Value;
 use std::alloc::Global;
 use tn_base::{FaultKind, OutOfMemory, TradeSet};
-use tn_names::Names;
 use tn_plain_data::PlaceStep::{Index, Trade};
 use tn_plain_data::{Contract, Contracts, PlaceStep};
-use tn_read_references::new_trade;
+use tn_read_references::{Head, new_trade};
 use tn_shape::{ReadError, fault, number, two};
 
 /// A list that is a member of an extra part.
@@ -29,17 +29,16 @@ pub struct ListAt {
 /// The set of the trades that a list names.
 pub fn read_trades(
     alloc: Global,
-    names: &Names,
+    head: &Head,
     at: ListAt,
     references: &[Value],
 ) -> Result<TradeSet<2>, ReadError>
-    requires { length names.now.trades ≤ 128 }
     ensures { Gives (λ on. on) result
-        (each (one_on names.now.trades (list_place at)) 0 (items_view references.now)) }
+        (each (one_on head.now.names.trades (list_place at)) 0 (items_view references.now)) }
 {
     let mut on = TradeSet::empty();
     for reference in references {
-        add_trade(alloc, names, at, &mut on, reference)?;
+        add_trade(alloc, head, at, &mut on, reference)?;
     }
     Ok(on)
 }
@@ -48,17 +47,16 @@ pub fn read_trades(
 #[tactic(auto, unfolding(crate::specs::Lists::one_on))]
 fn add_trade(
     alloc: Global,
-    names: &Names,
+    head: &Head,
     at: ListAt,
     on: &mut TradeSet<2>,
     reference: &Value,
 ) -> Result<(), ReadError>
-    requires { length names.now.trades ≤ 128 }
     ensures { Gives (λ _. on.new) result
-        (one_on names.now.trades (list_place at) on.old (view reference.now)) }
+        (one_on head.now.names.trades (list_place at) on.old (view reference.now)) }
 {
     let place = [at.part, at.member, Index(on.count())];
-    let t = new_trade(alloc, names, on, reference, &place)?;
+    let t = new_trade(alloc, head, on, reference, &place)?;
     on.toggle(t);
     Ok(())
 }
@@ -67,17 +65,16 @@ fn add_trade(
 #[tactic(auto, unfolding(crate::specs::Lists::prices_of))]
 pub fn read_prices(
     alloc: Global,
-    names: &Names,
+    head: &Head,
     at: ListAt,
     limit: u64,
     entries: &[Value],
 ) -> Result<Vec<i128>, ReadError>
-    requires { length names.now.trades ≤ 128 }
     ensures { Gives (λ prices. prices.items) result
-        (prices_of names.now.trades (list_place at) limit (items_view entries.now)) }
+        (prices_of head.now.names.trades (list_place at) limit (items_view entries.now)) }
 {
-    let (named, prices) = named_prices(alloc, names, at, limit, entries)?;
-    check_complete(alloc, at, &named, names.trades())?;
+    let (named, prices) = named_prices(alloc, head, at, limit, entries)?;
+    check_complete(alloc, at, &named, head.names().trades())?;
     Ok(prices)
 }
 
@@ -85,16 +82,15 @@ pub fn read_prices(
 #[tactic(auto, unfolding(crate::specs::Lists::contracts_at))]
 pub(crate) fn read_contracts(
     alloc: Global,
-    names: &Names,
+    head: &Head,
     at: ListAt,
     limit: u64,
     entries: &[Value],
 ) -> Result<Contracts, ReadError>
-    requires { length names.now.trades ≤ 128 }
     ensures { Gives (λ contracts. contracts) result
-        (contracts_at names.now.trades (list_place at) limit (items_view entries.now)) }
+        (contracts_at head.now.names.trades (list_place at) limit (items_view entries.now)) }
 {
-    let (named, prices) = named_prices(alloc, names, at, limit, entries)?;
+    let (named, prices) = named_prices(alloc, head, at, limit, entries)?;
     let contracts = contracts_of(alloc, &named, &prices)?;
     Ok(Contracts::from_vec(contracts))
 }
@@ -105,7 +101,7 @@ fn contracts_of(
     named: &TradeSet<2>,
     prices: &[i128],
 ) -> Result<Vec<Contract>, OutOfMemory>
-    requires { length prices.now ≤ 128 }
+    requires { length prices.now ≤ most_listed }
     ensures { IfOk result (λ contracts. contracts.items ≡ contracts_of named.now (price_at prices.now) (length prices.now)) }
 {
     let mut contracts = Vec::new(alloc);
@@ -125,40 +121,39 @@ fn contracts_of(
 #[tactic(auto, unfolding(crate::specs::Lists::named_prices))]
 fn named_prices(
     alloc: Global,
-    names: &Names,
+    head: &Head,
     at: ListAt,
     limit: u64,
     entries: &[Value],
 ) -> Result<(TradeSet<2>, Vec<i128>), ReadError>
-    requires { length names.now.trades ≤ 128 }
     ensures gives { Gives (λ p. record { named = p.0; numbers = p.1.items }) result
-        (named_prices names.now.trades (list_place at) limit (items_view entries.now)) }
-    ensures places { IfOk result (λ p. length p.1.items ≡ length names.now.trades) }
+        (named_prices head.now.names.trades (list_place at) limit (items_view entries.now)) }
+    ensures places { IfOk result (λ p. length p.1.items ≡ length head.now.names.trades) }
+    ensures few { IfOk result (λ p. length p.1.items ≤ most_listed) }
 {
-    let mut prices = vec![in alloc; 0; names.trades() as usize]?;
-    let named = read_entries(alloc, names, at, limit, entries, &mut prices)?;
+    let mut prices = vec![in alloc; 0; head.names().trades() as usize]?;
+    let named = read_entries(alloc, head, at, limit, entries, &mut prices)?;
     Ok((named, prices))
 }
 
 /// Puts the prices of the entries to their trades, and gives the trades that have one.
 fn read_entries(
     alloc: Global,
-    names: &Names,
+    head: &Head,
     at: ListAt,
     limit: u64,
     entries: &[Value],
     prices: &mut [i128],
 ) -> Result<TradeSet<2>, ReadError>
-    requires few { length names.now.trades ≤ 128 }
-    requires places { length prices.old ≡ length names.now.trades }
+    requires places { length prices.old ≡ length head.now.names.trades }
     ensures gives { Gives (λ named. record { named = named; numbers = prices.new }) result
-        (each (one_price names.now.trades (list_place at) limit)
+        (each (one_price head.now.names.trades (list_place at) limit)
         (record { named = 0; numbers = prices.old }) (items_view entries.now)) }
     ensures places { length prices.new ≡ length prices.old }
 {
     let mut named = TradeSet::empty();
     for entry in entries {
-        add_price(alloc, names, at, limit, &mut named, prices, entry)?;
+        add_price(alloc, head, at, limit, &mut named, prices, entry)?;
     }
     Ok(named)
 }
@@ -167,21 +162,20 @@ fn read_entries(
 #[tactic(auto, unfolding(tn_read_references::specs::Entries::one_entry))]
 fn add_price(
     alloc: Global,
-    names: &Names,
+    head: &Head,
     at: ListAt,
     limit: u64,
     named: &mut TradeSet<2>,
     prices: &mut [i128],
     entry: &Value,
 ) -> Result<(), ReadError>
-    requires few { length names.now.trades ≤ 128 }
-    requires places { length prices.old ≡ length names.now.trades }
+    requires places { length prices.old ≡ length head.now.names.trades }
     ensures gives { Gives (λ _. record { named = named.new; numbers = prices.new }) result
-        (one_price names.now.trades (list_place at) limit
+        (one_price head.now.names.trades (list_place at) limit
         (record { named = named.old; numbers = prices.old }) (view entry.now)) }
     ensures places { length prices.new ≡ length prices.old }
 {
-    let (t, price) = price_of(alloc, names, at, limit, named, entry)?;
+    let (t, price) = price_of(alloc, head, at, limit, named, entry)?;
     prices[t as usize] = price;
     named.toggle(t);
     Ok(())
@@ -191,21 +185,21 @@ fn add_price(
 #[tactic(auto, unfolding(tn_read_references::specs::Entries::entry_of))]
 pub fn price_of(
     alloc: Global,
-    names: &Names,
+    head: &Head,
     at: ListAt,
     limit: u64,
     named: &TradeSet<2>,
     entry: &Value,
 ) -> Result<(u32, i128), ReadError>
-    requires { length names.now.trades ≤ 128 }
     ensures gives { Gives (λ p. p) result
-        (price_of names.now.trades (list_place at) limit named.now (view entry.now)) }
-    ensures known { IfOk result (λ p. p.0 < length names.now.trades) }
+        (price_of head.now.names.trades (list_place at) limit named.now (view entry.now)) }
+    ensures known { IfOk result (λ p. p.0 < length head.now.names.trades) }
+    ensures listed { IfOk result (λ p. p.0 < most_listed) }
 {
     let k = Index(named.count());
     let (reference, price) = two(alloc, entry, &[at.part, at.member, k])?;
     let place = [at.part, at.member, k, Index(0)];
-    let t = new_trade(alloc, names, named, reference, &place)?;
+    let t = new_trade(alloc, head, named, reference, &place)?;
     let place = [at.part, at.member, k, Index(1)];
     let price = number(alloc, limit, Some(price), &place)?;
     Ok((t, price))
@@ -218,7 +212,7 @@ fn check_complete(
     named: &TradeSet<2>,
     trades: u32,
 ) -> Result<(), ReadError>
-    requires { trades ≤ 128 }
+    requires { trades ≤ most_listed }
     ensures { Gives (λ _. tt) result
         (unless_missing (list_place at) (first_without named.now 0 trades)) }
 {

@@ -1,4 +1,4 @@
-ghost use Rattle.std.specs.Prelude.{◌≤◌, length, option_map};
+ghost use Rattle.std.specs.Prelude.{option_map};
 ghost use Rattle.serde_json.specs.View.{view};
 ghost use Rattle.tn_shape.specs.Reading.{Gives};
 ghost use Rattle.tn_read_parts.specs.Signed.{outcome_of, over_at};
@@ -7,32 +7,30 @@ use crate::lists::{ListAt, read_contracts};
 use serde_json::Value;
 use std::alloc::Global;
 use tn_base::FaultKind;
-use tn_names::Names;
 use tn_plain_data::{Outcome, PlaceStep};
+use tn_read_references::Head;
 use tn_shape::steps::{CONTRACTS, OUTCOME, OVER};
 use tn_shape::{ObjectKind, ReadError, list, object_of, present, require, whole};
 
-/// The largest denominator of an outcome.
-const OVER_LIMIT: u32 = 100;
-
-/// The largest numerator of an outcome.
-const NUMERATOR_LIMIT: u64 = 100_000_000_000;
-
 /// The outcome of a document. Its denominator is read before its contracts.
 #[tactic(auto, unfolding(crate::specs::Signed::outcome_of))]
-pub fn read_outcome(alloc: Global, names: &Names, top: &Value) -> Result<Outcome, ReadError>
-    requires { length names.now.trades ≤ 128 }
-    ensures { Gives (λ outcome. outcome) result (outcome_of names.now.trades (view top.now)) }
+pub fn read_outcome(alloc: Global, head: &Head, top: &Value) -> Result<Outcome, ReadError>
+    ensures { Gives (λ outcome. outcome) result (outcome_of head.now (view top.now)) }
 {
     let part = present(alloc, top.get("outcome"), &[OUTCOME])?;
     object_of(alloc, ObjectKind::Outcome, Some(part), &[OUTCOME])?;
-    let over = read_over(alloc, OVER_LIMIT, part.get("over"), &[OUTCOME, OVER])?;
+    let over = read_over(
+        alloc,
+        head.limits().over,
+        part.get("over"),
+        &[OUTCOME, OVER],
+    )?;
     let at = ListAt {
         part: OUTCOME,
         member: CONTRACTS,
     };
     let entries = list(alloc, part.get("contracts"), &[at.part, at.member])?;
-    let contracts = read_contracts(alloc, names, at, NUMERATOR_LIMIT, entries)?;
+    let contracts = read_contracts(alloc, head, at, head.limits().numerator, entries)?;
     Ok(Outcome { over, contracts })
 }
 

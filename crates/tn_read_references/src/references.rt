@@ -65,6 +65,7 @@ pub fn new_trade(
     ensures gives { Gives (λ t. t) result
         (new_trade head.now.names.trades place.now named.now (view value.now)) }
     ensures known { IfOk result (λ t. t < length head.now.names.trades) }
+    ensures listed { IfOk result (λ t. t < most_listed) }
 {
     let t = trade(alloc, head, value, place)?;
     require(alloc, !named.has(t), FaultKind::SameTrade, place)?;

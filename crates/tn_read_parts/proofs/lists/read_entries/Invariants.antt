@@ -6,6 +6,6 @@ use Rattle.tn_read_parts.proofs.lists.read_entries.Given as goal
 
 abbrev pub invariant-loop-entry : goal.invariant-loop-entry
 invariant-loop-entry l = record {
-  places : length l.prices ≡ length l.names.trades;
-  rest : each (one_price l.names.trades (list_place l.at) l.limit) (record { named = l.named; numbers = l.prices }) (items_view (drop l.entry-index l.entries)) ≡ each (one_price l.names.trades (list_place l.at) l.limit) (record { named = 0; numbers = l.fn.prices }) (items_view l.entries);
+  places : length l.prices ≡ length l.head.names.trades;
+  rest : each (one_price l.head.names.trades (list_place l.at) l.limit) (record { named = l.named; numbers = l.prices }) (items_view (drop l.entry-index l.entries)) ≡ each (one_price l.head.names.trades (list_place l.at) l.limit) (record { named = 0; numbers = l.fn.prices }) (items_view l.entries);
 }
