@@ -9,6 +9,7 @@ use Rattle.tn_plain_data.specs.declared.claim.Claim.{Claim}
 use Rattle.tn_plain_data.specs.declared.claim.Claim.TheVariants.{Equilibrium, Better, Impossible, Accepted, ExchangeFails, Supported, Cycle, Solved, Drops, Completes, Blocks}
 use Rattle.tn_plain_data.specs.declared.place.Word.{Word as WordIs}
 use Rattle.tn_plain_data.specs.declared.place.Word.TheVariants.{At, Bundle, Cost, Firm as FirmWord, Gain, Keeps, Surplus, X, Y}
+use Rattle.tn_plain_data.specs.Limits.{most_number}
 use Rattle.tn_plain_data.specs.ClaimLimits.{ArePricesWithin, IsClaimWithin, IsFirmWith, IsNumberWithin, IsOverWithin}
 use Rattle.tn_plain_data.specs.OutcomeLimits.{IsOutcomeWithin}
 use Rattle.tn_plain_data.specs.Network.{IsNetwork}
@@ -26,8 +27,8 @@ use Rattle.tn_read_parts.proofs.ArrangementLeads.{arrangement_leads, trades_on_l
 use Rattle.tn_read_parts.proofs.OutcomeLeads.{outcome_leads}
 use Rattle.tn_read_claims.specs.Claimed.{accepted_of, better_of, blocks_of, claim_by, claim_of, completes_of, cycle_of, drops_of, equilibrium_of, failure_of, frame_of, impossible_of, kind_of, solved_of, supported_of}
 use Rattle.tn_read_claims.specs.Laws.{ClaimsAreWithin}
-use Rattle.tn_read_claims.specs.Members.{claim_place, claimed_bundle, claimed_contracts, claimed_firm, claimed_nodes, claimed_number, claimed_on, claimed_over, claimed_prices, gain_or_null, member_place, most_nodes, own_or_null}
-use Rattle.tn_read_claims.proofs.MemberLeads.{AreClaimedContracts, AreNodes, at_leads, claimed_contracts_lead, claimed_number_leads, claimed_prices_lead, gain_leads, most_nodes_few, nodes_lead, on_lead, over_lead}
+use Rattle.tn_read_claims.specs.Members.{claim_place, claimed_bundle, claimed_contracts, claimed_firm, claimed_nodes, claimed_number, claimed_on, claimed_over, claimed_prices, gain_or_null, member_place, own_or_null}
+use Rattle.tn_read_claims.proofs.MemberLeads.{AreClaimedContracts, AreNodes, at_leads, claimed_contracts_lead, claimed_number_leads, claimed_prices_lead, gain_leads, nodes_lead, on_lead, over_lead}
 use Rattle.tn_read_claims.proofs.OwnCounts.{counts_own}
 
 -- ---- the limits
@@ -46,8 +47,8 @@ module _ (listed : Listed) (trades : AreTrades listed) (firms : List Firm) (name
   abbrev IsWithin : Claim → Type 0
   IsWithin claim = IsClaimWithin firms listed.ends claim
 
-  arranged : (top : Data) → Leads (IsArrangement n) (arrangement_of names top)
-  arranged top = counted (λ m. Leads (IsArrangement m) (arrangement_of names top)) (arrangement_leads names top)
+  arranged : (top : Data) → Leads (IsArrangement n) (arrangement_of listed top)
+  arranged top = counted (λ m. Leads (IsArrangement m) (arrangement_of listed top)) (arrangement_leads listed trades.limits top)
 
   abbrev IsSet : ℕ → Type 0
   IsSet on = on < 2 ^ n
@@ -55,11 +56,11 @@ module _ (listed : Listed) (trades : AreTrades listed) (firms : List Firm) (name
   on_alone : (top : Data) → Leads IsSet (trades_on_of names top)
   on_alone top = counted (λ m. Leads (λ on. on < 2 ^ m) (trades_on_of names top)) (trades_on_leads names top)
 
-  signed : (top : Data) → Leads (IsOutcomeWithin n) (outcome_of names top)
-  signed top = counted (λ m. Leads (IsOutcomeWithin m) (outcome_of names top)) (outcome_leads names top)
+  signed : (top : Data) → Leads (IsOutcomeWithin n) (outcome_of listed top)
+  signed top = counted (λ m. Leads (IsOutcomeWithin m) (outcome_of listed top)) (outcome_leads listed trades.limits top)
 
-  priced : (claim : Data) → Leads (ArePricesWithin n (10 ^ 18)) (claimed_prices names claim)
-  priced claim = counted (λ m. Leads (ArePricesWithin m (10 ^ 18)) (claimed_prices names claim)) (claimed_prices_lead names claim)
+  priced : (claim : Data) → Leads (ArePricesWithin n most_number) (claimed_prices listed claim)
+  priced claim = counted (λ m. Leads (ArePricesWithin m most_number) (claimed_prices listed claim)) (claimed_prices_lead listed trades.limits claim)
 
   own_on : (claim : Data) → Leads IsSet (claimed_on names claim)
   own_on claim = counted (λ m. Leads (λ on. on < 2 ^ m) (claimed_on names claim)) (on_lead names claim)
@@ -85,25 +86,25 @@ module _ (listed : Listed) (trades : AreTrades listed) (firms : List Firm) (name
   bundle_lead : (f : ℕ) (word : WordIs) (value : Option Data) → Leads (IsOwn f) (claimed_bundle listed f word value)
   bundle_lead f word value = bundle_leads listed trades f (member_place word) value
 
-  equilibrium_leads : (top claim : Data) → Leads IsWithin (equilibrium_of names top claim)
+  equilibrium_leads : (top claim : Data) → Leads IsWithin (equilibrium_of listed top claim)
   unfolding equilibrium_of
   equilibrium_leads top claim =
-      leads_bind (IsArrangement n) IsWithin (arrangement_of names top) _ (arranged top) (λ at is.
+      leads_bind (IsArrangement n) IsWithin (arrangement_of listed top) _ (arranged top) (λ at is.
       leads_after IsWithin (frame_of EquilibriumKind claim) _ (λ frame.
-      leads_bind IsNumberWithin IsWithin (claimed_number Surplus (get (codes "surplus") claim)) _ (claimed_number_leads Surplus (get (codes "surplus") claim)) (λ surplus small.
+      leads_bind IsNumberWithin IsWithin (claimed_number listed Surplus (get (codes "surplus") claim)) _ (claimed_number_leads listed trades.limits Surplus (get (codes "surplus") claim)) (λ surplus small.
       leads_ok IsWithin (Equilibrium (record { on = at.on; prices = at.prices }) surplus) (is.on, record { one_each = is.count; small = is.small }, small))))
 
   better_leads : (top claim : Data) → Leads IsWithin (better_of listed top claim)
   unfolding better_of
   better_leads top claim =
-      leads_bind (IsArrangement n) IsWithin (arrangement_of names top) _ (arranged top) (λ at is.
+      leads_bind (IsArrangement n) IsWithin (arrangement_of listed top) _ (arranged top) (λ at is.
       leads_after IsWithin (frame_of BetterKind claim) _ (λ frame.
       leads_bind IsKnown IsWithin (claimed_firm listed.names.firms claim) _ (firm_lead claim) (λ f known.
       leads_bind (IsOwn f) IsWithin (claimed_bundle listed f Bundle (get (codes "bundle") claim)) _ (bundle_lead f Bundle (get (codes "bundle") claim)) (λ x own.
-      leads_bind IsNumberWithin IsWithin (claimed_number Gain (get (codes "gain") claim)) _ (claimed_number_leads Gain (get (codes "gain") claim)) (λ gain small.
+      leads_bind IsNumberWithin IsWithin (claimed_number listed Gain (get (codes "gain") claim)) _ (claimed_number_leads listed trades.limits Gain (get (codes "gain") claim)) (λ gain small.
       leads_ok IsWithin (Better (record { on = at.on; prices = at.prices }) f x gain) (is.on, record { one_each = is.count; small = is.small }, own_firm f (λ m. x < 2 ^ m) known own, small))))))
 
-  impossible_leads : (top claim : Data) → Leads IsWithin (impossible_of listed.names top claim)
+  impossible_leads : (top claim : Data) → Leads IsWithin (impossible_of listed top claim)
   unfolding impossible_of
   impossible_leads top claim =
       leads_bind IsSet IsWithin (trades_on_of names top) _ (on_alone top) (λ on below.
@@ -125,68 +126,68 @@ module _ (listed : Listed) (trades : AreTrades listed) (firms : List Firm) (name
       leads_bind (IsOwn f) IsWithin (claimed_bundle listed f Y (get (codes "y") claim)) _ (bundle_lead f Y (get (codes "y") claim)) (λ y own_y.
       leads_ok IsWithin (ExchangeFails f x y at) (own_firm f (λ m. (x < 2 ^ m) × (y < 2 ^ m) × IfSome at (λ k. k < m)) known (own_x, own_y, own_at)))))))
 
-  supported_leads : (top claim : Data) → Leads IsWithin (supported_of names top claim)
+  supported_leads : (top claim : Data) → Leads IsWithin (supported_of listed top claim)
   unfolding supported_of
   supported_leads top claim =
       leads_bind IsSet IsWithin (trades_on_of names top) _ (on_alone top) (λ on below.
       leads_after IsWithin (frame_of SupportedKind claim) _ (λ frame.
-      leads_bind (ArePricesWithin n (10 ^ 18)) IsWithin (claimed_prices names claim) _ (priced claim) (λ prices are.
+      leads_bind (ArePricesWithin n most_number) IsWithin (claimed_prices listed claim) _ (priced claim) (λ prices are.
       leads_ok IsWithin (Supported on prices) (below, are))))
 
-  cycle_leads : (top claim : Data) → Leads IsWithin (cycle_of names top claim)
+  cycle_leads : (top claim : Data) → Leads IsWithin (cycle_of listed top claim)
   unfolding cycle_of
   cycle_leads top claim =
       leads_bind IsSet IsWithin (trades_on_of names top) _ (on_alone top) (λ on below.
       leads_after IsWithin (frame_of CycleKind claim) _ (λ frame.
-      leads_bind IsNumberWithin IsWithin (claimed_number Cost (get (codes "cost") claim)) _ (claimed_number_leads Cost (get (codes "cost") claim)) (λ cost small.
-      leads_bind (AreNodes names (most_nodes top)) IsWithin (claimed_nodes names (most_nodes top) claim) _ (nodes_lead names (most_nodes top) claim) (λ nodes are.
+      leads_bind IsNumberWithin IsWithin (claimed_number listed Cost (get (codes "cost") claim)) _ (claimed_number_leads listed trades.limits Cost (get (codes "cost") claim)) (λ cost small.
+      leads_bind (AreNodes listed) IsWithin (claimed_nodes listed claim) _ (nodes_lead listed claim) (λ nodes are.
       let most = are.most in
       leads_ok IsWithin (Cycle on nodes cost) (
         below,
         record {
           least = are.least;
-          most = omega (arith, most, most_nodes_few top);
+          most = omega (arith, most, trades.limits.nodes);
           known = counted (λ m. All (λ node. IfSome node (λ t. t < m)) nodes) are.known;
         },
         small,
       )))))
 
-  solved_leads : (claim : Data) → Leads IsWithin (solved_of names claim)
+  solved_leads : (claim : Data) → Leads IsWithin (solved_of listed claim)
   unfolding solved_of
   solved_leads claim =
       leads_after IsWithin (frame_of SolvedKind claim) _ (λ frame.
       leads_bind IsSet IsWithin (claimed_on names claim) _ (own_on claim) (λ on below.
-      leads_bind (ArePricesWithin n (10 ^ 18)) IsWithin (claimed_prices names claim) _ (priced claim) (λ prices are.
-      leads_bind IsNumberWithin IsWithin (claimed_number Surplus (get (codes "surplus") claim)) _ (claimed_number_leads Surplus (get (codes "surplus") claim)) (λ surplus small.
+      leads_bind (ArePricesWithin n most_number) IsWithin (claimed_prices listed claim) _ (priced claim) (λ prices are.
+      leads_bind IsNumberWithin IsWithin (claimed_number listed Surplus (get (codes "surplus") claim)) _ (claimed_number_leads listed trades.limits Surplus (get (codes "surplus") claim)) (λ surplus small.
       leads_ok IsWithin (Solved (record { on = on; prices = prices }) surplus) (below, are, small)))))
 
   drops_leads : (top claim : Data) → Leads IsWithin (drops_of listed top claim)
   unfolding drops_of
   drops_leads top claim =
-      leads_bind (IsOutcomeWithin n) IsWithin (outcome_of names top) _ (signed top) (λ outcome is.
+      leads_bind (IsOutcomeWithin n) IsWithin (outcome_of listed top) _ (signed top) (λ outcome is.
       leads_after IsWithin (frame_of DropsKind claim) _ (λ frame.
       leads_bind IsKnown IsWithin (claimed_firm listed.names.firms claim) _ (firm_lead claim) (λ f known.
-      leads_bind (λ gain. IfSome gain IsNumberWithin) IsWithin (gain_or_null (get (codes "gain") claim)) _ (gain_leads (get (codes "gain") claim)) (λ gain small.
+      leads_bind (λ gain. IfSome gain IsNumberWithin) IsWithin (gain_or_null listed (get (codes "gain") claim)) _ (gain_leads listed trades.limits (get (codes "gain") claim)) (λ gain small.
       leads_bind (IsOwn f) IsWithin (claimed_bundle listed f Keeps (get (codes "keeps") claim)) _ (bundle_lead f Keeps (get (codes "keeps") claim)) (λ keeps own.
-      leads_bind IsOverWithin IsWithin (claimed_over claim) _ (over_lead claim) (λ over is_over.
+      leads_bind IsOverWithin IsWithin (claimed_over listed claim) _ (over_lead listed trades.limits claim) (λ over is_over.
       leads_ok IsWithin (Drops outcome f keeps gain over) (is, own_firm f (λ m. keeps < 2 ^ m) known own, small, is_over)))))))
 
-  completes_leads : (top claim : Data) → Leads IsWithin (completes_of names top claim)
+  completes_leads : (top claim : Data) → Leads IsWithin (completes_of listed top claim)
   unfolding completes_of
   completes_leads top claim =
-      leads_bind (IsOutcomeWithin n) IsWithin (outcome_of names top) _ (signed top) (λ outcome is.
+      leads_bind (IsOutcomeWithin n) IsWithin (outcome_of listed top) _ (signed top) (λ outcome is.
       leads_after IsWithin (frame_of CompletesKind claim) _ (λ frame.
-      leads_bind IsOverWithin IsWithin (claimed_over claim) _ (over_lead claim) (λ over is_over.
-      leads_bind (ArePricesWithin n (10 ^ 18)) IsWithin (claimed_prices names claim) _ (priced claim) (λ prices are.
+      leads_bind IsOverWithin IsWithin (claimed_over listed claim) _ (over_lead listed trades.limits claim) (λ over is_over.
+      leads_bind (ArePricesWithin n most_number) IsWithin (claimed_prices listed claim) _ (priced claim) (λ prices are.
       leads_ok IsWithin (Completes outcome prices over) (is, are, is_over)))))
 
-  blocks_leads : (top claim : Data) → Leads IsWithin (blocks_of names top claim)
+  blocks_leads : (top claim : Data) → Leads IsWithin (blocks_of listed top claim)
   unfolding blocks_of
   blocks_leads top claim =
-      leads_bind (IsOutcomeWithin n) IsWithin (outcome_of names top) _ (signed top) (λ outcome is.
+      leads_bind (IsOutcomeWithin n) IsWithin (outcome_of listed top) _ (signed top) (λ outcome is.
       leads_after IsWithin (frame_of BlocksKind claim) _ (λ frame.
-      leads_bind (AreClaimedContracts names) IsWithin (claimed_contracts names claim) _ (claimed_contracts_lead names claim) (λ contracts are.
-      leads_bind IsOverWithin IsWithin (claimed_over claim) _ (over_lead claim) (λ over is_over.
+      leads_bind (AreClaimedContracts names) IsWithin (claimed_contracts listed claim) _ (claimed_contracts_lead listed trades.limits claim) (λ contracts are.
+      leads_bind IsOverWithin IsWithin (claimed_over listed claim) _ (over_lead listed trades.limits claim) (λ over is_over.
       leads_ok IsWithin (Blocks outcome contracts over) (
         is,
         record {

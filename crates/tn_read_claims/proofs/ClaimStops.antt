@@ -1,9 +1,10 @@
 -- Wherever the reading of a claim stops, its fault speaks of named trades.
-use Rattle.std.proofs.Common.{ℕ, ◌^◌, ◌<◌, ◌≤◌, length, Some, refl}
+use Rattle.std.proofs.Common.{ℕ, ◌<◌, ◌≤◌, length, Some, refl}
 use Rattle.std.specs.Prelude.{codes}
 use Rattle.serde_json.specs.Data.{Data}
 use Rattle.serde_json.specs.Find.{get}
 use Rattle.tn_base.specs.declared.fault.FaultKind.TheVariants.{Shape}
+use Rattle.tn_plain_data.specs.Limits.{most_own_trades}
 use Rattle.tn_plain_data.specs.declared.claim.Claim.TheVariants.{Equilibrium, Better, Impossible, Accepted, ExchangeFails, Supported, Cycle, Solved, Drops, Completes, Blocks}
 use Rattle.tn_plain_data.specs.declared.place.Word.TheVariants.{Answer, At, Bundle, Cost, Firm as FirmWord, Gain, Keeps, Over, Surplus, X, Y}
 use Rattle.tn_plain_data.specs.declared.said.Fault.{Fault}
@@ -25,36 +26,35 @@ use Rattle.tn_read_parts.specs.Signed.{outcome_of}
 use Rattle.tn_read_parts.proofs.ArrangementStops.{arrangement_stops, trades_on_stop}
 use Rattle.tn_read_parts.proofs.OutcomeStops.{outcome_stops, over_stops}
 use Rattle.tn_read_claims.specs.Claimed.{accepted_of, better_of, blocks_of, claim_by, claim_of, completes_of, cycle_of, drops_of, equilibrium_of, failure_of, frame_of, impossible_of, kind_of, solved_of, supported_of}
-use Rattle.tn_read_claims.specs.Members.{claim_place, claimed_bundle, claimed_contracts, claimed_firm, claimed_nodes, claimed_number, claimed_on, claimed_over, claimed_prices, gain_or_null, member_place, most_nodes, own_or_null}
-use Rattle.tn_read_claims.proofs.MemberLeads.{most_nodes_few}
+use Rattle.tn_read_claims.specs.Members.{claim_place, claimed_bundle, claimed_contracts, claimed_firm, claimed_nodes, claimed_number, claimed_on, claimed_over, claimed_prices, gain_or_null, member_place, own_or_null}
 use Rattle.tn_read_claims.proofs.MemberStops.{at_stops, claimed_contracts_stop, claimed_on_stops, claimed_prices_stop, gain_stops, nodes_stop}
 
-module _ (listed : Listed) (trades : AreTrades listed) (few : length listed.names.trades ≤ 16384) (few_own : (f : ℕ) → f < length listed.names.firms → length (sides_of listed.ends f) ≤ 32) where
+module _ (listed : Listed) (trades : AreTrades listed) (few : length listed.names.trades ≤ 16384) (few_own : (f : ℕ) → f < length listed.names.firms → length (sides_of listed.ends f) ≤ most_own_trades) where
   abbrev Told : Fault → Type 0
   Told = IsTold listed.names.trades
 
   firm_known : (claim : Data) → Leads (λ f. f < length listed.names.firms) (claimed_firm listed.names.firms claim)
   firm_known claim = firm_at_leads listed.names.firms (member_place FirmWord) (get (codes "firm") claim)
 
-  equilibrium_stops : (top claim : Data) → Stops Told (equilibrium_of listed.names.trades top claim)
+  equilibrium_stops : (top claim : Data) → Stops Told (equilibrium_of listed top claim)
   unfolding equilibrium_of
   equilibrium_stops top claim =
-      stops_bind Told (arrangement_of listed.names.trades top) _ (arrangement_stops listed.names.trades few top) (λ at.
+      stops_bind Told (arrangement_of listed top) _ (arrangement_stops listed few top) (λ at.
       stops_bind Told (frame_of EquilibriumKind claim) _ (told_from_plain listed.names.trades _ (object_stops claim_place (tt, tt) (ClaimObject EquilibriumKind) (Some claim))) (λ frame.
-      stops_bind Told (claimed_number Surplus (get (codes "surplus") claim)) _ (told_from_plain listed.names.trades _ (number_stops (member_place Surplus) (tt, (tt, tt)) (10 ^ 18) (get (codes "surplus") claim))) (λ surplus.
+      stops_bind Told (claimed_number listed Surplus (get (codes "surplus") claim)) _ (told_from_plain listed.names.trades _ (number_stops (member_place Surplus) (tt, (tt, tt)) listed.limits.number (get (codes "surplus") claim))) (λ surplus.
       stops_ok Told (Equilibrium (record { on = at.on; prices = at.prices }) surplus))))
 
   better_stops : (top claim : Data) → Stops Told (better_of listed top claim)
   unfolding better_of
   better_stops top claim =
-      stops_bind Told (arrangement_of listed.names.trades top) _ (arrangement_stops listed.names.trades few top) (λ at.
+      stops_bind Told (arrangement_of listed top) _ (arrangement_stops listed few top) (λ at.
       stops_bind Told (frame_of BetterKind claim) _ (told_from_plain listed.names.trades _ (object_stops claim_place (tt, tt) (ClaimObject BetterKind) (Some claim))) (λ frame.
       stops_after Told (λ f. f < length listed.names.firms) (claimed_firm listed.names.firms claim) _ (firm_known claim) (told_from_plain listed.names.trades _ (firm_at_stops (member_place FirmWord) (tt, (tt, tt)) listed.names.firms (get (codes "firm") claim))) (λ f known.
       stops_bind Told (claimed_bundle listed f Bundle (get (codes "bundle") claim)) _ (told_from_plain listed.names.trades _ (bundle_stops listed trades f (few_own f known) (member_place Bundle) (tt, (tt, tt)) (get (codes "bundle") claim))) (λ x.
-      stops_bind Told (claimed_number Gain (get (codes "gain") claim)) _ (told_from_plain listed.names.trades _ (number_stops (member_place Gain) (tt, (tt, tt)) (10 ^ 18) (get (codes "gain") claim))) (λ gain.
+      stops_bind Told (claimed_number listed Gain (get (codes "gain") claim)) _ (told_from_plain listed.names.trades _ (number_stops (member_place Gain) (tt, (tt, tt)) listed.limits.number (get (codes "gain") claim))) (λ gain.
       stops_ok Told (Better (record { on = at.on; prices = at.prices }) f x gain))))))
 
-  impossible_stops : (top claim : Data) → Stops Told (impossible_of listed.names top claim)
+  impossible_stops : (top claim : Data) → Stops Told (impossible_of listed top claim)
   unfolding impossible_of
   impossible_stops top claim =
       stops_bind Told (trades_on_of listed.names.trades top) _ (told_from_plain listed.names.trades _ (trades_on_stop listed.names.trades few top)) (λ on.
@@ -78,59 +78,59 @@ module _ (listed : Listed) (trades : AreTrades listed) (few : length listed.name
       stops_bind Told (claimed_bundle listed f Y (get (codes "y") claim)) _ (told_from_plain listed.names.trades _ (bundle_stops listed trades f (few_own f known) (member_place Y) (tt, (tt, tt)) (get (codes "y") claim))) (λ y.
       stops_ok Told (ExchangeFails f x y at))))))
 
-  supported_stops : (top claim : Data) → Stops Told (supported_of listed.names.trades top claim)
+  supported_stops : (top claim : Data) → Stops Told (supported_of listed top claim)
   unfolding supported_of
   supported_stops top claim =
       stops_bind Told (trades_on_of listed.names.trades top) _ (told_from_plain listed.names.trades _ (trades_on_stop listed.names.trades few top)) (λ on.
       stops_bind Told (frame_of SupportedKind claim) _ (told_from_plain listed.names.trades _ (object_stops claim_place (tt, tt) (ClaimObject SupportedKind) (Some claim))) (λ frame.
-      stops_bind Told (claimed_prices listed.names.trades claim) _ (claimed_prices_stop listed.names.trades few claim) (λ prices.
+      stops_bind Told (claimed_prices listed claim) _ (claimed_prices_stop listed few claim) (λ prices.
       stops_ok Told (Supported on prices))))
 
-  cycle_stops : (top claim : Data) → Stops Told (cycle_of listed.names.trades top claim)
+  cycle_stops : (top claim : Data) → Stops Told (cycle_of listed top claim)
   unfolding cycle_of
   cycle_stops top claim =
       stops_bind Told (trades_on_of listed.names.trades top) _ (told_from_plain listed.names.trades _ (trades_on_stop listed.names.trades few top)) (λ on.
       stops_bind Told (frame_of CycleKind claim) _ (told_from_plain listed.names.trades _ (object_stops claim_place (tt, tt) (ClaimObject CycleKind) (Some claim))) (λ frame.
-      stops_bind Told (claimed_number Cost (get (codes "cost") claim)) _ (told_from_plain listed.names.trades _ (number_stops (member_place Cost) (tt, (tt, tt)) (10 ^ 18) (get (codes "cost") claim))) (λ cost.
-      stops_bind Told (claimed_nodes listed.names.trades (most_nodes top) claim) _ (told_from_plain listed.names.trades _ (nodes_stop listed.names.trades (most_nodes top) (most_nodes_few top) claim)) (λ nodes.
+      stops_bind Told (claimed_number listed Cost (get (codes "cost") claim)) _ (told_from_plain listed.names.trades _ (number_stops (member_place Cost) (tt, (tt, tt)) listed.limits.number (get (codes "cost") claim))) (λ cost.
+      stops_bind Told (claimed_nodes listed claim) _ (told_from_plain listed.names.trades _ (nodes_stop listed trades.limits claim)) (λ nodes.
       stops_ok Told (Cycle on nodes cost)))))
 
-  solved_stops : (claim : Data) → Stops Told (solved_of listed.names.trades claim)
+  solved_stops : (claim : Data) → Stops Told (solved_of listed claim)
   unfolding solved_of
   solved_stops claim =
       stops_bind Told (frame_of SolvedKind claim) _ (told_from_plain listed.names.trades _ (object_stops claim_place (tt, tt) (ClaimObject SolvedKind) (Some claim))) (λ frame.
       stops_bind Told (claimed_on listed.names.trades claim) _ (told_from_plain listed.names.trades _ (claimed_on_stops listed.names.trades few claim)) (λ on.
-      stops_bind Told (claimed_prices listed.names.trades claim) _ (claimed_prices_stop listed.names.trades few claim) (λ prices.
-      stops_bind Told (claimed_number Surplus (get (codes "surplus") claim)) _ (told_from_plain listed.names.trades _ (number_stops (member_place Surplus) (tt, (tt, tt)) (10 ^ 18) (get (codes "surplus") claim))) (λ surplus.
+      stops_bind Told (claimed_prices listed claim) _ (claimed_prices_stop listed few claim) (λ prices.
+      stops_bind Told (claimed_number listed Surplus (get (codes "surplus") claim)) _ (told_from_plain listed.names.trades _ (number_stops (member_place Surplus) (tt, (tt, tt)) listed.limits.number (get (codes "surplus") claim))) (λ surplus.
       stops_ok Told (Solved (record { on = on; prices = prices }) surplus)))))
 
   drops_stops : (top claim : Data) → Stops Told (drops_of listed top claim)
   unfolding drops_of
   drops_stops top claim =
-      stops_bind Told (outcome_of listed.names.trades top) _ (told_from_plain listed.names.trades _ (outcome_stops listed.names.trades few top)) (λ outcome.
+      stops_bind Told (outcome_of listed top) _ (told_from_plain listed.names.trades _ (outcome_stops listed few top)) (λ outcome.
       stops_bind Told (frame_of DropsKind claim) _ (told_from_plain listed.names.trades _ (object_stops claim_place (tt, tt) (ClaimObject DropsKind) (Some claim))) (λ frame.
       stops_after Told (λ f. f < length listed.names.firms) (claimed_firm listed.names.firms claim) _ (firm_known claim) (told_from_plain listed.names.trades _ (firm_at_stops (member_place FirmWord) (tt, (tt, tt)) listed.names.firms (get (codes "firm") claim))) (λ f known.
-      stops_bind Told (gain_or_null (get (codes "gain") claim)) _ (told_from_plain listed.names.trades _ (gain_stops (get (codes "gain") claim))) (λ gain.
+      stops_bind Told (gain_or_null listed (get (codes "gain") claim)) _ (told_from_plain listed.names.trades _ (gain_stops listed (get (codes "gain") claim))) (λ gain.
       stops_bind Told (claimed_bundle listed f Keeps (get (codes "keeps") claim)) _ (told_from_plain listed.names.trades _ (bundle_stops listed trades f (few_own f known) (member_place Keeps) (tt, (tt, tt)) (get (codes "keeps") claim))) (λ keeps.
-      stops_bind Told (claimed_over claim) _ (told_from_plain listed.names.trades _ (over_stops 100000 (member_place Over) (tt, (tt, tt)) (get (codes "over") claim))) (λ over.
+      stops_bind Told (claimed_over listed claim) _ (told_from_plain listed.names.trades _ (over_stops listed.limits.claimed_over (member_place Over) (tt, (tt, tt)) (get (codes "over") claim))) (λ over.
       stops_ok Told (Drops outcome f keeps gain over)))))))
 
-  completes_stops : (top claim : Data) → Stops Told (completes_of listed.names.trades top claim)
+  completes_stops : (top claim : Data) → Stops Told (completes_of listed top claim)
   unfolding completes_of
   completes_stops top claim =
-      stops_bind Told (outcome_of listed.names.trades top) _ (told_from_plain listed.names.trades _ (outcome_stops listed.names.trades few top)) (λ outcome.
+      stops_bind Told (outcome_of listed top) _ (told_from_plain listed.names.trades _ (outcome_stops listed few top)) (λ outcome.
       stops_bind Told (frame_of CompletesKind claim) _ (told_from_plain listed.names.trades _ (object_stops claim_place (tt, tt) (ClaimObject CompletesKind) (Some claim))) (λ frame.
-      stops_bind Told (claimed_over claim) _ (told_from_plain listed.names.trades _ (over_stops 100000 (member_place Over) (tt, (tt, tt)) (get (codes "over") claim))) (λ over.
-      stops_bind Told (claimed_prices listed.names.trades claim) _ (claimed_prices_stop listed.names.trades few claim) (λ prices.
+      stops_bind Told (claimed_over listed claim) _ (told_from_plain listed.names.trades _ (over_stops listed.limits.claimed_over (member_place Over) (tt, (tt, tt)) (get (codes "over") claim))) (λ over.
+      stops_bind Told (claimed_prices listed claim) _ (claimed_prices_stop listed few claim) (λ prices.
       stops_ok Told (Completes outcome prices over)))))
 
-  blocks_stops : (top claim : Data) → Stops Told (blocks_of listed.names.trades top claim)
+  blocks_stops : (top claim : Data) → Stops Told (blocks_of listed top claim)
   unfolding blocks_of
   blocks_stops top claim =
-      stops_bind Told (outcome_of listed.names.trades top) _ (told_from_plain listed.names.trades _ (outcome_stops listed.names.trades few top)) (λ outcome.
+      stops_bind Told (outcome_of listed top) _ (told_from_plain listed.names.trades _ (outcome_stops listed few top)) (λ outcome.
       stops_bind Told (frame_of BlocksKind claim) _ (told_from_plain listed.names.trades _ (object_stops claim_place (tt, tt) (ClaimObject BlocksKind) (Some claim))) (λ frame.
-      stops_bind Told (claimed_contracts listed.names.trades claim) _ (told_from_plain listed.names.trades _ (claimed_contracts_stop listed.names.trades few claim)) (λ contracts.
-      stops_bind Told (claimed_over claim) _ (told_from_plain listed.names.trades _ (over_stops 100000 (member_place Over) (tt, (tt, tt)) (get (codes "over") claim))) (λ over.
+      stops_bind Told (claimed_contracts listed claim) _ (told_from_plain listed.names.trades _ (claimed_contracts_stop listed few claim)) (λ contracts.
+      stops_bind Told (claimed_over listed claim) _ (told_from_plain listed.names.trades _ (over_stops listed.limits.claimed_over (member_place Over) (tt, (tt, tt)) (get (codes "over") claim))) (λ over.
       stops_ok Told (Blocks outcome contracts over)))))
 
   by_kind : (kind : ClaimKind) (top claim : Data) → Stops Told (claim_by listed kind top claim)

@@ -1,5 +1,5 @@
 -- The kinds of faults at which the reading of a claim stops.
-use Rattle.std.proofs.Common.{◌≡◌, ℕ, ◌^◌, ◌&&◌, ◌++◌, [], ◌∷◌, Bool, true, false, List, length, slice_get, Option, Some, None, Result, Ok, pos, refl}
+use Rattle.std.proofs.Common.{◌≡◌, ℕ, ◌&&◌, ◌++◌, [], ◌∷◌, Bool, true, false, List, length, slice_get, Option, Some, None, Result, Ok, pos, refl}
 use Rattle.std.specs.Prelude.{codes, nat_le, int_le, unsigned_abs, not, option_and_then, is_some, slice_set}
 use Rattle.serde_json.specs.Data.{Data, null, boolean, number, string, array, object, Items}
 use Rattle.serde_json.specs.Events.{items_len}
@@ -8,6 +8,7 @@ use Rattle.tn_base.specs.Sets.{has, size, toggle}
 use Rattle.tn_base.specs.declared.side.Side.{Side}
 use Rattle.tn_base.specs.declared.fault.FaultKind.{FaultKind}
 use Rattle.tn_base.specs.declared.fault.FaultKind.TheVariants.{Shape, UnknownFirm, UnknownTrade, Limit, AmountRange, NotOwnTrade, SameTrade, PriceMissing, BadOver}
+use Rattle.tn_plain_data.specs.Limits.{least_nodes}
 use Rattle.tn_plain_data.specs.Prices.{price_at}
 use Rattle.tn_plain_data.specs.Choices.{contracts_of}
 use Rattle.tn_plain_data.specs.declared.claim.Claim.TheVariants.{Equilibrium, Better, Impossible, Accepted, ExchangeFails, Supported, Cycle, Solved, Drops, Completes, Blocks}
@@ -33,7 +34,7 @@ use Rattle.tn_read_parts.specs.Lists.{contracts_at, first_without, named_prices,
 use Rattle.tn_read_parts.specs.Signed.{contracts_place, outcome_of, outcome_place, over_at, over_place}
 use Rattle.tn_read_claims.specs.Claimed.{accepted_of, better_of, blocks_of, claim_by, claim_of, completes_of, cycle_of, drops_of, equilibrium_of, failure_of, frame_of, impossible_of, kind_of, solved_of, supported_of}
 use Rattle.tn_read_claims.specs.Laws.{FaultsOfClaims, is_claim_fault}
-use Rattle.tn_read_claims.specs.Members.{Offered, claim_place, claimed_bundle, claimed_contracts, claimed_firm, claimed_nodes, claimed_number, claimed_on, claimed_over, claimed_prices, gain_or_null, member_place, most_nodes, no_offers, node_at, one_node, one_offer, own_or_null, unless_null}
+use Rattle.tn_read_claims.specs.Members.{Offered, claim_place, claimed_bundle, claimed_contracts, claimed_firm, claimed_nodes, claimed_number, claimed_on, claimed_over, claimed_prices, gain_or_null, member_place, no_offers, node_at, one_node, one_offer, own_or_null, unless_null}
 
 abbrev Known : Fault → Type 0
 Known f = is_claim_fault f.kind ≡ true
@@ -199,22 +200,27 @@ trades_on_kinds trades top =
     stops_bind Known (on_of trades top) _ (on_kinds trades top) (λ part.
     stops_ok Known (part.1))
 
-arrangement_kinds : (trades : List (List ℕ)) (top : Data) → Stops Known (arrangement_of trades top)
+arrangement_kinds : (listed : Listed) (top : Data) → Stops Known (arrangement_of listed top)
 unfolding arrangement_of
-arrangement_kinds trades top =
+arrangement_kinds listed top =
+    let trades = listed.names.trades in
+    let limit = listed.limits.price in
     stops_bind Known (on_of trades top) _ (on_kinds trades top) (λ part.
     stops_bind Known (list_at prices_place (get (codes "prices") part.0)) _ (list_kinds prices_place (get (codes "prices") part.0)) (λ entries.
-    stops_bind Known (prices_of trades prices_place (10 ^ 14) entries) _ (prices_kinds trades prices_place (10 ^ 14) entries) (λ prices.
+    stops_bind Known (prices_of trades prices_place limit entries) _ (prices_kinds trades prices_place limit entries) (λ prices.
     stops_ok Known (record { on = part.1; prices = prices }))))
 
-outcome_kinds : (trades : List (List ℕ)) (top : Data) → Stops Known (outcome_of trades top)
+outcome_kinds : (listed : Listed) (top : Data) → Stops Known (outcome_of listed top)
 unfolding outcome_of
-outcome_kinds trades top =
+outcome_kinds listed top =
+    let trades = listed.names.trades in
+    let most = listed.limits.over in
+    let limit = listed.limits.numerator in
     stops_bind Known (wanted Shape outcome_place (get (codes "outcome") top)) _ (wanted_kinds Shape outcome_place (get (codes "outcome") top) refl) (λ part.
     stops_bind Known (object_of OutcomeObject outcome_place (Some part)) _ (object_kinds OutcomeObject outcome_place (Some part)) (λ object.
-    stops_bind Known (over_at 100 over_place (get (codes "over") part)) _ (over_kinds 100 over_place (get (codes "over") part)) (λ over.
+    stops_bind Known (over_at most over_place (get (codes "over") part)) _ (over_kinds most over_place (get (codes "over") part)) (λ over.
     stops_bind Known (list_at contracts_place (get (codes "contracts") part)) _ (list_kinds contracts_place (get (codes "contracts") part)) (λ entries.
-    stops_bind Known (contracts_at trades contracts_place (10 ^ 11) entries) _ (contracts_kinds trades contracts_place (10 ^ 11) entries) (λ contracts.
+    stops_bind Known (contracts_at trades contracts_place limit entries) _ (contracts_kinds trades contracts_place limit entries) (λ contracts.
     stops_ok Known (record { over = over; contracts = contracts }))))))
 
 -- ---- the members of claims
@@ -231,10 +237,10 @@ module _ {A : Type 0} (read : Data → Result A Fault) (stops : (value : Data) �
   null_kinds (array ds) = there_kinds (array ds)
   null_kinds (object ms) = there_kinds (object ms)
 
-gain_kinds : (value : Option Data) → Stops Known (gain_or_null value)
-gain_kinds value =
+gain_kinds : (listed : Listed) (value : Option Data) → Stops Known (gain_or_null listed value)
+gain_kinds listed value =
     stops_bind Known (wanted Shape (member_place Gain) value) _ (wanted_kinds Shape (member_place Gain) value refl) (λ gain.
-    null_kinds (number_at (10 ^ 18) (member_place Gain)) (λ d. number_kinds (10 ^ 18) (member_place Gain) (Some d)) gain)
+    null_kinds (number_at listed.limits.number (member_place Gain)) (λ d. number_kinds listed.limits.number (member_place Gain) (Some d)) gain)
 
 at_kinds : (listed : Listed) (f : ℕ) (place : List PlaceStep) (value : Option Data) → Stops Known (own_or_null listed f place value)
 at_kinds listed f place value =
@@ -247,11 +253,11 @@ claimed_on_kinds trades claim =
     stops_bind Known (list_at (member_place On) (get (codes "on") claim)) _ (list_kinds (member_place On) (get (codes "on") claim)) (λ references.
     each_kinds (one_on trades (member_place On)) (one_on_kinds trades (member_place On)) 0 references)
 
-claimed_prices_kinds : (trades : List (List ℕ)) (claim : Data) → Stops Known (claimed_prices trades claim)
+claimed_prices_kinds : (listed : Listed) (claim : Data) → Stops Known (claimed_prices listed claim)
 unfolding claimed_prices
-claimed_prices_kinds trades claim =
+claimed_prices_kinds listed claim =
     stops_bind Known (list_at (member_place Prices) (get (codes "prices") claim)) _ (list_kinds (member_place Prices) (get (codes "prices") claim)) (λ entries.
-    prices_kinds trades (member_place Prices) (10 ^ 18) entries)
+    prices_kinds listed.names.trades (member_place Prices) listed.limits.number entries)
 
 one_node_kinds : (trades : List (List ℕ)) (nodes : List (Option ℕ)) (value : Data) → Stops Known (one_node trades nodes value)
 unfolding one_node
@@ -259,11 +265,13 @@ one_node_kinds trades nodes value =
     stops_bind Known (node_at trades (member_place Nodes ++ Index (length nodes) ∷ []) value) _ (null_kinds (trade_at trades (member_place Nodes ++ Index (length nodes) ∷ [])) (trade_kinds trades (member_place Nodes ++ Index (length nodes) ∷ [])) value) (λ node.
     stops_ok Known (nodes ++ node ∷ []))
 
-nodes_kinds : (trades : List (List ℕ)) (limit : ℕ) (claim : Data) → Stops Known (claimed_nodes trades limit claim)
+nodes_kinds : (listed : Listed) (claim : Data) → Stops Known (claimed_nodes listed claim)
 unfolding claimed_nodes
-nodes_kinds trades limit claim =
+nodes_kinds listed claim =
+    let trades = listed.names.trades in
+    let limit = listed.limits.nodes in
     stops_bind Known (few_at limit (member_place Nodes) (get (codes "nodes") claim)) _ (few_kinds limit (member_place Nodes) (get (codes "nodes") claim)) (λ values.
-    stops_bind Known (holds Limit (member_place Nodes) (nat_le 2 (items_len values))) _ (holds_kinds Limit (member_place Nodes) (nat_le 2 (items_len values)) refl) (λ enough.
+    stops_bind Known (holds Limit (member_place Nodes) (nat_le least_nodes (items_len values))) _ (holds_kinds Limit (member_place Nodes) (nat_le least_nodes (items_len values)) refl) (λ enough.
     each_kinds (one_node trades) (one_node_kinds trades) [] values))
 
 one_offer_kinds : (trades : List (List ℕ)) (place : List PlaceStep) (limit : ℕ) (offered : Offered) (entry : Data) → Stops Known (one_offer trades place limit offered entry)
@@ -272,35 +280,37 @@ one_offer_kinds trades place limit offered entry =
     stops_bind Known (price_of trades place limit offered.named entry) _ (entry_kinds trades place limit offered.named entry) (λ next.
     stops_ok Known (record { named = toggle offered.named next.0; contracts = offered.contracts ++ record { trade = next.0; price = next.1 } ∷ [] }))
 
-claimed_contracts_kinds : (trades : List (List ℕ)) (claim : Data) → Stops Known (claimed_contracts trades claim)
+claimed_contracts_kinds : (listed : Listed) (claim : Data) → Stops Known (claimed_contracts listed claim)
 unfolding claimed_contracts
-claimed_contracts_kinds trades claim =
+claimed_contracts_kinds listed claim =
+    let trades = listed.names.trades in
+    let limit = listed.limits.number in
     stops_bind Known (list_at (member_place Contracts) (get (codes "contracts") claim)) _ (list_kinds (member_place Contracts) (get (codes "contracts") claim)) (λ entries.
-    stops_bind Known (each (one_offer trades (member_place Contracts) (10 ^ 18)) no_offers entries) _ (each_kinds (one_offer trades (member_place Contracts) (10 ^ 18)) (one_offer_kinds trades (member_place Contracts) (10 ^ 18)) no_offers entries) (λ offered.
+    stops_bind Known (each (one_offer trades (member_place Contracts) limit) no_offers entries) _ (each_kinds (one_offer trades (member_place Contracts) limit) (one_offer_kinds trades (member_place Contracts) limit) no_offers entries) (λ offered.
     stops_ok Known (offered.contracts)))
 
 -- ---- claims
 
 module _ (listed : Listed) (top claim : Data) where
-  equilibrium_kinds : Stops Known (equilibrium_of listed.names.trades top claim)
+  equilibrium_kinds : Stops Known (equilibrium_of listed top claim)
   unfolding equilibrium_of
   equilibrium_kinds =
-      stops_bind Known (arrangement_of listed.names.trades top) _ (arrangement_kinds listed.names.trades top) (λ at.
+      stops_bind Known (arrangement_of listed top) _ (arrangement_kinds listed top) (λ at.
       stops_bind Known (frame_of EquilibriumKind claim) _ (object_kinds (ClaimObject EquilibriumKind) claim_place (Some claim)) (λ frame.
-      stops_bind Known (claimed_number Surplus (get (codes "surplus") claim)) _ (number_kinds (10 ^ 18) (member_place Surplus) (get (codes "surplus") claim)) (λ surplus.
+      stops_bind Known (claimed_number listed Surplus (get (codes "surplus") claim)) _ (number_kinds listed.limits.number (member_place Surplus) (get (codes "surplus") claim)) (λ surplus.
       stops_ok Known (Equilibrium (record { on = at.on; prices = at.prices }) surplus))))
 
   better_kinds : Stops Known (better_of listed top claim)
   unfolding better_of
   better_kinds =
-      stops_bind Known (arrangement_of listed.names.trades top) _ (arrangement_kinds listed.names.trades top) (λ at.
+      stops_bind Known (arrangement_of listed top) _ (arrangement_kinds listed top) (λ at.
       stops_bind Known (frame_of BetterKind claim) _ (object_kinds (ClaimObject BetterKind) claim_place (Some claim)) (λ frame.
       stops_bind Known (claimed_firm listed.names.firms claim) _ (firm_kinds listed.names.firms (member_place FirmWord) (get (codes "firm") claim)) (λ f.
       stops_bind Known (claimed_bundle listed f Bundle (get (codes "bundle") claim)) _ (bundle_kinds listed f (member_place Bundle) (get (codes "bundle") claim)) (λ x.
-      stops_bind Known (claimed_number Gain (get (codes "gain") claim)) _ (number_kinds (10 ^ 18) (member_place Gain) (get (codes "gain") claim)) (λ gain.
+      stops_bind Known (claimed_number listed Gain (get (codes "gain") claim)) _ (number_kinds listed.limits.number (member_place Gain) (get (codes "gain") claim)) (λ gain.
       stops_ok Known (Better (record { on = at.on; prices = at.prices }) f x gain))))))
 
-  impossible_kinds : Stops Known (impossible_of listed.names top claim)
+  impossible_kinds : Stops Known (impossible_of listed top claim)
   unfolding impossible_of
   impossible_kinds =
       stops_bind Known (trades_on_of listed.names.trades top) _ (trades_on_kinds listed.names.trades top) (λ on.
@@ -324,59 +334,59 @@ module _ (listed : Listed) (top claim : Data) where
       stops_bind Known (claimed_bundle listed f Y (get (codes "y") claim)) _ (bundle_kinds listed f (member_place Y) (get (codes "y") claim)) (λ y.
       stops_ok Known (ExchangeFails f x y at))))))
 
-  supported_kinds : Stops Known (supported_of listed.names.trades top claim)
+  supported_kinds : Stops Known (supported_of listed top claim)
   unfolding supported_of
   supported_kinds =
       stops_bind Known (trades_on_of listed.names.trades top) _ (trades_on_kinds listed.names.trades top) (λ on.
       stops_bind Known (frame_of SupportedKind claim) _ (object_kinds (ClaimObject SupportedKind) claim_place (Some claim)) (λ frame.
-      stops_bind Known (claimed_prices listed.names.trades claim) _ (claimed_prices_kinds listed.names.trades claim) (λ prices.
+      stops_bind Known (claimed_prices listed claim) _ (claimed_prices_kinds listed claim) (λ prices.
       stops_ok Known (Supported on prices))))
 
-  cycle_kinds : Stops Known (cycle_of listed.names.trades top claim)
+  cycle_kinds : Stops Known (cycle_of listed top claim)
   unfolding cycle_of
   cycle_kinds =
       stops_bind Known (trades_on_of listed.names.trades top) _ (trades_on_kinds listed.names.trades top) (λ on.
       stops_bind Known (frame_of CycleKind claim) _ (object_kinds (ClaimObject CycleKind) claim_place (Some claim)) (λ frame.
-      stops_bind Known (claimed_number Cost (get (codes "cost") claim)) _ (number_kinds (10 ^ 18) (member_place Cost) (get (codes "cost") claim)) (λ cost.
-      stops_bind Known (claimed_nodes listed.names.trades (most_nodes top) claim) _ (nodes_kinds listed.names.trades (most_nodes top) claim) (λ nodes.
+      stops_bind Known (claimed_number listed Cost (get (codes "cost") claim)) _ (number_kinds listed.limits.number (member_place Cost) (get (codes "cost") claim)) (λ cost.
+      stops_bind Known (claimed_nodes listed claim) _ (nodes_kinds listed claim) (λ nodes.
       stops_ok Known (Cycle on nodes cost)))))
 
-  solved_kinds : Stops Known (solved_of listed.names.trades claim)
+  solved_kinds : Stops Known (solved_of listed claim)
   unfolding solved_of
   solved_kinds =
       stops_bind Known (frame_of SolvedKind claim) _ (object_kinds (ClaimObject SolvedKind) claim_place (Some claim)) (λ frame.
       stops_bind Known (claimed_on listed.names.trades claim) _ (claimed_on_kinds listed.names.trades claim) (λ on.
-      stops_bind Known (claimed_prices listed.names.trades claim) _ (claimed_prices_kinds listed.names.trades claim) (λ prices.
-      stops_bind Known (claimed_number Surplus (get (codes "surplus") claim)) _ (number_kinds (10 ^ 18) (member_place Surplus) (get (codes "surplus") claim)) (λ surplus.
+      stops_bind Known (claimed_prices listed claim) _ (claimed_prices_kinds listed claim) (λ prices.
+      stops_bind Known (claimed_number listed Surplus (get (codes "surplus") claim)) _ (number_kinds listed.limits.number (member_place Surplus) (get (codes "surplus") claim)) (λ surplus.
       stops_ok Known (Solved (record { on = on; prices = prices }) surplus)))))
 
   drops_kinds : Stops Known (drops_of listed top claim)
   unfolding drops_of
   drops_kinds =
-      stops_bind Known (outcome_of listed.names.trades top) _ (outcome_kinds listed.names.trades top) (λ outcome.
+      stops_bind Known (outcome_of listed top) _ (outcome_kinds listed top) (λ outcome.
       stops_bind Known (frame_of DropsKind claim) _ (object_kinds (ClaimObject DropsKind) claim_place (Some claim)) (λ frame.
       stops_bind Known (claimed_firm listed.names.firms claim) _ (firm_kinds listed.names.firms (member_place FirmWord) (get (codes "firm") claim)) (λ f.
-      stops_bind Known (gain_or_null (get (codes "gain") claim)) _ (gain_kinds (get (codes "gain") claim)) (λ gain.
+      stops_bind Known (gain_or_null listed (get (codes "gain") claim)) _ (gain_kinds listed (get (codes "gain") claim)) (λ gain.
       stops_bind Known (claimed_bundle listed f Keeps (get (codes "keeps") claim)) _ (bundle_kinds listed f (member_place Keeps) (get (codes "keeps") claim)) (λ keeps.
-      stops_bind Known (claimed_over claim) _ (over_kinds 100000 (member_place Over) (get (codes "over") claim)) (λ over.
+      stops_bind Known (claimed_over listed claim) _ (over_kinds listed.limits.claimed_over (member_place Over) (get (codes "over") claim)) (λ over.
       stops_ok Known (Drops outcome f keeps gain over)))))))
 
-  completes_kinds : Stops Known (completes_of listed.names.trades top claim)
+  completes_kinds : Stops Known (completes_of listed top claim)
   unfolding completes_of
   completes_kinds =
-      stops_bind Known (outcome_of listed.names.trades top) _ (outcome_kinds listed.names.trades top) (λ outcome.
+      stops_bind Known (outcome_of listed top) _ (outcome_kinds listed top) (λ outcome.
       stops_bind Known (frame_of CompletesKind claim) _ (object_kinds (ClaimObject CompletesKind) claim_place (Some claim)) (λ frame.
-      stops_bind Known (claimed_over claim) _ (over_kinds 100000 (member_place Over) (get (codes "over") claim)) (λ over.
-      stops_bind Known (claimed_prices listed.names.trades claim) _ (claimed_prices_kinds listed.names.trades claim) (λ prices.
+      stops_bind Known (claimed_over listed claim) _ (over_kinds listed.limits.claimed_over (member_place Over) (get (codes "over") claim)) (λ over.
+      stops_bind Known (claimed_prices listed claim) _ (claimed_prices_kinds listed claim) (λ prices.
       stops_ok Known (Completes outcome prices over)))))
 
-  blocks_kinds : Stops Known (blocks_of listed.names.trades top claim)
+  blocks_kinds : Stops Known (blocks_of listed top claim)
   unfolding blocks_of
   blocks_kinds =
-      stops_bind Known (outcome_of listed.names.trades top) _ (outcome_kinds listed.names.trades top) (λ outcome.
+      stops_bind Known (outcome_of listed top) _ (outcome_kinds listed top) (λ outcome.
       stops_bind Known (frame_of BlocksKind claim) _ (object_kinds (ClaimObject BlocksKind) claim_place (Some claim)) (λ frame.
-      stops_bind Known (claimed_contracts listed.names.trades claim) _ (claimed_contracts_kinds listed.names.trades claim) (λ contracts.
-      stops_bind Known (claimed_over claim) _ (over_kinds 100000 (member_place Over) (get (codes "over") claim)) (λ over.
+      stops_bind Known (claimed_contracts listed claim) _ (claimed_contracts_kinds listed claim) (λ contracts.
+      stops_bind Known (claimed_over listed claim) _ (over_kinds listed.limits.claimed_over (member_place Over) (get (codes "over") claim)) (λ over.
       stops_ok Known (Blocks outcome contracts over)))))
 
   by_kind : (kind : ClaimKind) → Stops Known (claim_by listed kind top claim)

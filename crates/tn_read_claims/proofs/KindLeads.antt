@@ -18,7 +18,7 @@ use Rattle.tn_read_parts.specs.Arranged.{arrangement_of, trades_on_of}
 use Rattle.tn_read_parts.specs.Signed.{outcome_of}
 use Rattle.tn_read_claims.specs.Claimed.{accepted_of, better_of, blocks_of, claim_by, claim_of, claims_raw, completes_of, cycle_of, drops_of, equilibrium_of, failure_of, frame_of, impossible_of, is_raw, kind_is, kind_of, names_raw, solved_of, supported_of}
 use Rattle.tn_read_claims.specs.Laws.{NodesAreFew, RawClaimsAreTold}
-use Rattle.tn_read_claims.specs.Members.{claim_place, claimed_bundle, claimed_contracts, claimed_firm, claimed_nodes, claimed_number, claimed_on, claimed_over, claimed_prices, gain_or_null, member_place, most_nodes, own_or_null}
+use Rattle.tn_read_claims.specs.Members.{claim_place, claimed_bundle, claimed_contracts, claimed_firm, claimed_nodes, claimed_number, claimed_on, claimed_over, claimed_prices, gain_or_null, member_place, own_or_null}
 use Rattle.tn_read_claims.proofs.MemberLeads.{AreNodes, nodes_lead}
 
 abbrev nodes_in : Claim → List (Option ℕ)
@@ -31,104 +31,104 @@ record IsOf (kind : ClaimKind) (limit : ℕ) (claim : Claim) : Type 0 where
   few : length (nodes_in claim) ≤ limit
 
 module _ (listed : Listed) (top claim : Data) where
-  equilibrium_is : Leads (IsOf EquilibriumKind (most_nodes top)) (equilibrium_of listed.names.trades top claim)
+  equilibrium_is : Leads (IsOf EquilibriumKind listed.limits.nodes) (equilibrium_of listed top claim)
   unfolding equilibrium_of
   equilibrium_is =
-      leads_after (IsOf EquilibriumKind (most_nodes top)) (arrangement_of listed.names.trades top) _ (λ at.
-      leads_after (IsOf EquilibriumKind (most_nodes top)) (frame_of EquilibriumKind claim) _ (λ frame.
-      leads_after (IsOf EquilibriumKind (most_nodes top)) (claimed_number Surplus (get (codes "surplus") claim)) _ (λ surplus.
-      leads_ok (IsOf EquilibriumKind (most_nodes top)) (Equilibrium (record { on = at.on; prices = at.prices }) surplus) (record { is = refl; few = omega arith }))))
+      leads_after (IsOf EquilibriumKind listed.limits.nodes) (arrangement_of listed top) _ (λ at.
+      leads_after (IsOf EquilibriumKind listed.limits.nodes) (frame_of EquilibriumKind claim) _ (λ frame.
+      leads_after (IsOf EquilibriumKind listed.limits.nodes) (claimed_number listed Surplus (get (codes "surplus") claim)) _ (λ surplus.
+      leads_ok (IsOf EquilibriumKind listed.limits.nodes) (Equilibrium (record { on = at.on; prices = at.prices }) surplus) (record { is = refl; few = omega arith }))))
 
-  better_is : Leads (IsOf BetterKind (most_nodes top)) (better_of listed top claim)
+  better_is : Leads (IsOf BetterKind listed.limits.nodes) (better_of listed top claim)
   unfolding better_of
   better_is =
-      leads_after (IsOf BetterKind (most_nodes top)) (arrangement_of listed.names.trades top) _ (λ at.
-      leads_after (IsOf BetterKind (most_nodes top)) (frame_of BetterKind claim) _ (λ frame.
-      leads_after (IsOf BetterKind (most_nodes top)) (claimed_firm listed.names.firms claim) _ (λ f.
-      leads_after (IsOf BetterKind (most_nodes top)) (claimed_bundle listed f Bundle (get (codes "bundle") claim)) _ (λ x.
-      leads_after (IsOf BetterKind (most_nodes top)) (claimed_number Gain (get (codes "gain") claim)) _ (λ gain.
-      leads_ok (IsOf BetterKind (most_nodes top)) (Better (record { on = at.on; prices = at.prices }) f x gain) (record { is = refl; few = omega arith }))))))
+      leads_after (IsOf BetterKind listed.limits.nodes) (arrangement_of listed top) _ (λ at.
+      leads_after (IsOf BetterKind listed.limits.nodes) (frame_of BetterKind claim) _ (λ frame.
+      leads_after (IsOf BetterKind listed.limits.nodes) (claimed_firm listed.names.firms claim) _ (λ f.
+      leads_after (IsOf BetterKind listed.limits.nodes) (claimed_bundle listed f Bundle (get (codes "bundle") claim)) _ (λ x.
+      leads_after (IsOf BetterKind listed.limits.nodes) (claimed_number listed Gain (get (codes "gain") claim)) _ (λ gain.
+      leads_ok (IsOf BetterKind listed.limits.nodes) (Better (record { on = at.on; prices = at.prices }) f x gain) (record { is = refl; few = omega arith }))))))
 
-  impossible_is : Leads (IsOf ImpossibleKind (most_nodes top)) (impossible_of listed.names top claim)
+  impossible_is : Leads (IsOf ImpossibleKind listed.limits.nodes) (impossible_of listed top claim)
   unfolding impossible_of
   impossible_is =
-      leads_after (IsOf ImpossibleKind (most_nodes top)) (trades_on_of listed.names.trades top) _ (λ on.
-      leads_after (IsOf ImpossibleKind (most_nodes top)) (frame_of ImpossibleKind claim) _ (λ frame.
-      leads_after (IsOf ImpossibleKind (most_nodes top)) (claimed_firm listed.names.firms claim) _ (λ f.
-      leads_ok (IsOf ImpossibleKind (most_nodes top)) (Impossible on f) (record { is = refl; few = omega arith }))))
+      leads_after (IsOf ImpossibleKind listed.limits.nodes) (trades_on_of listed.names.trades top) _ (λ on.
+      leads_after (IsOf ImpossibleKind listed.limits.nodes) (frame_of ImpossibleKind claim) _ (λ frame.
+      leads_after (IsOf ImpossibleKind listed.limits.nodes) (claimed_firm listed.names.firms claim) _ (λ f.
+      leads_ok (IsOf ImpossibleKind listed.limits.nodes) (Impossible on f) (record { is = refl; few = omega arith }))))
 
-  accepted_is : Leads (IsOf AcceptedKind (most_nodes top)) (accepted_of claim)
+  accepted_is : Leads (IsOf AcceptedKind listed.limits.nodes) (accepted_of claim)
   unfolding accepted_of
   accepted_is =
-      leads_after (IsOf AcceptedKind (most_nodes top)) (frame_of AcceptedKind claim) _ (λ frame.
-      leads_ok (IsOf AcceptedKind (most_nodes top)) (Accepted) (record { is = refl; few = omega arith }))
+      leads_after (IsOf AcceptedKind listed.limits.nodes) (frame_of AcceptedKind claim) _ (λ frame.
+      leads_ok (IsOf AcceptedKind listed.limits.nodes) (Accepted) (record { is = refl; few = omega arith }))
 
-  failure_is : Leads (IsOf ExchangeFailsKind (most_nodes top)) (failure_of listed claim)
+  failure_is : Leads (IsOf ExchangeFailsKind listed.limits.nodes) (failure_of listed claim)
   unfolding failure_of
   failure_is =
-      leads_after (IsOf ExchangeFailsKind (most_nodes top)) (frame_of ExchangeFailsKind claim) _ (λ frame.
-      leads_after (IsOf ExchangeFailsKind (most_nodes top)) (claimed_firm listed.names.firms claim) _ (λ f.
-      leads_after (IsOf ExchangeFailsKind (most_nodes top)) (own_or_null listed f (member_place At) (get (codes "at") claim)) _ (λ at.
-      leads_after (IsOf ExchangeFailsKind (most_nodes top)) (claimed_bundle listed f X (get (codes "x") claim)) _ (λ x.
-      leads_after (IsOf ExchangeFailsKind (most_nodes top)) (claimed_bundle listed f Y (get (codes "y") claim)) _ (λ y.
-      leads_ok (IsOf ExchangeFailsKind (most_nodes top)) (ExchangeFails f x y at) (record { is = refl; few = omega arith }))))))
+      leads_after (IsOf ExchangeFailsKind listed.limits.nodes) (frame_of ExchangeFailsKind claim) _ (λ frame.
+      leads_after (IsOf ExchangeFailsKind listed.limits.nodes) (claimed_firm listed.names.firms claim) _ (λ f.
+      leads_after (IsOf ExchangeFailsKind listed.limits.nodes) (own_or_null listed f (member_place At) (get (codes "at") claim)) _ (λ at.
+      leads_after (IsOf ExchangeFailsKind listed.limits.nodes) (claimed_bundle listed f X (get (codes "x") claim)) _ (λ x.
+      leads_after (IsOf ExchangeFailsKind listed.limits.nodes) (claimed_bundle listed f Y (get (codes "y") claim)) _ (λ y.
+      leads_ok (IsOf ExchangeFailsKind listed.limits.nodes) (ExchangeFails f x y at) (record { is = refl; few = omega arith }))))))
 
-  supported_is : Leads (IsOf SupportedKind (most_nodes top)) (supported_of listed.names.trades top claim)
+  supported_is : Leads (IsOf SupportedKind listed.limits.nodes) (supported_of listed top claim)
   unfolding supported_of
   supported_is =
-      leads_after (IsOf SupportedKind (most_nodes top)) (trades_on_of listed.names.trades top) _ (λ on.
-      leads_after (IsOf SupportedKind (most_nodes top)) (frame_of SupportedKind claim) _ (λ frame.
-      leads_after (IsOf SupportedKind (most_nodes top)) (claimed_prices listed.names.trades claim) _ (λ prices.
-      leads_ok (IsOf SupportedKind (most_nodes top)) (Supported on prices) (record { is = refl; few = omega arith }))))
+      leads_after (IsOf SupportedKind listed.limits.nodes) (trades_on_of listed.names.trades top) _ (λ on.
+      leads_after (IsOf SupportedKind listed.limits.nodes) (frame_of SupportedKind claim) _ (λ frame.
+      leads_after (IsOf SupportedKind listed.limits.nodes) (claimed_prices listed claim) _ (λ prices.
+      leads_ok (IsOf SupportedKind listed.limits.nodes) (Supported on prices) (record { is = refl; few = omega arith }))))
 
-  cycle_is : Leads (IsOf CycleKind (most_nodes top)) (cycle_of listed.names.trades top claim)
+  cycle_is : Leads (IsOf CycleKind listed.limits.nodes) (cycle_of listed top claim)
   unfolding cycle_of
   cycle_is =
-      leads_after (IsOf CycleKind (most_nodes top)) (trades_on_of listed.names.trades top) _ (λ on.
-      leads_after (IsOf CycleKind (most_nodes top)) (frame_of CycleKind claim) _ (λ frame.
-      leads_after (IsOf CycleKind (most_nodes top)) (claimed_number Cost (get (codes "cost") claim)) _ (λ cost.
-      leads_bind (AreNodes listed.names.trades (most_nodes top)) (IsOf CycleKind (most_nodes top)) (claimed_nodes listed.names.trades (most_nodes top) claim) _ (nodes_lead listed.names.trades (most_nodes top) claim) (λ nodes are.
-      leads_ok (IsOf CycleKind (most_nodes top)) (Cycle on nodes cost) (record { is = refl; few = are.most })))))
+      leads_after (IsOf CycleKind listed.limits.nodes) (trades_on_of listed.names.trades top) _ (λ on.
+      leads_after (IsOf CycleKind listed.limits.nodes) (frame_of CycleKind claim) _ (λ frame.
+      leads_after (IsOf CycleKind listed.limits.nodes) (claimed_number listed Cost (get (codes "cost") claim)) _ (λ cost.
+      leads_bind (AreNodes listed) (IsOf CycleKind listed.limits.nodes) (claimed_nodes listed claim) _ (nodes_lead listed claim) (λ nodes are.
+      leads_ok (IsOf CycleKind listed.limits.nodes) (Cycle on nodes cost) (record { is = refl; few = are.most })))))
 
-  solved_is : Leads (IsOf SolvedKind (most_nodes top)) (solved_of listed.names.trades claim)
+  solved_is : Leads (IsOf SolvedKind listed.limits.nodes) (solved_of listed claim)
   unfolding solved_of
   solved_is =
-      leads_after (IsOf SolvedKind (most_nodes top)) (frame_of SolvedKind claim) _ (λ frame.
-      leads_after (IsOf SolvedKind (most_nodes top)) (claimed_on listed.names.trades claim) _ (λ on.
-      leads_after (IsOf SolvedKind (most_nodes top)) (claimed_prices listed.names.trades claim) _ (λ prices.
-      leads_after (IsOf SolvedKind (most_nodes top)) (claimed_number Surplus (get (codes "surplus") claim)) _ (λ surplus.
-      leads_ok (IsOf SolvedKind (most_nodes top)) (Solved (record { on = on; prices = prices }) surplus) (record { is = refl; few = omega arith })))))
+      leads_after (IsOf SolvedKind listed.limits.nodes) (frame_of SolvedKind claim) _ (λ frame.
+      leads_after (IsOf SolvedKind listed.limits.nodes) (claimed_on listed.names.trades claim) _ (λ on.
+      leads_after (IsOf SolvedKind listed.limits.nodes) (claimed_prices listed claim) _ (λ prices.
+      leads_after (IsOf SolvedKind listed.limits.nodes) (claimed_number listed Surplus (get (codes "surplus") claim)) _ (λ surplus.
+      leads_ok (IsOf SolvedKind listed.limits.nodes) (Solved (record { on = on; prices = prices }) surplus) (record { is = refl; few = omega arith })))))
 
-  drops_is : Leads (IsOf DropsKind (most_nodes top)) (drops_of listed top claim)
+  drops_is : Leads (IsOf DropsKind listed.limits.nodes) (drops_of listed top claim)
   unfolding drops_of
   drops_is =
-      leads_after (IsOf DropsKind (most_nodes top)) (outcome_of listed.names.trades top) _ (λ outcome.
-      leads_after (IsOf DropsKind (most_nodes top)) (frame_of DropsKind claim) _ (λ frame.
-      leads_after (IsOf DropsKind (most_nodes top)) (claimed_firm listed.names.firms claim) _ (λ f.
-      leads_after (IsOf DropsKind (most_nodes top)) (gain_or_null (get (codes "gain") claim)) _ (λ gain.
-      leads_after (IsOf DropsKind (most_nodes top)) (claimed_bundle listed f Keeps (get (codes "keeps") claim)) _ (λ keeps.
-      leads_after (IsOf DropsKind (most_nodes top)) (claimed_over claim) _ (λ over.
-      leads_ok (IsOf DropsKind (most_nodes top)) (Drops outcome f keeps gain over) (record { is = refl; few = omega arith })))))))
+      leads_after (IsOf DropsKind listed.limits.nodes) (outcome_of listed top) _ (λ outcome.
+      leads_after (IsOf DropsKind listed.limits.nodes) (frame_of DropsKind claim) _ (λ frame.
+      leads_after (IsOf DropsKind listed.limits.nodes) (claimed_firm listed.names.firms claim) _ (λ f.
+      leads_after (IsOf DropsKind listed.limits.nodes) (gain_or_null listed (get (codes "gain") claim)) _ (λ gain.
+      leads_after (IsOf DropsKind listed.limits.nodes) (claimed_bundle listed f Keeps (get (codes "keeps") claim)) _ (λ keeps.
+      leads_after (IsOf DropsKind listed.limits.nodes) (claimed_over listed claim) _ (λ over.
+      leads_ok (IsOf DropsKind listed.limits.nodes) (Drops outcome f keeps gain over) (record { is = refl; few = omega arith })))))))
 
-  completes_is : Leads (IsOf CompletesKind (most_nodes top)) (completes_of listed.names.trades top claim)
+  completes_is : Leads (IsOf CompletesKind listed.limits.nodes) (completes_of listed top claim)
   unfolding completes_of
   completes_is =
-      leads_after (IsOf CompletesKind (most_nodes top)) (outcome_of listed.names.trades top) _ (λ outcome.
-      leads_after (IsOf CompletesKind (most_nodes top)) (frame_of CompletesKind claim) _ (λ frame.
-      leads_after (IsOf CompletesKind (most_nodes top)) (claimed_over claim) _ (λ over.
-      leads_after (IsOf CompletesKind (most_nodes top)) (claimed_prices listed.names.trades claim) _ (λ prices.
-      leads_ok (IsOf CompletesKind (most_nodes top)) (Completes outcome prices over) (record { is = refl; few = omega arith })))))
+      leads_after (IsOf CompletesKind listed.limits.nodes) (outcome_of listed top) _ (λ outcome.
+      leads_after (IsOf CompletesKind listed.limits.nodes) (frame_of CompletesKind claim) _ (λ frame.
+      leads_after (IsOf CompletesKind listed.limits.nodes) (claimed_over listed claim) _ (λ over.
+      leads_after (IsOf CompletesKind listed.limits.nodes) (claimed_prices listed claim) _ (λ prices.
+      leads_ok (IsOf CompletesKind listed.limits.nodes) (Completes outcome prices over) (record { is = refl; few = omega arith })))))
 
-  blocks_is : Leads (IsOf BlocksKind (most_nodes top)) (blocks_of listed.names.trades top claim)
+  blocks_is : Leads (IsOf BlocksKind listed.limits.nodes) (blocks_of listed top claim)
   unfolding blocks_of
   blocks_is =
-      leads_after (IsOf BlocksKind (most_nodes top)) (outcome_of listed.names.trades top) _ (λ outcome.
-      leads_after (IsOf BlocksKind (most_nodes top)) (frame_of BlocksKind claim) _ (λ frame.
-      leads_after (IsOf BlocksKind (most_nodes top)) (claimed_contracts listed.names.trades claim) _ (λ contracts.
-      leads_after (IsOf BlocksKind (most_nodes top)) (claimed_over claim) _ (λ over.
-      leads_ok (IsOf BlocksKind (most_nodes top)) (Blocks outcome contracts over) (record { is = refl; few = omega arith })))))
+      leads_after (IsOf BlocksKind listed.limits.nodes) (outcome_of listed top) _ (λ outcome.
+      leads_after (IsOf BlocksKind listed.limits.nodes) (frame_of BlocksKind claim) _ (λ frame.
+      leads_after (IsOf BlocksKind listed.limits.nodes) (claimed_contracts listed claim) _ (λ contracts.
+      leads_after (IsOf BlocksKind listed.limits.nodes) (claimed_over listed claim) _ (λ over.
+      leads_ok (IsOf BlocksKind listed.limits.nodes) (Blocks outcome contracts over) (record { is = refl; few = omega arith })))))
 
-  claim_is : (kind : ClaimKind) → Leads (IsOf kind (most_nodes top)) (claim_by listed kind top claim)
+  claim_is : (kind : ClaimKind) → Leads (IsOf kind listed.limits.nodes) (claim_by listed kind top claim)
   claim_is EquilibriumKind = equilibrium_is
   claim_is BetterKind = better_is
   claim_is ImpossibleKind = impossible_is
@@ -142,9 +142,9 @@ module _ (listed : Listed) (top claim : Data) where
   claim_is BlocksKind = blocks_is
 
 -- what is known of a claim before and after it is read
-record IsTold (top : Data) (claim : Claim) : Type 0 where
+record IsTold (listed : Listed) (top : Data) (claim : Claim) : Type 0 where
   raw : claims_raw top ≡ is_raw (kind_is claim)
-  few : length (nodes_in claim) ≤ most_nodes top
+  few : length (nodes_in claim) ≤ listed.limits.nodes
 
 -- the answer names the kind
 record IsNamedBy (claim : Data) (kind : ClaimKind) : Type 0 where
@@ -165,13 +165,13 @@ raw_named top claim kind at by =
     ∙ ap (λ answer. unwrap_or (option_map names_raw answer) false) by.is
     ∙ ap (λ named. unwrap_or (option_map is_raw named) false) by.named
 
-told_leads : (listed : Listed) (top : Data) → Leads (IsTold top) (claim_of listed top)
+told_leads : (listed : Listed) (top : Data) → Leads (IsTold listed top) (claim_of listed top)
 unfolding claim_of
 told_leads listed top =
-    leads_bind (λ claim. get (codes "claim") top ≡ Some claim) (IsTold top) (wanted Shape claim_place (get (codes "claim") top)) _ (leads_wanted Shape claim_place (get (codes "claim") top)) (λ claim at.
-    leads_after (IsTold top) (object_at claim_place (Some claim)) _ (λ object.
-    leads_bind (IsNamedBy claim) (IsTold top) (kind_of claim) _ (kind_leads claim) (λ kind by.
-    leads_as (IsOf kind (most_nodes top)) (IsTold top) (claim_by listed kind top claim) (λ read is. record {
+    leads_bind (λ claim. get (codes "claim") top ≡ Some claim) (IsTold listed top) (wanted Shape claim_place (get (codes "claim") top)) _ (leads_wanted Shape claim_place (get (codes "claim") top)) (λ claim at.
+    leads_after (IsTold listed top) (object_at claim_place (Some claim)) _ (λ object.
+    leads_bind (IsNamedBy claim) (IsTold listed top) (kind_of claim) _ (kind_leads claim) (λ kind by.
+    leads_as (IsOf kind listed.limits.nodes) (IsTold listed top) (claim_by listed kind top claim) (λ read is. record {
       raw = raw_named top claim kind at by ∙ ap is_raw (sym is.is);
       few = is.few;
     }) (claim_is listed top claim kind))))

@@ -1,12 +1,12 @@
 -- What the members of a claim are that reading gives.
-use Rattle.std.proofs.Common.{◌≡◌, ℕ, ◌^◌, ◌+◌, ◌<◌, ◌≤◌, Bool, true, false, cond, List, [], ◌∷◌, ◌++◌, length, slice_get, Option, Some, None, Result, Ok, inl, inr, sym, ap, subst, ◌∙◌, arith, true≢false}
-use Rattle.std.specs.Prelude.{ℤ, codes, nat_le, nat_eq, not, option_and_then, unwrap_or, All, IfSome}
+use Rattle.std.proofs.Common.{◌≡◌, ℕ, ◌^◌, ◌+◌, ◌<◌, ◌≤◌, true, false, List, [], ◌∷◌, ◌++◌, length, slice_get, Option, Some, None, Result, Ok, inl, inr, sym, ap, subst, ◌∙◌, arith, true≢false}
+use Rattle.std.specs.Prelude.{ℤ, pos, ◌≤ℤ◌, codes, nat_le, not, All, IfSome}
 use Rattle.std.proofs.lemmas.List.{length-append}
 use Rattle.std.proofs.lemmas.List.Elements.{All-nil, All-push}
 use Rattle.std.proofs.lemmas.Option.{none-some}
 use Rattle.serde_json.specs.Data.{Data, null, boolean, number, string, array, object, Items}
 use Rattle.serde_json.specs.Events.{items_len}
-use Rattle.serde_json.specs.Find.{get, as_number, as_u64}
+use Rattle.serde_json.specs.Find.{get}
 use Rattle.tn_base.specs.Arcs.{IsAtMost}
 use Rattle.tn_base.specs.Sets.{has, size, toggle}
 use Rattle.tn_base.proofs.SetLemmas.{has-toggle_other, has-toggle_same}
@@ -17,10 +17,11 @@ use Rattle.tn_plain_data.specs.declared.place.PlaceStep.TheVariants.{Index}
 use Rattle.tn_plain_data.specs.declared.place.Word.{Word as WordIs}
 use Rattle.tn_plain_data.specs.declared.place.Word.TheVariants.{Contracts, Gain, Nodes, On, Over, Prices}
 use Rattle.tn_plain_data.specs.declared.said.Fault.{Fault}
+use Rattle.tn_plain_data.specs.Limits.{AreLimits, least_nodes, most_number}
 use Rattle.tn_plain_data.specs.ClaimLimits.{ArePricesWithin, IsNumberWithin, IsOverWithin}
 use Rattle.tn_names.proofs.NameLemmas.{push_cases}
 use Rattle.tn_shape.specs.Reading.{◌>>=◌, each, holds, wanted}
-use Rattle.tn_shape.specs.Shapes.{few_at, list_at, number_at, two_at}
+use Rattle.tn_shape.specs.Shapes.{few_at, list_at, number_at, number_in, two_at}
 use Rattle.tn_shape.proofs.LeadLemmas.{Leads, le_from_test, leads_after, leads_as, leads_bind, leads_both, leads_count, leads_each, leads_holds, leads_ok}
 use Rattle.tn_shape.proofs.ShapeLeads.{few_lead, number_leads}
 use Rattle.tn_read_references.specs.Ordered.{AreTrades, Listed, sides_of}
@@ -33,7 +34,7 @@ use Rattle.tn_read_parts.specs.Signed.{over_at}
 use Rattle.tn_read_parts.proofs.EntryLemmas.{IsNewTrade, new_trade_says}
 use Rattle.tn_read_parts.proofs.ListLeads.{IsSetOf, prices_lead, set_leads}
 use Rattle.tn_read_parts.proofs.OutcomeLeads.{IsOver, over_leads}
-use Rattle.tn_read_claims.specs.Members.{Offered, claimed_contracts, claimed_nodes, claimed_number, claimed_on, claimed_over, claimed_prices, gain_or_null, member_place, most_nodes, no_offers, node_at, one_node, one_offer, own_or_null, unless_null}
+use Rattle.tn_read_claims.specs.Members.{Offered, claimed_contracts, claimed_nodes, claimed_number, claimed_on, claimed_over, claimed_prices, gain_or_null, member_place, no_offers, node_at, one_node, one_offer, own_or_null, unless_null}
 
 -- ---- null
 
@@ -49,18 +50,24 @@ module _ {A : Type 0} (P : A → Type 0) (read : Data → Result A Fault) (lead 
   unless_null_leads (array ds) = there_leads (array ds)
   unless_null_leads (object ms) = there_leads (object ms)
 
-pub claimed_number_leads : (word : WordIs) (value : Option Data) → Leads IsNumberWithin (claimed_number word value)
-claimed_number_leads word value = number_leads (10 ^ 18) (member_place word) value
+module _ (listed : Listed) (limits : AreLimits listed.limits) where
+  -- a number within the document's limit is within that of claims
+  number_within : (place : List PlaceStep) (value : Option Data) → Leads IsNumberWithin (number_in listed.limits.number place value)
+  number_within place value = subst (λ limit. Leads (λ z. IsAtMost z limit) (number_in listed.limits.number place value)) limits.number (number_leads listed.limits.number place value)
 
-pub gain_leads : (value : Option Data) → Leads (λ gain. IfSome gain IsNumberWithin) (gain_or_null value)
-gain_leads value =
-    leads_after (λ gain. IfSome gain IsNumberWithin) (wanted Shape (member_place Gain) value) _ (λ gain.
-    unless_null_leads IsNumberWithin (number_at (10 ^ 18) (member_place Gain)) (λ d. number_leads (10 ^ 18) (member_place Gain) (Some d)) gain)
+  pub claimed_number_leads : (word : WordIs) (value : Option Data) → Leads IsNumberWithin (claimed_number listed word value)
+  claimed_number_leads word value = number_within (member_place word) value
 
-pub over_lead : (claim : Data) → Leads IsOverWithin (claimed_over claim)
-over_lead claim =
-    leads_as (IsOver 100000) IsOverWithin (over_at 100000 (member_place Over) (get (codes "over") claim)) (λ over is. record { least = is.least; most = is.most })
-    (over_leads 100000 (member_place Over) (get (codes "over") claim))
+  pub gain_leads : (value : Option Data) → Leads (λ gain. IfSome gain IsNumberWithin) (gain_or_null listed value)
+  gain_leads value =
+      leads_after (λ gain. IfSome gain IsNumberWithin) (wanted Shape (member_place Gain) value) _ (λ gain.
+      unless_null_leads IsNumberWithin (number_at listed.limits.number (member_place Gain)) (λ d. number_within (member_place Gain) (Some d)) gain)
+
+  pub over_lead : (claim : Data) → Leads IsOverWithin (claimed_over listed claim)
+  over_lead claim =
+      leads_as (IsOver listed.limits.claimed_over) IsOverWithin (over_at listed.limits.claimed_over (member_place Over) (get (codes "over") claim))
+      (λ over is. record { least = is.least; most = subst (λ limit. over ≤ℤ pos limit) limits.claimed_over is.most })
+      (over_leads listed.limits.claimed_over (member_place Over) (get (codes "over") claim))
 
 pub at_leads : (listed : Listed) (trades : AreTrades listed) (f : ℕ) (place : List PlaceStep) (value : Option Data) → Leads (λ at. IfSome at (λ k. k < length (sides_of listed.ends f))) (own_or_null listed f place value)
 at_leads listed trades f place value =
@@ -75,13 +82,6 @@ module _ (trades : List (List ℕ)) where
   on_lead claim =
       leads_after (IsSetOf trades (member_place On)) (list_at (member_place On) (get (codes "on") claim)) _ (λ references.
       set_leads trades (member_place On) references)
-
-  pub claimed_prices_lead : (claim : Data) → Leads (ArePricesWithin (length trades) (10 ^ 18)) (claimed_prices trades claim)
-  unfolding claimed_prices
-  claimed_prices_lead claim =
-      leads_after (ArePricesWithin (length trades) (10 ^ 18)) (list_at (member_place Prices) (get (codes "prices") claim)) _ (λ entries.
-      leads_as (AreNumbers (length trades) (10 ^ 18)) (ArePricesWithin (length trades) (10 ^ 18)) (prices_of trades (member_place Prices) (10 ^ 18) entries) (λ prices are. record { one_each = are.count; small = are.small })
-      (prices_lead trades (member_place Prices) (10 ^ 18) entries))
 
   abbrev IsKnown : Option ℕ → Type 0
   IsKnown node = IfSome node (λ t. t < length trades)
@@ -99,29 +99,36 @@ module _ (trades : List (List ℕ)) where
       leads_after (λ next. length next ≡ length nodes + 1) (node_at trades (member_place Nodes ++ Index (length nodes) ∷ []) value) _ (λ node.
       leads_ok (λ next. length next ≡ length nodes + 1) (nodes ++ node ∷ []) (length-append nodes (node ∷ [])))
 
-  -- at least 2 nodes and at most so many, each of them null or a trade
-  pub record AreNodes (limit : ℕ) (nodes : List (Option ℕ)) : Type 0 where
-    pub least : 2 ≤ length nodes
-    pub most : length nodes ≤ limit
-    pub known : All IsKnown nodes
+module _ (listed : Listed) where
+  -- not too few nodes and at most as many as the document's limit, each of them null or a trade
+  pub record AreNodes (nodes : List (Option ℕ)) : Type 0 where
+    pub least : least_nodes ≤ length nodes
+    pub most : length nodes ≤ listed.limits.nodes
+    pub known : All (IsKnown listed.names.trades) nodes
 
-  pub nodes_lead : (limit : ℕ) (claim : Data) → Leads (AreNodes limit) (claimed_nodes trades limit claim)
+  pub nodes_lead : (claim : Data) → Leads AreNodes (claimed_nodes listed claim)
   unfolding claimed_nodes
-  nodes_lead limit claim =
-      leads_bind (λ values. items_len values ≤ limit) (AreNodes limit) (few_at limit (member_place Nodes) (get (codes "nodes") claim)) _ (few_lead limit (member_place Nodes) (get (codes "nodes") claim)) (λ values few.
-      leads_bind (λ _. nat_le 2 (items_len values) ≡ true) (AreNodes limit) (holds Limit (member_place Nodes) (nat_le 2 (items_len values))) _ (leads_holds Limit (member_place Nodes) (nat_le 2 (items_len values))) (λ u test.
-      let enough = le_from_test 2 (items_len values) test in
-      leads_as (λ nodes. All IsKnown nodes × (length nodes ≡ 0 + items_len values)) (AreNodes limit) (each (one_node trades) [] values) (λ nodes are. record { least = omega (arith, enough, are.1); most = omega (arith, few, are.1); known = are.0 })
-      (leads_both (All IsKnown) (λ nodes. length nodes ≡ 0 + items_len values) (each (one_node trades) [] values)
-      (leads_each (All IsKnown) (one_node trades) one_node_leads [] values (All-nil IsKnown))
-      (leads_count length (one_node trades) one_node_counts [] values))))
+  nodes_lead claim =
+      let limit = listed.limits.nodes in
+      let known = IsKnown listed.names.trades in
+      let node = one_node listed.names.trades in
+      leads_bind (λ values. items_len values ≤ limit) AreNodes (few_at limit (member_place Nodes) (get (codes "nodes") claim)) _ (few_lead limit (member_place Nodes) (get (codes "nodes") claim)) (λ values few.
+      leads_bind (λ _. nat_le least_nodes (items_len values) ≡ true) AreNodes (holds Limit (member_place Nodes) (nat_le least_nodes (items_len values))) _ (leads_holds Limit (member_place Nodes) (nat_le least_nodes (items_len values))) (λ u test.
+      let enough = le_from_test least_nodes (items_len values) test in
+      leads_as (λ nodes. All known nodes × (length nodes ≡ 0 + items_len values)) AreNodes (each node [] values) (λ nodes are. record { least = omega (arith, enough, are.1); most = omega (arith, few, are.1); known = are.0 })
+      (leads_both (All known) (λ nodes. length nodes ≡ 0 + items_len values) (each node [] values)
+      (leads_each (All known) node (one_node_leads listed.names.trades) [] values (All-nil known))
+      (leads_count length node (one_node_counts listed.names.trades) [] values))))
 
-pub most_nodes_few : (top : Data) → most_nodes top ≤ 129
-most_nodes_few top = by_test (nat_eq (unwrap_or (option_and_then as_u64 (option_and_then as_number (get (codes "version") top))) 0) 1)
-  where
-    by_test : (b : Bool) → cond b 65 129 ≤ 129
-    by_test true = omega arith
-    by_test false = omega arith
+  pub claimed_prices_lead : AreLimits listed.limits → (claim : Data) → Leads (ArePricesWithin (length listed.names.trades) most_number) (claimed_prices listed claim)
+  unfolding claimed_prices
+  claimed_prices_lead limits claim =
+      let trades = listed.names.trades in
+      let limit = listed.limits.number in
+      leads_after (ArePricesWithin (length trades) most_number) (list_at (member_place Prices) (get (codes "prices") claim)) _ (λ entries.
+      leads_as (AreNumbers (length trades) limit) (ArePricesWithin (length trades) most_number) (prices_of trades (member_place Prices) limit entries)
+      (λ prices are. record { one_each = are.count; small = subst (λ most. All (λ price. IsAtMost price most) prices) limits.number are.small })
+      (prices_lead trades (member_place Prices) limit entries))
 
 -- ---- contracts
 
@@ -220,10 +227,12 @@ pub record AreClaimedContracts (trades : List (List ℕ)) (contracts : List Cont
   pub once : (j k : ℕ) (one other : Contract) → slice_get contracts j ≡ Some one → slice_get contracts k ≡ Some other → one.trade ≡ other.trade → j ≡ k
   pub small : All (λ contract. IsNumberWithin contract.price) contracts
 
-pub claimed_contracts_lead : (trades : List (List ℕ)) (claim : Data) → Leads (AreClaimedContracts trades) (claimed_contracts trades claim)
+pub claimed_contracts_lead : (listed : Listed) → AreLimits listed.limits → (claim : Data) → Leads (AreClaimedContracts listed.names.trades) (claimed_contracts listed claim)
 unfolding claimed_contracts
-claimed_contracts_lead trades claim =
+claimed_contracts_lead listed limits claim =
+    let trades = listed.names.trades in
+    let limit = listed.limits.number in
     let place = member_place Contracts in
     leads_after (AreClaimedContracts trades) (list_at place (get (codes "contracts") claim)) _ (λ entries.
-    leads_bind (AreOffered trades place (10 ^ 18)) (AreClaimedContracts trades) (each (one_offer trades place (10 ^ 18)) no_offers entries) _ (offers_lead trades place (10 ^ 18) entries) (λ offered are.
-    leads_ok (AreClaimedContracts trades) offered.contracts (record { known = are.known; once = are.once; small = are.small })))
+    leads_bind (AreOffered trades place limit) (AreClaimedContracts trades) (each (one_offer trades place limit) no_offers entries) _ (offers_lead trades place limit entries) (λ offered are.
+    leads_ok (AreClaimedContracts trades) offered.contracts (record { known = are.known; once = are.once; small = subst (λ most. All (λ (contract : Contract). IsAtMost contract.price most) offered.contracts) limits.number are.small })))

@@ -24,6 +24,7 @@ use Rattle.tn_read_references.proofs.ReferenceStops.{entry_below, entry_stops, o
 use Rattle.tn_read_references.proofs.ToldLemmas.{IsTold, told_from_plain}
 use Rattle.tn_read_parts.specs.Lists.{price_of}
 use Rattle.tn_read_parts.proofs.ListStops.{prices_stop, set_stops, trades_refer}
+use Rattle.tn_plain_data.specs.Limits.{AreLimits, least_nodes, most_nodes}
 use Rattle.tn_read_claims.specs.Members.{Offered, claimed_contracts, claimed_nodes, claimed_on, claimed_prices, gain_or_null, member_place, no_offers, node_at, one_node, one_offer, own_or_null, unless_null}
 use Rattle.tn_read_claims.proofs.MemberLeads.{one_node_counts}
 
@@ -39,10 +40,10 @@ module _ {A : Type 0} (read : Data → Result A Fault) (stops : (value : Data) �
   unless_null_stops (array ds) = there_stops (array ds)
   unless_null_stops (object ms) = there_stops (object ms)
 
-pub gain_stops : (value : Option Data) → StopsPlainly (gain_or_null value)
-gain_stops value =
+pub gain_stops : (listed : Listed) (value : Option Data) → StopsPlainly (gain_or_null listed value)
+gain_stops listed value =
     stops_bind IsPlain (wanted Shape (member_place Gain) value) _ (plain_wanted Shape (member_place Gain) value refl (tt, (tt, tt))) (λ gain.
-    unless_null_stops (number_at (10 ^ 18) (member_place Gain)) (λ d. number_stops (member_place Gain) (tt, (tt, tt)) (10 ^ 18) (Some d)) gain)
+    unless_null_stops (number_at listed.limits.number (member_place Gain)) (λ d. number_stops (member_place Gain) (tt, (tt, tt)) listed.limits.number (Some d)) gain)
 
 pub at_stops : (listed : Listed) (f : ℕ) (place : List PlaceStep) → IsPlainPlace place → (value : Option Data) → StopsPlainly (own_or_null listed f place value)
 at_stops listed f place plain value =
@@ -50,7 +51,7 @@ at_stops listed f place plain value =
     unless_null_stops (own_position listed f None place) (own_position_stops place plain listed f None) trade)
 
 module _ (trades : List (List ℕ)) where
-  one_node_stops : (nodes : List (Option ℕ)) (value : Data) → length nodes + 1 ≤ 129 → StopsPlainly (one_node trades nodes value)
+  one_node_stops : (nodes : List (Option ℕ)) (value : Data) → length nodes + 1 ≤ most_nodes → StopsPlainly (one_node trades nodes value)
   unfolding one_node
   one_node_stops nodes value room =
       let place = member_place Nodes ++ Index (length nodes) ∷ [] in
@@ -58,14 +59,16 @@ module _ (trades : List (List ℕ)) where
       stops_bind IsPlain (node_at trades place value) _ (unless_null_stops (trade_at trades place) (trade_at_stops place (tt, (tt, (few, tt))) trades) value) (λ node.
       stops_ok IsPlain (nodes ++ node ∷ []))
 
-  pub nodes_stop : (limit : ℕ) → limit ≤ 129 → (claim : Data) → StopsPlainly (claimed_nodes trades limit claim)
-  unfolding claimed_nodes
-  nodes_stop limit most claim =
-      stops_after IsPlain (λ values. items_len values ≤ limit) (few_at limit (member_place Nodes) (get (codes "nodes") claim)) _ (few_lead limit (member_place Nodes) (get (codes "nodes") claim))
-      (few_stops (member_place Nodes) (tt, (tt, tt)) limit (get (codes "nodes") claim)) (λ values few.
-      stops_bind IsPlain (holds Limit (member_place Nodes) (nat_le 2 (items_len values))) _ (plain_holds Limit (member_place Nodes) (nat_le 2 (items_len values)) refl (tt, (tt, tt))) (λ enough.
-      stops_each_few IsPlain (λ nodes. Unit {0}) length 129 (one_node trades)
-      (λ nodes d start. leads_as (λ next. length next ≡ length nodes + 1) _ (one_node trades nodes d) (λ next more. (tt, more)) (one_node_counts trades nodes d)) (λ nodes d start room. one_node_stops nodes d room) [] values tt (omega (arith, few, most))))
+pub nodes_stop : (listed : Listed) → AreLimits listed.limits → (claim : Data) → StopsPlainly (claimed_nodes listed claim)
+unfolding claimed_nodes
+nodes_stop listed limits claim =
+    let trades = listed.names.trades in
+    let limit = listed.limits.nodes in
+    stops_after IsPlain (λ values. items_len values ≤ limit) (few_at limit (member_place Nodes) (get (codes "nodes") claim)) _ (few_lead limit (member_place Nodes) (get (codes "nodes") claim))
+    (few_stops (member_place Nodes) (tt, (tt, tt)) limit (get (codes "nodes") claim)) (λ values few.
+    stops_bind IsPlain (holds Limit (member_place Nodes) (nat_le least_nodes (items_len values))) _ (plain_holds Limit (member_place Nodes) (nat_le least_nodes (items_len values)) refl (tt, (tt, tt))) (λ enough.
+    stops_each_few IsPlain (λ nodes. Unit {0}) length most_nodes (one_node trades)
+    (λ nodes d start. leads_as (λ next. length next ≡ length nodes + 1) _ (one_node trades nodes d) (λ next more. (tt, more)) (one_node_counts trades nodes d)) (λ nodes d start room. one_node_stops trades nodes d room) [] values tt (omega (arith, few, limits.nodes))))
 
 module _ (trades : List (List ℕ)) (few : length trades ≤ 16384) where
   pub claimed_on_stops : (claim : Data) → StopsPlainly (claimed_on trades claim)
@@ -73,12 +76,6 @@ module _ (trades : List (List ℕ)) (few : length trades ≤ 16384) where
   claimed_on_stops claim =
       stops_bind IsPlain (list_at (member_place On) (get (codes "on") claim)) _ (list_stops (member_place On) (tt, (tt, tt)) (get (codes "on") claim)) (λ references.
       set_stops trades few (member_place On) (tt, (tt, tt)) references)
-
-  pub claimed_prices_stop : (claim : Data) → Stops (IsTold trades) (claimed_prices trades claim)
-  unfolding claimed_prices
-  claimed_prices_stop claim =
-      stops_bind (IsTold trades) (list_at (member_place Prices) (get (codes "prices") claim)) _ (told_from_plain trades _ (list_stops (member_place Prices) (tt, (tt, tt)) (get (codes "prices") claim))) (λ entries.
-      prices_stop trades few (member_place Prices) (tt, (tt, tt)) (10 ^ 18) entries)
 
   abbrev HasFew : Offered → Type 0
   HasFew offered = offered.named < 2 ^ length trades
@@ -99,10 +96,20 @@ module _ (trades : List (List ℕ)) (few : length trades ≤ 16384) where
     offers_stop : (entries : Items) → StopsPlainly (each (one_offer trades place limit) no_offers entries)
     offers_stop entries = stops_each IsPlain HasFew (one_offer trades place limit) one_offer_below one_offer_stops no_offers entries (pow_pos (length trades))
 
-  pub claimed_contracts_stop : (claim : Data) → StopsPlainly (claimed_contracts trades claim)
+module _ (listed : Listed) (few : length listed.names.trades ≤ 16384) where
+  pub claimed_prices_stop : (claim : Data) → Stops (IsTold listed.names.trades) (claimed_prices listed claim)
+  unfolding claimed_prices
+  claimed_prices_stop claim =
+      let trades = listed.names.trades in
+      stops_bind (IsTold trades) (list_at (member_place Prices) (get (codes "prices") claim)) _ (told_from_plain trades _ (list_stops (member_place Prices) (tt, (tt, tt)) (get (codes "prices") claim))) (λ entries.
+      prices_stop trades few (member_place Prices) (tt, (tt, tt)) listed.limits.number entries)
+
+  pub claimed_contracts_stop : (claim : Data) → StopsPlainly (claimed_contracts listed claim)
   unfolding claimed_contracts
   claimed_contracts_stop claim =
+      let trades = listed.names.trades in
+      let limit = listed.limits.number in
       let place = member_place Contracts in
       stops_bind IsPlain (list_at place (get (codes "contracts") claim)) _ (list_stops place (tt, (tt, tt)) (get (codes "contracts") claim)) (λ entries.
-      stops_bind IsPlain (each (one_offer trades place (10 ^ 18)) no_offers entries) _ (offers_stop place (tt, (tt, tt)) (10 ^ 18) entries) (λ offered.
+      stops_bind IsPlain (each (one_offer trades place limit) no_offers entries) _ (offers_stop trades few place (tt, (tt, tt)) limit entries) (λ offered.
       stops_ok IsPlain offered.contracts))

@@ -7,7 +7,6 @@ use Rattle.tn_plain_data.specs.declared.claim.Claim.{Claim}
 use Rattle.tn_plain_data.specs.declared.claim.Claim.TheVariants.{Equilibrium, Better, Impossible, Accepted, ExchangeFails, Supported, Cycle, Solved, Drops, Completes, Blocks}
 use Rattle.tn_plain_data.specs.declared.place.Word.TheVariants.{Answer, At, Bundle, Cost, Gain, Keeps, Surplus, X, Y}
 use Rattle.tn_plain_data.specs.declared.said.Fault.{Fault}
-use Rattle.tn_names.specs.Names.{NameLists}
 use Rattle.tn_shape.specs.declared.claims.ClaimKind.{ClaimKind}
 use Rattle.tn_shape.specs.declared.claims.ClaimKind.TheVariants.{Equilibrium as EquilibriumKind, Better as BetterKind, Impossible as ImpossibleKind, Accepted as AcceptedKind, ExchangeFails as ExchangeFailsKind, Supported as SupportedKind, Cycle as CycleKind, Solved as SolvedKind, Drops as DropsKind, Completes as CompletesKind, Blocks as BlocksKind}
 use Rattle.tn_shape.specs.declared.members.ObjectKind.TheVariants.{Claim as ClaimObject}
@@ -17,7 +16,7 @@ use Rattle.tn_shape.specs.Shapes.{object_at, object_of, text_at}
 use Rattle.tn_read_references.specs.Ordered.{Listed}
 use Rattle.tn_read_parts.specs.Arranged.{arrangement_of, trades_on_of}
 use Rattle.tn_read_parts.specs.Signed.{outcome_of}
-use Rattle.tn_read_claims.specs.Members.{claim_place, member_place, claimed_number, gain_or_null, claimed_firm, claimed_bundle, own_or_null, claimed_over, claimed_on, claimed_prices, most_nodes, claimed_nodes, claimed_contracts}
+use Rattle.tn_read_claims.specs.Members.{claim_place, member_place, claimed_number, gain_or_null, claimed_firm, claimed_bundle, own_or_null, claimed_over, claimed_on, claimed_prices, claimed_nodes, claimed_contracts}
 
 -- a claim of a kind has the members of its answer alone
 abbrev pub frame_of : ClaimKind → Data → Result (Unit {0}) Fault
@@ -25,27 +24,27 @@ frame_of kind claim = object_of (ClaimObject kind) claim_place (Some claim)
 
 -- Each kind: the extra part that it speaks of, its allowed members, and then these in the order of their bytes, but the
 -- firm before its position and its bundle.
-unfoldable pub equilibrium_of : List (List ℕ) → Data → Data → Result Claim Fault
-equilibrium_of trades top claim = do
-  at ← arrangement_of trades top
+unfoldable pub equilibrium_of : Listed → Data → Data → Result Claim Fault
+equilibrium_of listed top claim = do
+  at ← arrangement_of listed top
   frame ← frame_of EquilibriumKind claim
-  surplus ← claimed_number Surplus (get (codes "surplus") claim)
+  surplus ← claimed_number listed Surplus (get (codes "surplus") claim)
   Ok (Equilibrium (record { on = at.on; prices = at.prices }) surplus)
 
 unfoldable pub better_of : Listed → Data → Data → Result Claim Fault
 better_of listed top claim = do
-  at ← arrangement_of listed.names.trades top
+  at ← arrangement_of listed top
   frame ← frame_of BetterKind claim
   firm ← claimed_firm listed.names.firms claim
   bundle ← claimed_bundle listed firm Bundle (get (codes "bundle") claim)
-  gain ← claimed_number Gain (get (codes "gain") claim)
+  gain ← claimed_number listed Gain (get (codes "gain") claim)
   Ok (Better (record { on = at.on; prices = at.prices }) firm bundle gain)
 
-unfoldable pub impossible_of : NameLists → Data → Data → Result Claim Fault
-impossible_of names top claim = do
-  on ← trades_on_of names.trades top
+unfoldable pub impossible_of : Listed → Data → Data → Result Claim Fault
+impossible_of listed top claim = do
+  on ← trades_on_of listed.names.trades top
   frame ← frame_of ImpossibleKind claim
-  firm ← claimed_firm names.firms claim
+  firm ← claimed_firm listed.names.firms claim
   Ok (Impossible on firm)
 
 unfoldable pub accepted_of : Data → Result Claim Fault
@@ -62,67 +61,67 @@ failure_of listed claim = do
   y ← claimed_bundle listed firm Y (get (codes "y") claim)
   Ok (ExchangeFails firm x y at)
 
-unfoldable pub supported_of : List (List ℕ) → Data → Data → Result Claim Fault
-supported_of trades top claim = do
-  on ← trades_on_of trades top
+unfoldable pub supported_of : Listed → Data → Data → Result Claim Fault
+supported_of listed top claim = do
+  on ← trades_on_of listed.names.trades top
   frame ← frame_of SupportedKind claim
-  prices ← claimed_prices trades claim
+  prices ← claimed_prices listed claim
   Ok (Supported on prices)
 
-unfoldable pub cycle_of : List (List ℕ) → Data → Data → Result Claim Fault
-cycle_of trades top claim = do
-  on ← trades_on_of trades top
+unfoldable pub cycle_of : Listed → Data → Data → Result Claim Fault
+cycle_of listed top claim = do
+  on ← trades_on_of listed.names.trades top
   frame ← frame_of CycleKind claim
-  cost ← claimed_number Cost (get (codes "cost") claim)
-  nodes ← claimed_nodes trades (most_nodes top) claim
+  cost ← claimed_number listed Cost (get (codes "cost") claim)
+  nodes ← claimed_nodes listed claim
   Ok (Cycle on nodes cost)
 
-unfoldable pub solved_of : List (List ℕ) → Data → Result Claim Fault
-solved_of trades claim = do
+unfoldable pub solved_of : Listed → Data → Result Claim Fault
+solved_of listed claim = do
   frame ← frame_of SolvedKind claim
-  on ← claimed_on trades claim
-  prices ← claimed_prices trades claim
-  surplus ← claimed_number Surplus (get (codes "surplus") claim)
+  on ← claimed_on listed.names.trades claim
+  prices ← claimed_prices listed claim
+  surplus ← claimed_number listed Surplus (get (codes "surplus") claim)
   Ok (Solved (record { on = on; prices = prices }) surplus)
 
 unfoldable pub drops_of : Listed → Data → Data → Result Claim Fault
 drops_of listed top claim = do
-  outcome ← outcome_of listed.names.trades top
+  outcome ← outcome_of listed top
   frame ← frame_of DropsKind claim
   firm ← claimed_firm listed.names.firms claim
-  gain ← gain_or_null (get (codes "gain") claim)
+  gain ← gain_or_null listed (get (codes "gain") claim)
   keeps ← claimed_bundle listed firm Keeps (get (codes "keeps") claim)
-  over ← claimed_over claim
+  over ← claimed_over listed claim
   Ok (Drops outcome firm keeps gain over)
 
-unfoldable pub completes_of : List (List ℕ) → Data → Data → Result Claim Fault
-completes_of trades top claim = do
-  outcome ← outcome_of trades top
+unfoldable pub completes_of : Listed → Data → Data → Result Claim Fault
+completes_of listed top claim = do
+  outcome ← outcome_of listed top
   frame ← frame_of CompletesKind claim
-  over ← claimed_over claim
-  prices ← claimed_prices trades claim
+  over ← claimed_over listed claim
+  prices ← claimed_prices listed claim
   Ok (Completes outcome prices over)
 
-unfoldable pub blocks_of : List (List ℕ) → Data → Data → Result Claim Fault
-blocks_of trades top claim = do
-  outcome ← outcome_of trades top
+unfoldable pub blocks_of : Listed → Data → Data → Result Claim Fault
+blocks_of listed top claim = do
+  outcome ← outcome_of listed top
   frame ← frame_of BlocksKind claim
-  contracts ← claimed_contracts trades claim
-  over ← claimed_over claim
+  contracts ← claimed_contracts listed claim
+  over ← claimed_over listed claim
   Ok (Blocks outcome contracts over)
 
 abbrev pub claim_by : Listed → ClaimKind → Data → Data → Result Claim Fault
-claim_by listed EquilibriumKind top claim = equilibrium_of listed.names.trades top claim
+claim_by listed EquilibriumKind top claim = equilibrium_of listed top claim
 claim_by listed BetterKind top claim = better_of listed top claim
-claim_by listed ImpossibleKind top claim = impossible_of listed.names top claim
+claim_by listed ImpossibleKind top claim = impossible_of listed top claim
 claim_by listed AcceptedKind top claim = accepted_of claim
 claim_by listed ExchangeFailsKind top claim = failure_of listed claim
-claim_by listed SupportedKind top claim = supported_of listed.names.trades top claim
-claim_by listed CycleKind top claim = cycle_of listed.names.trades top claim
-claim_by listed SolvedKind top claim = solved_of listed.names.trades claim
+claim_by listed SupportedKind top claim = supported_of listed top claim
+claim_by listed CycleKind top claim = cycle_of listed top claim
+claim_by listed SolvedKind top claim = solved_of listed claim
 claim_by listed DropsKind top claim = drops_of listed top claim
-claim_by listed CompletesKind top claim = completes_of listed.names.trades top claim
-claim_by listed BlocksKind top claim = blocks_of listed.names.trades top claim
+claim_by listed CompletesKind top claim = completes_of listed top claim
+claim_by listed BlocksKind top claim = blocks_of listed top claim
 
 -- the kind of a claim, by its answer
 unfoldable pub kind_of : Data → Result ClaimKind Fault

@@ -11,7 +11,6 @@ use Rattle.tn_plain_data.specs.ClaimLimits.{IsClaimWithin}
 use Rattle.tn_plain_data.specs.Network.{IsNetwork}
 use Rattle.tn_read_references.specs.Ordered.{Listed, AreTrades}
 use Rattle.tn_read_claims.specs.Claimed.{claim_of, claims_raw, is_raw, kind_is}
-use Rattle.tn_read_claims.specs.Members.{most_nodes}
 
 -- a claim of a document whose firms and trades are a network speaks of its firms, trades and positions, within the
 -- limits of claims
@@ -19,9 +18,9 @@ abbrev pub ClaimsAreWithin : Type 0
 ClaimsAreWithin = (listed : Listed) (firms : List Firm) (top : Data) (claim : Claim) → AreTrades listed → length listed.names.firms ≡ length firms → IsNetwork firms listed.ends
     → claim_of listed top ≡ Ok claim → IsClaimWithin firms listed.ends claim
 
--- its nodes are at most one more than the most trades of a document of its version
+-- its nodes are at most as many as the limit of its document
 abbrev pub NodesAreFew : Type 0
-NodesAreFew = (listed : Listed) (top : Data) (on : ℕ) (nodes : List (Option ℕ)) (cost : ℤ) → claim_of listed top ≡ Ok (Cycle on nodes cost) → length nodes ≤ most_nodes top
+NodesAreFew = (listed : Listed) (top : Data) (on : ℕ) (nodes : List (Option ℕ)) (cost : ℤ) → claim_of listed top ≡ Ok (Cycle on nodes cost) → length nodes ≤ listed.limits.nodes
 
 -- whether it is a claim on exchange is told before it is read
 abbrev pub RawClaimsAreTold : Type 0

@@ -1,10 +1,11 @@
 -- The members of a claim: numbers, prices, nodes, contracts, a firm and its own trades.
-use Rattle.std.specs.Prelude.{ℕ, ◌^◌, ◌++◌, [], ◌∷◌, ℤ, nat_le, List, length, codes, ◌==◌, if◌then◌else◌, Option, Some, None, option_and_then, unwrap_or, Result, Ok}
+use Rattle.std.specs.Prelude.{ℕ, ◌++◌, [], ◌∷◌, ℤ, nat_le, List, length, codes, Option, Some, None, Result, Ok}
 use Rattle.serde_json.specs.Data.{Data, null}
 use Rattle.serde_json.specs.Events.{items_len}
-use Rattle.serde_json.specs.Find.{get, as_number, as_u64}
+use Rattle.serde_json.specs.Find.{get}
 use Rattle.tn_base.specs.Sets.{toggle}
 use Rattle.tn_base.specs.declared.fault.FaultKind.TheVariants.{Shape, Limit}
+use Rattle.tn_plain_data.specs.Limits.{least_nodes}
 use Rattle.tn_plain_data.specs.declared.contract.Contract.{Contract}
 use Rattle.tn_plain_data.specs.declared.place.PlaceStep.{PlaceStep}
 use Rattle.tn_plain_data.specs.declared.place.PlaceStep.TheVariants.{Index, Word}
@@ -25,8 +26,8 @@ abbrev pub member_place : WordIs → List PlaceStep
 member_place word = Word Claim ∷ Word word ∷ []
 
 -- a number that a claim speaks of
-abbrev pub claimed_number : WordIs → Option Data → Result ℤ Fault
-claimed_number word value = number_in (10 ^ 18) (member_place word) value
+abbrev pub claimed_number : Listed → WordIs → Option Data → Result ℤ Fault
+claimed_number listed word value = number_in listed.limits.number (member_place word) value
 
 -- none where a value is null, and otherwise what is read of it
 abbrev pub unless_null : {A : Type 0} → (Data → Result A Fault) → Data → Result (Option A) Fault
@@ -36,10 +37,10 @@ unless_null read value = do
   Ok (Some found)
 
 -- the gain: a number, or null
-abbrev pub gain_or_null : Option Data → Result (Option ℤ) Fault
-gain_or_null value = do
+abbrev pub gain_or_null : Listed → Option Data → Result (Option ℤ) Fault
+gain_or_null listed value = do
   gain ← wanted Shape (member_place Gain) value
-  unless_null (number_at (10 ^ 18) (member_place Gain)) gain
+  unless_null (number_at listed.limits.number (member_place Gain)) gain
 
 -- the claimed firm
 abbrev pub claimed_firm : List (List ℕ) → Data → Result ℕ Fault
@@ -56,8 +57,8 @@ own_or_null listed f place value = do
   unless_null (own_position listed f None place) trade
 
 -- the claim's denominator
-abbrev pub claimed_over : Data → Result ℤ Fault
-claimed_over claim = over_at 100000 (member_place Over) (get (codes "over") claim)
+abbrev pub claimed_over : Listed → Data → Result ℤ Fault
+claimed_over listed claim = over_at listed.limits.claimed_over (member_place Over) (get (codes "over") claim)
 
 -- the claim's trades that are on
 unfoldable pub claimed_on : List (List ℕ) → Data → Result ℕ Fault
@@ -66,10 +67,10 @@ claimed_on trades claim = do
   each (one_on trades (member_place On)) 0 references
 
 -- the claim's prices, one for each trade
-unfoldable pub claimed_prices : List (List ℕ) → Data → Result (List ℤ) Fault
-claimed_prices trades claim = do
+unfoldable pub claimed_prices : Listed → Data → Result (List ℤ) Fault
+claimed_prices listed claim = do
   entries ← list_at (member_place Prices) (get (codes "prices") claim)
-  prices_of trades (member_place Prices) (10 ^ 18) entries
+  prices_of listed.names.trades (member_place Prices) listed.limits.number entries
 
 -- a node: null, or a trade, which earlier nodes may name too
 abbrev pub node_at : List (List ℕ) → List PlaceStep → Data → Result (Option ℕ) Fault
@@ -81,16 +82,12 @@ one_node trades nodes value = do
   node ← node_at trades (member_place Nodes ++ Index (length nodes) ∷ []) value
   Ok (nodes ++ node ∷ [])
 
--- the most nodes of a claim: one more than the most trades of a document of its version
-abbrev pub most_nodes : Data → ℕ
-most_nodes top = if unwrap_or (option_and_then as_u64 (option_and_then as_number (get (codes "version") top))) 0 == 1 then 65 else 129
-
--- the claim's nodes, at least 2 and at most so many
-unfoldable pub claimed_nodes : List (List ℕ) → ℕ → Data → Result (List (Option ℕ)) Fault
-claimed_nodes trades limit claim = do
-  values ← few_at limit (member_place Nodes) (get (codes "nodes") claim)
-  enough ← holds Limit (member_place Nodes) (nat_le 2 (items_len values))
-  each (one_node trades) [] values
+-- the claim's nodes, not too few and at most as many as the document's limit
+unfoldable pub claimed_nodes : Listed → Data → Result (List (Option ℕ)) Fault
+claimed_nodes listed claim = do
+  values ← few_at listed.limits.nodes (member_place Nodes) (get (codes "nodes") claim)
+  enough ← holds Limit (member_place Nodes) (nat_le least_nodes (items_len values))
+  each (one_node listed.names.trades) [] values
 
 -- the contracts of the entries so far, in their order, and the trades that these are on
 pub record Offered : Type 0 where
@@ -106,8 +103,8 @@ abbrev pub no_offers : Offered
 no_offers = record { named = 0; contracts = [] }
 
 -- the claim's contracts, in the order of the list
-unfoldable pub claimed_contracts : List (List ℕ) → Data → Result (List Contract) Fault
-claimed_contracts trades claim = do
+unfoldable pub claimed_contracts : Listed → Data → Result (List Contract) Fault
+claimed_contracts listed claim = do
   entries ← list_at (member_place Contracts) (get (codes "contracts") claim)
-  offered ← each (one_offer trades (member_place Contracts) (10 ^ 18)) no_offers entries
+  offered ← each (one_offer listed.names.trades (member_place Contracts) listed.limits.number) no_offers entries
   Ok offered.contracts

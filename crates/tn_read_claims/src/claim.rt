@@ -1,7 +1,8 @@
 ghost use Rattle.std.specs.Prelude.{ℕ, ◌<◌, ◌≤◌, length};
 ghost use Rattle.serde_json.specs.View.{view};
+ghost use Rattle.tn_plain_data.specs.Limits.{most_own_trades};
 ghost use Rattle.tn_shape.specs.Reading.{Gives};
-ghost use Rattle.tn_read_references.specs.Ordered.{AreTrades, Listed, sides_of};
+ghost use Rattle.tn_read_references.specs.Ordered.{Listed, sides_of};
 ghost use Rattle.tn_read_claims.specs.Claimed.{claim_by, claim_of, kind_of};
 
 use crate::kinds::{
@@ -11,28 +12,22 @@ use crate::kinds::{
 use serde_json::Value;
 use std::alloc::Global;
 use tn_base::FaultKind;
-use tn_names::Names;
-use tn_plain_data::{Claim, Ends};
+use tn_plain_data::Claim;
+use tn_read_references::Head;
 use tn_shape::steps::{ANSWER, CLAIM};
 use tn_shape::{ClaimKind, ReadError, claim_named, found, object, present, text};
 
 /// The claim of a document whose network is listed. No firm has more than 32 own trades.
 #[tactic(auto, unfolding(crate::specs::Claimed::claim_of))]
-pub fn read_claim(
-    alloc: Global,
-    names: &Names,
-    ends: &[Ends],
-    top: &Value,
-) -> Result<Claim, ReadError>
-    requires trades { AreTrades (record { names = names.now; ends = ends.now }) }
-    requires few { (f : ℕ) → f < length names.now.firms → length (sides_of ends.now f) ≤ 32 }
+pub fn read_claim(alloc: Global, head: &Head, top: &Value) -> Result<Claim, ReadError>
+    requires few { (f : ℕ) → f < length head.now.names.firms → length (sides_of head.now.ends f) ≤ most_own_trades }
     ensures gives { Gives (λ c. c) result
-        (claim_of (record { names = names.now; ends = ends.now }) (view top.now)) }
+        (claim_of head.now (view top.now)) }
 {
     let claim = present(alloc, top.get("claim"), &[CLAIM])?;
     object(alloc, claim, &[CLAIM])?;
     let kind = kind_of(alloc, claim)?;
-    claim_by(alloc, names, ends, kind, top, claim)
+    claim_by(alloc, head, kind, top, claim)
 }
 
 /// The kind of a claim, by its answer.
@@ -48,28 +43,26 @@ fn kind_of(alloc: Global, claim: &Value) -> Result<ClaimKind, ReadError>
 /// The claim of a kind.
 fn claim_by(
     alloc: Global,
-    names: &Names,
-    ends: &[Ends],
+    head: &Head,
     kind: ClaimKind,
     top: &Value,
     claim: &Value,
 ) -> Result<Claim, ReadError>
-    requires trades { AreTrades (record { names = names.now; ends = ends.now }) }
-    requires few { (f : ℕ) → f < length names.now.firms → length (sides_of ends.now f) ≤ 32 }
+    requires few { (f : ℕ) → f < length head.now.names.firms → length (sides_of head.now.ends f) ≤ most_own_trades }
     ensures { Gives (λ c. c) result
-        (claim_by (record { names = names.now; ends = ends.now }) kind (view top.now) (view claim.now)) }
+        (claim_by head.now kind (view top.now) (view claim.now)) }
 {
     match kind {
-        ClaimKind::Equilibrium => equilibrium(alloc, names, top, claim),
-        ClaimKind::Better => better(alloc, names, ends, top, claim),
-        ClaimKind::Impossible => impossible(alloc, names, top, claim),
+        ClaimKind::Equilibrium => equilibrium(alloc, head, top, claim),
+        ClaimKind::Better => better(alloc, head, top, claim),
+        ClaimKind::Impossible => impossible(alloc, head, top, claim),
         ClaimKind::Accepted => accepted(alloc, claim),
-        ClaimKind::ExchangeFails => failure(alloc, names, ends, claim),
-        ClaimKind::Supported => supported(alloc, names, top, claim),
-        ClaimKind::Cycle => cycle(alloc, names, top, claim),
-        ClaimKind::Solved => solved(alloc, names, claim),
-        ClaimKind::Drops => drops(alloc, names, ends, top, claim),
-        ClaimKind::Completes => completes(alloc, names, top, claim),
-        ClaimKind::Blocks => blocks(alloc, names, top, claim),
+        ClaimKind::ExchangeFails => failure(alloc, head, claim),
+        ClaimKind::Supported => supported(alloc, head, top, claim),
+        ClaimKind::Cycle => cycle(alloc, head, top, claim),
+        ClaimKind::Solved => solved(alloc, head, claim),
+        ClaimKind::Drops => drops(alloc, head, top, claim),
+        ClaimKind::Completes => completes(alloc, head, top, claim),
+        ClaimKind::Blocks => blocks(alloc, head, top, claim),
     }
 }

@@ -1,18 +1,16 @@
 //! The contracts of a claim.
 
-ghost use Rattle.std.specs.Prelude.{◌≡◌, ◌≤◌, length};
 ghost use Rattle.serde_json.specs.View.{view, items_view};
 ghost use Rattle.tn_shape.specs.Reading.{Gives, each};
 ghost use Rattle.tn_read_parts.specs.Lists.{list_place};
 ghost use Rattle.tn_read_claims.specs.Members.{Offered, claimed_contracts, no_offers, one_offer};
 
-use crate::members::NUMBER_LIMIT;
 use serde_json::Value;
 use std::alloc::Global;
 use tn_base::TradeSet;
-use tn_names::Names;
 use tn_plain_data::{Contract, Contracts};
 use tn_read_parts::{ListAt, price_of};
+use tn_read_references::Head;
 use tn_shape::steps::{CLAIM, CONTRACTS};
 use tn_shape::{ReadError, list};
 
@@ -20,38 +18,36 @@ use tn_shape::{ReadError, list};
 #[tactic(auto, unfolding(crate::specs::Members::claimed_contracts))]
 pub(crate) fn contracts_of(
     alloc: Global,
-    names: &Names,
+    head: &Head,
     claim: &Value,
 ) -> Result<Contracts, ReadError>
-    requires { length names.now.trades ≤ 128 }
     ensures { Gives (λ contracts. contracts) result
-        (claimed_contracts names.now.trades (view claim.now)) }
+        (claimed_contracts head.now (view claim.now)) }
 {
     let at = ListAt {
         part: CLAIM,
         member: CONTRACTS,
     };
     let entries = list(alloc, claim.get("contracts"), &[at.part, at.member])?;
-    let (_, contracts) = each_offer(alloc, names, at, NUMBER_LIMIT, entries)?;
+    let (_, contracts) = each_offer(alloc, head, at, head.limits().number, entries)?;
     Ok(Contracts::from_vec(contracts))
 }
 
 /// The contracts of entries, one after the other, and the trades that they are on.
 fn each_offer(
     alloc: Global,
-    names: &Names,
+    head: &Head,
     at: ListAt,
     limit: u64,
     entries: &[Value],
 ) -> Result<(TradeSet<2>, Vec<Contract>), ReadError>
-    requires { length names.now.trades ≤ 128 }
     ensures { Gives (λ p. record { named = p.0; contracts = p.1.items }) result
-        (each (one_offer names.now.trades (list_place at) limit) no_offers (items_view entries.now)) }
+        (each (one_offer head.now.names.trades (list_place at) limit) no_offers (items_view entries.now)) }
 {
     let mut named = TradeSet::empty();
     let mut contracts = Vec::new(alloc);
     for entry in entries {
-        add_offer(alloc, names, at, limit, &mut named, &mut contracts, entry)?;
+        add_offer(alloc, head, at, limit, &mut named, &mut contracts, entry)?;
     }
     Ok((named, contracts))
 }
@@ -60,19 +56,18 @@ fn each_offer(
 #[tactic(auto, unfolding(crate::specs::Members::one_offer))]
 fn add_offer(
     alloc: Global,
-    names: &Names,
+    head: &Head,
     at: ListAt,
     limit: u64,
     named: &mut TradeSet<2>,
     contracts: &mut Vec<Contract>,
     entry: &Value,
 ) -> Result<(), ReadError>
-    requires { length names.now.trades ≤ 128 }
     ensures { Gives (λ _. record { named = named.new; contracts = contracts.new.items }) result
-        (one_offer names.now.trades (list_place at) limit
+        (one_offer head.now.names.trades (list_place at) limit
         (record { named = named.old; contracts = contracts.old.items }) (view entry.now)) }
 {
-    let (trade, price) = price_of(alloc, names, at, limit, named, entry)?;
+    let (trade, price) = price_of(alloc, head, at, limit, named, entry)?;
     contracts.push(Contract { trade, price })?;
     named.toggle(trade);
     Ok(())

@@ -2,20 +2,21 @@
 
 ghost use Rattle.std.specs.Prelude.{ℕ, ◌<◌, ◌≤◌, length};
 ghost use Rattle.serde_json.specs.View.{view};
+ghost use Rattle.tn_plain_data.specs.Limits.{most_own_trades};
 ghost use Rattle.tn_shape.specs.Reading.{Gives};
-ghost use Rattle.tn_read_references.specs.Ordered.{AreTrades, Listed, sides_of};
+ghost use Rattle.tn_read_references.specs.Ordered.{Listed, sides_of};
 ghost use Rattle.tn_read_claims.specs.Claimed.{accepted_of, better_of, blocks_of, completes_of, cycle_of, drops_of, equilibrium_of, failure_of, frame_of, impossible_of, solved_of, supported_of};
 
 use crate::contracts::contracts_of;
 use crate::members::{
     bundle_of, firm_of, gain_or_null, number_of, on_of, over_of, own_or_null, prices_of,
 };
-use crate::nodes::{most_nodes, nodes_of};
+use crate::nodes::nodes_of;
 use serde_json::Value;
 use std::alloc::Global;
-use tn_names::Names;
-use tn_plain_data::{Arrangement, Claim, Ends, Word};
+use tn_plain_data::{Arrangement, Claim, Word};
 use tn_read_parts::{read_arrangement, read_outcome, read_trades_on};
+use tn_read_references::Head;
 use tn_shape::steps::{AT, CLAIM};
 use tn_shape::{ClaimKind, ObjectKind, ReadError, object_of};
 
@@ -30,16 +31,15 @@ fn check_frame(alloc: Global, kind: ClaimKind, claim: &Value) -> Result<(), Read
 #[tactic(auto, unfolding(crate::specs::Claimed::equilibrium_of))]
 pub(crate) fn equilibrium(
     alloc: Global,
-    names: &Names,
+    head: &Head,
     top: &Value,
     claim: &Value,
 ) -> Result<Claim, ReadError>
-    requires { length names.now.trades ≤ 128 }
-    ensures { Gives (λ c. c) result (equilibrium_of names.now.trades (view top.now) (view claim.now)) }
+    ensures { Gives (λ c. c) result (equilibrium_of head.now (view top.now) (view claim.now)) }
 {
-    let at = read_arrangement(alloc, names, top)?;
+    let at = read_arrangement(alloc, head, top)?;
     check_frame(alloc, ClaimKind::Equilibrium, claim)?;
-    let surplus = number_of(alloc, Word::Surplus, claim.get("surplus"))?;
+    let surplus = number_of(alloc, head, Word::Surplus, claim.get("surplus"))?;
     Ok(Claim::Equilibrium { at, surplus })
 }
 
@@ -47,20 +47,18 @@ pub(crate) fn equilibrium(
 #[tactic(auto, unfolding(crate::specs::Claimed::better_of))]
 pub(crate) fn better(
     alloc: Global,
-    names: &Names,
-    ends: &[Ends],
+    head: &Head,
     top: &Value,
     claim: &Value,
 ) -> Result<Claim, ReadError>
-    requires trades { AreTrades (record { names = names.now; ends = ends.now }) }
-    requires few { (f : ℕ) → f < length names.now.firms → length (sides_of ends.now f) ≤ 32 }
-    ensures { Gives (λ c. c) result (better_of (record { names = names.now; ends = ends.now }) (view top.now) (view claim.now)) }
+    requires few { (f : ℕ) → f < length head.now.names.firms → length (sides_of head.now.ends f) ≤ most_own_trades }
+    ensures { Gives (λ c. c) result (better_of head.now (view top.now) (view claim.now)) }
 {
-    let at = read_arrangement(alloc, names, top)?;
+    let at = read_arrangement(alloc, head, top)?;
     check_frame(alloc, ClaimKind::Better, claim)?;
-    let firm = firm_of(alloc, names, claim)?;
-    let bundle = bundle_of(alloc, names, ends, firm, Word::Bundle, claim.get("bundle"))?;
-    let gain = number_of(alloc, Word::Gain, claim.get("gain"))?;
+    let firm = firm_of(alloc, head, claim)?;
+    let bundle = bundle_of(alloc, head, firm, Word::Bundle, claim.get("bundle"))?;
+    let gain = number_of(alloc, head, Word::Gain, claim.get("gain"))?;
     Ok(Claim::Better {
         at,
         firm,
@@ -73,16 +71,15 @@ pub(crate) fn better(
 #[tactic(auto, unfolding(crate::specs::Claimed::impossible_of))]
 pub(crate) fn impossible(
     alloc: Global,
-    names: &Names,
+    head: &Head,
     top: &Value,
     claim: &Value,
 ) -> Result<Claim, ReadError>
-    requires { length names.now.trades ≤ 128 }
-    ensures { Gives (λ c. c) result (impossible_of names.now (view top.now) (view claim.now)) }
+    ensures { Gives (λ c. c) result (impossible_of head.now (view top.now) (view claim.now)) }
 {
-    let on = read_trades_on(alloc, names, top)?;
+    let on = read_trades_on(alloc, head, top)?;
     check_frame(alloc, ClaimKind::Impossible, claim)?;
-    let firm = firm_of(alloc, names, claim)?;
+    let firm = firm_of(alloc, head, claim)?;
     Ok(Claim::Impossible { on, firm })
 }
 
@@ -97,21 +94,15 @@ pub(crate) fn accepted(alloc: Global, claim: &Value) -> Result<Claim, ReadError>
 
 /// The claim that a firm doesn't meet exchange.
 #[tactic(auto, unfolding(crate::specs::Claimed::failure_of))]
-pub(crate) fn failure(
-    alloc: Global,
-    names: &Names,
-    ends: &[Ends],
-    claim: &Value,
-) -> Result<Claim, ReadError>
-    requires trades { AreTrades (record { names = names.now; ends = ends.now }) }
-    requires few { (f : ℕ) → f < length names.now.firms → length (sides_of ends.now f) ≤ 32 }
-    ensures { Gives (λ c. c) result (failure_of (record { names = names.now; ends = ends.now }) (view claim.now)) }
+pub(crate) fn failure(alloc: Global, head: &Head, claim: &Value) -> Result<Claim, ReadError>
+    requires few { (f : ℕ) → f < length head.now.names.firms → length (sides_of head.now.ends f) ≤ most_own_trades }
+    ensures { Gives (λ c. c) result (failure_of head.now (view claim.now)) }
 {
     check_frame(alloc, ClaimKind::ExchangeFails, claim)?;
-    let firm = firm_of(alloc, names, claim)?;
-    let at = own_or_null(alloc, names, ends, firm, claim.get("at"), &[CLAIM, AT])?;
-    let x = bundle_of(alloc, names, ends, firm, Word::X, claim.get("x"))?;
-    let y = bundle_of(alloc, names, ends, firm, Word::Y, claim.get("y"))?;
+    let firm = firm_of(alloc, head, claim)?;
+    let at = own_or_null(alloc, head, firm, claim.get("at"), &[CLAIM, AT])?;
+    let x = bundle_of(alloc, head, firm, Word::X, claim.get("x"))?;
+    let y = bundle_of(alloc, head, firm, Word::Y, claim.get("y"))?;
     Ok(Claim::ExchangeFails { firm, x, y, at })
 }
 
@@ -119,16 +110,15 @@ pub(crate) fn failure(
 #[tactic(auto, unfolding(crate::specs::Claimed::supported_of))]
 pub(crate) fn supported(
     alloc: Global,
-    names: &Names,
+    head: &Head,
     top: &Value,
     claim: &Value,
 ) -> Result<Claim, ReadError>
-    requires { length names.now.trades ≤ 128 }
-    ensures { Gives (λ c. c) result (supported_of names.now.trades (view top.now) (view claim.now)) }
+    ensures { Gives (λ c. c) result (supported_of head.now (view top.now) (view claim.now)) }
 {
-    let on = read_trades_on(alloc, names, top)?;
+    let on = read_trades_on(alloc, head, top)?;
     check_frame(alloc, ClaimKind::Supported, claim)?;
-    let prices = prices_of(alloc, names, claim)?;
+    let prices = prices_of(alloc, head, claim)?;
     Ok(Claim::Supported { on, prices })
 }
 
@@ -136,30 +126,28 @@ pub(crate) fn supported(
 #[tactic(auto, unfolding(crate::specs::Claimed::cycle_of))]
 pub(crate) fn cycle(
     alloc: Global,
-    names: &Names,
+    head: &Head,
     top: &Value,
     claim: &Value,
 ) -> Result<Claim, ReadError>
-    requires { length names.now.trades ≤ 128 }
-    ensures { Gives (λ c. c) result (cycle_of names.now.trades (view top.now) (view claim.now)) }
+    ensures { Gives (λ c. c) result (cycle_of head.now (view top.now) (view claim.now)) }
 {
-    let on = read_trades_on(alloc, names, top)?;
+    let on = read_trades_on(alloc, head, top)?;
     check_frame(alloc, ClaimKind::Cycle, claim)?;
-    let cost = number_of(alloc, Word::Cost, claim.get("cost"))?;
-    let nodes = nodes_of(alloc, names, most_nodes(top), claim)?;
+    let cost = number_of(alloc, head, Word::Cost, claim.get("cost"))?;
+    let nodes = nodes_of(alloc, head, claim)?;
     Ok(Claim::Cycle { on, nodes, cost })
 }
 
 /// The claim that its own arrangement is an equilibrium.
 #[tactic(auto, unfolding(crate::specs::Claimed::solved_of))]
-pub(crate) fn solved(alloc: Global, names: &Names, claim: &Value) -> Result<Claim, ReadError>
-    requires { length names.now.trades ≤ 128 }
-    ensures { Gives (λ c. c) result (solved_of names.now.trades (view claim.now)) }
+pub(crate) fn solved(alloc: Global, head: &Head, claim: &Value) -> Result<Claim, ReadError>
+    ensures { Gives (λ c. c) result (solved_of head.now (view claim.now)) }
 {
     check_frame(alloc, ClaimKind::Solved, claim)?;
-    let on = on_of(alloc, names, claim)?;
-    let prices = prices_of(alloc, names, claim)?;
-    let surplus = number_of(alloc, Word::Surplus, claim.get("surplus"))?;
+    let on = on_of(alloc, head, claim)?;
+    let prices = prices_of(alloc, head, claim)?;
+    let surplus = number_of(alloc, head, Word::Surplus, claim.get("surplus"))?;
     let at = Arrangement { on, prices };
     Ok(Claim::Solved { at, surplus })
 }
@@ -168,21 +156,19 @@ pub(crate) fn solved(alloc: Global, names: &Names, claim: &Value) -> Result<Clai
 #[tactic(auto, unfolding(crate::specs::Claimed::drops_of))]
 pub(crate) fn drops(
     alloc: Global,
-    names: &Names,
-    ends: &[Ends],
+    head: &Head,
     top: &Value,
     claim: &Value,
 ) -> Result<Claim, ReadError>
-    requires trades { AreTrades (record { names = names.now; ends = ends.now }) }
-    requires few { (f : ℕ) → f < length names.now.firms → length (sides_of ends.now f) ≤ 32 }
-    ensures { Gives (λ c. c) result (drops_of (record { names = names.now; ends = ends.now }) (view top.now) (view claim.now)) }
+    requires few { (f : ℕ) → f < length head.now.names.firms → length (sides_of head.now.ends f) ≤ most_own_trades }
+    ensures { Gives (λ c. c) result (drops_of head.now (view top.now) (view claim.now)) }
 {
-    let outcome = read_outcome(alloc, names, top)?;
+    let outcome = read_outcome(alloc, head, top)?;
     check_frame(alloc, ClaimKind::Drops, claim)?;
-    let firm = firm_of(alloc, names, claim)?;
-    let gain = gain_or_null(alloc, claim.get("gain"))?;
-    let keeps = bundle_of(alloc, names, ends, firm, Word::Keeps, claim.get("keeps"))?;
-    let over = over_of(alloc, claim)?;
+    let firm = firm_of(alloc, head, claim)?;
+    let gain = gain_or_null(alloc, head, claim.get("gain"))?;
+    let keeps = bundle_of(alloc, head, firm, Word::Keeps, claim.get("keeps"))?;
+    let over = over_of(alloc, head, claim)?;
     Ok(Claim::Drops {
         outcome,
         firm,
@@ -196,17 +182,16 @@ pub(crate) fn drops(
 #[tactic(auto, unfolding(crate::specs::Claimed::completes_of))]
 pub(crate) fn completes(
     alloc: Global,
-    names: &Names,
+    head: &Head,
     top: &Value,
     claim: &Value,
 ) -> Result<Claim, ReadError>
-    requires { length names.now.trades ≤ 128 }
-    ensures { Gives (λ c. c) result (completes_of names.now.trades (view top.now) (view claim.now)) }
+    ensures { Gives (λ c. c) result (completes_of head.now (view top.now) (view claim.now)) }
 {
-    let outcome = read_outcome(alloc, names, top)?;
+    let outcome = read_outcome(alloc, head, top)?;
     check_frame(alloc, ClaimKind::Completes, claim)?;
-    let over = over_of(alloc, claim)?;
-    let prices = prices_of(alloc, names, claim)?;
+    let over = over_of(alloc, head, claim)?;
+    let prices = prices_of(alloc, head, claim)?;
     Ok(Claim::Completes {
         outcome,
         prices,
@@ -218,17 +203,16 @@ pub(crate) fn completes(
 #[tactic(auto, unfolding(crate::specs::Claimed::blocks_of))]
 pub(crate) fn blocks(
     alloc: Global,
-    names: &Names,
+    head: &Head,
     top: &Value,
     claim: &Value,
 ) -> Result<Claim, ReadError>
-    requires { length names.now.trades ≤ 128 }
-    ensures { Gives (λ c. c) result (blocks_of names.now.trades (view top.now) (view claim.now)) }
+    ensures { Gives (λ c. c) result (blocks_of head.now (view top.now) (view claim.now)) }
 {
-    let outcome = read_outcome(alloc, names, top)?;
+    let outcome = read_outcome(alloc, head, top)?;
     check_frame(alloc, ClaimKind::Blocks, claim)?;
-    let contracts = contracts_of(alloc, names, claim)?;
-    let over = over_of(alloc, claim)?;
+    let contracts = contracts_of(alloc, head, claim)?;
+    let over = over_of(alloc, head, claim)?;
     Ok(Claim::Blocks {
         outcome,
         contracts,

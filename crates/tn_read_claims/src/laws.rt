@@ -6,7 +6,7 @@ pub fn claims_are_within()
     ensures { ClaimsAreWithin }
 {}
 
-/// A claimed cycle has at most 65 nodes in a document of version 1, and at most 129 in one of version 2.
+/// A claimed cycle has no more nodes than the limit of the document: 65 in version 1, and 129 in version 2.
 pub fn nodes_are_few()
     ensures { NodesAreFew }
 {}
