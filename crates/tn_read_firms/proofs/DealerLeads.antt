@@ -1,5 +1,5 @@
 -- What the dealers are that reading gives.
-use Rattle.std.proofs.Common.{◌≡◌, ℕ, ◌^◌, ◌<◌, ◌≤◌, zero, suc, ◌&&◌, ◌||◌, Bool, true, false, not, cond, List, [], ◌∷◌, ◌++◌, length, Some, None, inl, inr, refl, sym, ap, ◌∙◌, arith}
+use Rattle.std.proofs.Common.{◌≡◌, ℕ, ◌*◌, ◌<◌, ◌≤◌, zero, suc, ◌&&◌, ◌||◌, Bool, true, false, not, cond, List, [], ◌∷◌, ◌++◌, length, Some, None, inl, inr, refl, sym, ap, ◌∙◌, arith}
 use Rattle.std.specs.Prelude.{nat_eq, codes, slice_get, option_and_then, All}
 use Rattle.std.specs.List.{list_any}
 use Rattle.std.proofs.lemmas.Bool.{eqb-true, eq-eqb, false≢true, cases_Bool}
@@ -8,6 +8,7 @@ use Rattle.std.proofs.lemmas.List.Elements.{All-nil, All-push}
 use Rattle.serde_json.specs.Data.{Data, Items}
 use Rattle.serde_json.specs.Find.{get}
 use Rattle.tn_base.specs.Arcs.{IsAtMost}
+use Rattle.tn_base.specs.Widths.{most_amount}
 use Rattle.tn_base.specs.Sets.{has}
 use Rattle.tn_base.specs.Table.{buys_of}
 use Rattle.tn_base.specs.declared.fault.FaultKind.TheVariants.{SamePair}
@@ -17,12 +18,13 @@ use Rattle.tn_dealer.specs.declared.pair.Pair.{Pair}
 use Rattle.tn_dealer.specs.Pairs.{AreDifferent, IsNear, IsOwnPair, dealer_firm}
 use Rattle.tn_dealer.proofs.RepeatLemmas.{few_different}
 use Rattle.tn_plain_data.specs.declared.ends.Ends.{Ends}
+use Rattle.tn_plain_data.specs.Limits.{most_own_trades}
 use Rattle.tn_plain_data.specs.declared.place.PlaceStep.{PlaceStep}
 use Rattle.tn_plain_data.specs.declared.place.PlaceStep.TheVariants.{Index}
 use Rattle.tn_names.proofs.NameLemmas.{push_cases}
 use Rattle.tn_shape.specs.Reading.{each, holds}
 use Rattle.tn_shape.specs.Shapes.{number_at, optional_list_at}
-use Rattle.tn_shape.proofs.ShapeLeads.{number_leads}
+use Rattle.tn_read_references.proofs.EntryLeads.{number_within}
 use Rattle.tn_shape.proofs.LeadLemmas.{Leads, leads_ok, leads_bind, leads_after, leads_each, leads_holds, leads_wanted, leads_as, leads_both}
 use Rattle.tn_read_references.specs.Ordered.{Listed, AreTrades, AreInOrder, sides_of}
 use Rattle.tn_read_references.specs.References.{position_on, own_position}
@@ -103,7 +105,7 @@ module _ (listed : Listed) (trades : AreTrades listed) (f : ℕ) where
       (leads_both _ _ _ (position_leads listed trades f (Some Buy) (pair_place f k ++ Index 0 ∷ []) three.0) (bought_leads (pair_place f k ++ Index 0 ∷ []) three.0)) (λ b bought.
       leads_bind (λ s. (s < length (sides_of listed.ends f)) × (has (buys_of (sides_of listed.ends f)) s ≡ false)) IsOwn (own_position listed f (Some Sell) (pair_place f k ++ Index 1 ∷ []) three.1) _
       (leads_both _ _ _ (position_leads listed trades f (Some Sell) (pair_place f k ++ Index 1 ∷ []) three.1) (sold_leads (pair_place f k ++ Index 1 ∷ []) three.1)) (λ s sold.
-      leads_bind (λ z. IsAtMost z (10 ^ 9)) IsOwn (number_at (10 ^ 9) (pair_place f k ++ Index 2 ∷ []) three.2) _ (number_leads (10 ^ 9) (pair_place f k ++ Index 2 ∷ []) (Some three.2)) (λ cost small.
+      leads_bind (λ z. IsAtMost z most_amount) IsOwn (number_at listed.limits.amount (pair_place f k ++ Index 2 ∷ []) three.2) _ (number_within listed.limits.amount most_amount trades.limits.amount (pair_place f k ++ Index 2 ∷ []) (Some three.2)) (λ cost small.
       leads_ok IsOwn (record { buy = b; sell = s; cost = cost }) (record { purchase = bought.0; bought = bought.1; sale = sold.0; sold = sold.1; small = small })))))
 
   -- own pairs of which none is repeated
@@ -164,13 +166,13 @@ module _ (listed : Listed) (trades : AreTrades listed) (f : ℕ) where
   pairs_lead entries = leads_each AreNew (one_pair listed f) one_pair_leads [] entries no_pairs
 
   -- such pairs are few
-  pub few_new : (pairs : List Pair) → length (sides_of listed.ends f) ≤ 32 → AreNew pairs → length pairs ≤ 1024
+  pub few_new : (pairs : List Pair) → length (sides_of listed.ends f) ≤ most_own_trades → AreNew pairs → length pairs ≤ most_own_trades * most_own_trades
   few_new pairs few are = few_different pairs (length pairs) (omega arith) near (λ j below. are.different j)
     where
       near : All IsNear pairs
       near k d below = let own = are.own k d below in let buy = own.purchase in let sell = own.sale in record { buy = omega (arith, few, buy); sell = omega (arith, few, sell) }
 
-  pub dealer_leads : (firm : Data) → length (sides_of listed.ends f) ≤ 32 → Leads (IsDealerFirm listed.ends f) (dealer_of listed f firm)
+  pub dealer_leads : (firm : Data) → length (sides_of listed.ends f) ≤ most_own_trades → Leads (IsDealerFirm listed.ends f) (dealer_of listed f firm)
   unfolding dealer_of
   dealer_leads firm few =
       leads_after (IsDealerFirm listed.ends f) (optional_list_at (pairs_place f) (get (codes "pairs") firm)) _ (λ entries.

@@ -1,5 +1,5 @@
 -- Where the reading of dealers stops.
-use Rattle.std.proofs.Common.{ℕ, ◌^◌, ◌≤◌, List, [], ◌∷◌, ◌++◌, length, Some, refl, arith}
+use Rattle.std.proofs.Common.{ℕ, ◌≤◌, List, [], ◌∷◌, ◌++◌, length, Some, refl, arith}
 use Rattle.std.specs.Prelude.{codes, not}
 use Rattle.std.specs.List.{list_any}
 use Rattle.serde_json.specs.Data.{Data}
@@ -8,6 +8,7 @@ use Rattle.tn_base.specs.declared.fault.FaultKind.TheVariants.{Shape, SamePair}
 use Rattle.tn_base.specs.declared.side.Side.TheVariants.{Buy, Sell}
 use Rattle.tn_dealer.specs.declared.pair.Pair.{Pair}
 use Rattle.tn_dealer.specs.Pairs.{dealer_firm}
+use Rattle.tn_plain_data.specs.Limits.{most_own_trades}
 use Rattle.tn_plain_data.specs.declared.place.PlaceStep.{PlaceStep}
 use Rattle.tn_plain_data.specs.declared.place.PlaceStep.TheVariants.{Index}
 use Rattle.tn_shape.specs.Reading.{each, holds}
@@ -24,7 +25,7 @@ three_stops : (place : List PlaceStep) (plain : IsPlainPlace place) (value : Dat
 unfolding three_at
 three_stops place plain value = stops_bind IsPlain (list_at place (Some value)) _ (list_stops place plain (Some value)) (λ items. plain_wanted Shape place (three_of items) refl plain)
 
-module _ (listed : Listed) (trades : AreTrades listed) (f : ℕ) (near : f ≤ 16384) (few : length (sides_of listed.ends f) ≤ 32) where
+module _ (listed : Listed) (trades : AreTrades listed) (f : ℕ) (near : f ≤ 16384) (few : length (sides_of listed.ends f) ≤ most_own_trades) where
   entry_plain : (k i : ℕ) → k ≤ 16384 → i ≤ 16384 → IsPlainPlace (pair_place f k ++ Index i ∷ [])
   entry_plain k i early small = (tt, (near, (tt, (early, (small, tt)))))
 
@@ -34,7 +35,7 @@ module _ (listed : Listed) (trades : AreTrades listed) (f : ℕ) (near : f ≤ 1
       stops_bind IsPlain (three_at (pair_place f k) entry) _ (three_stops (pair_place f k) (tt, (near, (tt, (early, tt)))) entry) (λ three.
       stops_bind IsPlain (own_position listed f (Some Buy) (pair_place f k ++ Index 0 ∷ []) three.0) _ (own_position_stops (pair_place f k ++ Index 0 ∷ []) (entry_plain k 0 early (omega arith)) listed f (Some Buy) three.0) (λ buy.
       stops_bind IsPlain (own_position listed f (Some Sell) (pair_place f k ++ Index 1 ∷ []) three.1) _ (own_position_stops (pair_place f k ++ Index 1 ∷ []) (entry_plain k 1 early (omega arith)) listed f (Some Sell) three.1) (λ sell.
-      stops_bind IsPlain (number_at (10 ^ 9) (pair_place f k ++ Index 2 ∷ []) three.2) _ (number_stops (pair_place f k ++ Index 2 ∷ []) (entry_plain k 2 early (omega arith)) (10 ^ 9) (Some three.2)) (λ cost.
+      stops_bind IsPlain (number_at listed.limits.amount (pair_place f k ++ Index 2 ∷ []) three.2) _ (number_stops (pair_place f k ++ Index 2 ∷ []) (entry_plain k 2 early (omega arith)) listed.limits.amount (Some three.2)) (λ cost.
       stops_ok IsPlain (record { buy = buy; sell = sell; cost = cost })))))
 
   one_pair_stops : (pairs : List Pair) (entry : Data) → AreNew listed trades f pairs → StopsPlainly (one_pair listed f pairs entry)

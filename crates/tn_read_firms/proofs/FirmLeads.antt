@@ -7,6 +7,7 @@ use Rattle.serde_json.specs.Events.{items_len}
 use Rattle.tn_base.specs.Firm.{Firm}
 use Rattle.tn_base.specs.Table.{buys_of}
 use Rattle.tn_base.specs.declared.fault.FaultKind.TheVariants.{Limit}
+use Rattle.tn_plain_data.specs.Limits.{most_own_trades}
 use Rattle.tn_plain_data.specs.Network.{IsNetwork, own}
 use Rattle.tn_base.specs.Exchange.{MeetsExchange}
 use Rattle.tn_base.proofs.ExchangeLemmas.{exchange_from_none_fails}
@@ -22,7 +23,7 @@ use Rattle.tn_shape.specs.declared.members.FirmKind.TheVariants.{Table, Laminar,
 use Rattle.tn_shape.specs.declared.members.ObjectKind.TheVariants.{Firm as FirmObject}
 use Rattle.tn_shape.specs.Shapes.{object_of}
 use Rattle.tn_read_references.specs.References.{firm_place}
-use Rattle.tn_read_firms.specs.Kinds.{most_own, kind_of, frame_of}
+use Rattle.tn_read_firms.specs.Kinds.{most_own, room_for, kind_of, frame_of}
 use Rattle.tn_read_firms.specs.Tables.{table_of}
 use Rattle.tn_read_firms.specs.Laminars.{laminar_of}
 use Rattle.tn_read_firms.specs.Middlemen.{middle_of}
@@ -33,6 +34,7 @@ use Rattle.tn_read_firms.specs.Laws.{IsTableFirm, IsLaminarFirm, IsMiddlemanFirm
 use Rattle.tn_names.proofs.NameLemmas.{push_cases}
 use Rattle.tn_read_firms.proofs.FailureLemmas.{holds as none_fails}
 use Rattle.tn_read_firms.proofs.KindLemmas.{dealer_meets, laminar_meets, middleman_meets, listed_few_own}
+use Rattle.tn_read_firms.proofs.RoomLemmas.{own_room}
 use Rattle.tn_read_firms.proofs.TableLeads.{IsTableOf, table_leads}
 use Rattle.tn_read_firms.proofs.LaminarLeads.{laminar_leads}
 use Rattle.tn_read_firms.proofs.MiddleLeads.{middle_leads}
@@ -77,27 +79,28 @@ tested_firm_leads tested trades f table is_table =
     leads_ok (IsFirm tested trades f) (firm_of_table table) (record { listed = table_is (of_table trades f table is_table); meets = meets }))
 
 module _ (tested : Bool) (listed : Listed) (trades : AreTrades listed) where
-  kind_leads : (f : ℕ) (kind : FirmKind) (firm : Data) → length (sides_of listed.ends f) ≤ most_own kind → Leads (IsFirm tested listed.ends f) (firm_by tested listed f kind firm)
+  kind_leads : (f : ℕ) (kind : FirmKind) (firm : Data) → length (sides_of listed.ends f) ≤ room_for kind → Leads (IsFirm tested listed.ends f) (firm_by tested listed f kind firm)
   unfolding firm_by
   kind_leads f Table firm few =
       leads_bind (IsTableOf listed.ends f) (IsFirm tested listed.ends f) (table_of listed f firm) _ (table_leads listed trades f firm few) (λ table is_table.
       tested_firm_leads tested listed.ends f table is_table)
   kind_leads f Laminar firm few = leads_as (IsLaminarFirm listed.ends f) (IsFirm tested listed.ends f) (laminar_of listed f firm) (λ made is. record { listed = laminar is; meets = λ t. laminar_meets listed.ends f made is }) (laminar_leads listed trades f firm few)
-  kind_leads f Middleman firm few = leads_as (IsMiddlemanFirm listed.ends f) (IsFirm tested listed.ends f) (middle_of listed f firm) (λ made is. record { listed = middleman is; meets = λ t. middleman_meets listed.ends f made is }) (middle_leads listed f firm few)
+  kind_leads f Middleman firm few = leads_as (IsMiddlemanFirm listed.ends f) (IsFirm tested listed.ends f) (middle_of listed f firm) (λ made is. record { listed = middleman is; meets = λ t. middleman_meets listed.ends f made is }) (middle_leads listed trades f firm few)
   kind_leads f Dealer firm few = leads_as (IsDealerFirm listed.ends f) (IsFirm tested listed.ends f) (dealer_of listed f firm) (λ made is. record { listed = dealer is; meets = λ t. dealer_meets listed.ends f made is }) (dealer_leads listed trades f firm few)
 
-  pub frame_leads : (f : ℕ) (kind : FirmKind) (firm : Data) → Leads (λ _. length (sides_of listed.ends f) ≤ most_own kind) (frame_of listed.ends f kind firm)
+  pub frame_leads : (f : ℕ) (kind : FirmKind) (firm : Data) → Leads (λ _. length (sides_of listed.ends f) ≤ room_for kind) (frame_of listed f kind firm)
   unfolding frame_of
   frame_leads f kind firm =
       leads_after _ (object_of (FirmObject kind) (firm_place f) (Some firm)) _ (λ object.
-      leads_as (λ _. nat_le (length (sides_of listed.ends f)) (most_own kind) ≡ true) _ (holds Limit (firm_place f) (nat_le (length (sides_of listed.ends f)) (most_own kind))) (λ u few. le_from_test (length (sides_of listed.ends f)) (most_own kind) few)
-      (leads_holds Limit (firm_place f) (nat_le (length (sides_of listed.ends f)) (most_own kind))))
+      leads_as (λ _. nat_le (length (sides_of listed.ends f)) (most_own listed.limits kind) ≡ true) _ (holds Limit (firm_place f) (nat_le (length (sides_of listed.ends f)) (most_own listed.limits kind)))
+      (λ u few. let most = le_from_test (length (sides_of listed.ends f)) (most_own listed.limits kind) few in let room = own_room listed.limits trades.limits kind in omega (arith, most, room))
+      (leads_holds Limit (firm_place f) (nat_le (length (sides_of listed.ends f)) (most_own listed.limits kind))))
 
   firm_leads : (f : ℕ) (firm : Data) → Leads (IsFirm tested listed.ends f) (firm_of tested listed f firm)
   unfolding firm_of
   firm_leads f firm =
       leads_after (IsFirm tested listed.ends f) (kind_of f firm) _ (λ kind.
-      leads_bind (λ _. length (sides_of listed.ends f) ≤ most_own kind) (IsFirm tested listed.ends f) (frame_of listed.ends f kind firm) _ (frame_leads f kind firm) (λ u few.
+      leads_bind (λ _. length (sides_of listed.ends f) ≤ room_for kind) (IsFirm tested listed.ends f) (frame_of listed f kind firm) _ (frame_leads f kind firm) (λ u few.
       kind_leads f kind firm few))
 
   abbrev pub AreFirms : List Firm → Type 0
@@ -125,13 +128,10 @@ module _ (tested : Bool) (listed : Listed) (trades : AreTrades listed) where
   firms_are_counted firms = leads_as (λ end. length end ≡ 0 + items_len firms) _ _ (λ end e. e ∙ omega arith) (leads_count length (one_firm tested listed) one_firm_count [] firms)
 
   -- each firm that was read has few own trades
-  pub few_own_firm : (firms : List Firm) → AreFirms firms → (f : ℕ) → f < length firms → length (sides_of listed.ends f) ≤ 32
+  pub few_own_firm : (firms : List Firm) → AreFirms firms → (f : ℕ) → f < length firms → length (sides_of listed.ends f) ≤ most_own_trades
   few_own_firm firms are f below =
       let at = there firms f below in
       listed_few_own listed.ends f at.0 (are f at.0 at.1).listed
-
-  pub few_own : (items : Items) (firms : List Firm) → each (one_firm tested listed) [] items ≡ Ok firms → (f : ℕ) → f < length firms → length (sides_of listed.ends f) ≤ 32
-  few_own items firms e f below = few_own_firm firms ((firms_are items).at firms e) f below
 
   have_sides : (firms : List Firm) → AreFirms firms → HaveSides listed.ends firms
   have_sides firms are f firm at = by_kind (are f firm at).listed

@@ -1,5 +1,5 @@
 -- One more firm, by what its part gives.
-use Rattle.std.proofs.Common.{◌≡◌, ℕ, Bool, List, [], ◌∷◌, ◌++◌, length, Ok, Err, true, sym, ap, subst, ◌∙◌}
+use Rattle.std.proofs.Common.{◌≡◌, ℕ, ◌+◌, ◌<◌, inl, inr, arith, Bool, List, [], ◌∷◌, ◌++◌, length, Ok, Err, true, sym, ap, subst, ◌∙◌}
 use Rattle.serde_json.specs.Data.{Data}
 use Rattle.tn_base.specs.Firm.{Firm}
 use Rattle.tn_base.specs.Exchange.{NoneFails}
@@ -12,7 +12,15 @@ use Rattle.tn_read_references.specs.Ordered.{Listed}
 use Rattle.tn_shape.specs.Reading.{Fails, ◌>>=◌}
 use Rattle.tn_read_firms.specs.Firms.{failure_of, unless_failing, exchange_of, tested_firm, firm_of, one_firm}
 use Rattle.tn_read_firms.proofs.FailureLemmas.{none, found}
+use Rattle.std.proofs.lemmas.Bool.{cases_lt}
 use Rattle.tn_shape.proofs.EachLemmas.{fails_then}
+
+-- what holds of all numbers below n and of n
+pub below_more : (P : ℕ → Type 0) (n : ℕ) → ((f : ℕ) → f < n → P f) → P n → (f : ℕ) → f < n + 1 → P f
+below_more P n before last f below = elim (cases_lt f n) [
+  | inl less ↦ before f less
+  | inr more ↦ subst P (omega (arith, below, more)) last
+]
 
 module _ (tested : Bool) (listed : Listed) (firms : List Firm) (firm : Data) (f : ℕ) (is : f ≡ length firms) where
   pub one_firm-fails : (e : ReadError) → Fails e (firm_of tested listed f firm) → Fails e (one_firm tested listed firms firm)

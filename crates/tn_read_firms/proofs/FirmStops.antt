@@ -19,6 +19,8 @@ use Rattle.tn_laminar.specs.declared.set.LaminarSet.{LaminarSet}
 use Rattle.tn_laminar.specs.Sum.{HasNumbersWithin, laminar_firm}
 use Rattle.tn_middle.specs.Pairs.{middle_firm}
 use Rattle.tn_plain_data.specs.declared.ends.Ends.{Ends}
+use Rattle.tn_plain_data.specs.Limits.{AreLimits, most_firms, most_own_of_table, most_own_trades, most_sets, most_values}
+use Rattle.tn_plain_data.specs.declared.limits.Limits.{Limits}
 use Rattle.tn_plain_data.specs.declared.place.PlaceStep.{PlaceStep}
 use Rattle.tn_plain_data.specs.declared.place.PlaceStep.TheVariants.{Index, Word}
 use Rattle.tn_plain_data.specs.declared.place.Word.TheVariants.{Trades, Sets, From, Values, Keep, Kind, Rows as RowsWord}
@@ -33,7 +35,7 @@ use Rattle.tn_shape.specs.Reading.{◌>>=◌, fault, each, holds}
 use Rattle.tn_shape.specs.Shapes.{text_at, list_at, optional_list_at, few_at, object_of, two_at, whole_at, number_at}
 use Rattle.tn_read_references.specs.Ordered.{Listed, sides_of, AreTrades}
 use Rattle.tn_read_references.specs.References.{bundle_at, firm_place}
-use Rattle.tn_read_firms.specs.Kinds.{kind_named, kind_of, most_own, frame_of}
+use Rattle.tn_read_firms.specs.Kinds.{room_for, kind_named, kind_of, most_own, frame_of}
 use Rattle.tn_read_firms.specs.Tables.{Rows, filled, full_if_large, has_each_row, row_place, row_of, one_row, rows_of, table_of}
 use Rattle.tn_read_firms.specs.OwnNumbers.{no_numbers, own_numbers}
 use Rattle.tn_read_firms.specs.Laminars.{amounts_list, bends, check_set, check_sets, checked_laminar, crosses, first_bend, laminar_of, low_at, one_set, one_value, set_of, set_place, sets_at, unless_bent, values_at}
@@ -60,7 +62,7 @@ use Rattle.tn_read_firms.proofs.DealerStops.{dealer_stops}
 -- the number of a firm, and few own trades
 pub record IsFewOwn (trades : List Ends) (f : ℕ) : Type 0 where
   pub number : f ≤ 16384
-  pub own : length (sides_of trades f) ≤ 32
+  pub own : length (sides_of trades f) ≤ most_own_trades
 
 -- tables
 module _ (listed : Listed) (trades : AreTrades listed) (f : ℕ) (firm_few : IsFewOwn listed.ends f) where
@@ -69,7 +71,7 @@ module _ (listed : Listed) (trades : AreTrades listed) (f : ℕ) (firm_few : IsF
   row_stops r row few =
       stops_bind IsPlain (two_at (row_place f r) row) _ (two_stops (row_place f r) (tt, (firm_few.number, (tt, (few, tt)))) row) (λ two.
       stops_bind IsPlain (bundle_at listed f (row_place f r ++ Index 0 ∷ []) (Some two.0)) _ (bundle_stops listed trades f firm_few.own (row_place f r ++ Index 0 ∷ []) (tt, (firm_few.number, (tt, (few, (omega arith, tt))))) (Some two.0)) (λ bundle.
-      stops_bind IsPlain (number_at (10 ^ 9) (row_place f r ++ Index 1 ∷ []) two.1) _ (number_stops (row_place f r ++ Index 1 ∷ []) (tt, (firm_few.number, (tt, (few, (omega arith, tt))))) (10 ^ 9) (Some two.1)) (λ amount.
+      stops_bind IsPlain (number_at listed.limits.amount (row_place f r ++ Index 1 ∷ []) two.1) _ (number_stops (row_place f r ++ Index 1 ∷ []) (tt, (firm_few.number, (tt, (few, (omega arith, tt))))) listed.limits.amount (Some two.1)) (λ amount.
       stops_ok IsPlain (bundle, amount))))
 
   -- as many rows were read as bundles have one
@@ -80,7 +82,7 @@ module _ (listed : Listed) (trades : AreTrades listed) (f : ℕ) (firm_few : IsF
   few_rows rows counted =
       let most = filled_le rows.table.rows in
       let places = counted.0.within.places in
-      let few : 2 ^ length rows.table.sides ≤ 16384 = pow-le-pow_right (omega arith) (subst (λ (s : List Side). length s ≤ 14) (sym counted.0.sides) counted.0.few) in
+      let few : 2 ^ length rows.table.sides ≤ 16384 = pow-le-pow_right (omega arith) (subst (λ (s : List Side). length s ≤ most_own_of_table) (sym counted.0.sides) counted.0.few) in
       let same = counted.1 in
       omega (arith, most, places, few, same)
 
@@ -110,7 +112,7 @@ module _ (listed : Listed) (trades : AreTrades listed) (f : ℕ) (firm_few : IsF
   full_stops table =
       plain_holds Limit (firm_place f ++ Word RowsWord ∷ []) (nat_le (length table.sides) 10 || has_each_row table.rows) refl (tt, (firm_few.number, (tt, tt)))
 
-  rows_stop : (items : Items) → length (sides_of listed.ends f) ≤ 14 → StopsPlainly (rows_of listed f items)
+  rows_stop : (items : Items) → length (sides_of listed.ends f) ≤ most_own_of_table → StopsPlainly (rows_of listed f items)
   unfolding rows_of
   rows_stop items few =
       stops_bind IsPlain (each (one_row listed f) (record { count = 0; table = without_rows (sides_of listed.ends f) }) items) _
@@ -119,33 +121,34 @@ module _ (listed : Listed) (trades : AreTrades listed) (f : ℕ) (firm_few : IsF
       stops_bind IsPlain (full_if_large f rows.table) _ (full_stops rows.table) (λ full.
       stops_ok IsPlain rows.table))
 
-  table_stops : (firm : Data) → length (sides_of listed.ends f) ≤ 14 → StopsPlainly (table_of listed f firm)
+  table_stops : (firm : Data) → length (sides_of listed.ends f) ≤ most_own_of_table → StopsPlainly (table_of listed f firm)
   unfolding table_of
   table_stops firm few =
       stops_bind IsPlain (list_at (firm_place f ++ Word RowsWord ∷ []) (get (codes "rows") firm)) _ (list_stops (firm_place f ++ Word RowsWord ∷ []) (tt, (firm_few.number, (tt, tt))) (get (codes "rows") firm)) (λ items. rows_stop items few)
 
 -- laminar firms
-low_stops : (place : List PlaceStep) (value : Option Data) → IsPlainPlace place → StopsPlainly (low_at place value)
+low_stops : (limits : Limits) (place : List PlaceStep) (value : Option Data) → IsPlainPlace place → StopsPlainly (low_at limits place value)
 unfolding low_at
-low_stops place value plain =
+low_stops limits place value plain =
     stops_bind IsPlain (whole_at place value) _ (whole_stops place plain value) (λ low.
-    stops_bind IsPlain (holds Limit place (nat_le (unsigned_abs low) 32)) _ (plain_holds Limit place (nat_le (unsigned_abs low) 32) refl plain) (λ near. stops_ok IsPlain low))
+    stops_bind IsPlain (holds Limit place (nat_le (unsigned_abs low) limits.from)) _ (plain_holds Limit place (nat_le (unsigned_abs low) limits.from) refl plain) (λ near. stops_ok IsPlain low))
 
-module _ (f s : ℕ) (near : f ≤ 16384) (early : s ≤ 16384) where
-  value_stops : (numbers : List ℤ) (value : Data) → length numbers + 1 ≤ 65 → StopsPlainly (one_value f s numbers value)
+module _ (limits : Limits) (are_limits : AreLimits limits) (f s : ℕ) (near : f ≤ 16384) (early : s ≤ 16384) where
+  value_stops : (numbers : List ℤ) (value : Data) → length numbers + 1 ≤ most_values → StopsPlainly (one_value limits f s numbers value)
   unfolding one_value
   value_stops numbers value few =
-      stops_bind IsPlain (number_at (10 ^ 9) (set_place f s ++ Word Values ∷ Index (length numbers) ∷ []) value) _
-      (number_stops (set_place f s ++ Word Values ∷ Index (length numbers) ∷ []) (tt, (near, (tt, (early, (tt, (omega (arith, few), tt)))))) (10 ^ 9) (Some value)) (λ z.
+      stops_bind IsPlain (number_at limits.amount (set_place f s ++ Word Values ∷ Index (length numbers) ∷ []) value) _
+      (number_stops (set_place f s ++ Word Values ∷ Index (length numbers) ∷ []) (tt, (near, (tt, (early, (tt, (omega (arith, few), tt)))))) limits.amount (Some value)) (λ z.
       stops_ok IsPlain (numbers ++ z ∷ []))
 
-  values_stop : (value : Option Data) → StopsPlainly (values_at f s value)
+  values_stop : (value : Option Data) → StopsPlainly (values_at limits f s value)
   unfolding values_at
   values_stop value =
-      stops_after IsPlain (λ items. items_len items ≤ 65) (few_at 65 (set_place f s ++ Word Values ∷ []) value) _ (few_lead 65 (set_place f s ++ Word Values ∷ []) value) (few_stops (set_place f s ++ Word Values ∷ []) (tt, (near, (tt, (early, (tt, tt))))) 65 value) (λ values few.
-      stops_each_few IsPlain (λ numbers. Unit {0}) length 65 (one_value f s)
-      (λ numbers d start. leads_as (λ next. length next ≡ length numbers + 1) _ _ (λ next more. (tt, more)) (value_counts f s numbers d)) (λ numbers d start room. value_stops numbers d room) [] values tt (omega (arith, few)))
+      stops_after IsPlain (λ items. items_len items ≤ limits.values) (few_at limits.values (set_place f s ++ Word Values ∷ []) value) _ (few_lead limits.values (set_place f s ++ Word Values ∷ []) value) (few_stops (set_place f s ++ Word Values ∷ []) (tt, (near, (tt, (early, (tt, tt))))) limits.values value) (λ values few.
+      stops_each_few IsPlain (λ numbers. Unit {0}) length most_values (one_value limits f s)
+      (λ numbers d start. leads_as (λ next. length next ≡ length numbers + 1) _ _ (λ next more. (tt, more)) (value_counts limits are_limits f s numbers d)) (λ numbers d start room. value_stops numbers d room) [] values tt (omega (arith, few, are_limits.values)))
 
+module _ (f s : ℕ) (near : f ≤ 16384) (early : s ≤ 16384) where
   bent_stops : (bend : Option ℕ) → ((k : ℕ) → bend ≡ Some k → k ≤ 16384) → StopsPlainly (unless_bent f s bend)
   bent_stops None within = stops_ok IsPlain tt
   bent_stops (Some k) within = stops_err IsPlain (fault NotConcave (set_place f s ++ Word Values ∷ Index k ∷ [])) (plain_fault NotConcave (set_place f s ++ Word Values ∷ Index k ∷ []) refl (tt, (near, (tt, (early, (tt, (within k refl, tt)))))))
@@ -178,7 +181,7 @@ check_sets_stop f earlier (set ∷ sets) near few numbered =
     stops_bind IsPlain (check_set f earlier set) _ (check_set_stops f earlier set near (omega (arith, few)) (All-head HasNumbersWithin set sets numbered)) (λ met.
     check_sets_stop f (earlier ++ set ∷ []) sets near (omega (arith, few, length-append earlier (set ∷ []))) (All-tail HasNumbersWithin set sets numbered))
 
-checked_stops : (f : ℕ) (sides : List Side) (amounts : List ℤ) (sets : List LaminarSet) → f ≤ 16384 → length sets ≤ 64 → All HasNumbersWithin sets → StopsPlainly (checked_laminar f sides amounts sets)
+checked_stops : (f : ℕ) (sides : List Side) (amounts : List ℤ) (sets : List LaminarSet) → f ≤ 16384 → length sets ≤ most_sets → All HasNumbersWithin sets → StopsPlainly (checked_laminar f sides amounts sets)
 unfolding checked_laminar
 checked_stops f sides amounts sets near few numbered = stops_bind IsPlain (check_sets f [] sets) _ (check_sets_stop f [] sets near (omega (arith, few)) numbered) (λ met. stops_ok IsPlain (laminar_firm sides amounts sets))
 
@@ -189,11 +192,11 @@ module _ (listed : Listed) (trades : AreTrades listed) (f : ℕ) (firm_few : IsF
       stops_bind IsPlain (object_of LaminarSetObject (set_place f s) (Some set)) _ (object_stops (set_place f s) (tt, (firm_few.number, (tt, (early, tt)))) LaminarSetObject (Some set)) (λ object.
       stops_bind IsPlain (bundle_at listed f (set_place f s ++ Word Trades ∷ []) (get (codes "trades") set)) _
       (bundle_stops listed trades f firm_few.own (set_place f s ++ Word Trades ∷ []) (tt, (firm_few.number, (tt, (early, (tt, tt))))) (get (codes "trades") set)) (λ members.
-      stops_bind IsPlain (low_at (set_place f s ++ Word From ∷ []) (get (codes "from") set)) _ (low_stops (set_place f s ++ Word From ∷ []) (get (codes "from") set) (tt, (firm_few.number, (tt, (early, (tt, tt)))))) (λ low.
-      stops_bind IsPlain (values_at f s (get (codes "values") set)) _ (values_stop f s firm_few.number early (get (codes "values") set)) (λ numbers.
+      stops_bind IsPlain (low_at listed.limits (set_place f s ++ Word From ∷ []) (get (codes "from") set)) _ (low_stops listed.limits (set_place f s ++ Word From ∷ []) (get (codes "from") set) (tt, (firm_few.number, (tt, (early, (tt, tt)))))) (λ low.
+      stops_bind IsPlain (values_at listed.limits f s (get (codes "values") set)) _ (values_stop listed.limits trades.limits f s firm_few.number early (get (codes "values") set)) (λ numbers.
       stops_ok IsPlain (record { members = members; low = low; numbers = numbers })))))
 
-  one_set_stops : (sets : List LaminarSet) (set : Data) → length sets + 1 ≤ 64 → StopsPlainly (one_set listed f sets set)
+  one_set_stops : (sets : List LaminarSet) (set : Data) → length sets + 1 ≤ most_sets → StopsPlainly (one_set listed f sets set)
   unfolding one_set
   one_set_stops sets set few = stops_bind IsPlain (set_of listed f (length sets) set) _ (set_stops (length sets) set (omega (arith, few))) (λ next. stops_ok IsPlain (sets ++ next ∷ []))
 
@@ -201,11 +204,11 @@ module _ (listed : Listed) (trades : AreTrades listed) (f : ℕ) (firm_few : IsF
   unfolding sets_at
   sets_stop value =
       stops_bind IsPlain (optional_list_at (firm_place f ++ Word Sets ∷ []) value) _ (optional_list_stops (firm_place f ++ Word Sets ∷ []) (tt, (firm_few.number, (tt, tt))) value) (λ sets.
-      stops_after IsPlain (λ _. nat_le (items_len sets) 64 ≡ true) (holds Limit (firm_place f ++ Word Sets ∷ []) (nat_le (items_len sets) 64)) _ (leads_holds Limit (firm_place f ++ Word Sets ∷ []) (nat_le (items_len sets) 64))
-      (plain_holds Limit (firm_place f ++ Word Sets ∷ []) (nat_le (items_len sets) 64) refl (tt, (firm_few.number, (tt, tt)))) (λ u few.
-      stops_each_few IsPlain (λ found. Unit {0}) length 64 (one_set listed f)
+      stops_after IsPlain (λ _. nat_le (items_len sets) listed.limits.sets ≡ true) (holds Limit (firm_place f ++ Word Sets ∷ []) (nat_le (items_len sets) listed.limits.sets)) _ (leads_holds Limit (firm_place f ++ Word Sets ∷ []) (nat_le (items_len sets) listed.limits.sets))
+      (plain_holds Limit (firm_place f ++ Word Sets ∷ []) (nat_le (items_len sets) listed.limits.sets) refl (tt, (firm_few.number, (tt, tt)))) (λ u few.
+      stops_each_few IsPlain (λ found. Unit {0}) length most_sets (one_set listed f)
       (λ found d start. leads_as (λ next. length next ≡ length found + 1) _ _ (λ next more. (tt, more)) (one_set_counts listed trades f found d)) (λ found d start room. one_set_stops found d room) [] sets tt
-      (let most = le_from_test (items_len sets) 64 few in omega (arith, most))))
+      (let most = le_from_test (items_len sets) listed.limits.sets few in omega (arith, most, trades.limits.sets))))
 
   laminar_stops : (firm : Data) → StopsPlainly (laminar_of listed f firm)
   unfolding laminar_of
@@ -216,17 +219,17 @@ module _ (listed : Listed) (trades : AreTrades listed) (f : ℕ) (firm_few : IsF
       checked_stops f (sides_of listed.ends f) amounts sets firm_few.number so.1 so.0.numbered))
 
 -- middlemen
-given_stops : (place : List PlaceStep) (value : Data) → IsPlainPlace place → StopsPlainly (number_at (10 ^ 9) place value >>= λ z. Ok (Some z))
-given_stops place value plain = stops_bind IsPlain (number_at (10 ^ 9) place value) _ (number_stops place plain (10 ^ 9) (Some value)) (λ z. stops_ok IsPlain (Some z))
+given_stops : (limits : Limits) (place : List PlaceStep) (value : Data) → IsPlainPlace place → StopsPlainly (number_at limits.amount place value >>= λ z. Ok (Some z))
+given_stops limits place value plain = stops_bind IsPlain (number_at limits.amount place value) _ (number_stops place plain limits.amount (Some value)) (λ z. stops_ok IsPlain (Some z))
 
-keep_stops : (place : List PlaceStep) (value : Option Data) → IsPlainPlace place → StopsPlainly (keep_at place value)
-keep_stops place None plain = stops_ok IsPlain None
-keep_stops place (Some null) plain = stops_ok IsPlain None
-keep_stops place (Some (boolean b)) plain = given_stops place (boolean b) plain
-keep_stops place (Some (number n)) plain = given_stops place (number n) plain
-keep_stops place (Some (string s)) plain = given_stops place (string s) plain
-keep_stops place (Some (array ds)) plain = given_stops place (array ds) plain
-keep_stops place (Some (object ms)) plain = given_stops place (object ms) plain
+keep_stops : (limits : Limits) (place : List PlaceStep) (value : Option Data) → IsPlainPlace place → StopsPlainly (keep_at limits place value)
+keep_stops limits place None plain = stops_ok IsPlain None
+keep_stops limits place (Some null) plain = stops_ok IsPlain None
+keep_stops limits place (Some (boolean b)) plain = given_stops limits place (boolean b) plain
+keep_stops limits place (Some (number n)) plain = given_stops limits place (number n) plain
+keep_stops limits place (Some (string s)) plain = given_stops limits place (string s) plain
+keep_stops limits place (Some (array ds)) plain = given_stops limits place (array ds) plain
+keep_stops limits place (Some (object ms)) plain = given_stops limits place (object ms) plain
 
 middle_stops : (listed : Listed) (trades : AreTrades listed) (f : ℕ) → IsFewOwn listed.ends f → (firm : Data) → StopsPlainly (middle_of listed f firm)
 unfolding middle_of
@@ -235,7 +238,7 @@ middle_stops listed trades f few firm =
     (own_numbers_stop listed trades (costs_list f) few.own (tt, (few.number, (tt, tt))) (no_numbers listed.ends f) (get (codes "costs") firm)) (λ costs.
     stops_bind IsPlain (own_numbers listed (gains_list f) costs (get (codes "gains") firm)) _
     (own_numbers_stop listed trades (gains_list f) few.own (tt, (few.number, (tt, tt))) costs (get (codes "gains") firm)) (λ numbers.
-    stops_bind IsPlain (keep_at (firm_place f ++ Word Keep ∷ []) (get (codes "keep") firm)) _ (keep_stops (firm_place f ++ Word Keep ∷ []) (get (codes "keep") firm) (tt, (few.number, (tt, tt)))) (λ keep.
+    stops_bind IsPlain (keep_at listed.limits (firm_place f ++ Word Keep ∷ []) (get (codes "keep") firm)) _ (keep_stops listed.limits (firm_place f ++ Word Keep ∷ []) (get (codes "keep") firm) (tt, (few.number, (tt, tt)))) (λ keep.
     stops_ok IsPlain (middle_firm (sides_of listed.ends f) numbers keep))))
 
 -- the kind of a firm
@@ -245,11 +248,11 @@ kind_stops f firm near =
     stops_bind IsPlain (text_at (firm_place f ++ Word Kind ∷ []) (get (codes "kind") firm)) _ (text_stops (firm_place f ++ Word Kind ∷ []) (tt, (near, (tt, tt))) (get (codes "kind") firm)) (λ kind.
     plain_wanted Shape (firm_place f ++ Word Kind ∷ []) (kind_named kind) refl (tt, (near, (tt, tt))))
 
-frame_stops : (trades : List Ends) (f : ℕ) (kind : FirmKind) (firm : Data) → f ≤ 16384 → StopsPlainly (frame_of trades f kind firm)
+frame_stops : (listed : Listed) (f : ℕ) (kind : FirmKind) (firm : Data) → f ≤ 16384 → StopsPlainly (frame_of listed f kind firm)
 unfolding frame_of
-frame_stops trades f kind firm near =
+frame_stops listed f kind firm near =
     stops_bind IsPlain (object_of (FirmObject kind) (firm_place f) (Some firm)) _ (object_stops (firm_place f) (tt, (near, tt)) (FirmObject kind) (Some firm)) (λ object.
-    plain_holds Limit (firm_place f) (nat_le (length (sides_of trades f)) (most_own kind)) refl (tt, (near, tt)))
+    plain_holds Limit (firm_place f) (nat_le (length (sides_of listed.ends f)) (most_own listed.limits kind)) refl (tt, (near, tt)))
 
 -- exchange, the firms, and the names of the trades that a failing triple shows
 module _ (listed : Listed) (trades : AreTrades listed) where
@@ -295,7 +298,7 @@ module _ (listed : Listed) (trades : AreTrades listed) where
   tested_firm_stops tested f table near sides =
       stops_bind IsToldHere (if tested then exchange_of listed.ends f table else Ok tt) _ (tested_stops tested f table near sides) (λ met. stops_ok IsToldHere (firm_of_table table))
 
-  firm_by_stops : (tested : Bool) (f : ℕ) (kind : FirmKind) (firm : Data) → f ≤ 16384 → length (sides_of listed.ends f) ≤ most_own kind → Stops IsToldHere (firm_by tested listed f kind firm)
+  firm_by_stops : (tested : Bool) (f : ℕ) (kind : FirmKind) (firm : Data) → f ≤ 16384 → length (sides_of listed.ends f) ≤ room_for kind → Stops IsToldHere (firm_by tested listed f kind firm)
   unfolding firm_by
   firm_by_stops tested f Table firm near few =
       stops_after IsToldHere (IsTableOf listed.ends f) (table_of listed f firm) _ (table_leads listed trades f firm few)
@@ -309,15 +312,15 @@ module _ (listed : Listed) (trades : AreTrades listed) where
   unfolding firm_of
   firm_stops tested f firm near =
       stops_bind IsToldHere (kind_of f firm) _ (told_from_plain listed.names.trades (kind_of f firm) (kind_stops f firm near)) (λ kind.
-      stops_after IsToldHere (λ _. length (sides_of listed.ends f) ≤ most_own kind) (frame_of listed.ends f kind firm) _
-      (frame_leads tested listed trades f kind firm) (told_from_plain listed.names.trades (frame_of listed.ends f kind firm) (frame_stops listed.ends f kind firm near)) (λ u few.
+      stops_after IsToldHere (λ _. length (sides_of listed.ends f) ≤ room_for kind) (frame_of listed f kind firm) _
+      (frame_leads tested listed trades f kind firm) (told_from_plain listed.names.trades (frame_of listed f kind firm) (frame_stops listed f kind firm near)) (λ u few.
       firm_by_stops tested f kind firm near few))
 
-  one_firm_stops : (tested : Bool) (firms : List Firm) (firm : Data) → length firms + 1 ≤ 128 → Stops IsToldHere (one_firm tested listed firms firm)
+  one_firm_stops : (tested : Bool) (firms : List Firm) (firm : Data) → length firms + 1 ≤ most_firms → Stops IsToldHere (one_firm tested listed firms firm)
   unfolding one_firm
   one_firm_stops tested firms firm few = stops_bind IsToldHere (firm_of tested listed (length firms) firm) _ (firm_stops tested (length firms) firm (omega (arith, few))) (λ next. stops_ok IsToldHere (firms ++ next ∷ []))
 
-  pub firms_stop : (tested : Bool) (firms : Items) → items_len firms ≤ 128 → Stops IsToldHere (each (one_firm tested listed) [] firms)
+  pub firms_stop : (tested : Bool) (firms : Items) → items_len firms ≤ most_firms → Stops IsToldHere (each (one_firm tested listed) [] firms)
   firms_stop tested firms few =
-      stops_each_few IsToldHere (λ found. Unit {0}) length 128 (one_firm tested listed)
+      stops_each_few IsToldHere (λ found. Unit {0}) length most_firms (one_firm tested listed)
       (λ found d start. leads_as (λ next. length next ≡ length found + 1) _ _ (λ next more. (tt, more)) (one_firm_count tested listed trades found d)) (λ found d start room. one_firm_stops tested found d room) [] firms tt (omega (arith, few))

@@ -14,6 +14,7 @@ use Rattle.tn_middle.specs.SetLemmas.{meets}
 use Rattle.tn_middle.specs.LawLemmas.{pairing-empty}
 use Rattle.tn_market.specs.Lawful.{IsLawful}
 use Rattle.tn_base.specs.Exchange.{MeetsExchange}
+use Rattle.tn_plain_data.specs.Limits.{most_own_trades}
 use Rattle.tn_plain_data.specs.declared.ends.Ends.{Ends}
 use Rattle.tn_read_references.specs.Ordered.{sides_of}
 use Rattle.tn_dealer.specs.Pairs.{dealer_firm}
@@ -101,7 +102,7 @@ listed_may_abstain trades f firm (middleman is) =
 listed_may_abstain trades f firm (dealer is) = subst MayAbstain (sym is.is) (pos 0, matched_empty is.pairs)
 
 -- there are few own trades
-pub listed_few_own : (trades : List Ends) (f : ℕ) (firm : Firm) → IsListedFirm trades f firm → length (sides_of trades f) ≤ 32
+pub listed_few_own : (trades : List Ends) (f : ℕ) (firm : Firm) → IsListedFirm trades f firm → length (sides_of trades f) ≤ most_own_trades
 listed_few_own trades f firm (table is) = omega (arith, is.few)
 listed_few_own trades f firm (laminar is) = is.few
 listed_few_own trades f firm (middleman is) = is.few

@@ -14,3 +14,4 @@ pub mod ShownLemmas
 pub mod FirmStops
 pub mod OwnLemmas
 pub mod ThreeLemmas
+pub mod RoomLemmas

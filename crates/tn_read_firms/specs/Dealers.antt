@@ -1,5 +1,5 @@
 -- Dealers: pairs of a purchase and a sale, each with what it costs.
-use Rattle.std.specs.Prelude.{ℕ, ◌^◌, ◌++◌, [], ◌∷◌, ◌==◌, ◌&&◌, not, Bool, List, length, codes, Option, Some, None, Result, Ok}
+use Rattle.std.specs.Prelude.{ℕ, ◌++◌, [], ◌∷◌, ◌==◌, ◌&&◌, not, Bool, List, length, codes, Option, Some, None, Result, Ok}
 use Rattle.std.specs.List.{list_any}
 use Rattle.serde_json.specs.Data.{Data, Items, no_items, item}
 use Rattle.serde_json.specs.Find.{get}
@@ -39,7 +39,7 @@ pair_of listed f k entry = do
   three ← three_at (pair_place f k) entry
   buy ← own_position listed f (Some Buy) (pair_place f k ++ Index 0 ∷ []) three.0
   sell ← own_position listed f (Some Sell) (pair_place f k ++ Index 1 ∷ []) three.1
-  cost ← number_at (10 ^ 9) (pair_place f k ++ Index 2 ∷ []) three.2
+  cost ← number_at listed.limits.amount (pair_place f k ++ Index 2 ∷ []) three.2
   Ok (record { buy = buy; sell = sell; cost = cost })
 
 -- whether a pair has the purchase and the sale of another

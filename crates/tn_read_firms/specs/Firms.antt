@@ -55,7 +55,7 @@ firm_by tested listed f Dealer firm = dealer_of listed f firm
 unfoldable pub firm_of : Bool → Listed → ℕ → Data → Result Firm Fault
 firm_of tested listed f firm = do
   kind ← kind_of f firm
-  frame ← frame_of listed.ends f kind firm
+  frame ← frame_of listed f kind firm
   firm_by tested listed f kind firm
 
 -- one more firm; its number is the count of those before it

@@ -4,7 +4,8 @@ use Rattle.std.specs.Str.{bytes_eq}
 use Rattle.serde_json.specs.Data.{Data}
 use Rattle.serde_json.specs.Find.{get}
 use Rattle.tn_base.specs.declared.fault.FaultKind.TheVariants.{Shape, Limit}
-use Rattle.tn_plain_data.specs.declared.ends.Ends.{Ends}
+use Rattle.tn_plain_data.specs.Limits.{most_own_of_table, most_own_trades}
+use Rattle.tn_plain_data.specs.declared.limits.Limits.{Limits}
 use Rattle.tn_plain_data.specs.declared.place.PlaceStep.TheVariants.{Word}
 use Rattle.tn_plain_data.specs.declared.place.Word.TheVariants.{Kind}
 use Rattle.tn_plain_data.specs.declared.said.Fault.{Fault}
@@ -13,7 +14,7 @@ use Rattle.tn_shape.specs.declared.members.FirmKind.TheVariants.{Table, Laminar,
 use Rattle.tn_shape.specs.declared.members.ObjectKind.TheVariants.{Firm}
 use Rattle.tn_shape.specs.Reading.{◌>>=◌, wanted, holds}
 use Rattle.tn_shape.specs.Shapes.{text_at, object_of}
-use Rattle.tn_read_references.specs.Ordered.{sides_of}
+use Rattle.tn_read_references.specs.Ordered.{Listed, sides_of}
 use Rattle.tn_read_references.specs.References.{firm_place}
 
 -- the kind that a text names
@@ -26,15 +27,22 @@ kind_of f firm = do
   kind ← text_at (firm_place f ++ Word Kind ∷ []) (get (codes "kind") firm)
   wanted Shape (firm_place f ++ Word Kind ∷ []) (kind_named kind)
 
--- the most own trades of a firm
-abbrev pub most_own : FirmKind → ℕ
-most_own Table = 14
-most_own Laminar = 32
-most_own Middleman = 32
-most_own Dealer = 32
+-- the most own trades of a firm of a kind
+abbrev pub most_own : Limits → FirmKind → ℕ
+most_own limits Table = limits.own_of_table
+most_own limits Laminar = limits.own
+most_own limits Middleman = limits.own
+most_own limits Dealer = limits.own
+
+-- how many own trades there is room for in a firm of a kind, whatever the version
+abbrev pub room_for : FirmKind → ℕ
+room_for Table = most_own_of_table
+room_for Laminar = most_own_trades
+room_for Middleman = most_own_trades
+room_for Dealer = most_own_trades
 
 -- firm f has the members of its kind alone, and few own trades
-unfoldable pub frame_of : List Ends → ℕ → FirmKind → Data → Result (Unit {0}) Fault
-frame_of trades f kind firm = do
+unfoldable pub frame_of : Listed → ℕ → FirmKind → Data → Result (Unit {0}) Fault
+frame_of listed f kind firm = do
   object ← object_of (Firm kind) (firm_place f) (Some firm)
-  holds Limit (firm_place f) (nat_le (length (sides_of trades f)) (most_own kind))
+  holds Limit (firm_place f) (nat_le (length (sides_of listed.ends f)) (most_own listed.limits kind))

@@ -1,5 +1,5 @@
 -- Laminar firms: amounts, and sets of own trades with a number for each net count.
-use Rattle.std.specs.Prelude.{◌≡◌, ℕ, ◌+◌, ◌^◌, ◌++◌, [], ◌∷◌, ℤ, pos, ◌+ℤ◌, ◌*ℤ◌, int_lt, unsigned_abs, nat_le, List, length, codes, Bool, not, ◌==◌, ◌&&◌, if◌then◌else◌, Option, Some, None, is_some, Result, Ok, Err}
+use Rattle.std.specs.Prelude.{◌≡◌, ℕ, ◌+◌, ◌++◌, [], ◌∷◌, ℤ, pos, ◌+ℤ◌, ◌*ℤ◌, int_lt, unsigned_abs, nat_le, List, length, codes, Bool, not, ◌==◌, ◌&&◌, if◌then◌else◌, Option, Some, None, is_some, Result, Ok, Err}
 use Rattle.std.specs.List.{list_any}
 use Rattle.serde_json.specs.Data.{Data}
 use Rattle.serde_json.specs.Events.{items_len}
@@ -13,6 +13,7 @@ use Rattle.tn_laminar.specs.declared.set.LaminarSet.{LaminarSet}
 use Rattle.tn_laminar.specs.declared.refusal.LaminarRefusal.{LaminarRefusal}
 use Rattle.tn_laminar.specs.declared.refusal.LaminarRefusal.TheVariants.{NoEmpty as NoEmptyIs, NotConcave as NotConcaveIs, NotLaminar as NotLaminarIs, OutOfMemory as OutOfMemoryIs}
 use Rattle.tn_laminar.specs.Sum.{laminar_firm}
+use Rattle.tn_plain_data.specs.declared.limits.Limits.{Limits}
 use Rattle.tn_plain_data.specs.declared.place.PlaceStep.{PlaceStep}
 use Rattle.tn_plain_data.specs.declared.place.PlaceStep.TheVariants.{Index, Word}
 use Rattle.tn_plain_data.specs.declared.place.Word.TheVariants.{Firms, Trades, Amounts, Sets, From, Values}
@@ -31,31 +32,31 @@ abbrev pub set_place : ℕ → ℕ → List PlaceStep
 set_place f s = Word Firms ∷ Index f ∷ Word Sets ∷ Index s ∷ []
 
 -- the net count that the first number is for
-unfoldable pub low_at : List PlaceStep → Option Data → Result ℤ Fault
-low_at place value = do
+unfoldable pub low_at : Limits → List PlaceStep → Option Data → Result ℤ Fault
+low_at limits place value = do
   low ← whole_at place value
-  near ← holds Limit place (nat_le (unsigned_abs low) 32)
+  near ← holds Limit place (nat_le (unsigned_abs low) limits.from)
   Ok low
 
 -- one more number; its index is the count of those before it
-unfoldable pub one_value : ℕ → ℕ → List ℤ → Data → Result (List ℤ) Fault
-one_value f s numbers value = do
-  number ← number_at (10 ^ 9) (set_place f s ++ Word Values ∷ Index (length numbers) ∷ []) value
+unfoldable pub one_value : Limits → ℕ → ℕ → List ℤ → Data → Result (List ℤ) Fault
+one_value limits f s numbers value = do
+  number ← number_at limits.amount (set_place f s ++ Word Values ∷ Index (length numbers) ∷ []) value
   Ok (numbers ++ number ∷ [])
 
--- at most 65 numbers
-unfoldable pub values_at : ℕ → ℕ → Option Data → Result (List ℤ) Fault
-values_at f s value = do
-  values ← few_at 65 (set_place f s ++ Word Values ∷ []) value
-  each (one_value f s) [] values
+-- not too many numbers
+unfoldable pub values_at : Limits → ℕ → ℕ → Option Data → Result (List ℤ) Fault
+values_at limits f s value = do
+  values ← few_at limits.values (set_place f s ++ Word Values ∷ []) value
+  each (one_value limits f s) [] values
 
 -- set s of firm f
 unfoldable pub set_of : Listed → ℕ → ℕ → Data → Result LaminarSet Fault
 set_of listed f s set = do
   object ← object_of LaminarSetObject (set_place f s) (Some set)
   members ← bundle_at listed f (set_place f s ++ Word Trades ∷ []) (get (codes "trades") set)
-  low ← low_at (set_place f s ++ Word From ∷ []) (get (codes "from") set)
-  numbers ← values_at f s (get (codes "values") set)
+  low ← low_at listed.limits (set_place f s ++ Word From ∷ []) (get (codes "from") set)
+  numbers ← values_at listed.limits f s (get (codes "values") set)
   Ok (record { members = members; low = low; numbers = numbers })
 
 -- one more set; its number is the count of those before it
@@ -64,11 +65,11 @@ one_set listed f sets set = do
   next ← set_of listed f (length sets) set
   Ok (sets ++ next ∷ [])
 
--- at most 64 sets, none where the member isn't there
+-- not too many sets, none where the member isn't there
 unfoldable pub sets_at : Listed → ℕ → Option Data → Result (List LaminarSet) Fault
 sets_at listed f value = do
   sets ← optional_list_at (firm_place f ++ Word Sets ∷ []) value
-  few ← holds Limit (firm_place f ++ Word Sets ∷ []) (nat_le (items_len sets) 64)
+  few ← holds Limit (firm_place f ++ Word Sets ∷ []) (nat_le (items_len sets) listed.limits.sets)
   each (one_set listed f) [] sets
 
 -- a number is below the middle of its two neighbours

@@ -1,5 +1,5 @@
 -- The tables of the firms.
-use Rattle.std.specs.Prelude.{ℕ, suc, ◌+◌, ◌^◌, ◌++◌, [], ◌∷◌, ℤ, List, length, codes, nat_le, ◌||◌, Bool, true, false, Option, Some, None, is_none, Result, Ok}
+use Rattle.std.specs.Prelude.{ℕ, suc, ◌+◌, ◌++◌, [], ◌∷◌, ℤ, List, length, codes, nat_le, ◌||◌, Bool, true, false, Option, Some, None, is_none, Result, Ok}
 use Rattle.serde_json.specs.Data.{Data, Items}
 use Rattle.serde_json.specs.Find.{get}
 use Rattle.tn_base.specs.declared.fault.FaultKind.TheVariants.{Limit, SameBundle}
@@ -21,7 +21,7 @@ unfoldable pub row_of : Listed → ℕ → ℕ → Data → Result (ℕ × ℤ) 
 row_of listed f r row = do
   two ← two_at (row_place f r) row
   bundle ← bundle_at listed f (row_place f r ++ Index 0 ∷ []) (Some two.0)
-  amount ← number_at (10 ^ 9) (row_place f r ++ Index 1 ∷ []) two.1
+  amount ← number_at listed.limits.amount (row_place f r ++ Index 1 ∷ []) two.1
   Ok (bundle, amount)
 
 -- how many rows were read, and the table of them

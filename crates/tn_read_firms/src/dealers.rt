@@ -1,24 +1,23 @@
 //! Dealers.
 
-ghost use Rattle.std.specs.Prelude.{◌≡◌, ◌≤◌, ◌++◌, ◌∷◌, [], length, option_map};
+ghost use Rattle.std.specs.Prelude.{◌≡◌, ◌*◌, ◌≤◌, ◌++◌, ◌∷◌, [], length, option_map};
 ghost use Rattle.std.specs.List.{list_any};
 ghost use Rattle.serde_json.specs.View.{view, items_view};
 ghost use Rattle.tn_base.specs.Table.{buys_of};
 ghost use Rattle.tn_dealer.specs.Firms.{firm_of};
 ghost use Rattle.tn_dealer.specs.Pairs.{AreDifferent, IsOwnPair};
+ghost use Rattle.tn_plain_data.specs.Limits.{most_own_trades};
 ghost use Rattle.tn_read_firms.specs.Dealers.{dealer_of, is_same_pair, one_pair, pair_of, three_at, three_of};
-ghost use Rattle.tn_read_references.specs.Ordered.{AreTrades, Listed, sides_of};
+ghost use Rattle.tn_read_references.specs.Ordered.{AreTrades, sides_of};
 ghost use Rattle.tn_shape.specs.Reading.{Gives, each};
 
-use crate::rows::AMOUNT_LIMIT;
 use serde_json::Value;
 use std::alloc::Global;
 use tn_base::{FaultKind, Side};
 use tn_dealer::{Dealer, Pair, SamePair};
+use tn_market::PlaceStep;
 use tn_market::PlaceStep::Index;
-use tn_market::{Ends, PlaceStep};
-use tn_names::Names;
-use tn_read_references::{own_position, sides_of};
+use tn_read_references::{Head, own_position, sides_of};
 use tn_shape::steps::{FIRMS, PAIRS};
 use tn_shape::{ReadError, fault, list, number, optional_list, require};
 
@@ -26,20 +25,18 @@ use tn_shape::{ReadError, fault, list, number, optional_list, require};
 #[tactic(auto, unfolding(crate::specs::Dealers::dealer_of))]
 pub(crate) fn dealer_of(
     alloc: Global,
-    names: &Names,
-    ends: &[Ends],
+    head: &Head,
     f: u32,
     firm: &Value,
 ) -> Result<Dealer, ReadError>
-    requires trades { AreTrades (record { names = names.now; ends = ends.now }) }
-    requires few { length (sides_of ends.now f) ≤ 32 }
+    requires few { length (sides_of head.now.ends f) ≤ most_own_trades }
     ensures { Gives firm_of result
-        (dealer_of (record { names = names.now; ends = ends.now }) f (view firm.now)) }
+        (dealer_of head.now f (view firm.now)) }
 {
-    let sides = sides_of(alloc, ends, f)?;
+    let sides = sides_of(alloc, head.ends(), f)?;
     let place = [FIRMS, Index(f), PAIRS];
     let entries = optional_list(alloc, firm.get("pairs"), &place)?;
-    let pairs = read_pairs(alloc, names, ends, f, entries)?;
+    let pairs = read_pairs(alloc, head, f, entries)?;
     match Dealer::new(sides, pairs) {
         Ok(dealer) => Ok(dealer),
         // No pair that was read is repeated.
@@ -48,21 +45,15 @@ pub(crate) fn dealer_of(
 }
 
 /// The pairs of the entries, of which none is repeated.
-fn read_pairs(
-    alloc: Global,
-    names: &Names,
-    ends: &[Ends],
-    f: u32,
-    entries: &[Value],
-) -> Result<Vec<Pair>, ReadError>
-    requires trades { AreTrades (record { names = names.now; ends = ends.now }) }
-    requires few { length (sides_of ends.now f) ≤ 32 }
+fn read_pairs(alloc: Global, head: &Head, f: u32, entries: &[Value]) -> Result<Vec<Pair>, ReadError>
+    requires trades { AreTrades head.now }
+    requires few { length (sides_of head.now.ends f) ≤ most_own_trades }
     ensures { Gives (λ pairs. pairs.items) result
-        (each (one_pair (record { names = names.now; ends = ends.now }) f) [] (items_view entries.now)) }
+        (each (one_pair head.now f) [] (items_view entries.now)) }
 {
     let mut pairs = Vec::new(alloc);
     for entry in entries {
-        let pair = new_pair(alloc, names, ends, f, &pairs, entry)?;
+        let pair = new_pair(alloc, head, f, &pairs, entry)?;
         pairs.push(pair)?;
     }
     Ok(pairs)
@@ -72,19 +63,17 @@ fn read_pairs(
 #[tactic(auto, unfolding(crate::specs::Dealers::one_pair))]
 fn new_pair(
     alloc: Global,
-    names: &Names,
-    ends: &[Ends],
+    head: &Head,
     f: u32,
     pairs: &[Pair],
     entry: &Value,
 ) -> Result<Pair, ReadError>
-    requires trades { AreTrades (record { names = names.now; ends = ends.now }) }
-    requires few { length pairs.now ≤ 1024 }
+    requires { length pairs.now ≤ most_own_trades * most_own_trades }
     ensures { Gives (λ pair. pairs.now ++ pair ∷ []) result
-        (one_pair (record { names = names.now; ends = ends.now }) f pairs.now (view entry.now)) }
+        (one_pair head.now f pairs.now (view entry.now)) }
 {
     let k = pairs.len() as u32;
-    let pair = pair_of(alloc, names, ends, f, k, entry)?;
+    let pair = pair_of(alloc, head, f, k, entry)?;
     let place = [FIRMS, Index(f), PAIRS, Index(k)];
     require(alloc, !is_listed(&pair, pairs), FaultKind::SamePair, &place)?;
     Ok(pair)
@@ -99,26 +88,18 @@ fn is_listed(pair: &Pair, pairs: &[Pair]) -> bool
 
 /// The pair of an entry.
 #[tactic(auto, unfolding(crate::specs::Dealers::pair_of))]
-fn pair_of(
-    alloc: Global,
-    names: &Names,
-    ends: &[Ends],
-    f: u32,
-    k: u32,
-    entry: &Value,
-) -> Result<Pair, ReadError>
-    requires { AreTrades (record { names = names.now; ends = ends.now }) }
+fn pair_of(alloc: Global, head: &Head, f: u32, k: u32, entry: &Value) -> Result<Pair, ReadError>
     ensures { Gives (λ pair. pair) result
-        (pair_of (record { names = names.now; ends = ends.now }) f k (view entry.now)) }
+        (pair_of head.now f k (view entry.now)) }
 {
     let (f_step, k_step) = (Index(f), Index(k));
     let (purchase, sale, cost) = three(alloc, entry, &[FIRMS, f_step, PAIRS, k_step])?;
     let place = [FIRMS, f_step, PAIRS, k_step, Index(0)];
-    let buy = own_position(alloc, names, ends, f, Some(Side::Buy), purchase, &place)?;
+    let buy = own_position(alloc, head, f, Some(Side::Buy), purchase, &place)?;
     let place = [FIRMS, f_step, PAIRS, k_step, Index(1)];
-    let sell = own_position(alloc, names, ends, f, Some(Side::Sell), sale, &place)?;
+    let sell = own_position(alloc, head, f, Some(Side::Sell), sale, &place)?;
     let place = [FIRMS, f_step, PAIRS, k_step, Index(2)];
-    let cost = number(alloc, AMOUNT_LIMIT, Some(cost), &place)?;
+    let cost = number(alloc, head.limits().amount, Some(cost), &place)?;
     Ok(Pair { buy, sell, cost })
 }
 

@@ -1,5 +1,6 @@
 ghost use Rattle.std.specs.Prelude.{◌≡◌, ◌≤◌, length, option_map, IfOk};
 ghost use Rattle.tn_exchange.specs.TestOrder.{Triple};
+ghost use Rattle.tn_plain_data.specs.Limits.{most_trades};
 ghost use Rattle.tn_plain_data.specs.Network.{own};
 ghost use Rattle.tn_read_firms.specs.Firms.{failure_of};
 
@@ -20,7 +21,7 @@ pub(crate) fn failure(
     y: Bundle,
     at: Option<u32>,
 ) -> Result<Fault, OutOfMemory>
-    requires few { length ends.now ≤ 128 }
+    requires few { length ends.now ≤ most_trades }
     requires count { count ≤ 64 }
     ensures { IfOk result (λ fault. fault ≡ failure_of ends.now f count (record { x = x; y = y; at = at })) }
 {
@@ -41,7 +42,7 @@ pub(crate) fn failure(
 
 /// The trade at a position of firm `f`, where there is one.
 pub fn own_option(ends: &[Ends], f: u32, at: Option<u32>) -> Option<u32>
-    requires { length ends.now ≤ 128 }
+    requires { length ends.now ≤ most_trades }
     ensures { result ≡ option_map (own ends.now f) at }
 {
     match at {

@@ -1,15 +1,15 @@
 ghost use Rattle.std.specs.Prelude.{◌≡◌, ◌≤◌, length, OnOk};
 ghost use Rattle.serde_json.specs.View.{view};
-ghost use Rattle.tn_read_firms.specs.Kinds.{frame_of, kind_named, kind_of, most_own};
+ghost use Rattle.tn_read_firms.specs.Kinds.{frame_of, kind_named, kind_of, most_own, room_for};
 ghost use Rattle.tn_read_references.specs.Ordered.{sides_of};
 ghost use Rattle.tn_shape.specs.Reading.{Gives};
 
 use serde_json::Value;
 use std::alloc::Global;
 use tn_base::FaultKind;
-use tn_market::Ends;
 use tn_market::PlaceStep::Index;
-use tn_read_references::count_own;
+use tn_plain_data::Limits;
+use tn_read_references::{Head, count_own};
 use tn_shape::steps::{FIRMS, KIND};
 use tn_shape::{FirmKind, ObjectKind, ReadError, found, object_of, require, text, value_of_word};
 
@@ -42,29 +42,28 @@ fn kind_named(text: &str) -> Option<FirmKind>
 #[tactic(auto, unfolding(crate::specs::Kinds::frame_of))]
 pub(crate) fn check_frame(
     alloc: Global,
-    ends: &[Ends],
+    head: &Head,
     f: u32,
     kind: FirmKind,
     firm: &Value,
 ) -> Result<(), ReadError>
-    requires { length ends.now ≤ 128 }
-    ensures gives { Gives (λ _. tt) result (frame_of ends.now f kind (view firm.now)) }
-    ensures few { OnOk result (length (sides_of ends.now f) ≤ most_own kind) }
+    ensures gives { Gives (λ _. tt) result (frame_of head.now f kind (view firm.now)) }
+    ensures few { OnOk result (length (sides_of head.now.ends f) ≤ room_for kind) }
 {
     let place = [FIRMS, Index(f)];
     object_of(alloc, ObjectKind::Firm(kind), Some(firm), &place)?;
-    let few = count_own(ends, f) <= most_own(kind);
+    let few = count_own(head.ends(), f) <= most_own(head.limits(), kind);
     require(alloc, few, FaultKind::Limit, &place)
 }
 
-/// The most own trades of a firm.
-fn most_own(kind: FirmKind) -> u32
-    ensures { result ≡ most_own kind }
+/// The most own trades of a firm of a kind.
+fn most_own(limits: &Limits, kind: FirmKind) -> u32
+    ensures { result ≡ most_own limits.now kind }
 {
     match kind {
-        FirmKind::Table => 14,
-        FirmKind::Laminar => 32,
-        FirmKind::Middleman => 32,
-        FirmKind::Dealer => 32,
+        FirmKind::Table => limits.own_of_table,
+        FirmKind::Laminar => limits.own,
+        FirmKind::Middleman => limits.own,
+        FirmKind::Dealer => limits.own,
     }
 }

@@ -1,61 +1,50 @@
 //! Laminar firms.
 
-ghost use Rattle.std.specs.Prelude.{◌≡◌, ◌+◌, ◌^◌, ◌<◌, ◌≤◌, [], length, option_map, All, OnOk};
+ghost use Rattle.std.specs.Prelude.{◌≡◌, ◌+◌, ◌<◌, ◌≤◌, [], length, option_map, All, OnOk};
 ghost use Rattle.serde_json.specs.View.{view, items_view};
 ghost use Rattle.tn_base.specs.Arcs.{IsAtMost};
+ghost use Rattle.tn_base.specs.Widths.{most_amount};
+ghost use Rattle.tn_plain_data.specs.Limits.{most_own_trades, most_sets, most_values};
 ghost use Rattle.tn_laminar.specs.Firms.{firm_of};
 ghost use Rattle.tn_laminar.specs.Sum.{HasNumbersWithin, IsOwnSet};
 ghost use Rattle.tn_read_firms.specs.Laminars.{IsRefusal, checked_laminar, laminar_of, low_at, one_set, one_value, set_of, sets_at, values_at};
-ghost use Rattle.tn_read_references.specs.Ordered.{AreTrades, Listed, sides_of};
+ghost use Rattle.tn_read_references.specs.Ordered.{sides_of};
 ghost use Rattle.tn_shape.specs.Reading.{Gives, each};
 
 use crate::own_numbers::{OwnList, own_numbers};
-use crate::rows::AMOUNT_LIMIT;
 use serde_json::Value;
 use std::alloc::Global;
 use tn_base::{FaultKind, Side};
 use tn_laminar::{Laminar, LaminarRefusal, LaminarSet};
 use tn_market::PlaceStep::Index;
-use tn_market::{Amounts, Ends, PlaceStep};
-use tn_names::Names;
-use tn_read_references::{OwnPart, PartAt, own_bundle, sides_of};
+use tn_market::{Amounts, PlaceStep};
+use tn_read_references::{Head, OwnPart, PartAt, own_bundle, sides_of};
 use tn_shape::steps::{AMOUNTS, FIRMS, FROM, SETS, TRADES, VALUES};
 use tn_shape::{
     ObjectKind, ReadError, fault, few, number, object_of, optional_list, require, whole,
 };
 
-/// The most sets of a firm.
-const SET_LIMIT: usize = 64;
-
-/// The most numbers of a set.
-const VALUE_LIMIT: u32 = 65;
-
-/// The farthest net count from 0 that the first number of a set may be for.
-const LOW_LIMIT: u64 = 32;
-
 /// The laminar firm `f`. All its sets are read before the first one is tested.
 #[tactic(auto, unfolding(crate::specs::Laminars::laminar_of))]
 pub(crate) fn laminar_of(
     alloc: Global,
-    names: &Names,
-    ends: &[Ends],
+    head: &Head,
     f: u32,
     firm: &Value,
 ) -> Result<Laminar, ReadError>
-    requires trades { AreTrades (record { names = names.now; ends = ends.now }) }
-    requires few { length (sides_of ends.now f) ≤ 32 }
+    requires few { length (sides_of head.now.ends f) ≤ most_own_trades }
     ensures { Gives firm_of result
-        (laminar_of (record { names = names.now; ends = ends.now }) f (view firm.now)) }
+        (laminar_of head.now f (view firm.now)) }
 {
-    let sides = sides_of(alloc, ends, f)?;
+    let sides = sides_of(alloc, head.ends(), f)?;
     let list = OwnList {
         firm: f,
         member: AMOUNTS,
         side: None,
     };
     let zeros = vec![in alloc; 0; sides.len()]?;
-    let amounts = own_numbers(alloc, names, ends, list, firm.get("amounts"), zeros)?;
-    let sets = read_sets(alloc, names, ends, f, firm.get("sets"))?;
+    let amounts = own_numbers(alloc, head, list, firm.get("amounts"), zeros)?;
+    let sets = read_sets(alloc, head, f, firm.get("sets"))?;
     checked(alloc, f, sides, amounts, sets)
 }
 
@@ -68,10 +57,10 @@ fn checked(
     amounts: Vec<i128>,
     sets: Vec<LaminarSet>,
 ) -> Result<Laminar, ReadError>
-    requires few { length sides.items ≤ 32 }
+    requires few { length sides.items ≤ most_own_trades }
     requires as_many { length amounts.items ≡ length sides.items }
-    requires small { All (λ a. IsAtMost a (10 ^ 9)) amounts.items }
-    requires few_sets { length sets.items ≤ 64 }
+    requires small { All (λ a. IsAtMost a most_amount) amounts.items }
+    requires few_sets { length sets.items ≤ most_sets }
     requires own { All (IsOwnSet (length sides.items)) sets.items }
     requires numbered { All HasNumbersWithin sets.items }
     ensures { Gives firm_of result (checked_laminar f sides.items amounts.items sets.items) }
@@ -107,39 +96,40 @@ fn refused(alloc: Global, f: u32, refusal: LaminarRefusal) -> ReadError
 #[tactic(auto, unfolding(crate::specs::Laminars::sets_at), using(tn_shape::proofs::ShapeLemmas::items_len_is))]
 fn read_sets(
     alloc: Global,
-    names: &Names,
-    ends: &[Ends],
+    head: &Head,
     f: u32,
     value: Option<&Value>,
 ) -> Result<Vec<LaminarSet>, ReadError>
-    requires trades { AreTrades (record { names = names.now; ends = ends.now }) }
-    requires few { length (sides_of ends.now f) ≤ 32 }
+    requires few { length (sides_of head.now.ends f) ≤ most_own_trades }
     ensures { Gives (λ sets. sets.items) result
-        (sets_at (record { names = names.now; ends = ends.now }) f (option_map (λ v. view v.now) value.entry)) }
+        (sets_at head.now f (option_map (λ v. view v.now) value.entry)) }
 {
     let place = [FIRMS, Index(f), SETS];
     let items = optional_list(alloc, value, &place)?;
-    require(alloc, items.len() <= SET_LIMIT, FaultKind::Limit, &place)?;
-    each_set(alloc, names, ends, f, items)
+    require(
+        alloc,
+        items.len() <= head.limits().sets as usize,
+        FaultKind::Limit,
+        &place,
+    )?;
+    each_set(alloc, head, f, items)
 }
 
 /// The sets of firm `f` in their order.
 fn each_set(
     alloc: Global,
-    names: &Names,
-    ends: &[Ends],
+    head: &Head,
     f: u32,
     items: &[Value],
 ) -> Result<Vec<LaminarSet>, ReadError>
-    requires trades { AreTrades (record { names = names.now; ends = ends.now }) }
-    requires few { length (sides_of ends.now f) ≤ 32 }
-    requires few_sets { length items.now ≤ 64 }
+    requires few { length (sides_of head.now.ends f) ≤ most_own_trades }
+    requires few_sets { length items.now ≤ most_sets }
     ensures { Gives (λ sets. sets.items) result
-        (each (one_set (record { names = names.now; ends = ends.now }) f) [] (items_view items.now)) }
+        (each (one_set head.now f) [] (items_view items.now)) }
 {
     let mut sets = Vec::new(alloc);
     for item in items {
-        add_set(alloc, names, ends, f, &mut sets, item)?;
+        add_set(alloc, head, f, &mut sets, item)?;
     }
     Ok(sets)
 }
@@ -148,38 +138,28 @@ fn each_set(
 #[tactic(auto, unfolding(crate::specs::Laminars::one_set))]
 fn add_set(
     alloc: Global,
-    names: &Names,
-    ends: &[Ends],
+    head: &Head,
     f: u32,
     sets: &mut Vec<LaminarSet>,
     set: &Value,
 ) -> Result<(), ReadError>
-    requires trades { AreTrades (record { names = names.now; ends = ends.now }) }
-    requires few { length (sides_of ends.now f) ≤ 32 }
-    requires few_sets { length sets.old.items < 64 }
+    requires few { length (sides_of head.now.ends f) ≤ most_own_trades }
+    requires few_sets { length sets.old.items < most_sets }
     ensures gives { Gives (λ _. sets.new.items) result
-        (one_set (record { names = names.now; ends = ends.now }) f sets.old.items (view set.now)) }
+        (one_set head.now f sets.old.items (view set.now)) }
     ensures count { OnOk result (length sets.new.items ≡ length sets.old.items + 1) }
 {
-    let next = set_of(alloc, names, ends, f, sets.len() as u32, set)?;
+    let next = set_of(alloc, head, f, sets.len() as u32, set)?;
     sets.push(next)?;
     Ok(())
 }
 
 /// Set `s` of firm `f`.
 #[tactic(auto, unfolding(crate::specs::Laminars::set_of))]
-fn set_of(
-    alloc: Global,
-    names: &Names,
-    ends: &[Ends],
-    f: u32,
-    s: u32,
-    set: &Value,
-) -> Result<LaminarSet, ReadError>
-    requires trades { AreTrades (record { names = names.now; ends = ends.now }) }
-    requires few { length (sides_of ends.now f) ≤ 32 }
+fn set_of(alloc: Global, head: &Head, f: u32, s: u32, set: &Value) -> Result<LaminarSet, ReadError>
+    requires few { length (sides_of head.now.ends f) ≤ most_own_trades }
     ensures { Gives (λ set. set) result
-        (set_of (record { names = names.now; ends = ends.now }) f s (view set.now)) }
+        (set_of head.now f s (view set.now)) }
 {
     let place = [FIRMS, Index(f), SETS, Index(s)];
     object_of(alloc, ObjectKind::LaminarSet, Some(set), &place)?;
@@ -189,10 +169,10 @@ fn set_of(
         part: TRADES,
     };
     let part = OwnPart { firm: f, at };
-    let members = own_bundle(alloc, names, ends, part, set.get("trades"))?;
+    let members = own_bundle(alloc, head, part, set.get("trades"))?;
     let place = [FIRMS, Index(f), SETS, Index(s), FROM];
-    let low = low(alloc, set.get("from"), &place)?;
-    let numbers = read_values(alloc, f, s, set.get("values"))?;
+    let low = low(alloc, head, set.get("from"), &place)?;
+    let numbers = read_values(alloc, head, f, s, set.get("values"))?;
     Ok(LaminarSet {
         members,
         low,
@@ -202,35 +182,52 @@ fn set_of(
 
 /// The net count that the first number of a set is for.
 #[tactic(auto, unfolding(crate::specs::Laminars::low_at))]
-fn low(alloc: Global, value: Option<&Value>, place: &[PlaceStep]) -> Result<i32, ReadError>
-    ensures { Gives (λ low. low) result (low_at place.now (option_map (λ v. view v.now) value.entry)) }
+fn low(
+    alloc: Global,
+    head: &Head,
+    value: Option<&Value>,
+    place: &[PlaceStep],
+) -> Result<i32, ReadError>
+    ensures { Gives (λ low. low) result (low_at head.now.limits place.now (option_map (λ v. view v.now) value.entry)) }
 {
     let low = whole(alloc, value, place)?;
-    let near = low.unsigned_abs() <= LOW_LIMIT;
+    let near = low.unsigned_abs() <= head.limits().from;
     require(alloc, near, FaultKind::Limit, place)?;
     Ok(low as i32)
 }
 
 /// The numbers of set `s` of firm `f`.
 #[tactic(auto, unfolding(crate::specs::Laminars::values_at))]
-fn read_values(alloc: Global, f: u32, s: u32, value: Option<&Value>) -> Result<Vec<i128>, ReadError>
+fn read_values(
+    alloc: Global,
+    head: &Head,
+    f: u32,
+    s: u32,
+    value: Option<&Value>,
+) -> Result<Vec<i128>, ReadError>
     ensures { Gives (λ numbers. numbers.items) result
-        (values_at f s (option_map (λ v. view v.now) value.entry)) }
+        (values_at head.now.limits f s (option_map (λ v. view v.now) value.entry)) }
 {
     let place = [FIRMS, Index(f), SETS, Index(s), VALUES];
-    let values = few(alloc, VALUE_LIMIT, value, &place)?;
-    each_value(alloc, f, s, values)
+    let values = few(alloc, head.limits().values, value, &place)?;
+    each_value(alloc, head, f, s, values)
 }
 
 /// The numbers of set `s` of firm `f` in their order.
-fn each_value(alloc: Global, f: u32, s: u32, values: &[Value]) -> Result<Vec<i128>, ReadError>
-    requires { length values.now ≤ 65 }
+fn each_value(
+    alloc: Global,
+    head: &Head,
+    f: u32,
+    s: u32,
+    values: &[Value],
+) -> Result<Vec<i128>, ReadError>
+    requires { length values.now ≤ most_values }
     ensures { Gives (λ numbers. numbers.items) result
-        (each (one_value f s) [] (items_view values.now)) }
+        (each (one_value head.now.limits f s) [] (items_view values.now)) }
 {
     let mut numbers = Vec::new(alloc);
     for value in values {
-        add_value(alloc, f, s, &mut numbers, value)?;
+        add_value(alloc, head, f, s, &mut numbers, value)?;
     }
     Ok(numbers)
 }
@@ -239,19 +236,20 @@ fn each_value(alloc: Global, f: u32, s: u32, values: &[Value]) -> Result<Vec<i12
 #[tactic(auto, unfolding(crate::specs::Laminars::one_value))]
 fn add_value(
     alloc: Global,
+    head: &Head,
     f: u32,
     s: u32,
     numbers: &mut Vec<i128>,
     value: &Value,
 ) -> Result<(), ReadError>
-    requires { length numbers.old.items < 65 }
+    requires { length numbers.old.items < most_values }
     ensures gives { Gives (λ _. numbers.new.items) result
-        (one_value f s numbers.old.items (view value.now)) }
+        (one_value head.now.limits f s numbers.old.items (view value.now)) }
     ensures count { OnOk result (length numbers.new.items ≡ length numbers.old.items + 1) }
 {
     let k = Index(numbers.len() as u32);
     let place = [FIRMS, Index(f), SETS, Index(s), VALUES, k];
-    let number = number(alloc, AMOUNT_LIMIT, Some(value), &place)?;
+    let number = number(alloc, head.limits().amount, Some(value), &place)?;
     numbers.push(number)?;
     Ok(())
 }

@@ -4,6 +4,7 @@ ghost use Rattle.tn_laminar.specs.Firms.{firm_of as laminar_firm_of};
 ghost use Rattle.tn_middle.specs.Firms.{firm_of as middle_firm_of};
 ghost use Rattle.tn_dealer.specs.Firms.{firm_of as dealer_firm_of};
 ghost use Rattle.tn_exchange.specs.Rows.{firm_of_table};
+ghost use Rattle.tn_plain_data.specs.Limits.{most_own_of_table};
 ghost use Rattle.tn_read_firms.specs.Firms.{tested_firm};
 ghost use Rattle.tn_local.specs.First.{IsFullIfLarge};
 ghost use Rattle.tn_shape.specs.Reading.{Gives};
@@ -14,8 +15,8 @@ use tn_dealer::Dealer;
 use tn_exchange::RawTable;
 use tn_firm::{FirmValue, RawFirm};
 use tn_laminar::Laminar;
-use tn_market::Ends;
 use tn_middle::Middle;
+use tn_read_references::Head;
 use tn_shape::ReadError;
 use tn_table::{Table, TableRefused};
 
@@ -30,12 +31,11 @@ pub trait FromKinds: Sized {
     /// What is known of each that is made: a firm whose exchange isn't tested yet can be tested.
     ghost known: { Self → Type 0 };
 
-    /// Firm `f` over the trades with these ends, or the fault that its table fails exchange.
-    fn from_table(alloc: Global, ends: &[Ends], f: u32, table: RawTable) -> Result<Self, ReadError>
-        requires few_trades { length ends.now ≤ 128 }
-        requires few { length table.sides ≤ 14 }
+    /// Firm `f` of a document, or the fault that its table fails exchange.
+    fn from_table(alloc: Global, head: &Head, f: u32, table: RawTable) -> Result<Self, ReadError>
+        requires few { length table.sides ≤ most_own_of_table }
         requires full { IsFullIfLarge (firm_of_table table) }
-        ensures gives { Gives firm result (tested_firm tested ends.now f table) }
+        ensures gives { Gives firm result (tested_firm tested head.now.ends f table) }
         ensures known { IfOk result known };
 
     /// A laminar firm.
@@ -67,7 +67,7 @@ impl FromKinds for RawFirm {
     #[tactic(auto, unfolding(crate::specs::Firms::tested_firm))]
     fn from_table(
         _alloc: Global,
-        _ends: &[Ends],
+        _head: &Head,
         _f: u32,
         table: RawTable,
     ) -> Result<RawFirm, ReadError> {
@@ -99,14 +99,14 @@ impl FromKinds for FirmValue {
 
     fn from_table(
         alloc: Global,
-        ends: &[Ends],
+        head: &Head,
         f: u32,
         table: RawTable,
     ) -> Result<FirmValue, ReadError> {
         match Table::new(table) {
             Ok(table) => Ok(FirmValue::Table(table)),
             Err(TableRefused { raw, x, y, at }) => {
-                let fault = failure(alloc, ends, f, raw.trades(), x, y, at)?;
+                let fault = failure(alloc, head.ends(), f, raw.trades(), x, y, at)?;
                 Err(ReadError::Fault(fault))
             }
         }

@@ -2,19 +2,18 @@
 
 ghost use Rattle.std.specs.Prelude.{◌≡◌, ◌<◌, ◌≤◌, length, option_map, IfOk};
 ghost use Rattle.serde_json.specs.View.{view, items_view};
+ghost use Rattle.tn_plain_data.specs.Limits.{most_own_trades};
 ghost use Rattle.tn_read_references.specs.Entries.{Numbered};
-ghost use Rattle.tn_read_references.specs.Ordered.{AreTrades, Listed, sides_of};
+ghost use Rattle.tn_read_references.specs.Ordered.{sides_of};
 ghost use Rattle.tn_read_firms.specs.OwnNumbers.{one_own, own_entry, own_numbers};
 ghost use Rattle.tn_shape.specs.Reading.{Gives, each};
 
-use crate::rows::AMOUNT_LIMIT;
 use serde_json::Value;
 use std::alloc::Global;
 use tn_base::{Bundle, FaultKind, Side};
+use tn_market::PlaceStep;
 use tn_market::PlaceStep::Index;
-use tn_market::{Ends, PlaceStep};
-use tn_names::Names;
-use tn_read_references::own_position;
+use tn_read_references::{Head, own_position};
 use tn_shape::steps::FIRMS;
 use tn_shape::{ReadError, number, optional_list, require, two};
 
@@ -32,46 +31,42 @@ pub(crate) struct OwnList {
 #[tactic(auto, unfolding(crate::specs::OwnNumbers::own_numbers))]
 pub(crate) fn own_numbers(
     alloc: Global,
-    names: &Names,
-    ends: &[Ends],
+    head: &Head,
     list: OwnList,
     value: Option<&Value>,
     mut numbers: Vec<i128>,
 ) -> Result<Vec<i128>, ReadError>
-    requires trades { AreTrades (record { names = names.now; ends = ends.now }) }
-    requires few { length (sides_of ends.now list.firm) ≤ 32 }
-    requires places { length numbers.items ≡ length (sides_of ends.now list.firm) }
+    requires few { length (sides_of head.now.ends list.firm) ≤ most_own_trades }
+    requires places { length numbers.items ≡ length (sides_of head.now.ends list.firm) }
     ensures gives { Gives (λ all. all.items) result
-        (own_numbers (record { names = names.now; ends = ends.now }) list numbers.items
+        (own_numbers head.now list numbers.items
         (option_map (λ v. view v.now) value.entry)) }
     ensures places { IfOk result (λ all. length all.items ≡ length numbers.items) }
 {
     let place = [FIRMS, Index(list.firm), list.member];
     let entries = optional_list(alloc, value, &place)?;
-    read_entries(alloc, names, ends, list, entries, &mut numbers)?;
+    read_entries(alloc, head, list, entries, &mut numbers)?;
     Ok(numbers)
 }
 
 /// Puts the numbers of the entries to their positions, and gives the positions that have one.
 fn read_entries(
     alloc: Global,
-    names: &Names,
-    ends: &[Ends],
+    head: &Head,
     list: OwnList,
     entries: &[Value],
     numbers: &mut [i128],
 ) -> Result<Bundle, ReadError>
-    requires trades { AreTrades (record { names = names.now; ends = ends.now }) }
-    requires few { length (sides_of ends.now list.firm) ≤ 32 }
-    requires places { length numbers.old ≡ length (sides_of ends.now list.firm) }
+    requires few { length (sides_of head.now.ends list.firm) ≤ most_own_trades }
+    requires places { length numbers.old ≡ length (sides_of head.now.ends list.firm) }
     ensures gives { Gives (λ named. record { named = named; numbers = numbers.new }) result
-        (each (one_own (record { names = names.now; ends = ends.now }) list)
+        (each (one_own head.now list)
         (record { named = 0; numbers = numbers.old }) (items_view entries.now)) }
     ensures places { length numbers.new ≡ length numbers.old }
 {
     let mut named = Bundle::empty();
     for entry in entries {
-        add_entry(alloc, names, ends, list, &mut named, numbers, entry)?;
+        add_entry(alloc, head, list, &mut named, numbers, entry)?;
     }
     Ok(named)
 }
@@ -80,22 +75,20 @@ fn read_entries(
 #[tactic(auto, unfolding(tn_read_references::specs::Entries::one_entry))]
 fn add_entry(
     alloc: Global,
-    names: &Names,
-    ends: &[Ends],
+    head: &Head,
     list: OwnList,
     named: &mut Bundle,
     numbers: &mut [i128],
     entry: &Value,
 ) -> Result<(), ReadError>
-    requires trades { AreTrades (record { names = names.now; ends = ends.now }) }
-    requires few { length (sides_of ends.now list.firm) ≤ 32 }
-    requires places { length numbers.old ≡ length (sides_of ends.now list.firm) }
+    requires few { length (sides_of head.now.ends list.firm) ≤ most_own_trades }
+    requires places { length numbers.old ≡ length (sides_of head.now.ends list.firm) }
     ensures gives { Gives (λ _. record { named = named.new; numbers = numbers.new }) result
-        (one_own (record { names = names.now; ends = ends.now }) list
+        (one_own head.now list
         (record { named = named.old; numbers = numbers.old }) (view entry.now)) }
     ensures places { length numbers.new ≡ length numbers.old }
 {
-    let (k, number) = entry_of(alloc, names, ends, list, *named, entry)?;
+    let (k, number) = entry_of(alloc, head, list, *named, entry)?;
     numbers[k as usize] = number;
     *named = named.toggle(k);
     Ok(())
@@ -105,24 +98,22 @@ fn add_entry(
 #[tactic(auto, unfolding(tn_read_references::specs::Entries::entry_of, tn_read_references::specs::References::new_own))]
 fn entry_of(
     alloc: Global,
-    names: &Names,
-    ends: &[Ends],
+    head: &Head,
     list: OwnList,
     named: Bundle,
     entry: &Value,
 ) -> Result<(u32, i128), ReadError>
-    requires trades { AreTrades (record { names = names.now; ends = ends.now }) }
-    requires few { length (sides_of ends.now list.firm) ≤ 32 }
+    requires few { length (sides_of head.now.ends list.firm) ≤ most_own_trades }
     ensures gives { Gives (λ p. p) result
-        (own_entry (record { names = names.now; ends = ends.now }) list named (view entry.now)) }
-    ensures own { IfOk result (λ p. p.0 < length (sides_of ends.now list.firm)) }
+        (own_entry head.now list named (view entry.now)) }
+    ensures own { IfOk result (λ p. p.0 < length (sides_of head.now.ends list.firm)) }
 {
     let (f, k) = (Index(list.firm), Index(named.count()));
     let (reference, value) = two(alloc, entry, &[FIRMS, f, list.member, k])?;
     let place = [FIRMS, f, list.member, k, Index(0)];
-    let position = own_position(alloc, names, ends, list.firm, list.side, reference, &place)?;
+    let position = own_position(alloc, head, list.firm, list.side, reference, &place)?;
     require(alloc, !named.has(position), FaultKind::SameTrade, &place)?;
     let place = [FIRMS, f, list.member, k, Index(1)];
-    let number = number(alloc, AMOUNT_LIMIT, Some(value), &place)?;
+    let number = number(alloc, head.limits().amount, Some(value), &place)?;
     Ok((position, number))
 }

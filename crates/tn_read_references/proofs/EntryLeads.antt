@@ -1,5 +1,5 @@
 -- The numbers that entries give.
-use Rattle.std.proofs.Common.{◌≡◌, ℕ, List, [], ◌∷◌, ◌++◌, length, Some, ◌∙◌, arith}
+use Rattle.std.proofs.Common.{◌≡◌, ℕ, ◌≤◌, List, [], ◌∷◌, ◌++◌, length, get_or, Option, Some, ◌∙◌, arith}
 use Rattle.std.specs.Prelude.{ℤ, pos, replicate, slice_set, All}
 use Rattle.std.proofs.lemmas.Int.{ints}
 use Rattle.std.proofs.lemmas.List.{length-replicate, length-set}
@@ -10,10 +10,10 @@ use Rattle.tn_base.specs.Sets.{toggle, size}
 use Rattle.tn_plain_data.specs.declared.place.PlaceStep.{PlaceStep}
 use Rattle.tn_plain_data.specs.declared.place.PlaceStep.TheVariants.{Index}
 use Rattle.tn_shape.specs.Reading.{each}
-use Rattle.tn_shape.specs.Shapes.{two_at, number_at}
+use Rattle.tn_shape.specs.Shapes.{two_at, number_at, number_in}
 use Rattle.tn_read_references.specs.Entries.{Numbered, Refers, entry_of, one_entry}
 use Rattle.tn_shape.proofs.ShapeLeads.{number_leads}
-use Rattle.tn_shape.proofs.LeadLemmas.{Leads, leads_ok, leads_bind, leads_after, leads_each}
+use Rattle.tn_shape.proofs.LeadLemmas.{Leads, leads_ok, leads_bind, leads_after, leads_each, leads_as}
 
 -- so many numbers within a limit
 pub record AreNumbers (n limit : ℕ) (numbers : List ℤ) : Type 0 where
@@ -22,6 +22,16 @@ pub record AreNumbers (n limit : ℕ) (numbers : List ℤ) : Type 0 where
 
 pub zeros : (count limit : ℕ) → AreNumbers count limit (replicate count (pos 0))
 zeros count limit = record { count = length-replicate count (pos 0); small = All-replicate (λ z. IsAtMost z limit) count (pos 0) (search (arith, ints)) }
+
+-- what is within a limit is within a larger one
+pub within_more : (z : ℤ) (limit most : ℕ) → limit ≤ most → IsAtMost z limit → IsAtMost z most
+within_more z limit most more small = let low = small.low in let high = small.high in record { low = omega (arith, ints, low, more); high = omega (arith, ints, high, more) }
+
+pub all_within : (limit most : ℕ) (numbers : List ℤ) → limit ≤ most → All (λ z. IsAtMost z limit) numbers → All (λ z. IsAtMost z most) numbers
+all_within limit most numbers more small = λ k d below. within_more (get_or numbers k d) limit most more (small k d below)
+
+pub number_within : (limit most : ℕ) → limit ≤ most → (place : List PlaceStep) (value : Option Data) → Leads (λ z. IsAtMost z most) (number_in limit place value)
+number_within limit most more place value = leads_as (λ z. IsAtMost z limit) (λ z. IsAtMost z most) (number_in limit place value) (λ z small. within_more z limit most more small) (number_leads limit place value)
 
 module _ (refer : Refers) (place : List PlaceStep) (count limit : ℕ) where
   entry_leads : (named : ℕ) (entry : Data) → Leads (λ p. IsAtMost p.1 limit) (entry_of refer place limit named entry)

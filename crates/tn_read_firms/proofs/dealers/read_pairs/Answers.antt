@@ -1,9 +1,10 @@
-use Rattle.std.proofs.Common.{◌≡◌, ◌∷◌, ◌++◌, [], length, List, Ok, refl, sym, subst, ◌≤◌, rules}
+use Rattle.std.proofs.Common.{◌≡◌, ◌∷◌, ◌++◌, [], length, List, Ok, refl, sym, subst, ◌*◌, ◌≤◌, rules}
 use Rattle.std.specs.Prelude.{All}
 use Rattle.std.proofs.lemmas.Result.{err_from_is_err_and}
 use Rattle.serde_json.specs.View.{view}
 use Rattle.tn_dealer.specs.declared.pair.Pair.{Pair}
 use Rattle.tn_dealer.specs.Pairs.{AreDifferent}
+use Rattle.tn_plain_data.specs.Limits.{most_own_trades}
 use Rattle.tn_read_references.specs.Ordered.{Listed}
 use Rattle.tn_read_firms.specs.Dealers.{one_pair}
 use Rattle.tn_shape.specs.Reading.{each, Fails}
@@ -14,7 +15,7 @@ use Rattle.tn_read_firms.proofs.dealers.read_pairs.Goals as goal
 
 pub loop-entry-init : goal.loop-entry-init
 loop-entry-init c =
-    let listed : Listed = record { names = c.args.names.now; ends = c.args.ends.now } in
+    let listed : Listed = c.args.head.now in
     let start : c.new-pairs.result.items ≡ [] = search rules in
     let none = no_pairs listed c.requires.trades c.args.f in
     record {
@@ -23,16 +24,16 @@ loop-entry-init c =
       rest = subst (λ (pairs : List Pair). each (one_pair listed c.args.f) pairs (items_view c.args.entries.now) ≡ each (one_pair listed c.args.f) [] (items_view c.args.entries.now)) (sym start) refl;
     }
 
-pub new_pair-requires-clause-few : goal.new_pair-requires-clause-few
-new_pair-requires-clause-few c =
+pub new_pair-requires : goal.new_pair-requires
+new_pair-requires c =
     let same : c.deref.result.now ≡ c.loop-entry.pairs.items = search rules in
-    subst (λ (pairs : List Pair). length pairs ≤ 1024) (sym same)
-    (few_new (record { names = c.args.names.now; ends = c.args.ends.now }) c.requires.trades c.args.f c.loop-entry.pairs.items c.requires.few
+    subst (λ (pairs : List Pair). length pairs ≤ most_own_trades * most_own_trades) (sym same)
+    (few_new c.args.head.now c.requires.trades c.args.f c.loop-entry.pairs.items c.requires.few
     (record { own = c.loop-entry.invariant.own; different = c.loop-entry.invariant.different }))
 
 pub returns-in_err-pair : goal.returns-in_err-pair
 returns-in_err-pair c =
-    let listed : Listed = record { names = c.args.names.now; ends = c.args.ends.now } in
+    let listed : Listed = c.args.head.now in
     let p = err_from_is_err_and c.from_residual.result c.from_residual.ensures.1 in
     let same : c.deref.result.now ≡ c.loop-entry.pairs.items = search rules in
     let fails : Fails c.in_err-pair.field-0.0 (one_pair listed c.args.f c.loop-entry.pairs.items (view c.entry-item.result)) =
@@ -41,7 +42,7 @@ returns-in_err-pair c =
 
 pub loop-entry-preserved : goal.loop-entry-preserved
 loop-entry-preserved c =
-    let listed : Listed = record { names = c.args.names.now; ends = c.args.ends.now } in
+    let listed : Listed = c.args.head.now in
     let items = c.in_ok-push.ensures.items in
     let same : c.deref.result.now ≡ c.loop-entry.pairs.items = search rules in
     let read : one_pair listed c.args.f c.loop-entry.pairs.items (view c.entry-item.result) ≡ Ok (c.loop-entry.pairs.items ++ c.in_ok-pair.pair ∷ []) =
@@ -55,4 +56,4 @@ loop-entry-preserved c =
     }
 
 pub returns : goal.returns
-returns c = each_is_done (one_pair (record { names = c.args.names.now; ends = c.args.ends.now }) c.args.f) c.args.entries.now c.loop-entry.entry-index _ _ c.loop-entry-test.false c.loop-entry.invariant.rest
+returns c = each_is_done (one_pair c.args.head.now c.args.f) c.args.entries.now c.loop-entry.entry-index _ _ c.loop-entry-test.false c.loop-entry.invariant.rest

@@ -10,7 +10,7 @@ use Rattle.tn_read_firms.proofs.dealers.read_pairs.Given as goal
 
 abbrev pub invariant-loop-entry : goal.invariant-loop-entry
 invariant-loop-entry l = record {
-  own : All (IsOwnPair (length (sides_of l.ends l.f)) (buys_of (sides_of l.ends l.f))) l.pairs.items;
+  own : All (IsOwnPair (length (sides_of l.head.ends l.f)) (buys_of (sides_of l.head.ends l.f))) l.pairs.items;
   different : AreDifferent l.pairs.items;
-  rest : each (one_pair (record { names = l.names; ends = l.ends }) l.f) (l.pairs.items) (items_view (drop l.entry-index l.entries)) ≡ each (one_pair (record { names = l.names; ends = l.ends }) l.f) ([]) (items_view l.entries);
+  rest : each (one_pair l.head l.f) (l.pairs.items) (items_view (drop l.entry-index l.entries)) ≡ each (one_pair l.head l.f) ([]) (items_view l.entries);
 }

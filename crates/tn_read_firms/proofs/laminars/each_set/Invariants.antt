@@ -7,5 +7,5 @@ use Rattle.tn_read_firms.proofs.laminars.each_set.Given as goal
 abbrev pub invariant-loop-item : goal.invariant-loop-item
 invariant-loop-item l = record {
   count : length l.sets.items ≡ l.item-index;
-  rest : each (one_set (record { names = l.names; ends = l.ends }) l.f) (l.sets.items) (items_view (drop l.item-index l.items)) ≡ each (one_set (record { names = l.names; ends = l.ends }) l.f) ([]) (items_view l.items);
+  rest : each (one_set l.head l.f) (l.sets.items) (items_view (drop l.item-index l.items)) ≡ each (one_set l.head l.f) ([]) (items_view l.items);
 }

@@ -8,8 +8,8 @@ use Rattle.tn_read_firms.proofs.rows.read_rows.Given as goal
 
 abbrev pub invariant-loop-row : goal.invariant-loop-row
 invariant-loop-row l = record {
-  sides : l.table.sides ≡ sides_of l.ends l.f;
+  sides : l.table.sides ≡ sides_of l.head.ends l.f;
   places : length l.table.rows ≡ 2 ^ length l.table.sides;
   filled : l.count ≡ filled l.table.rows;
-  rest : each (one_row (record { names = l.names; ends = l.ends }) l.f) (record { count = l.count; table = l.table }) (items_view (drop l.row-index l.rows)) ≡ each (one_row (record { names = l.names; ends = l.ends }) l.f) (record { count = 0; table = without_rows (sides_of l.ends l.f) }) (items_view l.rows);
+  rest : each (one_row l.head l.f) (record { count = l.count; table = l.table }) (items_view (drop l.row-index l.rows)) ≡ each (one_row l.head l.f) (record { count = 0; table = without_rows (sides_of l.head.ends l.f) }) (items_view l.rows);
 }
