@@ -1,6 +1,6 @@
 -- Every document that is read is a network with its names.
-use Rattle.std.proofs.Common.{◌≡◌, ℕ, ◌<◌, ◌^◌, List, [], length, Ok, refl, sym, ap, subst, ◌∙◌, arith}
-use Rattle.std.specs.Prelude.{not}
+use Rattle.std.proofs.Common.{◌≡◌, ℕ, ◌<◌, ◌^◌, List, [], length, Result, Ok, Err, refl, sym, ap, subst, ◌∙◌, arith}
+use Rattle.std.specs.Prelude.{not, IfOk}
 use Rattle.serde_json.specs.Data.{Data, Items}
 use Rattle.serde_json.specs.Events.{items_len}
 use Rattle.tn_base.specs.Firm.{Firm}
@@ -25,6 +25,10 @@ use Rattle.tn_read_claims.proofs.ClaimLeads.{claim_leads}
 use Rattle.tn_read_claims.proofs.KindLeads.{raw_claims_are_told}
 use Rattle.tn_file.specs.Document.{ExtraData, nothing, arrangement, on_alone, outcome, edits, claim, extra_of, content_of, document_of, is_accepted, is_tested, reading_of}
 use Rattle.tn_read_head.specs.Listing.{listed_of}
+use Rattle.tn_read_head.specs.Refused.{Reads}
+use Rattle.tn_read_head.specs.declared.refusal.DocRefusal.{DocRefusal}
+use Rattle.tn_file.specs.Refusal.{document_view}
+use Rattle.tn_file.specs.declared.document.Document.{Document}
 use Rattle.tn_file.specs.Laws.{IsDocument, IsExtra, DocumentsAreNetworks}
 use Rattle.tn_shape.proofs.LeadLemmas.{Leads, leads_ok, leads_bind, leads_after, leads_both}
 use Rattle.tn_read_head.proofs.BesideLemmas.{leads_beside}
@@ -47,11 +51,11 @@ module _ (listed : Listed) (trades : AreTrades listed) (firms : List Firm) (name
   unfolding extra_of
   extra_leads Market top = leads_ok IsRead nothing tt
   extra_leads Raw top = leads_ok IsRead nothing tt
-  extra_leads Arrangement top = leads_bind (IsArrangement (length listed.names.trades)) IsRead (arrangement_of listed.names.trades top) _ (arrangement_leads listed.names.trades top) (λ part is. leads_ok IsRead (arrangement part) (counted (λ n. IsArrangement n part) is))
-  extra_leads RawArrangement top = leads_bind (IsArrangement (length listed.names.trades)) IsRead (arrangement_of listed.names.trades top) _ (arrangement_leads listed.names.trades top) (λ part is. leads_ok IsRead (arrangement part) (counted (λ n. IsArrangement n part) is))
+  extra_leads Arrangement top = leads_bind (IsArrangement (length listed.names.trades)) IsRead (arrangement_of listed top) _ (arrangement_leads listed trades.limits top) (λ part is. leads_ok IsRead (arrangement part) (counted (λ n. IsArrangement n part) is))
+  extra_leads RawArrangement top = leads_bind (IsArrangement (length listed.names.trades)) IsRead (arrangement_of listed top) _ (arrangement_leads listed trades.limits top) (λ part is. leads_ok IsRead (arrangement part) (counted (λ n. IsArrangement n part) is))
   extra_leads On top = leads_bind (λ on. on < 2 ^ length listed.names.trades) IsRead (trades_on_of listed.names.trades top) _ (trades_on_leads listed.names.trades top) (λ on below. leads_ok IsRead (on_alone on) (counted (λ n. on < 2 ^ n) below))
-  extra_leads Outcome top = leads_bind (IsOutcomeWithin (length listed.names.trades)) IsRead (outcome_of listed.names.trades top) _ (outcome_leads listed.names.trades top) (λ signed is. leads_ok IsRead (outcome signed) (counted (λ n. IsOutcomeWithin n signed) is))
-  extra_leads Edits top = leads_bind (AreEdits (length listed.names.trades)) IsRead (edits_of listed.names.trades top) _ (edits_lead listed.names.trades top) (λ changes are. leads_ok IsRead (edits changes) (counted (λ n. AreEdits n changes) are))
+  extra_leads Outcome top = leads_bind (IsOutcomeWithin (length listed.names.trades)) IsRead (outcome_of listed top) _ (outcome_leads listed trades.limits top) (λ signed is. leads_ok IsRead (outcome signed) (counted (λ n. IsOutcomeWithin n signed) is))
+  extra_leads Edits top = leads_bind (AreEdits (length listed.names.trades)) IsRead (edits_of listed top) _ (edits_lead listed trades.limits top) (λ changes are. leads_ok IsRead (edits changes) (counted (λ n. AreEdits n changes) are))
   extra_leads Claim top = leads_bind (IsClaimWithin firms listed.ends) IsRead (claim_of listed top) _ (claim_leads listed trades firms named network top) (λ read is. leads_ok IsRead (claim read) is)
 
 -- whether firms are tested is told before the claim is read
@@ -104,7 +108,7 @@ is_document need top found content listing is =
       firms_named = named;
       trades_named = listing.trades.named;
       few_firms = omega (arith, count, listing.few);
-      few_trades = listing.trades.few;
+      few_trades = omega (arith, listing.trades.few, listing.trades.limits.trades);
       listed = λ f firm at. (is.are f firm at).listed;
       network = network_of tested found.0 listing.trades content.0 is.are named;
       ascending = λ f i j firm at before below. (positions_ascend tested found.0 listing.trades content.0 is.are f i j firm at before below);
@@ -128,3 +132,8 @@ reading_leads need bytes = leads_after (IsDocument need) (with_names no_names (w
 
 pub documents_are_networks : DocumentsAreNetworks
 documents_are_networks need bytes doc e = (reading_leads need bytes).at doc e
+
+-- and so is every document that was returned
+pub networks_from : (need : Need) (bytes : List ℕ) (r : Result Document DocRefusal) → Reads document_view r (reading_of need bytes) → IfOk r (λ doc. IsDocument need (document_view doc))
+networks_from need bytes (Ok doc) reads = documents_are_networks need bytes (document_view doc) reads
+networks_from need bytes (Err refusal) reads = tt

@@ -2,6 +2,7 @@
 use Rattle.std.proofs.Common.{◌≡◌, ℕ, ◌<◌, ◌≤◌, List, [], length, refl, arith}
 use Rattle.serde_json.specs.Data.{Data, Items}
 use Rattle.serde_json.specs.Events.{items_len}
+use Rattle.tn_plain_data.specs.Limits.{most_own_trades}
 use Rattle.tn_plain_data.specs.declared.said.Fault.{Fault}
 use Rattle.tn_read_claims.specs.Claimed.{claim_of}
 use Rattle.tn_read_claims.proofs.ClaimStops.{claim_stops}
@@ -32,7 +33,7 @@ use Rattle.tn_read_parts.proofs.OutcomeStops.{outcome_stops}
 use Rattle.tn_read_parts.proofs.EditStops.{edits_stop}
 use Rattle.tn_read_head.proofs.ListingStops.{AreNames, no_names_are, told_stop, plain_stop, listed_stops}
 
-module _ (listed : Listed) (trades : AreTrades listed) (few : length listed.names.trades ≤ 16384) (few_own : (f : ℕ) → f < length listed.names.firms → length (sides_of listed.ends f) ≤ 32) where
+module _ (listed : Listed) (trades : AreTrades listed) (few : length listed.names.trades ≤ 16384) (few_own : (f : ℕ) → f < length listed.names.firms → length (sides_of listed.ends f) ≤ most_own_trades) where
   abbrev Told : Fault → Type 0
   Told = IsTold listed.names.trades
 
@@ -40,11 +41,11 @@ module _ (listed : Listed) (trades : AreTrades listed) (few : length listed.name
   unfolding extra_of
   extra_stops Market top = stops_ok Told nothing
   extra_stops Raw top = stops_ok Told nothing
-  extra_stops Arrangement top = stops_bind Told (arrangement_of listed.names.trades top) _ (arrangement_stops listed.names.trades few top) (λ part. stops_ok Told (arrangement part))
-  extra_stops RawArrangement top = stops_bind Told (arrangement_of listed.names.trades top) _ (arrangement_stops listed.names.trades few top) (λ part. stops_ok Told (arrangement part))
+  extra_stops Arrangement top = stops_bind Told (arrangement_of listed top) _ (arrangement_stops listed few top) (λ part. stops_ok Told (arrangement part))
+  extra_stops RawArrangement top = stops_bind Told (arrangement_of listed top) _ (arrangement_stops listed few top) (λ part. stops_ok Told (arrangement part))
   extra_stops On top = stops_bind Told (trades_on_of listed.names.trades top) _ (told_from_plain listed.names.trades _ (trades_on_stop listed.names.trades few top)) (λ on. stops_ok Told (on_alone on))
-  extra_stops Outcome top = stops_bind Told (outcome_of listed.names.trades top) _ (told_from_plain listed.names.trades _ (outcome_stops listed.names.trades few top)) (λ signed. stops_ok Told (outcome signed))
-  extra_stops Edits top = stops_bind Told (edits_of listed.names.trades top) _ (told_from_plain listed.names.trades _ (edits_stop listed.names.trades top)) (λ changes. stops_ok Told (edits changes))
+  extra_stops Outcome top = stops_bind Told (outcome_of listed top) _ (told_from_plain listed.names.trades _ (outcome_stops listed few top)) (λ signed. stops_ok Told (outcome signed))
+  extra_stops Edits top = stops_bind Told (edits_of listed top) _ (told_from_plain listed.names.trades _ (edits_stop listed trades.limits top)) (λ changes. stops_ok Told (edits changes))
   extra_stops Claim top = stops_bind Told (claim_of listed top) _ (claim_stops listed trades few few_own top) (λ read. stops_ok Told (claim read))
 
 content_stops : (need : Need) (found : Listed × Items) → IsListing found → (top : Data) → Stops (IsTold found.0.names.trades) (content_of need found.0 found.1 top)
@@ -54,7 +55,7 @@ content_stops need found listing top =
     let tested = is_tested need top in
     stops_after told (λ firms. AreFirms tested found.0 listing.trades firms × (length firms ≡ items_len found.1)) (each (one_firm tested found.0) [] found.1) _
     (leads_both _ _ _ (firms_are tested found.0 listing.trades found.1) (firms_are_counted tested found.0 listing.trades found.1))
-    (firms_stop found.0 listing.trades tested found.1 listing.few) (λ firms are.
+    (firms_stop found.0 listing.trades tested found.1 (omega (arith, listing.few))) (λ firms are.
     let count = are.1 in
     stops_bind told (extra_of need found.0 top) _
     (extra_stops found.0 listing.trades (omega (arith, listing.trade_names.few)) (λ f known. few_own_firm tested found.0 listing.trades firms are.0 f (omega (arith, known, listing.count, count))) need top) (λ extra.

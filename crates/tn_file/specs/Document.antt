@@ -63,23 +63,44 @@ is_accepted Outcome extra = true
 is_accepted Edits extra = true
 is_accepted Claim extra = claims_market extra
 
+-- there is the part that the need names, and no other
+abbrev pub IsPartFor : Need → ExtraData → Type 0
+IsPartFor Market nothing = Unit {0}
+IsPartFor Raw nothing = Unit {0}
+IsPartFor Arrangement (arrangement part) = Unit {0}
+IsPartFor RawArrangement (arrangement part) = Unit {0}
+IsPartFor On (on_alone on) = Unit {0}
+IsPartFor Outcome (outcome signed) = Unit {0}
+IsPartFor Edits (edits listed) = Unit {0}
+IsPartFor Claim (claim read) = Unit {0}
+IsPartFor need extra = ⊥
+
+-- what may be read beside firms as they are listed
+abbrev pub IsBesideRaw : ExtraData → Type 0
+IsBesideRaw nothing = Unit {0}
+IsBesideRaw (arrangement part) = Unit {0}
+IsBesideRaw (on_alone on) = ⊥
+IsBesideRaw (outcome signed) = ⊥
+IsBesideRaw (edits listed) = ⊥
+IsBesideRaw (claim read) = Unit {0}
+
 unfoldable pub extra_of : Need → Listed → Data → Result ExtraData Fault
 extra_of Market listed top = Ok nothing
 extra_of Raw listed top = Ok nothing
 extra_of Arrangement listed top = do
-  arranged ← arrangement_of listed.names.trades top
+  arranged ← arrangement_of listed top
   Ok (arrangement arranged)
 extra_of RawArrangement listed top = do
-  arranged ← arrangement_of listed.names.trades top
+  arranged ← arrangement_of listed top
   Ok (arrangement arranged)
 extra_of On listed top = do
   on ← trades_on_of listed.names.trades top
   Ok (on_alone on)
 extra_of Outcome listed top = do
-  signed ← outcome_of listed.names.trades top
+  signed ← outcome_of listed top
   Ok (outcome signed)
 extra_of Edits listed top = do
-  changes ← edits_of listed.names.trades top
+  changes ← edits_of listed top
   Ok (edits changes)
 extra_of Claim listed top = do
   read ← claim_of listed top
@@ -92,10 +113,11 @@ content_of need listed items top = do
   extra ← extra_of need listed top
   Ok (firms, extra)
 
--- firms, and the ends of the trades in file order
-pub record NetData : Type 0 where
+-- firms, the ends of the trades in file order, and what is read beside them
+pub record ContentData : Type 0 where
   pub firms : List Firm
   pub ends : List Ends
+  pub extra : ExtraData
 
 -- what a document stands for
 pub record DocumentData : Type 0 where
@@ -105,11 +127,16 @@ pub record DocumentData : Type 0 where
   pub ends : List Ends
   pub extra : ExtraData
 
+-- the document with this head, and this list of firms
+abbrev pub document_in : Need → Listed → Items → Data → Result DocumentData Stop
+document_in need listed items top = do
+  content ← with_names listed.names (content_of need listed items top)
+  Ok (record { names = listed.names; firms = content.0; ends = listed.ends; extra = content.1 })
+
 unfoldable pub document_of : Need → Data → Result DocumentData Stop
 document_of need top = do
   network ← listed_of top
-  content ← with_names network.0.names (content_of need network.0 network.1 top)
-  Ok (record { names = network.0.names; firms = content.0; ends = network.0.ends; extra = content.1 })
+  document_in need network.0 network.1 top
 
 -- the reading of bytes
 unfoldable pub reading_of : Need → List ℕ → Result DocumentData Stop

@@ -4,6 +4,7 @@ use Rattle.tn_base.specs.declared.fault.FaultKind.TheVariants.{TooLong}
 use Rattle.tn_base.specs.Firm.{Firm, HasOwnBundles, MayAbstain}
 use Rattle.tn_market.specs.Accepted.{AreAccepted}
 use Rattle.tn_plain_data.specs.ClaimLimits.{IsClaimWithin}
+use Rattle.tn_plain_data.specs.Limits.{most_listed}
 use Rattle.tn_plain_data.specs.OutcomeLimits.{IsOutcomeWithin}
 use Rattle.tn_plain_data.specs.declared.ends.Ends.{Ends}
 use Rattle.tn_plain_data.specs.Network.{IsNetwork, HaveAscendingPositions}
@@ -29,8 +30,8 @@ pub record IsDocument (need : Need) (doc : DocumentData) : Type 0 where
   pub trade_names : IsNameList doc.names.trades
   pub firms_named : length doc.names.firms ≡ length doc.firms
   pub trades_named : length doc.names.trades ≡ length doc.ends
-  pub few_firms : length doc.firms ≤ 128
-  pub few_trades : length doc.ends ≤ 128
+  pub few_firms : length doc.firms ≤ most_listed
+  pub few_trades : length doc.ends ≤ most_listed
   pub listed : (f : ℕ) (firm : Firm) → slice_get doc.firms f ≡ Some firm → IsListedFirm doc.ends f firm
   -- each trade has two different firms of the list, and firms and trades fit together
   pub network : IsNetwork doc.firms doc.ends

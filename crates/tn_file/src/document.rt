@@ -1,9 +1,9 @@
-use crate::extra::Extra;
+use crate::extra::{Extra, RawExtra};
 use std::alloc::Global;
 use std::marker::Model;
 use tn_base::{Bundle, OutOfMemory};
 use tn_firm::{FirmValue, RawFirm};
-use tn_market::{Ends, Fault, Market, Trades};
+use tn_market::{Ends, Market, Trades};
 use tn_names::Names;
 use tn_plain_data::trades_of;
 use tn_read_firms::own_option;
@@ -13,22 +13,20 @@ use tn_read_firms::own_option;
 pub struct Document {
     /// The names of the firms and of the trades.
     pub names: Names,
-    /// The firms and the ends of the trades.
-    pub firms: Loaded,
-    /// The part that is needed beside the network.
-    pub extra: Extra,
+    /// The network, and what is needed beside it.
+    pub content: Content,
 }
 
-/// The network of a document.
+/// The network of a document, with what is needed beside it.
 #[derive(Drop)]
-pub enum Loaded {
+pub enum Content {
     /// Firms that meet exchange, and the trades between them.
-    Market(Market<FirmValue>),
+    Market(Market<FirmValue>, Extra),
     /// Firms as they are listed.
-    Raw(RawNet),
+    Raw(RawNet, RawExtra),
 }
 
-/// Firms as they are listed, and the two ends of each trade.
+/// Firms as they are listed, each of which can be tested, and the two ends of each trade.
 #[derive(Debug, Drop)]
 pub struct RawNet {
     firms: Vec<RawFirm>,
@@ -36,26 +34,34 @@ pub struct RawNet {
 }
 
 impl Model for RawNet {
+    ghost use Rattle.std.specs.Prelude.{All};
     ghost use Rattle.tn_file.specs.RawData.{RawData};
+    ghost use Rattle.tn_firm.specs.Raw.{CanBeTested};
 
     ghost Value = { RawData };
 
     ghost view = { λ net. record { firms = net.firms.items; ends = net.ends.items } };
+
+    ghost invariant = { λ net. All CanBeTested net.firms.items };
 }
 
 impl RawNet {
-    ghost use Rattle.std.specs.Prelude.{◌≡◌, ◌≤◌, length, option_map, IfOk};
+    ghost use Rattle.std.specs.Prelude.{◌≡◌, ◌≤◌, length, option_map, All, IfOk};
+    ghost use Rattle.tn_firm.specs.Raw.{CanBeTested};
+    ghost use Rattle.tn_plain_data.specs.Limits.{most_trades};
     ghost use Rattle.tn_plain_data.specs.Network.{own, trades_of};
 
     pub(crate) fn new(firms: Vec<RawFirm>, ends: Vec<Ends>) -> RawNet
+        requires { All CanBeTested firms.items }
         ensures { result ≡ record { firms = firms.items; ends = ends.items } }
     {
         RawNet { firms, ends }
     }
 
-    /// The firms.
+    /// The firms, each of which can be tested.
     pub fn firms(&self) -> &[RawFirm]
-        ensures { result.now ≡ self.now.firms }
+        ensures is { result.now ≡ self.now.firms }
+        ensures testable { All CanBeTested self.now.firms }
     {
         &self.firms
     }
@@ -67,7 +73,7 @@ impl RawNet {
         &self.ends
     }
 
-    /// The trades of firm `f`, which has `count` own trades, in a bundle, ascending.
+    /// The trades of firm `f`, which has `count` own trades, in a bundle, ascending. There are at most 1,024 trades.
     pub fn trades_in(
         &self,
         alloc: Global,
@@ -75,32 +81,18 @@ impl RawNet {
         count: u32,
         bundle: Bundle,
     ) -> Result<Trades, OutOfMemory>
-        requires few { length self.now.ends ≤ 128 }
+        requires few { length self.now.ends ≤ most_trades }
         requires count { count ≤ 64 }
         ensures { IfOk result (λ trades. trades ≡ trades_of self.now.ends f count bundle) }
     {
         Ok(Trades::from_vec(trades_of(alloc, &self.ends, f, count, bundle)?))
     }
 
-    /// The trade at a position of firm `f`, where there is one.
+    /// The trade at a position of firm `f`, where there is one. There are at most 1,024 trades.
     pub fn trade_at(&self, f: u32, at: Option<u32>) -> Option<u32>
-        requires { length self.now.ends ≤ 128 }
+        requires { length self.now.ends ≤ most_trades }
         ensures { result ≡ option_map (own self.now.ends f) at }
     {
         own_option(&self.ends, f, at)
     }
-}
-
-/// Why no document is read.
-#[derive(Drop)]
-pub enum DocRefusal {
-    /// It has a fault.
-    Fault {
-        /// The first fault.
-        fault: Fault,
-        /// The names that were read until then.
-        names: Names,
-    },
-    /// Memory ran out.
-    OutOfMemory,
 }

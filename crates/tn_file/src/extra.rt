@@ -1,22 +1,22 @@
-ghost use Rattle.std.specs.Prelude.{ℕ, ◌<◌, ◌≤◌, length, IfOk};
+ghost use Rattle.std.specs.Prelude.{◌≡◌, ℕ, ◌<◌, ◌≤◌, length, IfOk};
 ghost use Rattle.serde_json.specs.View.{view};
+ghost use Rattle.tn_plain_data.specs.Limits.{most_own_trades};
 ghost use Rattle.tn_shape.specs.Reading.{Gives};
-ghost use Rattle.tn_read_references.specs.Ordered.{AreTrades, Listed, sides_of};
-ghost use Rattle.tn_file.specs.Document.{extra_of};
-ghost use Rattle.tn_file.specs.Extra.{extra_view};
-ghost use Rattle.tn_file.specs.Refusal.{IsExtraFor};
+ghost use Rattle.tn_read_references.specs.Ordered.{sides_of};
+ghost use Rattle.tn_file.specs.Document.{IsBesideRaw, IsPartFor, extra_of};
+ghost use Rattle.tn_file.specs.Extra.{extra_view, raw_extra_view};
 
 use crate::need::Need;
 use serde_json::Value;
 use std::alloc::Global;
 use tn_base::TradeSet;
-use tn_market::{Arrangement, Claim, Edits, Ends, Outcome};
-use tn_names::Names;
+use tn_market::{Arrangement, Claim, Edits, Outcome};
 use tn_read_claims::read_claim;
 use tn_read_parts::{read_arrangement, read_edits, read_outcome, read_trades_on};
+use tn_read_references::Head;
 use tn_shape::ReadError;
 
-/// What is read beside the network.
+/// What is read beside a network whose firms meet exchange.
 #[derive(Debug, Drop)]
 pub enum Extra {
     /// Nothing.
@@ -33,42 +33,64 @@ pub enum Extra {
     Claim(Claim),
 }
 
-/// The part that is needed beside the network.
+/// What is read beside a network of firms as they are listed.
+#[derive(Debug, Drop)]
+pub enum RawExtra {
+    /// Nothing.
+    None,
+    /// The arrangement.
+    Arrangement(Arrangement<2>),
+    /// The claim, which is one on exchange.
+    Claim(Claim),
+}
+
+/// What is needed beside the network.
 #[tactic(auto, unfolding(crate::specs::Document::extra_of))]
 pub(crate) fn read_extra(
     alloc: Global,
     need: Need,
-    names: &Names,
-    ends: &[Ends],
+    head: &Head,
     top: &Value,
 ) -> Result<Extra, ReadError>
-    requires trades { AreTrades (record { names = names.now; ends = ends.now }) }
-    requires few { (f : ℕ) → f < length names.now.firms → length (sides_of ends.now f) ≤ 32 }
-    ensures gives { Gives extra_view result
-        (extra_of need (record { names = names.now; ends = ends.now }) (view top.now)) }
-    ensures extra { IfOk result (IsExtraFor need) }
+    requires { (f : ℕ) → f < length head.now.names.firms → length (sides_of head.now.ends f) ≤ most_own_trades }
+    ensures gives { Gives extra_view result (extra_of need head.now (view top.now)) }
+    ensures part { IfOk result (λ extra. IsPartFor need (extra_view extra)) }
 {
     match need {
         Need::Market | Need::Raw => Ok(Extra::None),
         Need::Arrangement | Need::RawArrangement => {
-            let arrangement = read_arrangement(alloc, names, top)?;
+            let arrangement = read_arrangement(alloc, head, top)?;
             Ok(Extra::Arrangement(arrangement))
         }
         Need::On => {
-            let on = read_trades_on(alloc, names, top)?;
+            let on = read_trades_on(alloc, head, top)?;
             Ok(Extra::On(on))
         }
         Need::Outcome => {
-            let outcome = read_outcome(alloc, names, top)?;
+            let outcome = read_outcome(alloc, head, top)?;
             Ok(Extra::Outcome(outcome))
         }
         Need::Edits => {
-            let edits = read_edits(alloc, names, top)?;
+            let edits = read_edits(alloc, head, top)?;
             Ok(Extra::Edits(edits))
         }
         Need::Claim => {
-            let claim = read_claim(alloc, names, ends, top)?;
+            let claim = read_claim(alloc, head, top)?;
             Ok(Extra::Claim(claim))
         }
+    }
+}
+
+/// The same, beside firms as they are listed.
+pub(crate) fn beside_raw(extra: Extra) -> RawExtra
+    requires { IsBesideRaw (extra_view extra) }
+    ensures { raw_extra_view result ≡ extra_view extra }
+{
+    match extra {
+        Extra::None => RawExtra::None,
+        Extra::Arrangement(at) => RawExtra::Arrangement(at),
+        Extra::Claim(claim) => RawExtra::Claim(claim),
+        // What needs one of these reads firms that meet exchange.
+        Extra::On(_) | Extra::Outcome(_) | Extra::Edits(_) => unreachable!(),
     }
 }

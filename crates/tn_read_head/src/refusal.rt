@@ -1,4 +1,5 @@
 ghost use Rattle.std.specs.Prelude.{◌≡◌};
+ghost use Rattle.tn_read_head.specs.declared.refusal.DocRefusal.TheVariants.{OutOfMemory};
 ghost use Rattle.tn_read_head.specs.Refused.{refusal_of};
 
 use tn_names::Names;
@@ -28,5 +29,13 @@ impl DocRefusal {
             ReadError::Fault(fault) => DocRefusal::Fault { fault, names },
             ReadError::OutOfMemory => DocRefusal::OutOfMemory,
         }
+    }
+}
+
+impl From<tn_base::OutOfMemory> for DocRefusal {
+    ghost from_gives = { λ _ refusal. refusal ≡ OutOfMemory };
+
+    fn from(_error: tn_base::OutOfMemory) -> DocRefusal {
+        DocRefusal::OutOfMemory
     }
 }

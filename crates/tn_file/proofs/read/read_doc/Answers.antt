@@ -1,5 +1,5 @@
-use Rattle.tn_file.proofs.DocumentLeads.{documents_are_networks}
+use Rattle.tn_file.proofs.DocumentLeads.{networks_from}
 use Rattle.tn_file.proofs.read.read_doc.Goals as goal
 
-pub returns-in-Ok-clause-network : goal.returns-in-Ok-clause-network
-returns-in-Ok-clause-network c = documents_are_networks c.args.need c.args.bytes.now _ c.in-Ok.ensures.gives
+pub returns-clause-network : goal.returns-clause-network
+returns-clause-network c = networks_from c.args.need c.args.bytes.now c.read_bytes.result c.read_bytes.ensures.exact
