@@ -217,42 +217,32 @@ fn answer_document(alloc: Global, command: Command, doc: &Document) -> Result<Sa
     }
 }
 
-/// The answer of a command on a document that was read, over its names.
-fn answer_read(
-    alloc: Global,
-    command: Command,
-    doc: Document,
-    names: &mut Names,
-) -> Result<Said, OutOfMemory>
+/// The answer of a command on a document that was read, with its names.
+fn answer_read(alloc: Global, command: Command, doc: Document) -> Result<(Said, Names), OutOfMemory>
     requires document { IsDocument (need_of command) (document_view doc) }
     requires loaded { IsLoadedFor (need_of command) doc.extra doc.firms }
     requires extra { IsExtraFor (need_of command) doc.extra }
-    ensures answer { IfOk result (IsAnswerOf command (document_view doc)) }
-    ensures names { names.new ≡ (document_view doc).names }
-    ensures within { IfOk result IsWithinClaims }
+    ensures answer { IfOk result (λ told. IsAnswerOf command (document_view doc) told.0) }
+    ensures names { IfOk result (λ told. told.1 ≡ (document_view doc).names) }
+    ensures within { IfOk result (λ told. IsWithinClaims told.0) }
 {
-    let said = answer_document(alloc, command, &doc);
-    *names = doc.names;
-    said
+    let said = answer_document(alloc, command, &doc)?;
+    Ok((said, doc.names))
 }
 
-/// The answer of a command to the bytes of a document, over the names that are read.
+/// The answer of a command to the bytes of a document, with the names that were read. It fails only where memory runs out.
 pub fn answer_bytes(
     alloc: Global,
     command: Command,
     bytes: &[u8],
-    names: &mut Names,
-) -> Result<Said, OutOfMemory>
-    ensures answer { IfOk result (IsAnswerTo command (reading_of (need_of command) bytes.now) names.new) }
-    ensures kept { IfOk result (KeepsRules names.new) }
-    ensures within { IfOk result IsWithinClaims }
+) -> Result<(Said, Names), OutOfMemory>
+    ensures answer { IfOk result (λ told. IsAnswerTo command (reading_of (need_of command) bytes.now) told.1 told.0) }
+    ensures kept { IfOk result (λ told. KeepsRules told.1 told.0) }
+    ensures within { IfOk result (λ told. IsWithinClaims told.0) }
 {
     match read_doc(alloc, need_of(command), bytes) {
-        Ok(doc) => answer_read(alloc, command, doc, names),
-        Err(DocRefusal::Fault { fault, names: read }) => {
-            *names = read;
-            Ok(Said::Fault(fault))
-        }
+        Ok(doc) => answer_read(alloc, command, doc),
+        Err(DocRefusal::Fault { fault, names }) => Ok((Said::Fault(fault), names)),
         Err(DocRefusal::OutOfMemory) => Err(OutOfMemory),
     }
 }
@@ -268,24 +258,19 @@ fn too_long(alloc: Global) -> Said
     })
 }
 
-/// The answer of a command to what a source gives, over the names that are read.
-pub fn answer_source<S: Source>(
-    alloc: Global,
-    command: Command,
-    source: &mut S,
-    names: &mut Names,
-) -> Said
-    ensures answer { MayBeSaid command (S.left source.old) (S.left source.new) (S.faults source.old) (S.faults source.new) names.new result }
-    ensures within { IsWithinClaims result }
+/// The answer of a command to what a source gives, with the names that were read.
+pub fn answer_source<S: Source>(alloc: Global, command: Command, source: &mut S) -> (Said, Names)
+    ensures answer { MayBeSaid command (S.left source.old) (S.left source.new) (S.faults source.old) (S.faults source.new) result.1 result.0 }
+    ensures within { IsWithinClaims result.0 }
     ensures later { S.faults source.old ≤ S.faults source.new }
 {
     match read_all(alloc, source, DOCUMENT_LIMIT) {
-        Ok(bytes) => match answer_bytes(alloc, command, &bytes, names) {
-            Ok(said) => said,
-            Err(OutOfMemory) => Said::NoMemory,
+        Ok(bytes) => match answer_bytes(alloc, command, &bytes) {
+            Ok(told) => told,
+            Err(OutOfMemory) => (Said::NoMemory, Names::empty(alloc)),
         },
-        Err(ReadStop::Failed) => Said::ReadFault,
-        Err(ReadStop::TooLong) => too_long(alloc),
-        Err(ReadStop::OutOfMemory) => Said::NoMemory,
+        Err(ReadStop::Failed) => (Said::ReadFault, Names::empty(alloc)),
+        Err(ReadStop::TooLong) => (too_long(alloc), Names::empty(alloc)),
+        Err(ReadStop::OutOfMemory) => (Said::NoMemory, Names::empty(alloc)),
     }
 }

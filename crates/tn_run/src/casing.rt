@@ -18,14 +18,14 @@ use tn_base::OutOfMemory;
 use tn_cases::{Case, CaseBook, book};
 use tn_market::{Numbers, Said};
 
-/// The answer to a case's command on its document, over the names that are read.
-fn answer_case(alloc: Global, case: &Case, names: &mut Names) -> Result<Said, OutOfMemory>
-    ensures answer { IfOk result (IsCaseAnswer (case_command case.now.command.now) case.now.document.now names.new) }
-    ensures within { IfOk result IsWithinClaims }
+/// The answer to a case's command on its document, with the names that were read.
+fn answer_case(alloc: Global, case: &Case) -> Result<(Said, Names), OutOfMemory>
+    ensures answer { IfOk result (λ told. IsCaseAnswer (case_command case.now.command.now) case.now.document.now told.1 told.0) }
+    ensures within { IfOk result (λ told. IsWithinClaims told.0) }
 {
     match case_command(case.command) {
-        None => Ok(Said::Usage),
-        Some(command) => answer_bytes(alloc, command, case.document.as_bytes(), names),
+        None => Ok((Said::Usage, Names::empty(alloc))),
+        Some(command) => answer_bytes(alloc, command, case.document.as_bytes()),
     }
 }
 
@@ -53,8 +53,7 @@ fn passes<const N: usize>(alloc: Global, book: &CaseBook<N>, k: usize) -> Result
     requires inside { k < N }
     ensures { IfOk result (λ passes. IfSome (slice_get book.now k) (IsPassed passes)) }
 {
-    let mut names = Names::empty(alloc);
-    let said = answer_case(alloc, book.case(k), &mut names)?;
+    let (said, names) = answer_case(alloc, book.case(k))?;
     is_told(alloc, book, k, &names, &said)
 }
 

@@ -150,23 +150,25 @@ fn run_with<S: Source, K: Sink>(
     words: &[String],
     source: &mut S,
     sink: &mut K,
-    names: &mut Names,
-) -> Run
+) -> (Run, Names)
     ensures usage { command_of (map string_bytes words.now) ≡ None → drill_of (map string_bytes words.now) ≡ None → asks_for_cases (map string_bytes words.now) ≡ false → page_of (map string_bytes words.now) ≡ None
-        → (result.said ≡ Said.Usage) × (source.new ≡ source.old) }
-    ensures page { (page : Page) → page_of (map string_bytes words.now) ≡ Some page → (source.new ≡ source.old) × (result.said ≡ Said.Page page) }
-    ensures cases { asks_for_cases (map string_bytes words.now) ≡ true → (source.new ≡ source.old) × MayBeCases result.said }
-    ensures drill { (size start : ℕ) → drill_of (map string_bytes words.now) ≡ Some (size, start) → (source.new ≡ source.old) × MayBeDrilled size start result.said }
+        → (result.0.said ≡ Said.Usage) × (source.new ≡ source.old) }
+    ensures page { (page : Page) → page_of (map string_bytes words.now) ≡ Some page → (source.new ≡ source.old) × (result.0.said ≡ Said.Page page) }
+    ensures cases { asks_for_cases (map string_bytes words.now) ≡ true → (source.new ≡ source.old) × MayBeCases result.0.said }
+    ensures drill { (size start : ℕ) → drill_of (map string_bytes words.now) ≡ Some (size, start) → (source.new ≡ source.old) × MayBeDrilled size start result.0.said }
     ensures answer { (command : Command) → command_of (map string_bytes words.now) ≡ Some command
-        → MayBeSaid command (S.left source.old) (S.left source.new) (S.faults source.old) (S.faults source.new) names.new result.said }
-    ensures within { IsWithinClaims result.said }
-    ensures written { IsWritten (K.written sink.old) (K.written sink.new) (K.faults sink.old) (K.faults sink.new) names.new result.said result.status }
+        → MayBeSaid command (S.left source.old) (S.left source.new) (S.faults source.old) (S.faults source.new) result.1 result.0.said }
+    ensures within { IsWithinClaims result.0.said }
+    ensures written { IsWritten (K.written sink.old) (K.written sink.new) (K.faults sink.old) (K.faults sink.new) result.1 result.0.said result.0.status }
 {
     match command_of(words) {
-        None => run_without_reading(alloc, words, sink, names),
+        None => {
+            let names = Names::empty(alloc);
+            (run_without_reading(alloc, words, sink, &names), names)
+        }
         Some(command) => {
-            let said = answer_source(alloc, command, source, names);
-            tell(alloc, names, said, sink)
+            let (said, names) = answer_source(alloc, command, source);
+            (tell(alloc, &names, said, sink), names)
         }
     }
 }
@@ -200,8 +202,8 @@ pub fn run_market<S: Source, K: Sink>(
         → IsHeadline command (S.left source.old) (S.left source.new) (S.faults source.old) (S.faults source.new) result.said }
     ensures within { IsWithinClaims result.said }
 {
-    let mut names = Names::empty(alloc);
-    run_with(alloc, words, source, sink, &mut names)
+    let (run, _names) = run_with(alloc, words, source, sink);
+    run
 }
 
 /// The run over ends in memory that never fail: it ends by neither a failed read nor a failed write.

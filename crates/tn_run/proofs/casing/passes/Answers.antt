@@ -5,5 +5,5 @@ use Rattle.tn_run.proofs.casing.passes.Goals as goal
 
 pub returns : goal.returns
 returns g c =
-    run_decides (slice_get c.args.book.now c.args.k) (case_data c.case.result.now) c.answer_case.new.names c.in_ok-said.said c.is_told.result
+    run_decides (slice_get c.args.book.now c.args.k) (case_data c.case.result.now) c.in_ok-said.names c.in_ok-said.said c.is_told.result
     c.case.ensures.case c.in_ok-said.ensures.answer c.is_told.ensures

@@ -7,6 +7,6 @@ use Rattle.tn_run.proofs.top.run_with.Goals as goal
 
 pub returns-in-Some-clause-answer : goal.returns-in-Some-clause-answer
 returns-in-Some-clause-answer g c = λ command is.
-    may_run_out command _ _ _ _ _ c.answer_source-said.result c.tell.result.said
-    (subst (λ (asked : Command). MayBeSaid asked (g.S.Source.left c.args.source.now) (g.S.Source.left c.answer_source-said.new.source) (g.S.Source.faults c.args.source.now) (g.S.Source.faults c.answer_source-said.new.source) c.answer_source-said.new.names c.answer_source-said.result)
+    may_run_out command _ _ _ _ _ c.answer_source-said.result.0 c.tell.result.said
+    (subst (λ (asked : Command). MayBeSaid asked (g.S.Source.left c.args.source.now) (g.S.Source.left c.answer_source-said.new.source) (g.S.Source.faults c.args.source.now) (g.S.Source.faults c.answer_source-said.new.source) c.answer_source-said.result.1 c.answer_source-said.result.0)
     (same_Some c.in-Some.command command (sym c.in-Some.is ∙ c.command_of.ensures ∙ is)) c.answer_source-said.ensures.answer) c.tell.ensures.said
