@@ -1,6 +1,6 @@
 -- What the arrangement is that reading gives.
 use Rattle.std.proofs.Common.{ℕ, List, [], ◌∷◌, length, Some}
-use Rattle.std.specs.Prelude.{codes, get_or}
+use Rattle.std.specs.Prelude.{codes}
 use Rattle.serde_json.specs.Data.{Data}
 use Rattle.serde_json.specs.Find.{get}
 use Rattle.tn_base.specs.declared.fault.FaultKind.TheVariants.{Shape}
@@ -11,11 +11,10 @@ use Rattle.tn_shape.specs.declared.members.ObjectKind.TheVariants.{Arrangement a
 use Rattle.tn_shape.specs.Reading.{each, wanted}
 use Rattle.tn_shape.specs.Shapes.{list_at, object_of}
 use Rattle.tn_shape.proofs.LeadLemmas.{Leads, leads_ok, leads_bind, leads_after}
-use Rattle.tn_read_references.proofs.EntryLeads.{AreNumbers}
+use Rattle.tn_read_references.proofs.EntryLeads.{AreNumbers, all_within}
 use Rattle.tn_read_references.specs.Ordered.{Listed}
 use Rattle.tn_read_parts.specs.Lists.{one_on, prices_of}
 use Rattle.tn_read_parts.specs.Arranged.{on_place, prices_place, on_of, trades_on_of, arrangement_of, IsArrangement}
-use Rattle.tn_read_parts.proofs.LimitLemmas.{at_most_more}
 use Rattle.tn_read_parts.proofs.ListLeads.{IsSetOf, set_leads, prices_lead}
 
 module _ (trades : List (List ℕ)) where
@@ -45,4 +44,4 @@ arrangement_leads listed limits top =
     leads_bind (HasSet trades) (IsArrangement (length trades)) (on_of trades top) _ (on_leads trades top) (λ part below.
     leads_after (IsArrangement (length trades)) (list_at prices_place (get (codes "prices") part.0)) _ (λ entries.
     leads_bind (AreNumbers (length trades) limit) (IsArrangement (length trades)) (prices_of trades prices_place limit entries) _ (prices_lead trades prices_place limit entries) (λ prices are.
-    leads_ok (IsArrangement (length trades)) (record { on = part.1; prices = prices }) (record { on = below; count = are.count; small = λ k d inside. at_most_more limit most_price (get_or prices k d) limits.price (are.small k d inside) }))))
+    leads_ok (IsArrangement (length trades)) (record { on = part.1; prices = prices }) (record { on = below; count = are.count; small = all_within limit most_price prices limits.price are.small }))))

@@ -1,5 +1,4 @@
 pub mod PriceLemmas
-pub mod LimitLemmas
 pub mod ListLeads
 pub mod ListStops
 pub mod ArrangementLeads

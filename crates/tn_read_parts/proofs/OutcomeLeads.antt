@@ -17,10 +17,9 @@ use Rattle.tn_shape.specs.Reading.{wanted, holds}
 use Rattle.tn_shape.specs.Shapes.{list_at, object_of, whole_at}
 use Rattle.tn_shape.proofs.LeadLemmas.{Leads, leads_ok, leads_bind, leads_after, leads_holds}
 use Rattle.tn_read_references.specs.Ordered.{Listed}
-use Rattle.tn_read_references.proofs.EntryLeads.{AreNumbers}
+use Rattle.tn_read_references.proofs.EntryLeads.{AreNumbers, within_more}
 use Rattle.tn_read_parts.specs.Lists.{named_prices, contracts_at}
 use Rattle.tn_read_parts.specs.Signed.{outcome_place, over_place, contracts_place, over_at, outcome_of}
-use Rattle.tn_read_parts.proofs.LimitLemmas.{at_most_more}
 use Rattle.tn_read_parts.proofs.ListLeads.{named_lead}
 
 -- a denominator from 1 to the limit
@@ -64,6 +63,6 @@ outcome_leads listed limits top =
       contracts = record {
         known = are.known;
         ascending = are.ascending;
-        small = λ k d inside. at_most_more limit most_numerator (get_or contracts k d).price limits.numerator (are.small k d inside);
+        small = λ k d inside. within_more (get_or contracts k d).price limit most_numerator limits.numerator (are.small k d inside);
       };
     }))))))
