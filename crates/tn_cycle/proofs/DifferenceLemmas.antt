@@ -1,10 +1,12 @@
 -- How far labels are apart.
-use Rattle.std.proofs.Common.{◌≡◌, ℕ, ◌+◌, ◌-◌, ◌*◌, ◌<◌, arith, ℤ, pos, neg_ℤ, ◌-ℤ◌, List, Option, ◌≤◌, sym, ◌∙◌, ◌^◌, length}
+use Rattle.std.proofs.Common.{◌≡◌, ℕ, ◌+◌, ◌-◌, ◌*◌, ◌<◌, arith, ℤ, pos, neg_ℤ, ◌-ℤ◌, List, Option, ◌≤◌, sym, ◌∙◌, length}
 use Rattle.std.specs.Prelude.{◌≤ℤ◌}
 use Rattle.std.proofs.lemmas.Int.{ints}
 use Rattle.tn_base.specs.Arcs.{IsAtMost, AreSmall}
+use Rattle.tn_base.specs.Widths.{most_cost}
 use Rattle.tn_base.proofs.WalkLemmas.{SameArcs}
 use Rattle.tn_cycle.specs.Answers.{AreLabels, label_in}
+use Rattle.tn_cycle.specs.Widths.{most_graph_nodes, most_read}
 
 -- labels are within the bound of a path
 pub label_within : (nodes : ℕ) (arc : ℕ → ℕ → Option ℤ) (labels : List ℤ) → AreLabels nodes arc labels → (limit v : ℕ) → AreSmall arc limit → v < nodes
@@ -32,12 +34,12 @@ labels-same nodes one other labels same are = record {
 }
 
 -- labels of a graph of small costs are small
-pub label_small : (nodes : ℕ) (arc : ℕ → ℕ → Option ℤ) (labels : List ℤ) → AreLabels nodes arc labels → AreSmall arc (10 ^ 18) → nodes ≤ 1025 → (v : ℕ) → v < length labels
-    → IsAtMost (label_in labels v) (2 ^ 100)
+pub label_small : (nodes : ℕ) (arc : ℕ → ℕ → Option ℤ) (labels : List ℤ) → AreLabels nodes arc labels → AreSmall arc most_cost → nodes ≤ most_graph_nodes → (v : ℕ) → v < length labels
+    → IsAtMost (label_in labels v) most_read
 label_small nodes arc labels are small few v below =
     let sized = are.one_each in
-    let within = label_within nodes arc labels are (10 ^ 18) v small (omega (arith, sized, below)) in
+    let within = label_within nodes arc labels are most_cost v small (omega (arith, sized, below)) in
     by nodes (label_in labels v) few within.0 within.1
   where
-    by : (n : ℕ) (a : ℤ) → n ≤ 1025 → neg_ℤ (pos ((n - 1) * 10 ^ 18)) ≤ℤ a → a ≤ℤ pos 0 → IsAtMost a (2 ^ 100)
+    by : (n : ℕ) (a : ℤ) → n ≤ most_graph_nodes → neg_ℤ (pos ((n - 1) * most_cost)) ≤ℤ a → a ≤ℤ pos 0 → IsAtMost a most_read
     by n a few low high = record { low = omega (arith, ints, few, low, high); high = omega (arith, ints, few, low, high) }

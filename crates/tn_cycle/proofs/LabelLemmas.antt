@@ -1,5 +1,5 @@
 -- The labels: what is left of the lowest cost after a node's least walk to the sink.
-use Rattle.std.proofs.Common.{◌≡◌, ◌≢◌, ℕ, ◌+◌, ◌-◌, ◌*◌, ◌^◌, ◌<◌, ◌≤◌, refl, sym, ap, ◌∙◌, subst, arith, List, [], ◌∷◌, length, ℤ, pos, neg_ℤ, ◌+ℤ◌, ◌-ℤ◌, ◌≤ℤ◌, Option, Some, None, Bool, ◌==◌, if◌then◌else◌, nat_lt}
+use Rattle.std.proofs.Common.{◌≡◌, ◌≢◌, ℕ, ◌+◌, ◌-◌, ◌*◌, ◌<◌, ◌≤◌, refl, sym, ap, ◌∙◌, subst, arith, List, [], ◌∷◌, length, ℤ, pos, neg_ℤ, ◌+ℤ◌, ◌-ℤ◌, ◌≤ℤ◌, Option, Some, None, Bool, ◌==◌, if◌then◌else◌, nat_lt}
 use Rattle.std.specs.Prelude.{All, unwrap_or}
 use Rattle.std.proofs.lemmas.Int.{ints}
 use Rattle.std.proofs.Math.Nat.{mul-le-mul_right}
@@ -9,9 +9,11 @@ use Rattle.std.proofs.lemmas.List.Elements.{All-nil, All-cons}
 use Rattle.tn_base.specs.Arcs.{AreBetweenNodes, AreSmall, IsAtMost}
 use Rattle.tn_base.specs.Options.{both}
 use Rattle.tn_base.specs.Walks.{walk_cost, Avoids, HasNoNegativeCycle, KeepsArcs}
+use Rattle.tn_base.specs.Widths.{most_cost}
 use Rattle.tn_cycle.specs.declared.cell.Cell.{Cell}
 use Rattle.tn_cycle.specs.Order.{IsUpTo}
 use Rattle.tn_cycle.specs.Cells.{HasRoom, trail}
+use Rattle.tn_cycle.specs.Widths.{most_graph_nodes, most_walk_cost}
 use Rattle.tn_cycle.specs.Graphs.{with_sink}
 use Rattle.tn_cycle.specs.GraphLemmas.{small-with_sink, some_if, between-with_sink}
 use Rattle.tn_cycle.specs.Searched.{IsSettled}
@@ -39,10 +41,10 @@ none_negative_kept arc label keeps u vs cost walk =
     let round : label u ≤ℤ (label u +ℤ cost) = walk_kept arc label keeps u vs u cost walk in omega (arith, ints, round)
 
 -- the costs of settled cells are far from the limits of their type
-settled_room : (nodes : ℕ) (arc : ℕ → ℕ → Option ℤ) (end : ℕ) (cell : ℕ → Cell) → AreSmall arc (10 ^ 18) → nodes ≤ 1026 → IsSettled nodes arc end cell
+settled_room : (nodes : ℕ) (arc : ℕ → ℕ → Option ℤ) (end : ℕ) (cell : ℕ → Cell) → AreSmall arc most_cost → nodes ≤ most_graph_nodes + 1 → IsSettled nodes arc end cell
     → HasRoom nodes cell
 settled_room nodes arc end cell small few found v inside cost is =
-    let whole = walk_small arc (10 ^ 18) small v (trail cell (cell v).round v) end cost (found.leads v inside ∙ is) in
+    let whole = walk_small arc most_cost small v (trail cell (cell v).round v) end cost (found.leads v inside ∙ is) in
     let size : length (trail cell (cell v).round v) ≡ (cell v).round = length-trail cell (cell v).round v in
     let short : (cell v).round < nodes = found.few v inside in
     record {
@@ -51,11 +53,11 @@ settled_room nodes arc end cell small few found v inside cost is =
     }
 
 -- what a search to the sink found, however the sink is written, and the room that its costs leave
-pub sunk_at : (nodes sink : ℕ) (arc : ℕ → ℕ → Option ℤ) (cell : ℕ → Cell) → AreSmall arc (10 ^ 18) → nodes ≤ 1025 → sink ≡ nodes
+pub sunk_at : (nodes sink : ℕ) (arc : ℕ → ℕ → Option ℤ) (cell : ℕ → Cell) → AreSmall arc most_cost → nodes ≤ most_graph_nodes → sink ≡ nodes
     → IsSettled (nodes + 1) (with_sink nodes arc) sink cell → IsSettled (nodes + 1) (with_sink nodes arc) nodes cell × HasRoom (nodes + 1) cell
 sunk_at nodes sink arc cell small few same settled =
     let found : IsSettled (nodes + 1) (with_sink nodes arc) nodes cell = subst (λ (k : ℕ). IsSettled (nodes + 1) (with_sink nodes arc) k cell) same settled in
-    (found, settled_room (nodes + 1) (with_sink nodes arc) nodes cell (small-with_sink nodes (10 ^ 18) arc small) (omega (arith, few)) found)
+    (found, settled_room (nodes + 1) (with_sink nodes arc) nodes cell (small-with_sink nodes most_cost arc small) (omega (arith, few)) found)
 
 -- a walk to the sink, by the number of its arcs before the last
 sunk_low : (nodes : ℕ) (arc : ℕ → ℕ → Option ℤ) (limit : ℕ) → AreSmall arc limit → (v : ℕ) (ws : List ℕ) (cost : ℤ) → Avoids nodes ws
@@ -162,14 +164,14 @@ module _ (nodes : ℕ) (arc : ℕ → ℕ → Option ℤ) (cell : ℕ → Cell) 
       none = none_negative_kept arc (label_in labels) keeps
 
   -- the lowest cost is far from the limits of its type
-  pub lowest_small : (lowest : ℤ) → HasRoom (nodes + 1) cell → IsLowest nodes cell lowest → IsAtMost lowest (10 ^ 22)
+  pub lowest_small : (lowest : ℤ) → HasRoom (nodes + 1) cell → IsLowest nodes cell lowest → IsAtMost lowest most_walk_cost
   lowest_small lowest room least = record {
-    low = least.greatest (neg_ℤ (pos (10 ^ 22))) (omega (arith, ints)) each;
+    low = least.greatest (neg_ℤ (pos most_walk_cost)) (omega (arith, ints)) each;
     high = omega (arith, ints, least.at_most_none);
   }
     where
-      each : (v : ℕ) → v < nodes → neg_ℤ (pos (10 ^ 22)) ≤ℤ unwrap_or (cell v).cost (pos 0)
+      each : (v : ℕ) → v < nodes → neg_ℤ (pos most_walk_cost) ≤ℤ unwrap_or (cell v).cost (pos 0)
       each v inside =
           let here = sunk v inside in
           let small = room v (omega (arith, inside)) here.0 here.1 in
-          subst (λ (z : Option ℤ). neg_ℤ (pos (10 ^ 22)) ≤ℤ unwrap_or z (pos 0)) (sym here.1) small.low
+          subst (λ (z : Option ℤ). neg_ℤ (pos most_walk_cost) ≤ℤ unwrap_or z (pos 0)) (sym here.1) small.low

@@ -1,5 +1,5 @@
 -- The rounds of the search: the first, the next, the last.
-use Rattle.std.proofs.Common.{◌≡◌, ◌≢◌, ℕ, zero, suc, ◌+◌, ◌*◌, ◌^◌, ◌<◌, ◌≤◌, refl, sym, ap, ◌∙◌, subst, arith, inl, inr, ◌⊎◌, List, [], ◌∷◌, length, ℤ, ◌+ℤ◌, Option, Some, None}
+use Rattle.std.proofs.Common.{◌≡◌, ◌≢◌, ℕ, zero, suc, ◌+◌, ◌*◌, ◌<◌, ◌≤◌, refl, sym, ap, ◌∙◌, subst, arith, inl, inr, ◌⊎◌, List, [], ◌∷◌, length, ℤ, ◌+ℤ◌, Option, Some, None}
 use Rattle.std.specs.Option.{ForSome}
 use Rattle.std.proofs.lemmas.Int.{ints}
 use Rattle.std.proofs.lemmas.Bool.{cases_order}
@@ -8,10 +8,12 @@ use Rattle.std.proofs.lemmas.List.Elements.{All-nil}
 use Rattle.tn_base.specs.Arcs.{AreBetweenNodes, AreSmall, IsAtMost}
 use Rattle.tn_base.specs.Options.{both}
 use Rattle.tn_base.specs.Walks.{walk_cost, Avoids}
+use Rattle.tn_base.specs.Widths.{most_cost}
 use Rattle.tn_cycle.specs.declared.cell.Cell.{Cell}
 use Rattle.tn_cycle.specs.Order.{IsUpTo, IsBelow}
 use Rattle.tn_cycle.specs.Cells.{HasRoom, trail, IsImproved}
 use Rattle.tn_cycle.specs.Searched.{HasNoNegativeCycleOff, IsSettled}
+use Rattle.tn_cycle.specs.Widths.{most_graph_nodes, most_walk_cost}
 use Rattle.tn_cycle.proofs.OrderLemmas.{up_to_itself, up_to-trans, below_up_to, below-up_to, up_to-below, not_below, below_some, both-up_to, both-below, parts, up_to_none}
 use Rattle.tn_cycle.proofs.WalkLemmas.{avoids-cons, avoids-head, avoids-tail, walk_inside, few_apart, cut_apart}
 use Rattle.tn_cycle.proofs.Rounds.{IsBegun, GoesOnTo, IsTied, Reaches, IsRound}
@@ -252,14 +254,14 @@ walk_small arc m small u (v ∷ vs) w cost walk =
     }
 
 -- the costs of the cells are far from the limits of their type
-pub room : (nodes : ℕ) (arc : ℕ → ℕ → Option ℤ) (end k : ℕ) (cell : ℕ → Cell) → AreSmall arc (10 ^ 18) → k ≤ 1026
+pub room : (nodes : ℕ) (arc : ℕ → ℕ → Option ℤ) (end k : ℕ) (cell : ℕ → Cell) → AreSmall arc most_cost → k ≤ most_graph_nodes + 1
     → IsRound nodes arc end k cell → HasRoom nodes cell
 room nodes arc end k cell small few round v inside = by (cell v).cost (round.reached v inside)
   where
-    by : (o : Option ℤ) → Reaches arc end k v o → ForSome o (λ cost. IsAtMost cost (10 ^ 22))
+    by : (o : Option ℤ) → Reaches arc end k v o → ForSome o (λ cost. IsAtMost cost most_walk_cost)
     by None r x e = absurd (none-some x e)
     by (Some cost) r x e =
-        let whole = walk_small arc (10 ^ 18) small v r.0 end cost r.3 in
+        let whole = walk_small arc most_cost small v r.0 end cost r.3 in
         let same : cost ≡ x = same_Some cost x e in
         record {
           low = omega (arith, ints, whole.low, same, r.1, few);

@@ -1,10 +1,11 @@
 -- What the search keeps of each node.
-use Rattle.std.specs.Prelude.{◌≡◌, ◌≢◌, ℕ, zero, suc, ◌+◌, ◌^◌, ◌<◌, ℤ, ◌⊎◌, List, [], ◌∷◌, Option, None, slice_index_or, All, Contains}
+use Rattle.std.specs.Prelude.{◌≡◌, ◌≢◌, ℕ, zero, suc, ◌+◌, ◌<◌, ℤ, ◌⊎◌, List, [], ◌∷◌, Option, None, slice_index_or, All, Contains}
 use Rattle.std.specs.Option.{ForSome}
 use Rattle.tn_base.specs.Arcs.{IsAtMost}
 use Rattle.tn_base.specs.Options.{both}
 use Rattle.tn_cycle.specs.declared.cell.Cell.{Cell}
 use Rattle.tn_cycle.specs.Order.{IsUpTo, IsBelow}
+use Rattle.tn_cycle.specs.Widths.{most_walk_cost}
 
 -- the cell of a node of which nothing is known
 abbrev pub no_cell : Cell
@@ -21,7 +22,7 @@ trail cell (suc k) v = (cell v).next ∷ trail cell k (cell v).next
 
 -- the costs of the first cells are far from the limits of their type
 abbrev pub HasRoom : ℕ → (ℕ → Cell) → Type 0
-HasRoom nodes cell = (v : ℕ) → v < nodes → ForSome (cell v).cost (λ cost. IsAtMost cost (10 ^ 22))
+HasRoom nodes cell = (v : ℕ) → v < nodes → ForSome (cell v).cost (λ cost. IsAtMost cost most_walk_cost)
 
 -- the new cell of v goes on to a node whose own cell is of this round, and costs less than the old one
 pub record GoesOn (nodes : ℕ) (arc : ℕ → ℕ → Option ℤ) (end round : ℕ) (cell : ℕ → Cell) (v : ℕ) (old new : Cell) : Type 0 where

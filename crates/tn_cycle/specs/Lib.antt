@@ -1,3 +1,4 @@
+pub mod Widths
 pub mod Order
 pub mod Cells
 pub mod Searched

@@ -3,6 +3,7 @@ use Rattle.std.specs.Prelude.{◌≡◌, ℕ, ◌+◌, ◌≤◌, ◌<◌, ℤ, 
 use Rattle.std.specs.List.{range_with_len}
 use Rattle.tn_cycle.specs.declared.cell.Cell.{Cell}
 use Rattle.tn_cycle.specs.Cells.{cell_at, trail}
+use Rattle.tn_cycle.specs.Widths.{most_graph_nodes}
 
 pub record Reading : Type 0 where
   -- how many nodes the finder serves
@@ -65,7 +66,7 @@ pub record IsListable (places : ℕ) (row : List Cell) (v : ℕ) : Type 0 where
 -- the finder's lists are long enough for its nodes
 pub record HasPlaces (nodes count labelled reached path labels row_places after_places : ℕ) (row : List Cell) : Type 0 where
   pub some : 1 ≤ nodes
-  pub not_many : nodes ≤ 1025
+  pub not_many : nodes ≤ most_graph_nodes
   pub row_sized : row_places ≡ nodes + 1
   pub after_sized : after_places ≡ nodes + 1
   pub path_sized : path ≡ nodes + 2

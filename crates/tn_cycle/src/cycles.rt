@@ -1,7 +1,8 @@
-ghost use Rattle.std.specs.Prelude.{◌≡◌, ◌+◌, ◌≤◌, ◌<◌, take, length};
+ghost use Rattle.std.specs.Prelude.{◌≡◌, ◌+◌, ◌^◌, ◌≤◌, ◌<◌, take, length};
 ghost use Rattle.tn_base.specs.Walks.{HasNoNegativeCycle};
 ghost use Rattle.tn_cycle.specs.Searched.{HasNoNegativeCycleOff};
 ghost use Rattle.tn_cycle.specs.Answers.{AnswersCycle, AnswersNegative, arc_count};
+ghost use Rattle.tn_cycle.specs.Widths.{most_graph_nodes};
 
 use crate::answer::Path;
 use crate::cell::Cell;
@@ -21,8 +22,8 @@ pub(crate) fn least_cycle<C: Costs>(
     requires sized { C.node_count costs.now ≤ length row.old }
     requires after_sized { length after.old ≡ length row.old }
     requires path_sized { C.node_count costs.now + 1 ≤ length path.old }
-    requires few { C.node_count costs.now ≤ 1026 }
-    requires short { length path.old ≤ 2000 }
+    requires few { C.node_count costs.now ≤ most_graph_nodes + 1 }
+    requires short { length path.old ≤ 2 ^ 31 }
     requires inside { node < C.node_count costs.now }
     requires others { HasNoNegativeCycleOff (C.arc costs.now) node }
     ensures answer { AnswersCycle (C.arc costs.now) node (take (arc_count result) path.new) result }
@@ -52,8 +53,8 @@ pub(crate) fn negative_cycle<C: Costs>(
     requires sized { C.node_count costs.now ≤ length row.old }
     requires after_sized { length after.old ≡ length row.old }
     requires path_sized { C.node_count costs.now + 1 ≤ length path.old }
-    requires few { C.node_count costs.now ≤ 1026 }
-    requires short { length path.old ≤ 2000 }
+    requires few { C.node_count costs.now ≤ most_graph_nodes + 1 }
+    requires short { length path.old ≤ 2 ^ 31 }
     requires broken { HasNoNegativeCycle (C.arc costs.now) → ⊥ }
     ensures answer { AnswersNegative (C.node_count costs.now) (C.arc costs.now) (take (arc_count result) path.new) result }
     ensures few_arcs { arc_count result ≤ C.node_count costs.now }

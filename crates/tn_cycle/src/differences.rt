@@ -1,6 +1,7 @@
-ghost use Rattle.std.specs.Prelude.{◌≡◌, ℕ, ◌+◌, ◌<◌, ◌^◌, pos, ◌-ℤ◌, length, slice_index_or};
+ghost use Rattle.std.specs.Prelude.{◌≡◌, ℕ, ◌+◌, ◌<◌, pos, ◌-ℤ◌, length, slice_index_or};
 ghost use Rattle.tn_base.specs.Arcs.{IsAtMost};
 ghost use Rattle.tn_cycle.specs.Answers.{label_in};
+ghost use Rattle.tn_cycle.specs.Widths.{most_read};
 
 use crate::finder::Finder;
 
@@ -8,7 +9,7 @@ use crate::finder::Finder;
 pub fn label_less(finder: &Finder, v: u32, null: u32) -> i128
     requires node { v < length finder.now.labels }
     requires last { null < length finder.now.labels }
-    requires small { (t : ℕ) → t < length finder.now.labels → IsAtMost (label_in finder.now.labels t) (2 ^ 100) }
+    requires small { (t : ℕ) → t < length finder.now.labels → IsAtMost (label_in finder.now.labels t) most_read }
     ensures { result ≡ label_in finder.now.labels v -ℤ label_in finder.now.labels null }
 {
     finder.label(v) - finder.label(null)
@@ -19,7 +20,7 @@ pub fn label_less(finder: &Finder, v: u32, null: u32) -> i128
 pub fn write_differences(finder: &Finder, into: &mut Vec<i128>, count: u32)
     requires counted { length into.old.items ≡ count }
     requires labelled { length finder.now.labels ≡ count + 1 }
-    requires small { (t : ℕ) → t < length finder.now.labels → IsAtMost (label_in finder.now.labels t) (2 ^ 100) }
+    requires small { (t : ℕ) → t < length finder.now.labels → IsAtMost (label_in finder.now.labels t) most_read }
     ensures one_each { length into.new.items ≡ count }
     ensures each { (t : ℕ) → t < count → slice_index_or into.new.items t (pos 0) ≡ label_in finder.now.labels t -ℤ label_in finder.now.labels count }
 {

@@ -1,6 +1,7 @@
 ghost use Rattle.std.specs.Prelude.{◌≡◌, ℕ, ◌+◌, ◌-◌, ◌*◌, ◌<◌, ◌≤◌, Some, length, slice_get, IfOk, IsSome};
 ghost use Rattle.tn_base.specs.Walks.{arcs_among, is_admitted, is_looked_at, HasNoNegativeCycle};
 ghost use Rattle.tn_cycle.specs.Searched.{HasNoNegativeCycleOff};
+ghost use Rattle.tn_cycle.specs.Widths.{most_graph_nodes};
 
 use crate::answer::{Labels, Path};
 use crate::cell::Cell;
@@ -56,11 +57,11 @@ impl Finder {
     ghost use Rattle.tn_cycle.specs.Reading.{ListsNoWalks, ListsOnly, ReadsWalks, nothing};
     ghost use Rattle.tn_cycle.specs.Answers.{AnswersCycle, AnswersLabels, LeadsAlong, LeadsLeast, distance_in, walk_in};
 
-    /// A finder for graphs of so many nodes, at least 1 and at most 1,025. Nothing may be read yet. It takes all memory
+    /// A finder for graphs of so many nodes, at least 1 and at most 2,049. Nothing may be read yet. It takes all memory
     /// that the searches need, and refuses where that isn't there.
     pub fn new(alloc: Global, nodes: u32) -> Result<Finder, OutOfMemory>
         requires some { 1 ≤ nodes }
-        requires few { nodes ≤ 1025 }
+        requires few { nodes ≤ most_graph_nodes }
         ensures { IfOk result (λ finder. finder ≡ nothing nodes) }
     {
         let cell = Cell {
@@ -117,7 +118,7 @@ impl Finder {
     /// Looks for a negative cycle through a trade, on the admitted trades, the null node and that trade. A cycle that it
     /// answers is of least cost among the closed walks that meet the trade at their ends alone, has the fewest arcs
     /// among those of that cost, and has no node twice. No cycle of the admitted trades and the null node may be
-    /// negative. There are at most 1,024 trades, and at most `64 * W`.
+    /// negative. There are at most `64 * W` trades.
     pub fn through<C: Costs, const W: usize>(
         &mut self,
         costs: &C,
@@ -126,7 +127,6 @@ impl Finder {
     ) -> Path
         requires sized { C.node_count costs.now ≡ self.old.nodes }
         requires wide { self.old.nodes ≤ 64 * W + 1 }
-        requires width { W ≤ 16 }
         requires trade { node + 1 < self.old.nodes }
         requires others { HasNoNegativeCycle (arcs_among (is_admitted (self.old.nodes - 1) admitted.now) (C.arc costs.now)) }
         ensures answer { AnswersCycle (arcs_among (is_looked_at (self.old.nodes - 1) node admitted.now) (C.arc costs.now)) node self.new.listed result }

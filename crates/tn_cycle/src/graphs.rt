@@ -1,6 +1,8 @@
 ghost use Rattle.std.specs.Prelude.{◌≡◌, ◌+◌, ◌*◌, ◌^◌, ◌<◌, ◌≤◌};
 ghost use Rattle.tn_base.specs.Walks.{arcs_among, is_admitted, is_looked_at};
+ghost use Rattle.tn_base.specs.Widths.{most_cost};
 ghost use Rattle.tn_cycle.specs.Graphs.{is_between, turned, with_sink};
+ghost use Rattle.tn_cycle.specs.Widths.{most_graph_nodes};
 ghost use Rattle.tn_cycle.specs.GraphLemmas.{between-arcs_among, between-turned, between-with_sink, small-arcs_among, small-turned, small-with_sink};
 
 use tn_base::{Costs, TradeSet};
@@ -14,7 +16,8 @@ pub struct Admitted<'a, C: Costs, const W: usize> {
     pub null: u32,
     /// The trades.
     pub admitted: &'a TradeSet<W>,
-    ghost wide: { W ≤ 16 },
+    // The set is in memory.
+    ghost in_memory: { W * 8 < 2 ^ 63 },
     ghost fits: { null ≤ 64 * W },
     ghost last: { C.node_count costs.now ≡ null + 1 },
 }
@@ -48,7 +51,7 @@ impl<C: Costs, const W: usize> Costs for Admitted<'_, C, W> {
 
     ghost between_nodes = { λ it. between-arcs_among (is_admitted it.null it.admitted.now) (C.node_count it.costs.now) (C.arc it.costs.now) (C.between_nodes it.costs.now) };
 
-    ghost small = { λ it. small-arcs_among (is_admitted it.null it.admitted.now) (10 ^ 18) (C.arc it.costs.now) (C.small it.costs.now) };
+    ghost small = { λ it. small-arcs_among (is_admitted it.null it.admitted.now) most_cost (C.arc it.costs.now) (C.small it.costs.now) };
 }
 
 /// A graph's node, its admitted trades and its null node, with the arcs among them.
@@ -87,7 +90,7 @@ impl<C: Costs, const W: usize> Costs for Looked<'_, C, W> {
 
     ghost between_nodes = { λ it. between-arcs_among (is_looked_at it.among.null it.node it.among.admitted.now) (C.node_count it.among.costs.now) (C.arc it.among.costs.now) (C.between_nodes it.among.costs.now) };
 
-    ghost small = { λ it. small-arcs_among (is_looked_at it.among.null it.node it.among.admitted.now) (10 ^ 18) (C.arc it.among.costs.now) (C.small it.among.costs.now) };
+    ghost small = { λ it. small-arcs_among (is_looked_at it.among.null it.node it.among.admitted.now) most_cost (C.arc it.among.costs.now) (C.small it.among.costs.now) };
 }
 
 /// A graph's trades from the first one on, with the arcs among them.
@@ -117,7 +120,7 @@ impl<C: Costs> Costs for Part<'_, C> {
 
     ghost between_nodes = { λ it. between-arcs_among (is_between it.first it.null) (C.node_count it.costs.now) (C.arc it.costs.now) (C.between_nodes it.costs.now) };
 
-    ghost small = { λ it. small-arcs_among (is_between it.first it.null) (10 ^ 18) (C.arc it.costs.now) (C.small it.costs.now) };
+    ghost small = { λ it. small-arcs_among (is_between it.first it.null) most_cost (C.arc it.costs.now) (C.small it.costs.now) };
 }
 
 /// A graph with one node more, to which an arc of cost 0 leads from each other node.
@@ -126,7 +129,7 @@ pub struct Sunk<'a, C: Costs> {
     pub costs: &'a C,
     pub sink: u32,
     ghost last: { C.node_count costs.now ≡ sink },
-    ghost few: { sink ≤ 1025 },
+    ghost few: { sink ≤ most_graph_nodes },
 }
 
 impl<C: Costs> Costs for Sunk<'_, C> {
@@ -150,7 +153,7 @@ impl<C: Costs> Costs for Sunk<'_, C> {
 
     ghost between_nodes = { λ it. between-with_sink (C.node_count it.costs.now) (C.arc it.costs.now) (C.between_nodes it.costs.now) };
 
-    ghost small = { λ it. small-with_sink (C.node_count it.costs.now) (10 ^ 18) (C.arc it.costs.now) (C.small it.costs.now) };
+    ghost small = { λ it. small-with_sink (C.node_count it.costs.now) most_cost (C.arc it.costs.now) (C.small it.costs.now) };
 }
 
 /// A graph with its arcs turned round.
@@ -174,5 +177,5 @@ impl<C: Costs> Costs for Turned<'_, C> {
 
     ghost between_nodes = { λ it. between-turned (C.node_count it.costs.now) (C.arc it.costs.now) (C.between_nodes it.costs.now) };
 
-    ghost small = { λ it. small-turned (10 ^ 18) (C.arc it.costs.now) (C.small it.costs.now) };
+    ghost small = { λ it. small-turned most_cost (C.arc it.costs.now) (C.small it.costs.now) };
 }

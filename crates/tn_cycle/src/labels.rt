@@ -3,6 +3,7 @@ ghost use Rattle.tn_base.specs.Arcs.{IsAtMost};
 ghost use Rattle.tn_base.specs.Walks.{HasNoNegativeCycle};
 ghost use Rattle.tn_cycle.specs.Cells.{HasRoom, cell_at};
 ghost use Rattle.tn_cycle.specs.Answers.{AreLabels, IsLowest, label_in};
+ghost use Rattle.tn_cycle.specs.Widths.{most_graph_nodes, most_walk_cost};
 
 use crate::cell::Cell;
 use crate::graphs::Sunk;
@@ -32,8 +33,8 @@ fn lowest_cost(row: &[Cell], nodes: u32) -> i128
 
 /// A node's label: what its cost lacks to the lowest one.
 fn label(lowest: i128, cost: i128) -> i128
-    requires lowest { IsAtMost lowest (10 ^ 22) }
-    requires cost { IsAtMost cost (10 ^ 22) }
+    requires lowest { IsAtMost lowest most_walk_cost }
+    requires cost { IsAtMost cost most_walk_cost }
     ensures { result ≡ lowest -ℤ cost }
 {
     lowest - cost
@@ -43,7 +44,7 @@ fn label(lowest: i128, cost: i128) -> i128
 fn write_labels(row: &[Cell], lowest: i128, labels: &mut [i128])
     requires sized { length labels.old ≤ length row.now }
     requires short { length labels.old < 2 ^ 31 }
-    requires lowest { IsAtMost lowest (10 ^ 22) }
+    requires lowest { IsAtMost lowest most_walk_cost }
     requires room { HasRoom (length labels.old) (cell_at row.now) }
     ensures { (v : ℕ) → v < length labels.old → label_in labels.new v ≡ lowest -ℤ unwrap_or (cell_at row.now v).cost (pos 0) }
 {
@@ -65,7 +66,7 @@ pub(crate) fn find_labels<C: Costs>(
     requires after_sized { length after.old ≡ length row.old }
     requires places { C.node_count costs.now + 1 ≤ length active.old }
     requires labels_sized { length labels.old ≡ C.node_count costs.now }
-    requires few { C.node_count costs.now ≤ 1025 }
+    requires few { C.node_count costs.now ≤ most_graph_nodes }
     ensures found { result ≡ true → AreLabels (C.node_count costs.now) (C.arc costs.now) labels.new }
     ensures none { result ≡ false → HasNoNegativeCycle (C.arc costs.now) → ⊥ }
 {

@@ -2,17 +2,19 @@ ghost use Rattle.std.specs.Prelude.{◌≡◌, ◌≢◌, ℕ, ◌+◌, ◌^◌,
 ghost use Rattle.std.specs.Option.{ForSome};
 ghost use Rattle.tn_base.specs.Arcs.{IsAtMost};
 ghost use Rattle.tn_base.specs.Options.{both};
+ghost use Rattle.tn_base.specs.Widths.{most_cost};
 ghost use Rattle.tn_cycle.specs.Order.{IsBelow, IsUpTo};
 ghost use Rattle.tn_cycle.specs.Cells.{AreActive, HasRoom, IsImproved, cell_at};
 ghost use Rattle.tn_cycle.specs.Searched.{HasNoNegativeCycleOff, IsSettled};
+ghost use Rattle.tn_cycle.specs.Widths.{most_graph_nodes, most_walk_cost};
 
 use crate::cell::Cell;
 use tn_base::Costs;
 
 /// The sum of two costs.
 fn total(first: i128, rest: i128) -> i128
-    requires first { IsAtMost first (10 ^ 18) }
-    requires rest { IsAtMost rest (10 ^ 22) }
+    requires first { IsAtMost first most_cost }
+    requires rest { IsAtMost rest most_walk_cost }
     ensures { result ≡ first +ℤ rest }
 {
     first + rest
@@ -20,8 +22,8 @@ fn total(first: i128, rest: i128) -> i128
 
 /// The cost of going on over an arc.
 fn extended(first: Option<i128>, rest: Option<i128>) -> Option<i128>
-    requires first { ForSome first (λ a. IsAtMost a (10 ^ 18)) }
-    requires rest { ForSome rest (λ a. IsAtMost a (10 ^ 22)) }
+    requires first { ForSome first (λ a. IsAtMost a most_cost) }
+    requires rest { ForSome rest (λ a. IsAtMost a most_walk_cost) }
     ensures { result ≡ both first rest }
 {
     match (first, rest) {
@@ -148,7 +150,7 @@ pub(crate) fn search<C: Costs>(
     requires sized { C.node_count costs.now ≤ length row.old }
     requires after_sized { length after.old ≡ length row.old }
     requires places { C.node_count costs.now ≤ length active.old }
-    requires few { C.node_count costs.now ≤ 1026 }
+    requires few { C.node_count costs.now ≤ most_graph_nodes + 1 }
     requires inside { end < C.node_count costs.now }
     ensures settled { result ≡ true → IsSettled (C.node_count costs.now) (C.arc costs.now) end (cell_at row.new) }
     ensures unsettled { result ≡ false → HasNoNegativeCycleOff (C.arc costs.now) end → ⊥ }

@@ -2,13 +2,14 @@ use Rattle.std.proofs.Common.{◌≡◌, ◌≢◌, ◌+◌, ◌<◌, ◌≤◌,
 use Rattle.std.proofs.lemmas.Bool.{MatchBool-at_true, cases_from_iff, iff_false}
 use Rattle.tn_cycle.specs.declared.cell.Cell.{Cell}
 use Rattle.tn_cycle.specs.Cells.{cell_at}
+use Rattle.tn_cycle.specs.Widths.{most_graph_nodes}
 use Rattle.tn_cycle.proofs.Rounds.{IsRound}
 use Rattle.tn_cycle.proofs.RoundLemmas.{next_round, settled, none_changes, room}
 use Rattle.tn_cycle.proofs.search.search.Goals as goal
 
 pub advance-requires-clause-room : goal.advance-requires-clause-room
 advance-requires-clause-room g c =
-    let few : c.loop-round.round ≤ 1026 = omega (arith, c.loop-round-test.true, c.nodes-nodes.ensures, c.requires.few) in
+    let few : c.loop-round.round ≤ most_graph_nodes + 1 = omega (arith, c.loop-round-test.true, c.nodes-nodes.ensures, c.requires.few) in
     room (g.C.Costs.node_count c.args.costs.now) (g.C.Costs.arc c.args.costs.now) c.args.end c.loop-round.round (cell_at c.loop-round.row)
     (g.met.C.Costs.small c.args.costs.now) few c.loop-round.invariant.cells
 

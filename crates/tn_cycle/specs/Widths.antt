@@ -1,0 +1,15 @@
+-- What there is room for in a search.
+use Rattle.std.specs.Prelude.{ℕ, ◌+◌, ◌*◌, ◌^◌}
+use Rattle.tn_base.specs.Widths.{most_limbs}
+
+-- a finder serves graphs of at most so many nodes: a set takes all but the null node
+abbrev pub most_graph_nodes : ℕ
+most_graph_nodes = 64 * most_limbs + 1
+
+-- the cost of a walk in a cell is at most so much in size
+abbrev pub most_walk_cost : ℕ
+most_walk_cost = 10 ^ 22
+
+-- a label or a distance that is read is at most so much in size
+abbrev pub most_read : ℕ
+most_read = 2 ^ 100
