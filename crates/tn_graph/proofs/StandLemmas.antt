@@ -8,6 +8,7 @@ use Rattle.tn_base.specs.Options.{both}
 use Rattle.tn_base.specs.Sets.{has}
 use Rattle.tn_base.specs.Arcs.{IsAtMost}
 use Rattle.tn_base.specs.Firm.{Firm}
+use Rattle.tn_base.specs.Widths.{most_cost}
 use Rattle.tn_base.proofs.SetLemmas.{toggle_within, set_of_within}
 use Rattle.tn_law.specs.Places.{trade_level, level, toggle_at, move, CanRise, CanFall}
 use Rattle.tn_law.proofs.PlaceLemmas.{level-trade, toggle_at-trade, toggle_at-null, trade_level-le}
@@ -76,16 +77,16 @@ loss_is firm x y a b x_is y_is =
     minus a b = omega (arith, ints)
 
 pub loss_small : (firms : List Firm) (trades : List Ends) (on f n : ℕ) (firm : Firm) (limit x : ℕ) (worth : ℤ) → IsStand firms trades on f n firm limit x worth
-    → (y : ℕ) (b : ℤ) → firm.worth y ≡ Some b → IsAtMost (worth -ℤ b) (10 ^ 18)
+    → (y : ℕ) (b : ℤ) → firm.worth y ≡ Some b → IsAtMost (worth -ℤ b) most_cost
 loss_small firms trades on f n firm limit x worth stand y b y_is =
     apart (stand.within x worth stand.worth_is) (stand.within y b y_is) stand.small
   where
-    apart : IsAtMost worth limit → IsAtMost b limit → 2 * limit ≤ 10 ^ 18 → IsAtMost (worth -ℤ b) (10 ^ 18)
+    apart : IsAtMost worth limit → IsAtMost b limit → 2 * limit ≤ most_cost → IsAtMost (worth -ℤ b) most_cost
     apart first second small = record {
       low = omega (arith, ints, first.low, second.high, small);
       high = omega (arith, ints, first.high, second.low, small);
     }
 
 -- such a number is in the range of the code's
-pub cost_fits : (z : ℤ) → IsAtMost z (10 ^ 18) → SFits w128 z
+pub cost_fits : (z : ℤ) → IsAtMost z most_cost → SFits w128 z
 cost_fits z small = let low = small.low in let high = small.high in omega (arith, ints, low, high)

@@ -1,19 +1,21 @@
 -- A graph as a table of numbers: one for each two nodes, row by row.
 use Rattle.std.specs.Prelude.{◌≡◌, ℕ, ◌+◌, ◌*◌, ◌^◌, ◌≤◌, nat_lt, ℤ, pos, neg_ℤ, int_le, ◌&&◌, if◌then◌else◌, List, length, get_or, Option, Some, None}
+use Rattle.tn_base.specs.Widths.{most_cost}
+use Rattle.tn_market.specs.Widths.{most_market_trades}
 
 pub record Matrix : Type 0 where
   pub nodes : ℕ
   pub cells : List ℤ
 
--- a table that has a number for each two of 1 to 1,025 nodes
+-- a table that has a number for each two nodes, of which there are no more than trades of a market and null
 pub record IsSquare (nodes : ℕ) (cells : List ℤ) : Type 0 where
   pub from_one : 1 ≤ nodes
-  pub few : nodes ≤ 1025
+  pub few : nodes ≤ most_market_trades + 1
   pub counted : length cells ≡ nodes * nodes
 
--- what a number stands for: a cost if it is at most 10^18 in size, else that there is no arc
+-- what a number stands for: a cost if it is no larger than one may be, else that there is no arc
 unfoldable pub cost_at : ℤ → Option ℤ
-cost_at number = if int_le (neg_ℤ (pos (10 ^ 18))) number && int_le number (pos (10 ^ 18)) then Some number else None
+cost_at number = if int_le (neg_ℤ (pos most_cost)) number && int_le number (pos most_cost) then Some number else None
 
 -- the cost of the arc from node u to node v, none where there is no arc
 unfoldable pub arcs_of : Matrix → ℕ → ℕ → Option ℤ

@@ -5,22 +5,23 @@ use Rattle.std.proofs.lemmas.Int.{ints}
 use Rattle.std.proofs.lemmas.Bool.{cases_Bool, and_parts, ltb-true}
 use Rattle.std.proofs.lemmas.Option.{same_Some}
 use Rattle.tn_base.specs.Arcs.{IsAtMost, AreBetweenNodes, AreSmall}
+use Rattle.tn_base.specs.Widths.{most_cost}
 use Rattle.tn_graph.specs.Matrix.{Matrix, cost_at, arcs_of}
 
-pub cost_at-small : (number cost : ℤ) → cost_at number ≡ Some cost → (number ≡ cost) × IsAtMost cost (10 ^ 18)
+pub cost_at-small : (number cost : ℤ) → cost_at number ≡ Some cost → (number ≡ cost) × IsAtMost cost most_cost
 unfolding cost_at
-cost_at-small number cost is = elim (cases_Bool (int_le (neg_ℤ (pos (10 ^ 18))) number && int_le number (pos (10 ^ 18)))) [
+cost_at-small number cost is = elim (cases_Bool (int_le (neg_ℤ (pos most_cost)) number && int_le number (pos most_cost))) [
   | inl within ↦
       let same : number ≡ cost = same_Some _ _ (sym (ap (λ (b : Bool). if b then Some number else None) within) ∙ is) in
-      let parts = and_parts (int_le (neg_ℤ (pos (10 ^ 18))) number) (int_le number (pos (10 ^ 18))) within in
-      (same, subst (λ (z : ℤ). IsAtMost z (10 ^ 18)) same (small parts.0 parts.1))
+      let parts = and_parts (int_le (neg_ℤ (pos most_cost)) number) (int_le number (pos most_cost)) within in
+      (same, subst (λ (z : ℤ). IsAtMost z most_cost) same (small parts.0 parts.1))
   | inr beyond ↦
-      let none : (if int_le (neg_ℤ (pos (10 ^ 18))) number && int_le number (pos (10 ^ 18)) then Some number else None) ≡ None =
+      let none : (if int_le (neg_ℤ (pos most_cost)) number && int_le number (pos most_cost) then Some number else None) ≡ None =
       ap (λ (b : Bool). if b then Some number else None) beyond in
       absurd (cc (none, is))
 ]
   where
-    small : int_le (neg_ℤ (pos (10 ^ 18))) number ≡ true → int_le number (pos (10 ^ 18)) ≡ true → IsAtMost number (10 ^ 18)
+    small : int_le (neg_ℤ (pos most_cost)) number ≡ true → int_le number (pos most_cost) ≡ true → IsAtMost number most_cost
     small p q = record { low = grind (arith, ints); high = grind (arith, ints) }
 
 arcs_of-cases : (graph : Matrix) (u v : ℕ) (cost : ℤ) → arcs_of graph u v ≡ Some cost
@@ -41,5 +42,5 @@ arcs_of-between graph u v cost is =
     (ltb-true u graph.nodes parts.0, ltb-true v graph.nodes parts.1)
 
 -- no cost is above 10^18 in size
-pub arcs_of-small : (graph : Matrix) → AreSmall (arcs_of graph) (10 ^ 18)
+pub arcs_of-small : (graph : Matrix) → AreSmall (arcs_of graph) most_cost
 arcs_of-small graph u v cost is = (cost_at-small _ cost (arcs_of-cases graph u v cost is).1).1

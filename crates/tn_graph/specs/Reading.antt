@@ -1,7 +1,8 @@
 -- How a graph becomes the exchange graph: cost by cost, and firm by firm.
-use Rattle.std.specs.Prelude.{◌≡◌, ℕ, ◌+◌, ◌*◌, ◌≤◌, ◌^◌, ℤ, ◌⊎◌, List, [], ◌∷◌, length, slice_get, Bool, true, false, not, ◌==◌, ◌&&◌, ◌||◌, nat_lt, if◌then◌else◌, Option, Some, None}
+use Rattle.std.specs.Prelude.{◌≡◌, ℕ, ◌+◌, ◌*◌, ◌≤◌, ℤ, ◌⊎◌, List, [], ◌∷◌, length, slice_get, Bool, true, false, not, ◌==◌, ◌&&◌, ◌||◌, nat_lt, if◌then◌else◌, Option, Some, None}
 use Rattle.tn_base.specs.Sets.{has}
 use Rattle.tn_base.specs.Firm.{Firm}
+use Rattle.tn_base.specs.Widths.{most_cost}
 use Rattle.tn_plain_data.specs.declared.ends.Ends.{Ends}
 use Rattle.tn_plain_data.specs.Network.{part, IsNetwork}
 use Rattle.tn_market.specs.Graph.{exchange_arc}
@@ -39,7 +40,7 @@ pub record IsStand (firms : List Firm) (trades : List Ends) (on f n : ℕ) (firm
   pub bundle_is : x ≡ part trades f n on
   pub worth_is : firm.worth x ≡ Some worth
   pub within : IsWorthAtMost limit firm
-  pub small : 2 * limit ≤ 10 ^ 18
+  pub small : 2 * limit ≤ most_cost
 
 -- the costs of the arcs from place i of a firm are right
 abbrev pub HasRow : List Firm → List Ends → ℕ → ℕ → ℕ → Firm → ℕ → ℕ → Matrix → Type 0

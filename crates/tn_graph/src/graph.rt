@@ -1,5 +1,7 @@
-ghost use Rattle.std.specs.Prelude.{◌≡◌, ◌≤◌, ◌<◌, ◌^◌, IfOk, IfSome};
+ghost use Rattle.std.specs.Prelude.{◌≡◌, ◌+◌, ◌≤◌, ◌<◌, IfOk, IfSome};
 ghost use Rattle.tn_base.specs.Arcs.{IsAtMost};
+ghost use Rattle.tn_base.specs.Widths.{most_cost};
+ghost use Rattle.tn_market.specs.Widths.{most_market_trades};
 ghost use Rattle.tn_graph.specs.Matrix.{cost_at};
 ghost use Rattle.tn_graph.specs.Reading.{IsWithoutArcs, IsWritten};
 
@@ -35,7 +37,7 @@ impl Model for Graph {
 /// The number that stands for the cost of an arc.
 #[tactic(auto, unfolding(crate::specs::Matrix::cost_at))]
 fn packed(cost: Option<i128>) -> i64
-    requires { IfSome cost (λ c. IsAtMost c (10 ^ 18)) }
+    requires { IfSome cost (λ c. IsAtMost c most_cost) }
     ensures { cost_at result ≡ cost }
 {
     match cost {
@@ -57,10 +59,10 @@ fn unpacked(number: i64) -> Option<i128>
 }
 
 impl Graph {
-    /// A graph of 1 to 1,025 nodes without arcs. It fails only where memory runs out, and no other call takes memory.
+    /// A graph of 1 to 2,049 nodes without arcs. It fails only where memory runs out, and no other call takes memory.
     pub fn new(alloc: Global, nodes: u32) -> Result<Graph, OutOfMemory>
         requires from_one { 1 ≤ nodes }
-        requires few { nodes ≤ 1025 }
+        requires few { nodes ≤ most_market_trades + 1 }
         ensures { IfOk result (λ graph. IsWithoutArcs nodes graph) }
     {
         let cells = vec![in alloc; NO_ARC; (nodes * nodes) as usize]?;
@@ -72,7 +74,7 @@ impl Graph {
     pub fn set(&mut self, a: u32, b: u32, cost: Option<i128>)
         requires from { a < self.old.nodes }
         requires to { b < self.old.nodes }
-        requires small { IfSome cost (λ c. IsAtMost c (10 ^ 18)) }
+        requires small { IfSome cost (λ c. IsAtMost c most_cost) }
         ensures { IsWritten self.old a b cost self.new }
     {
         let place = (a * self.nodes + b) as usize;

@@ -1,6 +1,7 @@
 //! The reading of costs from worths: arc by arc, firm by firm, and the whole graph.
 
-ghost use Rattle.std.specs.Prelude.{◌≡◌, ℕ, ◌+◌, ◌*◌, ◌≤◌, ◌<◌, ◌^◌, ◌==◌, Some, length, map, slice_get};
+ghost use Rattle.std.specs.Prelude.{◌≡◌, ℕ, ◌+◌, ◌*◌, ◌≤◌, ◌<◌, ◌==◌, Some, length, map, slice_get};
+ghost use Rattle.tn_base.specs.Widths.{most_cost};
 ghost use Rattle.tn_law.specs.Places.{level, CanRise};
 ghost use Rattle.tn_plain_data.specs.Network.{IsNetwork};
 ghost use Rattle.tn_market.specs.ArcPlaces.{node_at, AreArcPlaces};
@@ -75,13 +76,12 @@ impl Graph {
         on: &TradeSet<W>,
         steps: &mut Steps<V::Mark>,
     )
-        requires width { W ≤ 16 }
         requires wide { length market.now.trades ≤ 64 * W }
         requires network { IsNetwork (map V.firm market.now.firms) market.now.trades }
         requires sized { self.old.nodes ≡ length market.now.trades + 1 }
         requires firm { f < length market.now.firms }
         requires possible { ArePossible (map V.firm market.now.firms) market.now.trades on.now }
-        requires small { (g : ℕ) (v : V) → slice_get market.now.firms g ≡ Some v → 2 * V.limit v ≤ 10 ^ 18 }
+        requires small { (g : ℕ) (v : V) → slice_get market.now.firms g ≡ Some v → 2 * V.limit v ≤ most_cost }
         ensures improved { Improves (exchange_arc (map V.firm market.now.firms) market.now.trades on.now) self.old self.new }
         ensures arcs { HasArcsOf (map V.firm market.now.firms) market.now.trades on.now f self.new }
         ensures asked { (v : V) → slice_get market.now.firms f ≡ Some v → steps.new ≤ steps.old + ((V.firm v).count + 1) * ((V.firm v).count + 1) }
@@ -111,11 +111,10 @@ impl Graph {
         on: &TradeSet<W>,
         steps: &mut Steps<V::Mark>,
     )
-        requires width { W ≤ 16 }
         requires wide { length market.now.trades ≤ 64 * W }
         requires sized { self.old.nodes ≡ length market.now.trades + 1 }
         requires possible { ArePossible (map V.firm market.now.firms) market.now.trades on.now }
-        requires small { (f : ℕ) (v : V) → slice_get market.now.firms f ≡ Some v → 2 * V.limit v ≤ 10 ^ 18 }
+        requires small { (f : ℕ) (v : V) → slice_get market.now.firms f ≡ Some v → 2 * V.limit v ≤ most_cost }
         ensures graph { IsExchangeGraph (map V.firm market.now.firms) market.now.trades on.now self.new }
         ensures asked { steps.new ≤ steps.old + graph_worths (map V.firm market.now.firms) }
     {
@@ -138,7 +137,6 @@ impl Graph {
 
     /// Takes the arcs from and to each trade away that is in one of the two sets alone.
     fn forget<const W: usize>(&mut self, trades: u32, before: &TradeSet<W>, on: &TradeSet<W>)
-        requires width { W ≤ 16 }
         requires wide { trades ≤ 64 * W }
         requires sized { self.old.nodes ≡ trades + 1 }
         ensures { AreForgotten (is_toggled trades before.now on.now) self.old self.new }
@@ -160,11 +158,10 @@ impl Graph {
         on: &TradeSet<W>,
         steps: &mut Steps<V::Mark>,
     )
-        requires width { W ≤ 16 }
         requires wide { length market.now.trades ≤ 64 * W }
         requires graph { IsExchangeGraph (map V.firm market.now.firms) market.now.trades before.now self.old }
         requires possible { ArePossible (map V.firm market.now.firms) market.now.trades on.now }
-        requires small { (f : ℕ) (v : V) → slice_get market.now.firms f ≡ Some v → 2 * V.limit v ≤ 10 ^ 18 }
+        requires small { (f : ℕ) (v : V) → slice_get market.now.firms f ≡ Some v → 2 * V.limit v ≤ most_cost }
         ensures graph { IsExchangeGraph (map V.firm market.now.firms) market.now.trades on.now self.new }
         ensures asked { steps.new ≤ steps.old + changed_worths (map V.firm market.now.firms) market.now.trades before.now on.now }
     {

@@ -1,7 +1,8 @@
 //! How a firm stands at a set of trades, and what its arcs cost.
 
-ghost use Rattle.std.specs.Prelude.{◌≡◌, ◌+◌, ◌≤◌, ◌<◌, ◌^◌, ◌==◌, ◌↔◌, IsTrue, IfSome, map};
+ghost use Rattle.std.specs.Prelude.{◌≡◌, ◌+◌, ◌≤◌, ◌<◌, ◌==◌, ◌↔◌, IsTrue, IfSome, map};
 ghost use Rattle.tn_base.specs.Arcs.{IsAtMost};
+ghost use Rattle.tn_base.specs.Widths.{most_cost};
 ghost use Rattle.tn_law.specs.Places.{trade_level, level, toggle_at, move, CanRise, CanFall};
 ghost use Rattle.tn_market.specs.ArcPlaces.{node_at};
 ghost use Rattle.tn_market.specs.Graph.{loss};
@@ -85,7 +86,7 @@ impl<V: Valuation, const W: usize> Stand<'_, V, W> {
         requires stand { IsStand (map V.firm self.now.market.now.firms) self.now.market.now.trades self.now.on.now self.now.f self.now.count
             (V.firm self.now.firm.now) (V.limit self.now.firm.now) self.now.bundle self.now.worth }
         ensures loss { result ≡ loss (V.firm self.now.firm.now) self.now.bundle (move self.now.count self.now.bundle i j) }
-        ensures small { IfSome result (λ c. IsAtMost c (10 ^ 18)) }
+        ensures small { IfSome result (λ c. IsAtMost c most_cost) }
         ensures asked { steps.new ≡ steps.old + 1 }
     {
         let raised = toggled(self.bundle, self.count, i);
