@@ -1,14 +1,16 @@
 -- From labels to prices.
-use Rattle.std.proofs.Common.{◌≡◌, ℕ, ◌+◌, ◌*◌, ◌^◌, ◌<◌, ◌≤◌, sym, ◌∙◌, subst, arith, ℤ, pos, ◌-ℤ◌, List, length, map, slice_get, Some}
+use Rattle.std.proofs.Common.{◌≡◌, ℕ, ◌+◌, ◌*◌, ◌<◌, ◌≤◌, sym, ◌∙◌, subst, arith, ℤ, pos, ◌-ℤ◌, List, length, map, slice_get, Some}
 use Rattle.std.specs.Prelude.{get_or}
 use Rattle.std.proofs.lemmas.List.{get_or_default}
 use Rattle.tn_base.specs.Arcs.{IsAtMost}
 use Rattle.tn_base.specs.Firm.{Firm}
 use Rattle.tn_base.specs.Walks.{arcs_among, is_admitted, KeepsArcs}
+use Rattle.tn_base.specs.Widths.{most_cost}
 use Rattle.tn_plain_data.specs.declared.ends.Ends.{Ends}
 use Rattle.tn_plain_data.specs.Network.{IsNetwork}
 use Rattle.tn_plain_data.specs.Prices.{price_at}
 use Rattle.tn_market.specs.Valued.{IsWorthAtMost}
+use Rattle.tn_market.specs.Widths.{most_market_trades}
 use Rattle.tn_market.specs.Graph.{exchange_arc}
 use Rattle.tn_market.specs.Admitted.{admitted}
 use Rattle.tn_graph.specs.Matrix.{Matrix}
@@ -16,6 +18,7 @@ use Rattle.tn_graph.specs.MatrixLemmas.{arcs_of-small}
 use Rattle.tn_cycle.specs.Reading.{Reading}
 use Rattle.tn_cycle.specs.Answers.{AreLabels, label_in}
 use Rattle.tn_cycle.specs.GraphLemmas.{small-arcs_among}
+use Rattle.tn_cycle.specs.Widths.{most_read}
 use Rattle.tn_cycle.proofs.DifferenceLemmas.{label_small, difference_within}
 use Rattle.tn_network.specs.Laws.{MeetExchange}
 use Rattle.tn_network.proofs.AdmittedLemmas.{admitted_network}
@@ -27,15 +30,15 @@ use Rattle.tn_flow.specs.Solved.{IsSolution, AreSmallPrices}
 
 -- ---- numbers
 
-pub small_bound : (limit count : ℕ) → 2 * limit * (count + 1) ≤ 10 ^ 18 → 2 * limit ≤ 10 ^ 18
+pub small_bound : (limit count : ℕ) → 2 * limit * (count + 1) ≤ most_cost → 2 * limit ≤ most_cost
 small_bound limit count small = let e : 2 * limit * (count + 1) ≡ 2 * limit * count + 2 * limit = grind arith in omega (arith, small, e)
 
 -- the labels of a graph are small
-pub labels_small : (firms : List Firm) (trades : List Ends) (graph : Matrix) (finder : Reading) (allowed on : ℕ) (labels : List ℤ) → AreUnderWay firms trades graph finder allowed on → length trades ≤ 1024
-    → AreLabels (length trades + 1) (arcs_among (is_admitted (length trades) allowed) (exchange_arc firms trades on)) labels → (t : ℕ) → t < length labels → IsAtMost (label_in labels t) (2 ^ 100)
+pub labels_small : (firms : List Firm) (trades : List Ends) (graph : Matrix) (finder : Reading) (allowed on : ℕ) (labels : List ℤ) → AreUnderWay firms trades graph finder allowed on → length trades ≤ most_market_trades
+    → AreLabels (length trades + 1) (arcs_among (is_admitted (length trades) allowed) (exchange_arc firms trades on)) labels → (t : ℕ) → t < length labels → IsAtMost (label_in labels t) most_read
 labels_small firms trades graph finder allowed on labels way few are =
     label_small (length trades + 1) _ labels are
-    (small-arcs_among (is_admitted (length trades) allowed) (10 ^ 18) (exchange_arc firms trades on) (λ u v cost is. arcs_of-small graph u v cost (way.arcs.arcs u v ∙ is)))
+    (small-arcs_among (is_admitted (length trades) allowed) most_cost (exchange_arc firms trades on) (λ u v cost is. arcs_of-small graph u v cost (way.arcs.arcs u v ∙ is)))
     (omega (arith, few))
 
 -- ---- prices

@@ -1,7 +1,8 @@
 -- What a solver answers.
-use Rattle.std.specs.Prelude.{◌≡◌, ℕ, ◌+◌, ℤ, pos, List, length, All}
+use Rattle.std.specs.Prelude.{◌≡◌, ℕ, ◌+◌, ◌≤◌, ℤ, pos, List, length, All}
 use Rattle.tn_base.specs.Arcs.{IsAtMost}
 use Rattle.tn_base.specs.Firm.{Firm}
+use Rattle.tn_base.specs.Widths.{most_limbs}
 use Rattle.tn_plain_data.specs.declared.ends.Ends.{Ends}
 use Rattle.tn_plain_data.specs.Prices.{price_at}
 use Rattle.tn_market.specs.Best.{IsSubset}
@@ -19,8 +20,9 @@ pub record IsUnsolved (count : ℕ) (solution : Solution) : Type 0 where
   pub one_each : length solution.prices ≡ count
   pub free : (t : ℕ) → price_at solution.prices t ≡ pos 0
 
--- a graph and a finder have a node for each price and null
-pub record IsReady (graph_nodes finder_nodes : ℕ) (prices : List ℤ) : Type 0 where
+-- the width is one of sets, and a graph and a finder have a node for each price and null
+pub record IsReady (width graph_nodes finder_nodes : ℕ) (prices : List ℤ) : Type 0 where
+  pub narrow : width ≤ most_limbs
   pub graph_sized : graph_nodes ≡ length prices + 1
   pub finder_sized : finder_nodes ≡ length prices + 1
 

@@ -1,10 +1,12 @@
 //! The rounds of a solver: trades are admitted one after another, and after each the set that is on is an equilibrium's.
 
-ghost use Rattle.std.specs.Prelude.{◌≡◌, ℕ, ◌+◌, ◌*◌, ◌≤◌, ◌<◌, ◌^◌, ltb, true, false, if◌then◌else◌, length, map, slice_get, IfOk};
+ghost use Rattle.std.specs.Prelude.{◌≡◌, ℕ, ◌+◌, ◌*◌, ◌≤◌, ◌<◌, ltb, true, false, if◌then◌else◌, length, map, slice_get, IfOk};
 ghost use Rattle.tn_base.specs.Sets.{has, toggle};
 ghost use Rattle.tn_base.specs.Walks.{arcs_among, is_admitted};
+ghost use Rattle.tn_base.specs.Widths.{most_cost, most_limbs};
 ghost use Rattle.tn_cycle.specs.Answers.{AreLabels};
 ghost use Rattle.tn_market.specs.Graph.{exchange_arc, graph_worths, ArePossible};
+ghost use Rattle.tn_market.specs.Widths.{most_market_trades};
 ghost use Rattle.tn_network.specs.Along.{along};
 ghost use Rattle.tn_network.specs.Laws.{MeetExchange};
 ghost use Rattle.tn_plain_data.specs.Network.{IsNetwork};
@@ -41,7 +43,6 @@ fn know<V: Valuation>(market: &Market<V>)
 
 /// Toggles a node that is a trade.
 fn toggle_node<const W: usize>(on: &mut TradeSet<W>, node: u32, null: u32)
-    requires width { W ≤ 16 }
     requires wide { null ≤ 64 * W }
     ensures { on.new ≡ (if ltb node null then toggle on.old node else on.old) }
 {
@@ -52,10 +53,10 @@ fn toggle_node<const W: usize>(on: &mut TradeSet<W>, node: u32, null: u32)
 
 impl<const W: usize> Rounds<W> {
     /// Takes all memory that the rounds over a market of so many trades need. No trade is admitted. It fails only where
-    /// memory runs out. There are at most 1,024 trades.
+    /// memory runs out. There are at most 2,048 trades.
     pub fn with_room(alloc: Global, trades: u32) -> Result<Rounds<W>, OutOfMemory>
-        requires width { W ≤ 16 }
-        requires few { trades ≤ 1024 }
+        requires width { W ≤ most_limbs }
+        requires few { trades ≤ most_market_trades }
         ensures room { IfOk result (λ rounds. HaveRoom trades rounds.graph rounds.finder) }
         ensures none_admitted { IfOk result (λ rounds. rounds.allowed ≡ 0) }
         ensures none_on { IfOk result (λ rounds. rounds.on ≡ 0) }
@@ -72,10 +73,10 @@ impl<const W: usize> Rounds<W> {
     /// each firm. The market has at most `64 * W` trades, as many as the rounds were made for, and twice the bound of
     /// each firm is at most 10^18.
     pub fn begin<V: Valuation>(&mut self, market: &Market<V>, steps: &mut Steps<V::Mark>)
-        requires width { W ≤ 16 }
+        requires width { W ≤ most_limbs }
         requires wide { length market.now.trades ≤ 64 * W }
         requires room { HaveRoom (length market.now.trades) self.old.graph self.old.finder }
-        requires small { (f : ℕ) (v : V) → slice_get market.now.firms f ≡ Some v → 2 * V.limit v ≤ 10 ^ 18 }
+        requires small { (f : ℕ) (v : V) → slice_get market.now.firms f ≡ Some v → 2 * V.limit v ≤ most_cost }
         ensures under_way { AreUnderWay (map V.firm market.now.firms) market.now.trades self.new.graph self.new.finder self.new.allowed self.new.on }
         ensures none_admitted { self.new.allowed ≡ 0 }
         ensures none_on { self.new.on ≡ 0 }
@@ -89,7 +90,6 @@ impl<const W: usize> Rounds<W> {
 
     /// Toggles the trades among the nodes of the cycle that the finder found last.
     pub fn toggle_nodes(&mut self, count: u32, null: u32)
-        requires width { W ≤ 16 }
         requires wide { null ≤ 64 * W }
         requires counted { count ≡ length self.old.finder.listed }
         ensures along { self.new ≡ record self.old { on = along null self.old.on self.old.finder.listed } }
@@ -102,7 +102,6 @@ impl<const W: usize> Rounds<W> {
 
     /// Looks for a cycle through a trade that is negative, over it, the admitted trades and null.
     fn find<V: Valuation>(&mut self, market: &Market<V>, t: u32) -> Path
-        requires width { W ≤ 16 }
         requires wide { length market.now.trades ≤ 64 * W }
         requires under_way { AreUnderWay (map V.firm market.now.firms) market.now.trades self.old.graph self.old.finder self.old.allowed self.old.on }
         requires trade { t < length market.now.trades }
@@ -120,9 +119,8 @@ impl<const W: usize> Rounds<W> {
     /// firm, and takes no memory. The rounds are under way on this market, and the trade is one of it that isn't
     /// admitted.
     pub fn admit<V: Valuation>(&mut self, market: &Market<V>, t: u32, steps: &mut Steps<V::Mark>)
-        requires width { W ≤ 16 }
         requires wide { length market.now.trades ≤ 64 * W }
-        requires small { (f : ℕ) (v : V) → slice_get market.now.firms f ≡ Some v → 2 * V.limit v ≤ 10 ^ 18 }
+        requires small { (f : ℕ) (v : V) → slice_get market.now.firms f ≡ Some v → 2 * V.limit v ≤ most_cost }
         requires under_way { AreUnderWay (map V.firm market.now.firms) market.now.trades self.old.graph self.old.finder self.old.allowed self.old.on }
         requires trade { t < length market.now.trades }
         requires out { has self.old.allowed t ≡ false }
@@ -147,9 +145,8 @@ impl<const W: usize> Rounds<W> {
         wanted: bool,
         steps: &mut Steps<V::Mark>,
     )
-        requires width { W ≤ 16 }
         requires wide { length market.now.trades ≤ 64 * W }
-        requires small { (f : ℕ) (v : V) → slice_get market.now.firms f ≡ Some v → 2 * V.limit v ≤ 10 ^ 18 }
+        requires small { (f : ℕ) (v : V) → slice_get market.now.firms f ≡ Some v → 2 * V.limit v ≤ most_cost }
         requires under_way { AreUnderWay (map V.firm market.now.firms) market.now.trades self.old.graph self.old.finder self.old.allowed self.old.on }
         requires trade { t < length market.now.trades }
         requires out { has self.old.allowed t ≡ false }
@@ -171,10 +168,10 @@ impl<const W: usize> Rounds<W> {
         admitted: &TradeSet<W>,
         steps: &mut Steps<V::Mark>,
     )
-        requires width { W ≤ 16 }
+        requires width { W ≤ most_limbs }
         requires wide { length market.now.trades ≤ 64 * W }
         requires room { HaveRoom (length market.now.trades) self.old.graph self.old.finder }
-        requires small { (f : ℕ) (v : V) → slice_get market.now.firms f ≡ Some v → 2 * V.limit v ≤ 10 ^ 18 }
+        requires small { (f : ℕ) (v : V) → slice_get market.now.firms f ≡ Some v → 2 * V.limit v ≤ most_cost }
         requires inside { (t : ℕ) → has admitted.now t ≡ true → t < length market.now.trades }
         ensures under_way { AreUnderWay (map V.firm market.now.firms) market.now.trades self.new.graph self.new.finder self.new.allowed self.new.on }
         ensures admitted { self.new.allowed ≡ admitted.now }
@@ -190,7 +187,6 @@ impl<const W: usize> Rounds<W> {
     /// which what is on is an equilibrium of the market that the admitted trades make. The rounds are under way on this
     /// market.
     pub fn settle<V: Valuation>(&mut self, market: &Market<V>)
-        requires width { W ≤ 16 }
         requires wide { length market.now.trades ≤ 64 * W }
         requires under_way { AreUnderWay (map V.firm market.now.firms) market.now.trades self.old.graph self.old.finder self.old.allowed self.old.on }
         ensures under_way { AreUnderWay (map V.firm market.now.firms) market.now.trades self.new.graph self.new.finder self.new.allowed self.new.on }

@@ -1,7 +1,8 @@
 //! The solver.
 
-ghost use Rattle.std.specs.Prelude.{◌≡◌, ℕ, ◌+◌, ◌-◌, ◌*◌, ◌≤◌, ◌<◌, ◌^◌, ◌-ℤ◌, pos, true, Some, length, map, slice_get, IfOk};
+ghost use Rattle.std.specs.Prelude.{◌≡◌, ℕ, ◌+◌, ◌-◌, ◌*◌, ◌≤◌, ◌<◌, ◌-ℤ◌, pos, true, Some, length, map, slice_get, IfOk};
 ghost use Rattle.tn_base.specs.Sets.{has, set_of};
+ghost use Rattle.tn_base.specs.Widths.{most_cost, most_limbs};
 ghost use Rattle.tn_plain_data.specs.Prices.{price_at};
 ghost use Rattle.tn_market.specs.Equilibrium.{IsEquilibrium};
 ghost use Rattle.tn_market.specs.Graph.{graph_worths};
@@ -30,21 +31,21 @@ impl<const W: usize> Model for Solver<W> {
 
     ghost view = { λ solver. record { on = solver.rounds.on; prices = solver.prices.items } };
 
-    ghost invariant = { λ solver. IsReady solver.rounds.graph.nodes solver.rounds.finder.nodes solver.prices.items };
+    ghost invariant = { λ solver. IsReady W solver.rounds.graph.nodes solver.rounds.finder.nodes solver.prices.items };
 }
 
 /// The set of the first trades.
 #[tactic(auto, unfolding(tn_base::specs::Sets::set_of))]
-fn all_trades<const W: usize>(count: u32) -> TradeSet<W>
-    requires width { W ≤ 16 }
+fn first_trades<const W: usize>(count: u32) -> TradeSet<W>
+    requires width { W ≤ most_limbs }
     requires wide { count ≤ 64 * W }
     ensures { result ≡ set_of (λ t. true) count }
 {
-    let mut all = TradeSet::empty();
+    let mut first = TradeSet::empty();
     for t in 0..count {
-        all.toggle(t);
+        first.toggle(t);
     }
-    all
+    first
 }
 
 impl<const W: usize> Solver<W> {
@@ -54,7 +55,7 @@ impl<const W: usize> Solver<W> {
         alloc: Global,
         market: &Market<V>,
     ) -> Result<Solver<W>, OutOfMemory>
-        requires width { W ≤ 16 }
+        requires width { W ≤ most_limbs }
         requires wide { length market.now.trades ≤ 64 * W }
         ensures { IfOk result (IsUnsolved (length market.now.trades)) }
     {
@@ -80,6 +81,14 @@ impl<const W: usize> Solver<W> {
         self.prices[t as usize]
     }
 
+    /// The set of all trades of the market that the solver was made for.
+    fn all_trades(&self) -> TradeSet<W>
+        requires { length self.now.prices ≤ 64 * W }
+        ensures { result ≡ set_of (λ t. true) (length self.now.prices) }
+    {
+        first_trades(self.prices.len() as u32)
+    }
+
     /// Finds an equilibrium of the market that the given trades admit: trades among these, and prices of all trades, at
     /// which each firm's bundle is best among its bundles within the admitted trades. It has no refusal, takes no memory,
     /// and asks for at most a worth for each two places of each firm, once and once more for each trade (existence:
@@ -92,11 +101,10 @@ impl<const W: usize> Solver<W> {
         admitted: &TradeSet<W>,
         steps: &mut Steps<V::Mark>,
     )
-        requires width { W ≤ 16 }
         requires wide { length market.now.trades ≤ 64 * W }
         requires made_for { length self.old.prices ≡ length market.now.trades }
         requires inside { (t : ℕ) → has admitted.now t ≡ true → t < length market.now.trades }
-        requires small { (f : ℕ) (v : V) → slice_get market.now.firms f ≡ Some v → 2 * V.limit v * (length market.now.trades + 1) ≤ 10 ^ 18 }
+        requires small { (f : ℕ) (v : V) → slice_get market.now.firms f ≡ Some v → 2 * V.limit v * (length market.now.trades + 1) ≤ most_cost }
         ensures solution { IsSolution (map V.firm market.now.firms) market.now.trades admitted.now self.new }
         ensures prices { (bound : ℕ) → ((f : ℕ) (v : V) → slice_get market.now.firms f ≡ Some v → V.limit v ≤ bound)
             → AreSmallPrices (2 * bound * length market.now.trades) self.new.prices }
@@ -111,10 +119,9 @@ impl<const W: usize> Solver<W> {
     /// W` trades, as many as the solver was made for; twice the bound of each firm, times one more than the number of
     /// trades, is at most 10^18.
     pub fn solve_in<V: Valuation>(&mut self, market: &Market<V>, steps: &mut Steps<V::Mark>)
-        requires width { W ≤ 16 }
         requires wide { length market.now.trades ≤ 64 * W }
         requires made_for { length self.old.prices ≡ length market.now.trades }
-        requires small { (f : ℕ) (v : V) → slice_get market.now.firms f ≡ Some v → 2 * V.limit v * (length market.now.trades + 1) ≤ 10 ^ 18 }
+        requires small { (f : ℕ) (v : V) → slice_get market.now.firms f ≡ Some v → 2 * V.limit v * (length market.now.trades + 1) ≤ most_cost }
         ensures one_each { length self.new.prices ≡ length market.now.trades }
         ensures equilibrium { IsEquilibrium (map V.firm market.now.firms) market.now.trades (pos 1) self.new.on (price_at self.new.prices) }
         ensures inside { (t : ℕ) → has self.new.on t ≡ true → t < length market.now.trades }
@@ -122,7 +129,8 @@ impl<const W: usize> Solver<W> {
             → AreSmallPrices (2 * bound * length market.now.trades) self.new.prices }
         ensures asked { steps.new ≤ steps.old + (length market.now.trades + 1) * graph_worths (map V.firm market.now.firms) }
     {
-        let all = all_trades(market.trades());
+        let _trades = market.trades();
+        let all = self.all_trades();
         self.solve_among(market, &all, steps);
     }
 }

@@ -14,11 +14,8 @@ through-requires g c =
         (
           omega (arith, sized, wide),
           (
-            c.requires.width,
-            (
-              omega (arith, sized, trade),
-              search_asks (map g.V.Valuation.firm c.args.market.now.firms) c.args.market.now.trades c.args.self.now.graph c.args.self.now.finder c.args.self.now.allowed c.args.self.now.on way,
-            ),
+            omega (arith, sized, trade),
+            search_asks (map g.V.Valuation.firm c.args.market.now.firms) c.args.market.now.trades c.args.self.now.graph c.args.self.now.finder c.args.self.now.allowed c.args.self.now.on way,
           ),
         ),
       ),

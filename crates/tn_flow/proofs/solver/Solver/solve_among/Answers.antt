@@ -1,5 +1,6 @@
 use Rattle.std.proofs.Common.{◌≡◌, ℕ, ◌<◌, ◌≤◌, ◌-ℤ◌, ℤ, List, ◌∙◌, sym, subst, rules, map, length}
 use Rattle.tn_cycle.specs.Answers.{label_in}
+use Rattle.tn_market.specs.Widths.{most_market_trades}
 use Rattle.tn_plain_data.specs.Prices.{price_at}
 use Rattle.tn_flow.specs.Solved.{IsSolution}
 use Rattle.tn_network.proofs.EachLemmas.{meet_all}
@@ -16,7 +17,7 @@ admit_all-requires g c =
       (
         search rules,
         (
-          c.requires.width,
+          ready.narrow,
           (
             c.requires.wide,
             (
@@ -31,7 +32,7 @@ admit_all-requires g c =
 pub write_differences-requires-clause-small : goal.write_differences-requires-clause-small
 write_differences-requires-clause-small g c =
     labels_small (map g.V.Valuation.firm c.args.market.now.firms) c.args.market.now.trades c.admit_all.new.self.graph c.admit_all.new.self.finder c.admit_all.new.self.allowed c.admit_all.new.self.on
-    c.settle.new.self.finder.labels c.admit_all.ensures.under_way (subst (λ (n : ℕ). n ≤ 1024) c.trades.ensures.count c.trades.ensures.few) c.settle.ensures.labels
+    c.settle.new.self.finder.labels c.admit_all.ensures.under_way (subst (λ (n : ℕ). n ≤ most_market_trades) c.trades.ensures.count c.trades.ensures.few) c.settle.ensures.labels
 
 -- the prices as they were read
 read : (prices labels : List ℤ) (n count : ℕ) → n ≡ count → ((t : ℕ) → t < n → price_at prices t ≡ label_in labels t -ℤ label_in labels n)

@@ -23,13 +23,10 @@ solve_among-requires g c = (
   (
     search rules,
     (
-      c.requires.width,
+      c.requires.wide,
       (
-        c.requires.wide,
-        (
-          c.requires.made_for,
-          ((λ t there. all_inside c.all_trades-all.result c.trades.result (length c.args.market.now.trades) t c.all_trades-all.ensures c.trades.ensures.count there), c.requires.small),
-        ),
+        c.requires.made_for,
+        ((λ t there. all_inside c.all_trades-all.result (length c.args.self.now.prices) (length c.args.market.now.trades) t c.all_trades-all.ensures c.requires.made_for there), c.requires.small),
       ),
     ),
   ),
@@ -37,11 +34,11 @@ solve_among-requires g c = (
 
 pub returns-clause-equilibrium : goal.returns-clause-equilibrium
 returns-clause-equilibrium g c =
-    one_cycle_for_each_trade.all (map g.V.Valuation.firm c.args.market.now.firms) c.args.market.now.trades c.all_trades-all.result c.solve_among.new.self.on c.trades.ensures.network
+    one_cycle_for_each_trade.all (map g.V.Valuation.firm c.args.market.now.firms) c.args.market.now.trades c.all_trades-all.result c.solve_among.new.self.on c.trades-trades.ensures.network
     (meet_all g.V.Valuation.firm c.args.market.now.firms g.met.V.Valuation.own_bundles g.met.V.Valuation.exchange_one g.met.V.Valuation.exchange_net)
-    (λ t below. all_members c.all_trades-all.result c.trades.result (length c.args.market.now.trades) t c.all_trades-all.ensures c.trades.ensures.count below)
+    (λ t below. all_members c.all_trades-all.result (length c.args.self.now.prices) (length c.args.market.now.trades) t c.all_trades-all.ensures c.requires.made_for below)
     (price_at c.solve_among.new.self.prices) c.solve_among.ensures.solution.equilibrium
 
 pub returns-clause-inside : goal.returns-clause-inside
 returns-clause-inside g c =
-    λ t there. all_inside c.all_trades-all.result c.trades.result (length c.args.market.now.trades) t c.all_trades-all.ensures c.trades.ensures.count (c.solve_among.ensures.solution.inside t there)
+    λ t there. all_inside c.all_trades-all.result (length c.args.self.now.prices) (length c.args.market.now.trades) t c.all_trades-all.ensures c.requires.made_for (c.solve_among.ensures.solution.inside t there)

@@ -1,6 +1,6 @@
 use Rattle.std.proofs.Common.{◌≡◌, true}
 use Rattle.tn_base.specs.Sets.{set_of}
-use Rattle.tn_flow.proofs.solver.all_trades.Given as goal
+use Rattle.tn_flow.proofs.solver.first_trades.Given as goal
 
 abbrev pub invariant-loop-t : goal.invariant-loop-t
-invariant-loop-t g l = l.all ≡ set_of (λ t. true) l.t
+invariant-loop-t g l = l.first ≡ set_of (λ t. true) l.t
