@@ -1,5 +1,5 @@
 -- A trade that is on and admitted no longer: the cycle through it that is looked for is there.
-use Rattle.std.proofs.Common.{◌≡◌, ℕ, suc, ◌+◌, ◌-◌, ◌*◌, ◌^◌, ◌≤◌, Bool, false, ◌&&◌, ◌||◌, if◌then◌else◌, sym, ap, ◌∙◌, subst, arith, ℤ, pos, ◌+ℤ◌, List, length, map, Option, None}
+use Rattle.std.proofs.Common.{◌≡◌, ℕ, suc, ◌+◌, ◌-◌, ◌*◌, ◌≤◌, Bool, false, ◌&&◌, ◌||◌, if◌then◌else◌, sym, ap, ◌∙◌, subst, arith, ℤ, pos, ◌+ℤ◌, List, length, map, Option, None}
 use Rattle.std.proofs.lemmas.Bool.{ne_eqb}
 use Rattle.std.proofs.lemmas.Int.{ints}
 use Rattle.tn_base.specs.Arcs.{AreBetweenNodes, AreSmall, IsAtMost}
@@ -24,6 +24,7 @@ use Rattle.tn_network.proofs.EachLemmas.{each_within}
 use Rattle.tn_network.proofs.BarLemmas.{none_without, one_cycle_bars_a_trade}
 use Rattle.tn_session.specs.Lowered.{lowered_from}
 use Rattle.tn_session.specs.Standing.{IsLeaving}
+use Rattle.tn_session.specs.Widths.{lowering, most_path, most_unlowered}
 use Rattle.tn_session.proofs.StandingLemmas.{HasLaws, small_bound_of}
 use Rattle.tn_session.proofs.LoweredLemmas.{lowered-same, lowered-none, among-lowered, least_cycle-lowered, none_through}
 
@@ -35,18 +36,18 @@ arcs_at firm_of market on = exchange_arc (map firm_of market.firms) market.trade
 
 -- no cost is above a bound that is small enough
 costs_small : {V : Type 0} (firm_of : V → Firm) (limit_of : V → ℕ) (market : Traded V) (graph : Matrix) (finder : Reading) (allowed on t : ℕ) → HasLaws firm_of limit_of market → IsLeaving firm_of limit_of market graph finder allowed on t
-    → (bound : ℕ) × AreSmall (arcs_at firm_of market on) (2 * bound) × (2 * bound * (length market.trades + 1) ≤ 10 ^ 17)
+    → (bound : ℕ) × AreSmall (arcs_at firm_of market on) (2 * bound) × (2 * bound * (length market.trades + 1) ≤ most_path)
 costs_small firm_of limit_of market graph finder allowed on t laws leaving =
     let one = small_bound_of limit_of market leaving.small in
     (one.0, arcs_small (map firm_of market.firms) market.trades laws.network one.0 on (each_within firm_of limit_of market.firms laws.within one.0 one.1), one.2)
 
 pub leaving_small : {V : Type 0} (firm_of : V → Firm) (limit_of : V → ℕ) (market : Traded V) (graph : Matrix) (finder : Reading) (allowed on t : ℕ) → HasLaws firm_of limit_of market → IsLeaving firm_of limit_of market graph finder allowed on t
-    → AreSmall (arcs_of graph) (8 * 10 ^ 17)
+    → AreSmall (arcs_of graph) most_unlowered
 leaving_small firm_of limit_of market graph finder allowed on t laws leaving u v cost is =
     let found = costs_small firm_of limit_of market graph finder allowed on t laws leaving in
     wider found.0 (length market.trades) found.2 (found.1 u v cost (sym (leaving.under_way.arcs.arcs u v) ∙ is))
   where
-    wider : (bound count : ℕ) → 2 * bound * (count + 1) ≤ 10 ^ 17 → IsAtMost cost (2 * bound) → IsAtMost cost (8 * 10 ^ 17)
+    wider : (bound count : ℕ) → 2 * bound * (count + 1) ≤ most_path → IsAtMost cost (2 * bound) → IsAtMost cost most_unlowered
     wider bound count most within =
         let e : 2 * bound * (count + 1) ≡ 2 * bound * count + 2 * bound = grind arith in
         let low = within.low in
@@ -55,10 +56,10 @@ leaving_small firm_of limit_of market graph finder allowed on t laws leaving u v
 
 -- what the search asks for: off the trade nothing is lowered
 pub leaving_asks : {V : Type 0} (firm_of : V → Firm) (limit_of : V → ℕ) (market : Traded V) (graph : Matrix) (finder : Reading) (allowed on t : ℕ) → HasLaws firm_of limit_of market → IsLeaving firm_of limit_of market graph finder allowed on t
-    → HasNoNegativeCycle (arcs_among (is_admitted (finder.nodes - 1) allowed) (lowered_from t (pos (2 * 10 ^ 17)) (arcs_of graph)))
+    → HasNoNegativeCycle (arcs_among (is_admitted (finder.nodes - 1) allowed) (lowered_from t (pos lowering) (arcs_of graph)))
 leaving_asks firm_of limit_of market graph finder allowed on t laws leaving =
-    subst (λ (n : ℕ). HasNoNegativeCycle (arcs_among (is_admitted n allowed) (lowered_from t (pos (2 * 10 ^ 17)) (arcs_of graph)))) (sym (last finder.nodes leaving.under_way.sized))
-    (none_negative-same (arcs_among (is_admitted (length market.trades) allowed) (lowered_from t (pos (2 * 10 ^ 17)) (arcs_of graph)))
+    subst (λ (n : ℕ). HasNoNegativeCycle (arcs_among (is_admitted n allowed) (lowered_from t (pos lowering) (arcs_of graph)))) (sym (last finder.nodes leaving.under_way.sized))
+    (none_negative-same (arcs_among (is_admitted (length market.trades) allowed) (lowered_from t (pos lowering) (arcs_of graph)))
     (arcs_among (is_admitted (length market.trades) allowed) (arcs_at firm_of market on)) same (none_without (map firm_of market.firms) market.trades allowed on t leaving.under_way.kept leaving.out))
   where
     last : (n : ℕ) → n ≡ length market.trades + 1 → n - 1 ≡ length market.trades
@@ -70,33 +71,33 @@ leaving_asks firm_of limit_of market graph finder allowed on t laws leaving =
     none : (v : ℕ) → arcs_among (is_admitted (length market.trades) allowed) (arcs_at firm_of market on) t v ≡ None
     none v = ap (λ (b : Bool). if b && is_admitted (length market.trades) allowed v then arcs_at firm_of market on t v else None) away
 
-    same : SameArcs (arcs_among (is_admitted (length market.trades) allowed) (lowered_from t (pos (2 * 10 ^ 17)) (arcs_of graph)))
+    same : SameArcs (arcs_among (is_admitted (length market.trades) allowed) (lowered_from t (pos lowering) (arcs_of graph)))
         (arcs_among (is_admitted (length market.trades) allowed) (arcs_at firm_of market on))
     same u v =
-        sym (among-lowered (is_admitted (length market.trades) allowed) t (pos (2 * 10 ^ 17)) (arcs_of graph) u v)
-        ∙ lowered-same t (pos (2 * 10 ^ 17)) (arcs_among (is_admitted (length market.trades) allowed) (arcs_of graph)) (arcs_among (is_admitted (length market.trades) allowed) (arcs_at firm_of market on))
+        sym (among-lowered (is_admitted (length market.trades) allowed) t (pos lowering) (arcs_of graph) u v)
+        ∙ lowered-same t (pos lowering) (arcs_among (is_admitted (length market.trades) allowed) (arcs_of graph)) (arcs_among (is_admitted (length market.trades) allowed) (arcs_at firm_of market on))
         (among-same (is_admitted (length market.trades) allowed) (arcs_of graph) (arcs_at firm_of market on) leaving.under_way.arcs.arcs) u v
-        ∙ lowered-none t (pos (2 * 10 ^ 17)) (arcs_among (is_admitted (length market.trades) allowed) (arcs_at firm_of market on)) none u v
+        ∙ lowered-none t (pos lowering) (arcs_among (is_admitted (length market.trades) allowed) (arcs_at firm_of market on)) none u v
 
 -- the arcs that it looks at
 looked_same : {V : Type 0} (firm_of : V → Firm) (limit_of : V → ℕ) (market : Traded V) (graph : Matrix) (finder : Reading) (allowed on t : ℕ) → HasLaws firm_of limit_of market → IsLeaving firm_of limit_of market graph finder allowed on t
-    → SameArcs (lowered_from t (pos (2 * 10 ^ 17)) (arcs_with (map firm_of market.firms) market.trades allowed on t))
-    (arcs_among (is_looked_at (finder.nodes - 1) t allowed) (lowered_from t (pos (2 * 10 ^ 17)) (arcs_of graph)))
+    → SameArcs (lowered_from t (pos lowering) (arcs_with (map firm_of market.firms) market.trades allowed on t))
+    (arcs_among (is_looked_at (finder.nodes - 1) t allowed) (lowered_from t (pos lowering) (arcs_of graph)))
 looked_same firm_of limit_of market graph finder allowed on t laws leaving u v =
-    subst (λ (n : ℕ). lowered_from t (pos (2 * 10 ^ 17)) (arcs_with (map firm_of market.firms) market.trades allowed on t) u v
-    ≡ arcs_among (is_looked_at n t allowed) (lowered_from t (pos (2 * 10 ^ 17)) (arcs_of graph)) u v) (sym (last finder.nodes leaving.under_way.sized))
-    (sym (lowered-same t (pos (2 * 10 ^ 17)) _ _ (among-same (is_looked_at (length market.trades) t allowed) (arcs_of graph) (arcs_at firm_of market on) leaving.under_way.arcs.arcs) u v)
-    ∙ among-lowered (is_looked_at (length market.trades) t allowed) t (pos (2 * 10 ^ 17)) (arcs_of graph) u v)
+    subst (λ (n : ℕ). lowered_from t (pos lowering) (arcs_with (map firm_of market.firms) market.trades allowed on t) u v
+    ≡ arcs_among (is_looked_at n t allowed) (lowered_from t (pos lowering) (arcs_of graph)) u v) (sym (last finder.nodes leaving.under_way.sized))
+    (sym (lowered-same t (pos lowering) _ _ (among-same (is_looked_at (length market.trades) t allowed) (arcs_of graph) (arcs_at firm_of market on) leaving.under_way.arcs.arcs) u v)
+    ∙ among-lowered (is_looked_at (length market.trades) t allowed) t (pos lowering) (arcs_of graph) u v)
   where
     last : (n : ℕ) → n ≡ length market.trades + 1 → n - 1 ≡ length market.trades
     last n e = omega (arith, e)
 
 -- it can't find none
 pub leaving_never : {V : Type 0} (firm_of : V → Firm) (limit_of : V → ℕ) (market : Traded V) (graph : Matrix) (finder : Reading) (allowed on t : ℕ) → HasLaws firm_of limit_of market → IsLeaving firm_of limit_of market graph finder allowed on t
-    → CyclesCostAtLeast (arcs_among (is_looked_at (finder.nodes - 1) t allowed) (lowered_from t (pos (2 * 10 ^ 17)) (arcs_of graph))) t (pos 0) → ⊥
+    → CyclesCostAtLeast (arcs_among (is_looked_at (finder.nodes - 1) t allowed) (lowered_from t (pos lowering) (arcs_of graph))) t (pos 0) → ⊥
 leaving_never firm_of limit_of market graph finder allowed on t laws leaving least =
     one_cycle_bars_a_trade.passed (map firm_of market.firms) market.trades allowed on t laws.network laws.meet laws.abstain leaving.under_way.kept leaving.trade leaving.out leaving.member
-    (none_through (suc (length market.trades)) t (2 * bound.0) (2 * 10 ^ 17) (arcs_with (map firm_of market.firms) market.trades allowed on t) between (let h = leaving.trade in omega (arith, h))
+    (none_through (suc (length market.trades)) t (2 * bound.0) lowering (arcs_with (map firm_of market.firms) market.trades allowed on t) between (let h = leaving.trade in omega (arith, h))
     (small-arcs_among (is_looked_at (length market.trades) t allowed) (2 * bound.0) (arcs_at firm_of market on) bound.1)
     (let most = bound.2 in
     let e : suc (length market.trades) * (2 * bound.0) ≡ 2 * bound.0 * (length market.trades + 1) = grind arith in
@@ -104,7 +105,7 @@ leaving_never firm_of limit_of market graph finder allowed on t laws leaving lea
     (none_off_node (length market.trades) t allowed (arcs_at firm_of market on) (none_without (map firm_of market.firms) market.trades allowed on t leaving.under_way.kept leaving.out))
     (cycles-same _ _ (looked_same firm_of limit_of market graph finder allowed on t laws leaving) t (pos 0) least))
   where
-    bound : (bound : ℕ) × AreSmall (arcs_at firm_of market on) (2 * bound) × (2 * bound * (length market.trades + 1) ≤ 10 ^ 17)
+    bound : (bound : ℕ) × AreSmall (arcs_at firm_of market on) (2 * bound) × (2 * bound * (length market.trades + 1) ≤ most_path)
     bound = costs_small firm_of limit_of market graph finder allowed on t laws leaving
 
     between : AreBetweenNodes (suc (length market.trades)) (arcs_with (map firm_of market.firms) market.trades allowed on t)
@@ -114,12 +115,12 @@ leaving_never firm_of limit_of market graph finder allowed on t laws leaving lea
 -- and the set along what it finds is an equilibrium's without the trade
 pub leaving_finds : {V : Type 0} (firm_of : V → Firm) (limit_of : V → ℕ) (market : Traded V) (graph : Matrix) (finder : Reading) (allowed on t : ℕ) → HasLaws firm_of limit_of market → IsLeaving firm_of limit_of market graph finder allowed on t
     → (listed : List ℕ) (cost : ℤ) (count : ℕ)
-    → AnswersCycle (arcs_among (is_looked_at (finder.nodes - 1) t allowed) (lowered_from t (pos (2 * 10 ^ 17)) (arcs_of graph))) t listed (path.Cycle cost count)
+    → AnswersCycle (arcs_among (is_looked_at (finder.nodes - 1) t allowed) (lowered_from t (pos lowering) (arcs_of graph))) t listed (path.Cycle cost count)
     → (count ≡ length listed) × IsKept (map firm_of market.firms) market.trades allowed (along (length market.trades) on listed)
 leaving_finds firm_of limit_of market graph finder allowed on t laws leaving listed cost count found = (
   found.counted,
   subst (λ (ls : List ℕ). IsKept (map firm_of market.firms) market.trades allowed (along (length market.trades) on ls)) (sym found.nodes_are)
       (one_cycle_bars_a_trade.turned (map firm_of market.firms) market.trades allowed on t laws.network laws.meet leaving.under_way.kept leaving.trade leaving.out leaving.member found.rest
-      (cost +ℤ pos (2 * 10 ^ 17)) (least_cycle-lowered t (pos (2 * 10 ^ 17)) _ found.rest cost
+      (cost +ℤ pos lowering) (least_cycle-lowered t (pos lowering) _ found.rest cost
       (least_cycle-same _ _ (looked_same firm_of limit_of market graph finder allowed on t laws leaving) t found.rest cost found.least))),
 )

@@ -1,5 +1,5 @@
 -- What a session stands on and what it holds.
-use Rattle.std.proofs.Common.{◌≡◌, ℕ, zero, suc, ◌+◌, ◌-◌, ◌*◌, ◌^◌, ◌<◌, ◌≤◌, Bool, true, false, not, ◌==◌, ◌||◌, ◌&&◌, inl, inr, refl, sym, ap, ◌∙◌, subst, arith, ℤ, pos, neg_ℤ, ◌-ℤ◌, List, [], ◌∷◌, length, map, slice_get, Some}
+use Rattle.std.proofs.Common.{◌≡◌, ℕ, zero, suc, ◌+◌, ◌-◌, ◌*◌, ◌<◌, ◌≤◌, Bool, true, false, not, ◌==◌, ◌||◌, ◌&&◌, inl, inr, refl, sym, ap, ◌∙◌, subst, arith, ℤ, pos, neg_ℤ, ◌-ℤ◌, List, [], ◌∷◌, length, map, slice_get, Some}
 use Rattle.std.specs.Prelude.{◌≤ℤ◌}
 use Rattle.std.proofs.lemmas.Int.{ints}
 use Rattle.std.proofs.lemmas.List.{get_or_default}
@@ -27,6 +27,9 @@ use Rattle.tn_network.specs.Kept.{IsKept}
 use Rattle.tn_cycle.specs.GraphLemmas.{small-arcs_among}
 use Rattle.tn_flow.proofs.SolverLemmas.{small_bound, solution_from}
 use Rattle.tn_session.specs.Standing.{standing_of, differences, HoldsEquilibrium, HasSmallPrices, AreFirmsSmall, AreSettled, IsBound, IsSession}
+use Rattle.tn_session.specs.Widths.{most_path}
+use Rattle.tn_cycle.specs.Widths.{most_read}
+use Rattle.tn_base.specs.Widths.{most_cost}
 
 -- ---- the firms of a market
 
@@ -47,7 +50,7 @@ laws_of firm_of limit_of market network own one net abstain within = record {
 }
 
 -- no arc costs too much for a graph
-pub firms_small : {V : Type 0} (limit_of : V → ℕ) (market : Traded V) → AreFirmsSmall limit_of market → (f : ℕ) (v : V) → slice_get market.firms f ≡ Some v → 2 * limit_of v ≤ 10 ^ 18
+pub firms_small : {V : Type 0} (limit_of : V → ℕ) (market : Traded V) → AreFirmsSmall limit_of market → (f : ℕ) (v : V) → slice_get market.firms f ≡ Some v → 2 * limit_of v ≤ most_cost
 firms_small limit_of market small f v is = small_bound (limit_of v) (length market.trades) (let most = small f v is in omega (arith, most))
 
 -- ---- one bound for all firms
@@ -71,8 +74,8 @@ one_bound {V} limit_of P none (first ∷ items) each = with_rest (one_bound limi
         all bound here others (suc f) v is = others f v is
 
 -- a bound that is small enough
-pub small_bound_of : {V : Type 0} (limit_of : V → ℕ) (market : Traded V) → AreFirmsSmall limit_of market → (bound : ℕ) × IsBound limit_of market bound × (2 * bound * (length market.trades + 1) ≤ 10 ^ 17)
-small_bound_of limit_of market small = one_bound limit_of (λ b. 2 * b * (length market.trades + 1) ≤ 10 ^ 17) (omega arith) market.firms small
+pub small_bound_of : {V : Type 0} (limit_of : V → ℕ) (market : Traded V) → AreFirmsSmall limit_of market → (bound : ℕ) × IsBound limit_of market bound × (2 * bound * (length market.trades + 1) ≤ most_path)
+small_bound_of limit_of market small = one_bound limit_of (λ b. 2 * b * (length market.trades + 1) ≤ most_path) (omega arith) market.firms small
 
 -- ---- the prices
 
@@ -84,13 +87,13 @@ price-is count labels t below = get_or-map-range_with_len (λ t. label_in labels
 
 -- the numbers that the prices are made of are far from the limits of their type
 pub numbers_small : {V : Type 0} (firm_of : V → Firm) (limit_of : V → ℕ) (market : Traded V) (allowed on : ℕ) (numbers : List ℤ) → AreFirmsSmall limit_of market
-    → AreSettled firm_of limit_of market allowed on numbers → (t : ℕ) → t < length numbers → IsAtMost (label_in numbers t) (2 ^ 100)
+    → AreSettled firm_of limit_of market allowed on numbers → (t : ℕ) → t < length numbers → IsAtMost (label_in numbers t) most_read
 numbers_small firm_of limit_of market allowed on numbers small settled t below =
     let bound = small_bound_of limit_of market small in
     let inside : t < length market.trades + 1 = subst (λ (n : ℕ). t < n) settled.one_each below in
     within bound.0 (length market.trades) bound.2 (settled.high t inside) (settled.low bound.0 t bound.1 inside)
   where
-    within : (bound count : ℕ) → 2 * bound * (count + 1) ≤ 10 ^ 17 → label_in numbers t ≤ℤ pos 0 → neg_ℤ (pos (2 * bound * count)) ≤ℤ label_in numbers t → IsAtMost (label_in numbers t) (2 ^ 100)
+    within : (bound count : ℕ) → 2 * bound * (count + 1) ≤ most_path → label_in numbers t ≤ℤ pos 0 → neg_ℤ (pos (2 * bound * count)) ≤ℤ label_in numbers t → IsAtMost (label_in numbers t) most_read
     within bound count most high low =
         let e : 2 * bound * (count + 1) ≡ 2 * bound * count + 2 * bound = grind arith in
         record { low = omega (arith, ints, most, e, low); high = omega (arith, ints, high) }
@@ -174,7 +177,6 @@ pub barred_off : {V : Type 0} (firm_of : V → Firm) (limit_of : V → ℕ) (wid
     → IsSession firm_of limit_of width market graph finder allowed on → after ≡ toggle allowed t → has allowed t ≡ true → has on t ≡ false → IsSession firm_of limit_of width market graph finder after on
 barred_off firm_of limit_of width market graph finder allowed on t after session e there off = record {
   network = session.network;
-  narrow = session.narrow;
   wide = session.wide;
   small = session.small;
   fits_graph = session.fits_graph;

@@ -1,3 +1,4 @@
+pub mod Widths
 pub mod Lowered
 pub mod LoweredLemmas
 pub mod Standing

@@ -1,8 +1,9 @@
 -- Where a session stands.
-use Rattle.std.specs.Prelude.{◌≡◌, ℕ, ◌+◌, ◌*◌, ◌^◌, ◌<◌, ◌≤◌, ℤ, pos, neg_ℤ, ◌-ℤ◌, ◌≤ℤ◌, List, length, map, slice_get, true, false, Some}
+use Rattle.std.specs.Prelude.{◌≡◌, ℕ, ◌+◌, ◌*◌, ◌<◌, ◌≤◌, ℤ, pos, neg_ℤ, ◌-ℤ◌, ◌≤ℤ◌, List, length, map, slice_get, true, false, Some}
 use Rattle.std.specs.List.{range_with_len}
 use Rattle.tn_base.specs.Sets.{has, toggle}
 use Rattle.tn_base.specs.Firm.{Firm}
+use Rattle.tn_base.specs.Widths.{most_cost}
 use Rattle.tn_base.specs.Walks.{arcs_among, is_admitted, KeepsArcs}
 use Rattle.tn_market.specs.Traded.{Traded}
 use Rattle.tn_plain_data.specs.Network.{IsNetwork}
@@ -12,6 +13,7 @@ use Rattle.tn_cycle.specs.Reading.{Reading}
 use Rattle.tn_cycle.specs.Answers.{label_in}
 use Rattle.tn_flow.specs.Underway.{AreUnderWay}
 use Rattle.tn_flow.specs.Solved.{Solution, IsSolution, AreSmallPrices}
+use Rattle.tn_session.specs.Widths.{most_path}
 
 -- a market, the trades that are admitted, and those of them that are on, with a price for each trade
 pub record Standing (V : Type 0) : Type 0 where
@@ -43,9 +45,9 @@ IsBound {V} limit_of market bound = (f : ℕ) (v : V) → slice_get market.firms
 abbrev pub HasSmallPrices : {V : Type 0} → (V → ℕ) → Standing V → Type 0
 HasSmallPrices limit_of standing = (bound : ℕ) → IsBound limit_of standing.market bound → AreSmallPrices (2 * bound * length standing.market.trades) standing.solution.prices
 
--- twice the bound of each firm's worths, for each trade and once more, is at most 10^17
+-- twice the bound of each firm's worths, for each trade and once more, is no more than a path may cost
 abbrev pub AreFirmsSmall : {V : Type 0} → (V → ℕ) → Traded V → Type 0
-AreFirmsSmall {V} limit_of market = (f : ℕ) (v : V) → slice_get market.firms f ≡ Some v → 2 * limit_of v * (length market.trades + 1) ≤ 10 ^ 17
+AreFirmsSmall {V} limit_of market = (f : ℕ) (v : V) → slice_get market.firms f ≡ Some v → 2 * limit_of v * (length market.trades + 1) ≤ most_path
 
 -- numbers of the nodes that keep the arcs among the admitted trades and null, and are small
 pub record AreSettled {V : Type 0} (firm_of : V → Firm) (limit_of : V → ℕ) (market : Traded V) (allowed on : ℕ) (numbers : List ℤ) : Type 0 where
@@ -57,11 +59,10 @@ pub record AreSettled {V : Type 0} (firm_of : V → Firm) (limit_of : V → ℕ)
 -- what a session keeps: rounds that are under way, and such numbers
 pub record IsSession {V : Type 0} (firm_of : V → Firm) (limit_of : V → ℕ) (width : ℕ) (market : Traded V) (graph : Matrix) (finder : Reading) (allowed on : ℕ) : Type 0 where
   pub network : IsNetwork (map firm_of market.firms) market.trades
-  pub narrow : width ≤ 16
   pub wide : length market.trades ≤ 64 * width
   pub small : AreFirmsSmall limit_of market
   -- so no arc costs more than a graph may hold
-  pub fits_graph : (f : ℕ) (v : V) → slice_get market.firms f ≡ Some v → 2 * limit_of v ≤ 10 ^ 18
+  pub fits_graph : (f : ℕ) (v : V) → slice_get market.firms f ≡ Some v → 2 * limit_of v ≤ most_cost
   pub under_way : AreUnderWay (map firm_of market.firms) market.trades graph finder allowed on
   pub settled : AreSettled firm_of limit_of market allowed on finder.labels
 

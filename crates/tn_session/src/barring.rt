@@ -21,7 +21,6 @@ fn find_cycle<V: Valuation, const W: usize>(
     market: &Market<V>,
     t: u32,
 ) -> u32
-    requires width { W ≤ 16 }
     requires wide { length market.now.trades ≤ 64 * W }
     requires leaving { IsLeaving V.firm V.limit market.now rounds.old.graph rounds.old.finder rounds.old.allowed rounds.old.on t }
     ensures rest { rounds.new ≡ record rounds.old { finder = rounds.new.finder } }
@@ -48,7 +47,6 @@ pub fn switch_off<V: Valuation, const W: usize>(
     t: u32,
     steps: &mut Steps<V::Mark>,
 )
-    requires width { W ≤ 16 }
     requires wide { length market.now.trades ≤ 64 * W }
     requires small { AreFirmsSmall V.limit market.now }
     requires under_way { AreUnderWay (map V.firm market.now.firms) market.now.trades rounds.old.graph rounds.old.finder rounds.old.allowed rounds.old.on }

@@ -1,7 +1,9 @@
-ghost use Rattle.std.specs.Prelude.{◌≡◌, ◌*◌, ◌^◌, pos, ◌-ℤ◌, option_map, IfSome};
+ghost use Rattle.std.specs.Prelude.{◌≡◌, pos, ◌-ℤ◌, option_map, IfSome};
 ghost use Rattle.tn_base.specs.Arcs.{AreSmall, IsAtMost};
+ghost use Rattle.tn_base.specs.Widths.{most_cost};
 ghost use Rattle.tn_session.specs.Lowered.{lowered_from};
 ghost use Rattle.tn_session.specs.LoweredLemmas.{between-lowered, small-lowered};
+ghost use Rattle.tn_session.specs.Widths.{lowering, most_unlowered};
 
 use tn_base::Costs;
 
@@ -10,8 +12,8 @@ const LESS: i128 = 200_000_000_000_000_000;
 
 /// A cost that is lowered, if there is one.
 fn less_of(cost: Option<i128>) -> Option<i128>
-    requires { IfSome cost (λ c. IsAtMost c (10 ^ 18)) }
-    ensures { result ≡ option_map (λ c. c -ℤ pos (2 * 10 ^ 17)) cost }
+    requires { IfSome cost (λ c. IsAtMost c most_cost) }
+    ensures { result ≡ option_map (λ c. c -ℤ pos lowering) cost }
 {
     match cost {
         Some(cost) => Some(cost - LESS),
@@ -28,13 +30,13 @@ pub struct Lowered<'a, C: Costs> {
     pub costs: &'a C,
     /// The node.
     pub node: u32,
-    ghost small: { AreSmall (C.arc costs.now) (8 * 10 ^ 17) },
+    ghost small: { AreSmall (C.arc costs.now) most_unlowered },
 }
 
 impl<C: Costs> Costs for Lowered<'_, C> {
     ghost node_count = { λ it. C.node_count it.costs.now };
 
-    ghost arc = { λ it. lowered_from it.node (pos (2 * 10 ^ 17)) (C.arc it.costs.now) };
+    ghost arc = { λ it. lowered_from it.node (pos lowering) (C.arc it.costs.now) };
 
     fn nodes(&self) -> u32 {
         self.costs.nodes()
@@ -45,7 +47,7 @@ impl<C: Costs> Costs for Lowered<'_, C> {
         if a == self.node { less_of(cost) } else { cost }
     }
 
-    ghost between_nodes = { λ it. between-lowered it.node (C.node_count it.costs.now) (pos (2 * 10 ^ 17)) (C.arc it.costs.now) (C.between_nodes it.costs.now) };
+    ghost between_nodes = { λ it. between-lowered it.node (C.node_count it.costs.now) (pos lowering) (C.arc it.costs.now) (C.between_nodes it.costs.now) };
 
     ghost small = { λ it. small-lowered it.node (C.arc it.costs.now) it.small };
 }

@@ -1,5 +1,6 @@
 ghost use Rattle.std.specs.Prelude.{◌≡◌, ℕ, ◌+◌, ◌*◌, ◌≤◌, ◌<◌, ◌==◌, ◌&&◌, ◌||◌, not, true, false, length, map, IfOk};
 ghost use Rattle.tn_base.specs.Sets.{has};
+ghost use Rattle.tn_base.specs.Widths.{most_limbs};
 ghost use Rattle.tn_plain_data.specs.Prices.{price_at};
 ghost use Rattle.tn_market.specs.Graph.{graph_worths};
 ghost use Rattle.tn_flow.specs.Underway.{AreUnderWay};
@@ -37,7 +38,6 @@ impl<'a, V: Valuation, const W: usize> Model for Session<'a, V, W> {
 
 /// Settles rounds that are under way: then a session may hold them.
 fn settle<V: Valuation, const W: usize>(rounds: &mut Rounds<W>, market: &Market<V>)
-    requires width { W ≤ 16 }
     requires wide { length market.now.trades ≤ 64 * W }
     requires small { AreFirmsSmall V.limit market.now }
     requires under_way { AreUnderWay (map V.firm market.now.firms) market.now.trades rounds.old.graph rounds.old.finder rounds.old.allowed rounds.old.on }
@@ -60,7 +60,7 @@ impl<'a, V: Valuation, const W: usize> Session<'a, V, W> {
         market: &'a Market<V>,
         steps: &mut Steps<V::Mark>,
     ) -> Result<Session<'a, V, W>, OutOfMemory>
-        requires width { W ≤ 16 }
+        requires width { W ≤ most_limbs }
         requires wide { length market.now.trades ≤ 64 * W }
         requires small { AreFirmsSmall V.limit market.now }
         ensures market { IfOk result (λ session. session.market ≡ market.now) }

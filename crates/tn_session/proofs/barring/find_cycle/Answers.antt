@@ -22,13 +22,10 @@ through-requires g c =
         (
           omega (arith, sized, wide),
           (
-            c.requires.width,
-            (
-              omega (arith, sized, trade),
-              leaving_asks g.V.Valuation.firm g.V.Valuation.limit c.args.market.now c.args.rounds.now.graph c.args.rounds.now.finder c.args.rounds.now.allowed c.args.rounds.now.on c.args.t
-                  (laws_of g.V.Valuation.firm g.V.Valuation.limit c.args.market.now c.trades-trades.ensures.network g.met.V.Valuation.own_bundles g.met.V.Valuation.exchange_one g.met.V.Valuation.exchange_net
-                  g.met.V.Valuation.empty_is_possible g.met.V.Valuation.within) c.requires.leaving,
-            ),
+            omega (arith, sized, trade),
+            leaving_asks g.V.Valuation.firm g.V.Valuation.limit c.args.market.now c.args.rounds.now.graph c.args.rounds.now.finder c.args.rounds.now.allowed c.args.rounds.now.on c.args.t
+                (laws_of g.V.Valuation.firm g.V.Valuation.limit c.args.market.now c.trades-trades.ensures.network g.met.V.Valuation.own_bundles g.met.V.Valuation.exchange_one g.met.V.Valuation.exchange_net
+                g.met.V.Valuation.empty_is_possible g.met.V.Valuation.within) c.requires.leaving,
           ),
         ),
       ),

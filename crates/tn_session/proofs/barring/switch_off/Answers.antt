@@ -8,23 +8,20 @@ pub find_cycle-count-requires : goal.find_cycle-count-requires
 find_cycle-count-requires g c = (
   search rules,
   (
-    c.requires.width,
-    (
-      c.requires.wide,
-      record {
-        small = c.requires.small;
-        under_way = with_trade c.args.rounds.now.allowed c.args.t c.toggle.new.self c.toggle.ensures.toggled
-            (AreUnderWay (map g.V.Valuation.firm c.args.market.now.firms) c.args.market.now.trades c.args.rounds.now.graph c.args.rounds.now.finder) c.args.rounds.now.on c.requires.under_way;
-        trade = c.requires.trade;
-        out = without c.args.rounds.now.allowed c.args.t c.toggle.new.self c.toggle.ensures.toggled c.requires.admitted;
-        member = c.requires.on;
-      },
-    ),
+    c.requires.wide,
+    record {
+      small = c.requires.small;
+      under_way = with_trade c.args.rounds.now.allowed c.args.t c.toggle.new.self c.toggle.ensures.toggled
+          (AreUnderWay (map g.V.Valuation.firm c.args.market.now.firms) c.args.market.now.trades c.args.rounds.now.graph c.args.rounds.now.finder) c.args.rounds.now.on c.requires.under_way;
+      trade = c.requires.trade;
+      out = without c.args.rounds.now.allowed c.args.t c.toggle.new.self c.toggle.ensures.toggled c.requires.admitted;
+      member = c.requires.on;
+    },
   ),
 )
 
 pub refresh-requires : goal.refresh-requires
-refresh-requires g c = (search rules, (search rules, (search rules, (search rules, (search rules, firms_small g.V.Valuation.limit c.args.market.now c.requires.small)))))
+refresh-requires g c = (search rules, (search rules, (search rules, (search rules, firms_small g.V.Valuation.limit c.args.market.now c.requires.small))))
 
 pub returns-clause-asked : goal.returns-clause-asked
 returns-clause-asked g c =

@@ -4,7 +4,6 @@ use Rattle.tn_session.proofs.session.settle.Goals as goal
 pub returns-clause-settled : goal.returns-clause-settled
 returns-clause-settled g c = record {
   network = c.trades-trades.ensures.network;
-  narrow = c.requires.width;
   wide = c.requires.wide;
   small = c.requires.small;
   fits_graph = firms_small g.V.Valuation.limit c.args.market.now c.requires.small;

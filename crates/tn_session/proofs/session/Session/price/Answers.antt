@@ -1,8 +1,9 @@
-use Rattle.std.proofs.Common.{◌≡◌, ◌∙◌, ℕ, ◌+◌, ◌^◌, ◌<◌, ◌-ℤ◌, ℤ, List, sym, ap, subst, arith, length}
+use Rattle.std.proofs.Common.{◌≡◌, ◌∙◌, ℕ, ◌+◌, ◌<◌, ◌-ℤ◌, ℤ, List, sym, ap, subst, arith, length}
 use Rattle.std.specs.Int.{w128}
 use Rattle.std.proofs.lemmas.Int.{ints, to_z-of_z}
 use Rattle.tn_base.specs.Arcs.{IsAtMost}
 use Rattle.tn_cycle.specs.Answers.{label_in}
+use Rattle.tn_cycle.specs.Widths.{most_read}
 use Rattle.tn_plain_data.specs.Prices.{price_at}
 use Rattle.tn_session.specs.Standing.{Standing}
 use Rattle.tn_session.proofs.StandingLemmas.{numbers_small, price-is}
@@ -14,14 +15,14 @@ label_less-requires-clause-small g c =
     numbers_small g.V.Valuation.firm g.V.Valuation.limit c.self.inside.market.now c.self.inside.rounds.allowed c.self.inside.rounds.on c.self.inside.rounds.finder.labels c.self.invariant.small c.self.invariant.settled
 
 -- a difference of two labels fits its type
-fits : (labels : List ℤ) (count t null : ℕ) (price : ℤ) → length labels ≡ count → t < count → null < count → ((v : ℕ) → v < length labels → IsAtMost (label_in labels v) (2 ^ 100))
+fits : (labels : List ℤ) (count t null : ℕ) (price : ℤ) → length labels ≡ count → t < count → null < count → ((v : ℕ) → v < length labels → IsAtMost (label_in labels v) most_read)
     → price ≡ label_in labels t -ℤ label_in labels null → SFits w128 price
 fits labels count t null price counted below last small is =
     let one = small t (omega (arith, counted, below)) in
     let other = small null (omega (arith, counted, last)) in
     between (label_in labels t) (label_in labels null) price one other is
   where
-    between : (a b z : ℤ) → IsAtMost a (2 ^ 100) → IsAtMost b (2 ^ 100) → z ≡ a -ℤ b → SFits w128 z
+    between : (a b z : ℤ) → IsAtMost a most_read → IsAtMost b most_read → z ≡ a -ℤ b → SFits w128 z
     between a b z first second is =
         let a_low = first.low in
         let a_high = first.high in
