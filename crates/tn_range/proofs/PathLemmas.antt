@@ -1,12 +1,14 @@
 -- Least walks as they are found, and as they are said.
-use Rattle.std.proofs.Common.{◌≡◌, ℕ, zero, suc, ◌+◌, ◌*◌, ◌^◌, ◌<◌, ◌≤◌, List, [], ◌∷◌, ◌++◌, length, slice_get, Some, None, Option, refl, sym, ◌∙◌, arith, inl, inr, ℤ}
+use Rattle.std.proofs.Common.{◌≡◌, ℕ, zero, suc, ◌+◌, ◌*◌, ◌<◌, ◌≤◌, List, [], ◌∷◌, ◌++◌, length, slice_get, Some, None, Option, refl, sym, ◌∙◌, arith, inl, inr, ℤ}
 use Rattle.std.specs.Prelude.{IfSome}
 use Rattle.std.proofs.lemmas.Int.{ints}
 use Rattle.std.proofs.lemmas.Option.{none-some, same_Some, slice_get_within, get_or_from_slice_get}
 use Rattle.tn_base.specs.Arcs.{IsAtMost, AreBetweenNodes, AreSmall}
 use Rattle.tn_base.specs.Walks.{AreDifferent, Avoids}
+use Rattle.tn_base.specs.Widths.{most_cost}
 use Rattle.tn_base.proofs.WalkLemmas.{SameArcs, walk-same}
 use Rattle.tn_cycle.specs.Answers.{LeadsLeast}
+use Rattle.tn_cycle.specs.Widths.{most_graph_nodes, most_read}
 use Rattle.tn_cycle.proofs.WalkLemmas.{AreApart, apart_from_different, few_apart, walk_inside}
 use Rattle.tn_cycle.proofs.RoundLemmas.{walk_small}
 use Rattle.tn_network.specs.Bounds.{IsDistance}
@@ -57,14 +59,14 @@ different-push xs w different avoids j k v at_j at_k = elim (append_cases xs (w 
     outside i is same = avoids i v (slice_get_within xs i v is) (get_or_from_slice_get xs i v v is ∙ sym same)
 
 -- in a graph of few nodes and small costs least walks have small costs
-pub least-small : (n : ℕ) (arc : ℕ → ℕ → Option ℤ) → AreBetweenNodes n arc → AreSmall arc (10 ^ 18) → n ≤ 1025 → (u w : ℕ) (listed : List ℕ) (o : Option ℤ) → u < n
-    → LeadsLeast arc u w listed o → IfSome o (λ cost. IsAtMost cost (2 ^ 100))
+pub least-small : (n : ℕ) (arc : ℕ → ℕ → Option ℤ) → AreBetweenNodes n arc → AreSmall arc most_cost → n ≤ most_graph_nodes → (u w : ℕ) (listed : List ℕ) (o : Option ℤ) → u < n
+    → LeadsLeast arc u w listed o → IfSome o (λ cost. IsAtMost cost most_read)
 unfolding AreApart
 least-small n arc between small few u w listed None inside none = tt
 least-small n arc between small few u w listed (Some cost) inside some =
     let apart = apart_from_different (u ∷ some.inner) some.different in
     let fewer = few_apart n u some.inner inside (walk_inside n arc between u some.inner w cost some.least.walk) apart.0 apart.1 in
-    by (length some.inner) (omega (arith, fewer, few)) (walk_small arc (10 ^ 18) small u some.inner w cost some.least.walk)
+    by (length some.inner) (omega (arith, fewer, few)) (walk_small arc most_cost small u some.inner w cost some.least.walk)
   where
-    by : (k : ℕ) → k < 1025 → IsAtMost cost ((k + 1) * 10 ^ 18) → IsAtMost cost (2 ^ 100)
+    by : (k : ℕ) → k < most_graph_nodes → IsAtMost cost ((k + 1) * most_cost) → IsAtMost cost most_read
     by k below at = let low = at.low in let high = at.high in record { low = omega (arith, ints, below, low, high); high = omega (arith, ints, below, low, high) }

@@ -1,5 +1,5 @@
 -- What the least walks show of the prices of all trades.
-use Rattle.std.proofs.Common.{◌≡◌, ℕ, ◌+◌, ◌^◌, ◌<◌, ◌≤◌, ◌⊎◌, inl, inr, List, [], ◌∷◌, ◌++◌, length, slice_get, Some, None, Option, option_map, refl, sym, ap, ◌∙◌, subst, arith, ℤ, neg_ℤ}
+use Rattle.std.proofs.Common.{◌≡◌, ℕ, ◌+◌, ◌<◌, ◌≤◌, ◌⊎◌, inl, inr, List, [], ◌∷◌, ◌++◌, length, slice_get, Some, None, Option, option_map, refl, sym, ap, ◌∙◌, subst, arith, ℤ, neg_ℤ}
 use Rattle.std.specs.Prelude.{IfSome}
 use Rattle.std.proofs.lemmas.Int.{ints}
 use Rattle.std.proofs.lemmas.Bool.{cases_lt}
@@ -14,11 +14,13 @@ use Rattle.tn_plain_data.specs.declared.range.Range.{Range}
 use Rattle.tn_plain_data.specs.Network.{IsNetwork}
 use Rattle.tn_market.specs.Graph.{exchange_arc}
 use Rattle.tn_market.specs.Ranges.{IsSupported, IsPath, ShowsHighest, ShowsLowest, IsRange, AreRanges}
+use Rattle.tn_market.specs.Widths.{most_market_trades}
 use Rattle.tn_graph.specs.Matrix.{Matrix, arcs_of}
 use Rattle.tn_graph.specs.MatrixLemmas.{arcs_of-between, arcs_of-small}
 use Rattle.tn_graph.specs.Reading.{IsExchangeGraph}
 use Rattle.tn_cycle.specs.Reading.{Reading}
 use Rattle.tn_cycle.specs.Answers.{IsLeastPath, LeadsLeast, distance_in, walk_in}
+use Rattle.tn_cycle.specs.Widths.{most_read}
 use Rattle.tn_cycle.proofs.WalkLemmas.{avoids-cons}
 use Rattle.tn_network.specs.Laws.{MeetExchange}
 use Rattle.tn_network.specs.Bounds.{IsDistance}
@@ -58,8 +60,8 @@ none_negative firms trades on graph network supported is =
     none_negative-same (arcs_of graph) (exchange_arc firms trades on) is.arcs (equilibrium_no_cycle firms trades on supported.prices network supported.equilibrium)
 
 -- the costs of least walks to null are small
-pub costs_small : (graph : Matrix) (nodes null trades : ℕ) (to_null : Reading) → graph.nodes ≡ trades + 1 → nodes ≡ trades + 1 → trades ≤ 1024
-    → ((v : ℕ) → v < nodes → LeadsLeast (arcs_of graph) v null (walk_in to_null v) (distance_in to_null v)) → (t : ℕ) → t < trades → IfSome (distance_in to_null t) (λ cost. IsAtMost cost (2 ^ 100))
+pub costs_small : (graph : Matrix) (nodes null trades : ℕ) (to_null : Reading) → graph.nodes ≡ trades + 1 → nodes ≡ trades + 1 → trades ≤ most_market_trades
+    → ((v : ℕ) → v < nodes → LeadsLeast (arcs_of graph) v null (walk_in to_null v) (distance_in to_null v)) → (t : ℕ) → t < trades → IfSome (distance_in to_null t) (λ cost. IsAtMost cost most_read)
 costs_small graph nodes null trades to_null sized also few walks t below =
     least-small graph.nodes (arcs_of graph) (arcs_of-between graph) (arcs_of-small graph) (omega (arith, sized, few)) t null (walk_in to_null t) (distance_in to_null t)
     (omega (arith, sized, below)) (walks t (omega (arith, also, below)))

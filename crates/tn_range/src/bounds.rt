@@ -1,8 +1,9 @@
 //! From least walks to the range of a trade.
 
-ghost use Rattle.std.specs.Prelude.{◌≡◌, ◌<◌, ◌^◌, neg_ℤ, length, option_map, IfOk, IfSome};
+ghost use Rattle.std.specs.Prelude.{◌≡◌, ◌<◌, neg_ℤ, length, option_map, IfOk, IfSome};
 ghost use Rattle.tn_base.specs.Arcs.{IsAtMost};
 ghost use Rattle.tn_cycle.specs.Answers.{distance_in, walk_in};
+ghost use Rattle.tn_cycle.specs.Widths.{most_read};
 ghost use Rattle.tn_range.specs.Shown.{KeepsWalks, range_by, said_walk};
 
 use std::alloc::Global;
@@ -26,7 +27,7 @@ fn walk_from(alloc: Global, finder: &mut Finder, t: u32, null: u32) -> Result<No
 
 /// The negative of a cost, if there is one.
 fn negated(cost: Option<i128>) -> Option<i128>
-    requires { IfSome cost (λ c. IsAtMost c (2 ^ 100)) }
+    requires { IfSome cost (λ c. IsAtMost c most_read) }
     ensures { result ≡ option_map neg_ℤ cost }
 {
     match cost {
@@ -46,7 +47,7 @@ pub(crate) fn range_of(
 ) -> Result<Range, OutOfMemory>
     requires from_found { t < length from_null.old.distances }
     requires to_found { t < length to_null.old.distances }
-    requires small { IfSome (distance_in to_null.old t) (λ c. IsAtMost c (2 ^ 100)) }
+    requires small { IfSome (distance_in to_null.old t) (λ c. IsAtMost c most_read) }
     ensures range { IfOk result (λ range. range ≡ range_by null from_null.old to_null.old t) }
     ensures from_walks { KeepsWalks from_null.old from_null.new }
     ensures to_walks { KeepsWalks to_null.old to_null.new }

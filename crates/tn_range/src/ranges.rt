@@ -1,8 +1,10 @@
 //! The ranges of all trades.
 
-ghost use Rattle.std.specs.Prelude.{◌≡◌, ℕ, ◌+◌, ◌*◌, ◌≤◌, ◌<◌, ◌^◌, Some, length, map, slice_get, IfOk, IfSome};
+ghost use Rattle.std.specs.Prelude.{◌≡◌, ℕ, ◌+◌, ◌*◌, ◌≤◌, ◌<◌, Some, length, map, slice_get, IfOk, IfSome};
 ghost use Rattle.tn_base.specs.Arcs.{IsAtMost};
+ghost use Rattle.tn_base.specs.Widths.{most_cost};
 ghost use Rattle.tn_cycle.specs.Answers.{distance_in};
+ghost use Rattle.tn_cycle.specs.Widths.{most_read};
 ghost use Rattle.tn_market.specs.Graph.{graph_worths};
 ghost use Rattle.tn_market.specs.Ranges.{AreRanges, IsSupported};
 ghost use Rattle.tn_range.specs.Shown.{AreRangesBy};
@@ -24,7 +26,7 @@ fn ranges_from(
 ) -> Result<Ranges, OutOfMemory>
     requires from_found { length from_null.distances ≡ trades + 1 }
     requires to_found { length to_null.distances ≡ trades + 1 }
-    requires small { (t : ℕ) → t < trades → IfSome (distance_in to_null t) (λ c. IsAtMost c (2 ^ 100)) }
+    requires small { (t : ℕ) → t < trades → IfSome (distance_in to_null t) (λ c. IsAtMost c most_read) }
     ensures { IfOk result (AreRangesBy trades trades from_null to_null) }
 {
     let mut ranges = Vec::with_capacity(alloc, trades as usize)?;
@@ -47,9 +49,8 @@ pub fn range<V: Valuation, const W: usize>(
     on: &TradeSet<W>,
     steps: &mut Steps<V::Mark>,
 ) -> Result<Ranges, OutOfMemory>
-    requires width { W ≤ 16 }
     requires wide { length market.now.trades ≤ 64 * W }
-    requires small { (f : ℕ) (v : V) → slice_get market.now.firms f ≡ Some v → 2 * V.limit v ≤ 10 ^ 18 }
+    requires small { (f : ℕ) (v : V) → slice_get market.now.firms f ≡ Some v → 2 * V.limit v ≤ most_cost }
     requires supported { IsSupported (map V.firm market.now.firms) market.now.trades on.now }
     ensures ranges { IfOk result (AreRanges (map V.firm market.now.firms) market.now.trades on.now) }
     ensures asked { steps.new ≤ steps.old + graph_worths (map V.firm market.now.firms) }

@@ -10,15 +10,12 @@ pub fill-requires : goal.fill-requires
 fill-requires g c = (
   search rules,
   (
-    c.requires.width,
+    c.requires.wide,
     (
-      c.requires.wide,
+      search rules,
       (
-        search rules,
-        (
-          equilibrium_possible (map g.V.Valuation.firm c.args.market.now.firms) c.args.market.now.trades (pos 1) c.args.on.now c.requires.supported.prices c.requires.supported.equilibrium,
-          c.requires.small,
-        ),
+        equilibrium_possible (map g.V.Valuation.firm c.args.market.now.firms) c.args.market.now.trades (pos 1) c.args.on.now c.requires.supported.prices c.requires.supported.equilibrium,
+        c.requires.small,
       ),
     ),
   ),
