@@ -17,9 +17,11 @@ use Rattle.tn_base.proofs.SetLemmas.{set_of_within}
 use Rattle.tn_base.proofs.SumLemmas.{sum_over-same_terms}
 use Rattle.tn_plain_data.specs.declared.ends.Ends.{Ends}
 use Rattle.tn_plain_data.specs.Prices.{price_at}
+use Rattle.tn_plain_data.specs.Limits.{most_number}
 use Rattle.tn_plain_data.specs.Network.{own, part}
 use Rattle.tn_market.specs.Equilibrium.{prices_at, utility_at, HasBest, IsEquilibrium, surplus_from, surplus_of}
 use Rattle.tn_market.specs.Judged.{AreBestBefore, IsFirstImpossible, IsFirstBettered}
+use Rattle.tn_market.specs.Widths.{most_market_firms, most_own, most_utility, most_worth}
 use Rattle.tn_price.specs.declared.firm_verdict.FirmVerdict.{FirmVerdict}
 use Rattle.tn_price.specs.declared.firm_verdict.FirmVerdict.TheVariants.{Best, Impossible, Bettered}
 use Rattle.tn_price.specs.Standings.{IsBestWorth, Stands, StandsAt, AreOwnPrices}
@@ -27,21 +29,21 @@ use Rattle.tn_price.proofs.SurplusLemmas.{sum_more}
 
 -- ---- the prices of a firm
 
-pub none_priced : (trades : List Ends) (prices : ℕ → ℤ) (f : ℕ) (list : List ℤ) → length list ≡ 32 → All (λ p. IsAtMost p (10 ^ 18)) list
+pub none_priced : (trades : List Ends) (prices : ℕ → ℤ) (f : ℕ) (list : List ℤ) → length list ≡ most_own → All (λ p. IsAtMost p most_number) list
     → AreOwnPrices trades prices f 0 list
 none_priced trades prices f list counted small = record { counted = counted; small = small; each = λ k below. absurd (omega (arith, below)) }
 
-pub one_priced : (trades : List Ends) (prices : List ℤ) (f k t : ℕ) (price : ℤ) (list : List ℤ) → AreOwnPrices trades (price_at prices) f k list → k < 32
-    → t ≡ own trades f k → slice_get prices t ≡ Some price → All (λ p. IsAtMost p (10 ^ 18)) prices
+pub one_priced : (trades : List Ends) (prices : List ℤ) (f k t : ℕ) (price : ℤ) (list : List ℤ) → AreOwnPrices trades (price_at prices) f k list → k < most_own
+    → t ≡ own trades f k → slice_get prices t ≡ Some price → All (λ p. IsAtMost p most_number) prices
     → AreOwnPrices trades (price_at prices) f (k + 1) (set list k price)
 one_priced trades prices f k t price list before inside at is small =
     let wide : k < length list = omega (arith, inside, before.counted) in
     let read : price_at prices t ≡ price = get_or_from_slice_get prices t price (pos 0) is in
-    let price_small : IsAtMost price (10 ^ 18) =
-    subst (λ (z : ℤ). IsAtMost z (10 ^ 18)) read (All-get_or (λ p. IsAtMost p (10 ^ 18)) prices t (pos 0) (slice_get_within prices t price is) small) in
+    let price_small : IsAtMost price most_number =
+    subst (λ (z : ℤ). IsAtMost z most_number) read (All-get_or (λ p. IsAtMost p most_number) prices t (pos 0) (slice_get_within prices t price is) small) in
     record {
       counted = length-set list k price ∙ before.counted;
-      small = All-set (λ z. IsAtMost z (10 ^ 18)) list k price price_small before.small;
+      small = All-set (λ z. IsAtMost z most_number) list k price price_small before.small;
       each = λ i below. elim (cases_eq i k) [
         | inl e ↦ subst (λ (n : ℕ). price_at (set list k price) n ≡ prices_at trades (price_at prices) f n) (sym e)
             (get_or-set_same list k price (pos 0) wide ∙ sym read ∙ ap (price_at prices) at)
@@ -49,10 +51,10 @@ one_priced trades prices f k t price list before inside at is small =
       ];
     }
 
-pub price_fits : (prices : List ℤ) (t : ℕ) (price : ℤ) → slice_get prices t ≡ Some price → All (λ p. IsAtMost p (10 ^ 18)) prices → IsAtMost price (10 ^ 22)
+pub price_fits : (prices : List ℤ) (t : ℕ) (price : ℤ) → slice_get prices t ≡ Some price → All (λ p. IsAtMost p most_number) prices → IsAtMost price most_utility
 price_fits prices t price is small =
     let read : price_at prices t ≡ price = get_or_from_slice_get prices t price (pos 0) is in
-    let there = All-get_or (λ p. IsAtMost p (10 ^ 18)) prices t (pos 0) (slice_get_within prices t price is) small in
+    let there = All-get_or (λ p. IsAtMost p most_number) prices t (pos 0) (slice_get_within prices t price is) small in
     let low = there.low in
     let high = there.high in
     record { low = omega (arith, ints, read, low); high = omega (arith, ints, read, high) }
@@ -131,7 +133,7 @@ some_item (x ∷ xs) (suc f) inside = some_item xs f (omega (arith, inside))
 pub record AreJudged (firms : List Firm) (trades : List Ends) (scale : ℤ) (on : ℕ) (prices : ℕ → ℤ) (f : ℕ) (surplus : ℤ) : Type 0 where
   pub before : AreBestBefore firms trades scale on prices f
   pub sum : surplus_from trades on 0 (take f firms) ≡ Some surplus
-  pub small : IsAtMost surplus (f * 10 ^ 11)
+  pub small : IsAtMost surplus (f * most_worth)
 
 pub none_judged : (firms : List Firm) (trades : List Ends) (scale : ℤ) (on : ℕ) (prices : ℕ → ℤ) → AreJudged firms trades scale on prices 0 (pos 0)
 none_judged firms trades scale on prices = record {
@@ -157,7 +159,7 @@ one_judged firms trades scale on prices f surplus amount firm judged is best = r
   small = add _ _ judged.small best.small;
 }
   where
-    add : (a b : ℤ) → IsAtMost a (f * 10 ^ 11) → IsAtMost b (10 ^ 11) → IsAtMost (a +ℤ b) ((f + 1) * 10 ^ 11)
+    add : (a b : ℤ) → IsAtMost a (f * most_worth) → IsAtMost b most_worth → IsAtMost (a +ℤ b) ((f + 1) * most_worth)
     add a b small_a small_b = record { low = omega (arith, ints, small_a.low, small_b.low); high = omega (arith, ints, small_a.high, small_b.high) }
 
 -- the end
@@ -193,7 +195,7 @@ first_bettered firms trades scale on prices f x gain firm before is stands =
     }
 
 -- the sum of the worths fits
-pub sum_fits : (surplus amount : ℤ) (f n : ℕ) → IsAtMost surplus (f * 10 ^ 11) → IsAtMost amount (10 ^ 11) → f < n → n ≤ 1024 → SFits w128 (surplus +ℤ amount)
+pub sum_fits : (surplus amount : ℤ) (f n : ℕ) → IsAtMost surplus (f * most_worth) → IsAtMost amount most_worth → f < n → n ≤ most_market_firms → SFits w128 (surplus +ℤ amount)
 sum_fits surplus amount f n small more below few =
     let low = small.low in
     let high = small.high in
@@ -202,7 +204,7 @@ sum_fits surplus amount f n small more below few =
     omega (arith, ints, low, high, more_low, more_high, below, few)
 
 -- a bundle of the greatest utility is best, with its worth
-pub best_worth : (worth value_of : ℕ → Option ℤ) (x y : ℕ) (amount value most : ℤ) → worth x ≡ Some amount → IsAtMost amount (10 ^ 11)
+pub best_worth : (worth value_of : ℕ → Option ℤ) (x y : ℕ) (amount value most : ℤ) → worth x ≡ Some amount → IsAtMost amount most_worth
     → value_of x ≡ Some value → IsBest value_of y most → most ≤ℤ value → IsBestWorth worth value_of x amount
 best_worth worth value_of x y amount value most worth_is small value_is best above = record {
   worth_is = worth_is;

@@ -1,5 +1,5 @@
 -- From the exchange graph's labels to prices, and from its cycles to none.
-use Rattle.std.proofs.Common.{◌≡◌, ℕ, ◌+◌, ◌*◌, ◌^◌, ◌<◌, ◌≤◌, ◌⊎◌, inl, inr, Bool, not, true, false, sym, ap, ◌∙◌, subst, arith, refl, ℤ, pos, ◌-ℤ◌, List, [], ◌∷◌, length, map, slice_get, Option, Some, None, is_none}
+use Rattle.std.proofs.Common.{◌≡◌, ℕ, ◌+◌, ◌*◌, ◌<◌, ◌≤◌, ◌⊎◌, inl, inr, Bool, not, true, false, sym, ap, ◌∙◌, subst, arith, refl, ℤ, pos, ◌-ℤ◌, List, [], ◌∷◌, length, map, slice_get, Option, Some, None, is_none}
 use Rattle.std.specs.Prelude.{is_some, All, IsSome, get_or}
 use Rattle.std.proofs.lemmas.Bool.{cases_eq}
 use Rattle.std.proofs.lemmas.List.{get_or_default}
@@ -16,6 +16,7 @@ use Rattle.tn_graph.specs.Matrix.{Matrix, arcs_of}
 use Rattle.tn_graph.specs.MatrixLemmas.{arcs_of-small}
 use Rattle.tn_graph.specs.Reading.{IsExchangeGraph}
 use Rattle.tn_cycle.specs.Answers.{AreLabels, BeginsWell, IsNegative, label_in}
+use Rattle.tn_cycle.specs.Widths.{most_graph_nodes, most_read}
 use Rattle.tn_cycle.proofs.DifferenceLemmas.{labels-same, label_small, difference_within}
 use Rattle.tn_network.specs.Laws.{MeetExchange}
 use Rattle.tn_network.proofs.EachLemmas.{each_within, same_prices}
@@ -70,7 +71,7 @@ pub exchange_labels : (firms : List Firm) (trades : List Ends) (on nodes : ℕ) 
 exchange_labels firms trades on nodes graph labels is sized are =
     labels-same (length trades + 1) (exchange_arc firms trades on) (arcs_of graph) labels (λ u v. sym (is.arcs u v)) (subst (λ (n : ℕ). AreLabels n (arcs_of graph) labels) sized are)
 
-pub exchange_small : (nodes : ℕ) (graph : Matrix) (labels : List ℤ) → nodes ≤ 1025 → AreLabels nodes (arcs_of graph) labels → (v : ℕ) → v < length labels → IsAtMost (label_in labels v) (2 ^ 100)
+pub exchange_small : (nodes : ℕ) (graph : Matrix) (labels : List ℤ) → nodes ≤ most_graph_nodes → AreLabels nodes (arcs_of graph) labels → (v : ℕ) → v < length labels → IsAtMost (label_in labels v) most_read
 exchange_small nodes graph labels few are = label_small nodes (arcs_of graph) labels are (arcs_of-small graph) few
 
 -- prices as they were read off the labels

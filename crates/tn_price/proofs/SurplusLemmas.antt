@@ -1,5 +1,5 @@
 -- The surplus of a set of trades, added up firm by firm.
-use Rattle.std.proofs.Common.{◌≡◌, ℕ, zero, suc, ◌+◌, ◌*◌, ◌^◌, ◌<◌, ◌≤◌, List, [], ◌∷◌, ◌++◌, length, take, slice_get, Some, None, Option, option_map, refl, sym, ap, ◌∙◌, arith, ℤ, pos, ◌+ℤ◌, add-one}
+use Rattle.std.proofs.Common.{◌≡◌, ℕ, zero, suc, ◌+◌, ◌*◌, ◌<◌, ◌≤◌, List, [], ◌∷◌, ◌++◌, length, take, slice_get, Some, None, Option, option_map, refl, sym, ap, ◌∙◌, arith, ℤ, pos, ◌+ℤ◌, add-one}
 use Rattle.std.specs.Prelude.{option_and_then}
 use Rattle.std.proofs.lemmas.Int.{ints}
 use Rattle.std.proofs.lemmas.Option.{none-some, same_Some, option_and_then_some, slice_get_within, get_or_from_slice_get}
@@ -13,6 +13,7 @@ use Rattle.tn_law.proofs.KeepLemmas.{option_map-some}
 use Rattle.tn_plain_data.specs.declared.ends.Ends.{Ends}
 use Rattle.tn_plain_data.specs.Network.{part}
 use Rattle.tn_market.specs.Equilibrium.{surplus_from, surplus_of}
+use Rattle.tn_market.specs.Widths.{most_limit, most_market_firms}
 
 surplus_from-append : (trades : List Ends) (on s : ℕ) (firms : List Firm) (firm : Firm) (f : ℕ) (a b : ℤ) → f ≡ s + length firms
     → surplus_from trades on s firms ≡ Some a → firm.worth (part trades f firm.count on) ≡ Some b
@@ -72,13 +73,13 @@ none_from trades on s (suc f) (first ∷ firms) firm is worth_is =
 -- the worths of the firms before f have this sum
 pub record AreAdded (firms : List Firm) (trades : List Ends) (on f : ℕ) (surplus : ℤ) : Type 0 where
   pub sum : surplus_from trades on 0 (take f firms) ≡ Some surplus
-  pub small : IsAtMost surplus (f * 10 ^ 18)
+  pub small : IsAtMost surplus (f * most_limit)
 
 pub none_added : (firms : List Firm) (trades : List Ends) (on : ℕ) → AreAdded firms trades on 0 (pos 0)
 none_added firms trades on = record { sum = refl; small = record { low = omega (arith, ints); high = omega (arith, ints) } }
 
 pub one_added : (firms : List Firm) (trades : List Ends) (on f : ℕ) (surplus amount : ℤ) (firm : Firm) → AreAdded firms trades on f surplus → slice_get firms f ≡ Some firm
-    → firm.worth (part trades f firm.count on) ≡ Some amount → IsAtMost amount (10 ^ 18) → AreAdded firms trades on (f + 1) (surplus +ℤ amount)
+    → firm.worth (part trades f firm.count on) ≡ Some amount → IsAtMost amount most_limit → AreAdded firms trades on (f + 1) (surplus +ℤ amount)
 one_added firms trades on f surplus amount firm added is worth_is small = record {
   sum = sum_more firms trades on f surplus amount firm added.sum is worth_is;
   small = let low = added.small.low in let high = added.small.high in let a = small.low in let b = small.high in
@@ -95,7 +96,7 @@ pub none_at : (firms : List Firm) (trades : List Ends) (on f : ℕ) (firm : Firm
     → None ≡ surplus_of firms trades on
 none_at firms trades on f firm is worth_is = sym (none_from trades on 0 f firms firm is (ap (λ (n : ℕ). firm.worth (part trades n firm.count on)) (let same : 0 + f ≡ f = omega arith in same) ∙ worth_is))
 
-pub added_fits : (surplus amount : ℤ) (f n : ℕ) → IsAtMost surplus (f * 10 ^ 18) → IsAtMost amount (10 ^ 18) → f < n → n ≤ 1024 → SFits w128 (surplus +ℤ amount)
+pub added_fits : (surplus amount : ℤ) (f n : ℕ) → IsAtMost surplus (f * most_limit) → IsAtMost amount most_limit → f < n → n ≤ most_market_firms → SFits w128 (surplus +ℤ amount)
 added_fits surplus amount f n small more below few =
     let low = small.low in
     let high = small.high in

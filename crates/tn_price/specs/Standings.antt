@@ -1,11 +1,13 @@
 -- How a firm stands with its bundle.
-use Rattle.std.specs.Prelude.{◌≡◌, ℕ, ◌^◌, ◌<◌, ℤ, pos, ◌-ℤ◌, ◌<ℤ◌, List, length, slice_get, All, Option, Some, None}
+use Rattle.std.specs.Prelude.{◌≡◌, ℕ, ◌<◌, ℤ, pos, ◌-ℤ◌, ◌<ℤ◌, List, length, slice_get, All, Option, Some, None}
 use Rattle.tn_base.specs.Arcs.{IsAtMost}
 use Rattle.tn_base.specs.Firm.{Firm, IsBest}
 use Rattle.tn_plain_data.specs.declared.ends.Ends.{Ends}
 use Rattle.tn_plain_data.specs.Prices.{price_at}
+use Rattle.tn_plain_data.specs.Limits.{most_number}
 use Rattle.tn_plain_data.specs.Network.{part}
 use Rattle.tn_market.specs.Equilibrium.{prices_at, utility_at}
+use Rattle.tn_market.specs.Widths.{most_own, most_worth}
 use Rattle.tn_price.specs.declared.firm_verdict.FirmVerdict.{FirmVerdict}
 use Rattle.tn_price.specs.declared.firm_verdict.FirmVerdict.TheVariants.{Best, Impossible, Bettered}
 
@@ -21,7 +23,7 @@ pub record IsBettered (value_of : ℕ → Option ℤ) (x y : ℕ) (gain : ℤ) :
 -- x is best, and has this worth
 pub record IsBestWorth (worth value_of : ℕ → Option ℤ) (x : ℕ) (amount : ℤ) : Type 0 where
   pub worth_is : worth x ≡ Some amount
-  pub small : IsAtMost amount (10 ^ 11)
+  pub small : IsAtMost amount most_worth
   pub value : ℤ
   pub best : IsBest value_of x value
 
@@ -37,6 +39,6 @@ StandsAt firms trades scale on prices f standing = (firm : Firm) → slice_get f
 
 -- the list has the prices at the first n positions of firm f
 pub record AreOwnPrices (trades : List Ends) (prices : ℕ → ℤ) (f n : ℕ) (list : List ℤ) : Type 0 where
-  pub counted : length list ≡ 32
-  pub small : All (λ p. IsAtMost p (10 ^ 18)) list
+  pub counted : length list ≡ most_own
+  pub small : All (λ p. IsAtMost p most_number) list
   pub each : (k : ℕ) → k < n → price_at list k ≡ prices_at trades prices f k

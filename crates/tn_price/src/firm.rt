@@ -5,6 +5,7 @@ ghost use Rattle.tn_base.specs.Arcs.{IsAtMost};
 ghost use Rattle.tn_base.specs.Sets.{set_of};
 ghost use Rattle.tn_base.specs.Firm.{utility, IsBest};
 ghost use Rattle.tn_plain_data.specs.Prices.{price_at};
+ghost use Rattle.tn_market.specs.Widths.{most_asked_price, most_own, most_scale, most_utility, most_worth};
 ghost use Rattle.tn_price.specs.Standings.{Stands};
 
 use crate::firm_verdict::FirmVerdict;
@@ -14,7 +15,7 @@ use tn_market::{Oracle, Room, utility_of, worth_of};
 /// The bundle of all of a firm's positions.
 #[tactic(auto, unfolding(tn_base::specs::Sets::set_of))]
 fn all_positions(n: u32) -> Bundle
-    requires { n ≤ 32 }
+    requires { n ≤ most_own }
     ensures { result ≡ set_of (λ k. true) n }
 {
     let mut all = Bundle::empty();
@@ -33,13 +34,13 @@ pub fn greatest<V: Oracle>(
     room: &mut Room,
 ) -> (Bundle, i128)
     requires priced { length prices.now ≡ (V.firm firm.now).count }
-    requires small_prices { All (λ p. IsAtMost p (10 ^ 20)) prices.now }
+    requires small_prices { All (λ p. IsAtMost p most_asked_price) prices.now }
     requires scaled { pos 1 ≤ℤ scale }
-    requires small_scale { scale ≤ℤ pos 10000000 }
-    requires few_trades { (V.firm firm.now).count ≤ 32 }
-    requires small_worths { V.limit firm.now ≤ 10 ^ 11 }
+    requires small_scale { scale ≤ℤ pos most_scale }
+    requires few_trades { (V.firm firm.now).count ≤ most_own }
+    requires small_worths { V.limit firm.now ≤ most_worth }
     ensures best { IsBest (utility scale (price_at prices.now) (V.firm firm.now)) result.0 result.1 }
-    ensures small { IsAtMost result.1 (10 ^ 22) }
+    ensures small { IsAtMost result.1 most_utility }
 {
     let all = all_positions(firm.trades());
     firm.best(Bundle::empty(), all, scale, prices, room)
@@ -56,11 +57,11 @@ pub fn standing<V: Oracle>(
 ) -> FirmVerdict
     requires own { own < 2 ^ (V.firm firm.now).count }
     requires priced { length prices.now ≡ (V.firm firm.now).count }
-    requires small_prices { All (λ p. IsAtMost p (10 ^ 20)) prices.now }
+    requires small_prices { All (λ p. IsAtMost p most_asked_price) prices.now }
     requires scaled { pos 1 ≤ℤ scale }
-    requires small_scale { scale ≤ℤ pos 10000000 }
-    requires few_trades { (V.firm firm.now).count ≤ 32 }
-    requires small_worths { V.limit firm.now ≤ 10 ^ 11 }
+    requires small_scale { scale ≤ℤ pos most_scale }
+    requires few_trades { (V.firm firm.now).count ≤ most_own }
+    requires small_worths { V.limit firm.now ≤ most_worth }
     ensures { Stands (V.firm firm.now).worth (utility scale (price_at prices.now) (V.firm firm.now)) own result }
 {
     let Some(value) = utility_of(firm, own, scale, prices, room) else {

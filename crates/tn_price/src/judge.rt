@@ -1,6 +1,8 @@
 ghost use Rattle.std.specs.Prelude.{◌≡◌, ℕ, ◌^◌, ◌*◌, ◌<◌, ◌≤◌, Some, pos, ◌≤ℤ◌, length, map, slice_get, All};
 ghost use Rattle.tn_base.specs.Arcs.{IsAtMost};
 ghost use Rattle.tn_plain_data.specs.Prices.{price_at};
+ghost use Rattle.tn_plain_data.specs.Limits.{most_claimed_over, most_number};
+ghost use Rattle.tn_market.specs.Widths.{most_own, most_worth};
 ghost use Rattle.tn_price.specs.Checks.{Checks};
 ghost use Rattle.tn_price.specs.Standings.{AreOwnPrices, StandsAt};
 
@@ -19,9 +21,9 @@ pub fn own_prices<V: Valuation>(
 ) -> [i128; MOST_OWN]
     requires firm { f < length market.now.firms }
     requires own { (v : V) → slice_get market.now.firms f ≡ Some v → n ≡ (V.firm v).count }
-    requires few { n ≤ 32 }
+    requires few { n ≤ most_own }
     requires priced { length prices.now ≡ length market.now.trades }
-    requires small { All (λ p. IsAtMost p (10 ^ 18)) prices.now }
+    requires small { All (λ p. IsAtMost p most_number) prices.now }
     ensures { AreOwnPrices market.now.trades (price_at prices.now) f n result }
 {
     let mut own = [0; MOST_OWN];
@@ -40,15 +42,14 @@ fn standing_of<V: Oracle, const W: usize>(
     f: u32,
     room: &mut Room,
 ) -> FirmVerdict
-    requires width { W ≤ 16 }
     requires wide { length market.now.trades ≤ 64 * W }
     requires priced { length prices.now ≡ length market.now.trades }
-    requires small_prices { All (λ p. IsAtMost p (10 ^ 18)) prices.now }
+    requires small_prices { All (λ p. IsAtMost p most_number) prices.now }
     requires from_one { pos 1 ≤ℤ over }
-    requires small_over { over ≤ℤ pos 100000 }
+    requires small_over { over ≤ℤ pos most_claimed_over }
     requires firm { f < length market.now.firms }
-    requires few_own { (v : V) → slice_get market.now.firms f ≡ Some v → (V.firm v).count ≤ 32 }
-    requires small_worths { (v : V) → slice_get market.now.firms f ≡ Some v → V.limit v ≤ 10 ^ 11 }
+    requires few_own { (v : V) → slice_get market.now.firms f ≡ Some v → (V.firm v).count ≤ most_own }
+    requires small_worths { (v : V) → slice_get market.now.firms f ≡ Some v → V.limit v ≤ most_worth }
     ensures { StandsAt (map V.firm market.now.firms) market.now.trades over on.now (price_at prices.now) f result }
 {
     let firm = market.firm(f);
@@ -68,14 +69,13 @@ pub fn judge_at<V: Oracle, const W: usize>(
     over: i128,
     room: &mut Room,
 ) -> Check
-    requires width { W ≤ 16 }
     requires wide { length market.now.trades ≤ 64 * W }
     requires priced { length prices.now ≡ length market.now.trades }
-    requires small_prices { All (λ p. IsAtMost p (10 ^ 18)) prices.now }
+    requires small_prices { All (λ p. IsAtMost p most_number) prices.now }
     requires from_one { pos 1 ≤ℤ over }
-    requires small_over { over ≤ℤ pos 100000 }
-    requires few_own { (f : ℕ) (v : V) → slice_get market.now.firms f ≡ Some v → (V.firm v).count ≤ 32 }
-    requires small_worths { (f : ℕ) (v : V) → slice_get market.now.firms f ≡ Some v → V.limit v ≤ 10 ^ 11 }
+    requires small_over { over ≤ℤ pos most_claimed_over }
+    requires few_own { (f : ℕ) (v : V) → slice_get market.now.firms f ≡ Some v → (V.firm v).count ≤ most_own }
+    requires small_worths { (f : ℕ) (v : V) → slice_get market.now.firms f ≡ Some v → V.limit v ≤ most_worth }
     ensures { Checks (map V.firm market.now.firms) market.now.trades over on.now (price_at prices.now) result }
 {
     let mut surplus = 0;
@@ -105,14 +105,13 @@ pub fn judge_arrangement<V: Oracle, const W: usize>(
     over: i128,
     room: &mut Room,
 ) -> Check
-    requires width { W ≤ 16 }
     requires wide { length market.now.trades ≤ 64 * W }
     requires priced { length at.now.prices ≡ length market.now.trades }
-    requires small_prices { All (λ p. IsAtMost p (10 ^ 18)) at.now.prices }
+    requires small_prices { All (λ p. IsAtMost p most_number) at.now.prices }
     requires from_one { pos 1 ≤ℤ over }
-    requires small_over { over ≤ℤ pos 100000 }
-    requires few_own { (f : ℕ) (v : V) → slice_get market.now.firms f ≡ Some v → (V.firm v).count ≤ 32 }
-    requires small_worths { (f : ℕ) (v : V) → slice_get market.now.firms f ≡ Some v → V.limit v ≤ 10 ^ 11 }
+    requires small_over { over ≤ℤ pos most_claimed_over }
+    requires few_own { (f : ℕ) (v : V) → slice_get market.now.firms f ≡ Some v → (V.firm v).count ≤ most_own }
+    requires small_worths { (f : ℕ) (v : V) → slice_get market.now.firms f ≡ Some v → V.limit v ≤ most_worth }
     ensures { Checks (map V.firm market.now.firms) market.now.trades over at.now.on (price_at at.now.prices) result }
 {
     judge_at(market, &at.on, &at.prices, over, room)

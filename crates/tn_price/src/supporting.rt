@@ -1,11 +1,14 @@
 //! Prices for a set of trades.
 
-ghost use Rattle.std.specs.Prelude.{◌≡◌, ℕ, ◌+◌, ◌*◌, ◌≤◌, ◌<◌, ◌^◌, ◌-ℤ◌, length, map, slice_get, Some, IfOk, is_none};
+ghost use Rattle.std.specs.Prelude.{◌≡◌, ℕ, ◌+◌, ◌*◌, ◌≤◌, ◌<◌, ◌-ℤ◌, length, map, slice_get, Some, IfOk, is_none};
 ghost use Rattle.tn_base.specs.Arcs.{IsAtMost};
 ghost use Rattle.tn_base.specs.Firm.{Firm};
+ghost use Rattle.tn_base.specs.Widths.{most_cost};
 ghost use Rattle.tn_cycle.specs.Answers.{label_in};
+ghost use Rattle.tn_cycle.specs.Widths.{most_read};
 ghost use Rattle.tn_plain_data.specs.Prices.{price_at};
 ghost use Rattle.tn_market.specs.Graph.{graph_worths, ArePossible};
+ghost use Rattle.tn_market.specs.Widths.{most_market_trades};
 ghost use Rattle.tn_plain_data.specs.Network.{part};
 ghost use Rattle.tn_price.specs.Supports.{Supports, FindsUnable, IsPricedWithin};
 
@@ -24,7 +27,6 @@ fn is_unable<V: Valuation, const W: usize>(
     f: u32,
     steps: &mut Steps<V::Mark>,
 ) -> bool
-    requires width { W ≤ 16 }
     requires wide { length market.now.trades ≤ 64 * W }
     requires firm { f < length market.now.firms }
     ensures found { (firm : Firm) → slice_get (map V.firm market.now.firms) f ≡ Some firm → result ≡ is_none (firm.worth (part market.now.trades f firm.count on.now)) }
@@ -40,7 +42,6 @@ pub fn first_unable<V: Valuation, const W: usize>(
     on: &TradeSet<W>,
     steps: &mut Steps<V::Mark>,
 ) -> Option<u32>
-    requires width { W ≤ 16 }
     requires wide { length market.now.trades ≤ 64 * W }
     ensures found { FindsUnable (map V.firm market.now.firms) market.now.trades on.now result }
     ensures asked { steps.new ≤ steps.old + length market.now.firms }
@@ -55,9 +56,9 @@ pub fn first_unable<V: Valuation, const W: usize>(
 
 /// The prices that the labels of a finder are. It fails only where memory runs out.
 fn prices_from(alloc: Global, finder: &Finder, trades: u32) -> Result<Prices, OutOfMemory>
-    requires few { trades ≤ 1024 }
+    requires few { trades ≤ most_market_trades }
     requires labelled { length finder.now.labels ≡ trades + 1 }
-    requires small { (v : ℕ) → v < length finder.now.labels → IsAtMost (label_in finder.now.labels v) (2 ^ 100) }
+    requires small { (v : ℕ) → v < length finder.now.labels → IsAtMost (label_in finder.now.labels v) most_read }
     ensures one_each { IfOk result (λ prices. length prices ≡ trades) }
     ensures each { IfOk result (λ prices. (t : ℕ) → t < trades → price_at prices t ≡ label_in finder.now.labels t -ℤ label_in finder.now.labels trades) }
 {
@@ -73,9 +74,8 @@ fn support_by_labels<V: Valuation, const W: usize>(
     on: &TradeSet<W>,
     steps: &mut Steps<V::Mark>,
 ) -> Result<Support, OutOfMemory>
-    requires width { W ≤ 16 }
     requires wide { length market.now.trades ≤ 64 * W }
-    requires small { (f : ℕ) (v : V) → slice_get market.now.firms f ≡ Some v → 2 * V.limit v ≤ 10 ^ 18 }
+    requires small { (f : ℕ) (v : V) → slice_get market.now.firms f ≡ Some v → 2 * V.limit v ≤ most_cost }
     requires possible { ArePossible (map V.firm market.now.firms) market.now.trades on.now }
     ensures answer { IfOk result (Supports (map V.firm market.now.firms) market.now.trades on.now) }
     ensures prices { (bound : ℕ) → ((f : ℕ) (v : V) → slice_get market.now.firms f ≡ Some v → V.limit v ≤ bound)
@@ -108,9 +108,8 @@ pub fn support<V: Valuation, const W: usize>(
     on: &TradeSet<W>,
     steps: &mut Steps<V::Mark>,
 ) -> Result<Support, OutOfMemory>
-    requires width { W ≤ 16 }
     requires wide { length market.now.trades ≤ 64 * W }
-    requires small { (f : ℕ) (v : V) → slice_get market.now.firms f ≡ Some v → 2 * V.limit v ≤ 10 ^ 18 }
+    requires small { (f : ℕ) (v : V) → slice_get market.now.firms f ≡ Some v → 2 * V.limit v ≤ most_cost }
     ensures answer { IfOk result (Supports (map V.firm market.now.firms) market.now.trades on.now) }
     ensures prices { (bound : ℕ) → ((f : ℕ) (v : V) → slice_get market.now.firms f ≡ Some v → V.limit v ≤ bound)
         → IfOk result (IsPricedWithin (2 * bound * length market.now.trades)) }

@@ -1,9 +1,10 @@
 //! The surplus of a set of trades.
 
-ghost use Rattle.std.specs.Prelude.{◌≡◌, ◌+◌, ◌*◌, ◌<◌, ◌≤◌, ◌^◌, Some, length, map, slice_get, IfSome};
+ghost use Rattle.std.specs.Prelude.{◌≡◌, ◌+◌, ◌*◌, ◌<◌, ◌≤◌, Some, length, map, slice_get, IfSome};
 ghost use Rattle.tn_base.specs.Arcs.{IsAtMost};
 ghost use Rattle.tn_base.specs.Firm.{Firm};
 ghost use Rattle.tn_market.specs.Equilibrium.{surplus_of};
+ghost use Rattle.tn_market.specs.Widths.{most_limit};
 ghost use Rattle.tn_plain_data.specs.Network.{part};
 
 use tn_base::{Steps, TradeSet};
@@ -17,11 +18,10 @@ pub fn worth_at<V: Valuation, const W: usize>(
     f: u32,
     steps: &mut Steps<V::Mark>,
 ) -> Option<i128>
-    requires width { W ≤ 16 }
     requires wide { length market.now.trades ≤ 64 * W }
     requires firm { f < length market.now.firms }
     ensures worth { (firm : Firm) → slice_get (map V.firm market.now.firms) f ≡ Some firm → result ≡ firm.worth (part market.now.trades f firm.count on.now) }
-    ensures small { IfSome result (λ worth. IsAtMost worth (10 ^ 18)) }
+    ensures small { IfSome result (λ worth. IsAtMost worth most_limit) }
     ensures asked { steps.new ≡ steps.old + 1 }
 {
     let bundle = market.bundle_of(f, on);
@@ -35,7 +35,6 @@ pub fn surplus_of<V: Valuation, const W: usize>(
     on: &TradeSet<W>,
     steps: &mut Steps<V::Mark>,
 ) -> Option<i128>
-    requires width { W ≤ 16 }
     requires wide { length market.now.trades ≤ 64 * W }
     ensures surplus { result ≡ surplus_of (map V.firm market.now.firms) market.now.trades on.now }
     ensures asked { steps.new ≤ steps.old + length market.now.firms }

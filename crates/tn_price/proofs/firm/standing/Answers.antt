@@ -1,10 +1,11 @@
-use Rattle.std.proofs.Common.{◌≡◌, ◌∙◌, sym, subst, ℤ, ◌+ℤ◌, ◌*ℤ◌, Option, Some, IsSome, arith, ◌^◌, ◌≤ℤ◌}
+use Rattle.std.proofs.Common.{◌≡◌, ◌∙◌, sym, subst, ℤ, ◌+ℤ◌, ◌*ℤ◌, Option, Some, IsSome, arith, ◌≤ℤ◌}
 use Rattle.std.proofs.lemmas.Int.{ints, to_z-of_z}
 use mir.Syntax.{w128}
 use mir.Val.{SFits}
 use Rattle.tn_base.specs.Sets.{sum_over}
 use Rattle.tn_base.specs.Firm.{payments, utility, IsBest}
 use Rattle.tn_plain_data.specs.Prices.{price_at}
+use Rattle.tn_market.specs.Widths.{most_utility, most_worth}
 use Rattle.tn_market.proofs.AscentLemmas.{smaller}
 use Rattle.tn_price.specs.Standings.{IsBestWorth}
 use Rattle.tn_market.proofs.AskLemmas.{as_is, possible_worth}
@@ -29,9 +30,9 @@ returns g c =
     let plain_scale = to_z-of_z w128 c.args.scale fits in
     let small_worths = c.requires.small_worths in
     let worth_is = sym c.worth_of.ensures ∙ c.unwrap.ensures in
-    let small = smaller c.unwrap.result (g.V.Valuation.limit c.args.firm.now) (10 ^ 11) small_worths
+    let small = smaller c.unwrap.result (g.V.Valuation.limit c.args.firm.now) most_worth small_worths
     (g.met.V.Valuation.within c.args.firm.now c.args.own c.unwrap.result worth_is) in
-    let plain = as_is c.unwrap.result (smaller c.unwrap.result (10 ^ 11) (10 ^ 22) (omega arith) small) in
+    let plain = as_is c.unwrap.result (smaller c.unwrap.result most_worth most_utility (omega arith) small) in
     let own_is = subst (λ (scale : ℤ). ◌≡◌ {A = Option ℤ} (Some c.in-Some.value) (utility scale (price_at c.args.prices.now) firm c.args.own))
     plain_scale c.in-Some.ensures.value in
     let best = subst (λ (scale : ℤ). IsBest (utility scale (price_at c.args.prices.now) firm) c.greatest-bundle.result.0 c.greatest-bundle.result.1)

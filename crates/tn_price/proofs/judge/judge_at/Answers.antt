@@ -1,10 +1,11 @@
-use Rattle.std.proofs.Common.{sym, subst, ℤ, ◌+ℤ◌, ◌+◌, ◌^◌, arith, rules, map}
+use Rattle.std.proofs.Common.{sym, subst, ℤ, ◌+ℤ◌, ◌+◌, arith, rules, map}
 use Rattle.std.proofs.lemmas.Int.{to_z-of_z}
 use Rattle.std.proofs.lemmas.List.{length-map}
 use mir.Syntax.{w128}
 use mir.Val.{SFits, to_z, of_z}
 use Rattle.tn_plain_data.specs.Prices.{price_at}
 use Rattle.tn_market.specs.Judged.{IsFirstBettered}
+use Rattle.tn_market.specs.Widths.{most_utility, most_worth}
 use Rattle.tn_market.proofs.AscentLemmas.{smaller}
 use Rattle.tn_price.specs.Standings.{StandsAt}
 use Rattle.tn_price.specs.declared.firm_verdict.FirmVerdict.TheVariants.{Impossible, Bettered}
@@ -19,7 +20,7 @@ overflow_add-surplus g c =
     let found = some_item c.args.market.now.firms c.loop-f.f (omega (arith, inside, count)) in
     let stands = c.in-Best.ensures in
     let best = stands (g.V.Valuation.firm found.0) (firm_is g.V.Valuation.firm c.args.market.now.firms c.loop-f.f found.0 found.1) in
-    let plain = as_is c.in-Best.worth (smaller c.in-Best.worth (10 ^ 11) (10 ^ 22) (omega arith) best.small) in
+    let plain = as_is c.in-Best.worth (smaller c.in-Best.worth most_worth most_utility (omega arith) best.small) in
     subst (λ (z : ℤ). SFits w128 (to_z w128 c.loop-f.surplus-bits +ℤ z)) (sym plain)
     (sum_fits (to_z w128 c.loop-f.surplus-bits) c.in-Best.worth c.loop-f.f c.firms-f-end.result c.loop-f.invariant.small best.small inside c.firms-f-end.ensures.few)
 
@@ -67,7 +68,7 @@ loop-f-preserved g c =
     let at = firm_is g.V.Valuation.firm c.args.market.now.firms c.loop-f.f found.0 found.1 in
     let stands = c.in-Best.ensures in
     let best = stands (g.V.Valuation.firm found.0) at in
-    let plain = as_is c.in-Best.worth (smaller c.in-Best.worth (10 ^ 11) (10 ^ 22) (omega arith) best.small) in
+    let plain = as_is c.in-Best.worth (smaller c.in-Best.worth most_worth most_utility (omega arith) best.small) in
     let sum = to_z-of_z w128 (to_z w128 c.loop-f.surplus-bits +ℤ c.in-Best.worth)
     (sum_fits (to_z w128 c.loop-f.surplus-bits) c.in-Best.worth c.loop-f.f c.firms-f-end.result c.loop-f.invariant.small best.small inside c.firms-f-end.ensures.few) in
     let scale = to_z w128 (of_z w128 c.args.over) in

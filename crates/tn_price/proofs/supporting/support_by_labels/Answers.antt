@@ -3,11 +3,13 @@ use Rattle.std.proofs.lemmas.Int.{to_z-of_z}
 use mir.Syntax.{w128}
 use mir.Val.{SFits}
 use Rattle.tn_market.specs.Supported.{IsNegativeCycle, said_node}
+use Rattle.tn_cycle.specs.Widths.{most_graph_nodes}
+use Rattle.tn_market.specs.Widths.{most_market_trades}
 use Rattle.tn_network.proofs.EachLemmas.{meet_all}
 use Rattle.tn_price.proofs.SupportLemmas.{exchange_labels, exchange_small, read, labels_support, priced_within, exchange_cycle, cycle_unsupported}
 use Rattle.tn_price.proofs.supporting.support_by_labels.Goals as goal
 
-few : (nodes trades : ℕ) → trades ≤ 1024 → nodes ≡ trades + 1 → nodes ≤ 1025
+few : (nodes trades : ℕ) → trades ≤ most_market_trades → nodes ≡ trades + 1 → nodes ≤ most_graph_nodes
 few nodes trades most sized = omega (arith, most, sized)
 
 pub prices_from-requires-clause-small : goal.prices_from-requires-clause-small

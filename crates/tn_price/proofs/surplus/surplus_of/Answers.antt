@@ -1,9 +1,10 @@
-use Rattle.std.proofs.Common.{◌+◌, ◌^◌, map, arith, sym, subst, ℤ, ◌+ℤ◌}
+use Rattle.std.proofs.Common.{◌+◌, map, arith, sym, subst, ℤ, ◌+ℤ◌}
 use Rattle.std.proofs.lemmas.Int.{to_z-of_z}
 use Rattle.std.proofs.lemmas.List.{length-map}
 use mir.Syntax.{w128}
 use mir.Val.{SFits, to_z, of_z}
 use Rattle.tn_market.proofs.AscentLemmas.{smaller}
+use Rattle.tn_market.specs.Widths.{most_limit, most_utility}
 use Rattle.tn_market.proofs.AskLemmas.{as_is}
 use Rattle.tn_price.proofs.JudgeLemmas.{firm_is, some_item}
 use Rattle.tn_price.proofs.SurplusLemmas.{AreAdded, added_fits, all_added, none_at, one_added}
@@ -12,7 +13,7 @@ use Rattle.tn_price.proofs.surplus.surplus_of.Goals as goal
 pub overflow_add-surplus : goal.overflow_add-surplus
 overflow_add-surplus g c =
     let small = c.in-Some.ensures.small in
-    let plain = as_is c.in-Some.worth (smaller c.in-Some.worth (10 ^ 18) (10 ^ 22) (omega arith) small) in
+    let plain = as_is c.in-Some.worth (smaller c.in-Some.worth most_limit most_utility (omega arith) small) in
     subst (λ (z : ℤ). SFits w128 (to_z w128 c.loop-f.surplus-bits +ℤ z)) (sym plain)
     (added_fits (to_z w128 c.loop-f.surplus-bits) c.in-Some.worth c.loop-f.f c.firms-f-end.result c.loop-f.invariant.0.small small c.loop-f-test.true c.firms-f-end.ensures.few)
 
@@ -24,7 +25,7 @@ loop-f-preserved g c =
     let found = some_item c.args.market.now.firms c.loop-f.f (omega (arith, inside, count)) in
     let at = firm_is g.V.Valuation.firm c.args.market.now.firms c.loop-f.f found.0 found.1 in
     let small = c.in-Some.ensures.small in
-    let plain = as_is c.in-Some.worth (smaller c.in-Some.worth (10 ^ 18) (10 ^ 22) (omega arith) small) in
+    let plain = as_is c.in-Some.worth (smaller c.in-Some.worth most_limit most_utility (omega arith) small) in
     let sum = to_z-of_z w128 (to_z w128 c.loop-f.surplus-bits +ℤ c.in-Some.worth)
     (added_fits (to_z w128 c.loop-f.surplus-bits) c.in-Some.worth c.loop-f.f c.firms-f-end.result c.loop-f.invariant.0.small small inside c.firms-f-end.ensures.few) in
     let asked = c.in-Some.ensures.asked in

@@ -1,7 +1,8 @@
-use Rattle.std.proofs.Common.{◌≡◌, ◌^◌, ap, sym, subst, ◌∙◌, ℤ, Option, None, Some}
+use Rattle.std.proofs.Common.{◌≡◌, ap, sym, subst, ◌∙◌, ℤ, Option, None, Some}
 use Rattle.std.specs.Option.{IfSome}
 use Rattle.std.proofs.lemmas.Option.{same_Some}
 use Rattle.tn_base.specs.Arcs.{IsAtMost}
+use Rattle.tn_market.specs.Widths.{most_limit}
 use Rattle.tn_base.specs.Firm.{Firm}
 use Rattle.tn_market.proofs.AscentLemmas.{smaller}
 use Rattle.tn_plain_data.specs.Network.{part}
@@ -22,8 +23,8 @@ returns-clause-worth g c = λ firm is.
 pub returns-clause-small : goal.returns-clause-small
 returns-clause-small g c = by c.value.result c.value.ensures.worth
   where
-    by : (o : Option ℤ) → o ≡ (g.V.Valuation.firm c.firm.result.now).worth c.bundle_of-bundle.result → IfSome o (λ worth. IsAtMost worth (10 ^ 18))
+    by : (o : Option ℤ) → o ≡ (g.V.Valuation.firm c.firm.result.now).worth c.bundle_of-bundle.result → IfSome o (λ worth. IsAtMost worth most_limit)
     by None is = tt
     by (Some worth) is =
-        smaller worth (g.V.Valuation.limit c.firm.result.now) (10 ^ 18) (g.met.V.Valuation.small_limit c.firm.result.now)
+        smaller worth (g.V.Valuation.limit c.firm.result.now) most_limit (g.met.V.Valuation.small_limit c.firm.result.now)
         (g.met.V.Valuation.within c.firm.result.now c.bundle_of-bundle.result worth (sym is))
