@@ -1,5 +1,5 @@
 -- The contract on a trade, and what a firm has signed.
-use Rattle.std.proofs.Common.{◌≡◌, ◌≢◌, ℕ, zero, suc, ◌+◌, ◌^◌, ◌<◌, ◌≤◌, Bool, true, false, ◌&&◌, ◌||◌, if◌then◌else◌, List, [], ◌∷◌, length, take, slice_get, Option, Some, None, option_map, refl, sym, ap, ◌∙◌, subst, arith, inl, inr, ℤ, pos, ◌+ℤ◌, ◌*ℤ◌, neg_ℤ, not}
+use Rattle.std.proofs.Common.{◌≡◌, ◌≢◌, ℕ, zero, suc, ◌+◌, ◌<◌, ◌≤◌, Bool, true, false, ◌&&◌, ◌||◌, if◌then◌else◌, List, [], ◌∷◌, length, take, slice_get, Option, Some, None, option_map, refl, sym, ap, ◌∙◌, subst, arith, inl, inr, ℤ, pos, ◌+ℤ◌, ◌*ℤ◌, neg_ℤ, not}
 use Rattle.std.specs.List.{All}
 use Rattle.std.proofs.lemmas.Int.{ints}
 use mathlib.Core.Path.{fun_ext}
@@ -17,6 +17,8 @@ use Rattle.tn_plain_data.specs.declared.ends.Ends.{Ends}
 use Rattle.tn_plain_data.specs.declared.contract.Contract.{Contract}
 use Rattle.tn_plain_data.specs.Network.{own, part}
 use Rattle.tn_market.specs.Equilibrium.{prices_at}
+use Rattle.tn_market.specs.Widths.{most_own}
+use Rattle.tn_plain_data.specs.Limits.{most_numerator}
 use Rattle.tn_market.specs.Best.{IsSubset, IsBetween, GivesBest}
 use Rattle.tn_plain_data.specs.Prices.{price_at}
 use Rattle.tn_market.specs.Signed.{is_signed, signed, signed_price, signed_bundle, contract_utility}
@@ -97,13 +99,13 @@ on_signed trades contracts f k inside =
     has-set_of (is_signed contracts) (length trades) (own trades f k)
     ∙ ap (λ (b : Bool). b && is_signed contracts (own trades f k)) (lt-ltb (own trades f k) (length trades) inside)
 
-pub none_held : (trades : List Ends) (contracts : List Contract) (f held : ℕ) (list : List ℤ) → held ≡ 0 → length list ≡ 32 → All (λ p. p ≡ pos 0) list
+pub none_held : (trades : List Ends) (contracts : List Contract) (f held : ℕ) (list : List ℤ) → held ≡ 0 → length list ≡ most_own → All (λ p. p ≡ pos 0) list
     → HoldsSigned trades contracts f 0 held list
 unfolding set_of
 none_held trades contracts f held list empty counted zeros = record {
   bundle = empty;
   counted = counted;
-  small = λ k d below. subst (λ (z : ℤ). IsAtMost z (10 ^ 11)) (sym (zeros k d below)) (record { low = omega (arith, ints); high = omega (arith, ints) });
+  small = λ k d below. subst (λ (z : ℤ). IsAtMost z most_numerator) (sym (zeros k d below)) (record { low = omega (arith, ints); high = omega (arith, ints) });
   each = λ k below. absurd (omega (arith, below));
   rest = λ k above. elim (cases_lt k (length list)) [ inl p ↦ zeros k (pos 0) p | inr p ↦ get_or_past list k (pos 0) p ];
 }
@@ -119,8 +121,8 @@ next_bundle trades contracts f k held is inside =
     ∙ sym (ap (λ (n : ℕ). part trades f n (signed (length trades) contracts)) next)
 
 -- one more position, which is signed
-pub one_held : (trades : List Ends) (contracts : List Contract) (f k t held : ℕ) (price : ℤ) (list : List ℤ) → HoldsSigned trades contracts f k held list → k < 32
-    → t ≡ own trades f k → t < length trades → contract_price contracts t ≡ Some price → All (λ contract. IsAtMost contract.price (10 ^ 11)) contracts
+pub one_held : (trades : List Ends) (contracts : List Contract) (f k t held : ℕ) (price : ℤ) (list : List ℤ) → HoldsSigned trades contracts f k held list → k < most_own
+    → t ≡ own trades f k → t < length trades → contract_price contracts t ≡ Some price → All (λ contract. IsAtMost contract.price most_numerator) contracts
     → HoldsSigned trades contracts f (k + 1) (toggle held k) (set list k price)
 one_held trades contracts f k t held price list before inside at within is small =
     let says = price_some contracts t price is in
@@ -132,7 +134,7 @@ one_held trades contracts f k t held price list before inside at within is small
           sym (ap (λ (b : Bool). if b then toggle held k else held) own_signed)
           ∙ next_bundle trades contracts f k held before.bundle (omega (arith, at, within));
       counted = length-set list k price ∙ before.counted;
-      small = All-set (λ z. IsAtMost z (10 ^ 11)) list k price (price_small price there) before.small;
+      small = All-set (λ z. IsAtMost z most_numerator) list k price (price_small price there) before.small;
       each = λ i below. elim (cases_eq i k) [
         | inl e ↦ subst (λ (n : ℕ). price_at (set list k price) n ≡ signed_price contracts (own trades f n)) (sym e)
             (get_or-set_same list k price (pos 0) wide ∙ sym says.1 ∙ ap (signed_price contracts) at)
@@ -141,9 +143,9 @@ one_held trades contracts f k t held price list before inside at within is small
       rest = λ i above. get_or-set_other list k i price (pos 0) (λ e. omega (arith, above, e)) ∙ before.rest i (omega (arith, above));
     }
   where
-    price_small : (price : ℤ) → (j : ℕ) × (contract : Contract) × (slice_get contracts j ≡ Some contract) × (contract.trade ≡ t) × (contract.price ≡ price) → IsAtMost price (10 ^ 11)
+    price_small : (price : ℤ) → (j : ℕ) × (contract : Contract) × (slice_get contracts j ≡ Some contract) × (contract.trade ≡ t) × (contract.price ≡ price) → IsAtMost price most_numerator
     price_small price there =
-        subst (λ (z : ℤ). IsAtMost z (10 ^ 11)) (ap (λ (c : Contract). c.price) (get_or_from_slice_get contracts there.0 there.1 there.1 there.2) ∙ there.4)
+        subst (λ (z : ℤ). IsAtMost z most_numerator) (ap (λ (c : Contract). c.price) (get_or_from_slice_get contracts there.0 there.1 there.1 there.2) ∙ there.4)
         (small there.0 there.1 (slice_get_within contracts there.0 there.1 there.2))
 
 -- one more, which isn't
@@ -165,7 +167,7 @@ none_more trades contracts f k t held list before at within is =
     }
 
 -- and what is best at them is best at the contracts' prices
-pub held_utility : (trades : List Ends) (over : ℤ) (contracts : List Contract) (f : ℕ) (firm : Firm) (n held : ℕ) (list : List ℤ) → n ≡ firm.count → firm.count ≤ 32
+pub held_utility : (trades : List Ends) (over : ℤ) (contracts : List Contract) (f : ℕ) (firm : Firm) (n held : ℕ) (list : List ℤ) → n ≡ firm.count → firm.count ≤ most_own
     → HoldsSigned trades contracts f firm.count held list → utility over (price_at (take n list)) firm ≡ contract_utility trades over contracts f firm
 held_utility trades over contracts f firm n held list counted few holds = fun_ext (λ x.
     ap (λ (z : ℤ). option_map (λ a. over *ℤ a +ℤ z) (firm.worth x))
@@ -174,7 +176,7 @@ held_utility trades over contracts f firm n held list counted few holds = fun_ex
 
 -- so the best bundle at them is that at the contracts' prices, with the reduced worth
 pub best_at_held : {V : Type 0} (firm_of : V → Firm) (firms : List V) (trades : List Ends) (over : ℤ) (contracts : List Contract) (f n held x : ℕ) (list : List ℤ) (found : Option (ℕ × ℤ))
-    (v : V) → slice_get firms f ≡ Some v → n ≡ (firm_of v).count → (firm_of v).count ≤ 32 → HoldsSigned trades contracts f (firm_of v).count held list
+    (v : V) → slice_get firms f ≡ Some v → n ≡ (firm_of v).count → (firm_of v).count ≤ most_own → HoldsSigned trades contracts f (firm_of v).count held list
     → GivesBest x held (utility over (price_at (take n list)) (firm_of v)) found → (w : V) → slice_get firms f ≡ Some w
     → GivesBest x (signed_bundle trades contracts f (firm_of w)) (contract_utility trades over contracts f (firm_of w)) found
 best_at_held {V} firm_of firms trades over contracts f n held x list found v is counted few holds best w other_is =

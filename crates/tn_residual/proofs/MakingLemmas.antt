@@ -1,6 +1,7 @@
 -- The lists of a residual market, made item by item.
-use Rattle.std.proofs.Common.{◌≡◌, ℕ, zero, suc, ◌+◌, ◌*◌, ◌^◌, ◌<◌, ◌≤◌, Bool, true, false, not, ◌&&◌, if◌then◌else◌, List, [], ◌∷◌, ◌++◌, length, map, take, append_assoc, append-nil, slice_get, Option, Some, None, is_some, refl, sym, ap, ap₂, ◌∙◌, subst, arith, inl, inr, ℤ, pos, negsuc, ◌*ℤ◌, ◌≤ℤ◌}
+use Rattle.std.proofs.Common.{◌≡◌, ℕ, zero, suc, ◌+◌, ◌-◌, ◌*◌, ◌<◌, ◌≤◌, Bool, true, false, not, ◌&&◌, if◌then◌else◌, List, [], ◌∷◌, ◌++◌, length, map, take, append_assoc, append-nil, slice_get, Option, Some, None, is_some, refl, sym, ap, ap₂, ◌∙◌, subst, arith, inl, inr, ℤ, pos, negsuc, ◌*ℤ◌, ◌≤ℤ◌}
 use Rattle.std.specs.Int.RustNames.{unsigned_abs}
+use Rattle.std.specs.List.Sorted.{IsStrictlyIncreasing}
 use Rattle.std.proofs.Math.IntN.{*ℤ_comm}
 use Rattle.std.proofs.lemmas.Int.{ints, by_lt_z, unsigned_abs-mul}
 use Rattle.std.proofs.lemmas.Nat.{mul-le}
@@ -18,10 +19,13 @@ use Rattle.tn_plain_data.specs.declared.contract.Contract.{Contract}
 use Rattle.tn_plain_data.specs.Network.{own, part}
 use Rattle.tn_plain_data.specs.Choices.{IsFeasible}
 use Rattle.tn_market.specs.Levied.{levied_limit}
+use Rattle.tn_market.specs.Widths.{most_limit, most_worth}
+use Rattle.tn_plain_data.specs.Limits.{most_claimed_over, most_numerator}
 use Rattle.tn_market.specs.Limits.{IsOutcomeOf}
 use Rattle.tn_market.specs.Outside.{outside}
 use Rattle.tn_market.specs.Signed.{is_signed, signed_price}
 use Rattle.tn_plain_data.proofs.ContractLemmas.{contracts_ascend}
+use Rattle.tn_outcome.proofs.SignedLemmas.{signed_by}
 use Rattle.tn_residual.specs.Held.{contract_price}
 use Rattle.tn_residual.specs.Residual.{unsigned_from, sold_to, bought_from, halves_of, halves_from, unsigned, levied_from, outsides, residual_limit, residual_trades}
 use Rattle.tn_residual.proofs.TradeLemmas.{levied_firm}
@@ -167,33 +171,33 @@ free_same contracts t trades old now none test isnt inside same before = elim (s
 
 -- ---- numbers
 
--- a levy of at most 100,000 times, with a tax of at most 1, keeps worths of at most 10^11 within 10^18
-pub levy_fits : (scale tax : ℤ) (limit : ℕ) → pos 1 ≤ℤ scale → scale ≤ℤ pos 100000 → pos 0 ≤ℤ tax → tax ≤ℤ pos 1 → limit ≤ 10 ^ 11 → levied_limit scale tax limit ≤ 10 ^ 18
+-- a levy that counts worths no more often than a denominator may be, with a tax of at most 1, keeps them within the bound on worths
+pub levy_fits : (scale tax : ℤ) (limit : ℕ) → pos 1 ≤ℤ scale → scale ≤ℤ pos most_claimed_over → pos 0 ≤ℤ tax → tax ≤ℤ pos 1 → limit ≤ most_worth → levied_limit scale tax limit ≤ most_limit
 levy_fits scale tax limit from_one small from_zero small_tax small_limit =
-    let size = abs_small scale 100000 (record { low = omega (arith, ints, from_one); high = small }) in
+    let size = abs_small scale most_claimed_over (record { low = omega (arith, ints, from_one); high = small }) in
     let tax_size = abs_small tax 1 (record { low = omega (arith, ints, from_zero); high = small_tax }) in
-    let product = mul-le (unsigned_abs scale) limit 100000 (10 ^ 11) size small_limit in
+    let product = mul-le (unsigned_abs scale) limit most_claimed_over most_worth size small_limit in
     within (unsigned_abs scale * limit) (unsigned_abs tax) product tax_size
   where
-    within : (p t : ℕ) → p ≤ 100000 * 10 ^ 11 → t ≤ 1 → p + 64 * t ≤ 10 ^ 18
+    within : (p t : ℕ) → p ≤ most_claimed_over * most_worth → t ≤ 1 → p + 64 * t ≤ most_limit
     within p t product size = omega (arith, product, size)
 
 -- what it keeps them within
-pub levy_limit : (scale tax : ℤ) (limit : ℕ) → pos 0 ≤ℤ tax → tax ≤ℤ pos 1 → limit ≤ 10 ^ 11 → levied_limit scale tax limit ≤ residual_limit scale
+pub levy_limit : (scale tax : ℤ) (limit : ℕ) → pos 0 ≤ℤ tax → tax ≤ℤ pos 1 → limit ≤ most_worth → levied_limit scale tax limit ≤ residual_limit scale
 levy_limit scale tax limit from_zero small_tax small_limit =
     let tax_size = abs_small tax 1 (record { low = omega (arith, ints, from_zero); high = small_tax }) in
-    let product = mul-le (unsigned_abs scale) limit (unsigned_abs scale) (10 ^ 11) (omega arith) small_limit in
-    within (unsigned_abs scale * limit) (unsigned_abs scale * 10 ^ 11) (unsigned_abs tax) product tax_size
+    let product = mul-le (unsigned_abs scale) limit (unsigned_abs scale) most_worth (omega arith) small_limit in
+    within (unsigned_abs scale * limit) (unsigned_abs scale * most_worth) (unsigned_abs tax) product tax_size
   where
     within : (p q t : ℕ) → p ≤ q → t ≤ 1 → p + 64 * t ≤ q + 64
     within p q t product size = omega (arith, product, size)
 
 -- and so does a firm outside
-pub outside_limit : (scale price : ℤ) → IsAtMost price (10 ^ 11) → unsigned_abs (scale *ℤ price) ≤ residual_limit scale
+pub outside_limit : (scale price : ℤ) → IsAtMost price most_numerator → unsigned_abs (scale *ℤ price) ≤ residual_limit scale
 outside_limit scale price small =
-    let size = abs_small price (10 ^ 11) small in
-    let product = mul-le (unsigned_abs scale) (unsigned_abs price) (unsigned_abs scale) (10 ^ 11) (omega arith) size in
-    within (unsigned_abs (scale *ℤ price)) (unsigned_abs scale * unsigned_abs price) (unsigned_abs scale * 10 ^ 11) (unsigned_abs-mul scale price) product
+    let size = abs_small price most_numerator small in
+    let product = mul-le (unsigned_abs scale) (unsigned_abs price) (unsigned_abs scale) most_worth (omega arith) size in
+    within (unsigned_abs (scale *ℤ price)) (unsigned_abs scale * unsigned_abs price) (unsigned_abs scale * most_worth) (unsigned_abs-mul scale price) product
   where
     within : (a p q : ℕ) → a ≡ p → p ≤ q → a ≤ q + 64
     within a p q same product = omega (arith, same, product)
@@ -206,8 +210,8 @@ limit_grows over scale over_from_one from_one =
     let turned = *ℤ_comm over scale in
     let less : scale ≤ℤ (over *ℤ scale) = omega (arith, ints, step, one, turned) in
     let size = grows scale (over *ℤ scale) from_one less in
-    let product = mul-le (unsigned_abs scale) (10 ^ 11) (unsigned_abs (over *ℤ scale)) (10 ^ 11) size (omega arith) in
-    within (unsigned_abs scale * 10 ^ 11) (unsigned_abs (over *ℤ scale) * 10 ^ 11) product
+    let product = mul-le (unsigned_abs scale) most_worth (unsigned_abs (over *ℤ scale)) most_worth size (omega arith) in
+    within (unsigned_abs scale * most_worth) (unsigned_abs (over *ℤ scale) * most_worth) product
   where
     grows : (a b : ℤ) → pos 1 ≤ℤ a → a ≤ℤ b → unsigned_abs a ≤ unsigned_abs b
     grows (pos m) (pos n) low less = omega (arith, ints, less)
@@ -218,7 +222,7 @@ limit_grows over scale over_from_one from_one =
     within p q h = omega (arith, h)
 
 -- the scale is within the limits where its product with the denominator is
-pub scale_fits : (over scale : ℤ) → pos 1 ≤ℤ over → pos 1 ≤ℤ (over *ℤ scale) → (over *ℤ scale) ≤ℤ pos 100000 → (pos 1 ≤ℤ scale) × (scale ≤ℤ pos 100000)
+pub scale_fits : (over scale : ℤ) → pos 1 ≤ℤ over → pos 1 ≤ℤ (over *ℤ scale) → (over *ℤ scale) ≤ℤ pos most_claimed_over → (pos 1 ≤ℤ scale) × (scale ≤ℤ pos most_claimed_over)
 scale_fits over scale over_from_one from_one small =
     let least : pos 1 ≤ℤ scale = by_lt_z {P = pos 1 ≤ℤ scale} scale (pos 1)
     (λ less.
@@ -287,9 +291,66 @@ halves_few trades g (contract ∷ contracts) = by_case (slice_get trades contrac
     by_case None rest = omega (arith, rest)
     by_case (Some trade) rest = omega (arith, rest)
 
-pub trades_few : (g : ℕ) (trades : List Ends) (contracts : List Contract) (made : List Ends) → made ≡ residual_trades g trades contracts → length made ≤ length trades + 2 * length contracts
-trades_few g trades contracts made are =
+-- the contracts from index k on are on trades from b on, of so many
+abbrev AreBetween : List Contract → ℕ → ℕ → ℕ → Type 0
+AreBetween contracts b count k = (j : ℕ) (contract : Contract) → k ≤ j → slice_get contracts j ≡ Some contract → (b ≤ contract.trade) × (contract.trade < b + count)
+
+-- each of them takes its trade away from the unsigned ones
+unsigned_beside : (contracts : List Contract) → IsStrictlyIncreasing (map (λ (contract : Contract). contract.trade) contracts) → (b k : ℕ) (trades : List Ends)
+    → AreBetween contracts b (length trades) k → length (unsigned_from contracts b trades) + (length contracts - k) ≤ length trades
+unsigned_beside contracts ascending b k [] within = elim (slice_get_cases contracts k).1 [
+  | inl found ↦ absurd (let here = within k found.0 (omega arith) found.2 in omega (arith, here))
+  | inr past ↦ let above = past.0 in omega (arith, above)
+]
+unsigned_beside contracts ascending b k (trade ∷ trades) within = elim (slice_get_cases contracts k).1 [
+  | inl found ↦ at_contract found.0 found.1 found.2 (unsigned_beside contracts ascending (b + 1) k trades) (unsigned_beside contracts ascending (b + 1) (k + 1) trades)
+  | inr past ↦ let above = past.0 in let all = unsigned_few contracts b (trade ∷ trades) in omega (arith, above, all)
+]
+  where
+    later : (contract : Contract) → slice_get contracts k ≡ Some contract → (j : ℕ) (other : Contract) → k + 1 ≤ j → slice_get contracts j ≡ Some other → contract.trade < other.trade
+    later contract is j other behind there = contracts_ascend contracts ascending k j contract other (omega (arith, behind)) is there
+
+    skips : (s : Bool) → length (unsigned_from contracts (b + 1) trades) + (length contracts - k) ≤ length trades
+        → length (if s then unsigned_from contracts (b + 1) trades else trade ∷ unsigned_from contracts (b + 1) trades) + (length contracts - k) ≤ suc (length trades)
+    skips true rest = omega (arith, rest)
+    skips false rest = omega (arith, rest)
+
+    takes : k < length contracts → (s : Bool) → s ≡ true → length (unsigned_from contracts (b + 1) trades) + (length contracts - (k + 1)) ≤ length trades
+        → length (if s then unsigned_from contracts (b + 1) trades else trade ∷ unsigned_from contracts (b + 1) trades) + (length contracts - k) ≤ suc (length trades)
+    takes inside true is rest = omega (arith, inside, rest)
+    takes inside false is rest = absurd (cc (is))
+
+    at_contract : (contract : Contract) → k < length contracts → slice_get contracts k ≡ Some contract
+        → (AreBetween contracts (b + 1) (length trades) k → length (unsigned_from contracts (b + 1) trades) + (length contracts - k) ≤ length trades)
+        → (AreBetween contracts (b + 1) (length trades) (k + 1) → length (unsigned_from contracts (b + 1) trades) + (length contracts - (k + 1)) ≤ length trades)
+        → length (unsigned_from contracts b (trade ∷ trades)) + (length contracts - k) ≤ suc (length trades)
+    at_contract contract inside is same next = elim (cases_lt b contract.trade) [
+      | inl above ↦ skips (is_signed contracts b) (same (λ j other behind there.
+          let bounds = within j other behind there in (at_least j other behind there above, omega (arith, bounds))))
+      | inr most ↦ takes inside (is_signed contracts b) (signed_by contracts k b contract is (let here = within k contract (omega arith) is in omega (arith, here, most)))
+          (next (λ j other behind there.
+          let bounds = within j other (omega (arith, behind)) there in
+          let here = within k contract (omega arith) is in
+          let more = later contract is j other behind there in
+          (omega (arith, here, more), omega (arith, bounds))))
+    ]
+      where
+        at_least : (j : ℕ) (other : Contract) → k ≤ j → slice_get contracts j ≡ Some other → b < contract.trade → b + 1 ≤ other.trade
+        at_least j other behind there above = elim (cases_lt k j) [
+          | inl further ↦ let more = later contract is j other (omega (arith, further)) there in omega (arith, above, more)
+          | inr here ↦
+              let at : j ≡ k = omega (arith, behind, here) in
+              let same : contract ≡ other = same_Some contract other (sym is ∙ sym (ap (slice_get contracts) at) ∙ there) in
+              let trade_is = ap (λ (c : Contract). c.trade) same in
+              omega (arith, above, trade_is)
+        ]
+
+pub trades_few : (g : ℕ) (trades : List Ends) (over : ℤ) (contracts : List Contract) (made : List Ends) → IsOutcomeOf trades over contracts → made ≡ residual_trades g trades contracts
+    → length made ≤ length trades + length contracts
+trades_few g trades over contracts made outcome are =
     let count : length made ≡ length (unsigned_from contracts 0 trades) + length (halves_from trades g contracts) = ap length are ∙ length-append (unsigned_from contracts 0 trades) (halves_from trades g contracts) in
-    let free = unsigned_few contracts 0 trades in
+    let free = unsigned_beside contracts outcome.contracts.ascending 0 0 trades (λ j contract behind is.
+    let known = subst (λ (z : Contract). z.trade < length trades) (get_or_from_slice_get contracts j contract contract is) (outcome.contracts.known j contract (slice_get_within contracts j contract is)) in
+    (omega arith, omega (arith, known))) in
     let half = halves_few trades g contracts in
     omega (arith, count, free, half)

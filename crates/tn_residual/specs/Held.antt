@@ -1,13 +1,15 @@
 -- What a firm has signed, by positions.
-use Rattle.std.specs.Prelude.{◌≡◌, ℕ, ◌^◌, ◌<◌, ◌≤◌, ℤ, pos, List, length, All, if◌then◌else◌, Option, Some, None, ◌≤ℤ◌}
+use Rattle.std.specs.Prelude.{◌≡◌, ℕ, ◌<◌, ◌≤◌, ℤ, pos, List, length, All, if◌then◌else◌, Option, Some, None, ◌≤ℤ◌}
 use Rattle.tn_base.specs.Arcs.{IsAtMost}
 use Rattle.tn_base.specs.Sets.{union}
 use Rattle.tn_plain_data.specs.declared.ends.Ends.{Ends}
 use Rattle.tn_plain_data.specs.declared.contract.Contract.{Contract}
 use Rattle.tn_plain_data.specs.Network.{own, part}
+use Rattle.tn_plain_data.specs.Limits.{most_numerator}
 use Rattle.tn_market.specs.Best.{IsSubset}
 use Rattle.tn_plain_data.specs.Prices.{price_at}
 use Rattle.tn_market.specs.Signed.{is_signed, signed, signed_price}
+use Rattle.tn_market.specs.Widths.{most_own}
 
 -- the price of the contract on trade t, none where it isn't signed
 abbrev pub contract_price : List Contract → ℕ → Option ℤ
@@ -16,8 +18,8 @@ contract_price contracts t = if is_signed contracts t then Some (signed_price co
 -- the signed ones of the first n positions of firm f, with the price at each position, which is 0 where it isn't signed
 pub record HoldsSigned (trades : List Ends) (contracts : List Contract) (f n held : ℕ) (prices : List ℤ) : Type 0 where
   pub bundle : held ≡ part trades f n (signed (length trades) contracts)
-  pub counted : length prices ≡ 32
-  pub small : All (λ p. IsAtMost p (10 ^ 11)) prices
+  pub counted : length prices ≡ most_own
+  pub small : All (λ p. IsAtMost p most_numerator) prices
   pub each : (k : ℕ) → k < n → price_at prices k ≡ signed_price contracts (own trades f k)
   pub rest : (k : ℕ) → n ≤ k → price_at prices k ≡ pos 0
 

@@ -1,6 +1,6 @@
 -- The residual market of an outcome: the unsigned trades, and for each contract a firm outside the market that buys from
 -- the contract's seller and sells to its buyer at the contract's price. So each end may drop its contract by itself.
-use Rattle.std.specs.Prelude.{ℕ, zero, suc, ◌^◌, unsigned_abs, ◌+◌, ◌*◌, ℤ, ◌*ℤ◌, List, [], ◌∷◌, ◌++◌, length, map, slice_get, not, ◌&&◌, if◌then◌else◌, Option, Some, None}
+use Rattle.std.specs.Prelude.{ℕ, zero, suc, unsigned_abs, ◌+◌, ◌*◌, ℤ, ◌*ℤ◌, List, [], ◌∷◌, ◌++◌, length, map, slice_get, not, ◌&&◌, if◌then◌else◌, Option, Some, None}
 use Rattle.tn_base.specs.Sets.{has, set_of}
 use Rattle.tn_base.specs.Firm.{Firm}
 use Rattle.tn_plain_data.specs.declared.ends.Ends.{Ends}
@@ -9,6 +9,7 @@ use Rattle.tn_plain_data.specs.Network.{part}
 use Rattle.tn_market.specs.Levied.{levied}
 use Rattle.tn_market.specs.Outside.{outside}
 use Rattle.tn_market.specs.Signed.{is_signed}
+use Rattle.tn_market.specs.Widths.{most_worth}
 
 -- ---- its trades
 
@@ -57,9 +58,9 @@ outsides scale contracts = map (λ contract. outside (scale *ℤ contract.price)
 abbrev pub residual_of : List Firm → List Ends → ℤ → List Contract → ℤ → ℤ → List Firm
 residual_of firms trades over contracts scale tax = levied_from trades contracts (over *ℤ scale) tax 0 firms ++ outsides scale contracts
 
--- a bound on the size of every worth of a firm, where worths of at most 10^11 and prices of at most 10^11 count `scale` times
+-- a bound on the size of every worth of a firm, where worths, and prices that are no larger, count `scale` times
 abbrev pub residual_limit : ℤ → ℕ
-residual_limit scale = unsigned_abs scale * 10 ^ 11 + 64
+residual_limit scale = unsigned_abs scale * most_worth + 64
 
 -- ---- its surplus
 

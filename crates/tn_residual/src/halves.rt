@@ -2,6 +2,7 @@
 
 ghost use Rattle.std.specs.Prelude.{◌≡◌, ◌++◌, ◌<◌, ◌≤◌, All, IfOk, length, map};
 ghost use Rattle.tn_market.specs.Limits.{IsOutcomeOf, IsWithinLimits};
+ghost use Rattle.tn_plain_data.specs.Limits.{most_firms, most_trades};
 ghost use Rattle.tn_plain_data.specs.Network.{IsNetwork};
 ghost use Rattle.tn_residual.specs.Residual.{bought_from, halves_from, residual_trades, sold_to, unsigned_from};
 
@@ -57,9 +58,9 @@ fn add_halves<V: Valuation>(
     outcome: &Outcome,
     firms: u32,
 ) -> Result<(), OutOfMemory>
-    requires few_firms { firms ≤ 1024 }
+    requires few_firms { firms ≤ most_firms }
     requires known { All (λ contract. contract.trade < length market.now.trades) outcome.now.contracts }
-    requires few { length outcome.now.contracts ≤ 128 }
+    requires few { length outcome.now.contracts ≤ most_trades }
     ensures { IfOk result (λ done. trades.new.items ≡ trades.old.items ++ halves_from market.now.trades firms outcome.now.contracts) }
 {
     for c in 0..outcome.contracts.len() {

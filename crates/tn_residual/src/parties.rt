@@ -1,8 +1,9 @@
 //! The firms of a residual market.
 
-ghost use Rattle.std.specs.Prelude.{◌≡◌, ℕ, ◌++◌, ◌*◌, ◌+◌, ◌^◌, ◌<◌, ◌≤◌, All, IfOk, pos, ◌≤ℤ◌, ◌*ℤ◌, length, map, slice_get, Some};
+ghost use Rattle.std.specs.Prelude.{◌≡◌, ℕ, ◌++◌, ◌*◌, ◌+◌, ◌<◌, ◌≤◌, All, IfOk, pos, ◌≤ℤ◌, ◌*ℤ◌, length, map, slice_get, Some};
 ghost use Rattle.tn_base.specs.Arcs.{IsAtMost};
 ghost use Rattle.tn_market.specs.Limits.{IsOutcomeOf, IsWithinLimits};
+ghost use Rattle.tn_plain_data.specs.Limits.{most_claimed_over, most_numerator};
 ghost use Rattle.tn_plain_data.specs.Network.{part};
 ghost use Rattle.tn_residual.specs.Residual.{levied_from, outsides, residual_limit, residual_of, unsigned};
 
@@ -37,7 +38,7 @@ fn members<'a, V: Valuation>(
 ) -> Result<Vec<Party<'a, V>>, OutOfMemory>
     requires limits { IsWithinLimits V.firm V.limit market.now }
     requires scaled { pos 1 ≤ℤ scale }
-    requires small_scale { scale ≤ℤ pos 100000 }
+    requires small_scale { scale ≤ℤ pos most_claimed_over }
     requires taxed { pos 0 ≤ℤ tax }
     requires small_tax { tax ≤ℤ pos 1 }
     ensures firms { IfOk result (λ parties. map ⟦<Party<'a, V> as Valuation>⟧.firm parties.items
@@ -55,10 +56,10 @@ fn members<'a, V: Valuation>(
 /// A price counted `scale` times.
 fn scaled_price(scale: i128, price: i128) -> i128
     requires from_one { pos 1 ≤ℤ scale }
-    requires small_scale { scale ≤ℤ pos 100000 }
-    requires small { IsAtMost price (10 ^ 11) }
+    requires small_scale { scale ≤ℤ pos most_claimed_over }
+    requires small { IsAtMost price most_numerator }
     ensures value { result ≡ scale *ℤ price }
-    ensures small { IsAtMost result (10 ^ 17) }
+    ensures small { IsAtMost result (most_claimed_over * most_numerator) }
 {
     scale * price
 }
@@ -70,8 +71,8 @@ fn add_outsides<'a, V: Valuation>(
     scale: i128,
 ) -> Result<(), OutOfMemory>
     requires from_one { pos 1 ≤ℤ scale }
-    requires small_scale { scale ≤ℤ pos 100000 }
-    requires small { All (λ contract. IsAtMost contract.price (10 ^ 11)) outcome.now.contracts }
+    requires small_scale { scale ≤ℤ pos most_claimed_over }
+    requires small { All (λ contract. IsAtMost contract.price most_numerator) outcome.now.contracts }
     ensures firms { IfOk result (λ done. map ⟦<Party<'a, V> as Valuation>⟧.firm parties.new.items
         ≡ map ⟦<Party<'a, V> as Valuation>⟧.firm parties.old.items ++ outsides scale outcome.now.contracts) }
     ensures limits { IfOk result (λ done. (limit : ℕ) → residual_limit scale ≤ limit
@@ -97,7 +98,7 @@ pub fn all_parties<'a, V: Valuation>(
     requires limits { IsWithinLimits V.firm V.limit market.now }
     requires outcome { IsOutcomeOf market.now.trades outcome.now.over outcome.now.contracts }
     requires scaled { pos 1 ≤ℤ (outcome.now.over *ℤ scale) }
-    requires small_scale { (outcome.now.over *ℤ scale) ≤ℤ pos 100000 }
+    requires small_scale { (outcome.now.over *ℤ scale) ≤ℤ pos most_claimed_over }
     requires taxed { pos 0 ≤ℤ tax }
     requires small_tax { tax ≤ℤ pos 1 }
     ensures firms { IfOk result (λ parties. map ⟦<Party<'a, V> as Valuation>⟧.firm parties.items

@@ -1,5 +1,6 @@
-ghost use Rattle.std.specs.Prelude.{◌≡◌, ◌++◌, ◌*◌, ◌+◌, ◌^◌, ◌<◌, ◌≤◌, All, IfOk, pos, ◌≤ℤ◌, ◌*ℤ◌, length, map};
+ghost use Rattle.std.specs.Prelude.{◌≡◌, ◌++◌, ◌*◌, ◌+◌, ◌<◌, ◌≤◌, All, IfOk, pos, ◌≤ℤ◌, ◌*ℤ◌, length, map};
 ghost use Rattle.tn_market.specs.Limits.{IsOutcomeOf, IsWithinLimits};
+ghost use Rattle.tn_plain_data.specs.Limits.{most_claimed_over};
 ghost use Rattle.tn_residual.specs.Residual.{residual_limit, residual_of, residual_trades};
 ghost use Rattle.tn_residual.specs.Surplus.{IsSurplusOfReduced};
 
@@ -16,7 +17,7 @@ use tn_market::{Market, Outcome, Party, Valuation};
 ///
 /// For each set of unsigned trades its greatest surplus is that of their reduced worths: each end of a contract is on
 /// where its own firm likes it, and the firm outside pays the one end what it gets from the other. The limits of firms
-/// and outcomes hold (at most 128 firms and 128 trades, 32 own trades, worths and numerators of at most 10^11 in size,
+/// and outcomes hold (at most 1,024 firms and 1,024 trades, 32 own trades, worths and numerators of at most 10^11 in size,
 /// a denominator of 1 to 100); `over * scale` is 1 to 100,000, and the tax is 0 or 1.
 pub fn residual<'a, V: Valuation>(
     alloc: Global,
@@ -28,7 +29,7 @@ pub fn residual<'a, V: Valuation>(
     requires limits { IsWithinLimits V.firm V.limit market.now }
     requires outcome { IsOutcomeOf market.now.trades outcome.now.over outcome.now.contracts }
     requires scaled { pos 1 ≤ℤ (outcome.now.over *ℤ scale) }
-    requires small_scale { (outcome.now.over *ℤ scale) ≤ℤ pos 100000 }
+    requires small_scale { (outcome.now.over *ℤ scale) ≤ℤ pos most_claimed_over }
     requires taxed { pos 0 ≤ℤ tax }
     requires small_tax { tax ≤ℤ pos 1 }
     ensures firms { IfOk result (λ residual. map ⟦<Party<'a, V> as Valuation>⟧.firm residual.firms

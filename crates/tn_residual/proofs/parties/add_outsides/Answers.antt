@@ -1,4 +1,4 @@
-use Rattle.std.proofs.Common.{rules, ◌≡◌, ◌∙◌, arith, sym, ap, subst, suc, ◌+◌, ◌^◌, ◌≤◌, ◌++◌, map, take, append-nil, ℕ, ℤ, ◌*ℤ◌, List}
+use Rattle.std.proofs.Common.{rules, ◌≡◌, ◌∙◌, arith, sym, ap, subst, suc, ◌+◌, ◌≤◌, ◌++◌, map, take, append-nil, ℕ, ℤ, ◌*ℤ◌, List}
 use Rattle.std.proofs.lemmas.Int.{to_z-of_z}
 use Rattle.std.proofs.lemmas.List.{take_all}
 use Rattle.std.proofs.lemmas.Option.{slice_get_within, get_or_from_slice_get}
@@ -9,6 +9,7 @@ use mir.Syntax.{w128}
 use mir.Val.{SFits, of_z, to_z}
 use Rattle.tn_base.specs.Arcs.{IsAtMost}
 use Rattle.tn_plain_data.specs.declared.contract.Contract.{Contract}
+use Rattle.tn_plain_data.specs.Limits.{most_numerator}
 use Rattle.tn_market.specs.Outside.{outside}
 use Rattle.tn_market.specs.declared.party.Party.{Party}
 use Rattle.tn_market.specs.Parties.{party_firm, party_limit}
@@ -19,7 +20,7 @@ use Rattle.tn_residual.proofs.parties.add_outsides.Goals as goal
 pub scaled_price-price-requires-clause-small : goal.scaled_price-price-requires-clause-small
 scaled_price-price-requires-clause-small g c =
     let fits : SFits w128 c.at.result.price = search rules in
-    simp to_z-of_z (subst (λ (z : Contract). IsAtMost z.price (10 ^ 11)) (get_or_from_slice_get c.args.outcome.now.contracts c.loop-c.c c.at.result c.at.result c.at.ensures)
+    simp to_z-of_z (subst (λ (z : Contract). IsAtMost z.price most_numerator) (get_or_from_slice_get c.args.outcome.now.contracts c.loop-c.c c.at.result c.at.result c.at.ensures)
     (c.requires.small c.loop-c.c c.at.result (slice_get_within c.args.outcome.now.contracts c.loop-c.c c.at.result c.at.ensures)))
 
 pub loop-c-preserved : goal.loop-c-preserved
@@ -35,7 +36,7 @@ loop-c-preserved g c =
     let price_fits : SFits w128 c.scaled_price-price.result = search rules in
     let price_is = c.new.ensures ∙ to_z-of_z w128 c.scaled_price-price.result price_fits ∙ price in
     let made = ap outside price_is in
-    let small = subst (λ (z : Contract). IsAtMost z.price (10 ^ 11)) (get_or_from_slice_get c.args.outcome.now.contracts c.loop-c.c c.at.result c.at.result c.at.ensures)
+    let small = subst (λ (z : Contract). IsAtMost z.price most_numerator) (get_or_from_slice_get c.args.outcome.now.contracts c.loop-c.c c.at.result c.at.result c.at.ensures)
     (c.requires.small c.loop-c.c c.at.result (slice_get_within c.args.outcome.now.contracts c.loop-c.c c.at.result c.at.ensures)) in (
       subst (λ (s : ℤ). map (party_firm g.V.Valuation) c.push.new.self.items ≡ map (party_firm g.V.Valuation) c.args.parties.now.items ++ outsides s (take (c.loop-c.c + 1) c.args.outcome.now.contracts))
           (sym plain)

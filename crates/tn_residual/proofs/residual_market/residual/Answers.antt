@@ -32,7 +32,7 @@ new-requires-clause-few_firms g c =
 
 pub new-requires-clause-few_trades : goal.new-requires-clause-few_trades
 new-requires-clause-few_trades g c =
-    let count = trades_few (length c.args.market.now.firms) c.args.market.now.trades c.args.outcome.now.contracts c.in_ok-trades.trades.items c.in_ok-trades.ensures.trades in
+    let count = trades_few (length c.args.market.now.firms) c.args.market.now.trades c.args.outcome.now.over c.args.outcome.now.contracts c.in_ok-trades.trades.items c.requires.outcome c.in_ok-trades.ensures.trades in
     let few = contracts_few c.args.market.now.trades c.args.outcome.now.over c.args.outcome.now.contracts c.requires.outcome in
     let most = c.requires.limits.few_trades in
     omega (arith, count, few, most)
