@@ -1,5 +1,5 @@
 -- Where all of a cycle is on, its contracts are a chain that blocks the outcome.
-use Rattle.std.proofs.Common.{map, ◌≡◌, ◌≢◌, ℕ, suc, ◌+◌, ◌-◌, ◌^◌, ◌<◌, ◌≤◌, Bool, true, false, not, ◌==◌, ◌&&◌, if◌then◌else◌, List, [], ◌∷◌, length, slice_get, Some, None, refl, sym, ap, ap₂, ◌∙◌, subst, arith, inl, inr, ℤ, Result, Ok, Err}
+use Rattle.std.proofs.Common.{map, ◌≡◌, ◌≢◌, ℕ, suc, ◌+◌, ◌-◌, ◌<◌, ◌≤◌, Bool, true, false, not, ◌==◌, ◌&&◌, if◌then◌else◌, List, [], ◌∷◌, length, slice_get, Some, None, refl, sym, ap, ap₂, ◌∙◌, subst, arith, inl, inr, ℤ, Result, Ok, Err}
 use Rattle.std.specs.Prelude.{IfOk}
 use Rattle.std.proofs.lemmas.Int.{ints}
 use Rattle.std.proofs.lemmas.Bool.{cases_eq, cases_lt, or_cases, or_left, or_right, eqb-true, eq-eqb, lt-ltb}
@@ -10,6 +10,7 @@ use Rattle.tn_base.specs.Firm.{Firm, HasOwnBundles}
 use Rattle.tn_base.specs.Arcs.{IsAtMost}
 use Rattle.tn_base.specs.Walks.{walk_cost, arcs_among, is_admitted, AreDifferent}
 use Rattle.tn_plain_data.specs.declared.ends.Ends.{Ends}
+use Rattle.tn_plain_data.specs.Limits.{most_number}
 use Rattle.tn_plain_data.specs.declared.contract.Contract.{Contract}
 use Rattle.tn_market.specs.Signed.{is_signed}
 use Rattle.tn_market.specs.Signed.{Completes}
@@ -74,7 +75,7 @@ pub is_blocking : (firms : List Firm) (trades : List Ends) (over : ℤ) (contrac
     → IsBlockingChain firms trades over contracts offers
 is_blocking firms trades over contracts left listed cost count cycle solution round all_on first begin offers at = record {
   unsigned = λ k offer is. (node k offer is).1;
-  small = λ k offer is. subst (λ (z : ℤ). IsAtMost z (10 ^ 18 - 1)) (sym (at.each k offer is).1) (round.solved.small (number_from contracts 0 offer.trade));
+  small = λ k offer is. subst (λ (z : ℤ). IsAtMost z (most_number - 1)) (sym (at.each k offer is).1) (round.solved.small (number_from contracts 0 offer.trade));
   chain = λ k one next first_ends second_ends one_is next_is first_is second_is.
       let a = (at.each k one one_is).0 in
       let b = (at.each (k + 1) next next_is).0 in

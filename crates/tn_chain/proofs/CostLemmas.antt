@@ -1,10 +1,12 @@
 -- The costs of the reduced graph, as they are read and written.
-use Rattle.std.proofs.Common.{◌≡◌, ℕ, ◌+◌, ◌*◌, ◌^◌, ◌<◌, ◌≤◌, Bool, true, false, if◌then◌else◌, List, length, map, slice_get, Option, Some, None, option_map, refl, sym, ap, ap₂, ◌∙◌, subst, arith, inl, inr, ℤ}
+use Rattle.std.proofs.Common.{◌≡◌, ℕ, ◌+◌, ◌^◌, ◌<◌, ◌≤◌, Bool, true, false, if◌then◌else◌, List, length, map, slice_get, Option, Some, None, option_map, refl, sym, ap, ap₂, ◌∙◌, subst, arith, inl, inr, ℤ}
 use Rattle.std.specs.Prelude.{option_and_then, is_some, IfSome}
 use Rattle.std.proofs.lemmas.Bool.{cases_eq, cases_lt}
 use Rattle.std.proofs.lemmas.Int.{ints}
 use Rattle.std.proofs.lemmas.Option.{same_Some, slice_get-map, slice_get_within, get_or_from_slice_get}
 use Rattle.tn_base.specs.Arcs.{IsAtMost, AreSmall}
+use Rattle.tn_base.specs.Widths.{most_cost}
+use Rattle.tn_chain.specs.Limits.{most_reduced_cost}
 use Rattle.tn_base.specs.Sets.{meet}
 use Rattle.tn_base.specs.Firm.{Firm}
 use Rattle.tn_plain_data.specs.declared.ends.Ends.{Ends}
@@ -99,7 +101,7 @@ no_move_cost firms trades over contracts u v from to none =
 -- ---- all costs
 
 -- each cost that is read is small
-pub cost_small : (arc : ℕ → ℕ → Option ℤ) → AreSmall arc (3 * 10 ^ 13) → (u v : ℕ) (cost : Option ℤ) → cost ≡ arc u v → IfSome cost (λ c. IsAtMost c (10 ^ 18))
+pub cost_small : (arc : ℕ → ℕ → Option ℤ) → AreSmall arc most_reduced_cost → (u v : ℕ) (cost : Option ℤ) → cost ≡ arc u v → IfSome cost (λ c. IsAtMost c most_cost)
 cost_small arc small u v None is = tt
 cost_small arc small u v (Some c) is = let h = small u v c (sym is) in record { low = omega (arith, ints, h.low); high = omega (arith, ints, h.high) }
 

@@ -6,6 +6,8 @@ use Rattle.std.proofs.lemmas.Nat.{pow_pos, mul-le}
 use Rattle.std.proofs.lemmas.Bool.{cases_eq, le-leb, eqb-true, true≢false}
 use Rattle.std.proofs.lemmas.Option.{same_Some, slice_get-map}
 use Rattle.tn_base.specs.Options.{both}
+use Rattle.tn_base.specs.Widths.{most_cost}
+use Rattle.tn_chain.specs.Limits.{most_reduced_cost, most_reduced_worth}
 use Rattle.tn_base.specs.Arcs.{IsAtMost, AreSmall}
 use Rattle.tn_base.specs.Sets.{has, toggle, meet, sum_over}
 use Rattle.tn_base.specs.Firm.{Firm, plus_sum, payments}
@@ -16,6 +18,8 @@ use Rattle.tn_plain_data.specs.declared.ends.Ends.{Ends}
 use Rattle.tn_plain_data.specs.declared.contract.Contract.{Contract}
 use Rattle.tn_plain_data.specs.Network.{own, part, IsNetwork}
 use Rattle.tn_market.specs.Valued.{IsWorthAtMost}
+use Rattle.tn_market.specs.Widths.{most_own, most_worth}
+use Rattle.tn_plain_data.specs.Limits.{most_numerator, most_over}
 use Rattle.tn_market.specs.Traded.{Traded}
 use Rattle.tn_market.specs.Limits.{IsOutcomeOf, IsWithinLimits}
 use Rattle.tn_market.specs.Equilibrium.{prices_at}
@@ -164,29 +168,29 @@ move_is firms trades network contracts u v m is u_free v_free = by_case (slice_g
 
 -- ---- sizes
 
-pub price_small : (contracts : List Contract) → All (λ contract. IsAtMost contract.price (10 ^ 11)) contracts → (t : ℕ) → IsAtMost (signed_price contracts t) (10 ^ 11)
+pub price_small : (contracts : List Contract) → All (λ contract. IsAtMost contract.price most_numerator) contracts → (t : ℕ) → IsAtMost (signed_price contracts t) most_numerator
 price_small [] small t = record { low = omega (arith, ints); high = omega (arith, ints) }
 price_small (contract ∷ contracts) small t = by_test (contract.trade == t) (price_small contracts (λ k d below. small (suc k) d (omega (arith, below))) t)
   where
-    by_test : (b : Bool) → IsAtMost (signed_price contracts t) (10 ^ 11) → IsAtMost (if b then contract.price else signed_price contracts t) (10 ^ 11)
+    by_test : (b : Bool) → IsAtMost (signed_price contracts t) most_numerator → IsAtMost (if b then contract.price else signed_price contracts t) most_numerator
     by_test true rest = small 0 contract (omega arith)
     by_test false rest = rest
 
--- no reduced worth is above 132 * 10^11 in size
-pub reduced_small : (trades : List Ends) (over : ℤ) (contracts : List Contract) (f : ℕ) (firm : Firm) → IsOutcomeOf trades over contracts → firm.count ≤ 32 → IsWorthAtMost (10 ^ 11) firm
-    → IsWorthAtMost (132 * 10 ^ 11) (reduced trades over contracts f firm)
+-- reduced worths are small
+pub reduced_small : (trades : List Ends) (over : ℤ) (contracts : List Contract) (f : ℕ) (firm : Firm) → IsOutcomeOf trades over contracts → firm.count ≤ most_own → IsWorthAtMost most_worth firm
+    → IsWorthAtMost most_reduced_worth (reduced trades over contracts f firm)
 reduced_small trades over contracts f firm outcome few within x a is =
     let found = adding_one (signed_bundle trades contracts f firm) (plus_sum over (payments firm.buys (prices_at trades (signed_price contracts) f)) firm) x a is in
     let worth = option_map-some (λ w. over *ℤ w +ℤ sum_over (payments firm.buys (prices_at trades (signed_price contracts) f)) firm.count found.0) (firm.worth found.0) a found.2 in
     let low = outcome.least in
     let high = outcome.most in
-    let product = times_small over worth.0 100 (10 ^ 11) (record { low = omega (arith, ints, low); high = high }) (within found.0 worth.0 worth.1) in
-    let sum = sum_over_small (payments firm.buys (prices_at trades (signed_price contracts) f)) firm.count found.0 (10 ^ 11)
-    (λ k below. payment_small firm.buys (prices_at trades (signed_price contracts) f) k (10 ^ 11) (price_small contracts outcome.contracts.small (own trades f k))) in
-    let many = mul-le firm.count (10 ^ 11) 32 (10 ^ 11) few (omega arith) in
-    together (over *ℤ worth.0) _ a (firm.count * 10 ^ 11) product sum many worth.2
+    let product = times_small over worth.0 most_over most_worth (record { low = omega (arith, ints, low); high = high }) (within found.0 worth.0 worth.1) in
+    let sum = sum_over_small (payments firm.buys (prices_at trades (signed_price contracts) f)) firm.count found.0 most_numerator
+    (λ k below. payment_small firm.buys (prices_at trades (signed_price contracts) f) k most_numerator (price_small contracts outcome.contracts.small (own trades f k))) in
+    let many = mul-le firm.count most_numerator most_own most_numerator few (omega arith) in
+    together (over *ℤ worth.0) _ a (firm.count * most_numerator) product sum many worth.2
   where
-    together : (p s a : ℤ) (n : ℕ) → IsAtMost p (100 * 10 ^ 11) → IsAtMost s n → n ≤ 32 * 10 ^ 11 → p +ℤ s ≡ a → IsAtMost a (132 * 10 ^ 11)
+    together : (p s a : ℤ) (n : ℕ) → IsAtMost p (most_over * most_worth) → IsAtMost s n → n ≤ most_own * most_numerator → p +ℤ s ≡ a → IsAtMost a most_reduced_worth
     together p s a n product sum many is = record {
       low = omega (arith, ints, product.low, sum.low, many, is);
       high = omega (arith, ints, product.high, sum.high, many, is);
@@ -195,32 +199,32 @@ reduced_small trades over contracts f firm outcome few within x a is =
 -- what an item of a market has, its reduced worth is small
 pub item_small : {V : Type 0} (firm_of : V → Firm) (limit_of : V → ℕ) (market : Traded V) (over : ℤ) (contracts : List Contract) → IsWithinLimits firm_of limit_of market
     → IsOutcomeOf market.trades over contracts → ((v : V) → IsWorthAtMost (limit_of v) (firm_of v)) → (f : ℕ) (v : V) → slice_get market.firms f ≡ Some v
-    → IsWorthAtMost (132 * 10 ^ 11) (reduced market.trades over contracts f (firm_of v))
+    → IsWorthAtMost most_reduced_worth (reduced market.trades over contracts f (firm_of v))
 item_small firm_of limit_of market over contracts limits outcome within f v is =
     reduced_small market.trades over contracts f (firm_of v) outcome (limits.few_own f v is) (λ x a worth. wider (limit_of v) a (within v x a worth) (limits.small_worths f v is))
   where
-    wider : (limit : ℕ) (a : ℤ) → IsAtMost a limit → limit ≤ 10 ^ 11 → IsAtMost a (10 ^ 11)
+    wider : (limit : ℕ) (a : ℤ) → IsAtMost a limit → limit ≤ most_worth → IsAtMost a most_worth
     wider limit a small le = record { low = omega (arith, ints, small.low, le); high = omega (arith, ints, small.high, le) }
 
--- no cost of the reduced graph is above 3 * 10^13 in size
+-- and so are the costs of their graph
 pub reduced_arcs_small : {V : Type 0} (firm_of : V → Firm) (limit_of : V → ℕ) (market : Traded V) (over : ℤ) (contracts : List Contract) → IsNetwork (map firm_of market.firms) market.trades
     → IsWithinLimits firm_of limit_of market → IsOutcomeOf market.trades over contracts → ((v : V) → IsWorthAtMost (limit_of v) (firm_of v))
-    → AreSmall (reduced_arc (map firm_of market.firms) market.trades over contracts) (3 * 10 ^ 13)
+    → AreSmall (reduced_arc (map firm_of market.firms) market.trades over contracts) most_reduced_cost
 reduced_arcs_small {V} firm_of limit_of market over contracts network limits outcome within u v cost is =
     wider cost (arcs_small (reduced_firms market.trades over contracts (map firm_of market.firms)) market.trades (reduced_network (map firm_of market.firms) market.trades over contracts network)
-    (132 * 10 ^ 11) 0 each u v cost is)
+    most_reduced_worth 0 each u v cost is)
   where
-    wider : (cost : ℤ) → IsAtMost cost (2 * (132 * 10 ^ 11)) → IsAtMost cost (3 * 10 ^ 13)
+    wider : (cost : ℤ) → IsAtMost cost most_reduced_cost → IsAtMost cost most_reduced_cost
     wider cost small = record { low = omega (arith, ints, small.low); high = omega (arith, ints, small.high) }
 
-    each : (f : ℕ) (firm : Firm) → slice_get (reduced_firms market.trades over contracts (map firm_of market.firms)) f ≡ Some firm → IsWorthAtMost (132 * 10 ^ 11) firm
+    each : (f : ℕ) (firm : Firm) → slice_get (reduced_firms market.trades over contracts (map firm_of market.firms)) f ≡ Some firm → IsWorthAtMost most_reduced_worth firm
     each f firm is =
         let found = reduced_from_firm market.trades over contracts (map firm_of market.firms) f firm is in
-        subst (IsWorthAtMost (132 * 10 ^ 11)) (sym found.2) (by (slice_get market.firms f) refl found.0 (sym (slice_get-map firm_of market.firms f) ∙ found.1))
+        subst (IsWorthAtMost most_reduced_worth) (sym found.2) (by (slice_get market.firms f) refl found.0 (sym (slice_get-map firm_of market.firms f) ∙ found.1))
       where
-        by : (o : Option V) → slice_get market.firms f ≡ o → (z : Firm) → option_map firm_of o ≡ Some z → IsWorthAtMost (132 * 10 ^ 11) (reduced market.trades over contracts f z)
+        by : (o : Option V) → slice_get market.firms f ≡ o → (z : Firm) → option_map firm_of o ≡ Some z → IsWorthAtMost most_reduced_worth (reduced market.trades over contracts f z)
         by None there z e = absurd (cc e)
-        by (Some v) there z e = subst (λ (w : Firm). IsWorthAtMost (132 * 10 ^ 11) (reduced market.trades over contracts f w)) (same_Some _ _ e) (item_small firm_of limit_of market over contracts limits outcome within f v there)
+        by (Some v) there z e = subst (λ (w : Firm). IsWorthAtMost most_reduced_worth (reduced market.trades over contracts f w)) (same_Some _ _ e) (item_small firm_of limit_of market over contracts limits outcome within f v there)
 
 -- ---- one loss
 
@@ -228,13 +232,13 @@ pub meet_empty : (x y : ℕ) → x ≡ 0 → meet x y ≡ 0
 meet_empty x y none = same_set (meet x y) 0 (λ k. has-meet x y k ∙ ap (λ (b : Bool). b && has y k) (ap (λ (z : ℕ). has z k) none ∙ has-zero k) ∙ sym (has-zero k))
 
 -- a reduced worth that is found is small
-pub found_small : (worth : ℕ → Option ℤ) (x : ℕ) (found : Option (ℕ × ℤ)) (bundle : ℕ) (a : ℤ) → ((x : ℕ) (a : ℤ) → worth x ≡ Some a → IsAtMost a (132 * 10 ^ 11))
-    → option_map (λ p. p.1) found ≡ worth x → found ≡ Some (bundle, a) → IsAtMost a (10 ^ 18) × (worth x ≡ Some a)
+pub found_small : (worth : ℕ → Option ℤ) (x : ℕ) (found : Option (ℕ × ℤ)) (bundle : ℕ) (a : ℤ) → ((x : ℕ) (a : ℤ) → worth x ≡ Some a → IsAtMost a most_reduced_worth)
+    → option_map (λ p. p.1) found ≡ worth x → found ≡ Some (bundle, a) → IsAtMost a most_cost × (worth x ≡ Some a)
 found_small worth x found bundle a small is there =
     let at : worth x ≡ Some a = sym is ∙ ap (option_map (λ p. p.1)) there in
     (wider a (small x a at), at)
   where
-    wider : (a : ℤ) → IsAtMost a (132 * 10 ^ 11) → IsAtMost a (10 ^ 18)
+    wider : (a : ℤ) → IsAtMost a most_reduced_worth → IsAtMost a most_cost
     wider a h = record { low = omega (arith, ints, h.low); high = omega (arith, ints, h.high) }
 
 -- where a worth is none, so is the loss

@@ -1,5 +1,5 @@
 -- How large the residual market and its prices are.
-use Rattle.std.proofs.Common.{ap, subst, ◌≡◌, ℕ, zero, suc, ◌+◌, ◌-◌, ◌*◌, ◌^◌, ◌<◌, ◌≤◌, Bool, true, false, not, ◌&&◌, if◌then◌else◌, List, length, map, slice_get, get_or, Option, Some, None, option_map, refl, sym, ap₂, ◌∙◌, arith, inl, inr, ℤ, pos, ◌*ℤ◌, ◌≤ℤ◌}
+use Rattle.std.proofs.Common.{ap, subst, ◌≡◌, ℕ, zero, suc, ◌+◌, ◌-◌, ◌*◌, ◌<◌, ◌≤◌, Bool, true, false, not, ◌&&◌, if◌then◌else◌, List, length, map, slice_get, get_or, Option, Some, None, option_map, refl, sym, ap₂, ◌∙◌, arith, inl, inr, ℤ, pos, ◌*ℤ◌, ◌≤ℤ◌}
 use Rattle.std.specs.Prelude.{unsigned_abs, All}
 use Rattle.std.proofs.lemmas.Int.{ints}
 use Rattle.std.proofs.lemmas.Nat.{mul-le}
@@ -10,15 +10,18 @@ use Rattle.tn_base.specs.Arcs.{IsAtMost}
 use Rattle.tn_base.specs.Sets.{has, toggle, set_of, size}
 use Rattle.tn_base.specs.Firm.{Firm}
 use Rattle.tn_base.specs.Walks.{AreDifferent}
+use Rattle.tn_base.specs.Widths.{most_cost}
 use Rattle.tn_base.proofs.SetLemmas.{has_above, has-set_of, set_of_within}
 use Rattle.tn_base.proofs.SizeLemmas.{size-toggle_in, size-zero}
 use Rattle.tn_law.proofs.BoundLemmas.{abs_small, times_small}
 use Rattle.tn_plain_data.specs.declared.ends.Ends.{Ends}
 use Rattle.tn_plain_data.specs.declared.contract.Contract.{Contract}
 use Rattle.tn_plain_data.specs.Prices.{price_at}
+use Rattle.tn_plain_data.specs.Limits.{most_claimed_over, most_number, most_over}
 use Rattle.tn_plain_data.specs.Choices.{IsFeasible}
 use Rattle.tn_market.specs.Limits.{IsOutcomeOf}
 use Rattle.tn_market.specs.Traded.{Traded}
+use Rattle.tn_market.specs.Widths.{most_worth}
 use Rattle.tn_market.specs.Signed.{is_signed, signed}
 use Rattle.tn_flow.specs.Solved.{AreSmallPrices}
 use Rattle.tn_outcome.proofs.SignedLemmas.{signed_by}
@@ -26,6 +29,7 @@ use Rattle.tn_residual.specs.Residual.{residual_limit, residual_of, residual_tra
 use Rattle.tn_residual.proofs.MakingLemmas.{halves_few, outcome_feasible}
 use Rattle.tn_blocking_laws.proofs.CycleLemmas.{few, visits-all}
 use Rattle.tn_chain.proofs.NumberLemmas.{numbers_all, unsigned_size}
+use Rattle.tn_chain.specs.Limits.{most_judged_trades}
 use Rattle.tn_chain.specs.Search.{chain_scale, IsResidual}
 
 -- signed and unsigned trades are all trades
@@ -82,8 +86,8 @@ made_few g trades contracts feasible =
     omega (arith, parts, halves, free, counted, both, some)
 
 -- its worths are small enough to solve it
-pub made_small : (over : ℤ) (g : ℕ) (trades : List Ends) (contracts : List Contract) → IsFeasible trades contracts → length trades ≤ 128 → pos 1 ≤ℤ over → over ≤ℤ pos 100
-    → 2 * residual_limit (over *ℤ chain_scale (length trades) contracts) * (length (residual_trades g trades contracts) + 1) < 10 ^ 18
+pub made_small : (over : ℤ) (g : ℕ) (trades : List Ends) (contracts : List Contract) → IsFeasible trades contracts → length trades ≤ most_judged_trades → pos 1 ≤ℤ over → over ≤ℤ pos most_over
+    → 2 * residual_limit (over *ℤ chain_scale (length trades) contracts) * (length (residual_trades g trades contracts) + 1) < most_cost
 made_small over g trades contracts feasible few_trades low high =
     by (unsigned_abs (over *ℤ chain_scale (length trades) contracts)) (size (unsigned (length trades) contracts)) (length (residual_trades g trades contracts))
     (made_few g trades contracts feasible) (let both = both_sizes contracts (length trades) in omega (arith, both, few_trades))
@@ -91,24 +95,24 @@ made_small over g trades contracts feasible few_trades low high =
     (times_small over (chain_scale (length trades) contracts) 100 (2 * size (unsigned (length trades) contracts) + 1)
     (record { low = omega (arith, ints, low); high = high }) (record { low = omega (arith, ints); high = omega (arith, ints) })))
   where
-    by : (s m l : ℕ) → l + m ≤ 2 * length trades → m ≤ 128 → s ≤ 100 * (2 * m + 1) → 2 * (s * 10 ^ 11 + 64) * (l + 1) < 10 ^ 18
+    by : (s m l : ℕ) → l + m ≤ 2 * length trades → m ≤ most_judged_trades → s ≤ 100 * (2 * m + 1) → 2 * (s * most_worth + 64) * (l + 1) < most_cost
     by s m l made most scale = elim (cases_lt m 65) [
       | inl low_m ↦
-          let product = mul-le (2 * (s * 10 ^ 11 + 64)) (l + 1) (2 * (12900 * 10 ^ 11 + 64)) 257 (omega (arith, scale, low_m)) (omega (arith, made, few_trades)) in
+          let product = mul-le (2 * (s * most_worth + 64)) (l + 1) (2 * (12900 * most_worth + 64)) 257 (omega (arith, scale, low_m)) (omega (arith, made, few_trades)) in
           omega (arith, product)
       | inr high_m ↦
-          let product = mul-le (2 * (s * 10 ^ 11 + 64)) (l + 1) (2 * (25700 * 10 ^ 11 + 64)) 192 (omega (arith, scale, most)) (omega (arith, made, few_trades, high_m)) in
+          let product = mul-le (2 * (s * most_worth + 64)) (l + 1) (2 * (25700 * most_worth + 64)) 192 (omega (arith, scale, most)) (omega (arith, made, few_trades, high_m)) in
           omega (arith, product)
     ]
 
 -- a price of a list of small prices
-pub price_small : (prices : List ℤ) (bound : ℕ) → AreSmallPrices bound prices → bound < 10 ^ 18 → (t : ℕ) → IsAtMost (price_at prices t) (10 ^ 18 - 1)
+pub price_small : (prices : List ℤ) (bound : ℕ) → AreSmallPrices bound prices → bound < most_cost → (t : ℕ) → IsAtMost (price_at prices t) (most_number - 1)
 price_small prices bound small below t = elim (slice_get_cases prices t).1 [
   | inl found ↦ wider (get_or prices t (pos 0)) (small t (pos 0) found.1)
-  | inr past ↦ subst (λ (z : ℤ). IsAtMost z (10 ^ 18 - 1)) (sym (get_or_past prices t (pos 0) past.0)) (record { low = omega (arith, ints); high = omega (arith, ints) })
+  | inr past ↦ subst (λ (z : ℤ). IsAtMost z (most_number - 1)) (sym (get_or_past prices t (pos 0) past.0)) (record { low = omega (arith, ints); high = omega (arith, ints) })
 ]
   where
-    wider : (z : ℤ) → IsAtMost z bound → IsAtMost z (10 ^ 18 - 1)
+    wider : (z : ℤ) → IsAtMost z bound → IsAtMost z (most_number - 1)
     wider z h = record { low = omega (arith, ints, h.low, below); high = omega (arith, ints, h.high, below) }
 
 -- and it has at least the unsigned trades
@@ -120,18 +124,18 @@ made_more g trades contracts =
     omega (arith, parts, free, counted)
 
 -- the scale is small
-pub scale_bound : (over : ℤ) (n : ℕ) (contracts : List Contract) → n ≤ 128 → pos 1 ≤ℤ over → over ≤ℤ pos 100 → IsAtMost (over *ℤ chain_scale n contracts) 25700
+pub scale_bound : (over : ℤ) (n : ℕ) (contracts : List Contract) → n ≤ most_judged_trades → pos 1 ≤ℤ over → over ≤ℤ pos most_over → IsAtMost (over *ℤ chain_scale n contracts) (most_over * (2 * most_judged_trades + 1))
 scale_bound over n contracts few_trades low high =
     let both = both_sizes contracts n in
-    times_small over (chain_scale n contracts) 100 257 (record { low = omega (arith, ints, low); high = high })
+    times_small over (chain_scale n contracts) most_over (2 * most_judged_trades + 1) (record { low = omega (arith, ints, low); high = high })
     (record { low = omega (arith, ints); high = omega (arith, ints, both, few_trades) })
 
-pub scale_small : (over : ℤ) (n : ℕ) (contracts : List Contract) → n ≤ 128 → pos 1 ≤ℤ over → over ≤ℤ pos 100 → (over *ℤ chain_scale n contracts) ≤ℤ pos 100000
+pub scale_small : (over : ℤ) (n : ℕ) (contracts : List Contract) → n ≤ most_judged_trades → pos 1 ≤ℤ over → over ≤ℤ pos most_over → (over *ℤ chain_scale n contracts) ≤ℤ pos most_claimed_over
 scale_small over n contracts few_trades low high = let most = (scale_bound over n contracts few_trades low high).high in omega (arith, ints, most)
 
 -- a residual market of an outcome within the limits is one that can be solved
 pub is_residual : {P : Type 0} (firm_of : P → Firm) (limit_of : P → ℕ) (firms : List Firm) (count : ℕ) (trades : List Ends) (over : ℤ) (contracts : List Contract) (scale : ℤ) → count ≡ length firms
-    → length trades ≤ 128 → IsOutcomeOf trades over contracts → scale ≡ chain_scale (length trades) contracts → (residual : Traded P)
+    → length trades ≤ most_judged_trades → IsOutcomeOf trades over contracts → scale ≡ chain_scale (length trades) contracts → (residual : Traded P)
     → map firm_of residual.firms ≡ residual_of firms trades over contracts scale (pos 1) → residual.trades ≡ residual_trades count trades contracts
     → All (λ party. limit_of party ≤ residual_limit (over *ℤ scale)) residual.firms → IsResidual firm_of limit_of firms trades over contracts residual
 is_residual {P} firm_of limit_of firms count trades over contracts scale count_is few_trades outcome scale_is residual parties ends limits = record {
@@ -144,7 +148,7 @@ is_residual {P} firm_of limit_of firms count trades over contracts scale count_i
       let size_is = ap length all_ends in
       let most = made_few (length firms) trades contracts feasible in
       omega (arith, size_is, most, few_trades);
-  small = subst (λ (ts : List Ends). 2 * residual_limit (over *ℤ chain_scale (length trades) contracts) * (length ts + 1) < 10 ^ 18) (sym all_ends)
+  small = subst (λ (ts : List Ends). 2 * residual_limit (over *ℤ chain_scale (length trades) contracts) * (length ts + 1) < most_cost) (sym all_ends)
       (made_small over (length firms) trades contracts feasible few_trades outcome.least outcome.most);
 }
   where

@@ -1,3 +1,4 @@
+pub mod Limits
 pub mod Moves
 pub mod Numbers
 pub mod Listed

@@ -3,6 +3,7 @@
 ghost use Rattle.std.specs.Prelude.{◌≡◌, ℕ, ◌+◌, ◌*◌, ◌-◌, ◌^◌, ◌≤◌, ◌<◌, ℤ, true, length, map, slice_get, IfOk, Some};
 ghost use Rattle.tn_base.specs.Sets.{has, size};
 ghost use Rattle.tn_base.specs.Walks.{AreDifferent, KeepsArcs, arcs_among, is_admitted};
+ghost use Rattle.tn_chain.specs.Limits.{most_judged_trades};
 ghost use Rattle.tn_chain.specs.Listed.{HasNodes};
 ghost use Rattle.tn_chain.specs.Search.{HasCycle, IsBlockingChain, IsResidual, IsSolvedAmong, chain_scale};
 ghost use Rattle.tn_cycle.specs.Answers.{IsNegative};
@@ -29,7 +30,7 @@ use tn_residual::residual;
 
 /// Lists a negative cycle of the reduced graph on some trades, and answers how many nodes it has.
 fn find_cycle(finder: &mut Finder, graph: &Graph, null: u32, left: &TradeSet<2>) -> u32
-    requires few { null ≤ 128 }
+    requires few { null ≤ most_judged_trades }
     requires graph_sized { graph.now.nodes ≡ null + 1 }
     requires finder_sized { finder.old.nodes ≡ null + 1 }
     requires broken { (label : ℕ → ℤ) → KeepsArcs (arcs_among (is_admitted null left.now) (arcs_of graph.now)) label → ⊥ }
@@ -58,6 +59,7 @@ fn solve_among<'a, V: Oracle>(
     steps: &mut Steps<V::Mark>,
 )
     requires limits { IsWithinLimits V.firm V.limit market.now }
+    requires few { length market.now.trades ≤ most_judged_trades }
     requires outcome { IsOutcomeOf market.now.trades outcome.now.over outcome.now.contracts }
     requires network { IsNetwork (map V.firm market.now.firms) market.now.trades }
     requires residual { IsResidual ⟦<Party<'a, V> as Valuation>⟧.firm ⟦<Party<'a, V> as Valuation>⟧.limit (map V.firm market.now.firms) market.now.trades
@@ -86,6 +88,7 @@ fn search<'a, V: Oracle>(
     steps: &mut Steps<V::Mark>,
 ) -> Result<Contracts, OutOfMemory>
     requires limits { IsWithinLimits V.firm V.limit market.now }
+    requires few { length market.now.trades ≤ most_judged_trades }
     requires outcome { IsOutcomeOf market.now.trades outcome.now.over outcome.now.contracts }
     requires rational { IsRationalOutcome (map V.firm market.now.firms) market.now.trades outcome.now.over outcome.now.contracts }
     requires residual { IsResidual ⟦<Party<'a, V> as Valuation>⟧.firm ⟦<Party<'a, V> as Valuation>⟧.limit (map V.firm market.now.firms) market.now.trades
@@ -115,7 +118,7 @@ fn search<'a, V: Oracle>(
 /// Twice the number of unsigned trades, and one: the scale at which the taxes on a chain are less than a whole number. It
 /// takes no memory.
 pub fn chain_scale(contracts: &Contracts, count: u32) -> i128
-    requires few { count ≤ 128 }
+    requires few { count ≤ most_judged_trades }
     ensures { result ≡ chain_scale count contracts.now }
 {
     let free = unsigned_trades(contracts, count).count();
@@ -129,6 +132,7 @@ fn taxed_residual<'a, V: Oracle>(
     outcome: &Outcome,
 ) -> Result<Market<Party<'a, V>>, OutOfMemory>
     requires limits { IsWithinLimits V.firm V.limit market.now }
+    requires few { length market.now.trades ≤ most_judged_trades }
     requires outcome { IsOutcomeOf market.now.trades outcome.now.over outcome.now.contracts }
     ensures { IfOk result (IsResidual ⟦<Party<'a, V> as Valuation>⟧.firm ⟦<Party<'a, V> as Valuation>⟧.limit (map V.firm market.now.firms) market.now.trades
         outcome.now.over outcome.now.contracts) }
@@ -141,7 +145,7 @@ fn taxed_residual<'a, V: Oracle>(
 /// trades, over the outcome's denominator times twice the number of unsigned trades and one, each of whose buyers is
 /// the seller of the next. Each price is below 10^18 in size. It fails only where memory runs out (Hatfield, Kominers,
 /// Nichifor, Ostrovsky and Westkamp, "Chain stability in trading networks", 2021). The limits of firms and outcomes
-/// hold.
+/// hold, and there are at most 128 trades.
 pub fn chain_of<V: Oracle>(
     alloc: Global,
     market: &Market<V>,
@@ -149,6 +153,7 @@ pub fn chain_of<V: Oracle>(
     steps: &mut Steps<V::Mark>,
 ) -> Result<Contracts, OutOfMemory>
     requires limits { IsWithinLimits V.firm V.limit market.now }
+    requires few { length market.now.trades ≤ most_judged_trades }
     requires outcome { IsOutcomeOf market.now.trades outcome.now.over outcome.now.contracts }
     requires rational { IsIndividuallyRational (map V.firm market.now.firms) market.now.trades outcome.now.over outcome.now.contracts }
     requires incomplete { (prices : ℕ → ℤ) → Completes (map V.firm market.now.firms) market.now.trades outcome.now.over outcome.now.contracts prices → ⊥ }

@@ -2,6 +2,7 @@
 
 ghost use Rattle.std.specs.Prelude.{◌≡◌, ℕ, ◌+◌, ◌*◌, ◌≤◌, ◌<◌, false, length, nat_lt, slice_get, IfOk, Some};
 ghost use Rattle.tn_base.specs.Walks.{AreDifferent};
+ghost use Rattle.tn_chain.specs.Limits.{most_judged_trades};
 ghost use Rattle.tn_chain.specs.Listed.{AreAtNodes, HasNodes, IsBegin};
 ghost use Rattle.tn_chain.specs.Numbers.{toggled_if};
 ghost use Rattle.tn_plain_data.specs.Prices.{price_at};
@@ -17,7 +18,7 @@ use tn_market::{Contract, Contracts};
 
 /// Moves a node in or out if it is a trade.
 fn toggle_trade(set: &mut TradeSet<2>, node: u32, null: u32)
-    requires few { null ≤ 128 }
+    requires few { null ≤ most_judged_trades }
     ensures { set.new ≡ toggled_if (nat_lt node null) set.old node }
 {
     if node < null {
@@ -27,7 +28,7 @@ fn toggle_trade(set: &mut TradeSet<2>, node: u32, null: u32)
 
 /// The trades among the `count` nodes that a finder lists.
 pub fn listed_trades(finder: &Finder, count: u32, null: u32) -> TradeSet<2>
-    requires few { null ≤ 128 }
+    requires few { null ≤ most_judged_trades }
     requires counted { count ≡ length finder.now.listed }
     requires different { AreDifferent finder.now.listed }
     ensures { HasNodes null finder.now.listed count result }
@@ -41,7 +42,7 @@ pub fn listed_trades(finder: &Finder, count: u32, null: u32) -> TradeSet<2>
 
 /// The contract on an unsigned trade at the price that a solver has for its number.
 fn contract_on(solver: &Solver<4>, contracts: &Contracts, t: u32) -> Contract
-    requires few { t < 128 }
+    requires few { t < most_judged_trades }
     requires free { is_signed contracts.now t ≡ false }
     requires priced { number_from contracts.now 0 t < length solver.now.prices }
     ensures trade { result.trade ≡ t }
@@ -65,7 +66,7 @@ pub fn contracts_at(
 ) -> Result<Contracts, OutOfMemory>
     requires counted { count ≡ length finder.now.listed }
     requires order { first ≤ count }
-    requires few { (k v : ℕ) → first ≤ k → slice_get finder.now.listed k ≡ Some v → v < 128 }
+    requires few { (k v : ℕ) → first ≤ k → slice_get finder.now.listed k ≡ Some v → v < most_judged_trades }
     requires free { (k v : ℕ) → first ≤ k → slice_get finder.now.listed k ≡ Some v → is_signed contracts.now v ≡ false }
     requires priced { (k v : ℕ) → first ≤ k → slice_get finder.now.listed k ≡ Some v → number_from contracts.now 0 v < length solver.now.prices }
     ensures { IfOk result (AreAtNodes contracts.now solver.now.prices finder.now.listed first count) }

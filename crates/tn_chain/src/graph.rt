@@ -3,6 +3,7 @@
 ghost use Rattle.std.specs.Prelude.{◌≡◌, ℕ, ◌+◌, ◌*◌, ◌^◌, ◌≤◌, ◌<◌, IfOk, IfSome, Some, length, map, slice_get};
 ghost use Rattle.tn_base.specs.Arcs.{AreSmall};
 ghost use Rattle.tn_base.specs.Sets.{meet};
+ghost use Rattle.tn_chain.specs.Limits.{most_reduced_cost};
 ghost use Rattle.tn_chain.specs.Moves.{AreWritten, move_between};
 ghost use Rattle.tn_graph.specs.Matrix.{arcs_of};
 ghost use Rattle.tn_graph.specs.Reading.{IsExchangeGraph};
@@ -120,7 +121,7 @@ fn write_row<V: Oracle>(
 }
 
 /// The exchange graph of an outcome's reduced worths, where no unsigned trade is on: trade t is node t, and the null node
-/// is the last one. No cost is above 3 * 10^13 in size. It fails only where memory runs out. The limits of firms and
+/// is the last one. No cost is above 2.64 * 10^13 in size. It fails only where memory runs out. The limits of firms and
 /// outcomes hold.
 pub fn reduced_graph<V: Oracle>(
     alloc: Global,
@@ -130,7 +131,7 @@ pub fn reduced_graph<V: Oracle>(
     requires limits { IsWithinLimits V.firm V.limit market.now }
     requires outcome { IsOutcomeOf market.now.trades outcome.now.over outcome.now.contracts }
     ensures graph { IfOk result (IsExchangeGraph (reduced_firms market.now.trades outcome.now.over outcome.now.contracts (map V.firm market.now.firms)) market.now.trades 0) }
-    ensures small { IfOk result (λ graph. AreSmall (arcs_of graph) (3 * 10 ^ 13)) }
+    ensures small { IfOk result (λ graph. AreSmall (arcs_of graph) most_reduced_cost) }
 {
     let nodes = market.trades() + 1;
     let mut graph = Graph::new(alloc, nodes)?;

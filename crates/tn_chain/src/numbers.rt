@@ -1,7 +1,8 @@
 //! The unsigned trades by their numbers among themselves, as the residual market has them.
 
-ghost use Rattle.std.specs.Prelude.{◌≡◌, ℕ, ◌+◌, ◌*◌, ◌≤◌, ◌<◌, false, length, IfSome, if◌then◌else◌};
+ghost use Rattle.std.specs.Prelude.{◌≡◌, ℕ, ◌+◌, ◌*◌, ◌^◌, ◌≤◌, ◌<◌, false, length, IfSome, if◌then◌else◌};
 ghost use Rattle.tn_base.specs.Sets.{has};
+ghost use Rattle.tn_chain.specs.Limits.{most_judged_trades, most_residual_trades};
 ghost use Rattle.tn_chain.specs.Numbers.{AreNumbers, AreNumbersUpTo, added_if, is_among, number_in, toggled_if};
 ghost use Rattle.tn_residual.specs.Residual.{number_from, unsigned, unsigned_part};
 
@@ -11,7 +12,7 @@ use tn_residual::contract_price;
 
 /// Moves a trade in or out where that is wanted.
 pub fn toggle_if(set: &mut TradeSet<2>, t: u32, wanted: bool)
-    requires inside { t < 128 }
+    requires inside { t < most_judged_trades }
     ensures { set.new ≡ toggled_if wanted set.old t }
 {
     if wanted {
@@ -21,7 +22,7 @@ pub fn toggle_if(set: &mut TradeSet<2>, t: u32, wanted: bool)
 
 /// Moves a number in or out where that is wanted, and where there is one.
 fn add_if(set: &mut TradeSet<4>, number: Option<u32>, wanted: bool)
-    requires inside { IfSome number (λ n. n < 256) }
+    requires inside { IfSome number (λ n. n < most_residual_trades) }
     ensures { set.new ≡ added_if wanted number set.old }
 {
     if let Some(number) = number {
@@ -33,7 +34,7 @@ fn add_if(set: &mut TradeSet<4>, number: Option<u32>, wanted: bool)
 
 /// Whether there is a number, and it is in the set.
 fn is_among(number: Option<u32>, set: &TradeSet<4>) -> bool
-    requires inside { IfSome number (λ n. n < 256) }
+    requires inside { IfSome number (λ n. n < most_residual_trades) }
     ensures { result ≡ is_among number set.now }
 {
     match number {
@@ -44,7 +45,7 @@ fn is_among(number: Option<u32>, set: &TradeSet<4>) -> bool
 
 /// The unsigned ones of the first `count` trades.
 pub fn unsigned_trades(contracts: &Contracts, count: u32) -> TradeSet<2>
-    requires few { count ≤ 128 }
+    requires few { count ≤ most_judged_trades }
     ensures { result ≡ unsigned count contracts.now }
 {
     let mut unsigned = TradeSet::empty();
@@ -56,7 +57,7 @@ pub fn unsigned_trades(contracts: &Contracts, count: u32) -> TradeSet<2>
 
 /// One more where that is wanted.
 fn one_more_if(number: u32, wanted: bool) -> u32
-    requires few { number < 1000 }
+    requires few { number < 2 ^ 31 }
     ensures { result ≡ number + (if wanted then 1 else 0) }
 {
     if wanted { number + 1 } else { number }
@@ -64,7 +65,7 @@ fn one_more_if(number: u32, wanted: bool) -> u32
 
 /// How many of the first `t` trades are unsigned.
 fn unsigned_before(contracts: &Contracts, t: u32) -> u32
-    requires few { t ≤ 128 }
+    requires few { t ≤ most_judged_trades }
     ensures { result ≡ number_from contracts.now 0 t }
 {
     let mut number = 0;
@@ -76,9 +77,9 @@ fn unsigned_before(contracts: &Contracts, t: u32) -> u32
 
 /// The number of trade `t` among the unsigned ones, None where it is signed.
 pub fn number_of(contracts: &Contracts, t: u32) -> Option<u32>
-    requires few { t < 128 }
+    requires few { t < most_judged_trades }
     ensures number { result ≡ number_in contracts.now t }
-    ensures small { IfSome result (λ n. n < 128) }
+    ensures small { IfSome result (λ n. n < most_judged_trades) }
 {
     let number = unsigned_before(contracts, t);
     if contract_price(contracts, t).is_none() {
@@ -90,7 +91,7 @@ pub fn number_of(contracts: &Contracts, t: u32) -> Option<u32>
 
 /// The numbers of those of the first `count` trades that are unsigned and in a set.
 pub fn numbers_of(contracts: &Contracts, count: u32, set: &TradeSet<2>) -> TradeSet<4>
-    requires few { count ≤ 128 }
+    requires few { count ≤ most_judged_trades }
     ensures { AreNumbers contracts.now set.now count result }
 {
     let mut numbers = TradeSet::empty();
@@ -102,7 +103,7 @@ pub fn numbers_of(contracts: &Contracts, count: u32, set: &TradeSet<2>) -> Trade
 
 /// Adds all numbers from `from` on and below `to`.
 pub fn add_numbers(numbers: &mut TradeSet<4>, from: u32, to: u32)
-    requires few { to ≤ 256 }
+    requires few { to ≤ most_residual_trades }
     requires order { from ≤ to }
     requires none { (s : ℕ) → from ≤ s → has numbers.old s ≡ false }
     ensures { AreNumbersUpTo numbers.old from to numbers.new }
@@ -114,7 +115,7 @@ pub fn add_numbers(numbers: &mut TradeSet<4>, from: u32, to: u32)
 
 /// The unsigned ones of the first `count` trades whose numbers are in a set.
 pub fn trades_numbered(contracts: &Contracts, count: u32, numbers: &TradeSet<4>) -> TradeSet<2>
-    requires few { count ≤ 128 }
+    requires few { count ≤ most_judged_trades }
     ensures { result ≡ unsigned_part contracts.now count numbers.now }
 {
     let mut trades = TradeSet::empty();

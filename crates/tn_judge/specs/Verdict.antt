@@ -1,5 +1,5 @@
 -- What may be said of an outcome.
-use Rattle.std.specs.Prelude.{◌≡◌, ℕ, ◌^◌, ◌<◌, ℤ, ◌-ℤ◌, List, length, slice_get, All, Option, Some, option_map}
+use Rattle.std.specs.Prelude.{◌≡◌, ℕ, ◌<◌, ℤ, ◌-ℤ◌, List, length, slice_get, All, Option, Some, option_map}
 use Rattle.tn_base.specs.Arcs.{IsAtMost}
 use Rattle.tn_base.specs.Firm.{Firm}
 use Rattle.tn_plain_data.specs.declared.ends.Ends.{Ends}
@@ -7,6 +7,7 @@ use Rattle.tn_plain_data.specs.declared.contract.Contract.{Contract}
 use Rattle.tn_plain_data.specs.Prices.{price_at}
 use Rattle.tn_plain_data.specs.Choices.{bundle_by, part_utility, own_part, IsChoice}
 use Rattle.tn_market.specs.Signed.{Completes}
+use Rattle.tn_judge.specs.Limits.{most_completing_price}
 
 -- each firm before f would keep all its contracts
 abbrev pub AreKeptBefore : List Firm → List Ends → ℤ → List Contract → ℕ → Type 0
@@ -28,10 +29,10 @@ pub record IsFirstDrop (firms : List Firm) (trades : List Ends) (over : ℤ) (co
   pub is : slice_get firms f ≡ Some firm
   pub drops : WouldDrop trades over contracts f firm keeps gain
 
--- prices, one for each trade and each below 10^18 in size, complete the outcome
+-- small prices, one for each trade, complete the outcome
 pub record IsCompletedBy (firms : List Firm) (trades : List Ends) (over : ℤ) (contracts : List Contract) (prices : List ℤ) : Type 0 where
   pub one_each : length prices ≡ length trades
-  pub small : All (λ p. IsAtMost p (10 ^ 17)) prices
+  pub small : All (λ p. IsAtMost p most_completing_price) prices
   pub completes : Completes firms trades over contracts (price_at prices)
 
 -- no prices complete it

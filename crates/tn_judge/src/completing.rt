@@ -1,9 +1,10 @@
 //! Prices that complete an outcome.
 
-ghost use Rattle.std.specs.Prelude.{◌≡◌, ℕ, ◌+◌, ◌*◌, ◌^◌, ◌≤◌, ◌<◌, ◌-ℤ◌, if◌then◌else◌, length, map, slice_index_or, IfOk, pos};
+ghost use Rattle.std.specs.Prelude.{◌≡◌, ℕ, ◌+◌, ◌*◌, ◌≤◌, ◌<◌, ◌-ℤ◌, if◌then◌else◌, length, map, slice_index_or, IfOk, pos};
 ghost use Rattle.tn_base.specs.Arcs.{IsAtMost};
 ghost use Rattle.tn_cycle.specs.Answers.{label_in};
 ghost use Rattle.tn_judge.specs.Completion.{AnswersCompletion, ArePricesTo};
+ghost use Rattle.tn_judge.specs.Limits.{most_reduced_label};
 ghost use Rattle.tn_plain_data.specs.Choices.{IsIndividuallyRational};
 ghost use Rattle.tn_market.specs.Limits.{IsOutcomeOf, IsWithinLimits};
 ghost use Rattle.tn_market.specs.Signed.{is_signed, signed_price};
@@ -17,8 +18,8 @@ use tn_residual::contract_price;
 
 /// The difference of two labels.
 fn difference(label: i128, null: i128) -> i128
-    requires label { IsAtMost label (10 ^ 16) }
-    requires null { IsAtMost null (10 ^ 16) }
+    requires label { IsAtMost label most_reduced_label }
+    requires null { IsAtMost null most_reduced_label }
     ensures { result ≡ label -ℤ null }
 {
     label - null
@@ -28,7 +29,7 @@ fn difference(label: i128, null: i128) -> i128
 fn completing_price(finder: &Finder, contracts: &Contracts, t: u32, null: u32) -> i128
     requires node { t < length finder.now.labels }
     requires last { null < length finder.now.labels }
-    requires small { (v : ℕ) → v < length finder.now.labels → IsAtMost (label_in finder.now.labels v) (10 ^ 16) }
+    requires small { (v : ℕ) → v < length finder.now.labels → IsAtMost (label_in finder.now.labels v) most_reduced_label }
     ensures { result ≡ (if is_signed contracts.now t then signed_price contracts.now t else label_in finder.now.labels t -ℤ label_in finder.now.labels null) }
 {
     match contract_price(contracts, t) {
@@ -45,7 +46,7 @@ fn completing_prices(
     count: u32,
 ) -> Result<Prices, OutOfMemory>
     requires labelled { length finder.now.labels ≡ count + 1 }
-    requires small { (v : ℕ) → v < length finder.now.labels → IsAtMost (label_in finder.now.labels v) (10 ^ 16) }
+    requires small { (v : ℕ) → v < length finder.now.labels → IsAtMost (label_in finder.now.labels v) most_reduced_label }
     ensures { IfOk result (ArePricesTo contracts.now finder.now.labels count count) }
 {
     let mut prices = Vec::with_capacity(alloc, count as usize)?;

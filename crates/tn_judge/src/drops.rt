@@ -1,11 +1,13 @@
 //! The first firm that would drop contracts.
 
-ghost use Rattle.std.specs.Prelude.{◌≡◌, ℕ, ◌^◌, ◌<◌, ℤ, length, map, slice_get, IfSome, Some};
+ghost use Rattle.std.specs.Prelude.{◌≡◌, ℕ, ◌<◌, ℤ, length, map, slice_get, IfSome, Some};
 ghost use Rattle.tn_base.specs.Arcs.{IsAtMost};
 ghost use Rattle.tn_base.specs.Firm.{Firm};
 ghost use Rattle.tn_judge.specs.Drops.{FindsDrop, FindsFirst, TellsDrop};
 ghost use Rattle.tn_market.specs.Best.{IsBestBetween};
 ghost use Rattle.tn_market.specs.Limits.{IsOutcomeOf, IsWithinLimits};
+ghost use Rattle.tn_market.specs.Widths.{most_utility};
+ghost use Rattle.tn_plain_data.specs.Limits.{most_number};
 ghost use Rattle.tn_plain_data.specs.Network.{IsNetwork};
 ghost use Rattle.tn_market.specs.Signed.{contract_utility, signed_bundle};
 
@@ -32,7 +34,7 @@ fn own_utility<V: Oracle>(
     requires firm { f < length market.now.firms }
     ensures value { (v : V) → slice_get market.now.firms f ≡ Some v → result ≡ contract_utility market.now.trades outcome.now.over outcome.now.contracts f (V.firm v)
         (signed_bundle market.now.trades outcome.now.contracts f (V.firm v)) }
-    ensures small { IfSome result (λ value. IsAtMost value (10 ^ 22)) }
+    ensures small { IfSome result (λ value. IsAtMost value most_utility) }
 {
     let held = signed_by(market, f, outcome);
     let firm = market.firm(f);
@@ -52,15 +54,15 @@ fn best_kept<V: Oracle>(
     requires firm { f < length market.now.firms }
     ensures best { (v : V) → slice_get market.now.firms f ≡ Some v → IsBestBetween 0 (signed_bundle market.now.trades outcome.now.contracts f (V.firm v))
         (contract_utility market.now.trades outcome.now.over outcome.now.contracts f (V.firm v)) result.0 result.1 }
-    ensures small { IsAtMost result.1 (10 ^ 18) }
+    ensures small { IsAtMost result.1 most_number }
 {
     reduced_best(market, f, outcome, Bundle::empty(), room).unwrap()
 }
 
 /// A choice's utility less that of all contracts, if it is more; `own` is None where they are an impossible bundle.
 fn drop_from(keeps: Bundle, value: i128, own: Option<i128>) -> Option<Kept>
-    requires value { IsAtMost value (10 ^ 18) }
-    requires own { IfSome own (λ z. IsAtMost z (10 ^ 22)) }
+    requires value { IsAtMost value most_number }
+    requires own { IfSome own (λ z. IsAtMost z most_utility) }
     ensures { TellsDrop keeps value own result }
 {
     match own {

@@ -1,5 +1,7 @@
 ghost use Rattle.std.specs.Prelude.{◌≡◌, ◌≤◌, IfOk, length, map, pos, ◌*ℤ◌, ◌≤ℤ◌};
 ghost use Rattle.tn_base.specs.Sets.{size};
+ghost use Rattle.tn_chain.specs.Limits.{most_judged_trades};
+ghost use Rattle.tn_plain_data.specs.Limits.{most_over};
 ghost use Rattle.tn_chain.specs.Search.{chain_scale};
 ghost use Rattle.tn_judge.specs.Judges.{JudgesContracts};
 ghost use Rattle.tn_market.specs.Limits.{IsOutcomeOf, IsWithinLimits};
@@ -39,9 +41,9 @@ pub enum Judged {
 
 /// The denominator of the contracts that block.
 fn blocking_over(outcome: &Outcome, count: u32) -> i128
-    requires few { count ≤ 128 }
+    requires few { count ≤ most_judged_trades }
     requires from_one { pos 1 ≤ℤ outcome.now.over }
-    requires small { outcome.now.over ≤ℤ pos 100 }
+    requires small { outcome.now.over ≤ℤ pos most_over }
     ensures { result ≡ outcome.now.over *ℤ chain_scale count outcome.now.contracts }
 {
     outcome.over * chain_scale(&outcome.contracts, count)
@@ -50,8 +52,8 @@ fn blocking_over(outcome: &Outcome, count: u32) -> i128
 /// Judges an outcome: the first firm that would drop contracts; or else prices that complete it, exactly where there are
 /// any; or else a chain of contracts that blocks it. It fails only where memory runs out (Hatfield, Kominers, Nichifor,
 /// Ostrovsky and Westkamp, 2013, on stable outcomes and equilibria, and 2021 on chains). The limits of firms and
-/// outcomes hold: at most 128 firms and 128 trades, 32 own trades and worths of at most 10^11 in size; the outcome's
-/// denominator is 1 to 100, and its numerators are at most 10^11 in size.
+/// outcomes hold: at most 1,024 firms, 32 own trades and worths of at most 10^11 in size; the outcome's denominator is 1
+/// to 100, and its numerators are at most 10^11 in size. There are at most 128 trades.
 pub fn judge<V: Oracle>(
     alloc: Global,
     market: &Market<V>,
@@ -59,6 +61,7 @@ pub fn judge<V: Oracle>(
     steps: &mut Steps<V::Mark>,
 ) -> Result<Judged, OutOfMemory>
     requires limits { IsWithinLimits V.firm V.limit market.now }
+    requires few { length market.now.trades ≤ most_judged_trades }
     requires outcome { IsOutcomeOf market.now.trades outcome.now.over outcome.now.contracts }
     ensures { IfOk result (JudgesContracts (map V.firm market.now.firms) market.now.trades outcome.now.over outcome.now.contracts) }
 {

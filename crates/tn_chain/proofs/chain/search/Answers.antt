@@ -35,7 +35,7 @@ contracts_at-requires-clause-few g c = λ k v above is.
     c.find_cycle-count.new.finder.listed c.find_cycle-count.result c.find_cycle-count.ensures.cycle c.listed_trades-cycle.result c.listed_trades-cycle.ensures c.solve_among.new.solver c.solve_among.ensures.solved) c.first_trade-first.result
     (subst (λ (n : ℕ). IsBegin n c.find_cycle-count.new.finder.listed c.first_trade-first.result) c.trades-null.ensures.count c.first_trade-first.ensures) k v above is in
     let below = node.0 in
-    let few = c.requires.limits.few_trades in
+    let few = c.requires.few in
     omega (arith, below, few)
 
 pub contracts_at-requires-clause-free : goal.contracts_at-requires-clause-free

@@ -1,4 +1,4 @@
-use Rattle.std.proofs.Common.{◌∙◌, ◌+◌, ◌*◌, ◌≤◌, ℕ, map, length, arith, sym, ap, subst, lit<, lit≤, ◌<◌, ◌*ℤ◌}
+use Rattle.std.proofs.Common.{◌∙◌, ◌+◌, ◌*◌, ◌≤◌, ℕ, map, length, arith, sym, ap, subst, lit<, ◌<◌, ◌*ℤ◌}
 use Rattle.std.proofs.lemmas.Nat.{mul-le}
 use Rattle.tn_base.specs.Firm.{Firm, HasOwnBundles}
 use Rattle.tn_market.specs.Parties.{party_firm, party_limit}
@@ -32,29 +32,26 @@ solve_among-requires g c = (
   (
     lit< tt,
     (
-      lit≤ tt,
+      c.requires.residual.few,
       (
-        c.requires.residual.few,
+        c.requires.made_for,
         (
-          c.requires.made_for,
-          (
-            (λ t there. subst (λ (n : ℕ). t < n) c.trades.ensures.count (admitted_below c.args.outcome.now.contracts c.args.allowed.now c.trades-count.result c.numbers_of-numbers.result c.args.free c.trades.result
-                c.add_numbers.new.numbers c.numbers_of-numbers.ensures c.add_numbers.ensures (let count = c.trades.ensures.count in
-                let ends = ap length c.requires.residual.ends in
-                let free = c.requires.free in
-                let more = made_more (length (map g.V.Valuation.firm c.args.market.now.firms)) c.args.market.now.trades c.args.outcome.now.contracts in
-                omega (arith, count, ends, free, more))
-                (λ s above.
-                let count = c.trades-count.ensures.count in
-                let free = c.requires.free ∙ unsigned_size c.args.outcome.now.contracts (length c.args.market.now.trades) in
-                c.numbers_of-numbers.ensures.below s (subst (λ (n : ℕ). n ≤ s) (free ∙ ap (λ (n : ℕ). number_from c.args.outcome.now.contracts 0 n) (sym count)) above)) t there)),
-            λ f v is.
-                let limit = c.requires.residual.limits f v is in
-                let small = c.requires.residual.small in
-                let product = mul-le (2 * party_limit g.V.Valuation v) (length c.args.residual.now.trades + 1)
-                (2 * residual_limit (c.args.outcome.now.over *ℤ chain_scale (length c.args.market.now.trades) c.args.outcome.now.contracts)) (length c.args.residual.now.trades + 1) (omega (arith, limit)) (omega arith) in
-                omega (arith, product, small),
-          ),
+          (λ t there. subst (λ (n : ℕ). t < n) c.trades.ensures.count (admitted_below c.args.outcome.now.contracts c.args.allowed.now c.trades-count.result c.numbers_of-numbers.result c.args.free c.trades.result
+              c.add_numbers.new.numbers c.numbers_of-numbers.ensures c.add_numbers.ensures (let count = c.trades.ensures.count in
+              let ends = ap length c.requires.residual.ends in
+              let free = c.requires.free in
+              let more = made_more (length (map g.V.Valuation.firm c.args.market.now.firms)) c.args.market.now.trades c.args.outcome.now.contracts in
+              omega (arith, count, ends, free, more))
+              (λ s above.
+              let count = c.trades-count.ensures.count in
+              let free = c.requires.free ∙ unsigned_size c.args.outcome.now.contracts (length c.args.market.now.trades) in
+              c.numbers_of-numbers.ensures.below s (subst (λ (n : ℕ). n ≤ s) (free ∙ ap (λ (n : ℕ). number_from c.args.outcome.now.contracts 0 n) (sym count)) above)) t there)),
+          λ f v is.
+              let limit = c.requires.residual.limits f v is in
+              let small = c.requires.residual.small in
+              let product = mul-le (2 * party_limit g.V.Valuation v) (length c.args.residual.now.trades + 1)
+              (2 * residual_limit (c.args.outcome.now.over *ℤ chain_scale (length c.args.market.now.trades) c.args.outcome.now.contracts)) (length c.args.residual.now.trades + 1) (omega (arith, limit)) (omega arith) in
+              omega (arith, product, small),
         ),
       ),
     ),

@@ -1,5 +1,6 @@
-use Rattle.std.proofs.Common.{ℕ, ◌+◌, ◌*◌, ◌^◌, map, length, arith, subst}
+use Rattle.std.proofs.Common.{ℕ, ◌+◌, map, length, arith, subst}
 use Rattle.tn_graph.specs.Reading.{IsWithoutArcs}
+use Rattle.tn_chain.specs.Limits.{most_reduced_cost}
 use Rattle.tn_market.specs.Reduced.{reduced_arc, reduced_firms}
 use Rattle.tn_chain.proofs.MoveLemmas.{reduced_arcs_small}
 use Rattle.tn_chain.proofs.CostLemmas.{none_written, all_written, small_graph}
@@ -26,6 +27,6 @@ returns-clause-graph g c =
 
 pub returns-clause-small : goal.returns-clause-small
 returns-clause-small g c =
-    small_graph (reduced_arc (map g.V.Valuation.firm c.args.market.now.firms) c.args.market.now.trades c.args.outcome.now.over c.args.outcome.now.contracts) (3 * 10 ^ 13) c.loop-u.graph
+    small_graph (reduced_arc (map g.V.Valuation.firm c.args.market.now.firms) c.args.market.now.trades c.args.outcome.now.over c.args.outcome.now.contracts) most_reduced_cost c.loop-u.graph
     (reduced_arcs_small g.V.Valuation.firm g.V.Valuation.limit c.args.market.now c.args.outcome.now.over c.args.outcome.now.contracts c.trades-nodes.ensures.network c.requires.limits
     c.requires.outcome g.met.V.Valuation.within) (returns-clause-graph g c).arcs

@@ -1,13 +1,15 @@
-use Rattle.std.proofs.Common.{rules, ◌∙◌, ℤ, ◌*ℤ◌, sym, ap₂, subst, arith}
+use Rattle.std.proofs.Common.{rules, ◌∙◌, ◌+◌, ◌*◌, ℤ, ◌*ℤ◌, sym, ap₂, subst, arith}
 use Rattle.std.proofs.lemmas.Int.{to_z-of_z, ints}
 use mir.Syntax.{w128}
 use mir.Val.{SFits}
 use Rattle.tn_base.specs.Arcs.{IsAtMost}
 use Rattle.tn_chain.specs.Search.{chain_scale}
+use Rattle.tn_chain.specs.Limits.{most_judged_trades}
+use Rattle.tn_plain_data.specs.Limits.{most_over}
 use Rattle.tn_chain.proofs.SizeLemmas.{scale_bound}
 use Rattle.tn_judge.proofs.judging.blocking_over.Goals as goal
 
-small_fits : (z : ℤ) → IsAtMost z 25700 → SFits w128 z
+small_fits : (z : ℤ) → IsAtMost z (most_over * (2 * most_judged_trades + 1)) → SFits w128 z
 small_fits z small = let low = small.low in let high = small.high in omega (arith, ints, low, high)
 
 pub overflow_mul-result : goal.overflow_mul-result
