@@ -7,6 +7,8 @@ use mir.Val.{SFits, to_z, of_z}
 use Rattle.std.proofs.lemmas.Bool.{cases_eq, cases_lt, eqb-true, eq-eqb, true≢false}
 use Rattle.std.proofs.lemmas.Option.{same_Some, slice_get_within}
 use Rattle.tn_base.specs.Arcs.{IsAtMost}
+use Rattle.tn_market.specs.Widths.{most_scale}
+use Rattle.tn_plain_data.specs.Limits.{most_claimed_over, most_number, most_over}
 use Rattle.tn_base.specs.Firm.{Firm}
 use Rattle.tn_law.proofs.BoundLemmas.{times_small}
 use Rattle.tn_law.proofs.KeepLemmas.{times-le}
@@ -96,9 +98,9 @@ product_least d e d_least e_least =
     let one : d *ℤ pos 1 ≡ d = omega (arith, ints) in
     omega (arith, ints, more, one, d_least)
 
-pub product_most : (d e : ℤ) → pos 1 ≤ℤ d → d ≤ℤ pos 100 → pos 1 ≤ℤ e → e ≤ℤ pos 100000 → (d *ℤ e) ≤ℤ pos 10000000
+pub product_most : (d e : ℤ) → pos 1 ≤ℤ d → d ≤ℤ pos most_over → pos 1 ≤ℤ e → e ≤ℤ pos most_claimed_over → (d *ℤ e) ≤ℤ pos most_scale
 product_most d e d_least d_most e_least e_most =
-    let small = times_small d e 100 100000 (record { low = omega (arith, ints, d_least); high = d_most }) (record { low = omega (arith, ints, e_least); high = e_most }) in
+    let small = times_small d e most_over most_claimed_over (record { low = omega (arith, ints, d_least); high = d_most }) (record { low = omega (arith, ints, e_least); high = e_most }) in
     let high = small.high in
     omega (arith, ints, high)
 
@@ -173,9 +175,9 @@ decided_equal x y x_fits y_fits = by_test (nat_eq (of_z w128 x) (of_z w128 y)) r
     by_test true e = sym (to_z-of_z w128 x x_fits) ∙ ap (to_z w128) (eqb-true (of_z w128 x) (of_z w128 y) e) ∙ to_z-of_z w128 y y_fits
     by_test false e = λ same. true≢false (sym (eq-eqb (of_z w128 x) (of_z w128 y) (ap (of_z w128) same)) ∙ e)
 
-pub product_fits : (a b : ℤ) → IsAtMost a (10 ^ 18) → IsAtMost b (10 ^ 5) → SFits w128 (a *ℤ b)
+pub product_fits : (a b : ℤ) → IsAtMost a most_number → IsAtMost b most_claimed_over → SFits w128 (a *ℤ b)
 product_fits a b small_a small_b =
-    let small = times_small a b (10 ^ 18) (10 ^ 5) small_a small_b in
+    let small = times_small a b most_number most_claimed_over small_a small_b in
     let low = small.low in
     let high = small.high in
     omega (arith, ints, low, high)

@@ -6,6 +6,8 @@ use Rattle.std.proofs.lemmas.List.{map-append, take_more, length-map}
 use Rattle.std.proofs.lemmas.List.Elements.{All-append}
 use Rattle.std.proofs.lemmas.Option.{slice_get_within, get_or_from_slice_get, slice_get-get_or}
 use Rattle.tn_base.specs.Arcs.{IsAtMost}
+use Rattle.tn_market.specs.Widths.{most_asked_price}
+use Rattle.tn_plain_data.specs.Limits.{most_claimed_over, most_number, most_numerator, most_over}
 use Rattle.tn_law.proofs.BoundLemmas.{times_small}
 use Rattle.tn_plain_data.specs.declared.contract.Contract.{Contract}
 use Rattle.tn_plain_data.specs.Choices.{counted, together}
@@ -51,15 +53,15 @@ product_small times price most limit whole least above small fits =
     record { low = omega (arith, ints, product.low, fits); high = omega (arith, ints, product.high, fits) }
 
 -- and its prices are within the limit of the search for best bundles
-pub pool_small : (e d : ℤ) (offers contracts : List Contract) → pos 0 ≤ℤ e → e ≤ℤ pos 100000 → pos 0 ≤ℤ d → d ≤ℤ pos 100
-    → All (λ contract. IsAtMost contract.price (10 ^ 18)) offers → All (λ contract. IsAtMost contract.price (10 ^ 11)) contracts
-    → All (λ contract. IsAtMost contract.price (10 ^ 20)) (together e offers d contracts)
+pub pool_small : (e d : ℤ) (offers contracts : List Contract) → pos 0 ≤ℤ e → e ≤ℤ pos most_claimed_over → pos 0 ≤ℤ d → d ≤ℤ pos most_over
+    → All (λ contract. IsAtMost contract.price most_number) offers → All (λ contract. IsAtMost contract.price most_numerator) contracts
+    → All (λ contract. IsAtMost contract.price most_asked_price) (together e offers d contracts)
 pool_small e d offers contracts e_least e_most d_least d_most small_offers small_contracts =
-    All-append (λ contract. IsAtMost contract.price (10 ^ 20)) (counted d offers) (counted e contracts)
-    (counted_all (λ contract. IsAtMost contract.price (10 ^ 20)) (λ contract. IsAtMost contract.price (10 ^ 18)) d offers
-    (λ contract small. product_small d contract.price 100 (10 ^ 18) (10 ^ 20) d_least d_most small (omega arith)) (all_at (λ contract. IsAtMost contract.price (10 ^ 18)) offers small_offers))
-    (counted_all (λ contract. IsAtMost contract.price (10 ^ 20)) (λ contract. IsAtMost contract.price (10 ^ 11)) e contracts
-    (λ contract small. product_small e contract.price 100000 (10 ^ 11) (10 ^ 20) e_least e_most small (omega arith)) (all_at (λ contract. IsAtMost contract.price (10 ^ 11)) contracts small_contracts))
+    All-append (λ contract. IsAtMost contract.price most_asked_price) (counted d offers) (counted e contracts)
+    (counted_all (λ contract. IsAtMost contract.price most_asked_price) (λ contract. IsAtMost contract.price most_number) d offers
+    (λ contract small. product_small d contract.price most_over most_number most_asked_price d_least d_most small (omega arith)) (all_at (λ contract. IsAtMost contract.price most_number) offers small_offers))
+    (counted_all (λ contract. IsAtMost contract.price most_asked_price) (λ contract. IsAtMost contract.price most_numerator) e contracts
+    (λ contract small. product_small e contract.price most_claimed_over most_numerator most_asked_price e_least e_most small (omega arith)) (all_at (λ contract. IsAtMost contract.price most_numerator) contracts small_contracts))
 
 -- the offers are its first contracts
 pub offers_first : (e d : ℤ) (offers contracts : List Contract) → length offers ≤ length (together e offers d contracts)

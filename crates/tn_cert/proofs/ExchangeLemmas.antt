@@ -5,6 +5,7 @@ use Rattle.std.proofs.lemmas.Bool.{cases_eq}
 use Rattle.std.proofs.lemmas.List.{length-map, map-append}
 use Rattle.std.proofs.lemmas.Option.{same_Some, slice_get_within}
 use Rattle.tn_base.specs.Sets.{has}
+use Rattle.tn_market.specs.Widths.{most_worth}
 use Rattle.tn_base.specs.Firm.{Firm, HasOwnBundles}
 use Rattle.tn_base.specs.Exchange.{MeetsExchange, NoneFails}
 use Rattle.tn_base.proofs.ExchangeLemmas.{exchange_from_none_fails, none_fails_from_exchange}
@@ -29,7 +30,7 @@ raw_own_bundles (Laminar firm) = (firm_laws (LaminarValue firm)).own_bundles
 raw_own_bundles (Middle firm) = (firm_laws (MiddleValue firm)).own_bundles
 raw_own_bundles (Dealer firm) = (firm_laws (DealerValue firm)).own_bundles
 
-none_fails_lawful : (firm : Firm) → IsLawful (10 ^ 11) firm → NoneFails firm
+none_fails_lawful : (firm : Firm) → IsLawful most_worth firm → NoneFails firm
 none_fails_lawful firm laws = none_fails_from_exchange firm (record { one = laws.exchange_one; net_count = laws.exchange_net })
 
 -- laminar firms, middlemen and dealers meet exchange

@@ -7,6 +7,8 @@ use Rattle.std.proofs.lemmas.Option.{same_Some}
 use mir.Syntax.{w128}
 use mir.Val.{SFits}
 use Rattle.tn_base.specs.Arcs.{IsAtMost, AreSmall}
+use Rattle.tn_base.specs.Widths.{most_cost}
+use Rattle.tn_plain_data.specs.Limits.{most_nodes}
 use Rattle.tn_base.specs.Options.{both}
 use Rattle.tn_base.specs.Walks.{walk_cost}
 use Rattle.tn_base.proofs.WalkLemmas.{both_parts, both_are, SameArcs, walk-same}
@@ -115,24 +117,24 @@ rounds-same one other same nodes (Err index) break = record {
 -- the first k arcs are there, and this is what they cost together
 pub record AreWalked (arc : ℕ → ℕ → Option ℤ) (nodes : List ℕ) (k : ℕ) (total : ℤ) : Type 0 where
   pub sum : sum_first (arc_after arc nodes) k ≡ Some total
-  pub small : IsAtMost total (k * 10 ^ 18)
+  pub small : IsAtMost total (k * most_cost)
 
 pub none_walked : (arc : ℕ → ℕ → Option ℤ) (nodes : List ℕ) → AreWalked arc nodes 0 (pos 0)
 none_walked arc nodes = record { sum = refl; small = record { low = omega (arith, ints); high = omega (arith, ints) } }
 
 -- with one more arc
-pub one_walked : (arc : ℕ → ℕ → Option ℤ) (nodes : List ℕ) (k : ℕ) (total cost : ℤ) → IsAtMost cost (10 ^ 18) → AreWalked arc nodes k total
+pub one_walked : (arc : ℕ → ℕ → Option ℤ) (nodes : List ℕ) (k : ℕ) (total cost : ℤ) → IsAtMost cost most_cost → AreWalked arc nodes k total
     → arc_after arc nodes k ≡ Some cost → AreWalked arc nodes (k + 1) (total +ℤ cost)
 one_walked arc nodes k total cost small walked is = record {
   sum = ap (sum_first (arc_after arc nodes)) (add-one k) ∙ both_are (sum_first (arc_after arc nodes) k) (arc_after arc nodes k) total cost walked.sum is;
   small = add _ _ walked.small small;
 }
   where
-    add : (a b : ℤ) → IsAtMost a (k * 10 ^ 18) → IsAtMost b (10 ^ 18) → IsAtMost (a +ℤ b) ((k + 1) * 10 ^ 18)
+    add : (a b : ℤ) → IsAtMost a (k * most_cost) → IsAtMost b most_cost → IsAtMost (a +ℤ b) ((k + 1) * most_cost)
     add a b small_a small_b = record { low = omega (arith, ints, small_a.low, small_b.low); high = omega (arith, ints, small_a.high, small_b.high) }
 
 -- the sum fits
-pub walked_fits : (arc : ℕ → ℕ → Option ℤ) (nodes : List ℕ) (k : ℕ) (total cost : ℤ) → AreWalked arc nodes k total → IsAtMost cost (10 ^ 18) → k ≤ 129 → SFits w128 (total +ℤ cost)
+pub walked_fits : (arc : ℕ → ℕ → Option ℤ) (nodes : List ℕ) (k : ℕ) (total cost : ℤ) → AreWalked arc nodes k total → IsAtMost cost most_cost → k ≤ most_nodes → SFits w128 (total +ℤ cost)
 walked_fits arc nodes k total cost walked small few =
     let low = walked.small.low in
     let high = walked.small.high in

@@ -10,6 +10,7 @@ use Rattle.std.proofs.lemmas.List.{get_or-set_same, get_or-set_other}
 use Rattle.std.proofs.lemmas.List.Elements.{All-set}
 use Rattle.std.proofs.Math.ListN.{set, length-set}
 use Rattle.tn_base.specs.Arcs.{IsAtMost}
+use Rattle.tn_market.specs.Widths.{most_asked_price, most_own}
 use Rattle.tn_base.specs.Sets.{has, toggle}
 use Rattle.tn_base.proofs.SetLemmas.{has_above, has-toggle_same, has-toggle_other, within_from}
 use Rattle.tn_plain_data.specs.declared.contract.Contract.{Contract}
@@ -141,12 +142,12 @@ term_small contracts left_out t buys n limit price found small =
 
 -- ---- the terms of a firm
 
-pub no_terms : (trades : List Ends) (contracts : List Contract) (left_out : Option ℕ) (f free : ℕ) (list : List ℤ) → free ≡ 0 → length list ≡ 32 → All (λ p. p ≡ pos 0) list
+pub no_terms : (trades : List Ends) (contracts : List Contract) (left_out : Option ℕ) (f free : ℕ) (list : List ℤ) → free ≡ 0 → length list ≡ most_own → All (λ p. p ≡ pos 0) list
     → HasTerms trades contracts left_out f 0 free list
 no_terms trades contracts left_out f free list empty counted zeros = record {
   within = omega (arith, empty);
   counted = counted;
-  small = λ k d below. subst (λ (z : ℤ). IsAtMost z (10 ^ 20)) (sym (zeros k d below)) (record { low = omega (arith, ints); high = omega (arith, ints) });
+  small = λ k d below. subst (λ (z : ℤ). IsAtMost z most_asked_price) (sym (zeros k d below)) (record { low = omega (arith, ints); high = omega (arith, ints) });
   at = λ k. 0;
   terms = λ k below member. absurd (omega (arith, below));
   none = λ k below away. absurd (omega (arith, below));
@@ -156,15 +157,15 @@ no_terms trades contracts left_out f free list empty counted zeros = record {
 free_above : (free k i : ℕ) → free < 2 ^ k → k < i → has (toggle free k) i ≡ false
 free_above free k i within above = has-toggle_other free k i (λ e. absurd (omega (arith, above, e))) ∙ has_above free k i within (omega (arith, above))
 
-pub one_term : (trades : List Ends) (contracts : List Contract) (left_out : Option ℕ) (f k t free : ℕ) (buys : Bool) (price : ℤ) (list : List ℤ) → HasTerms trades contracts left_out f k free list → k < 32
-    → t ≡ own trades f k → buys ≡ is_bought trades f t → FindsTerm contracts left_out t buys (length contracts) (Some price) → All (λ contract. IsAtMost contract.price (10 ^ 20)) contracts
+pub one_term : (trades : List Ends) (contracts : List Contract) (left_out : Option ℕ) (f k t free : ℕ) (buys : Bool) (price : ℤ) (list : List ℤ) → HasTerms trades contracts left_out f k free list → k < most_own
+    → t ≡ own trades f k → buys ≡ is_bought trades f t → FindsTerm contracts left_out t buys (length contracts) (Some price) → All (λ contract. IsAtMost contract.price most_asked_price) contracts
     → HasTerms trades contracts left_out f (k + 1) (toggle free k) (set list k price)
 one_term trades contracts left_out f k t free buys price list before inside t_is buys_is found small =
     let wide : k < length list = omega (arith, inside, before.counted) in
     record {
       within = within_from (toggle free k) (k + 1) (λ i above. free_above free k i before.within (omega (arith, above)));
       counted = length-set list k price ∙ before.counted;
-      small = All-set (λ z. IsAtMost z (10 ^ 20)) list k price (term_small contracts left_out t buys (length contracts) (10 ^ 20) price found small) before.small;
+      small = All-set (λ z. IsAtMost z most_asked_price) list k price (term_small contracts left_out t buys (length contracts) most_asked_price price found small) before.small;
       at = λ i. if i == k then found.0 else before.at i;
       terms = λ i below member. elim (cases_eq i k) [
         | inl e ↦ subst (Term (if i == k then found.0 else before.at i)) (sym e)

@@ -6,6 +6,7 @@ use Rattle.std.proofs.lemmas.Option.{same_Some}
 use mir.Syntax.{w128}
 use mir.Val.{SFits, to_z, of_z}
 use Rattle.tn_base.specs.Arcs.{IsAtMost}
+use Rattle.tn_market.specs.Widths.{most_utility}
 use Rattle.tn_base.specs.Firm.{Firm, payments, utility}
 use Rattle.tn_base.specs.Sets.{sum_over}
 use Rattle.tn_plain_data.specs.declared.ends.Ends.{Ends}
@@ -46,7 +47,7 @@ gain_told firm_of firms trades on prices f n held list v x value other asked val
     )
 
 -- the difference of two utilities fits
-pub gain_as_is : (value other : ℤ) → IsAtMost value (10 ^ 22) → IsAtMost other (10 ^ 22)
+pub gain_as_is : (value other : ℤ) → IsAtMost value most_utility → IsAtMost other most_utility
     → to_z w128 (of_z w128 (to_z w128 (of_z w128 other) -ℤ to_z w128 (of_z w128 value))) ≡ other -ℤ value
 gain_as_is value other small other_small =
     ap₂ (λ (a b : ℤ). to_z w128 (of_z w128 (a -ℤ b))) (as_is other other_small) (as_is value small)

@@ -7,6 +7,7 @@ use Rattle.tn_plain_data.specs.declared.contract.Contract.{Contract}
 use Rattle.tn_plain_data.specs.declared.ends.Ends.{Ends}
 use Rattle.tn_plain_data.specs.Prices.{price_at}
 use Rattle.tn_plain_data.specs.Network.{own}
+use Rattle.tn_market.specs.Widths.{most_asked_price, most_own}
 
 -- whether firm f is the buyer of trade t
 abbrev pub is_bought : List Ends → ℕ → ℕ → Bool
@@ -45,8 +46,8 @@ FindsTerm contracts left_out t buys n None = (k : ℕ) (other : Contract) → k 
 -- the first n positions of firm f at which a contract is offered, with the best price at each of them, 0 elsewhere
 pub record HasTerms (trades : List Ends) (contracts : List Contract) (left_out : Option ℕ) (f n free : ℕ) (prices : List ℤ) : Type 0 where
   pub within : free < 2 ^ n
-  pub counted : length prices ≡ 32
-  pub small : All (λ price. IsAtMost price (10 ^ 20)) prices
+  pub counted : length prices ≡ most_own
+  pub small : All (λ price. IsAtMost price most_asked_price) prices
   pub at : ℕ → ℕ
   pub terms : (k : ℕ) → k < n → has free k ≡ true
       → IsTerm contracts left_out (own trades f k) (is_bought trades f (own trades f k)) (length contracts) (price_at prices k) (at k)

@@ -1,12 +1,14 @@
 //! Claims that contracts block an outcome.
 
-ghost use Rattle.std.specs.Prelude.{◌≡◌, ◌^◌, ◌<◌, ◌≤◌, pos, ◌*ℤ◌, ◌≤ℤ◌, length, map, All, IfOk};
+ghost use Rattle.std.specs.Prelude.{◌≡◌, ◌<◌, ◌≤◌, pos, ◌*ℤ◌, ◌≤ℤ◌, length, map, All, IfOk};
 ghost use Rattle.tn_base.specs.Arcs.{IsAtMost};
 ghost use Rattle.tn_cert.specs.Greatest.{DecidesContract, DecidesEqual, FindsLeaver, FindsSigned, HaveTradesOnce};
 ghost use Rattle.tn_cert.specs.Replays.{Replays};
 ghost use Rattle.tn_plain_data.specs.declared.claim.Claim.TheVariants.{Blocks};
 ghost use Rattle.tn_plain_data.specs.ClaimLimits.{AreOffersWithin, IsOverWithin};
 ghost use Rattle.tn_market.specs.Limits.{IsOutcomeOf, IsWithinLimits};
+ghost use Rattle.tn_plain_data.specs.Limits.{most_claimed_over, most_number, most_numerator, most_over};
+ghost use Rattle.tn_market.specs.Widths.{most_scale};
 
 use crate::choosing::first_left;
 use crate::least::earlier;
@@ -19,10 +21,10 @@ use tn_residual::contract_price;
 
 /// Whether two products are equal.
 fn are_equal(a: i128, b: i128, c: i128, d: i128) -> bool
-    requires small_a { IsAtMost a (10 ^ 18) }
-    requires small_b { IsAtMost b (10 ^ 5) }
-    requires small_c { IsAtMost c (10 ^ 18) }
-    requires small_d { IsAtMost d (10 ^ 5) }
+    requires small_a { IsAtMost a most_number }
+    requires small_b { IsAtMost b most_claimed_over }
+    requires small_c { IsAtMost c most_number }
+    requires small_d { IsAtMost d most_claimed_over }
     ensures { DecidesEqual (a *ℤ b) (c *ℤ d) result }
 {
     a * b == c * d
@@ -31,11 +33,11 @@ fn are_equal(a: i128, b: i128, c: i128, d: i128) -> bool
 /// Whether an offer is one of the outcome's contracts.
 fn is_contract(outcome: &Outcome, over: i128, offer: Contract) -> bool
     requires outcome_least { pos 1 ≤ℤ outcome.now.over }
-    requires outcome_most { outcome.now.over ≤ℤ pos 100 }
-    requires small_outcome { All (λ contract. IsAtMost contract.price (10 ^ 11)) outcome.now.contracts }
+    requires outcome_most { outcome.now.over ≤ℤ pos most_over }
+    requires small_outcome { All (λ contract. IsAtMost contract.price most_numerator) outcome.now.contracts }
     requires once { HaveTradesOnce outcome.now.contracts }
     requires over { IsOverWithin over }
-    requires small { IsAtMost offer.price (10 ^ 18) }
+    requires small { IsAtMost offer.price most_number }
     ensures { DecidesContract outcome.now over offer result }
 {
     match contract_price(&outcome.contracts, offer.trade) {
@@ -47,11 +49,11 @@ fn is_contract(outcome: &Outcome, over: i128, offer: Contract) -> bool
 /// The first trade of the offers that are the outcome's contracts.
 fn first_signed(outcome: &Outcome, over: i128, offers: &Contracts) -> Option<u32>
     requires outcome_least { pos 1 ≤ℤ outcome.now.over }
-    requires outcome_most { outcome.now.over ≤ℤ pos 100 }
-    requires small_outcome { All (λ contract. IsAtMost contract.price (10 ^ 11)) outcome.now.contracts }
+    requires outcome_most { outcome.now.over ≤ℤ pos most_over }
+    requires small_outcome { All (λ contract. IsAtMost contract.price most_numerator) outcome.now.contracts }
     requires once { HaveTradesOnce outcome.now.contracts }
     requires over { IsOverWithin over }
-    requires small { All (λ contract. IsAtMost contract.price (10 ^ 18)) offers.now }
+    requires small { All (λ contract. IsAtMost contract.price most_number) offers.now }
     ensures { FindsSigned outcome.now over offers.now result }
 {
     let mut first = None;
@@ -66,11 +68,11 @@ fn first_signed(outcome: &Outcome, over: i128, offers: &Contracts) -> Option<u32
 /// The product of the denominators of an outcome and of offers.
 fn common(outcome_over: i128, over: i128) -> i128
     requires outcome_least { pos 1 ≤ℤ outcome_over }
-    requires outcome_most { outcome_over ≤ℤ pos 100 }
+    requires outcome_most { outcome_over ≤ℤ pos most_over }
     requires over { IsOverWithin over }
     ensures product { result ≡ outcome_over *ℤ over }
     ensures least { pos 1 ≤ℤ result }
-    ensures most { result ≤ℤ pos 10000000 }
+    ensures most { result ≤ℤ pos most_scale }
 {
     outcome_over * over
 }

@@ -1,10 +1,11 @@
 //! The contracts that a firm takes whatever it chooses.
 
-ghost use Rattle.std.specs.Prelude.{◌≡◌, ◌^◌, ◌<◌, ◌≤◌, pos, ◌≤ℤ◌, length, map, slice_get, All, Some, None};
+ghost use Rattle.std.specs.Prelude.{◌≡◌, ◌<◌, ◌≤◌, pos, ◌≤ℤ◌, length, map, slice_get, All, Some, None};
 ghost use Rattle.tn_base.specs.Arcs.{IsAtMost};
 ghost use Rattle.tn_cert.specs.Greatest.{DecidesLeave, DecidesOwn, FindsLeft, IsGreatest};
 ghost use Rattle.tn_plain_data.specs.Choices.{is_end};
 ghost use Rattle.tn_market.specs.Limits.{IsWithinLimits};
+ghost use Rattle.tn_market.specs.Widths.{most_asked_price, most_scale, most_utility};
 ghost use Rattle.tn_plain_data.specs.Network.{IsNetwork};
 
 use crate::least::earlier;
@@ -24,11 +25,11 @@ fn greatest_utility<V: Oracle>(
     requires limits { IsWithinLimits V.firm V.limit market.now }
     requires network { IsNetwork (map V.firm market.now.firms) market.now.trades }
     requires firm { f < length market.now.firms }
-    requires small { All (λ contract. IsAtMost contract.price (10 ^ 20)) contracts.now }
+    requires small { All (λ contract. IsAtMost contract.price most_asked_price) contracts.now }
     requires from_one { pos 1 ≤ℤ scale }
-    requires small_scale { scale ≤ℤ pos 10000000 }
+    requires small_scale { scale ≤ℤ pos most_scale }
     ensures greatest { (v : V) → slice_get market.now.firms f ≡ Some v → IsGreatest market.now.trades scale f (V.firm v) contracts.now left_out result }
-    ensures size { IsAtMost result (10 ^ 22) }
+    ensures size { IsAtMost result most_utility }
 {
     let terms = terms_of(market, contracts, left_out, f);
     let firm = market.firm(f);
@@ -49,9 +50,9 @@ fn may_leave<V: Oracle>(
     requires limits { IsWithinLimits V.firm V.limit market.now }
     requires network { IsNetwork (map V.firm market.now.firms) market.now.trades }
     requires firm { f < length market.now.firms }
-    requires small { All (λ contract. IsAtMost contract.price (10 ^ 20)) contracts.now }
+    requires small { All (λ contract. IsAtMost contract.price most_asked_price) contracts.now }
     requires from_one { pos 1 ≤ℤ scale }
-    requires small_scale { scale ≤ℤ pos 10000000 }
+    requires small_scale { scale ≤ℤ pos most_scale }
     ensures { (v : V) → slice_get market.now.firms f ≡ Some v → DecidesLeave market.now.trades scale f (V.firm v) contracts.now k result }
 {
     let best = greatest_utility(market, contracts, scale, None, f, room);
@@ -78,10 +79,10 @@ fn leaves<V: Oracle>(
     requires network { IsNetwork (map V.firm market.now.firms) market.now.trades }
     requires firm { f < length market.now.firms }
     requires known { All (λ contract. contract.trade < length market.now.trades) contracts.now }
-    requires small { All (λ contract. IsAtMost contract.price (10 ^ 20)) contracts.now }
+    requires small { All (λ contract. IsAtMost contract.price most_asked_price) contracts.now }
     requires inside { k < length contracts.now }
     requires from_one { pos 1 ≤ℤ scale }
-    requires small_scale { scale ≤ℤ pos 10000000 }
+    requires small_scale { scale ≤ℤ pos most_scale }
     ensures { (v : V) → slice_get market.now.firms f ≡ Some v → DecidesOwn market.now.trades scale f (V.firm v) contracts.now k result }
 {
     let trade = contracts.at(k).trade;
@@ -102,10 +103,10 @@ pub(crate) fn first_left<V: Oracle>(
     requires network { IsNetwork (map V.firm market.now.firms) market.now.trades }
     requires firm { f < length market.now.firms }
     requires known { All (λ contract. contract.trade < length market.now.trades) contracts.now }
-    requires small { All (λ contract. IsAtMost contract.price (10 ^ 20)) contracts.now }
+    requires small { All (λ contract. IsAtMost contract.price most_asked_price) contracts.now }
     requires first { n ≤ length contracts.now }
     requires from_one { pos 1 ≤ℤ scale }
-    requires small_scale { scale ≤ℤ pos 10000000 }
+    requires small_scale { scale ≤ℤ pos most_scale }
     ensures { (v : V) → slice_get market.now.firms f ≡ Some v → FindsLeft market.now.trades scale f (V.firm v) contracts.now n result }
 {
     let mut first = None;

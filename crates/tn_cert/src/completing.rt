@@ -1,6 +1,6 @@
 //! Claims that prices complete an outcome.
 
-ghost use Rattle.std.specs.Prelude.{◌≡◌, ◌^◌, ◌<◌, ◌≤◌, length, map, All, IfOk};
+ghost use Rattle.std.specs.Prelude.{◌≡◌, ◌<◌, ◌≤◌, length, map, All, IfOk};
 ghost use Rattle.tn_base.specs.Arcs.{IsAtMost};
 ghost use Rattle.tn_cert.specs.Outcomes.{FindsMispriced};
 ghost use Rattle.tn_cert.specs.Replays.{Replays};
@@ -8,6 +8,8 @@ ghost use Rattle.tn_plain_data.specs.declared.claim.Claim.TheVariants.{Completes
 ghost use Rattle.tn_plain_data.specs.Prices.{price_at};
 ghost use Rattle.tn_plain_data.specs.ClaimLimits.{IsOverWithin};
 ghost use Rattle.tn_market.specs.Limits.{IsOutcomeOf, IsWithinLimits};
+ghost use Rattle.tn_cert.specs.Limits.{most_claimed_trades};
+ghost use Rattle.tn_plain_data.specs.Limits.{most_number};
 ghost use Rattle.tn_market.specs.Signed.{signed};
 
 use crate::equilibria::first_lack;
@@ -34,7 +36,7 @@ fn first_mispriced(contracts: &Contracts, prices: &Prices) -> Option<u32>
 /// Which of the first `count` trades have contracts.
 #[tactic(auto, unfolding(tn_base::specs::Sets::set_of))]
 fn signed_trades(contracts: &Contracts, count: u32) -> TradeSet<2>
-    requires { count ≤ 128 }
+    requires { count ≤ most_claimed_trades }
     ensures { result ≡ signed count contracts.now }
 {
     let mut on = TradeSet::empty();
@@ -55,9 +57,10 @@ pub(crate) fn replay_completes<V: Oracle>(
     over: i128,
 ) -> Result<Replayed, OutOfMemory>
     requires limits { IsWithinLimits V.firm V.limit market.now }
+    requires few_trades { length market.now.trades ≤ most_claimed_trades }
     requires outcome { IsOutcomeOf market.now.trades outcome.now.over outcome.now.contracts }
     requires priced { length prices.now ≡ length market.now.trades }
-    requires small_prices { All (λ p. IsAtMost p (10 ^ 18)) prices.now }
+    requires small_prices { All (λ p. IsAtMost p most_number) prices.now }
     requires over { IsOverWithin over }
     ensures { IfOk result (Replays (map V.firm market.now.firms) market.now.trades (Completes outcome.now prices.now over)) }
 {

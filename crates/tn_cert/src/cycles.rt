@@ -3,6 +3,7 @@
 ghost use Rattle.std.specs.Prelude.{◌≡◌, ℕ, ◌+◌, ◌<◌, ◌≤◌, All, IfOk, IfSome, length, map};
 ghost use Rattle.tn_plain_data.specs.ClaimLimits.{AreNodesWithin};
 ghost use Rattle.tn_market.specs.Limits.{IsWithinLimits};
+ghost use Rattle.tn_cert.specs.Limits.{most_claimed_trades};
 ghost use Rattle.tn_cert.specs.Claims.{node_of};
 ghost use Rattle.tn_cert.specs.Reasons.{arc_after};
 ghost use Rattle.tn_cert.specs.Replays.{Replays, Rounds};
@@ -63,6 +64,7 @@ pub(crate) fn replay_cycle<V: Oracle>(
     steps: &mut Steps<V::Mark>,
 ) -> Result<Replayed, OutOfMemory>
     requires limits { IsWithinLimits V.firm V.limit market.now }
+    requires few_trades { length market.now.trades ≤ most_claimed_trades }
     requires nodes { AreNodesWithin (length market.now.trades) nodes.now }
     ensures { IfOk result (Replays (map V.firm market.now.firms) market.now.trades (Claim.Cycle on.now nodes.now cost)) }
 {

@@ -8,6 +8,7 @@ ghost use Rattle.tn_cert.specs.Replays.{Replays};
 ghost use Rattle.tn_plain_data.specs.declared.claim.Claim.TheVariants.{Drops};
 ghost use Rattle.tn_market.specs.Limits.{IsOutcomeOf, IsWithinLimits};
 ghost use Rattle.tn_market.specs.Signed.{contract_utility, is_signed};
+ghost use Rattle.tn_market.specs.Widths.{most_utility};
 ghost use Rattle.tn_residual.specs.Held.{HoldsSigned};
 
 use crate::gains::{gain_over, judge_gain};
@@ -63,7 +64,7 @@ fn utility_held<V: Oracle>(
     requires held { (v : V) → slice_get market.now.firms f ≡ Some v → HoldsSigned market.now.trades outcome.now.contracts f (V.firm v).count held.now.signed held.now.prices }
     requires own { (v : V) → slice_get market.now.firms f ≡ Some v → x < 2 ^ (V.firm v).count }
     ensures value { (v : V) → slice_get market.now.firms f ≡ Some v → result ≡ contract_utility market.now.trades outcome.now.over outcome.now.contracts f (V.firm v) x }
-    ensures small { IfSome result (λ value. IsAtMost value (10 ^ 22)) }
+    ensures small { IfSome result (λ value. IsAtMost value most_utility) }
 {
     let firm = market.firm(f);
     let prices = &held.prices[..firm.trades() as usize];

@@ -1,9 +1,11 @@
 //! Claims that each firm has a best bundle.
 
-ghost use Rattle.std.specs.Prelude.{◌≡◌, ◌^◌, ◌<◌, ◌≤◌, pos, ◌≤ℤ◌, All, IfOk, length, map};
+ghost use Rattle.std.specs.Prelude.{◌≡◌, ◌<◌, ◌≤◌, pos, ◌≤ℤ◌, All, IfOk, length, map};
 ghost use Rattle.tn_base.specs.Arcs.{IsAtMost};
 ghost use Rattle.tn_plain_data.specs.Prices.{price_at};
 ghost use Rattle.tn_market.specs.Limits.{IsWithinLimits};
+ghost use Rattle.tn_cert.specs.Limits.{most_claimed_trades};
+ghost use Rattle.tn_plain_data.specs.Limits.{most_claimed_over, most_number};
 ghost use Rattle.tn_cert.specs.Replays.{FindsLack, Replays, Weighs};
 
 use crate::replayed::Replayed;
@@ -22,10 +24,11 @@ fn weigh<V: Oracle>(
     prices: &Prices,
 ) -> Result<Result<i128, Reason>, OutOfMemory>
     requires limits { IsWithinLimits V.firm V.limit market.now }
+    requires few_trades { length market.now.trades ≤ most_claimed_trades }
     requires priced { length prices.now ≡ length market.now.trades }
-    requires small_prices { All (λ p. IsAtMost p (10 ^ 18)) prices.now }
+    requires small_prices { All (λ p. IsAtMost p most_number) prices.now }
     requires from_one { pos 1 ≤ℤ scale }
-    requires small_scale { scale ≤ℤ pos 100000 }
+    requires small_scale { scale ≤ℤ pos most_claimed_over }
     ensures { IfOk result (Weighs (map V.firm market.now.firms) market.now.trades scale on.now (price_at prices.now)) }
 {
     let mut room = Room::new(alloc)?;
@@ -49,10 +52,11 @@ pub(crate) fn first_lack<V: Oracle>(
     prices: &Prices,
 ) -> Result<Option<Reason>, OutOfMemory>
     requires limits { IsWithinLimits V.firm V.limit market.now }
+    requires few_trades { length market.now.trades ≤ most_claimed_trades }
     requires priced { length prices.now ≡ length market.now.trades }
-    requires small_prices { All (λ p. IsAtMost p (10 ^ 18)) prices.now }
+    requires small_prices { All (λ p. IsAtMost p most_number) prices.now }
     requires from_one { pos 1 ≤ℤ scale }
-    requires small_scale { scale ≤ℤ pos 100000 }
+    requires small_scale { scale ≤ℤ pos most_claimed_over }
     ensures { IfOk result (FindsLack (map V.firm market.now.firms) market.now.trades scale on.now (price_at prices.now)) }
 {
     match weigh(alloc, market, scale, on, prices)? {
@@ -69,8 +73,9 @@ pub(crate) fn replay_equilibrium<V: Oracle>(
     surplus: i128,
 ) -> Result<Replayed, OutOfMemory>
     requires limits { IsWithinLimits V.firm V.limit market.now }
+    requires few_trades { length market.now.trades ≤ most_claimed_trades }
     requires priced { length at.now.prices ≡ length market.now.trades }
-    requires small_prices { All (λ p. IsAtMost p (10 ^ 18)) at.now.prices }
+    requires small_prices { All (λ p. IsAtMost p most_number) at.now.prices }
     ensures { IfOk result (Replays (map V.firm market.now.firms) market.now.trades (Claim.Equilibrium at.now surplus)) }
 {
     match weigh(alloc, market, 1, &at.on, &at.prices)? {
@@ -93,8 +98,9 @@ pub(crate) fn replay_supported<V: Oracle>(
     prices: &Prices,
 ) -> Result<Replayed, OutOfMemory>
     requires limits { IsWithinLimits V.firm V.limit market.now }
+    requires few_trades { length market.now.trades ≤ most_claimed_trades }
     requires priced { length prices.now ≡ length market.now.trades }
-    requires small_prices { All (λ p. IsAtMost p (10 ^ 18)) prices.now }
+    requires small_prices { All (λ p. IsAtMost p most_number) prices.now }
     ensures { IfOk result (Replays (map V.firm market.now.firms) market.now.trades (Claim.Supported on.now prices.now)) }
 {
     match first_lack(alloc, market, 1, on, prices)? {

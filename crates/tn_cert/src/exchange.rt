@@ -5,6 +5,7 @@ ghost use Rattle.tn_base.specs.Exchange.{Fails};
 ghost use Rattle.tn_firm.specs.Raw.{CanBeTested, raw_firm_of};
 ghost use Rattle.tn_plain_data.specs.declared.ends.Ends.{Ends};
 ghost use Rattle.tn_plain_data.specs.ClaimLimits.{IsFirmWith};
+ghost use Rattle.tn_plain_data.specs.Limits.{most_firms};
 ghost use Rattle.tn_plain_data.specs.Network.{trades_on};
 ghost use Rattle.tn_cert.specs.Replays.{Replays, in_trades};
 
@@ -31,7 +32,7 @@ fn positions_in(alloc: Global, bundle: Bundle, count: u32) -> Result<Trades, Out
 
 /// Whether each firm meets the exchange property, or the first that doesn't, with its first triple in positions.
 pub(crate) fn replay_accepted(alloc: Global, firms: &[RawFirm]) -> Result<Replayed, OutOfMemory>
-    requires few_firms { length firms.now ≤ 1024 }
+    requires few_firms { length firms.now ≤ most_firms }
     requires testable { All CanBeTested firms.now }
     ensures { IfOk result (λ replayed. (trades : List Ends) → Replays (map raw_firm_of firms.now) trades Claim.Accepted (in_trades trades replayed)) }
 {

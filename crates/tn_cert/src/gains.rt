@@ -1,14 +1,15 @@
-ghost use Rattle.std.specs.Prelude.{◌≡◌, ◌^◌, ◌-ℤ◌, IfSome, option_map};
+ghost use Rattle.std.specs.Prelude.{◌≡◌, ◌-ℤ◌, IfSome, option_map};
 ghost use Rattle.tn_base.specs.Arcs.{IsAtMost};
 ghost use Rattle.tn_cert.specs.Outcomes.{DecidesGain};
+ghost use Rattle.tn_market.specs.Widths.{most_utility};
 
 use crate::replayed::Replayed;
 use tn_market::Reason;
 
 /// What a utility is above another one, none where the other bundle is impossible.
 pub(crate) fn gain_over(value: i128, other: Option<i128>) -> Option<i128>
-    requires value { IsAtMost value (10 ^ 22) }
-    requires other { IfSome other (λ z. IsAtMost z (10 ^ 22)) }
+    requires value { IsAtMost value most_utility }
+    requires other { IfSome other (λ z. IsAtMost z most_utility) }
     ensures { result ≡ option_map (λ z. value -ℤ z) other }
 {
     match other {

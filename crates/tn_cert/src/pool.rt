@@ -1,6 +1,7 @@
-ghost use Rattle.std.specs.Prelude.{◌≡◌, ◌++◌, ◌^◌, ◌≤◌, pos, ◌*ℤ◌, ◌≤ℤ◌, length, All, IfOk};
+ghost use Rattle.std.specs.Prelude.{◌≡◌, ◌++◌, ◌≤◌, pos, ◌*ℤ◌, ◌≤ℤ◌, length, All, IfOk};
 ghost use Rattle.tn_base.specs.Arcs.{IsAtMost};
 ghost use Rattle.tn_plain_data.specs.Choices.{counted, together};
+ghost use Rattle.tn_plain_data.specs.Limits.{most_claimed_over, most_number};
 
 use std::alloc::Global;
 use tn_base::OutOfMemory;
@@ -9,8 +10,8 @@ use tn_market::{Contract, Contracts, Outcome};
 /// A contract with its price counted so many times.
 fn counted_contract(times: i128, contract: Contract) -> Contract
     requires least { pos 0 ≤ℤ times }
-    requires most { times ≤ℤ pos 100000 }
-    requires small { IsAtMost contract.price (10 ^ 18) }
+    requires most { times ≤ℤ pos most_claimed_over }
+    requires small { IsAtMost contract.price most_number }
     ensures trade { result.trade ≡ contract.trade }
     ensures price { result.price ≡ times *ℤ contract.price }
 {
@@ -27,8 +28,8 @@ fn add_counted(
     contracts: &Contracts,
 ) -> Result<(), OutOfMemory>
     requires least { pos 0 ≤ℤ times }
-    requires most { times ≤ℤ pos 100000 }
-    requires small { All (λ contract. IsAtMost contract.price (10 ^ 18)) contracts.now }
+    requires most { times ≤ℤ pos most_claimed_over }
+    requires small { All (λ contract. IsAtMost contract.price most_number) contracts.now }
     ensures { IfOk result (λ _. pool.new.items ≡ pool.old.items ++ counted times contracts.now) }
 {
     for k in 0..contracts.len() {
@@ -46,11 +47,11 @@ pub(crate) fn together(
     outcome: &Outcome,
 ) -> Result<Contracts, OutOfMemory>
     requires over_least { pos 0 ≤ℤ over }
-    requires over_most { over ≤ℤ pos 100000 }
+    requires over_most { over ≤ℤ pos most_claimed_over }
     requires outcome_least { pos 0 ≤ℤ outcome.now.over }
-    requires outcome_most { outcome.now.over ≤ℤ pos 100000 }
-    requires small_offers { All (λ contract. IsAtMost contract.price (10 ^ 18)) offers.now }
-    requires small_outcome { All (λ contract. IsAtMost contract.price (10 ^ 18)) outcome.now.contracts }
+    requires outcome_most { outcome.now.over ≤ℤ pos most_claimed_over }
+    requires small_offers { All (λ contract. IsAtMost contract.price most_number) offers.now }
+    requires small_outcome { All (λ contract. IsAtMost contract.price most_number) outcome.now.contracts }
     ensures { IfOk result (λ pool. pool ≡ together over offers.now outcome.now.over outcome.now.contracts) }
 {
     let mut pool = Vec::new(alloc);

@@ -5,6 +5,8 @@ ghost use Rattle.tn_firm.specs.Raw.{CanBeTested, raw_firm_of};
 ghost use Rattle.tn_plain_data.specs.declared.ends.Ends.{Ends};
 ghost use Rattle.tn_plain_data.specs.ClaimLimits.{IsClaimWithin};
 ghost use Rattle.tn_market.specs.Limits.{IsWithinLimits};
+ghost use Rattle.tn_cert.specs.Limits.{most_claimed_trades};
+ghost use Rattle.tn_plain_data.specs.Limits.{most_firms};
 ghost use Rattle.tn_cert.specs.Replays.{Replays, in_trades, is_on_exchange};
 
 use crate::blocking::replay_blocks;
@@ -29,7 +31,7 @@ pub fn is_on_exchange(claim: &Claim) -> bool
 
 /// Replays a claim on a market: it is valid exactly where no condition of it fails, and otherwise this is the first that
 /// does. It fails only where memory runs out. The claim is none on the exchange property and within the limits of
-/// claims, and the market is within the limits of firms.
+/// claims, and the market is within the limits of firms and has at most 128 trades.
 pub fn replay<V: Oracle>(
     alloc: Global,
     market: &Market<V>,
@@ -37,6 +39,7 @@ pub fn replay<V: Oracle>(
     steps: &mut Steps<V::Mark>,
 ) -> Result<Replayed, OutOfMemory>
     requires limits { IsWithinLimits V.firm V.limit market.now }
+    requires few_trades { length market.now.trades ≤ most_claimed_trades }
     requires within { IsClaimWithin (map V.firm market.now.firms) market.now.trades claim.now }
     requires on_market { is_on_exchange claim.now ≡ false }
     ensures { IfOk result (Replays (map V.firm market.now.firms) market.now.trades claim.now) }
@@ -82,7 +85,7 @@ pub fn replay_exchange(
     firms: &[RawFirm],
     claim: &Claim,
 ) -> Result<Replayed, OutOfMemory>
-    requires few_firms { length firms.now ≤ 1024 }
+    requires few_firms { length firms.now ≤ most_firms }
     requires testable { All CanBeTested firms.now }
     requires within { IsClaimWithin (map raw_firm_of firms.now) [] claim.now }
     requires on_exchange { is_on_exchange claim.now ≡ true }

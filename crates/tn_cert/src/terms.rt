@@ -1,9 +1,10 @@
 //! The best prices at which a firm can have its trades from a list of contracts.
 
-ghost use Rattle.std.specs.Prelude.{◌≡◌, ◌^◌, ◌<◌, length, slice_get, All, Some};
+ghost use Rattle.std.specs.Prelude.{◌≡◌, ◌<◌, length, slice_get, All, Some};
 ghost use Rattle.tn_base.specs.Arcs.{IsAtMost};
 ghost use Rattle.tn_cert.specs.Terms.{better, FindsTerm, HasTerms};
 ghost use Rattle.tn_market.specs.Limits.{IsWithinLimits};
+ghost use Rattle.tn_market.specs.Widths.{most_asked_price};
 
 use tn_base::Bundle;
 use tn_market::{Contracts, MOST_OWN, Market, Valuation};
@@ -49,7 +50,7 @@ pub(crate) fn terms_of<V: Valuation>(
 ) -> Terms
     requires limits { IsWithinLimits V.firm V.limit market.now }
     requires firm { f < length market.now.firms }
-    requires small { All (λ contract. IsAtMost contract.price (10 ^ 20)) contracts.now }
+    requires small { All (λ contract. IsAtMost contract.price most_asked_price) contracts.now }
     ensures { (v : V) → slice_get market.now.firms f ≡ Some v → HasTerms market.now.trades contracts.now left_out f (V.firm v).count result.free result.prices }
 {
     let mut free = Bundle::empty();

@@ -5,6 +5,8 @@ ghost use Rattle.tn_base.specs.Arcs.{IsAtMost};
 ghost use Rattle.tn_plain_data.specs.Prices.{price_at};
 ghost use Rattle.tn_plain_data.specs.ClaimLimits.{IsFirmWith};
 ghost use Rattle.tn_market.specs.Limits.{IsWithinLimits};
+ghost use Rattle.tn_cert.specs.Limits.{most_claimed_trades};
+ghost use Rattle.tn_plain_data.specs.Limits.{most_price};
 ghost use Rattle.tn_cert.specs.Replays.{Replays, TellsGain};
 
 use crate::replayed::Replayed;
@@ -23,8 +25,9 @@ fn gain_by<V: Oracle>(
     room: &mut Room,
 ) -> Option<i128>
     requires limits { IsWithinLimits V.firm V.limit market.now }
+    requires few_trades { length market.now.trades ≤ most_claimed_trades }
     requires priced { length at.now.prices ≡ length market.now.trades }
-    requires small_prices { All (λ p. IsAtMost p (10 ^ 14)) at.now.prices }
+    requires small_prices { All (λ p. IsAtMost p most_price) at.now.prices }
     requires own { IsFirmWith (map V.firm market.now.firms) f (λ firm. other < 2 ^ firm.count) }
     ensures { TellsGain (map V.firm market.now.firms) market.now.trades at.now.on (price_at at.now.prices) f other result }
 {
@@ -47,8 +50,9 @@ pub(crate) fn replay_better<V: Oracle>(
     gain: i128,
 ) -> Result<Replayed, OutOfMemory>
     requires limits { IsWithinLimits V.firm V.limit market.now }
+    requires few_trades { length market.now.trades ≤ most_claimed_trades }
     requires priced { length at.now.prices ≡ length market.now.trades }
-    requires small_prices { All (λ p. IsAtMost p (10 ^ 14)) at.now.prices }
+    requires small_prices { All (λ p. IsAtMost p most_price) at.now.prices }
     requires own { IsFirmWith (map V.firm market.now.firms) firm (λ it. bundle < 2 ^ it.count) }
     ensures { IfOk result (Replays (map V.firm market.now.firms) market.now.trades (Claim.Better at.now firm bundle gain)) }
 {
@@ -75,7 +79,7 @@ pub(crate) fn replay_impossible<V: Valuation>(
     firm: u32,
     steps: &mut Steps<V::Mark>,
 ) -> Replayed
-    requires few_trades { length market.now.trades ≤ 128 }
+    requires few_trades { length market.now.trades ≤ most_claimed_trades }
     requires known { firm < length market.now.firms }
     ensures { Replays (map V.firm market.now.firms) market.now.trades (Claim.Impossible on.now firm) result }
 {

@@ -3,6 +3,7 @@ use Rattle.std.proofs.lemmas.Int.{ints, to_z-of_z}
 use mir.Syntax.{w128}
 use mir.Val.{SFits, to_z, of_z}
 use Rattle.tn_cert.proofs.BlockingLemmas.{product_least, product_most}
+use Rattle.tn_market.specs.Widths.{most_scale}
 use Rattle.tn_cert.proofs.blocking.common.Goals as goal
 
 pub returns-clause-least : goal.returns-clause-least
@@ -21,4 +22,4 @@ returns-clause-most c =
     let fits : SFits w128 (c.args.outcome_over *ℤ c.args.over) = omega (arith, ints, least, most) in
     let plain = ap (λ (z : ℤ). to_z w128 (of_z w128 z)) (ap₂ (λ (x y : ℤ). x *ℤ y) (to_z-of_z w128 c.args.outcome_over c.ranges.outcome_over) (to_z-of_z w128 c.args.over c.ranges.over))
     ∙ to_z-of_z w128 (c.args.outcome_over *ℤ c.args.over) fits in
-    subst (λ (z : ℤ). z ≤ℤ pos 10000000) (sym plain) most
+    subst (λ (z : ℤ). z ≤ℤ pos most_scale) (sym plain) most

@@ -6,6 +6,7 @@ use Rattle.std.proofs.lemmas.Option.{slice_get_within}
 use mir.Syntax.{w128}
 use mir.Val.{SFits, to_z, of_z}
 use Rattle.tn_base.specs.Arcs.{IsAtMost}
+use Rattle.tn_market.specs.Widths.{most_asked_price}
 use Rattle.tn_plain_data.specs.declared.contract.Contract.{Contract}
 use Rattle.tn_plain_data.specs.Choices.{together}
 use Rattle.tn_cert.proofs.BlockingLemmas.{AreTakenBefore, FindsLeftAt, one_taken, first_leaver, left_at}
@@ -24,7 +25,7 @@ first_left-requires-clause-small g c =
     let pool_is = c.in_ok-pool.ensures ∙ ap (λ (e : ℤ). together e c.args.offers.now c.args.outcome.now.over c.args.outcome.now.contracts) plain in
     let over_least = c.requires.over.least in
     let outcome_least = c.requires.outcome.least in
-    subst (All (λ (contract : Contract). IsAtMost contract.price (10 ^ 20))) (sym pool_is)
+    subst (All (λ (contract : Contract). IsAtMost contract.price most_asked_price)) (sym pool_is)
     (pool_small c.args.over c.args.outcome.now.over c.args.offers.now c.args.outcome.now.contracts (omega (arith, ints, over_least)) c.requires.over.most
     (omega (arith, ints, outcome_least)) c.requires.outcome.most c.requires.offers.small c.requires.outcome.contracts.small)
 

@@ -3,6 +3,7 @@ use Rattle.std.proofs.lemmas.Int.{to_z-of_z}
 use mir.Syntax.{w128}
 use mir.Val.{SFits, to_z, of_z}
 use Rattle.tn_base.specs.Arcs.{IsAtMost}
+use Rattle.tn_plain_data.specs.Limits.{most_number, most_numerator}
 use Rattle.tn_market.proofs.AscentLemmas.{smaller}
 use Rattle.tn_cert.specs.Greatest.{DecidesEqual}
 use Rattle.tn_cert.proofs.BlockingLemmas.{decides_contract, no_contract, price_small}
@@ -11,9 +12,9 @@ use Rattle.tn_cert.proofs.blocking.is_contract.Goals as goal
 pub are_equal-requires-clause-small_c : goal.are_equal-requires-clause-small_c
 are_equal-requires-clause-small_c c =
     let fits : SFits w128 c.in-Some.price = search rules in
-    subst (λ (z : ℤ). IsAtMost z (10 ^ 18)) (sym (to_z-of_z w128 c.in-Some.price fits))
-    (smaller c.in-Some.price (10 ^ 11) (10 ^ 18) (omega arith)
-    (price_small c.args.outcome.now.contracts c.args.offer.trade (10 ^ 11) c.in-Some.price (sym c.contract_price.ensures ∙ c.in-Some.is) c.requires.small_outcome))
+    subst (λ (z : ℤ). IsAtMost z most_number) (sym (to_z-of_z w128 c.in-Some.price fits))
+    (smaller c.in-Some.price most_numerator most_number (omega arith)
+    (price_small c.args.outcome.now.contracts c.args.offer.trade most_numerator c.in-Some.price (sym c.contract_price.ensures ∙ c.in-Some.is) c.requires.small_outcome))
 
 pub returns-in-Some : goal.returns-in-Some
 returns-in-Some c =

@@ -6,6 +6,7 @@ use mir.Val.{SFits, to_z, of_z}
 use Rattle.std.proofs.lemmas.List.{length-take-le}
 use Rattle.std.proofs.lemmas.List.Elements.{All-take}
 use Rattle.tn_base.specs.Arcs.{IsAtMost}
+use Rattle.tn_market.specs.Widths.{most_asked_price, most_utility}
 use Rattle.tn_base.specs.Firm.{utility}
 use Rattle.tn_base.proofs.SetLemmas.{union_within}
 use Rattle.tn_plain_data.specs.Prices.{price_at}
@@ -65,9 +66,9 @@ returns-clause-size g c =
       small_limit = c.requires.limits.small_worths c.args.f now c.firm-firm.ensures;
       priced = length-take-le c.trades.result c.terms_of-terms.result.prices (omega (arith, few, count, counted)) ∙ count;
       few = few;
-      small = All-take (λ p. IsAtMost p (10 ^ 20)) c.trades.result c.terms_of-terms.result.prices holds.small;
+      small = All-take (λ p. IsAtMost p most_asked_price) c.trades.result c.terms_of-terms.result.prices holds.small;
       from_one = c.requires.from_one;
       small_scale = c.requires.small_scale;
     } in
-    subst (λ (z : ℤ). IsAtMost z (10 ^ 22)) (sym (to_z-of_z w128 c.unwrap.result.1 value_fits))
+    subst (λ (z : ℤ). IsAtMost z most_utility) (sym (to_z-of_z w128 c.unwrap.result.1 value_fits))
     (utility_small (g.V.Valuation.firm now) (g.V.Valuation.limit now) c.args.scale (take c.trades.result c.terms_of-terms.result.prices) c.unwrap.result.0 c.unwrap.result.1 asked best.is)

@@ -4,6 +4,8 @@ use Rattle.std.proofs.lemmas.List.{length-map}
 use mir.Syntax.{w128}
 use mir.Val.{SFits, to_z, of_z}
 use Rattle.tn_market.proofs.AscentLemmas.{smaller}
+use Rattle.tn_base.specs.Widths.{most_cost}
+use Rattle.tn_market.specs.Widths.{most_utility}
 use Rattle.tn_market.proofs.AskLemmas.{as_is}
 use Rattle.tn_cert.specs.Claims.{node_of}
 use Rattle.tn_cert.proofs.RoundLemmas.{AreWalked, after_small, one_walked, walked_fits, first_break, all_walked}
@@ -13,8 +15,8 @@ pub overflow_add-total : goal.overflow_add-total
 overflow_add-total g c =
     let nodes = map (node_of c.args.null) c.args.nodes.now in
     let arc = g.C.Costs.arc c.args.costs.now in
-    let small = after_small arc (10 ^ 18) (g.met.C.Costs.small c.args.costs.now) nodes c.loop-k.k c.in-Some.cost (sym c.in-Some.ensures) in
-    let plain = as_is c.in-Some.cost (smaller c.in-Some.cost (10 ^ 18) (10 ^ 22) (omega arith) small) in
+    let small = after_small arc most_cost (g.met.C.Costs.small c.args.costs.now) nodes c.loop-k.k c.in-Some.cost (sym c.in-Some.ensures) in
+    let plain = as_is c.in-Some.cost (smaller c.in-Some.cost most_cost most_utility (omega arith) small) in
     let inside = c.loop-k-test.true in
     let count = c.len-k-end.ensures in
     let few = c.requires.nodes.most in
@@ -33,8 +35,8 @@ pub loop-k-preserved : goal.loop-k-preserved
 loop-k-preserved g c =
     let nodes = map (node_of c.args.null) c.args.nodes.now in
     let arc = g.C.Costs.arc c.args.costs.now in
-    let small = after_small arc (10 ^ 18) (g.met.C.Costs.small c.args.costs.now) nodes c.loop-k.k c.in-Some.cost (sym c.in-Some.ensures) in
-    let plain = as_is c.in-Some.cost (smaller c.in-Some.cost (10 ^ 18) (10 ^ 22) (omega arith) small) in
+    let small = after_small arc most_cost (g.met.C.Costs.small c.args.costs.now) nodes c.loop-k.k c.in-Some.cost (sym c.in-Some.ensures) in
+    let plain = as_is c.in-Some.cost (smaller c.in-Some.cost most_cost most_utility (omega arith) small) in
     let inside = c.loop-k-test.true in
     let count = c.len-k-end.ensures in
     let few = c.requires.nodes.most in
