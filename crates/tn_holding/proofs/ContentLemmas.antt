@@ -1,17 +1,16 @@
 -- Where all firms are content, and which is the first that isn't.
-use Rattle.std.proofs.Common.{◌≡◌, ◌↔◌, ◌⊎◌, ℕ, zero, suc, ◌+◌, ◌<◌, ◌≤◌, ◌==◌, Bool, true, false, ℤ, pos, ◌-ℤ◌, ◌≤ℤ◌, ◌<ℤ◌, List, [], ◌∷◌, length, count_by, cond, slice_get, Option, Some, None, option_map, unsigned_abs, refl, sym, ap, ◌∙◌, subst, arith, inl, inr}
+use Rattle.std.proofs.Common.{◌≡◌, ℕ, zero, suc, ◌+◌, Bool, true, false, ℤ, ◌-ℤ◌, List, [], ◌∷◌, length, count_by, cond, slice_get, Option, Some, None, option_map, unsigned_abs, refl, sym, ap, ◌∙◌, arith, inl, inr}
 use Rattle.std.proofs.lemmas.List.Sums.{count_by-le-length, sum_by-append}
 use Rattle.std.proofs.lemmas.Int.{ints}
 use Rattle.std.proofs.lemmas.Option.{none-some, same_Some, slice_get_within}
 use Rattle.std.proofs.lemmas.Bool.{cases_Bool, eqb-true, eq-eqb, false≢true}
-use Rattle.tn_base.specs.Firm.{Firm, IsBest}
+use Rattle.tn_base.specs.Firm.{Firm}
 use Rattle.tn_plain_data.specs.declared.ends.Ends.{Ends}
 use Rattle.tn_plain_data.specs.declared.holding.Holding.{Holding}
 use Rattle.tn_plain_data.specs.declared.said.Said.{Said}
 use Rattle.tn_plain_data.specs.declared.said.Said.TheVariants.{Equilibrium, Better, Impossible}
-use Rattle.tn_plain_data.specs.Network.{part}
 use Rattle.tn_price.proofs.JudgeLemmas.{some_item}
-use Rattle.tn_market.specs.Equilibrium.{utility_at, HasBest, IsEquilibrium}
+use Rattle.tn_market.specs.Equilibrium.{HasBest, IsEquilibrium}
 use Rattle.tn_market.specs.Judged.{AreBestBefore, Judges}
 use Rattle.tn_holding.specs.Held.{is_content, is_nothing, TellsFirm, TellsFirms}
 use Rattle.tn_holding.specs.Laws.{AllContentIsEquilibrium, CheckNamesTheFirst, IsFirstDiscontent, SaysTheSame}

@@ -1,5 +1,5 @@
 -- From how a firm stands to what is said of it, and of all firms.
-use Rattle.std.proofs.Common.{◌≡◌, ℕ, zero, suc, ◌+◌, ◌*◌, ◌^◌, ◌<◌, ◌≤◌, cond, Bool, true, false, ℤ, pos, ◌+ℤ◌, ◌-ℤ◌, ◌*ℤ◌, List, [], ◌∷◌, ◌++◌, length, map, take, slice_get, count_by, refl, sym, ap, ◌∙◌, subst, arith, inl, inr}
+use Rattle.std.proofs.Common.{◌≡◌, ℕ, zero, suc, ◌+◌, ◌*◌, ◌^◌, ◌≤◌, cond, Bool, true, false, ℤ, pos, ◌+ℤ◌, ◌-ℤ◌, ◌*ℤ◌, List, [], ◌∷◌, ◌++◌, length, take, slice_get, count_by, refl, sym, ap, ◌∙◌, subst, arith, inl, inr}
 use Rattle.std.specs.Prelude.{Option, Some, None, All, IfSome, option_map, option_and_then}
 use Rattle.std.proofs.lemmas.Int.{ints}
 use Rattle.std.proofs.lemmas.Bool.{cases_eq, cases_lt}
@@ -14,7 +14,6 @@ use Rattle.tn_law.proofs.BoundLemmas.{sum_over_small}
 use Rattle.tn_law.proofs.KeepLemmas.{option_map-some}
 use Rattle.tn_plain_data.specs.declared.ends.Ends.{Ends}
 use Rattle.tn_plain_data.specs.declared.holding.Holding.{Holding}
-use Rattle.tn_plain_data.specs.declared.said.Said.{Said}
 use Rattle.tn_plain_data.specs.declared.said.Said.TheVariants.{Firms}
 use Rattle.tn_plain_data.specs.Network.{own, part, trades_of}
 use Rattle.tn_plain_data.specs.Prices.{price_at}
@@ -25,8 +24,11 @@ use Rattle.tn_market.proofs.AskLemmas.{payment_small}
 use Rattle.tn_price.specs.Standings.{AreOwnPrices}
 use Rattle.tn_price.proofs.JudgeLemmas.{utility_there}
 use Rattle.tn_price.proofs.SurplusLemmas.{AreAdded, none_added, one_added, all_added, none_at}
-use Rattle.tn_answer.specs.Kept.{IsWithinClaim, IsWithinClaims, IsWithinHolding}
+use Rattle.tn_answer.specs.Kept.{IsWithinClaim, IsWithinHolding}
 use Rattle.tn_holding.specs.declared.stand.Stand.{Stand}
+use Rattle.tn_holding.specs.Limits.{most_told_utility}
+use Rattle.tn_market.specs.Widths.{most_own, most_worth}
+use Rattle.tn_plain_data.specs.Limits.{most_firms, most_number, most_price}
 use Rattle.tn_holding.specs.Stands.{IsStand}
 use Rattle.tn_holding.specs.Held.{is_content, TellsFirm, TellsHoldings}
 use Rattle.tn_holding.proofs.ContentLemmas.{count_one}
@@ -40,13 +42,13 @@ price_small prices t limit small = elim (cases_lt t (length prices)) [
   | inr h ↦ subst (λ (z : ℤ). IsAtMost z limit) (sym (get_or_past prices t (pos 0) h)) (record { low = omega (arith, ints); high = omega (arith, ints) })
 ]
 
--- the utility of a bundle of at most 32 trades at prices of at most 10^14
-utility_small : (firm : Firm) (prices : ℕ → ℤ) (x : ℕ) (value : ℤ) → firm.count ≤ 32 → IsWorthAtMost (10 ^ 11) firm → ((k : ℕ) → IsAtMost (prices k) (10 ^ 14))
+-- the utility of a bundle at prices of an arrangement
+utility_small : (firm : Firm) (prices : ℕ → ℤ) (x : ℕ) (value : ℤ) → firm.count ≤ most_own → IsWorthAtMost most_worth firm → ((k : ℕ) → IsAtMost (prices k) most_price)
     → utility (pos 1) prices firm x ≡ Some value → IsAtMost value (4 * 10 ^ 15)
 utility_small firm prices x value few worths small is =
     let worth = option_map-some (λ a. pos 1 *ℤ a +ℤ sum_over (payments firm.buys prices) firm.count x) (firm.worth x) value is in
     let amount = worths x worth.0 worth.1 in
-    let paid = sum_over_small (payments firm.buys prices) firm.count x (10 ^ 14) (λ k below. payment_small firm.buys prices k (10 ^ 14) (small k)) in
+    let paid = sum_over_small (payments firm.buys prices) firm.count x most_price (λ k below. payment_small firm.buys prices k most_price (small k)) in
     let total = worth.2 in
     record {
       low = omega (arith, ints, total, few, amount.low, paid.low);
@@ -76,26 +78,26 @@ stands_there trades prices f n own list firm stand counted listed is =
 
 -- no number is large
 pub record IsSmallStand (stand : Stand) : Type 0 where
-  pub worth : IfSome stand.worth (λ z. IsAtMost z (10 ^ 11))
-  pub utility : IfSome stand.utility (λ z. IsAtMost z (10 ^ 16))
-  pub best : IsAtMost stand.best_utility (10 ^ 16)
+  pub worth : IfSome stand.worth (λ z. IsAtMost z most_worth)
+  pub utility : IfSome stand.utility (λ z. IsAtMost z most_told_utility)
+  pub best : IsAtMost stand.best_utility most_told_utility
 
 if_some : (o : Option ℤ) (limit : ℕ) → ((z : ℤ) → o ≡ Some z → IsAtMost z limit) → IfSome o (λ z. IsAtMost z limit)
 if_some None limit small = tt
 if_some (Some z) limit small = small z refl
 
-pub stand_small : (trades : List Ends) (prices : List ℤ) (f own_bundle : ℕ) (firm : Firm) (stand : Stand) → firm.count ≤ 32 → IsWorthAtMost (10 ^ 11) firm
-    → All (λ p. IsAtMost p (10 ^ 14)) prices → StandsThere trades (price_at prices) f own_bundle firm stand → IsSmallStand stand
+pub stand_small : (trades : List Ends) (prices : List ℤ) (f own_bundle : ℕ) (firm : Firm) (stand : Stand) → firm.count ≤ most_own → IsWorthAtMost most_worth firm
+    → All (λ p. IsAtMost p most_price) prices → StandsThere trades (price_at prices) f own_bundle firm stand → IsSmallStand stand
 stand_small trades prices f own_bundle firm stand few worths small is = record {
-  worth = if_some stand.worth (10 ^ 11) (λ z z_is. worths own_bundle z (sym is.worth_is ∙ z_is));
-  utility = if_some stand.utility (10 ^ 16) (λ z z_is. within own_bundle z (sym is.utility_is ∙ z_is));
+  worth = if_some stand.worth most_worth (λ z z_is. worths own_bundle z (sym is.worth_is ∙ z_is));
+  utility = if_some stand.utility most_told_utility (λ z z_is. within own_bundle z (sym is.utility_is ∙ z_is));
   best = within stand.best stand.best_utility is.best.is;
 }
   where
-    within : (x : ℕ) (z : ℤ) → utility_at trades (pos 1) (price_at prices) f firm x ≡ Some z → IsAtMost z (10 ^ 16)
+    within : (x : ℕ) (z : ℤ) → utility_at trades (pos 1) (price_at prices) f firm x ≡ Some z → IsAtMost z most_told_utility
     within x z z_is =
-        smaller z (4 * 10 ^ 15) (10 ^ 16) (omega arith)
-        (utility_small firm (λ k. price_at prices (own trades f k)) x z few worths (λ k. price_small prices (own trades f k) (10 ^ 14) small) z_is)
+        smaller z (4 * 10 ^ 15) most_told_utility (omega arith)
+        (utility_small firm (λ k. price_at prices (own trades f k)) x z few worths (λ k. price_small prices (own trades f k) most_price small) z_is)
 
 -- what is said of a firm that stands so
 pub told_there : (trades : List Ends) (on : ℕ) (prices : ℕ → ℤ) (f n : ℕ) (firm : Firm) (stand : Stand) (told : Holding) → n ≡ firm.count
@@ -117,23 +119,23 @@ told_there trades on prices f n firm stand told counted is has_is best_is worth_
           ∙ ap (option_map (λ value. told.best_utility -ℤ value)) (sym utility_is);
     }
 
-pub worth_small : (stand : Stand) (told : Holding) → IsSmallStand stand → told.worth ≡ stand.worth → IfSome told.worth (λ z. IsAtMost z (10 ^ 11))
-worth_small stand told small worth_is = subst (λ (o : Option ℤ). IfSome o (λ z. IsAtMost z (10 ^ 11))) (sym worth_is) small.worth
+pub worth_small : (stand : Stand) (told : Holding) → IsSmallStand stand → told.worth ≡ stand.worth → IfSome told.worth (λ z. IsAtMost z most_worth)
+worth_small stand told small worth_is = subst (λ (o : Option ℤ). IfSome o (λ z. IsAtMost z most_worth)) (sym worth_is) small.worth
 
 pub told_within : (stand : Stand) (told : Holding) → IsSmallStand stand → told.worth ≡ stand.worth → told.utility ≡ stand.utility → told.best_utility ≡ stand.best_utility
     → told.gain ≡ option_map (λ value. stand.best_utility -ℤ value) stand.utility → IsWithinHolding told
 told_within stand told small worth_is utility_is value_is gain_is = record {
-  best_utility = subst IsWithinClaim (sym value_is) (smaller stand.best_utility (10 ^ 16) (10 ^ 18) (omega arith) small.best);
+  best_utility = subst IsWithinClaim (sym value_is) (smaller stand.best_utility most_told_utility most_number (omega arith) small.best);
   gain = subst (λ (o : Option ℤ). IfSome o IsWithinClaim) (sym gain_is) (difference stand.utility small.utility);
-  utility = subst (λ (o : Option ℤ). IfSome o IsWithinClaim) (sym utility_is) (wide stand.utility (10 ^ 16) (omega arith) small.utility);
-  worth = subst (λ (o : Option ℤ). IfSome o IsWithinClaim) (sym worth_is) (wide stand.worth (10 ^ 11) (omega arith) small.worth);
+  utility = subst (λ (o : Option ℤ). IfSome o IsWithinClaim) (sym utility_is) (wide stand.utility most_told_utility (omega arith) small.utility);
+  worth = subst (λ (o : Option ℤ). IfSome o IsWithinClaim) (sym worth_is) (wide stand.worth most_worth (omega arith) small.worth);
 }
   where
-    wide : (o : Option ℤ) (limit : ℕ) → limit ≤ 10 ^ 18 → IfSome o (λ z. IsAtMost z limit) → IfSome o IsWithinClaim
+    wide : (o : Option ℤ) (limit : ℕ) → limit ≤ most_number → IfSome o (λ z. IsAtMost z limit) → IfSome o IsWithinClaim
     wide None limit below h = tt
-    wide (Some z) limit below h = smaller z limit (10 ^ 18) below h
+    wide (Some z) limit below h = smaller z limit most_number below h
 
-    difference : (o : Option ℤ) → IfSome o (λ z. IsAtMost z (10 ^ 16)) → IfSome (option_map (λ value. stand.best_utility -ℤ value) o) IsWithinClaim
+    difference : (o : Option ℤ) → IfSome o (λ z. IsAtMost z most_told_utility) → IfSome (option_map (λ value. stand.best_utility -ℤ value) o) IsWithinClaim
     difference None h = tt
     difference (Some z) h = let best = small.best in record { low = omega (arith, ints, h.low, h.high, best.low, best.high); high = omega (arith, ints, h.low, h.high, best.low, best.high) }
 
@@ -152,7 +154,7 @@ pub record AreTold (firms : List Firm) (trades : List Ends) (on : ℕ) (prices :
   pub sum : IsSumBefore firms trades on f surplus
   pub within : All IsWithinHolding told
   pub inside : f ≤ length firms
-  pub small : IfSome surplus (λ z. IsAtMost z (f * 10 ^ 11))
+  pub small : IfSome surplus (λ z. IsAtMost z (f * most_worth))
 
 pub none_told : (firms : List Firm) (trades : List Ends) (on : ℕ) (prices : ℕ → ℤ) → AreTold firms trades on prices 0 [] 0 (Some (pos 0))
 none_told firms trades on prices = record {
@@ -181,7 +183,7 @@ more_sum firms trades on f (Some a) None firm sum is worth_is small = none_at fi
 more_sum firms trades on f (Some a) (Some b) firm sum is worth_is small = one_added firms trades on f a b firm sum is (sym worth_is) small
 
 pub one_told : (firms : List Firm) (trades : List Ends) (on : ℕ) (prices : ℕ → ℤ) (f : ℕ) (told longer : List Holding) (content more : ℕ) (surplus total : Option ℤ) (firm : Firm) (holding : Holding)
-    → AreTold firms trades on prices f told content surplus → slice_get firms f ≡ Some firm → TellsFirm trades (pos 1) on prices f firm holding → IsWithinHolding holding → IfSome holding.worth (λ z. IsAtMost z (10 ^ 11))
+    → AreTold firms trades on prices f told content surplus → slice_get firms f ≡ Some firm → TellsFirm trades (pos 1) on prices f firm holding → IsWithinHolding holding → IfSome holding.worth (λ z. IsAtMost z most_worth)
     → longer ≡ told ++ holding ∷ [] → more ≡ content + cond (is_content holding) 1 0
     → total ≡ option_and_then (λ a. option_map (λ b. a +ℤ b) holding.worth) surplus → AreTold firms trades on prices (f + 1) longer more total
 one_told firms trades on prices f told longer content more surplus total firm holding before is tells within small longer_is more_is total_is =
@@ -204,7 +206,7 @@ one_told firms trades on prices f told longer content more surplus total firm ho
       counted = more_is ∙ ap (λ (n : ℕ). n + cond (is_content holding) 1 0) counted ∙ ap (λ (n : ℕ). count_by is_content told + n) (sym (count_one is_content holding)) ∙ sym added ∙ ap (count_by is_content) (sym longer_is);
       sum = subst (IsSumBefore firms trades on (f + 1)) (sym total_is) (more_sum firms trades on f surplus holding.worth firm before.sum is tells.worth_is within.worth);
       within = subst (All IsWithinHolding) (sym longer_is) (All-append IsWithinHolding told (holding ∷ []) before.within (one holding within));
-      small = subst (λ (o : Option ℤ). IfSome o (λ z. IsAtMost z ((f + 1) * 10 ^ 11))) (sym total_is) (wider surplus holding.worth before.small small);
+      small = subst (λ (o : Option ℤ). IfSome o (λ z. IsAtMost z ((f + 1) * most_worth))) (sym total_is) (wider surplus holding.worth before.small small);
       inside = let there = slice_get_within firms f firm is in omega (arith, there);
     }
   where
@@ -212,16 +214,16 @@ one_told firms trades on prices f told longer content more surplus total firm ho
     one x h zero d below = h
     one x h (suc k) d below = absurd (omega (arith, below))
 
-    wider : (a b : Option ℤ) → IfSome a (λ z. IsAtMost z (f * 10 ^ 11)) → IfSome b (λ z. IsAtMost z (10 ^ 11))
-        → IfSome (option_and_then (λ x. option_map (λ y. x +ℤ y) b) a) (λ z. IsAtMost z ((f + 1) * 10 ^ 11))
+    wider : (a b : Option ℤ) → IfSome a (λ z. IsAtMost z (f * most_worth)) → IfSome b (λ z. IsAtMost z most_worth)
+        → IfSome (option_and_then (λ x. option_map (λ y. x +ℤ y) b) a) (λ z. IsAtMost z ((f + 1) * most_worth))
     wider None b h k = tt
     wider (Some x) None h k = tt
     wider (Some x) (Some y) h k = record { low = omega (arith, ints, h.low, k.low); high = omega (arith, ints, h.high, k.high) }
 
 -- the sum so far is small
-pub sum_small : (f limit : ℕ) (surplus : Option ℤ) → f ≤ 128 → 128 * 10 ^ 11 ≤ limit → IfSome surplus (λ z. IsAtMost z (f * 10 ^ 11)) → IfSome surplus (λ z. IsAtMost z limit)
+pub sum_small : (f limit : ℕ) (surplus : Option ℤ) → f ≤ most_firms → most_firms * most_worth ≤ limit → IfSome surplus (λ z. IsAtMost z (f * most_worth)) → IfSome surplus (λ z. IsAtMost z limit)
 sum_small f limit None few wide small = tt
-sum_small f limit (Some z) few wide small = smaller z (f * 10 ^ 11) limit (omega (arith, few, wide)) small
+sum_small f limit (Some z) few wide small = smaller z (f * most_worth) limit (omega (arith, few, wide)) small
 
 pub all_told : (firms : List Firm) (trades : List Ends) (on : ℕ) (prices : ℕ → ℤ) (f : ℕ) (told : List Holding) (content : ℕ) (surplus : Option ℤ)
     → AreTold firms trades on prices f told content surplus → length firms ≤ f → TellsHoldings firms trades (pos 1) on prices (Firms content told surplus)

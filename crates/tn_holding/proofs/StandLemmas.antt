@@ -1,9 +1,11 @@
 -- From a best bundle to how a firm stands.
-use Rattle.std.proofs.Common.{◌≡◌, ◌⊎◌, ℕ, ℤ, pos, Option, Some, refl, sym, ap, ◌∙◌, subst, inl, inr, arith, ◌^◌}
+use Rattle.std.proofs.Common.{◌≡◌, ◌⊎◌, ℕ, ℤ, pos, Option, Some, sym, ap, ◌∙◌, subst, inl, inr, arith}
 use Rattle.tn_base.specs.Firm.{Firm, IsBest, utility}
+use Rattle.tn_base.specs.Widths.{most_amount}
 use Rattle.tn_exchange.specs.Rows.{TableRows, IsWithinLimits, firm_of_table}
 use Rattle.tn_exchange.proofs.RowLemmas.{worth_is_small}
 use Rattle.tn_market.specs.Valued.{IsWorthAtMost}
+use Rattle.tn_market.specs.Widths.{most_worth}
 use Rattle.tn_market.proofs.AscentLemmas.{smaller}
 use Rattle.tn_laminar.specs.declared.laminar.Laminar.{Laminar}
 use Rattle.tn_laminar.specs.Firms.{firm_of as laminar_firm_of}
@@ -36,14 +38,14 @@ stands firm prices own found most mine told worth_is told_mine mine_is is_best v
 }
 
 -- no worth of a firm of any kind is above 10^11
-pub table_worths : (table : TableRows) → IsWithinLimits table → IsWorthAtMost (10 ^ 11) (firm_of_table table)
-table_worths table within x a is = smaller a (10 ^ 9) (10 ^ 11) (omega arith) (worth_is_small table within x a is)
+pub table_worths : (table : TableRows) → IsWithinLimits table → IsWorthAtMost most_worth (firm_of_table table)
+table_worths table within x a is = smaller a most_amount most_worth (omega arith) (worth_is_small table within x a is)
 
-pub laminar_worths : (firm : Laminar) → IsWorthAtMost (10 ^ 11) (laminar_firm_of firm)
+pub laminar_worths : (firm : Laminar) → IsWorthAtMost most_worth (laminar_firm_of firm)
 laminar_worths firm = (laminar_laws firm).within
 
-pub middle_worths : (firm : Middle) → IsWorthAtMost (10 ^ 11) (middle_firm_of firm)
+pub middle_worths : (firm : Middle) → IsWorthAtMost most_worth (middle_firm_of firm)
 middle_worths firm = (middle_laws firm).within
 
-pub dealer_worths : (firm : Dealer) → IsWorthAtMost (10 ^ 11) (dealer_firm_of firm)
+pub dealer_worths : (firm : Dealer) → IsWorthAtMost most_worth (dealer_firm_of firm)
 dealer_worths firm = (dealer_laws firm).within

@@ -1,3 +1,4 @@
+pub mod Limits
 pub mod Stands
 pub mod Held
 pub mod Laws

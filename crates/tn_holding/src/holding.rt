@@ -1,10 +1,13 @@
 //! The answer of `firms`.
 
-ghost use Rattle.std.specs.Prelude.{◌≡◌, ◌^◌, ◌<◌, ◌≤◌, ◌+ℤ◌, ◌-ℤ◌, ℕ, pos, All, IfOk, IfSome, cond, length, map, option_and_then, option_map};
+ghost use Rattle.std.specs.Prelude.{◌≡◌, ◌*◌, ◌<◌, ◌≤◌, ◌+ℤ◌, ◌-ℤ◌, ℕ, pos, All, IfOk, IfSome, cond, length, map, option_and_then, option_map};
 ghost use Rattle.tn_answer.specs.Kept.{IsWithinClaims, IsWithinHolding};
 ghost use Rattle.tn_base.specs.Arcs.{IsAtMost};
 ghost use Rattle.tn_firm.specs.Raw.{raw_firm_of};
 ghost use Rattle.tn_holding.specs.Held.{is_content, TellsFirm, TellsHoldings};
+ghost use Rattle.tn_holding.specs.Limits.{most_told_utility};
+ghost use Rattle.tn_market.specs.Widths.{most_own, most_worth};
+ghost use Rattle.tn_plain_data.specs.Limits.{most_firms, most_number, most_price, most_trades};
 ghost use Rattle.tn_plain_data.specs.Network.{own, part, IsNetwork};
 ghost use Rattle.tn_plain_data.specs.Prices.{price_at};
 ghost use Rattle.tn_price.specs.Standings.{AreOwnPrices};
@@ -18,11 +21,11 @@ use tn_plain_data::{Arrangement, Ends, Holding, Holdings, Prices, Said, Trades, 
 
 /// The prices of the `n` trades of firm `f`, by position.
 fn own_prices(ends: &[Ends], prices: &Prices, f: u32, n: u32) -> [i128; MOST_OWN]
-    requires few_trades { length ends.now ≤ 128 }
-    requires few { n ≤ 32 }
+    requires few_trades { length ends.now ≤ most_trades }
+    requires few { n ≤ most_own }
     requires placed { (k : ℕ) → k < n → own ends.now f k < length ends.now }
     requires priced { length prices.now ≡ length ends.now }
-    requires small { All (λ p. IsAtMost p (10 ^ 18)) prices.now }
+    requires small { All (λ p. IsAtMost p most_number) prices.now }
     ensures { AreOwnPrices ends.now (price_at prices.now) f n result }
 {
     let mut own_prices = [0; MOST_OWN];
@@ -34,9 +37,10 @@ fn own_prices(ends: &[Ends], prices: &Prices, f: u32, n: u32) -> [i128; MOST_OWN
 
 /// The bundle that firm `f`, which has `n` trades, has of a set of trades.
 #[tactic(auto, unfolding(tn_base::specs::Sets::set_of))]
-fn bundle_of(ends: &[Ends], on: &TradeSet<2>, f: u32, n: u32) -> Bundle
-    requires few_trades { length ends.now ≤ 128 }
-    requires few { n ≤ 32 }
+fn bundle_of<const W: usize>(ends: &[Ends], on: &TradeSet<W>, f: u32, n: u32) -> Bundle
+    requires few_trades { length ends.now ≤ most_trades }
+    requires wide { length ends.now ≤ 64 * W }
+    requires few { n ≤ most_own }
     requires placed { (k : ℕ) → k < n → own ends.now f k < length ends.now }
     ensures { result ≡ part ends.now f n on.now }
 {
@@ -51,8 +55,8 @@ fn bundle_of(ends: &[Ends], on: &TradeSet<2>, f: u32, n: u32) -> Bundle
 
 /// What a firm's utility gains by a best bundle.
 fn gain_of(stand: &Stand) -> Option<i128>
-    requires utility { IfSome stand.now.utility (λ value. IsAtMost value (10 ^ 16)) }
-    requires best { IsAtMost stand.now.best_utility (10 ^ 16) }
+    requires utility { IfSome stand.now.utility (λ value. IsAtMost value most_told_utility) }
+    requires best { IsAtMost stand.now.best_utility most_told_utility }
     ensures { result ≡ option_map (λ value. stand.now.best_utility -ℤ value) stand.now.utility }
 {
     match stand.utility {
@@ -81,21 +85,22 @@ fn told(has: Trades, best: Trades, stand: &Stand, gain: Option<i128>) -> Holding
 }
 
 /// What firm `f` has in an arrangement, and a best bundle of it.
-fn holding_of(
+fn holding_of<const W: usize>(
     alloc: Global,
     firm: &RawFirm,
     ends: &[Ends],
-    at: &Arrangement<2>,
+    at: &Arrangement<W>,
     f: u32,
     room: &mut Room,
 ) -> Result<Holding, OutOfMemory>
-    requires few_trades { length ends.now ≤ 128 }
+    requires few_trades { length ends.now ≤ most_trades }
+    requires wide { length ends.now ≤ 64 * W }
     requires placed { (k : ℕ) → k < (raw_firm_of firm.now).count → own ends.now f k < length ends.now }
     requires priced { length at.now.prices ≡ length ends.now }
-    requires small { All (λ p. IsAtMost p (10 ^ 14)) at.now.prices }
+    requires small { All (λ p. IsAtMost p most_price) at.now.prices }
     ensures told { IfOk result (TellsFirm ends.now (pos 1) at.now.on (price_at at.now.prices) f (raw_firm_of firm.now)) }
     ensures within { IfOk result IsWithinHolding }
-    ensures worth { IfOk result (λ holding. IfSome holding.worth (λ z. IsAtMost z (10 ^ 11))) }
+    ensures worth { IfOk result (λ holding. IfSome holding.worth (λ z. IsAtMost z most_worth)) }
 {
     let n = firm.trades();
     let prices = own_prices(ends, &at.prices, f, n);
@@ -121,8 +126,8 @@ fn count_content(holding: &Holding) -> u32
 
 /// A sum of worths with one more, none where one of them is none.
 fn sum(total: Option<i128>, worth: Option<i128>) -> Option<i128>
-    requires total { IfSome total (λ z. IsAtMost z (10 ^ 18)) }
-    requires worth { IfSome worth (λ z. IsAtMost z (10 ^ 11)) }
+    requires total { IfSome total (λ z. IsAtMost z most_number) }
+    requires worth { IfSome worth (λ z. IsAtMost z most_worth) }
     ensures { result ≡ option_and_then (λ a. option_map (λ b. a +ℤ b) worth) total }
 {
     match (total, worth) {
@@ -132,18 +137,20 @@ fn sum(total: Option<i128>, worth: Option<i128>) -> Option<i128>
 }
 
 /// What each firm has in an arrangement, at scale 1, and what it would rather have, whether the firms meet exchange or
-/// not. There are at most 128 firms and 128 trades, which fit together, with one price each of at most 10^14 in size.
-pub fn firm_holdings(
+/// not. There are at most 1,024 firms, and at most 1,024 trades and `64 * W`, which fit together, with one price each of
+/// at most 10^14 in size.
+pub fn firm_holdings<const W: usize>(
     alloc: Global,
     firms: &[RawFirm],
     ends: &[Ends],
-    at: &Arrangement<2>,
+    at: &Arrangement<W>,
 ) -> Result<Said, OutOfMemory>
-    requires few_firms { length firms.now ≤ 128 }
-    requires few_trades { length ends.now ≤ 128 }
+    requires few_firms { length firms.now ≤ most_firms }
+    requires few_trades { length ends.now ≤ most_trades }
+    requires wide { length ends.now ≤ 64 * W }
     requires network { IsNetwork (map raw_firm_of firms.now) ends.now }
     requires priced { length at.now.prices ≡ length ends.now }
-    requires small { All (λ p. IsAtMost p (10 ^ 14)) at.now.prices }
+    requires small { All (λ p. IsAtMost p most_price) at.now.prices }
     ensures answer { IfOk result (TellsHoldings (map raw_firm_of firms.now) ends.now (pos 1) at.now.on (price_at at.now.prices)) }
     ensures within { IfOk result IsWithinClaims }
 {

@@ -5,6 +5,7 @@ ghost use Rattle.tn_exchange.specs.Rows.{firm_of_table};
 ghost use Rattle.tn_firm.specs.Raw.{raw_firm_of};
 ghost use Rattle.tn_holding.specs.Stands.{IsStand};
 ghost use Rattle.tn_market.specs.Valued.{IsWorthAtMost};
+ghost use Rattle.tn_market.specs.Widths.{most_asked_price, most_own, most_worth};
 ghost use Rattle.tn_plain_data.specs.Prices.{price_at};
 
 use crate::found::Found;
@@ -52,7 +53,7 @@ fn stand_beside(own: Bundle, worth: Option<i128>, utility: Option<i128>, found: 
 fn stand_of_table(table: &RawTable, own: Bundle, prices: &[i128]) -> Stand
     requires own { own < 2 ^ length table.now.sides }
     requires priced { length prices.now ≡ length table.now.sides }
-    requires small { All (λ p. IsAtMost p (10 ^ 20)) prices.now }
+    requires small { All (λ p. IsAtMost p most_asked_price) prices.now }
     ensures { IsStand (firm_of_table table.now) (price_at prices.now) own result }
 {
     let worth = table.worth(own);
@@ -64,9 +65,9 @@ fn stand_of_table(table: &RawTable, own: Bundle, prices: &[i128]) -> Stand
 fn stand_of_oracle<V: Oracle>(firm: &V, own: Bundle, prices: &[i128], room: &mut Room) -> Stand
     requires own { own < 2 ^ (V.firm firm.now).count }
     requires priced { length prices.now ≡ (V.firm firm.now).count }
-    requires small { All (λ p. IsAtMost p (10 ^ 20)) prices.now }
-    requires few_trades { (V.firm firm.now).count ≤ 32 }
-    requires small_worths { V.limit firm.now ≤ 10 ^ 11 }
+    requires small { All (λ p. IsAtMost p most_asked_price) prices.now }
+    requires few_trades { (V.firm firm.now).count ≤ most_own }
+    requires small_worths { V.limit firm.now ≤ most_worth }
     ensures { IsStand (V.firm firm.now) (price_at prices.now) own result }
 {
     let worth = worth_of(firm, own, room);
@@ -80,9 +81,9 @@ fn stand_of_oracle<V: Oracle>(firm: &V, own: Bundle, prices: &[i128], room: &mut
 pub fn stand_of(firm: &RawFirm, own: Bundle, prices: &[i128], room: &mut Room) -> Stand
     requires own { own < 2 ^ (raw_firm_of firm.now).count }
     requires priced { length prices.now ≡ (raw_firm_of firm.now).count }
-    requires small { All (λ p. IsAtMost p (10 ^ 20)) prices.now }
+    requires small { All (λ p. IsAtMost p most_asked_price) prices.now }
     ensures stand { IsStand (raw_firm_of firm.now) (price_at prices.now) own result }
-    ensures worths { IsWorthAtMost (10 ^ 11) (raw_firm_of firm.now) }
+    ensures worths { IsWorthAtMost most_worth (raw_firm_of firm.now) }
 {
     match firm {
         RawFirm::Table(table) => {

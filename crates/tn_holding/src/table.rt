@@ -7,6 +7,7 @@ ghost use Rattle.tn_base.specs.Firm.{IsBest, payments, utility};
 ghost use Rattle.tn_base.specs.Sets.{has, sum_over};
 ghost use Rattle.tn_exchange.specs.Rows.{firm_of_table};
 ghost use Rattle.tn_holding.specs.Stands.{Tries};
+ghost use Rattle.tn_market.specs.Widths.{most_asked_price, most_own, most_utility};
 ghost use Rattle.tn_plain_data.specs.Prices.{price_at};
 
 use crate::found::Found;
@@ -16,10 +17,10 @@ use tn_exchange::RawTable;
 /// What position `k` brings in a bundle: a sale its price, a purchase less its price.
 fn payment(buys: Bundle, x: Bundle, prices: &[i128], k: usize) -> i128
     requires position { k < length prices.now }
-    requires few { length prices.now ≤ 32 }
-    requires small { All (λ p. IsAtMost p (10 ^ 20)) prices.now }
+    requires few { length prices.now ≤ most_own }
+    requires small { All (λ p. IsAtMost p most_asked_price) prices.now }
     ensures term { result ≡ (if has x k then payments buys (price_at prices.now) k else pos 0) }
-    ensures small { IsAtMost result (10 ^ 20) }
+    ensures small { IsAtMost result most_asked_price }
 {
     if !x.has(k as u32) {
         0
@@ -33,10 +34,10 @@ fn payment(buys: Bundle, x: Bundle, prices: &[i128], k: usize) -> i128
 /// What the positions of a bundle bring at their prices.
 #[tactic(auto, unfolding(tn_base::specs::Sets::sum_over))]
 fn paid(buys: Bundle, x: Bundle, prices: &[i128]) -> i128
-    requires few { length prices.now ≤ 32 }
-    requires small { All (λ p. IsAtMost p (10 ^ 20)) prices.now }
+    requires few { length prices.now ≤ most_own }
+    requires small { All (λ p. IsAtMost p most_asked_price) prices.now }
     ensures sum { result ≡ sum_over (payments buys (price_at prices.now)) (length prices.now) x }
-    ensures small { IsAtMost result (32 * 10 ^ 20) }
+    ensures small { IsAtMost result (most_own * most_asked_price) }
 {
     let mut total = 0;
     for k in 0..prices.len() {
@@ -49,9 +50,9 @@ fn paid(buys: Bundle, x: Bundle, prices: &[i128]) -> i128
 pub fn table_utility(table: &RawTable, x: Bundle, prices: &[i128]) -> Option<i128>
     requires own { x < 2 ^ length table.now.sides }
     requires priced { length prices.now ≡ length table.now.sides }
-    requires small { All (λ p. IsAtMost p (10 ^ 20)) prices.now }
+    requires small { All (λ p. IsAtMost p most_asked_price) prices.now }
     ensures value { result ≡ utility (pos 1) (price_at prices.now) (firm_of_table table.now) x }
-    ensures small { IfSome result (λ value. IsAtMost value (10 ^ 22)) }
+    ensures small { IfSome result (λ value. IsAtMost value most_utility) }
 {
     let _count = table.trades();
     match table.worth(x) {
@@ -64,7 +65,7 @@ pub fn table_utility(table: &RawTable, x: Bundle, prices: &[i128]) -> Option<i12
 fn better(table: &RawTable, prices: &[i128], best: Found, x: Bundle) -> Found
     requires own { x < 2 ^ length table.now.sides }
     requires priced { length prices.now ≡ length table.now.sides }
-    requires small { All (λ p. IsAtMost p (10 ^ 20)) prices.now }
+    requires small { All (λ p. IsAtMost p most_asked_price) prices.now }
     ensures { Tries (utility (pos 1) (price_at prices.now) (firm_of_table table.now)) x best result }
 {
     match table_utility(table, x, prices) {
@@ -76,7 +77,7 @@ fn better(table: &RawTable, prices: &[i128], best: Found, x: Bundle) -> Found
 /// The empty bundle, which is always possible.
 fn start(table: &RawTable, prices: &[i128]) -> Found
     requires priced { length prices.now ≡ length table.now.sides }
-    requires small { All (λ p. IsAtMost p (10 ^ 20)) prices.now }
+    requires small { All (λ p. IsAtMost p most_asked_price) prices.now }
     ensures { utility (pos 1) (price_at prices.now) (firm_of_table table.now) result.bundle ≡ Some result.value }
 {
     let bundle = Bundle::empty();
@@ -89,7 +90,7 @@ fn start(table: &RawTable, prices: &[i128]) -> Found
 /// A best bundle of a table with its utility: every bundle is tried. It takes no memory.
 pub fn best_of_table(table: &RawTable, prices: &[i128]) -> Found
     requires priced { length prices.now ≡ length table.now.sides }
-    requires small { All (λ p. IsAtMost p (10 ^ 20)) prices.now }
+    requires small { All (λ p. IsAtMost p most_asked_price) prices.now }
     ensures { IsBest (utility (pos 1) (price_at prices.now) (firm_of_table table.now)) result.bundle result.value }
 {
     let mut best = start(table, prices);

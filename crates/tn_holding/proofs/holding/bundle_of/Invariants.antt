@@ -3,4 +3,4 @@ use Rattle.tn_plain_data.specs.Network.{part}
 use Rattle.tn_holding.proofs.holding.bundle_of.Given as goal
 
 abbrev pub invariant-loop-k : goal.invariant-loop-k
-invariant-loop-k l = l.bundle ≡ part l.ends l.f l.k l.on
+invariant-loop-k g l = l.bundle ≡ part l.ends l.f l.k l.on

@@ -5,4 +5,4 @@ use Rattle.tn_holding.proofs.HoldingLemmas.{AreTold}
 use Rattle.tn_holding.proofs.holding.firm_holdings.Given as goal
 
 abbrev pub invariant-loop-f : goal.invariant-loop-f
-invariant-loop-f l = AreTold (map raw_firm_of l.firms) l.ends l.at.on (price_at l.at.prices) l.f l.holdings.items l.content l.surplus
+invariant-loop-f g l = AreTold (map raw_firm_of l.firms) l.ends l.at.on (price_at l.at.prices) l.f l.holdings.items l.content l.surplus

@@ -1,19 +1,18 @@
-use Rattle.std.proofs.Common.{ℕ, ◌^◌, ◌<◌, ◌∙◌, arith, subst, sym, ap}
+use Rattle.std.proofs.Common.{ℕ, ◌^◌, ◌<◌, ◌∙◌, arith, subst, ap}
 use Rattle.tn_firm.specs.Raw.{raw_firm_of}
 use Rattle.tn_plain_data.specs.Prices.{price_at}
 use Rattle.tn_plain_data.specs.Network.{trades_of}
 use Rattle.tn_price.proofs.JudgeLemmas.{part_within}
-use Rattle.tn_holding.specs.declared.stand.Stand.{Stand}
 use Rattle.tn_holding.proofs.HoldingLemmas.{StandsThere, stands_there, stand_small, told_there, told_within, worth_small}
 use Rattle.tn_holding.proofs.holding.holding_of.Goals as goal
 
 pub stand_of-stand-requires-clause-own : goal.stand_of-stand-requires-clause-own
-stand_of-stand-requires-clause-own c =
+stand_of-stand-requires-clause-own g c =
     subst (λ (m : ℕ). c.bundle_of-own.result < 2 ^ m) c.trades-n.ensures.count
     (part_within c.args.ends.now c.args.f c.trades-n.result c.args.at.now.on c.bundle_of-own.result c.bundle_of-own.ensures)
 
 pub gain_of-gain-requires-clause-utility : goal.gain_of-gain-requires-clause-utility
-gain_of-gain-requires-clause-utility c =
+gain_of-gain-requires-clause-utility g c =
     let firm = raw_firm_of c.args.firm.now in
     let prices = price_at c.args.at.now.prices in
     let few = c.trades-n.ensures.few in
@@ -22,7 +21,7 @@ gain_of-gain-requires-clause-utility c =
     (stand_small c.args.ends.now c.args.at.now.prices c.args.f c.bundle_of-own.result firm c.stand_of-stand.result (omega (arith, few, count)) c.stand_of-stand.ensures.worths c.requires.small there).utility
 
 pub gain_of-gain-requires-clause-best : goal.gain_of-gain-requires-clause-best
-gain_of-gain-requires-clause-best c =
+gain_of-gain-requires-clause-best g c =
     let firm = raw_firm_of c.args.firm.now in
     let prices = price_at c.args.at.now.prices in
     let few = c.trades-n.ensures.few in
@@ -31,7 +30,7 @@ gain_of-gain-requires-clause-best c =
     (stand_small c.args.ends.now c.args.at.now.prices c.args.f c.bundle_of-own.result firm c.stand_of-stand.result (omega (arith, few, count)) c.stand_of-stand.ensures.worths c.requires.small there).best
 
 pub returns-clause-told : goal.returns-clause-told
-returns-clause-told c =
+returns-clause-told g c =
     let firm = raw_firm_of c.args.firm.now in
     let prices = price_at c.args.at.now.prices in
     let count = c.trades-n.ensures.count in
@@ -43,7 +42,7 @@ returns-clause-told c =
     (c.told.ensures.gain ∙ c.gain_of-gain.ensures)
 
 pub returns-clause-within : goal.returns-clause-within
-returns-clause-within c =
+returns-clause-within g c =
     let firm = raw_firm_of c.args.firm.now in
     let prices = price_at c.args.at.now.prices in
     let few = c.trades-n.ensures.few in
@@ -53,7 +52,7 @@ returns-clause-within c =
     told_within c.stand_of-stand.result c.told.result small c.told.ensures.worth c.told.ensures.utility c.told.ensures.best_utility (c.told.ensures.gain ∙ c.gain_of-gain.ensures)
 
 pub returns-clause-worth : goal.returns-clause-worth
-returns-clause-worth c =
+returns-clause-worth g c =
     let firm = raw_firm_of c.args.firm.now in
     let prices = price_at c.args.at.now.prices in
     let few = c.trades-n.ensures.few in

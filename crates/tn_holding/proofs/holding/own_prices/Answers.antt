@@ -1,8 +1,10 @@
-use Rattle.std.proofs.Common.{arith, refl, sym, subst, ◌^◌, pos, ℤ, ◌+◌}
+use Rattle.std.proofs.Common.{arith, refl, sym, subst, pos, ℤ, ◌+◌}
 use Rattle.std.proofs.lemmas.Int.{ints}
 use Rattle.std.proofs.lemmas.List.Elements.{All-replicate}
 use Rattle.std.proofs.Math.ListN.{set}
 use Rattle.tn_base.specs.Arcs.{IsAtMost}
+use Rattle.tn_market.specs.Widths.{most_own}
+use Rattle.tn_plain_data.specs.Limits.{most_number}
 use Rattle.tn_plain_data.specs.Prices.{price_at}
 use Rattle.tn_price.specs.Standings.{AreOwnPrices}
 use Rattle.tn_market.proofs.AskLemmas.{as_is}
@@ -12,7 +14,7 @@ use Rattle.tn_holding.proofs.holding.own_prices.Goals as goal
 pub loop-k-init : goal.loop-k-init
 loop-k-init c =
     none_priced c.args.ends.now (price_at c.args.prices.now) c.args.f _ refl
-    (All-replicate (λ z. IsAtMost z (10 ^ 18)) 32 (pos 0) (record { low = omega (arith, ints); high = omega (arith, ints) }))
+    (All-replicate (λ z. IsAtMost z most_number) most_own (pos 0) (record { low = omega (arith, ints); high = omega (arith, ints) }))
 
 pub loop-k-preserved : goal.loop-k-preserved
 loop-k-preserved c =

@@ -1,5 +1,6 @@
-use Rattle.std.proofs.Common.{◌≡◌, ◌*◌, ◌^◌}
+use Rattle.std.proofs.Common.{◌≡◌, ◌*◌}
 use Rattle.tn_base.specs.Arcs.{IsAtMost}
+use Rattle.tn_market.specs.Widths.{most_asked_price}
 use Rattle.tn_base.specs.Firm.{payments}
 use Rattle.tn_base.specs.Sets.{sum_over}
 use Rattle.tn_plain_data.specs.Prices.{price_at}
@@ -8,5 +9,5 @@ use Rattle.tn_holding.proofs.table.paid.Given as goal
 abbrev pub invariant-loop-k : goal.invariant-loop-k
 invariant-loop-k l = record {
   sum : l.total ≡ sum_over (payments l.buys (price_at l.prices)) l.k l.x;
-  small : IsAtMost l.total (l.k * 10 ^ 20);
+  small : IsAtMost l.total (l.k * most_asked_price);
 }
