@@ -1,5 +1,5 @@
 -- What a firm gains at the prices that are listed for it.
-use Rattle.std.proofs.Common.{◌≡◌, ℕ, ◌^◌, inl, inr, refl, sym, ap, ap₂, ◌∙◌, subst, List, map, take, arith, ℤ, pos, ◌+ℤ◌, ◌-ℤ◌, ◌*ℤ◌, Some, None}
+use Rattle.std.proofs.Common.{◌≡◌, ℕ, inl, inr, refl, sym, ap, ap₂, ◌∙◌, subst, List, map, take, arith, ℤ, pos, ◌+ℤ◌, ◌-ℤ◌, ◌*ℤ◌, Some, None}
 use Rattle.std.specs.Prelude.{slice_get}
 use Rattle.std.proofs.lemmas.Int.{ints, to_z-of_z}
 use Rattle.std.proofs.lemmas.Option.{same_Some}

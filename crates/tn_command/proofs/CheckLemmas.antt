@@ -33,6 +33,8 @@ use Rattle.tn_network.proofs.BlockLemmas.{equilibrium_is_stable}
 use Rattle.tn_outcome.proofs.StableLemmas.{completed_is_stable}
 use Rattle.tn_residual.proofs.MakingLemmas.{outcome_feasible}
 use Rattle.tn_command.specs.Implied.{ClaimImplies, IsEfficientAndStable, IsLastingOutcome}
+use Rattle.tn_market.specs.Widths.{most_market_firms, most_own, most_worth}
+use Rattle.tn_plain_data.specs.Limits.{most_price}
 use Rattle.tn_command.proofs.NumberLemmas.{AreSmallFirms, surplus_small, utility_small}
 
 -- what stands at a place of a mapped list comes from there
@@ -56,21 +58,21 @@ are_small [] = tt
 are_small (value ∷ firms) = ((firm_laws value).within, are_small firms)
 
 -- a surplus fits an answer
-pub surplus_fits : (firms : List FirmValue) (trades : List Ends) (on : ℕ) (s : ℤ) → length firms ≤ 1024 → surplus_of (map firm_of firms) trades on ≡ Some s → IsAtMost s (10 ^ 15)
+pub surplus_fits : (firms : List FirmValue) (trades : List Ends) (on : ℕ) (s : ℤ) → length firms ≤ most_market_firms → surplus_of (map firm_of firms) trades on ≡ Some s → IsAtMost s (10 ^ 15)
 surplus_fits firms trades on s few is =
     let small = surplus_small trades on 0 (map firm_of firms) s (are_small firms) is in
     let count : length (map firm_of firms) ≡ length firms = length-map firms firm_of in
     record { low = omega (arith, ints, small.low, count, few); high = omega (arith, ints, small.high, count, few) }
 
 -- a gain fits an answer
-pub gain_fits : (firms : List FirmValue) (trades : List Ends) (on : ℕ) (prices : List ℤ) (f x : ℕ) (gain : ℤ) → All (λ p. IsAtMost p (10 ^ 14)) prices
+pub gain_fits : (firms : List FirmValue) (trades : List Ends) (on : ℕ) (prices : List ℤ) (f x : ℕ) (gain : ℤ) → All (λ p. IsAtMost p most_price) prices
     → IsFirstBettered (map firm_of firms) trades (pos 1) on (price_at prices) f x gain → IsAtMost gain (10 ^ 16)
 gain_fits firms trades on prices f x gain small bettered =
     let there = value_at firms f bettered.firm bettered.is in
-    let few : bettered.firm.count ≤ 32 = subst (λ (firm : Firm). firm.count ≤ 32) there.2 (firm_few there.0) in
-    let worths = subst (λ (firm : Firm). (y : ℕ) (a : ℤ) → firm.worth y ≡ Some a → IsAtMost a (10 ^ 11)) there.2 (firm_laws there.0).within in
-    let own_small = utility_small bettered.firm (λ k. price_at prices (own trades f k)) _ bettered.own_value few worths (λ k. price_small prices (own trades f k) (10 ^ 14) small) bettered.own_is in
-    let best_small = utility_small bettered.firm (λ k. price_at prices (own trades f k)) x bettered.best_value few worths (λ k. price_small prices (own trades f k) (10 ^ 14) small) bettered.best.is in
+    let few : bettered.firm.count ≤ most_own = subst (λ (firm : Firm). firm.count ≤ most_own) there.2 (firm_few there.0) in
+    let worths = subst (λ (firm : Firm). (y : ℕ) (a : ℤ) → firm.worth y ≡ Some a → IsAtMost a most_worth) there.2 (firm_laws there.0).within in
+    let own_small = utility_small bettered.firm (λ k. price_at prices (own trades f k)) _ bettered.own_value few worths (λ k. price_small prices (own trades f k) most_price small) bettered.own_is in
+    let best_small = utility_small bettered.firm (λ k. price_at prices (own trades f k)) x bettered.best_value few worths (λ k. price_small prices (own trades f k) most_price small) bettered.best.is in
     let e = bettered.gain_is in
     record {
       low = omega (arith, ints, e, own_small.low, own_small.high, best_small.low, best_small.high);

@@ -1,5 +1,5 @@
 -- From a session to the states after edits.
-use Rattle.std.proofs.Common.{◌≡◌, ℕ, zero, suc, ◌+◌, ◌*◌, ◌^◌, ◌<◌, ◌≤◌, ◌⊎◌, inl, inr, ℤ, Bool, false, not, ◌==◌, ◌&&◌, ◌||◌, List, [], ◌∷◌, ◌++◌, length, map, take, slice_get, Some, refl, sym, ap, ◌∙◌, subst, ap₂, arith, add-one, length-append}
+use Rattle.std.proofs.Common.{◌≡◌, ℕ, zero, suc, ◌+◌, ◌*◌, ◌<◌, ◌≤◌, ◌⊎◌, inl, inr, ℤ, Bool, false, not, ◌==◌, ◌&&◌, ◌||◌, List, [], ◌∷◌, ◌++◌, length, map, take, slice_get, Some, refl, sym, ap, ◌∙◌, subst, ap₂, arith, add-one, length-append}
 use Rattle.std.specs.Prelude.{All}
 use Rattle.std.proofs.lemmas.Option.{none-some, same_Some, slice_get_within, get_or_from_slice_get}
 use Rattle.std.proofs.Math.Seq.{take-suc}
@@ -27,17 +27,20 @@ use Rattle.tn_network.proofs.AdmittedLemmas.{possible_from_admitted, admitted_mo
 use Rattle.tn_network.proofs.RoundLemmas.{equilibrium_possible}
 use Rattle.tn_answer.specs.Kept.{IsWithinPrices, IsWithinState}
 use Rattle.tn_command.proofs.SolveLemmas.{small_prices}
+use Rattle.tn_command.specs.Limits.{most_answered_trades}
+use Rattle.tn_plain_data.specs.Limits.{most_price}
+use Rattle.tn_market.specs.Widths.{most_worth}
 use Rattle.tn_command.specs.Edited.{AreStates, IsStateAfter, IsStateOf, StandsWhere, is_admitted_after}
 
 -- ---- where a session stands
 
 pub stands_from : (firms : List FirmValue) (trades : List Ends) (test : ℕ → Bool) (session : Standing FirmValue) → session.market ≡ record { firms = firms; trades = trades }
-    → ((t : ℕ) → has session.admitted t ≡ test t) → HoldsEquilibrium firm_of session → HasSmallPrices (λ value. 10 ^ 11) session → StandsWhere firms trades test session
+    → ((t : ℕ) → has session.admitted t ≡ test t) → HoldsEquilibrium firm_of session → HasSmallPrices (λ value. most_worth) session → StandsWhere firms trades test session
 stands_from firms trades test session market admitted_are equilibrium small = record {
   market = market;
   admitted_are = admitted_are;
   equilibrium = subst (λ (m : Traded FirmValue). IsSolution (map firm_of m.firms) m.trades session.admitted session.solution) market equilibrium;
-  small = subst (λ (m : Traded FirmValue). AreSmallPrices (2 * 10 ^ 11 * length m.trades) session.solution.prices) market (small (10 ^ 11) (λ f value is. omega arith));
+  small = subst (λ (m : Traded FirmValue). AreSmallPrices (2 * most_worth * length m.trades) session.solution.prices) market (small most_worth (λ f value is. omega arith));
 }
 
 -- ---- one more edit
@@ -139,9 +142,9 @@ module _ (firms : List FirmValue) (trades : List Ends) (test : ℕ → Bool) (se
       told_is : surplus_of (map firm_of firms) trades session.solution.on ≡ Some told
       told_is = ap (surplus_of (map firm_of firms) trades) (sym other_is) ∙ surplus_is ∙ ap Some (sym same)
 
-  pub state_small : (count : ℕ) (contracts : List Contract) → length trades ≤ 128 → count ≡ length trades → contracts ≡ contracts_of session.admitted (price_at session.solution.prices) count
+  pub state_small : (count : ℕ) (contracts : List Contract) → length trades ≤ most_answered_trades → count ≡ length trades → contracts ≡ contracts_of session.admitted (price_at session.solution.prices) count
       → All (λ contract. IsWithinPrices contract.price) contracts
   state_small count contracts few counted contracts_are =
       subst (All (λ contract. IsWithinPrices contract.price)) (sym contracts_are)
-      (contracts_within session.admitted session.solution.prices count (10 ^ 14) (stands.equilibrium.one_each ∙ sym counted)
+      (contracts_within session.admitted session.solution.prices count most_price (stands.equilibrium.one_each ∙ sym counted)
       (small_prices (length trades) session.solution.prices few stands.small)).small

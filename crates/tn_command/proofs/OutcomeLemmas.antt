@@ -1,5 +1,5 @@
 -- The numbers of a verdict on an outcome fit an answer.
-use Rattle.std.proofs.Common.{◌≡◌, ℕ, ◌^◌, ◌<◌, ◌≤◌, ℤ, pos, neg_ℤ, ◌+ℤ◌, ◌-ℤ◌, ◌*ℤ◌, Bool, true, false, if◌then◌else◌, ◌==◌, List, length, map, refl, sym, ap, ◌∙◌, subst, arith}
+use Rattle.std.proofs.Common.{◌≡◌, ℕ, ◌<◌, ◌≤◌, ℤ, pos, neg_ℤ, ◌+ℤ◌, ◌-ℤ◌, ◌*ℤ◌, Bool, true, false, if◌then◌else◌, ◌==◌, List, length, map, refl, sym, ap, ◌∙◌, subst, arith}
 use Rattle.std.specs.Prelude.{Option, Some, None, option_map, unwrap_or, slice_get, get_or, All, IfSome}
 use Rattle.std.proofs.lemmas.Int.{ints}
 use Rattle.std.proofs.lemmas.Option.{slice_get_within, slice_get-get_or, get_or_from_slice_get}
@@ -22,6 +22,9 @@ use Rattle.tn_market.specs.Limits.{IsOutcomeOf}
 use Rattle.tn_plain_data.specs.Network.{trades_of}
 use Rattle.tn_market.specs.Valued.{IsWorthAtMost}
 use Rattle.tn_residual.proofs.MakingLemmas.{contracts_few}
+use Rattle.tn_command.specs.Limits.{most_answered_trades}
+use Rattle.tn_plain_data.specs.Limits.{most_number, most_numerator, most_over, most_price}
+use Rattle.tn_market.specs.Widths.{most_worth}
 use Rattle.tn_command.proofs.CheckLemmas.{value_at}
 
 none_small : (limit : ℕ) → IsAtMost (pos 0) limit
@@ -53,14 +56,14 @@ payment_small trades f contracts limit k small = by (slice_get contracts k) refl
     by (Some contract) e = paid_small f contract.price limit (contract_small contracts limit k contract small e) (slice_get trades contract.trade)
 
 -- the utility of a part of an outcome's contracts
-part_small : (trades : List Ends) (over : ℤ) (f : ℕ) (firm : Firm) (contracts : List Contract) (x : ℕ) (value : ℤ) → IsOutcomeOf trades over contracts → length trades ≤ 128 → IsWorthAtMost (10 ^ 11) firm
-    → part_utility trades over f firm contracts x ≡ Some value → IsAtMost value (10 ^ 14)
+part_small : (trades : List Ends) (over : ℤ) (f : ℕ) (firm : Firm) (contracts : List Contract) (x : ℕ) (value : ℤ) → IsOutcomeOf trades over contracts → length trades ≤ most_answered_trades → IsWorthAtMost most_worth firm
+    → part_utility trades over f firm contracts x ≡ Some value → IsAtMost value most_price
 part_small trades over f firm contracts x value outcome few worths is =
     let worth = option_map-some (λ a. over *ℤ a +ℤ sum_over (payment trades f contracts) (length contracts) x) (firm.worth (bundle_by trades f firm.count contracts x)) value is in
     let least = outcome.least in
     let most = outcome.most in
-    let scaled = times_small over worth.0 100 (10 ^ 11) (record { low = omega (arith, ints, least); high = omega (arith, ints, most) }) (worths (bundle_by trades f firm.count contracts x) worth.0 worth.1) in
-    let paid = sum_over_small (payment trades f contracts) (length contracts) x (10 ^ 11) (λ k below. payment_small trades f contracts (10 ^ 11) k outcome.contracts.small) in
+    let scaled = times_small over worth.0 most_over most_worth (record { low = omega (arith, ints, least); high = omega (arith, ints, most) }) (worths (bundle_by trades f firm.count contracts x) worth.0 worth.1) in
+    let paid = sum_over_small (payment trades f contracts) (length contracts) x most_numerator (λ k below. payment_small trades f contracts most_numerator k outcome.contracts.small) in
     let count = contracts_few trades over contracts outcome in
     let total = worth.2 in
     record {
@@ -69,16 +72,16 @@ part_small trades over f firm contracts x value outcome few worths is =
     }
 
 -- what a firm gains by dropping contracts
-pub drop_small : (firms : List FirmValue) (trades : List Ends) (over : ℤ) (contracts : List Contract) (f x : ℕ) (gain : Option ℤ) → IsOutcomeOf trades over contracts → length trades ≤ 128
-    → IsFirstDrop (map firm_of firms) trades over contracts f x gain → IfSome gain (λ z. IsAtMost z (10 ^ 18))
+pub drop_small : (firms : List FirmValue) (trades : List Ends) (over : ℤ) (contracts : List Contract) (f x : ℕ) (gain : Option ℤ) → IsOutcomeOf trades over contracts → length trades ≤ most_answered_trades
+    → IsFirstDrop (map firm_of firms) trades over contracts f x gain → IfSome gain (λ z. IsAtMost z most_number)
 drop_small firms trades over contracts f x gain outcome few first =
     let there = value_at firms f first.firm first.is in
-    let worths : IsWorthAtMost (10 ^ 11) first.firm = subst (IsWorthAtMost (10 ^ 11)) there.2 (firm_laws there.0).within in
+    let worths : IsWorthAtMost most_worth first.firm = subst (IsWorthAtMost most_worth) there.2 (firm_laws there.0).within in
     let kept = part_small trades over f first.firm contracts first.drops.kept first.drops.choice.value outcome few worths first.drops.choice.is in
-    subst (λ (o : Option ℤ). IfSome o (λ z. IsAtMost z (10 ^ 18))) (sym first.drops.gains)
+    subst (λ (o : Option ℤ). IfSome o (λ z. IsAtMost z most_number)) (sym first.drops.gains)
     (by kept (λ own is. part_small trades over f first.firm contracts (own_part trades f contracts) own outcome few worths is) (part_utility trades over f first.firm contracts (own_part trades f contracts)) refl)
   where
-    by : {value : ℤ} {own : Option ℤ} → IsAtMost value (10 ^ 14) → ((z : ℤ) → own ≡ Some z → IsAtMost z (10 ^ 14)) → (o : Option ℤ) → own ≡ o → IfSome (option_map (λ z. value -ℤ z) o) (λ z. IsAtMost z (10 ^ 18))
+    by : {value : ℤ} {own : Option ℤ} → IsAtMost value most_price → ((z : ℤ) → own ≡ Some z → IsAtMost z most_price) → (o : Option ℤ) → own ≡ o → IfSome (option_map (λ z. value -ℤ z) o) (λ z. IsAtMost z most_number)
     by kept all None e = tt
     by kept all (Some z) e = let own = all z e in record { low = omega (arith, ints, kept.low, own.high); high = omega (arith, ints, kept.high, own.low) }
 
@@ -95,15 +98,15 @@ drop_keeps firms trades over contracts f x gain keeps first are =
     let there = value_at firms f first.firm first.is in are there.0 there.1 ∙ ap (λ (firm : Firm). trades_of trades f firm.count x) there.2
 
 -- the denominator of contracts that block, and their prices
-pub blocking_over_small : (firms : List Firm) (trades : List Ends) (over : ℤ) (contracts offers : List Contract) (told : ℤ) → IsOutcomeOf trades over contracts → length trades ≤ 128
-    → IsBlockedBy firms trades over contracts offers told → IsAtMost told (10 ^ 18)
+pub blocking_over_small : (firms : List Firm) (trades : List Ends) (over : ℤ) (contracts offers : List Contract) (told : ℤ) → IsOutcomeOf trades over contracts → length trades ≤ most_answered_trades
+    → IsBlockedBy firms trades over contracts offers told → IsAtMost told most_number
 blocking_over_small firms trades over contracts offers told outcome few blocked =
     let small = scale_bound over (length trades) contracts few outcome.least outcome.most in
     let same = blocked.over_is in
     record { low = omega (arith, ints, same, small.low); high = omega (arith, ints, same, small.high) }
 
 pub blocking_prices_small : (firms : List Firm) (trades : List Ends) (over : ℤ) (contracts offers : List Contract) (told : ℤ) → IsBlockedBy firms trades over contracts offers told
-    → All (λ offer. IsAtMost offer.price (10 ^ 18)) offers
+    → All (λ offer. IsAtMost offer.price most_number) offers
 blocking_prices_small firms trades over contracts offers told blocked k d below =
     let small = blocked.chain.small k (get_or offers k d) (slice_get-get_or offers k d below) in
     record { low = omega (arith, ints, small.low); high = omega (arith, ints, small.high) }

@@ -1,5 +1,5 @@
 -- From the ranges of all trades to the answer about them.
-use Rattle.std.proofs.Common.{◌≡◌, ℕ, zero, suc, ◌+◌, ◌*◌, ◌^◌, ◌<◌, ◌≤◌, ℤ, pos, neg_ℤ, List, [], ◌∷◌, ◌++◌, length, map, slice_get, Option, None, Some, sym, ap, ◌∙◌, subst, arith}
+use Rattle.std.proofs.Common.{◌≡◌, ℕ, zero, suc, ◌+◌, ◌*◌, ◌<◌, ◌≤◌, ℤ, pos, neg_ℤ, List, [], ◌∷◌, ◌++◌, length, map, slice_get, Option, None, Some, sym, ap, ◌∙◌, subst, arith}
 use Rattle.std.specs.Prelude.{All, IfSome, get_or}
 use Rattle.std.proofs.lemmas.Int.{ints}
 use Rattle.std.proofs.lemmas.Option.{none-some, slice_get-get_or}
@@ -25,6 +25,8 @@ use Rattle.tn_network.proofs.WelfareLemmas.{equilibrium_is_efficient}
 use Rattle.tn_price.proofs.CycleLemmas.{arcs_between, said_inside}
 use Rattle.tn_answer.specs.Kept.{HasWithinBounds, IsWithinPrices}
 use Rattle.tn_command.specs.Ranged.{IsRanged}
+use Rattle.tn_command.specs.Limits.{most_answered_trades}
+use Rattle.tn_market.specs.Widths.{most_worth}
 use Rattle.tn_command.proofs.CheckLemmas.{value_at}
 
 -- the answer
@@ -103,21 +105,21 @@ module _ (firms : List Firm) (trades : List Ends) (on : ℕ) (network : IsNetwor
   low_inside t None nodes at_t shown = subst (All (λ node. IfSome node (λ u. u < length trades))) (sym shown) (All-nil (λ node. IfSome node (λ u. u < length trades)))
   low_inside t (Some low) nodes at_t shown = path_inside t (length trades) nodes (neg_ℤ low) (omega (arith, at_t)) (omega arith) shown
 
--- prices of a network of at most 128 trades of small firms are at most 10^14
-pub ranges_small : (firms : List FirmValue) (trades : List Ends) (on : ℕ) (ranges : List Range) → IsNetwork (map firm_of firms) trades → length trades ≤ 128
+-- prices of a network of few trades of small firms are within the limit of prices
+pub ranges_small : (firms : List FirmValue) (trades : List Ends) (on : ℕ) (ranges : List Range) → IsNetwork (map firm_of firms) trades → length trades ≤ most_answered_trades
     → AreRanges (map firm_of firms) trades on ranges → All HasWithinBounds ranges
 ranges_small firms trades on ranges network few each k d below =
     let range = each.each k (get_or ranges k d) (slice_get-get_or ranges k d below) in
     let counted = each.one_each in
     let inside : k < length trades = omega (arith, below, counted) in
     record {
-      high = narrow (get_or ranges k d).high (high_small (map firm_of firms) trades on network (10 ^ 11) within k (get_or ranges k d).high (get_or ranges k d).high_path inside range.high_shown);
-      low = narrow (get_or ranges k d).low (low_small (map firm_of firms) trades on network (10 ^ 11) within k (get_or ranges k d).low (get_or ranges k d).low_path inside range.low_shown);
+      high = narrow (get_or ranges k d).high (high_small (map firm_of firms) trades on network most_worth within k (get_or ranges k d).high (get_or ranges k d).high_path inside range.high_shown);
+      low = narrow (get_or ranges k d).low (low_small (map firm_of firms) trades on network most_worth within k (get_or ranges k d).low (get_or ranges k d).low_path inside range.low_shown);
     }
   where
-    within : (f : ℕ) (firm : Firm) → slice_get (map firm_of firms) f ≡ Some firm → IsWorthAtMost (10 ^ 11) firm
-    within f firm is = let value = value_at firms f firm is in subst (IsWorthAtMost (10 ^ 11)) value.2 (firm_laws value.0).within
+    within : (f : ℕ) (firm : Firm) → slice_get (map firm_of firms) f ≡ Some firm → IsWorthAtMost most_worth firm
+    within f firm is = let value = value_at firms f firm is in subst (IsWorthAtMost most_worth) value.2 (firm_laws value.0).within
 
-    narrow : (bound : Option ℤ) → IfSome bound (λ z. IsAtMost z ((length trades + 1) * (2 * 10 ^ 11))) → IfSome bound IsWithinPrices
+    narrow : (bound : Option ℤ) → IfSome bound (λ z. IsAtMost z ((length trades + 1) * (2 * most_worth))) → IfSome bound IsWithinPrices
     narrow None h = tt
     narrow (Some z) h = let low = h.low in let high = h.high in record { low = omega (arith, ints, low, high, few); high = omega (arith, ints, low, high, few) }

@@ -1,5 +1,5 @@
 -- From an equilibrium that was found to the answer about it.
-use Rattle.std.proofs.Common.{◌≡◌, ℕ, suc, ◌+◌, ◌*◌, ◌^◌, ◌<◌, ◌≤◌, ℤ, pos, ◌+ℤ◌, List, [], ◌∷◌, ◌++◌, length, map, take, slice_get, Option, None, option_map, refl, sym, ap, ◌∙◌, subst, arith}
+use Rattle.std.proofs.Common.{◌≡◌, ℕ, suc, ◌+◌, ◌*◌, ◌<◌, ◌≤◌, ℤ, pos, ◌+ℤ◌, List, [], ◌∷◌, ◌++◌, length, map, take, slice_get, Option, None, option_map, refl, sym, ap, ◌∙◌, subst, arith}
 use Rattle.std.specs.Prelude.{All, Some, IsSome, get_or, option_and_then}
 use Rattle.std.proofs.lemmas.Int.{ints}
 use Rattle.std.proofs.lemmas.List.{take_all}
@@ -14,6 +14,9 @@ use Rattle.tn_market.specs.Graph.{ArePossible}
 use Rattle.tn_firm.specs.declared.value.FirmValue.{FirmValue}
 use Rattle.tn_firm.specs.Firms.{firm_of}
 use Rattle.tn_command.specs.Solved.{IsSolved}
+use Rattle.tn_command.specs.Limits.{most_answered_trades}
+use Rattle.tn_plain_data.specs.Limits.{most_price}
+use Rattle.tn_market.specs.Widths.{most_worth}
 use Rattle.tn_command.proofs.CheckLemmas.{implied_by}
 
 -- the first prices with one more
@@ -25,11 +28,11 @@ one_more_price prices done next t price below so_far is pushed =
 pub all_prices : (prices done : List ℤ) (t count : ℕ) → done ≡ take t prices → length prices ≡ count → count ≤ t → done ≡ prices
 all_prices prices done t count so_far counted end = so_far ∙ take_all t prices (omega (arith, counted, end))
 
--- prices of a network of 128 trades of small firms are at most 10^14
-pub small_prices : (trades : ℕ) (prices : List ℤ) → trades ≤ 128 → All (λ p. IsAtMost p (2 * 10 ^ 11 * trades)) prices → All (λ p. IsAtMost p (10 ^ 14)) prices
+-- prices of a network of few trades of small firms are within the limit of prices
+pub small_prices : (trades : ℕ) (prices : List ℤ) → trades ≤ most_answered_trades → All (λ p. IsAtMost p (2 * most_worth * trades)) prices → All (λ p. IsAtMost p most_price) prices
 small_prices trades prices few small k d below = wider (get_or prices k d) (small k d below)
   where
-    wider : (z : ℤ) → IsAtMost z (2 * 10 ^ 11 * trades) → IsAtMost z (10 ^ 14)
+    wider : (z : ℤ) → IsAtMost z (2 * most_worth * trades) → IsAtMost z most_price
     wider z h = let low = h.low in let high = h.high in record { low = omega (arith, ints, few, low, high); high = omega (arith, ints, few, low, high) }
 
 -- bundles that are possible have a surplus

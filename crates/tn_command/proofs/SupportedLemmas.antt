@@ -1,5 +1,5 @@
 -- From what the search for prices says to the answer about it.
-use Rattle.std.proofs.Common.{◌≡◌, ℕ, ◌+◌, ◌*◌, ◌^◌, ◌≤◌, ℤ, List, length, map, subst, arith, to_z, of_z}
+use Rattle.std.proofs.Common.{◌≡◌, ℕ, ◌+◌, ◌*◌, ◌≤◌, ℤ, List, length, map, subst, arith, to_z, of_z}
 use Rattle.std.specs.Prelude.{Option, Some, slice_get}
 use Rattle.std.specs.Int.{w128}
 use Rattle.std.proofs.lemmas.Int.{ints}
@@ -15,6 +15,9 @@ use Rattle.tn_market.specs.Supported.{AreSupports, IsNegativeCycle}
 use Rattle.tn_market.specs.Valued.{IsWorthAtMost}
 use Rattle.tn_price.proofs.CycleLemmas.{cycle_small}
 use Rattle.tn_command.specs.Implied.{IsEfficientAndStable}
+use Rattle.tn_command.specs.Limits.{most_answered_trades}
+use Rattle.tn_plain_data.specs.Limits.{most_number, most_price}
+use Rattle.tn_market.specs.Widths.{most_worth}
 use Rattle.tn_command.proofs.CheckLemmas.{implied_by, value_at}
 
 -- supporting prices are those of an equilibrium
@@ -23,19 +26,19 @@ pub supports_imply : (firms : List Firm) (trades : List Ends) (on : ℕ) (prices
 supports_imply firms trades on prices network supports = (supports, implied_by firms trades on (price_at prices) network supports.equilibrium)
 
 -- the worths of firms of any kind are small
-pub small_firms : (firms : List FirmValue) (f : ℕ) (firm : Firm) → slice_get (map firm_of firms) f ≡ Some firm → IsWorthAtMost (10 ^ 11) firm
+pub small_firms : (firms : List FirmValue) (f : ℕ) (firm : Firm) → slice_get (map firm_of firms) f ≡ Some firm → IsWorthAtMost most_worth firm
 small_firms firms f firm is =
-    let there = value_at firms f firm is in subst (IsWorthAtMost (10 ^ 11)) there.2 (firm_laws there.0).within
+    let there = value_at firms f firm is in subst (IsWorthAtMost most_worth) there.2 (firm_laws there.0).within
 
 -- a cycle's cost fits an answer
-pub cycle_fits : (firms : List FirmValue) (trades : List Ends) (on : ℕ) (nodes : List (Option ℕ)) (cost : ℤ) → IsNetwork (map firm_of firms) trades → length trades ≤ 128
-    → IsNegativeCycle (map firm_of firms) trades on nodes cost → IsAtMost cost (10 ^ 14)
+pub cycle_fits : (firms : List FirmValue) (trades : List Ends) (on : ℕ) (nodes : List (Option ℕ)) (cost : ℤ) → IsNetwork (map firm_of firms) trades → length trades ≤ most_answered_trades
+    → IsNegativeCycle (map firm_of firms) trades on nodes cost → IsAtMost cost most_price
 cycle_fits firms trades on nodes cost network few cycle =
-    wider (length trades) cost few (cycle_small (map firm_of firms) trades on nodes cost network (10 ^ 11) (small_firms firms) cycle)
+    wider (length trades) cost few (cycle_small (map firm_of firms) trades on nodes cost network most_worth (small_firms firms) cycle)
   where
-    wider : (n : ℕ) (z : ℤ) → n ≤ 128 → IsAtMost z ((n + 1) * (2 * 10 ^ 11)) → IsAtMost z (10 ^ 14)
+    wider : (n : ℕ) (z : ℤ) → n ≤ most_answered_trades → IsAtMost z ((n + 1) * (2 * most_worth)) → IsAtMost z most_price
     wider n z few small = let low = small.low in let high = small.high in record { low = omega (arith, ints, few, low, high); high = omega (arith, ints, few, low, high) }
 
 -- and so it does as it is stored
-pub cost_fits : (cost : ℤ) → IsAtMost cost (10 ^ 14) → IsAtMost (to_z w128 (of_z w128 cost)) (10 ^ 18)
+pub cost_fits : (cost : ℤ) → IsAtMost cost most_price → IsAtMost (to_z w128 (of_z w128 cost)) most_number
 cost_fits cost small = let low = small.low in let high = small.high in record { low = omega (arith, ints, low, high); high = omega (arith, ints, low, high) }

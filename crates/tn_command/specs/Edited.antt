@@ -1,5 +1,5 @@
 -- The answer of `session`: an equilibrium of the admitted trades after each edit.
-use Rattle.std.specs.Prelude.{◌≡◌, ℕ, ◌+◌, ◌*◌, ◌^◌, ℤ, pos, ◌≤ℤ◌, List, [], ◌∷◌, length, map, take, slice_get, Bool, false, not, ◌==◌, ◌&&◌, ◌||◌, Some}
+use Rattle.std.specs.Prelude.{◌≡◌, ℕ, ◌+◌, ◌*◌, ℤ, pos, ◌≤ℤ◌, List, [], ◌∷◌, length, map, take, slice_get, Bool, false, not, ◌==◌, ◌&&◌, ◌||◌, Some}
 use Rattle.tn_base.specs.Firm.{Firm}
 use Rattle.tn_base.specs.Sets.{has}
 use Rattle.tn_firm.specs.declared.value.FirmValue.{FirmValue}
@@ -15,6 +15,7 @@ use Rattle.tn_plain_data.specs.declared.said.Said.TheVariants.{Session}
 use Rattle.tn_market.specs.Admitted.{admitted}
 use Rattle.tn_plain_data.specs.Prices.{price_at}
 use Rattle.tn_market.specs.Best.{IsSubset}
+use Rattle.tn_market.specs.Widths.{most_worth}
 use Rattle.tn_plain_data.specs.Choices.{contracts_of}
 use Rattle.tn_market.specs.Equilibrium.{IsEquilibrium, surplus_of}
 use Rattle.tn_plain_data.specs.Network.{trades_on}
@@ -58,4 +59,4 @@ pub record StandsWhere (firms : List FirmValue) (trades : List Ends) (test : ℕ
   pub market : session.market ≡ record { firms = firms; trades = trades }
   pub admitted_are : (t : ℕ) → has session.admitted t ≡ test t
   pub equilibrium : IsSolution (map firm_of firms) trades session.admitted session.solution
-  pub small : AreSmallPrices (2 * 10 ^ 11 * length trades) session.solution.prices
+  pub small : AreSmallPrices (2 * most_worth * length trades) session.solution.prices

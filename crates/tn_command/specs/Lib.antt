@@ -1,3 +1,4 @@
+pub mod Limits
 pub mod Implied
 pub mod Solved
 pub mod Supported

@@ -3,6 +3,8 @@
 ghost use Rattle.std.specs.Prelude.{◌≡◌, ◌^◌, ◌≤◌, pos, All, IfOk, length, map};
 ghost use Rattle.tn_answer.specs.Kept.{IsWithinClaims};
 ghost use Rattle.tn_base.specs.Arcs.{IsAtMost};
+ghost use Rattle.tn_command.specs.Limits.{most_answered_trades};
+ghost use Rattle.tn_plain_data.specs.Limits.{most_price};
 ghost use Rattle.tn_firm.specs.Firms.{firm_of};
 ghost use Rattle.tn_plain_data.specs.Prices.{price_at};
 ghost use Rattle.tn_market.specs.Judged.{Judges};
@@ -20,9 +22,9 @@ pub fn check(
     market: &Market<FirmValue>,
     at: &Arrangement<2>,
 ) -> Result<Said, OutOfMemory>
-    requires wide { length market.now.trades ≤ 128 }
+    requires wide { length market.now.trades ≤ most_answered_trades }
     requires priced { length at.now.prices ≡ length market.now.trades }
-    requires small { All (λ p. IsAtMost p (10 ^ 14)) at.now.prices }
+    requires small { All (λ p. IsAtMost p most_price) at.now.prices }
     ensures answer { IfOk result (Judges (map firm_of market.now.firms) market.now.trades (pos 1) at.now.on (price_at at.now.prices)) }
     ensures within { IfOk result IsWithinClaims }
 {

@@ -3,6 +3,7 @@
 ghost use Rattle.std.specs.Prelude.{◌≡◌, ℕ, Bool, false, ◌<◌, ◌≤◌, [], ◌∷◌, All, IfOk, length, map};
 ghost use Rattle.tn_answer.specs.Kept.{IsWithinClaims, IsWithinState};
 ghost use Rattle.tn_command.specs.Edited.{IsStateOf, StandsWhere, TellsStates, is_admitted_after};
+ghost use Rattle.tn_command.specs.Limits.{most_answered_trades};
 ghost use Rattle.tn_firm.specs.Firms.{firm_of};
 ghost use Rattle.tn_plain_data.specs.Prices.{price_at};
 ghost use Rattle.tn_plain_data.specs.Choices.{contracts_of};
@@ -21,7 +22,7 @@ fn admitted_prices(
     session: &Session<FirmValue, 2>,
     count: u32,
 ) -> Result<Contracts, OutOfMemory>
-    requires few { count ≤ 128 }
+    requires few { count ≤ most_answered_trades }
     requires counted { count ≡ length session.now.market.trades }
     ensures { IfOk result (λ contracts. contracts ≡ contracts_of session.now.admitted (price_at session.now.solution.prices) count) }
 {
@@ -41,7 +42,7 @@ fn state_of(
     market: &Market<FirmValue>,
     session: &Session<FirmValue, 2>,
 ) -> Result<State, OutOfMemory>
-    requires wide { length market.now.trades ≤ 128 }
+    requires wide { length market.now.trades ≤ most_answered_trades }
     requires stands { (test : ℕ → Bool) × StandsWhere market.now.firms market.now.trades test session.now }
     ensures state { IfOk result (IsStateOf (map firm_of market.now.firms) market.now.trades session.now.admitted) }
     ensures within { IfOk result IsWithinState }
@@ -77,7 +78,7 @@ pub fn states_after(
     market: &Market<FirmValue>,
     edits: &Edits,
 ) -> Result<Said, OutOfMemory>
-    requires wide { length market.now.trades ≤ 128 }
+    requires wide { length market.now.trades ≤ most_answered_trades }
     requires known { All (λ edit. edited edit < length market.now.trades) edits.now }
     ensures answer { IfOk result (TellsStates (map firm_of market.now.firms) market.now.trades edits.now) }
     ensures within { IfOk result IsWithinClaims }

@@ -3,6 +3,8 @@
 ghost use Rattle.std.specs.Prelude.{◌≤◌, IfOk, length, map};
 ghost use Rattle.tn_answer.specs.Kept.{IsWithinClaims};
 ghost use Rattle.tn_command.specs.Outcome.{JudgesOutcome};
+ghost use Rattle.tn_command.specs.Limits.{most_answered_trades};
+ghost use Rattle.tn_plain_data.specs.Limits.{most_firms};
 ghost use Rattle.tn_firm.specs.Firms.{firm_of};
 ghost use Rattle.tn_market.specs.Limits.{IsOutcomeOf};
 
@@ -14,14 +16,14 @@ use tn_market::{Market, Outcome, Said};
 use tn_price::trades_in;
 
 /// The verdict on an outcome: a firm that would drop contracts, prices that complete it, or a chain that blocks it.
-/// There are at most 128 firms and 128 trades, and the outcome is within its limits.
+/// There are at most 1,024 firms and 128 trades, and the outcome is within its limits.
 pub fn judge_outcome(
     alloc: Global,
     market: &Market<FirmValue>,
     outcome: &Outcome,
 ) -> Result<Said, OutOfMemory>
-    requires few_firms { length market.now.firms ≤ 128 }
-    requires wide { length market.now.trades ≤ 128 }
+    requires few_firms { length market.now.firms ≤ most_firms }
+    requires wide { length market.now.trades ≤ most_answered_trades }
     requires outcome { IsOutcomeOf market.now.trades outcome.now.over outcome.now.contracts }
     ensures answer { IfOk result (JudgesOutcome (map firm_of market.now.firms) market.now.trades outcome.now.over outcome.now.contracts) }
     ensures within { IfOk result IsWithinClaims }

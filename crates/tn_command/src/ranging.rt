@@ -3,6 +3,7 @@
 ghost use Rattle.std.specs.Prelude.{◌≤◌, IfOk, length, map};
 ghost use Rattle.tn_answer.specs.Kept.{IsWithinClaims};
 ghost use Rattle.tn_command.specs.Ranged.{TellsRanges};
+ghost use Rattle.tn_command.specs.Limits.{most_answered_trades};
 ghost use Rattle.tn_firm.specs.Firms.{firm_of};
 
 use crate::solving::{equilibrium, trades_on};
@@ -14,7 +15,7 @@ use tn_range::range;
 
 /// The lowest and the highest price of each trade over all equilibria of a market. There are at most 128 trades.
 pub fn price_ranges(alloc: Global, market: &Market<FirmValue>) -> Result<Said, OutOfMemory>
-    requires wide { length market.now.trades ≤ 128 }
+    requires wide { length market.now.trades ≤ most_answered_trades }
     ensures answer { IfOk result (TellsRanges (map firm_of market.now.firms) market.now.trades) }
     ensures within { IfOk result IsWithinClaims }
 {

@@ -4,6 +4,8 @@ ghost use Rattle.std.specs.Prelude.{◌≡◌, ◌≤◌, false, IfOk, length, m
 ghost use Rattle.tn_answer.specs.Kept.{IsWithinClaims};
 ghost use Rattle.tn_cert.specs.Replays.{is_on_exchange};
 ghost use Rattle.tn_command.specs.Claimed.{DecidesClaim};
+ghost use Rattle.tn_command.specs.Limits.{most_answered_trades};
+ghost use Rattle.tn_plain_data.specs.Limits.{most_firms};
 ghost use Rattle.tn_firm.specs.Firms.{firm_of};
 ghost use Rattle.tn_plain_data.specs.ClaimLimits.{IsClaimWithin};
 
@@ -14,14 +16,14 @@ use tn_firm::FirmValue;
 use tn_market::{Claim, Market, Said};
 
 /// Whether a claim holds that isn't of the exchange property, or else the first of its conditions that fails. There are
-/// at most 128 firms and 128 trades, and the claim is within the limits of claims.
+/// at most 1,024 firms and 128 trades, and the claim is within the limits of claims.
 pub fn replay_claim(
     alloc: Global,
     market: &Market<FirmValue>,
     claim: &Claim,
 ) -> Result<Said, OutOfMemory>
-    requires few_firms { length market.now.firms ≤ 128 }
-    requires wide { length market.now.trades ≤ 128 }
+    requires few_firms { length market.now.firms ≤ most_firms }
+    requires wide { length market.now.trades ≤ most_answered_trades }
     requires kind { is_on_exchange claim.now ≡ false }
     requires claim { IsClaimWithin (map firm_of market.now.firms) market.now.trades claim.now }
     ensures answer { IfOk result (DecidesClaim (map firm_of market.now.firms) market.now.trades claim.now) }

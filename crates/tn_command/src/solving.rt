@@ -1,6 +1,6 @@
 //! The answer of `solve`.
 
-ghost use Rattle.std.specs.Prelude.{◌≡◌, ◌^◌, ◌≤◌, pos, All, IfOk, Some, length, map};
+ghost use Rattle.std.specs.Prelude.{◌≡◌, ◌≤◌, pos, All, IfOk, Some, length, map};
 ghost use Rattle.tn_answer.specs.Kept.{IsWithinClaim, IsWithinClaims};
 ghost use Rattle.tn_base.specs.Arcs.{IsAtMost};
 ghost use Rattle.tn_firm.specs.Firms.{firm_of};
@@ -9,6 +9,8 @@ ghost use Rattle.tn_market.specs.Equilibrium.{IsEquilibrium, surplus_of};
 ghost use Rattle.tn_market.specs.Graph.{ArePossible};
 ghost use Rattle.tn_plain_data.specs.Network.{trades_on};
 ghost use Rattle.tn_command.specs.Solved.{Solves, SolvesInRows};
+ghost use Rattle.tn_command.specs.Limits.{most_answered_trades};
+ghost use Rattle.tn_plain_data.specs.Limits.{most_price};
 
 use std::alloc::Global;
 use tn_base::{Asked, OutOfMemory, Steps, TradeSet};
@@ -19,7 +21,7 @@ use tn_price::surplus_of;
 
 /// The trades of a set, ascending.
 pub(crate) fn trades_on(alloc: Global, on: &TradeSet<2>, count: u32) -> Result<Trades, OutOfMemory>
-    requires { count ≤ 128 }
+    requires { count ≤ most_answered_trades }
     ensures { IfOk result (λ trades. trades ≡ trades_on on.now count) }
 {
     let mut trades = Vec::new(alloc);
@@ -48,10 +50,10 @@ pub(crate) fn equilibrium(
     alloc: Global,
     market: &Market<FirmValue>,
 ) -> Result<Arrangement<2>, OutOfMemory>
-    requires { length market.now.trades ≤ 128 }
+    requires { length market.now.trades ≤ most_answered_trades }
     ensures equilibrium { IfOk result (λ at. IsEquilibrium (map firm_of market.now.firms) market.now.trades (pos 1) at.on (price_at at.prices)) }
     ensures one_each { IfOk result (λ at. length at.prices ≡ length market.now.trades) }
-    ensures small { IfOk result (λ at. All (λ price. IsAtMost price (10 ^ 14)) at.prices) }
+    ensures small { IfOk result (λ at. All (λ price. IsAtMost price most_price) at.prices) }
 {
     let mut solver = Solver::<2>::with_room(alloc, market)?;
     solver.solve_in(market, &mut Steps::new(Asked));
@@ -63,7 +65,7 @@ pub(crate) fn equilibrium(
 
 /// The surplus of a set of trades whose bundles are possible.
 pub(crate) fn surplus(market: &Market<FirmValue>, on: &TradeSet<2>) -> i128
-    requires wide { length market.now.trades ≤ 128 }
+    requires wide { length market.now.trades ≤ most_answered_trades }
     requires possible { ArePossible (map firm_of market.now.firms) market.now.trades on.now }
     ensures surplus { surplus_of (map firm_of market.now.firms) market.now.trades on.now ≡ Some result }
     ensures within { IsWithinClaim result }
@@ -77,7 +79,7 @@ pub(crate) fn surplus(market: &Market<FirmValue>, on: &TradeSet<2>) -> i128
 
 /// An equilibrium of a market, with its surplus. There are at most 128 trades.
 pub fn solve(alloc: Global, market: &Market<FirmValue>) -> Result<Said, OutOfMemory>
-    requires wide { length market.now.trades ≤ 128 }
+    requires wide { length market.now.trades ≤ most_answered_trades }
     ensures answer { IfOk result (Solves (map firm_of market.now.firms) market.now.trades) }
     ensures within { IfOk result IsWithinClaims }
 {
@@ -92,7 +94,7 @@ pub fn solve(alloc: Global, market: &Market<FirmValue>) -> Result<Said, OutOfMem
 
 /// The same, to be written as rows.
 pub fn solve_in_rows(alloc: Global, market: &Market<FirmValue>) -> Result<Said, OutOfMemory>
-    requires wide { length market.now.trades ≤ 128 }
+    requires wide { length market.now.trades ≤ most_answered_trades }
     ensures answer { IfOk result (SolvesInRows (map firm_of market.now.firms) market.now.trades) }
     ensures within { IfOk result IsWithinClaims }
 {

@@ -4,6 +4,7 @@ ghost use Rattle.std.specs.Prelude.{◌≤◌, IfOk, length, map};
 ghost use Rattle.tn_answer.specs.Kept.{IsWithinClaims};
 ghost use Rattle.tn_firm.specs.Firms.{firm_of};
 ghost use Rattle.tn_command.specs.Supported.{SupportsSet};
+ghost use Rattle.tn_command.specs.Limits.{most_answered_trades};
 
 use std::alloc::Global;
 use tn_base::{Asked, OutOfMemory, Steps, TradeSet};
@@ -17,7 +18,7 @@ pub fn prices_for(
     market: &Market<FirmValue>,
     on: &TradeSet<2>,
 ) -> Result<Said, OutOfMemory>
-    requires wide { length market.now.trades ≤ 128 }
+    requires wide { length market.now.trades ≤ most_answered_trades }
     ensures answer { IfOk result (SupportsSet (map firm_of market.now.firms) market.now.trades on.now) }
     ensures within { IfOk result IsWithinClaims }
 {

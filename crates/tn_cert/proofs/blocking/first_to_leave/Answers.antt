@@ -1,4 +1,4 @@
-use Rattle.std.proofs.Common.{rules, ◌∙◌, ◌^◌, ◌<◌, ◌+◌, sym, ap, ap₂, subst, arith, map, length, ℤ, ◌*ℤ◌, Some, None}
+use Rattle.std.proofs.Common.{rules, ◌∙◌, ◌<◌, ◌+◌, sym, ap, ap₂, subst, arith, map, length, ℤ, ◌*ℤ◌, Some, None}
 use Rattle.std.specs.List.{All}
 use Rattle.std.proofs.lemmas.Int.{ints, to_z-of_z}
 use Rattle.std.proofs.lemmas.List.{length-map}

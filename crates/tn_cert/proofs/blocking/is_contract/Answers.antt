@@ -1,4 +1,4 @@
-use Rattle.std.proofs.Common.{rules, ◌∙◌, ◌^◌, sym, ap₂, subst, arith, ℤ, ◌*ℤ◌}
+use Rattle.std.proofs.Common.{rules, ◌∙◌, sym, ap₂, subst, arith, ℤ, ◌*ℤ◌}
 use Rattle.std.proofs.lemmas.Int.{to_z-of_z}
 use mir.Syntax.{w128}
 use mir.Val.{SFits, to_z, of_z}

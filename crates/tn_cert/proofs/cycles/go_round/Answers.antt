@@ -1,4 +1,4 @@
-use Rattle.std.proofs.Common.{◌+◌, ◌^◌, map, arith, sym, subst, ℤ, ◌+ℤ◌}
+use Rattle.std.proofs.Common.{◌+◌, map, arith, sym, subst, ℤ, ◌+ℤ◌}
 use Rattle.std.proofs.lemmas.Int.{to_z-of_z}
 use Rattle.std.proofs.lemmas.List.{length-map}
 use mir.Syntax.{w128}

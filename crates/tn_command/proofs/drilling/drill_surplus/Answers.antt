@@ -5,15 +5,16 @@ use Rattle.tn_drill.proofs.DrawLemmas.{trades_counted}
 use Rattle.tn_plain_data.specs.declared.ends.Ends.{Ends}
 use Rattle.tn_plain_data.specs.Prices.{price_at}
 use Rattle.tn_command.proofs.DrillLemmas.{drilled_from}
+use Rattle.tn_command.specs.Limits.{most_answered_trades}
 use Rattle.tn_command.proofs.drilling.drill_surplus.Goals as goal
 
 pub equilibrium-requires : goal.equilibrium-requires
 equilibrium-requires c =
-    subst (λ (trades : List Ends). length trades ≤ 128) (sym c.in_ok-market.ensures.trades) (let counted = trades_counted c.args.start c.args.size in omega (arith, counted, c.requires.few))
+    subst (λ (trades : List Ends). length trades ≤ most_answered_trades) (sym c.in_ok-market.ensures.trades) (let counted = trades_counted c.args.start c.args.size in omega (arith, counted, c.requires.few))
 
 pub surplus-requires-clause-wide : goal.surplus-requires-clause-wide
 surplus-requires-clause-wide c =
-    subst (λ (trades : List Ends). length trades ≤ 128) (sym c.in_ok-market.ensures.trades) (let counted = trades_counted c.args.start c.args.size in omega (arith, counted, c.requires.few))
+    subst (λ (trades : List Ends). length trades ≤ most_answered_trades) (sym c.in_ok-market.ensures.trades) (let counted = trades_counted c.args.start c.args.size in omega (arith, counted, c.requires.few))
 
 pub returns-clause-answer : goal.returns-clause-answer
 returns-clause-answer c =

@@ -1,17 +1,21 @@
-use Rattle.std.proofs.Common.{ℕ, ℤ, ◌+◌, ◌*◌, ◌^◌, ◌≤◌, List, pos, rules, arith, length, map, sym, subst, ap, ◌∙◌}
+use Rattle.std.proofs.Common.{ℕ, ℤ, ◌+◌, ◌*◌, ◌≤◌, List, pos, arith, length, map, sym, subst, ap, ◌∙◌}
 use Rattle.std.specs.Prelude.{All}
 use Rattle.tn_base.specs.Arcs.{IsAtMost}
 use Rattle.tn_firm.specs.Firms.{firm_of}
 use Rattle.tn_plain_data.specs.Prices.{price_at}
 use Rattle.tn_market.specs.Equilibrium.{IsEquilibrium}
 use Rattle.tn_command.proofs.SolveLemmas.{small_prices}
+use Rattle.tn_command.specs.Limits.{most_answered_trades}
+use Rattle.tn_base.specs.Widths.{most_cost}
+use Rattle.tn_plain_data.specs.Limits.{most_price}
+use Rattle.tn_market.specs.Widths.{most_worth}
 use Rattle.tn_command.proofs.solving.equilibrium.Goals as goal
 
-few : (trades : ℕ) → trades ≤ 128 → 2 * 10 ^ 11 * (trades + 1) ≤ 10 ^ 18
+few : (trades : ℕ) → trades ≤ most_answered_trades → 2 * most_worth * (trades + 1) ≤ most_cost
 few trades most = omega (arith, most)
 
 pub solve_in-requires : goal.solve_in-requires
-solve_in-requires c = (omega arith, (search rules, (c.requires, (c.in_ok-solver.ensures.one_each, (λ f v is. few (length c.args.market.now.trades) c.requires)))))
+solve_in-requires c = (omega arith, (c.requires, (c.in_ok-solver.ensures.one_each, (λ f v is. few (length c.args.market.now.trades) c.requires))))
 
 pub returns-clause-equilibrium : goal.returns-clause-equilibrium
 returns-clause-equilibrium c =
@@ -25,5 +29,5 @@ returns-clause-one_each c = ap length c.in_ok-prices_of.ensures ∙ c.solve_in.e
 
 pub returns-clause-small : goal.returns-clause-small
 returns-clause-small c =
-    subst (λ (prices : List ℤ). All (λ p. IsAtMost p (10 ^ 14)) prices) (sym c.in_ok-prices_of.ensures)
-    (small_prices (length c.args.market.now.trades) c.solve_in.new.self.prices c.requires (c.solve_in.ensures.prices (10 ^ 11) (λ f v is. omega arith)))
+    subst (λ (prices : List ℤ). All (λ p. IsAtMost p most_price) prices) (sym c.in_ok-prices_of.ensures)
+    (small_prices (length c.args.market.now.trades) c.solve_in.new.self.prices c.requires (c.solve_in.ensures.prices most_worth (λ f v is. omega arith)))

@@ -1,8 +1,9 @@
-use Rattle.std.proofs.Common.{◌*◌, ◌^◌, length, map, subst, arith}
+use Rattle.std.proofs.Common.{◌*◌, length, map, subst, arith}
 use Rattle.tn_firm.specs.Firms.{firm_of}
 use Rattle.tn_price.specs.Supports.{Supports, IsPricedWithin}
 use Rattle.tn_command.proofs.SolveLemmas.{small_prices}
 use Rattle.tn_command.proofs.SupportedLemmas.{supports_imply, cycle_fits, cost_fits}
+use Rattle.tn_market.specs.Widths.{most_worth}
 use Rattle.tn_command.proofs.supporting.prices_for.Goals as goal
 
 pub returns-in-Supported-clause-answer : goal.returns-in-Supported-clause-answer
@@ -14,7 +15,7 @@ returns-in-Supported-clause-answer c =
 pub returns-in-Supported-clause-within : goal.returns-in-Supported-clause-within
 returns-in-Supported-clause-within c =
     small_prices (length c.args.market.now.trades) c.in-Supported.prices c.requires.wide
-    (subst (IsPricedWithin (2 * 10 ^ 11 * length c.args.market.now.trades)) c.in-Supported.is (c.in_ok-prices.ensures.prices (10 ^ 11) (λ f v is. omega arith)))
+    (subst (IsPricedWithin (2 * most_worth * length c.args.market.now.trades)) c.in-Supported.is (c.in_ok-prices.ensures.prices most_worth (λ f v is. omega arith)))
 
 pub returns-clause-within : goal.returns-clause-within
 returns-clause-within c =
