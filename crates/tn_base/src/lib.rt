@@ -6,7 +6,6 @@ mod costs;
 mod fault;
 mod laws;
 mod memory;
-mod number;
 mod side;
 mod steps;
 #[cfg(test)]
@@ -21,7 +20,6 @@ pub use laws::{
     tables_are_firms,
 };
 pub use memory::OutOfMemory;
-pub use number::scaled;
 pub use side::{Side, purchases};
 pub use steps::{Asked, Steps};
 pub use trade_set::TradeSet;
