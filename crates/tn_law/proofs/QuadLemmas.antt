@@ -1,18 +1,16 @@
 -- Exchange of four free places is exchange between close bundles: the four places are the two of the up side and the
 -- two of the down side.
-use Rattle.std.proofs.Common.{◌≡◌, ◌≢◌, ℕ, zero, suc, ◌+◌, ◌^◌, ◌<◌, ◌≤◌, refl, sym, ap, ◌∙◌, subst, arith, ◌⊎◌, inl, inr, ◌+ℤ◌}
+use Rattle.std.proofs.Common.{◌≡◌, ◌≢◌, ℕ, suc, ◌+◌, ◌^◌, ◌<◌, ◌≤◌, refl, sym, ap, ◌∙◌, subst, arith, ◌⊎◌, inl, inr, ◌+ℤ◌}
 use Rattle.std.specs.Prelude.{◌≤ℤ◌, Some}
 use Rattle.std.proofs.lemmas.Bool.{cases_eq, cases_lt}
 use Rattle.std.proofs.lemmas.Int.{ints}
-use Rattle.tn_base.specs.Sets.{toggle}
 use Rattle.tn_base.specs.Firm.{Firm, HasOwnBundles}
 use Rattle.tn_base.specs.Every.{HasEveryBundle}
-use Rattle.tn_base.specs.Exchange.{Fails, NoneFails}
+use Rattle.tn_base.specs.Exchange.{NoneFails}
 use Rattle.tn_base.proofs.ExchangeLemmas.{exchange_from_none_fails, none_fails_from_exchange}
 use Rattle.tn_law.specs.Places.{trade_level, null_level, level, toggle_at, move, one_at, SwapsAt, ExchangesOverPlaces}
-use Rattle.tn_law.specs.Close.{NoneCloseFails}
 use Rattle.tn_law.specs.Quads.{value, IsFree, AreFourFree, parted, QuadsExchangeAt, QuadsExchange, QuadsDecide}
-use Rattle.tn_law.proofs.SumLemmas.{one_at-same, one_at-other}
+use Rattle.tn_law.proofs.SumLemmas.{one_at-same}
 use Rattle.tn_law.proofs.PlaceLemmas.{places, level-trade, level-null, toggle_at-trade, toggle_at-null, trade_level-le, trade_level-toggle_same, trade_level-toggle_other, null_level-toggle, toggle_at-order}
 use Rattle.tn_law.proofs.ExchangeLemmas.{exchange_to_places, exchange_from_places}
 use Rattle.tn_law.proofs.DistanceLemmas.{above_or_none, gap, levels_same, gap-nearer, up_apart_down}
