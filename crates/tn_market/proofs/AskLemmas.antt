@@ -17,6 +17,7 @@ use Rattle.tn_market.specs.Valued.{IsWorthAtMost}
 use Rattle.tn_market.specs.Best.{IsBetween, IsBestBetween, GivesBest}
 use Rattle.tn_plain_data.specs.Prices.{price_at}
 use Rattle.tn_market.proofs.AscentLemmas.{scaled_small, smaller}
+use Rattle.tn_market.specs.Widths.{most_asked_price, most_limit, most_utility, most_worth, most_scale, most_own}
 
 -- ---- the empty bundle
 
@@ -123,33 +124,33 @@ payment_small buys prices k limit small = by_side (has buys k)
 -- the numbers of a question are within their limits
 pub record IsAsked (firm : Firm) (limit : ℕ) (scale : ℤ) (prices : List ℤ) : Type 0 where
   pub within : IsWorthAtMost limit firm
-  pub small_limit : limit ≤ 10 ^ 11
+  pub small_limit : limit ≤ most_worth
   pub priced : length prices ≡ firm.count
-  pub few : firm.count ≤ 32
-  pub small : All (λ p. IsAtMost p (10 ^ 20)) prices
+  pub few : firm.count ≤ most_own
+  pub small : All (λ p. IsAtMost p most_asked_price) prices
   pub from_one : pos 1 ≤ℤ scale
-  pub small_scale : scale ≤ℤ pos 10000000
+  pub small_scale : scale ≤ℤ pos most_scale
 
 -- a utility is at most 10^22 in size
 pub utility_small : (firm : Firm) (limit : ℕ) (scale : ℤ) (prices : List ℤ) (x : ℕ) (value : ℤ) → IsAsked firm limit scale prices
-    → utility scale (price_at prices) firm x ≡ Some value → IsAtMost value (10 ^ 22)
+    → utility scale (price_at prices) firm x ≡ Some value → IsAtMost value most_utility
 utility_small firm limit scale prices x value asked is =
     let few = asked.few in
     let priced = asked.priced in
     let worth = option_map-some (λ a. scale *ℤ a +ℤ sum_over (payments firm.buys (price_at prices)) firm.count x) (firm.worth x) value is in
-    let product = scaled_small scale worth.0 asked.from_one asked.small_scale (smaller worth.0 limit (10 ^ 11) asked.small_limit (asked.within x worth.0 worth.1)) in
-    let sum = sum_over_small (payments firm.buys (price_at prices)) firm.count x (10 ^ 20) (λ k below.
-    payment_small firm.buys (price_at prices) k (10 ^ 20) (All-get_or (λ p. IsAtMost p (10 ^ 20)) prices k (pos 0) (omega (arith, priced, below)) asked.small)) in
+    let product = scaled_small scale worth.0 asked.from_one asked.small_scale (smaller worth.0 limit most_worth asked.small_limit (asked.within x worth.0 worth.1)) in
+    let sum = sum_over_small (payments firm.buys (price_at prices)) firm.count x most_asked_price (λ k below.
+    payment_small firm.buys (price_at prices) k most_asked_price (All-get_or (λ p. IsAtMost p most_asked_price) prices k (pos 0) (omega (arith, priced, below)) asked.small)) in
     both few _ _ _ worth.2 product sum
   where
-    both : firm.count ≤ 32 → (a b c : ℤ) → a +ℤ b ≡ c → IsAtMost a (10 ^ 18) → IsAtMost b (firm.count * 10 ^ 20) → IsAtMost c (10 ^ 22)
+    both : firm.count ≤ most_own → (a b c : ℤ) → a +ℤ b ≡ c → IsAtMost a most_limit → IsAtMost b (firm.count * most_asked_price) → IsAtMost c most_utility
     both few a b c sum small_a small_b = record {
       low = omega (arith, ints, sum, small_a.low, small_b.low, few);
       high = omega (arith, ints, sum, small_a.high, small_b.high, few);
     }
 
 -- such a number is in the range of the code's
-pub as_is : (z : ℤ) → IsAtMost z (10 ^ 22) → to_z w128 (of_z w128 z) ≡ z
+pub as_is : (z : ℤ) → IsAtMost z most_utility → to_z w128 (of_z w128 z) ≡ z
 as_is z small = let low = small.low in let high = small.high in omega (arith, ints, low, high)
 
 -- ---- prices of 0
@@ -194,16 +195,16 @@ pub impossible_worth : (f : ℤ → ℤ) (worth : Option ℤ) → option_map f w
 impossible_worth f (Some a) is = absurd (cc is)
 impossible_worth f None is = refl
 
-pub free_count : (n count : ℕ) → n ≡ count → count ≤ 32 → length (take n (replicate 32 (pos 0))) ≡ count
+pub free_count : (n count : ℕ) → n ≡ count → count ≤ most_own → length (take n (replicate most_own (pos 0))) ≡ count
 free_count n count same few = simp (length-take, length-replicate) (omega (arith, same, few))
 
-pub free_small : (n : ℕ) → All (λ p. IsAtMost p (10 ^ 20)) (take n (replicate 32 (pos 0)))
+pub free_small : (n : ℕ) → All (λ p. IsAtMost p most_asked_price) (take n (replicate most_own (pos 0)))
 free_small n =
-    All-take (λ p. IsAtMost p (10 ^ 20)) n (replicate 32 (pos 0))
-    (All-replicate (λ p. IsAtMost p (10 ^ 20)) 32 (pos 0) (record { low = omega (arith, ints); high = omega (arith, ints) }))
+    All-take (λ p. IsAtMost p most_asked_price) n (replicate most_own (pos 0))
+    (All-replicate (λ p. IsAtMost p most_asked_price) most_own (pos 0) (record { low = omega (arith, ints); high = omega (arith, ints) }))
 
-pub all_free : (n : ℕ) → All (λ p. p ≡ pos 0) (take n (replicate 32 (pos 0)))
-all_free n = All-take (λ p. p ≡ pos 0) n (replicate 32 (pos 0)) (All-replicate (λ p. p ≡ pos 0) 32 (pos 0) refl)
+pub all_free : (n : ℕ) → All (λ p. p ≡ pos 0) (take n (replicate most_own (pos 0)))
+all_free n = All-take (λ p. p ≡ pos 0) n (replicate most_own (pos 0)) (All-replicate (λ p. p ≡ pos 0) most_own (pos 0) refl)
 
 -- the utility at scale 1 and prices of 0 tells the worth, and that there is none
 pub worth_from_free : (firm : Firm) (prices : List ℤ) (x : ℕ) (found : Option ℤ) → length prices ≡ firm.count → All (λ p. p ≡ pos 0) prices

@@ -14,12 +14,14 @@ use Rattle.tn_base.specs.Firm.{Firm, payments, utility, IsBest}
 use Rattle.tn_base.proofs.SetLemmas.{has_from_minus-zero, minus-zero_from, has_below, has-union, within_from}
 use Rattle.tn_base.proofs.SumLemmas.{sum_over-same_terms, sum_over-plus}
 use Rattle.tn_base.specs.declared.side.Side.TheVariants.{Buy, Sell}
+use Rattle.tn_law.proofs.BoundLemmas.{sum_over_small}
 use Rattle.tn_law.proofs.KeepLemmas.{option_map-some}
 use Rattle.tn_market.specs.Valued.{side_at, IsWorthAtMost}
 use Rattle.tn_market.specs.Best.{IsBetween, IsBestBetween, GivesBest}
 use Rattle.tn_plain_data.specs.Prices.{price_at}
 use Rattle.tn_market.specs.Ascent.{aimed, bonus, gain_at, payment_of, AreGains}
 use Rattle.tn_market.proofs.AscentLemmas.{aimed_some, scaled_small, smaller}
+use Rattle.tn_market.specs.Widths.{most_aimed, most_asked_price, most_utility, most_worth, most_scale, most_own}
 
 -- ---- the list of gains
 
@@ -31,18 +33,18 @@ payment_at buys k price = by_side (has buys k)
     by_side false = refl
 
 -- no position is listed yet
-pub none_listed : (buys need : ℕ) (prices gains : List ℤ) → length gains ≡ 32 → All (λ gain. IsAtMost gain (2 * 10 ^ 22)) gains → AreGains buys need prices 0 gains
+pub none_listed : (buys need : ℕ) (prices gains : List ℤ) → length gains ≡ most_own → All (λ gain. IsAtMost gain (2 * most_utility)) gains → AreGains buys need prices 0 gains
 none_listed buys need prices gains counted small = record { counted = counted; small = small; each = λ k below. absurd (omega (arith, below)) }
 
 -- one more
-pub one_listed : (buys need : ℕ) (prices gains : List ℤ) (k : ℕ) (gain : ℤ) → AreGains buys need prices k gains → k < 32
-    → gain ≡ payment_of (side_at buys k) (price_at prices k) +ℤ (if has need k then pos (10 ^ 22) else pos 0) → IsAtMost gain (2 * 10 ^ 22)
+pub one_listed : (buys need : ℕ) (prices gains : List ℤ) (k : ℕ) (gain : ℤ) → AreGains buys need prices k gains → k < most_own
+    → gain ≡ payment_of (side_at buys k) (price_at prices k) +ℤ (if has need k then pos most_utility else pos 0) → IsAtMost gain (2 * most_utility)
     → AreGains buys need prices (k + 1) (set gains k gain)
 one_listed buys need prices gains k gain before inside is small =
     let wide : k < length gains = omega (arith, inside, before.counted) in
     record {
       counted = length-set gains k gain ∙ before.counted;
-      small = All-set (λ z. IsAtMost z (2 * 10 ^ 22)) gains k gain small before.small;
+      small = All-set (λ z. IsAtMost z (2 * most_utility)) gains k gain small before.small;
       each = λ i below. elim (cases_eq i k) [
         | inl e ↦ subst (λ (n : ℕ). price_at (set gains k gain) n ≡ gain_at buys (price_at prices) need n) (sym e)
             (get_or-set_same gains k gain (pos 0) wide ∙ is ∙ ap (λ (z : ℤ). z +ℤ bonus need k) (payment_at buys k (price_at prices k)))
@@ -58,7 +60,7 @@ term b z = if b then z else pos 0
 
 -- how much all wanted positions are worth
 abbrev pub all_bonuses : ℕ → ℕ → ℤ
-all_bonuses need n = pos (10 ^ 22 * size_below n need)
+all_bonuses need n = pos (most_utility * size_below n need)
 
 -- no bundle has more bonuses
 pub bonus_most : (need n x : ℕ) → sum_over (bonus need) n x ≤ℤ all_bonuses need n
@@ -69,7 +71,7 @@ bonus_most need (suc n) x =
     by_case (has x n) (has need n) rest
   where
     by_case : (b w : Bool) → sum_over (bonus need) n x ≤ℤ all_bonuses need n
-        → (sum_over (bonus need) n x +ℤ term b (term w (pos (10 ^ 22)))) ≤ℤ pos (10 ^ 22 * (size_below n need + (if w then 1 else 0)))
+        → (sum_over (bonus need) n x +ℤ term b (term w (pos most_utility))) ≤ℤ pos (most_utility * (size_below n need + (if w then 1 else 0)))
     by_case true true h = omega (arith, ints, h)
     by_case true false h = omega (arith, ints, h)
     by_case false true h = omega (arith, ints, h)
@@ -81,7 +83,7 @@ unfolding sum_over
 bonus_least need zero x = omega (arith, ints)
 bonus_least need (suc n) x = by_case (has x n) (has need n) (bonus_least need n x)
   where
-    by_case : (b w : Bool) → pos 0 ≤ℤ sum_over (bonus need) n x → pos 0 ≤ℤ (sum_over (bonus need) n x +ℤ term b (term w (pos (10 ^ 22))))
+    by_case : (b w : Bool) → pos 0 ≤ℤ sum_over (bonus need) n x → pos 0 ≤ℤ (sum_over (bonus need) n x +ℤ term b (term w (pos most_utility)))
     by_case true true h = omega (arith, ints, h)
     by_case true false h = omega (arith, ints, h)
     by_case false true h = omega (arith, ints, h)
@@ -116,7 +118,7 @@ bonus_all need (suc n) x all =
     by_case (has x n) (has need n) (all n) rest
   where
     by_case : (b w : Bool) → (w ≡ true → b ≡ true) → sum_over (bonus need) n x ≡ all_bonuses need n
-        → sum_over (bonus need) n x +ℤ term b (term w (pos (10 ^ 22))) ≡ pos (10 ^ 22 * (size_below n need + (if w then 1 else 0)))
+        → sum_over (bonus need) n x +ℤ term b (term w (pos most_utility)) ≡ pos (most_utility * (size_below n need + (if w then 1 else 0)))
     by_case true true has_all h = omega (arith, ints, h)
     by_case true false has_all h = omega (arith, ints, h)
     by_case false true has_all h = absurd (let e = has_all refl in (cc e))
@@ -124,7 +126,7 @@ bonus_all need (suc n) x all =
 
 -- and one that lacks a wanted position has one less
 pub bonus_missing : (need n x k : ℕ) → k < n → has need k ≡ true → has x k ≡ false
-    → (sum_over (bonus need) n x +ℤ pos (10 ^ 22)) ≤ℤ all_bonuses need n
+    → (sum_over (bonus need) n x +ℤ pos most_utility) ≤ℤ all_bonuses need n
 unfolding sum_over size_below
 bonus_missing need zero x k below wanted absent = absurd (omega (arith, below))
 bonus_missing need (suc n) x k below wanted absent =
@@ -135,13 +137,13 @@ bonus_missing need (suc n) x k below wanted absent =
     ]
   where
     last : (b w : Bool) → b ≡ false → w ≡ true → sum_over (bonus need) n x ≤ℤ all_bonuses need n
-        → ((sum_over (bonus need) n x +ℤ term b (term w (pos (10 ^ 22)))) +ℤ pos (10 ^ 22)) ≤ℤ pos (10 ^ 22 * (size_below n need + (if w then 1 else 0)))
+        → ((sum_over (bonus need) n x +ℤ term b (term w (pos most_utility))) +ℤ pos most_utility) ≤ℤ pos (most_utility * (size_below n need + (if w then 1 else 0)))
     last true w away there h = absurd (cc away)
     last false false away there h = absurd (cc there)
     last false true away there h = omega (arith, ints, h)
 
-    earlier : (b w : Bool) → (sum_over (bonus need) n x +ℤ pos (10 ^ 22)) ≤ℤ all_bonuses need n
-        → ((sum_over (bonus need) n x +ℤ term b (term w (pos (10 ^ 22)))) +ℤ pos (10 ^ 22)) ≤ℤ pos (10 ^ 22 * (size_below n need + (if w then 1 else 0)))
+    earlier : (b w : Bool) → (sum_over (bonus need) n x +ℤ pos most_utility) ≤ℤ all_bonuses need n
+        → ((sum_over (bonus need) n x +ℤ term b (term w (pos most_utility))) +ℤ pos most_utility) ≤ℤ pos (most_utility * (size_below n need + (if w then 1 else 0)))
     earlier true true h = omega (arith, ints, h)
     earlier true false h = omega (arith, ints, h)
     earlier false true h = omega (arith, ints, h)
@@ -149,24 +151,13 @@ bonus_missing need (suc n) x k below wanted absent =
 
 -- ---- sizes of utilities
 
-payments_small : (buys : ℕ) (prices : List ℤ) (k : ℕ) → All (λ p. IsAtMost p (10 ^ 20)) prices → k < length prices
-    → IsAtMost (payments buys (price_at prices) k) (10 ^ 20)
-payments_small buys prices k small inside = by_side (has buys k) (All-get_or (λ p. IsAtMost p (10 ^ 20)) prices k (pos 0) inside small)
+payments_small : (buys : ℕ) (prices : List ℤ) (k : ℕ) → All (λ p. IsAtMost p most_asked_price) prices → k < length prices
+    → IsAtMost (payments buys (price_at prices) k) most_asked_price
+payments_small buys prices k small inside = by_side (has buys k) (All-get_or (λ p. IsAtMost p most_asked_price) prices k (pos 0) inside small)
   where
-    by_side : (b : Bool) → IsAtMost (price_at prices k) (10 ^ 20) → IsAtMost (if b then neg_ℤ (price_at prices k) else price_at prices k) (10 ^ 20)
+    by_side : (b : Bool) → IsAtMost (price_at prices k) most_asked_price → IsAtMost (if b then neg_ℤ (price_at prices k) else price_at prices k) most_asked_price
     by_side true h = record { low = omega (arith, ints, h.high); high = omega (arith, ints, h.low) }
     by_side false h = h
-
-sum_small : (c : ℕ → ℤ) (n x : ℕ) → ((k : ℕ) → k < n → IsAtMost (c k) (10 ^ 20)) → IsAtMost (sum_over c n x) (n * 10 ^ 20)
-unfolding sum_over
-sum_small c zero x small = record { low = omega (arith, ints); high = omega (arith, ints) }
-sum_small c (suc n) x small =
-    let rest = sum_small c n x (λ k h. small k (omega (arith, h))) in
-    by_case (has x n) rest (small n (omega arith))
-  where
-    by_case : (b : Bool) → IsAtMost (sum_over c n x) (n * 10 ^ 20) → IsAtMost (c n) (10 ^ 20) → IsAtMost (sum_over c n x +ℤ term b (c n)) (suc n * 10 ^ 20)
-    by_case true h i = record { low = omega (arith, ints, h.low, i.low); high = omega (arith, ints, h.high, i.high) }
-    by_case false h i = record { low = omega (arith, ints, h.low); high = omega (arith, ints, h.high) }
 
 -- ---- what the search finds
 
@@ -174,11 +165,11 @@ sum_small c (suc n) x small =
 pub record IsQuestion (firm : Firm) (limit need free : ℕ) (scale : ℤ) (prices gains : List ℤ) : Type 0 where
   pub own : union need free < 2 ^ firm.count
   pub priced : length prices ≡ firm.count
-  pub small_prices : All (λ p. IsAtMost p (10 ^ 20)) prices
+  pub small_prices : All (λ p. IsAtMost p most_asked_price) prices
   pub from_one : pos 1 ≤ℤ scale
-  pub small_scale : scale ≤ℤ pos 10000000
-  pub few : firm.count ≤ 32
-  pub small_worths : limit ≤ 10 ^ 11
+  pub small_scale : scale ≤ℤ pos most_scale
+  pub few : firm.count ≤ most_own
+  pub small_worths : limit ≤ most_worth
   pub within : IsWorthAtMost limit firm
   pub gains_are : (k : ℕ) → k < firm.count → price_at gains k ≡ gain_at firm.buys (price_at prices) need k
 
@@ -193,11 +184,11 @@ made_of : (firm : Firm) (limit need free : ℕ) (scale : ℤ) (prices gains : Li
     → (y : ℕ) (value : ℤ) → utility scale (price_at prices) firm y ≡ Some value → IsMadeOf firm scale prices y value
 made_of firm limit need free scale prices gains question y value is =
     let parts = option_map-some _ (firm.worth y) value is in
-    let worth_small = smaller parts.0 limit (10 ^ 11) question.small_worths (question.within y parts.0 parts.1) in
+    let worth_small = smaller parts.0 limit most_worth question.small_worths (question.within y parts.0 parts.1) in
     let scaled = scaled_small scale parts.0 question.from_one question.small_scale worth_small in
     let few = question.few in
     let counted = question.priced in
-    let paid = sum_small (payments firm.buys (price_at prices)) firm.count y
+    let paid = sum_over_small (payments firm.buys (price_at prices)) firm.count y most_asked_price
     (λ k below. payments_small firm.buys prices k question.small_prices (omega (arith, below, counted))) in
     let sum : value ≡ scale *ℤ parts.0 +ℤ sum_over (payments firm.buys (price_at prices)) firm.count y = sym parts.2 in
     record {
@@ -257,7 +248,7 @@ aimed_parts firm limit need free scale prices gains question x value is = by_cas
 
 -- a value is small
 pub value_small : (firm : Firm) (limit need free : ℕ) (scale : ℤ) (prices gains : List ℤ) → IsQuestion firm limit need free scale prices gains
-    → (x : ℕ) (value : ℤ) → (aimed (union need free) scale gains firm).worth x ≡ Some value → IsAtMost value (10 ^ 24)
+    → (x : ℕ) (value : ℤ) → (aimed (union need free) scale gains firm).worth x ≡ Some value → IsAtMost value most_aimed
 value_small firm limit need free scale prices gains question x value is =
     let parts = aimed_parts firm limit need free scale prices gains question x value is in
     let made = made_of firm limit need free scale prices gains question x parts.utility_of parts.is in
@@ -323,17 +314,17 @@ best_none firm limit need free scale prices gains question x value best lacks = 
     by_case y between (Some other) e = absurd (lacks (minus-zero_from need x (none_missing y between other e)))
 
 -- what the code computes of a value
-pub plain_value : (value : ℤ) (count members : ℕ) → IsAtMost value (10 ^ 24) → count ≡ members → count ≤ 64
-    → to_z w128 (of_z w128 (to_z w128 (of_z w128 value) -ℤ to_z w128 (of_z w128 (pos (10 ^ 22) *ℤ to_z w128 count)))) ≡ value -ℤ pos (10 ^ 22 * members)
+pub plain_value : (value : ℤ) (count members : ℕ) → IsAtMost value most_aimed → count ≡ members → count ≤ 64
+    → to_z w128 (of_z w128 (to_z w128 (of_z w128 value) -ℤ to_z w128 (of_z w128 (pos most_utility *ℤ to_z w128 count)))) ≡ value -ℤ pos (most_utility * members)
 plain_value value count members small same few = omega (arith, ints, small.low, small.high, same, few)
 
-pub plain_fits : (value : ℤ) (count : ℕ) → IsAtMost value (10 ^ 24) → count ≤ 64
-    → SFits w128 (to_z w128 (of_z w128 value) -ℤ to_z w128 (of_z w128 (pos (10 ^ 22) *ℤ to_z w128 count)))
+pub plain_fits : (value : ℤ) (count : ℕ) → IsAtMost value most_aimed → count ≤ 64
+    → SFits w128 (to_z w128 (of_z w128 value) -ℤ to_z w128 (of_z w128 (pos most_utility *ℤ to_z w128 count)))
 plain_fits value count small few =
-    let inner : to_z w128 (of_z w128 value) -ℤ to_z w128 (of_z w128 (pos (10 ^ 22) *ℤ to_z w128 count)) ≡ value -ℤ pos (10 ^ 22 * count) =
+    let inner : to_z w128 (of_z w128 value) -ℤ to_z w128 (of_z w128 (pos most_utility *ℤ to_z w128 count)) ≡ value -ℤ pos (most_utility * count) =
     omega (arith, ints, small.low, small.high, few) in
     subst (SFits w128) (sym inner)
-    (fits (value -ℤ pos (10 ^ 22 * count)) (record { low = omega (arith, ints, small.low, few); high = omega (arith, ints, small.high, few) }))
+    (fits (value -ℤ pos (most_utility * count)) (record { low = omega (arith, ints, small.low, few); high = omega (arith, ints, small.high, few) }))
   where
     fits : (z : ℤ) → IsAtMost z (10 ^ 25) → SFits w128 z
     fits (pos n) small = record { sfits = omega (arith, ints, small.high) }

@@ -12,6 +12,7 @@ use Rattle.tn_base.proofs.SizeLemmas.{size_at}
 use Rattle.tn_base.proofs.SumLemmas.{times-plus}
 use Rattle.tn_law.proofs.BoundLemmas.{small_abs, times_small}
 use Rattle.tn_market.specs.Levied.{levy, levied, IsLevy}
+use Rattle.tn_market.specs.Widths.{most_limit}
 
 -- the tax is due once for each taxed position
 levy_below : (taxed n x : ℕ) (tax : ℤ) → sum_over (levy taxed tax) n x ≡ neg_ℤ (tax *ℤ pos (size_below n (meet x taxed)))
@@ -68,25 +69,25 @@ levied_is scale tax taxed firm x count worth below is counted =
     less a s b e = omega (arith, ints, e)
 
 -- and both parts are within the limit
-pub scaled_within : (scale tax worth : ℤ) (limit : ℕ) → IsLevy scale tax limit → IsAtMost worth limit → IsAtMost (scale *ℤ worth) (10 ^ 18)
+pub scaled_within : (scale tax worth : ℤ) (limit : ℕ) → IsLevy scale tax limit → IsAtMost worth limit → IsAtMost (scale *ℤ worth) most_limit
 scaled_within scale tax worth limit is small =
     let product = times_small scale worth (unsigned_abs scale) limit (small_abs scale (unsigned_abs scale) (omega arith)) small in
     within (scale *ℤ worth) (unsigned_abs scale * limit) (64 * unsigned_abs tax) product is.small
   where
-    within : (z : ℤ) (m n : ℕ) → IsAtMost z m → m + n ≤ 10 ^ 18 → IsAtMost z (10 ^ 18)
+    within : (z : ℤ) (m n : ℕ) → IsAtMost z m → m + n ≤ most_limit → IsAtMost z most_limit
     within z m n small sum = record { low = omega (arith, ints, small.low, sum); high = omega (arith, ints, small.high, sum) }
 
-pub taxes_within : (scale tax : ℤ) (limit count : ℕ) → IsLevy scale tax limit → count ≤ 64 → IsAtMost (tax *ℤ pos count) (10 ^ 18)
+pub taxes_within : (scale tax : ℤ) (limit count : ℕ) → IsLevy scale tax limit → count ≤ 64 → IsAtMost (tax *ℤ pos count) most_limit
 taxes_within scale tax limit count is few =
     let product = times_small tax (pos count) (unsigned_abs tax) 64 (small_abs tax (unsigned_abs tax) (omega arith)) (record { low = omega (arith, ints, few); high = omega (arith, ints, few) }) in
     within (tax *ℤ pos count) (unsigned_abs scale * limit) (unsigned_abs tax * 64) (64 * unsigned_abs tax) product is.small (omega arith)
   where
-    within : (z : ℤ) (m n n' : ℕ) → IsAtMost z n → m + n' ≤ 10 ^ 18 → n ≡ n' → IsAtMost z (10 ^ 18)
+    within : (z : ℤ) (m n n' : ℕ) → IsAtMost z n → m + n' ≤ most_limit → n ≡ n' → IsAtMost z most_limit
     within z m n n' small sum same = record { low = omega (arith, ints, small.low, sum, same); high = omega (arith, ints, small.high, sum, same) }
 
 -- what the code computes
-pub difference_fits : (a b : ℤ) → IsAtMost a (10 ^ 18) → IsAtMost b (10 ^ 18) → SFits w128 (to_z w128 (of_z w128 a) -ℤ to_z w128 (of_z w128 b))
+pub difference_fits : (a b : ℤ) → IsAtMost a most_limit → IsAtMost b most_limit → SFits w128 (to_z w128 (of_z w128 a) -ℤ to_z w128 (of_z w128 b))
 difference_fits a b first second = omega (arith, ints, first.low, first.high, second.low, second.high)
 
-pub difference_is : (a b : ℤ) → IsAtMost a (10 ^ 18) → IsAtMost b (10 ^ 18) → to_z w128 (of_z w128 (to_z w128 (of_z w128 a) -ℤ to_z w128 (of_z w128 b))) ≡ a -ℤ b
+pub difference_is : (a b : ℤ) → IsAtMost a most_limit → IsAtMost b most_limit → to_z w128 (of_z w128 (to_z w128 (of_z w128 a) -ℤ to_z w128 (of_z w128 b))) ≡ a -ℤ b
 difference_is a b first second = omega (arith, ints, first.low, first.high, second.low, second.high)

@@ -5,7 +5,7 @@ use Rattle.std.proofs.lemmas.Int.{ints}
 use Rattle.std.proofs.lemmas.Nat.{mul-le}
 use Rattle.tn_base.specs.Arcs.{IsAtMost}
 use Rattle.tn_base.specs.Sets.{has, sum_over}
-use Rattle.tn_base.specs.Firm.{Firm, HasOwnBundles, MayAbstain, plus_sum}
+use Rattle.tn_base.specs.Firm.{Firm, HasOwnBundles, MayAbstain}
 use Rattle.tn_base.specs.Exchange.{MeetsExchange}
 use Rattle.tn_law.proofs.BoundLemmas.{small_abs, times_small, sum_over_small}
 use Rattle.tn_law.proofs.KeepLemmas.{option_map-some, meets-plus_sum}

@@ -1,7 +1,6 @@
 -- A firm outside the market that takes a contract over: at a price it buys from the contract's seller, and sells to its
 -- buyer.
 use Rattle.std.specs.Prelude.{ℕ, Bool, ◌==◌, ℤ, pos, neg_ℤ, ◌+ℤ◌, if◌then◌else◌}
-use Rattle.tn_base.specs.Sets.{has}
 use Rattle.tn_base.specs.Firm.{Firm}
 use Rattle.tn_law.specs.Additive.{additive}
 

@@ -1,17 +1,17 @@
 -- What the impl for a firm outside the market needs: it is a firm that may be asked.
-use Rattle.std.specs.Prelude.{◌≡◌, ℕ, ◌^◌, ◌<◌, Bool, true, false, nat_lt, ℤ, pos, negsuc, neg_ℤ, ◌+ℤ◌, unsigned_abs, if◌then◌else◌, Some, None, refl}
+use Rattle.std.specs.Prelude.{◌≡◌, ℕ, ◌<◌, Bool, true, false, nat_lt, ℤ, pos, negsuc, neg_ℤ, ◌+ℤ◌, unsigned_abs, if◌then◌else◌, Some, None, refl}
 use Rattle.std.proofs.Common.{sym, ap, ◌∙◌, subst, arith, lit≤, lit<}
 use Rattle.std.proofs.lemmas.Int.{ints}
 use Rattle.std.proofs.lemmas.Bool.{lt-ltb}
 use Rattle.std.proofs.lemmas.Option.{same_Some}
 use Rattle.tn_base.specs.Arcs.{IsAtMost}
 use Rattle.tn_base.specs.Sets.{has, sum_over}
-use Rattle.tn_law.specs.Additive.{additive}
 use Rattle.tn_law.proofs.AdditiveLemmas.{meets-additive}
 use Rattle.tn_law.proofs.BoundLemmas.{abs_small}
 use Rattle.tn_market.specs.Valued.{IsWorthAtMost}
 use Rattle.tn_market.specs.Lawful.{IsLawful}
 use Rattle.tn_market.specs.Outside.{outside_amount, outside, outside_sum}
+use Rattle.tn_market.specs.Widths.{most_outside_price}
 
 sum_over-outside : (price : ℤ) (x : ℕ) → sum_over (outside_amount price) 2 x ≡ outside_sum price (has x 0) (has x 1)
 unfolding sum_over
@@ -45,7 +45,7 @@ outside-within price x a is = by_case (nat_lt x 4) is
         (subst (λ (z : ℤ). IsAtMost z (unsigned_abs price)) (sym (sum_over-outside price x)) (small price (has x 0) (has x 1)))
     by_case false e = absurd (cc e)
 
-pub outside_laws : (price : ℤ) → IsAtMost price (10 ^ 17) → IsLawful (unsigned_abs price) (outside price)
+pub outside_laws : (price : ℤ) → IsAtMost price most_outside_price → IsLawful (unsigned_abs price) (outside price)
 outside_laws price small = record {
   few_trades = lit≤ tt;
   own_purchases = lit< tt;
@@ -54,5 +54,5 @@ outside_laws price small = record {
   exchange_one = (meets-additive 2 1 (outside_amount price)).1.one;
   exchange_net = (meets-additive 2 1 (outside_amount price)).1.net_count;
   within = outside-within price;
-  small_limit = (let size = abs_small price (10 ^ 17) small in omega (arith, size));
+  small_limit = (let size = abs_small price most_outside_price small in omega (arith, size));
 }

@@ -31,3 +31,11 @@ most_scale = 10000000
 -- a utility is at most so much in size
 abbrev pub most_utility : ℕ
 most_utility = 10 ^ 22
+
+-- what the search for a best bundle compares, with the gains of wanted positions, is at most so much in size
+abbrev pub most_aimed : ℕ
+most_aimed = 10 ^ 24
+
+-- the price at which a firm outside the market takes a contract over is at most so much in size
+abbrev pub most_outside_price : ℕ
+most_outside_price = 10 ^ 17

@@ -8,7 +8,7 @@ ghost use Rattle.tn_base.specs.Sets.{has, sum_over, toggle};
 ghost use Rattle.tn_base.specs.Firm.{IsBest};
 ghost use Rattle.tn_market.specs.Ascent.{aimed, IsAim, IsValued, TriesOne, TriesBeside, TriesNearby};
 ghost use Rattle.tn_plain_data.specs.Prices.{price_at};
-ghost use Rattle.tn_market.specs.Widths.{most_worth, most_scale, most_own, most_utility};
+ghost use Rattle.tn_market.specs.Widths.{most_worth, most_scale, most_own, most_utility, most_aimed};
 
 use crate::bundle_value::BundleValue;
 use crate::valuation::Valuation;
@@ -32,7 +32,7 @@ fn valued(scale: i128, worth: i128, gain: i128) -> i128
     requires small_worth { IsAtMost worth most_worth }
     requires small_gain { IsAtMost gain (most_own * (2 * most_utility)) }
     ensures value { result ≡ scale *ℤ worth +ℤ gain }
-    ensures small { IsAtMost result (10 ^ 24) }
+    ensures small { IsAtMost result most_aimed }
 {
     scale * worth + gain
 }
@@ -63,7 +63,7 @@ impl<V: Valuation> Aim<'_, V> {
     /// The value of a bundle, None where it is impossible or not within the allowed positions.
     fn value(&self, x: Bundle, steps: &mut Steps<V::Mark>) -> Option<i128>
         ensures value { result ≡ (aimed self.now.allowed self.now.scale self.now.gains.now (V.firm self.now.firm.now)).worth x }
-        ensures small { IfSome result (λ value. IsAtMost value (10 ^ 24)) }
+        ensures small { IfSome result (λ value. IsAtMost value most_aimed) }
     {
         if x.minus(self.allowed) != Bundle::empty() {
             return None;

@@ -47,7 +47,6 @@ fn after_tax(scale: i128, worth: i128, tax: i128, count: u32) -> i128
 }
 
 impl<V: Valuation> Valuation for Levied<'_, V> {
-    ghost use Rattle.tn_market.specs.Lawful.{lawful};
     ghost use Rattle.tn_market.specs.LeviedLemmas.{levied_laws};
 
     type Mark = V::Mark;
@@ -74,27 +73,5 @@ impl<V: Valuation> Valuation for Levied<'_, V> {
         Some(after_tax(self.scale, worth, self.tax, taxed.count()))
     }
 
-    ghost few_trades = { λ v. (levied_laws v.scale v.tax v.taxed (V.limit v.inner.now) (V.firm v.inner.now) v.levy
-        (lawful V.firm V.limit V.few_trades V.own_purchases V.own_bundles V.empty_is_possible V.exchange_one V.exchange_net V.within V.small_limit v.inner.now)).few_trades };
-
-    ghost own_purchases = { λ v. (levied_laws v.scale v.tax v.taxed (V.limit v.inner.now) (V.firm v.inner.now) v.levy
-        (lawful V.firm V.limit V.few_trades V.own_purchases V.own_bundles V.empty_is_possible V.exchange_one V.exchange_net V.within V.small_limit v.inner.now)).own_purchases };
-
-    ghost own_bundles = { λ v. (levied_laws v.scale v.tax v.taxed (V.limit v.inner.now) (V.firm v.inner.now) v.levy
-        (lawful V.firm V.limit V.few_trades V.own_purchases V.own_bundles V.empty_is_possible V.exchange_one V.exchange_net V.within V.small_limit v.inner.now)).own_bundles };
-
-    ghost empty_is_possible = { λ v. (levied_laws v.scale v.tax v.taxed (V.limit v.inner.now) (V.firm v.inner.now) v.levy
-        (lawful V.firm V.limit V.few_trades V.own_purchases V.own_bundles V.empty_is_possible V.exchange_one V.exchange_net V.within V.small_limit v.inner.now)).empty_is_possible };
-
-    ghost exchange_one = { λ v. (levied_laws v.scale v.tax v.taxed (V.limit v.inner.now) (V.firm v.inner.now) v.levy
-        (lawful V.firm V.limit V.few_trades V.own_purchases V.own_bundles V.empty_is_possible V.exchange_one V.exchange_net V.within V.small_limit v.inner.now)).exchange_one };
-
-    ghost exchange_net = { λ v. (levied_laws v.scale v.tax v.taxed (V.limit v.inner.now) (V.firm v.inner.now) v.levy
-        (lawful V.firm V.limit V.few_trades V.own_purchases V.own_bundles V.empty_is_possible V.exchange_one V.exchange_net V.within V.small_limit v.inner.now)).exchange_net };
-
-    ghost within = { λ v. (levied_laws v.scale v.tax v.taxed (V.limit v.inner.now) (V.firm v.inner.now) v.levy
-        (lawful V.firm V.limit V.few_trades V.own_purchases V.own_bundles V.empty_is_possible V.exchange_one V.exchange_net V.within V.small_limit v.inner.now)).within };
-
-    ghost small_limit = { λ v. (levied_laws v.scale v.tax v.taxed (V.limit v.inner.now) (V.firm v.inner.now) v.levy
-        (lawful V.firm V.limit V.few_trades V.own_purchases V.own_bundles V.empty_is_possible V.exchange_one V.exchange_net V.within V.small_limit v.inner.now)).small_limit };
+    ghost lawful = { λ v. levied_laws v.scale v.tax v.taxed (V.limit v.inner.now) (V.firm v.inner.now) v.levy (V.lawful v.inner.now) };
 }

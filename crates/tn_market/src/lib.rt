@@ -19,7 +19,7 @@ pub use laws::{bundles_are_listed, positions_have_one_trade};
 pub use levied::Levied;
 pub use market::Market;
 pub use nodes::said_nodes;
-pub use oracle::{MOST_OWN, Oracle, utility_of, worth_of};
+pub use oracle::{MOST_OWN, MOST_WORTH, Oracle, utility_of, worth_of};
 pub use party::{Outside, Party};
 pub use room::Room;
 pub use tn_plain_data::{

@@ -6,15 +6,20 @@ ghost use Rattle.tn_market.specs.Best.{GivesBest};
 ghost use Rattle.tn_plain_data.specs.Prices.{price_at};
 ghost use Rattle.tn_market.specs.Widths.{most_own, most_worth, most_asked_price, most_scale, most_utility};
 
+use crate::ascent::best_by_ascent;
 use crate::room::Room;
 use crate::valuation::Valuation;
-use tn_base::Bundle;
+use tn_base::{Asked, Bundle, Steps};
 
 /// How many own trades a firm may have that is asked for best bundles.
 pub const MOST_OWN: usize = 32;
 
-/// A firm that finds a best bundle at given prices.
-pub trait Oracle: Valuation {
+/// The greatest bound on worths that such a firm may have.
+pub const MOST_WORTH: i128 = 100_000_000_000;
+
+/// A firm that finds a best bundle at given prices: by the search that stands here, which asks for worths, or by one of
+/// its own.
+pub trait Oracle: Valuation<Mark = Asked> {
     /// A bundle of greatest utility among the possible ones that contain `need` and have beside it only positions of
     /// `free`, with that utility; where several are greatest, any of them. None exactly where no such bundle is
     /// possible. A worth counts `scale` times, and `prices` has a price for each position. It takes no memory.
@@ -26,7 +31,7 @@ pub trait Oracle: Valuation {
         free: Bundle,
         scale: i128,
         prices: &[i128],
-        room: &mut Room,
+        _room: &mut Room,
     ) -> Option<(Bundle, i128)>
         requires apart { meet need free ≡ 0 }
         requires own { union need free < 2 ^ (Self.firm self.now).count }
@@ -36,7 +41,10 @@ pub trait Oracle: Valuation {
         requires small_scale { scale ≤ℤ pos most_scale }
         requires few_trades { (Self.firm self.now).count ≤ most_own }
         requires small_worths { Self.limit self.now ≤ most_worth }
-        ensures { GivesBest need free (utility scale (price_at prices.now) (Self.firm self.now)) result };
+        ensures { GivesBest need free (utility scale (price_at prices.now) (Self.firm self.now)) result }
+    {
+        best_by_ascent(self, need, free, scale, prices, &mut Steps::new(Asked))
+    }
 }
 
 /// The utility of a bundle at a scale and at the prices of the positions, None where it is impossible. It takes no

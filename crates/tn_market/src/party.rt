@@ -1,8 +1,9 @@
-ghost use Rattle.std.specs.Prelude.{◌≡◌, ◌<◌, ◌^◌, pos, neg_ℤ, if◌then◌else◌, unsigned_abs};
+ghost use Rattle.std.specs.Prelude.{◌≡◌, ◌<◌, pos, neg_ℤ, if◌then◌else◌, unsigned_abs};
 ghost use Rattle.tn_base.specs.Arcs.{IsAtMost};
 ghost use Rattle.tn_base.specs.Sets.{has};
 ghost use Rattle.tn_market.specs.Outside.{outside, outside_sum};
 ghost use Rattle.tn_market.specs.Valued.{side_at};
+ghost use Rattle.tn_market.specs.Widths.{most_outside_price};
 
 use crate::levied::Levied;
 use crate::valuation::Valuation;
@@ -14,13 +15,13 @@ use tn_base::{Bundle, Side, Steps};
 pub struct Outside {
     /// The price, at most 10^17 in size.
     pub price: i128,
-    ghost small: { IsAtMost price (10 ^ 17) },
+    ghost small: { IsAtMost price most_outside_price },
 }
 
 impl Outside {
     /// The firm that takes a contract over at this price. The price is at most 10^17 in size.
     pub fn new(price: i128) -> Outside
-        requires { IsAtMost price (10 ^ 17) }
+        requires { IsAtMost price most_outside_price }
         ensures { result.price ≡ price }
     {
         Outside { price }
@@ -66,7 +67,6 @@ pub enum Party<'a, V: Valuation> {
 }
 
 impl<V: Valuation> Valuation for Party<'_, V> {
-    ghost use Rattle.tn_market.specs.Lawful.{lawful};
     ghost use Rattle.tn_market.specs.Parties.{party_firm, party_limit, party_laws};
 
     type Mark = V::Mark;
@@ -106,27 +106,5 @@ impl<V: Valuation> Valuation for Party<'_, V> {
         }
     }
 
-    ghost few_trades = { λ party. (party_laws
-        (lawful V.firm V.limit V.few_trades V.own_purchases V.own_bundles V.empty_is_possible V.exchange_one V.exchange_net V.within V.small_limit) party).few_trades };
-
-    ghost own_purchases = { λ party. (party_laws
-        (lawful V.firm V.limit V.few_trades V.own_purchases V.own_bundles V.empty_is_possible V.exchange_one V.exchange_net V.within V.small_limit) party).own_purchases };
-
-    ghost own_bundles = { λ party. (party_laws
-        (lawful V.firm V.limit V.few_trades V.own_purchases V.own_bundles V.empty_is_possible V.exchange_one V.exchange_net V.within V.small_limit) party).own_bundles };
-
-    ghost empty_is_possible = { λ party. (party_laws
-        (lawful V.firm V.limit V.few_trades V.own_purchases V.own_bundles V.empty_is_possible V.exchange_one V.exchange_net V.within V.small_limit) party).empty_is_possible };
-
-    ghost exchange_one = { λ party. (party_laws
-        (lawful V.firm V.limit V.few_trades V.own_purchases V.own_bundles V.empty_is_possible V.exchange_one V.exchange_net V.within V.small_limit) party).exchange_one };
-
-    ghost exchange_net = { λ party. (party_laws
-        (lawful V.firm V.limit V.few_trades V.own_purchases V.own_bundles V.empty_is_possible V.exchange_one V.exchange_net V.within V.small_limit) party).exchange_net };
-
-    ghost within = { λ party. (party_laws
-        (lawful V.firm V.limit V.few_trades V.own_purchases V.own_bundles V.empty_is_possible V.exchange_one V.exchange_net V.within V.small_limit) party).within };
-
-    ghost small_limit = { λ party. (party_laws
-        (lawful V.firm V.limit V.few_trades V.own_purchases V.own_bundles V.empty_is_possible V.exchange_one V.exchange_net V.within V.small_limit) party).small_limit };
+    ghost lawful = { party_laws V.lawful };
 }

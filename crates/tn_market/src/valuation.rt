@@ -1,6 +1,7 @@
 ghost use Rattle.std.specs.Prelude.{◌≡◌, ℕ, ◌+◌, ◌^◌, ◌<◌, ◌≤◌, pos};
-ghost use Rattle.tn_base.specs.Firm.{Firm, HasOwnBundles, MayAbstain};
-ghost use Rattle.tn_market.specs.Valued.{side_at, ExchangesOne, ExchangesNet, IsWorthAtMost};
+ghost use Rattle.tn_base.specs.Firm.{Firm};
+ghost use Rattle.tn_market.specs.Lawful.{IsLawful};
+ghost use Rattle.tn_market.specs.Valued.{side_at};
 ghost use Rattle.tn_market.specs.Widths.{most_limit};
 
 use tn_base::{Bundle, Side, Steps};
@@ -42,27 +43,7 @@ pub trait Valuation {
         ensures worth { result ≡ (firm self.now).worth x }
         ensures asked { steps.new ≡ steps.old + 1 };
 
-    /// A firm has at most 64 own trades.
-    ghost few_trades: { (v : Self) → (firm v).count ≤ 64 };
-
-    /// It buys only own trades.
-    ghost own_purchases: { (v : Self) → (firm v).buys < 2 ^ (firm v).count };
-
-    /// Only bundles of own trades are possible.
-    ghost own_bundles: { (v : Self) → HasOwnBundles (firm v) };
-
-    /// The empty bundle is possible.
-    ghost empty_is_possible: { (v : Self) → MayAbstain (firm v) };
-
-    /// The first half of the exchange property, over all possible bundles.
-    ghost exchange_one: { (v : Self) → ExchangesOne (firm v) };
-
-    /// The second half of the exchange property, over all possible bundles.
-    ghost exchange_net: { (v : Self) → ExchangesNet (firm v) };
-
-    /// No worth is above the limit in size.
-    ghost within: { (v : Self) → IsWorthAtMost (limit v) (firm v) };
-
-    /// The limit is at most 10^18.
-    ghost small_limit: { (v : Self) → limit v ≤ most_limit };
+    /// It has at most 64 own trades and buys none but these, only bundles of these are possible, the empty one among
+    /// them, it meets exchange, and no worth is above the limit in size, which is at most 10^18.
+    ghost lawful: { (v : Self) → IsLawful (limit v) (firm v) };
 }

@@ -22,7 +22,7 @@ returns-then-ne g c =
       small_scale = c.requires.small_scale;
       few = c.requires.few_trades;
       small_worths = c.requires.small_worths;
-      within = g.met.V.Valuation.within c.args.firm.now;
+      within = (g.met.V.Valuation.lawful c.args.firm.now).within;
       gains_are = c.gains-gains.ensures.each;
     } in
     let scale_fits : SFits w128 c.args.scale = c.ranges.scale in
@@ -44,7 +44,7 @@ overflow_sub-result g c =
       small_scale = c.requires.small_scale;
       few = c.requires.few_trades;
       small_worths = c.requires.small_worths;
-      within = g.met.V.Valuation.within c.args.firm.now;
+      within = (g.met.V.Valuation.lawful c.args.firm.now).within;
       gains_are = c.gains-gains.ensures.each;
     } in
     let scale_fits : SFits w128 c.args.scale = c.ranges.scale in
@@ -66,7 +66,7 @@ returns g c =
       small_scale = c.requires.small_scale;
       few = c.requires.few_trades;
       small_worths = c.requires.small_worths;
-      within = g.met.V.Valuation.within c.args.firm.now;
+      within = (g.met.V.Valuation.lawful c.args.firm.now).within;
       gains_are = c.gains-gains.ensures.each;
     } in
     let scale_fits : SFits w128 c.args.scale = c.ranges.scale in

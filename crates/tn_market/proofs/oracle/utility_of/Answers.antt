@@ -8,6 +8,7 @@ use Rattle.tn_plain_data.specs.Prices.{price_at}
 use Rattle.tn_market.specs.Best.{GivesBest}
 use Rattle.tn_market.proofs.AskLemmas.{meet_none, union_none, asked_some, asked_none, IsAsked, utility_small, as_is}
 use Rattle.tn_market.proofs.oracle.utility_of.Goals as goal
+use Rattle.tn_market.specs.Widths.{most_utility}
 
 pub best-requires-clause-apart : goal.best-requires-clause-apart
 best-requires-clause-apart g c = meet_none c.args.x c.empty.result c.empty.ensures
@@ -25,7 +26,7 @@ returns-in-Some-clause-value g c =
     let is = asked_some (utility c.args.scale (price_at c.args.prices.now) firm) c.args.x c.empty.result c.in-Some.field-0-0 c.in-Some.value c.best.result
     c.empty.ensures c.in-Some.is gives in
     let asked : IsAsked firm (g.V.Valuation.limit c.args.firm.now) c.args.scale c.args.prices.now = record {
-      within = g.met.V.Valuation.within c.args.firm.now;
+      within = (g.met.V.Valuation.lawful c.args.firm.now).within;
       small_limit = c.requires.small_worths;
       priced = c.requires.priced;
       few = c.requires.few_trades;
@@ -45,7 +46,7 @@ returns-in-Some-clause-small g c =
     let is = asked_some (utility c.args.scale (price_at c.args.prices.now) firm) c.args.x c.empty.result c.in-Some.field-0-0 c.in-Some.value c.best.result
     c.empty.ensures c.in-Some.is gives in
     let asked : IsAsked firm (g.V.Valuation.limit c.args.firm.now) c.args.scale c.args.prices.now = record {
-      within = g.met.V.Valuation.within c.args.firm.now;
+      within = (g.met.V.Valuation.lawful c.args.firm.now).within;
       small_limit = c.requires.small_worths;
       priced = c.requires.priced;
       few = c.requires.few_trades;
@@ -54,7 +55,7 @@ returns-in-Some-clause-small g c =
       small_scale = c.requires.small_scale;
     } in
     let small = utility_small firm (g.V.Valuation.limit c.args.firm.now) c.args.scale c.args.prices.now c.args.x c.in-Some.value asked is in
-    subst (λ (z : ℤ). IsAtMost z (10 ^ 22)) (sym (as_is c.in-Some.value small)) small
+    subst (λ (z : ℤ). IsAtMost z most_utility) (sym (as_is c.in-Some.value small)) small
 
 pub returns-in-None-clause-value : goal.returns-in-None-clause-value
 returns-in-None-clause-value g c =

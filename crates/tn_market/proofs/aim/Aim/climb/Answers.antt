@@ -15,7 +15,7 @@ returns-then-next-found g c =
     let after : SFits w128 c.step-next.result.value = search rules in
     let before : SFits w128 c.loop-found.found.value = search rules in
     let no_gain = simp to_z-of_z at c.if-next-found.true in
-    let meets = meets_exchange firm (g.met.V.Valuation.exchange_one aim.firm.now) (g.met.V.Valuation.exchange_net aim.firm.now) in
-    let laws = aimed_exchanges aim.allowed aim.scale aim.gains.now firm (omega (arith, ints, from_one)) (g.met.V.Valuation.own_bundles aim.firm.now) meets in
+    let meets = meets_exchange firm (g.met.V.Valuation.lawful aim.firm.now).exchange_one (g.met.V.Valuation.lawful aim.firm.now).exchange_net in
+    let laws = aimed_exchanges aim.allowed aim.scale aim.gains.now firm (omega (arith, ints, from_one)) (g.met.V.Valuation.lawful aim.firm.now).own_bundles meets in
     settled (aimed aim.allowed aim.scale aim.gains.now firm) c.loop-found.found c.step-next.result laws c.loop-found.invariant c.step-next.ensures
     (le_from_test c.step-next.result.value c.loop-found.found.value no_gain)

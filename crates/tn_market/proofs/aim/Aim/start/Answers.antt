@@ -4,4 +4,4 @@ use Rattle.tn_market.proofs.aim.Aim.start.Goals as goal
 pub unwrap-requires : goal.unwrap-requires
 unwrap-requires g c =
     starts c.args.self.now.allowed c.args.self.now.scale c.args.self.now.gains.now (g.V.Valuation.firm c.args.self.now.firm.now) c.empty-bundle.result c.value.result
-    (g.met.V.Valuation.empty_is_possible c.args.self.now.firm.now) c.empty-bundle.ensures c.value.ensures.value
+    (g.met.V.Valuation.lawful c.args.self.now.firm.now).empty_is_possible c.empty-bundle.ensures c.value.ensures.value

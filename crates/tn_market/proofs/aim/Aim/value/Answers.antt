@@ -15,7 +15,7 @@ value-requires g c =
 pub valued-requires-clause-small_worth : goal.valued-requires-clause-small_worth
 valued-requires-clause-small_worth g c =
     let worth : SFits w128 c.in_ok-worth.worth = search rules in
-    let small = g.met.V.Valuation.within c.args.self.now.firm.now c.args.x c.in_ok-worth.worth (sym c.in_ok-worth.ensures.worth) in
+    let small = (g.met.V.Valuation.lawful c.args.self.now.firm.now).within c.args.x c.in_ok-worth.worth (sym c.in_ok-worth.ensures.worth) in
     simp to_z-of_z (smaller c.in_ok-worth.worth _ _ c.args.self.now.fits.small_worths small)
 
 pub returns-clause-value : goal.returns-clause-value

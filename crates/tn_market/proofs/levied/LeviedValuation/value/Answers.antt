@@ -11,7 +11,7 @@ after_tax-requires-clause-worth g c =
     let inner = c.args.self.now.inner.now in
     let worth : SFits w128 c.in_ok-worth.worth = search rules in
     let scale : SFits w128 c.args.self.now.scale = search rules in
-    let small = g.met.V.Valuation.within inner c.args.x c.in_ok-worth.worth (sym c.in_ok-worth.ensures.worth) in
+    let small = (g.met.V.Valuation.lawful inner).within c.args.x c.in_ok-worth.worth (sym c.in_ok-worth.ensures.worth) in
     simp to_z-of_z (scaled_within c.args.self.now.scale c.args.self.now.tax c.in_ok-worth.worth (g.V.Valuation.limit inner) c.args.self.now.levy small)
 
 pub after_tax-requires-clause-taxes : goal.after_tax-requires-clause-taxes

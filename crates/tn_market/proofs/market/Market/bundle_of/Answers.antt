@@ -10,7 +10,7 @@ pub positions_in-requires : goal.positions_in-requires
 positions_in-requires g c =
     let o = own_of_traded g.V.Valuation.firm (λ list. list.items) c.self.inside.firms.items c.self.inside.trades.items c.self.inside.own.items c.args.self.now
     c.self.view_is c.self.invariant c.args.f c.index.result.now c.requires.firm c.index.ensures in
-    let few = g.met.V.Valuation.few_trades o.firm in
+    let few = (g.met.V.Valuation.lawful o.firm).few_trades in
     let counted = o.list.counted in
     let same : length c.deref.result.now ≡ length c.index.result.now.items = ap length c.deref.ensures.value in
     let wide = c.requires.wide in
