@@ -1,16 +1,15 @@
 -- Whether a triple fails at a table is decided.
-use Rattle.std.proofs.Common.{◌≡◌, ℕ, ◌^◌, ◌<◌, Bool, true, false, refl, sym, ◌∙◌, arith, ◌⊎◌, inl, inr, ◌+ℤ◌}
+use Rattle.std.proofs.Common.{◌≡◌, ℕ, ◌^◌, ◌<◌, Bool, true, false, refl, sym, ◌∙◌, arith, inl, inr, ◌+ℤ◌}
 use Rattle.std.specs.Prelude.{ℤ, ◌≤ℤ◌, ◌<ℤ◌, Option, Some, None}
 use Rattle.std.proofs.lemmas.Int.{ints, by_lt_z}
 use Rattle.std.proofs.lemmas.Bool.{false≢true}
 use Rattle.std.proofs.lemmas.Option.{none-some}
 use Rattle.tn_base.specs.Sets.{has}
 use Rattle.tn_base.specs.Firm.{Firm, HasOwnBundles, net, up}
-use Rattle.tn_base.specs.Exchange.{IsWrongAt, Exchanges, SwapsDown, Fails}
+use Rattle.tn_base.specs.Exchange.{IsWrongAt, Fails}
 use Rattle.tn_base.proofs.ExchangeLemmas.{IsDecided, cases_worth, swaps_or_not, exchanges_or_not}
 use Rattle.tn_exchange.specs.Rows.{TableRows, firm_of_table}
 use Rattle.tn_exchange.specs.TestOrder.{Triple, TripleFails}
-use Rattle.tn_exchange.specs.Verdicts.{HasTotal}
 use Rattle.tn_exchange.proofs.RowLemmas.{own_bundles}
 use Rattle.tn_exchange.proofs.TestLemmas.{fails_from_wrong, wrong_from_fails}
 

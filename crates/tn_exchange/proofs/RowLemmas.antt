@@ -14,6 +14,8 @@ use Rattle.tn_base.specs.Table.{row_of, worth_by_row, table_worth, table_firm, b
 use Rattle.tn_base.specs.declared.side.Side.{Side}
 use Rattle.tn_exchange.specs.Rows.{TableRows, row_at, worth_in, firm_of_table, IsWithinLimits, without_rows, with_row, with_rows}
 use Rattle.tn_exchange.specs.RowsLaw.{AreApart}
+use Rattle.tn_base.specs.Widths.{most_amount}
+use Rattle.tn_exchange.specs.Widths.{most_table_trades}
 
 -- a bundle of own positions is worth what its row says
 pub worth_in-own : (table : TableRows) (x : ℕ) → x < 2 ^ length table.sides → worth_in table x ≡ worth_by_row (row_at table.rows x) x
@@ -41,15 +43,15 @@ may_abstain table = by_row (row_at table.rows 0) (worth_in-own table 0 (pow_pos 
     by_row None e = (pos 0, e)
 
 -- no number of a table is above the limit
-pub worth_is_small : (table : TableRows) → IsWithinLimits table → (x : ℕ) (a : ℤ) → worth_in table x ≡ Some a → IsAtMost a (10 ^ 9)
+pub worth_is_small : (table : TableRows) → IsWithinLimits table → (x : ℕ) (a : ℤ) → worth_in table x ≡ Some a → IsAtMost a most_amount
 worth_is_small table limits x a e =
     by_row (row_at table.rows x) refl (sym (worth_in-own table x (own_bundles table x a e)) ∙ e)
   where
-    zero_is_small : (b : Bool) → (if b then Some (pos 0) else None) ≡ Some a → IsAtMost a (10 ^ 9)
-    zero_is_small true e = let same : pos 0 ≡ a = cc in subst (λ (z : ℤ). IsAtMost z (10 ^ 9)) same (record { low = omega (arith, ints); high = omega (arith, ints) })
+    zero_is_small : (b : Bool) → (if b then Some (pos 0) else None) ≡ Some a → IsAtMost a most_amount
+    zero_is_small true e = let same : pos 0 ≡ a = cc in subst (λ (z : ℤ). IsAtMost z most_amount) same (record { low = omega (arith, ints); high = omega (arith, ints) })
     zero_is_small false e = absurd (none-some a e)
 
-    by_row : (row : Option ℤ) → row_at table.rows x ≡ row → worth_by_row row x ≡ Some a → IsAtMost a (10 ^ 9)
+    by_row : (row : Option ℤ) → row_at table.rows x ≡ row → worth_by_row row x ≡ Some a → IsAtMost a most_amount
     by_row (Some amount) is e = limits.small x a (is ∙ e)
     by_row None is e = zero_is_small (x == 0) e
 
@@ -76,7 +78,7 @@ none_from_test (Some a) e = absurd (false≢true (sym e))
 none_from_test None e = refl
 
 -- a table keeps its limits with one row more
-pub limits_with_row : (table : TableRows) → IsWithinLimits table → (x : ℕ) (amount : ℤ) → x < 2 ^ length table.sides → IsAtMost amount (10 ^ 9)
+pub limits_with_row : (table : TableRows) → IsWithinLimits table → (x : ℕ) (amount : ℤ) → x < 2 ^ length table.sides → IsAtMost amount most_amount
     → IsWithinLimits (with_row table x amount)
 limits_with_row table limits x amount own small = record {
   few = limits.few;
@@ -87,7 +89,7 @@ limits_with_row table limits x amount own small = record {
         let is : Some amount ≡ Some a = sym (get_or-set_same table.rows x (Some amount) None inside)
         ∙ ap (λ (k : ℕ). row_at (slice_set table.rows x (Some amount)) k) (sym same) ∙ e in
         let equal : amount ≡ a = cc in
-        subst (λ (z : ℤ). IsAtMost z (10 ^ 9)) equal small
+        subst (λ (z : ℤ). IsAtMost z most_amount) equal small
     | inr other ↦ limits.small y a (sym (get_or-set_other table.rows x y (Some amount) None other) ∙ e)
   ];
 }
@@ -99,7 +101,7 @@ row_at-replicate n x = elim (cases_lt x n) [
 ]
 
 -- a table without rows is within the limits
-pub limits_without_rows : (sides : List Side) → length sides ≤ 14 → IsWithinLimits (without_rows sides)
+pub limits_without_rows : (sides : List Side) → length sides ≤ most_table_trades → IsWithinLimits (without_rows sides)
 limits_without_rows sides few = record {
   few = few;
   places = length-replicate {A = Option ℤ} (2 ^ length sides) None;

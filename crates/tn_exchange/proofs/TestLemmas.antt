@@ -19,6 +19,7 @@ use Rattle.tn_exchange.specs.TestOrder.{Triple, IsBefore, TripleFails, IsFirstFa
 use Rattle.tn_exchange.specs.Verdicts.{Swaps, HasTotal, IfFails, IsVerdictOn, IsFirstIn}
 use Rattle.tn_exchange.specs.declared.verdict.Verdict.{Verdict}
 use Rattle.tn_exchange.specs.declared.verdict.Verdict.TheVariants.{Holds, Fails as Failed}
+use Rattle.tn_base.specs.Widths.{most_amount}
 
 le_from_test : (a b : ℤ) → le_z a b ≡ true → a ≤ℤ b
 le_from_test a b e = grind (arith, ints)
@@ -39,7 +40,7 @@ enough_iff firm x y total a b x_is y_is = (
 )
 
 -- the sum of two small numbers
-pub sum_fits : (a b : ℤ) → IsAtMost a (10 ^ 9) → IsAtMost b (10 ^ 9) → SFits w128 (a +ℤ b)
+pub sum_fits : (a b : ℤ) → IsAtMost a most_amount → IsAtMost b most_amount → SFits w128 (a +ℤ b)
 sum_fits a b p q = search (arith, ints, p.low, p.high, q.low, q.high)
 
 -- positions of the down side swap where some position of the down side does

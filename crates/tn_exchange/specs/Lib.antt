@@ -1,3 +1,4 @@
+pub mod Widths
 pub mod Rows
 pub mod TestOrder
 pub mod Verdicts

@@ -5,6 +5,8 @@ use Rattle.tn_base.specs.Arcs.{IsAtMost}
 use Rattle.tn_base.specs.Firm.{Firm}
 use Rattle.tn_base.specs.Table.{buys_of, worth_by_row}
 use Rattle.tn_base.specs.declared.side.Side.{Side}
+use Rattle.tn_exchange.specs.Widths.{most_table_trades}
+use Rattle.tn_base.specs.Widths.{most_amount}
 
 -- the sides of the own trades, and the rows by bundle number
 pub record TableRows : Type 0 where
@@ -28,10 +30,10 @@ firm_of_table table = record { count = length table.sides; buys = buys_of table.
 
 -- what every raw table keeps
 pub record IsWithinLimits (table : TableRows) : Type 0 where
-  pub few : length table.sides ≤ 14
+  pub few : length table.sides ≤ most_table_trades
   -- there is a place for each bundle
   pub places : length table.rows ≡ 2 ^ length table.sides
-  pub small : (x : ℕ) (amount : ℤ) → row_at table.rows x ≡ Some amount → IsAtMost amount (10 ^ 9)
+  pub small : (x : ℕ) (amount : ℤ) → row_at table.rows x ≡ Some amount → IsAtMost amount most_amount
 
 -- the table of these sides without rows
 abbrev pub without_rows : List Side → TableRows

@@ -7,6 +7,8 @@ ghost use Rattle.tn_base.specs.Exchange.{AreEnough, Exchanges, IsWrongAt, Fails,
 ghost use Rattle.tn_exchange.specs.Rows.{firm_of_table, IsWithinLimits};
 ghost use Rattle.tn_exchange.specs.TestOrder.{Triple, IsFirstFailure};
 ghost use Rattle.tn_exchange.specs.Verdicts.{HasTotal, IfFails, IsVerdictOn, Swaps};
+ghost use Rattle.tn_base.specs.Widths.{most_amount};
+ghost use Rattle.tn_exchange.specs.Widths.{most_table_trades};
 
 use crate::table::RawTable;
 use crate::verdict::Verdict;
@@ -51,7 +53,7 @@ fn test_from(table: &RawTable, buys: Bundle, x: Bundle, first: i128) -> Verdict
     requires bought { buys ≡ buys_of table.now.sides }
     requires own { x < 2 ^ length table.now.sides }
     requires worth { (firm_of_table table.now).worth x ≡ Some first }
-    requires small { IsAtMost first (10 ^ 9) }
+    requires small { IsAtMost first most_amount }
     ensures { IsVerdictOn (firm_of_table table.now) (λ t. t.x ≡ x) result }
 {
     for bits in 0..table.bundles() {
@@ -95,7 +97,7 @@ fn is_wrong_at(
     total: i128,
     at: Option<u32>,
 ) -> bool
-    requires few { length table.now.sides ≤ 14 }
+    requires few { length table.now.sides ≤ most_table_trades }
     requires bought { buys ≡ buys_of table.now.sides }
     requires x_own { x < 2 ^ length table.now.sides }
     requires y_own { y < 2 ^ length table.now.sides }
@@ -110,7 +112,7 @@ fn is_wrong_at(
 
 /// Whether position `i` can be toggled in both bundles, alone or with a position of the down side.
 fn exchanges(table: &RawTable, buys: Bundle, x: Bundle, y: Bundle, total: i128, i: u32) -> bool
-    requires few { length table.now.sides ≤ 14 }
+    requires few { length table.now.sides ≤ most_table_trades }
     requires bought { buys ≡ buys_of table.now.sides }
     requires x_own { x < 2 ^ length table.now.sides }
     requires y_own { y < 2 ^ length table.now.sides }

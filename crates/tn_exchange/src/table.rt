@@ -3,6 +3,8 @@ ghost use Rattle.tn_base.specs.Arcs.{IsAtMost};
 ghost use Rattle.tn_base.specs.Every.{HasEveryBundle};
 ghost use Rattle.tn_base.specs.Table.{buys_of};
 ghost use Rattle.tn_exchange.specs.Rows.{HasRow, IsWithinLimits, firm_of_table, without_rows, with_row};
+ghost use Rattle.tn_exchange.specs.Widths.{most_table_trades};
+ghost use Rattle.tn_base.specs.Widths.{most_amount};
 
 use crate::refusal::RowRefusal;
 use std::alloc::Global;
@@ -31,7 +33,7 @@ impl Model for RawTable {
 impl RawTable {
     /// The table of these sides, at most 14, without rows. It takes all the memory that the table needs.
     pub fn new(alloc: Global, sides: Vec<Side>) -> Result<RawTable, OutOfMemory>
-        requires { length sides.items ≤ 14 }
+        requires { length sides.items ≤ most_table_trades }
         ensures { IfOk result (λ table. table ≡ without_rows sides.items) }
     {
         let rows = vec![in alloc; None; 1 << sides.len()]?;
@@ -42,7 +44,7 @@ impl RawTable {
     /// row for the bundle is there.
     pub fn add(&mut self, bundle: Bundle, amount: i128) -> Result<(), RowRefusal>
         requires own { bundle < 2 ^ length self.old.sides }
-        requires small { IsAtMost amount (10 ^ 9) }
+        requires small { IsAtMost amount most_amount }
         ensures same { (result ≡ Err RowRefusal.Same) ↔ HasRow self.old bundle }
         ensures ok { OnOk result (self.new ≡ with_row self.old bundle amount) }
         ensures err { OnErr result (self.new ≡ self.old) }
@@ -59,7 +61,7 @@ impl RawTable {
     pub fn worth(&self, x: Bundle) -> Option<i128>
         requires { x < 2 ^ length self.now.sides }
         ensures worth { result ≡ (firm_of_table self.now).worth x }
-        ensures small { IfSome result (λ amount. IsAtMost amount (10 ^ 9)) }
+        ensures small { IfSome result (λ amount. IsAtMost amount most_amount) }
     {
         let row = self.rows[x.bits() as usize];
         if row.is_none() && x.bits() == 0 {

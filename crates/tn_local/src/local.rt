@@ -7,6 +7,7 @@ ghost use Rattle.tn_law.specs.Close.{AreClose};
 ghost use Rattle.tn_exchange.specs.Rows.{firm_of_table, IsWithinLimits};
 ghost use Rattle.tn_exchange.specs.Verdicts.{IfFails, IsVerdictOn};
 ghost use Rattle.tn_local.specs.First.{IsFirstCloseFailure};
+ghost use Rattle.tn_base.specs.Widths.{most_amount};
 
 use crate::quads::quads_exchange;
 use crate::walk::{Sides, Two, test_close};
@@ -43,7 +44,7 @@ fn test_from(table: &RawTable, buys: Bundle, x: Bundle, first: i128) -> Verdict
     requires bought { buys ≡ buys_of table.now.sides }
     requires own { x < 2 ^ length table.now.sides }
     requires worth { (firm_of_table table.now).worth x ≡ Some first }
-    requires small { IsAtMost first (10 ^ 9) }
+    requires small { IsAtMost first most_amount }
     ensures { IsVerdictOn (firm_of_table table.now) (λ t. (t.x ≡ x) × AreClose (buys_of table.now.sides) x t.y) result }
 {
     let null = table.trades();

@@ -5,6 +5,7 @@ ghost use Rattle.tn_law.specs.Places.{move};
 ghost use Rattle.tn_law.specs.Quads.{value, parted, QuadsExchange, QuadsExchangeAt};
 ghost use Rattle.tn_exchange.specs.Rows.{firm_of_table};
 ghost use Rattle.tn_local.specs.Quads.{IsNotAboveBoth, StandsTwice, FourExchange, ThreeExchange, TwoExchange, OneExchanges, AreFreePlaces};
+ghost use Rattle.tn_base.specs.Widths.{most_amount};
 
 use crate::walk::moved;
 use tn_base::Bundle;
@@ -122,7 +123,7 @@ fn parted(table: &RawTable, z: Bundle, p: u32, q: u32, r: u32, s: u32) -> i128
 fn worth_moved(table: &RawTable, z: Bundle, p: u32, q: u32) -> i128
     requires { z < 2 ^ length table.now.sides }
     ensures worth { result ≡ value (firm_of_table table.now) (move (length table.now.sides) z p q) }
-    ensures small { IsAtMost result (10 ^ 9) }
+    ensures small { IsAtMost result most_amount }
 {
     match table.worth(moved(z, p, q, table.trades())) {
         Some(amount) => amount,

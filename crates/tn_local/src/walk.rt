@@ -7,6 +7,7 @@ ghost use Rattle.tn_law.specs.Close.{AreClose};
 ghost use Rattle.tn_exchange.specs.Rows.{firm_of_table};
 ghost use Rattle.tn_exchange.specs.Verdicts.{HasTotal, IsVerdictOn};
 ghost use Rattle.tn_local.specs.Walk.{AgreesFrom, OfClose, IsReached, IsKnown, PairsAreEnough, with_one_more};
+ghost use Rattle.tn_base.specs.Widths.{most_amount};
 
 use tn_base::Bundle;
 use tn_exchange::{RawTable, Verdict, are_enough, test_pair};
@@ -38,7 +39,7 @@ pub(crate) fn test_close(
     requires bought { buys ≡ buys_of table.now.sides }
     requires own { x < 2 ^ length table.now.sides }
     requires worth { (firm_of_table table.now).worth x ≡ Some first }
-    requires small { IsAtMost first (10 ^ 9) }
+    requires small { IsAtMost first most_amount }
     requires position { k ≤ length table.now.sides }
     requires known { IsKnown (length table.now.sides) buys x y k sides }
     ensures { IsVerdictOn (firm_of_table table.now) (OfClose (firm_of_table table.now) x y k) result }
@@ -136,7 +137,7 @@ fn test_reached(
     requires bought { buys ≡ buys_of table.now.sides }
     requires own { x < 2 ^ length table.now.sides }
     requires worth { (firm_of_table table.now).worth x ≡ Some first }
-    requires small { IsAtMost first (10 ^ 9) }
+    requires small { IsAtMost first most_amount }
     requires reached { IsReached (length table.now.sides) buys x y 0 sides }
     ensures { IsVerdictOn (firm_of_table table.now) (OfClose (firm_of_table table.now) x y 0) result }
 {

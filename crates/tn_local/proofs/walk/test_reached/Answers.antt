@@ -1,4 +1,4 @@
-use Rattle.std.proofs.Common.{ℕ, ◌^◌, sym, ◌∙◌, subst, refl, rules, length, ◌+ℤ◌, SFits}
+use Rattle.std.proofs.Common.{ℕ, sym, ◌∙◌, subst, refl, rules, length, ◌+ℤ◌, SFits}
 use Rattle.std.specs.Int.{w128}
 use Rattle.std.proofs.lemmas.Int.{to_z-of_z}
 use Rattle.tn_base.specs.Arcs.{IsAtMost}
@@ -11,6 +11,7 @@ use Rattle.tn_local.proofs.WalkLemmas.{reached_near}
 use Rattle.tn_local.proofs.VerdictLemmas.{no_close, impossible_close, close_verdict, one_is_trade}
 use Rattle.tn_local.proofs.walk.test_reached.Goals as goal
 use Rattle.tn_local.proofs.walk.test_reached.Goals.{else-sides-null-via-then-sides-null+else-sides-null-2, else-sides-null-via-else-sides-null}
+use Rattle.tn_base.specs.Widths.{most_amount}
 
 pub returns-then-sides-null-2 : goal.returns-then-sides-null-2
 returns-then-sides-null-2 c =
@@ -22,7 +23,7 @@ pub test_reached_pair-requires-clause-total : goal.test_reached_pair-requires-cl
 test_reached_pair-requires-clause-total c =
     let first_fits = c.ranges.first in
     let second_fits : SFits w128 c.in-Some.second = search rules in
-    let second_small : IsAtMost c.in-Some.second (10 ^ 9) = c.in-Some.ensures.small in
+    let second_small : IsAtMost c.in-Some.second most_amount = c.in-Some.ensures.small in
     let both_fit : SFits w128 (c.args.first +ℤ c.in-Some.second) = sum_fits _ _ c.requires.small second_small in
     let total : HasTotal (firm_of_table c.args.table.now) c.args.x c.args.y (c.args.first +ℤ c.in-Some.second) =
     record { first = c.args.first; second = c.in-Some.second; first_is = c.requires.worth; second_is = sym c.in-Some.ensures.worth; total_is = refl } in
