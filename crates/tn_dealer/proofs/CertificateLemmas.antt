@@ -17,6 +17,8 @@ use Rattle.tn_dealer.specs.Pairs.{matched_worth, IsOwnPair}
 use Rattle.tn_dealer.specs.Certificates.{bound_of, KeepsPair, KeepsPairs, TakesIn, MayTakeIn}
 use Rattle.tn_law.proofs.PairLemmas.{IsWorth}
 use Rattle.tn_dealer.specs.WorthLemmas.{AreOwnPairs, own_rest, matched_left, matched_right, matched_from, matched_none, matched_empty, matched_small}
+use Rattle.tn_market.specs.Widths.{most_own, most_worth}
+use Rattle.tn_base.specs.Widths.{most_amount}
 
 -- ---- sums
 
@@ -71,11 +73,11 @@ keeps_left priced number pair x pairs p q keeps k next is buy sell =
 
 -- the numbers of a possible bundle sum to at most minus its worth where no pair's exceed its cost, and to at most 0 where
 -- no pair's exceed 0
-pub weak_duality : (count buys : ℕ) (priced : Bool) (number : ℕ → ℤ) (pairs : List Pair) → count ≤ 32 → AreOwnPairs count buys pairs → (x : ℕ) (a : ℤ)
-    → matched_worth pairs x ≡ Some a → KeepsPairs priced number x pairs → sum_over number 32 x ≤ℤ most_of priced a
+pub weak_duality : (count buys : ℕ) (priced : Bool) (number : ℕ → ℤ) (pairs : List Pair) → count ≤ most_own → AreOwnPairs count buys pairs → (x : ℕ) (a : ℤ)
+    → matched_worth pairs x ≡ Some a → KeepsPairs priced number x pairs → sum_over number most_own x ≤ℤ most_of priced a
 weak_duality count buys priced number [] few own x a is keeps =
     let empty = matched_none x a is in
-    most_none priced (sum_over number 32 x) a (ap (sum_over number 32) empty.0 ∙ sum_over-empty number 32) empty.1
+    most_none priced (sum_over number most_own x) a (ap (sum_over number most_own) empty.0 ∙ sum_over-empty number 32) empty.1
 weak_duality count buys priced number (pair ∷ pairs) few own x a is keeps = elim (matched_from pair pairs x a is) [
   | inl p ↦ weak_duality count buys priced number pairs few (own_rest count buys pair pairs own) x a p (keeps_rest priced number x pair pairs keeps)
   | inr q ↦
@@ -85,7 +87,7 @@ weak_duality count buys priced number (pair ∷ pairs) few own x a is keeps = el
       let apart : pair.sell ≢ pair.buy = λ e. false≢true (sym here.sold ∙ ap (has buys) e ∙ here.bought) in
       let one = sum_over-toggle_out number 32 x pair.buy (omega (arith, few, buy_near)) q.has_buy in
       let two = sum_over-toggle_out number 32 (toggle x pair.buy) pair.sell (omega (arith, few, sell_near)) (has-toggle_other x pair.buy pair.sell apart ∙ q.has_sell) in
-      most_more priced pair (sum_over number 32 x) (sum_over number 32 (toggle (toggle x pair.buy) pair.sell)) (number pair.buy) (number pair.sell) q.value a
+      most_more priced pair (sum_over number most_own x) (sum_over number most_own (toggle (toggle x pair.buy) pair.sell)) (number pair.buy) (number pair.sell) q.value a
       (omega (arith, ints, one, two))
       (weak_duality count buys priced number pairs few (own_rest count buys pair pairs own) (toggle (toggle x pair.buy) pair.sell) q.value q.is
       (keeps_left priced number pair x pairs q.has_buy q.has_sell (keeps_rest priced number x pair pairs keeps)))
@@ -96,8 +98,8 @@ weak_duality count buys priced number (pair ∷ pairs) few own x a is keeps = el
 -- ---- what a certificate shows
 
 -- a bundle that pairs at this cost match has this cost for its worth, where its numbers sum to it
-pub shows_least : (count buys : ℕ) (number : ℕ → ℤ) (pairs : List Pair) → count ≤ 32 → AreOwnPairs count buys pairs → (x : ℕ) (cost : ℤ)
-    → IsWorth (matched_worth pairs) x (neg_ℤ cost) → sum_over number 32 x ≡ cost → KeepsPairs true number x pairs → Some (neg_ℤ cost) ≡ matched_worth pairs x
+pub shows_least : (count buys : ℕ) (number : ℕ → ℤ) (pairs : List Pair) → count ≤ most_own → AreOwnPairs count buys pairs → (x : ℕ) (cost : ℤ)
+    → IsWorth (matched_worth pairs) x (neg_ℤ cost) → sum_over number most_own x ≡ cost → KeepsPairs true number x pairs → Some (neg_ℤ cost) ≡ matched_worth pairs x
 shows_least count buys number pairs few own x cost worth sum keeps =
     let most = weak_duality count buys true number pairs few own x worth.value worth.is keeps in
     let least = worth.enough in
@@ -105,8 +107,8 @@ shows_least count buys number pairs few own x cost worth sum keeps =
     sym (worth.is ∙ ap Some same)
 
 -- a bundle whose numbers sum to more than 0 is impossible
-pub shows_none : (count buys : ℕ) (number : ℕ → ℤ) (pairs : List Pair) → count ≤ 32 → AreOwnPairs count buys pairs → (x : ℕ)
-    → pos 0 <ℤ sum_over number 32 x → KeepsPairs false number x pairs → None ≡ matched_worth pairs x
+pub shows_none : (count buys : ℕ) (number : ℕ → ℤ) (pairs : List Pair) → count ≤ most_own → AreOwnPairs count buys pairs → (x : ℕ)
+    → pos 0 <ℤ sum_over number most_own x → KeepsPairs false number x pairs → None ≡ matched_worth pairs x
 shows_none count buys number pairs few own x more keeps = by (matched_worth pairs x) refl
   where
     by : (o : Option ℤ) → matched_worth pairs x ≡ o → None ≡ matched_worth pairs x
@@ -190,7 +192,7 @@ own_drop count buys (suc k) [] own = own
 own_drop count buys (suc k) (pair ∷ pairs) own = own_drop count buys k pairs (own_rest count buys pair pairs own)
 
 -- every worth on the way is small
-small_on_the_way : (count buys k : ℕ) (pairs : List Pair) → AreOwnPairs count buys pairs → (x : ℕ) (a : ℤ) → x < 2 ^ 64 → matched_worth (drop k pairs) x ≡ Some a → IsAtMost a (10 ^ 11)
+small_on_the_way : (count buys k : ℕ) (pairs : List Pair) → AreOwnPairs count buys pairs → (x : ℕ) (a : ℤ) → x < 2 ^ 64 → matched_worth (drop k pairs) x ≡ Some a → IsAtMost a most_worth
 small_on_the_way count buys k pairs own x a within is =
     let small = matched_small count buys (drop k pairs) (own_drop count buys k pairs own) x a is in
     let most = size_le 64 x within in
@@ -221,8 +223,8 @@ taken_step count buys pairs done i pair own below e is x cost next next_cost may
     (taken_next count buys pairs i pair own inside is x cost next next_cost may
     (subst (λ (k : ℕ). IsWorth (matched_worth (drop k pairs)) x (neg_ℤ cost)) before worth))
 
-pub taken_small : (pair : Pair) (x : ℕ) (cost : ℤ) (next : ℕ) (next_cost : ℤ) (done : ℕ) → IsAtMost pair.cost (10 ^ 9) → IsAtMost cost (done * 10 ^ 9)
-    → MayTakeIn pair x cost next next_cost → IsAtMost next_cost ((done + 1) * 10 ^ 9)
+pub taken_small : (pair : Pair) (x : ℕ) (cost : ℤ) (next : ℕ) (next_cost : ℤ) (done : ℕ) → IsAtMost pair.cost most_amount → IsAtMost cost (done * most_amount)
+    → MayTakeIn pair x cost next next_cost → IsAtMost next_cost ((done + 1) * most_amount)
 taken_small pair x cost next next_cost done small before (inl same) =
     let p = before.low in
     let q = before.high in
@@ -267,13 +269,13 @@ second_out true b q = q
 second_out false b q = refl
 
 -- the cost of a matching fits, and so does minus it
-pub cost_fits : (cost : ℤ) (n : ℕ) → IsAtMost cost (n * 10 ^ 9) → n < 2 ^ 64 → SFits w128 cost
+pub cost_fits : (cost : ℤ) (n : ℕ) → IsAtMost cost (n * most_amount) → n < 2 ^ 64 → SFits w128 cost
 cost_fits cost n small few = let p = small.low in let q = small.high in omega (arith, ints, p, q, few)
 
-pub minus_is : (cost : ℤ) (n : ℕ) → IsAtMost cost (n * 10 ^ 9) → n < 2 ^ 64 → to_z w128 (of_z w128 (pos 0 -ℤ to_z w128 (of_z w128 cost))) ≡ neg_ℤ cost
+pub minus_is : (cost : ℤ) (n : ℕ) → IsAtMost cost (n * most_amount) → n < 2 ^ 64 → to_z w128 (of_z w128 (pos 0 -ℤ to_z w128 (of_z w128 cost))) ≡ neg_ℤ cost
 minus_is cost n small few = let p = small.low in let q = small.high in omega (arith, ints, p, q, few)
 
 pub small_after : (count buys k : ℕ) (pairs : List Pair) → AreOwnPairs count buys pairs → (x : ℕ) (o : Option ℤ) → x < 2 ^ 64 → o ≡ matched_worth (drop k pairs) x
-    → IfSome o (λ a. IsAtMost a (10 ^ 11))
+    → IfSome o (λ a. IsAtMost a most_worth)
 small_after count buys k pairs own x None within is = tt
 small_after count buys k pairs own x (Some a) within is = small_on_the_way count buys k pairs own x a within (sym is)

@@ -10,6 +10,7 @@ use Rattle.tn_base.proofs.SetLemmas.{has-zero, has-toggle_other, toggle_within}
 use Rattle.tn_base.proofs.SizeLemmas.{size-toggle_in, size-zero, size_le}
 use Rattle.tn_dealer.specs.declared.pair.Pair.{Pair}
 use Rattle.tn_dealer.specs.Pairs.{IsNear, IsRepeated, AreDifferentBelow, AreDifferent}
+use Rattle.tn_market.specs.Widths.{most_own}
 
 -- ---- numbers below n of which no two are equal are at most n
 
@@ -68,7 +69,7 @@ pair_at pairs k = get_or pairs k no_pair
 abbrev pub number_of : List Pair → ℕ → ℕ
 number_of pairs k = (pair_at pairs k).buy * 32 + (pair_at pairs k).sell
 
-same_number : (a b c d : ℕ) → b < 32 → d < 32 → a * 32 + b ≡ c * 32 + d → (a ≡ c) × (b ≡ d)
+same_number : (a b c d : ℕ) → b < most_own → d < most_own → a * 32 + b ≡ c * 32 + d → (a ≡ c) × (b ≡ d)
 same_number a b c d p q e = (omega (arith, p, q, e), omega (arith, p, q, e))
 
 -- where no pair before a place is repeated, the place is at most 1024

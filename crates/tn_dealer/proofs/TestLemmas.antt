@@ -1,5 +1,5 @@
 -- The pairs of the tests, whose dealer buys the items 0 and 1 and sells 2 and 3, are pairs of own trades.
-use Rattle.std.proofs.Common.{◌≡◌, ℕ, ◌^◌, ◌<◌, ◌≤◌, true, false, List, [], ◌∷◌, length, refl, sym, subst, arith, pos}
+use Rattle.std.proofs.Common.{◌≡◌, ℕ, ◌<◌, ◌≤◌, true, false, List, [], ◌∷◌, length, refl, sym, subst, arith, pos}
 use Rattle.std.specs.Prelude.{All}
 use Rattle.std.proofs.lemmas.Int.{ints}
 use Rattle.std.proofs.lemmas.List.Elements.{All-nil, All-cons}
@@ -9,6 +9,7 @@ use Rattle.tn_base.specs.declared.side.Side.{Side}
 use Rattle.tn_base.specs.declared.side.Side.TheVariants.{Buy, Sell}
 use Rattle.tn_dealer.specs.declared.pair.Pair.{Pair}
 use Rattle.tn_dealer.specs.Pairs.{IsOwnPair}
+use Rattle.tn_base.specs.Widths.{most_amount}
 
 abbrev pub two_items : List Side
 two_items = Buy ∷ Buy ∷ Sell ∷ Sell ∷ []
@@ -16,7 +17,7 @@ two_items = Buy ∷ Buy ∷ Sell ∷ Sell ∷ []
 abbrev pub pair_at : ℕ → ℕ → ℕ → Pair
 pair_at b s cost = record { buy = b; sell = s; cost = pos cost }
 
-own_at : (b s cost : ℕ) → b < 4 → has 3 b ≡ true → s < 4 → has 3 s ≡ false → cost ≤ 10 ^ 9 → IsOwnPair 4 3 (pair_at b s cost)
+own_at : (b s cost : ℕ) → b < 4 → has 3 b ≡ true → s < 4 → has 3 s ≡ false → cost ≤ most_amount → IsOwnPair 4 3 (pair_at b s cost)
 own_at b s cost purchase bought sale sold few = record {
   purchase = purchase;
   bought = bought;
@@ -25,19 +26,19 @@ own_at b s cost purchase bought sale sold few = record {
   small = record { low = omega (arith, ints); high = omega (arith, ints, few) };
 }
 
-own-0-2 : (cost : ℕ) → cost ≤ 10 ^ 9 → IsOwnPair 4 3 (pair_at 0 2 cost)
+own-0-2 : (cost : ℕ) → cost ≤ most_amount → IsOwnPair 4 3 (pair_at 0 2 cost)
 unfolding has
 own-0-2 cost few = own_at 0 2 cost (omega arith) refl (omega arith) refl few
 
-own-0-3 : (cost : ℕ) → cost ≤ 10 ^ 9 → IsOwnPair 4 3 (pair_at 0 3 cost)
+own-0-3 : (cost : ℕ) → cost ≤ most_amount → IsOwnPair 4 3 (pair_at 0 3 cost)
 unfolding has
 own-0-3 cost few = own_at 0 3 cost (omega arith) refl (omega arith) refl few
 
-own-1-2 : (cost : ℕ) → cost ≤ 10 ^ 9 → IsOwnPair 4 3 (pair_at 1 2 cost)
+own-1-2 : (cost : ℕ) → cost ≤ most_amount → IsOwnPair 4 3 (pair_at 1 2 cost)
 unfolding has
 own-1-2 cost few = own_at 1 2 cost (omega arith) refl (omega arith) refl few
 
-own-1-3 : (cost : ℕ) → cost ≤ 10 ^ 9 → IsOwnPair 4 3 (pair_at 1 3 cost)
+own-1-3 : (cost : ℕ) → cost ≤ most_amount → IsOwnPair 4 3 (pair_at 1 3 cost)
 unfolding has
 own-1-3 cost few = own_at 1 3 cost (omega arith) refl (omega arith) refl few
 

@@ -1,12 +1,13 @@
 -- The laws of a dealer.
-use Rattle.std.proofs.Common.{◌^◌, arith, pos}
+use Rattle.std.proofs.Common.{arith, pos}
 use Rattle.tn_market.specs.Lawful.{IsLawful}
 use Rattle.tn_dealer.specs.declared.dealer.Dealer.{Dealer}
 use Rattle.tn_dealer.specs.Firms.{firm_of}
 use Rattle.tn_dealer.specs.WorthLemmas.{own_pairs, matched_exchange, matched_empty, matched_limit}
+use Rattle.tn_market.specs.Widths.{most_worth}
 
 -- a dealer is a firm that may be asked, and no worth of it is above 10^11
-pub dealer_laws : (dealer : Dealer) → IsLawful (10 ^ 11) (firm_of dealer)
+pub dealer_laws : (dealer : Dealer) → IsLawful most_worth (firm_of dealer)
 dealer_laws dealer =
     let few = dealer.dealer.few in
     let own = own_pairs dealer.trades dealer.buys dealer.pairs.items dealer.dealer.own in

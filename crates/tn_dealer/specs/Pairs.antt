@@ -7,6 +7,8 @@ use Rattle.tn_base.specs.Table.{buys_of}
 use Rattle.tn_base.specs.declared.side.Side.{Side}
 use Rattle.tn_market.specs.Reduced.{greater}
 use Rattle.tn_dealer.specs.declared.pair.Pair.{Pair}
+use Rattle.tn_base.specs.Widths.{most_amount}
+use Rattle.tn_market.specs.Widths.{most_own}
 
 -- what a bundle is worth where this pair is matched: the bundle without both its trades, less its cost
 abbrev pub with_pair : Pair → (ℕ → Option ℤ) → ℕ → Option ℤ
@@ -33,7 +35,7 @@ pub record IsOwnPair (count buys : ℕ) (pair : Pair) : Type 0 where
   pub bought : has buys pair.buy ≡ true
   pub sale : pair.sell < count
   pub sold : has buys pair.sell ≡ false
-  pub small : IsAtMost pair.cost (10 ^ 9)
+  pub small : IsAtMost pair.cost most_amount
 
 -- the pair at a place has the purchase and the sale of one that stands before it
 pub record IsRepeated (pairs : List Pair) (k : ℕ) : Type 0 where
@@ -66,11 +68,11 @@ GivesFirstRepeated pairs (Some k) = IsFirstRepeated pairs k
 
 -- both positions are below 32
 pub record IsNear (pair : Pair) : Type 0 where
-  pub buy : pair.buy < 32
-  pub sell : pair.sell < 32
+  pub buy : pair.buy < most_own
+  pub sell : pair.sell < most_own
 
 -- what every dealer keeps
 pub record IsDealer (count buys : ℕ) (pairs : List Pair) : Type 0 where
-  pub few : count ≤ 32
+  pub few : count ≤ most_own
   pub bought : buys < 2 ^ count
   pub own : All (IsOwnPair count buys) pairs

@@ -22,6 +22,8 @@ use Rattle.tn_dealer.specs.Pairs.{with_pair, matched_worth, dealing, IsOwnPair}
 use Rattle.tn_law.proofs.MoveLemmas.{move-twice}
 use Rattle.tn_law.proofs.PairLemmas.{IsWorth, Swaps, HasOneMore}
 use Rattle.tn_law.proofs.PairSideLemmas.{Above, ArePaired, HasPair, one_more_swaps}
+use Rattle.tn_base.specs.Widths.{most_amount}
+use Rattle.tn_market.specs.Widths.{most_worth, most_own}
 
 -- the pair at each place is one of own trades
 abbrev pub AreOwnPairs : ℕ → ℕ → List Pair → Type 0
@@ -171,7 +173,7 @@ matched_own count buys (pair ∷ pairs) own x a is = elim (split_of count buys p
 ]
 
 -- a worth is at most 10^9 in size for each trade of the bundle
-pub matched_small : (count buys : ℕ) (pairs : List Pair) → AreOwnPairs count buys pairs → (x : ℕ) (a : ℤ) → matched_worth pairs x ≡ Some a → IsAtMost a (size x * 10 ^ 9)
+pub matched_small : (count buys : ℕ) (pairs : List Pair) → AreOwnPairs count buys pairs → (x : ℕ) (a : ℤ) → matched_worth pairs x ≡ Some a → IsAtMost a (size x * most_amount)
 matched_small count buys [] own x a is =
     let e = (matched_none x a is).1 in
     record { low = omega (arith, ints, e); high = omega (arith, ints, e) }
@@ -210,7 +212,7 @@ matched_exchange count buys pairs own =
         }
 
 -- a worth of at most 32 trades is at most 10^11 in size
-pub matched_limit : (count buys : ℕ) (pairs : List Pair) → count ≤ 32 → AreOwnPairs count buys pairs → (x : ℕ) (a : ℤ) → matched_worth pairs x ≡ Some a → IsAtMost a (10 ^ 11)
+pub matched_limit : (count buys : ℕ) (pairs : List Pair) → count ≤ most_own → AreOwnPairs count buys pairs → (x : ℕ) (a : ℤ) → matched_worth pairs x ≡ Some a → IsAtMost a most_worth
 matched_limit count buys pairs few own x a is =
     let small = matched_small count buys pairs own x a is in
     let most = size_le count x (matched_own count buys pairs own x a is) in

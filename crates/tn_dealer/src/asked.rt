@@ -1,20 +1,17 @@
-ghost use Rattle.std.specs.Prelude.{◌^◌};
+ghost use Rattle.tn_market.specs.Widths.{most_worth};
 ghost use Rattle.tn_dealer.specs.Firms.{firm_of};
 ghost use Rattle.tn_dealer.specs.LawLemmas.{dealer_laws};
 
 use crate::dealer::Dealer;
 use tn_base::{Asked, Bundle, Side, Steps};
-use tn_market::{Oracle, Room, Valuation, best_by_ascent};
-
-/// A bound on the size of every worth of a firm.
-const BOUND: i128 = 100_000_000_000;
+use tn_market::{MOST_WORTH, Oracle, Valuation};
 
 impl Valuation for Dealer {
     type Mark = Asked;
 
     ghost firm = { firm_of };
 
-    ghost limit = { λ _. 10 ^ 11 };
+    ghost limit = { λ _. most_worth };
 
     fn trades(&self) -> u32 {
         self.trades
@@ -29,7 +26,7 @@ impl Valuation for Dealer {
     }
 
     fn bound(&self) -> i128 {
-        BOUND
+        MOST_WORTH
     }
 
     fn value(&self, x: Bundle, steps: &mut Steps<Asked>) -> Option<i128> {
@@ -37,32 +34,7 @@ impl Valuation for Dealer {
         self.worth(x)
     }
 
-    ghost few_trades = { λ firm. (dealer_laws firm).few_trades };
-
-    ghost own_purchases = { λ firm. (dealer_laws firm).own_purchases };
-
-    ghost own_bundles = { λ firm. (dealer_laws firm).own_bundles };
-
-    ghost empty_is_possible = { λ firm. (dealer_laws firm).empty_is_possible };
-
-    ghost exchange_one = { λ firm. (dealer_laws firm).exchange_one };
-
-    ghost exchange_net = { λ firm. (dealer_laws firm).exchange_net };
-
-    ghost within = { λ firm. (dealer_laws firm).within };
-
-    ghost small_limit = { λ firm. (dealer_laws firm).small_limit };
+    ghost lawful = { dealer_laws };
 }
 
-impl Oracle for Dealer {
-    fn best(
-        &self,
-        need: Bundle,
-        free: Bundle,
-        scale: i128,
-        prices: &[i128],
-        _room: &mut Room,
-    ) -> Option<(Bundle, i128)> {
-        best_by_ascent(self, need, free, scale, prices, &mut Steps::new(Asked))
-    }
-}
+impl Oracle for Dealer {}

@@ -1,6 +1,7 @@
 ghost use Rattle.std.specs.Prelude.{◌≡◌, ◌≤◌, length, All, IfOk, IfErr};
 ghost use Rattle.tn_base.specs.Table.{buys_of};
 ghost use Rattle.tn_dealer.specs.Pairs.{AreDifferent, IsDealer, IsFirstRepeated, IsOwnPair, dealer_firm};
+ghost use Rattle.tn_market.specs.Widths.{most_own};
 
 use crate::pair::{Pair, SamePair};
 use crate::repeated::first_repeated;
@@ -25,7 +26,7 @@ impl Dealer {
     ///
     /// A list in which a pair has the purchase and the sale of an earlier one is refused with the first such pair.
     pub fn new(sides: Vec<Side>, pairs: Vec<Pair>) -> Result<Dealer, SamePair>
-        requires few { length sides.items ≤ 32 }
+        requires few { length sides.items ≤ most_own }
         requires own { All (IsOwnPair (length sides.items) (buys_of sides.items)) pairs.items }
         ensures firm { IfOk result (λ dealer. firm_of dealer ≡ dealer_firm sides.items pairs.items) }
         ensures different { IfOk result (λ dealer. AreDifferent pairs.items) }

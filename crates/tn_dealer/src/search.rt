@@ -2,12 +2,14 @@
 //! method: Kuhn, 1955; Jonker and Volgenant, 1987). Nothing rests on it: what it finds is a certificate that is tested.
 
 ghost use Rattle.std.specs.Prelude.{◌<◌, IfSome};
+ghost use Rattle.tn_market.specs.Widths.{most_own};
 
 use crate::pair::Pair;
 use tn_base::Bundle;
+use tn_market::MOST_OWN;
 
 /// How many positions there are.
-pub(crate) const POSITIONS: usize = 32;
+pub(crate) const POSITIONS: usize = MOST_OWN;
 
 /// The cost where no pair is listed, and the mate of a trade that has none.
 const FAR: i64 = i64::MAX;
@@ -109,7 +111,7 @@ fn unmatched(more: Bundle, fewer: Bundle) -> Certificate {
 impl Reach {
     /// The purchase alone is reached.
     fn new(first: usize) -> Reach
-        requires { first < 32 }
+        requires { first < most_own }
     {
         Reach {
             purchases: Bundle::empty().toggle(first as u32),
@@ -121,7 +123,7 @@ impl Reach {
 
     /// The sale that is nearest to what is reached, and how far it is.
     fn nearest(&self) -> Option<(usize, i64)>
-        ensures { IfSome result (λ found. found.0 < 32) }
+        ensures { IfSome result (λ found. found.0 < most_own) }
     {
         let mut nearest = None;
         let mut least = FAR;
@@ -138,7 +140,7 @@ impl Reach {
 impl Matching {
     /// Matches one purchase more, with one sale more. Where that can't be, it hands back what is reached.
     fn extend(&mut self, first: usize, sales: Bundle) -> Option<Reach>
-        requires { first < 32 }
+        requires { first < most_own }
     {
         let mut reach = Reach::new(first);
         let mut b = first;

@@ -8,6 +8,8 @@ ghost use Rattle.tn_market.specs.Reduced.{greater};
 ghost use Rattle.tn_dealer.specs.Pairs.{matched_worth, IsNear};
 ghost use Rattle.tn_dealer.specs.Certificates.{number_at, KeepsPair, KeepsPairs, MayTakeIn, bound_of};
 ghost use Rattle.tn_law.proofs.PairLemmas.{IsWorth};
+ghost use Rattle.tn_base.specs.Widths.{most_amount};
+ghost use Rattle.tn_market.specs.Widths.{most_worth, most_own};
 
 use crate::dealer::Dealer;
 use crate::pair::Pair;
@@ -60,7 +62,7 @@ impl Dealer {
     /// The bundle that the mates match by listed pairs, and what these cost together.
     fn taken(&self, mates: &[usize; POSITIONS]) -> (Bundle, i128)
         ensures worth { IsWorth (matched_worth self.now.pairs.items) result.0 (neg_ℤ result.1) }
-        ensures small { IsAtMost result.1 (length self.now.pairs.items * 10 ^ 9) }
+        ensures small { IsAtMost result.1 (length self.now.pairs.items * most_amount) }
     {
         let mut bundle = Bundle::empty();
         let mut cost = 0;
@@ -75,7 +77,7 @@ impl Dealer {
     fn worth_from(&self, from: usize, x: Bundle) -> Option<i128>
         requires { from ≤ length self.now.pairs.items }
         ensures worth { result ≡ matched_worth (drop from self.now.pairs.items) x }
-        ensures small { IfSome result (λ a. IsAtMost a (10 ^ 11)) }
+        ensures small { IfSome result (λ a. IsAtMost a most_worth) }
     {
         if from == self.pairs.len() {
             return if x == Bundle::empty() { Some(0) } else { None };
@@ -93,8 +95,8 @@ impl Dealer {
 
 /// The sum of the numbers of a bundle's positions.
 fn sum(x: Bundle, numbers: &[i64; POSITIONS]) -> i128
-    ensures sum { result ≡ sum_over (number_at numbers.now) 32 x }
-    ensures small { IsAtMost result (32 * 2 ^ 63) }
+    ensures sum { result ≡ sum_over (number_at numbers.now) most_own x }
+    ensures small { IsAtMost result (most_own * 2 ^ 63) }
 {
     let mut total = 0;
     for k in 0..POSITIONS {
@@ -105,7 +107,7 @@ fn sum(x: Bundle, numbers: &[i64; POSITIONS]) -> i128
 
 /// The number of a position that is in the bundle, else 0.
 fn number_in(x: Bundle, numbers: &[i64; POSITIONS], k: usize) -> i128
-    requires { k < 32 }
+    requires { k < most_own }
     ensures term { result ≡ (if has x k then number_at numbers.now k else pos 0) }
     ensures small { IsAtMost result (2 ^ 63) }
 {
@@ -143,8 +145,8 @@ fn bound(pair: &Pair, priced: bool) -> i128
 /// The bundle and the cost with the pair taken in, where it is matched and neither of its trades is there yet.
 fn take_in(pair: &Pair, mates: &[usize; POSITIONS], bundle: Bundle, cost: i128) -> (Bundle, i128)
     requires near { IsNear pair.now }
-    requires small { IsAtMost pair.now.cost (10 ^ 9) }
-    requires small_cost { IsAtMost cost (2 ^ 64 * 10 ^ 9) }
+    requires small { IsAtMost pair.now.cost most_amount }
+    requires small_cost { IsAtMost cost (2 ^ 64 * most_amount) }
     ensures { MayTakeIn pair.now bundle cost result.0 result.1 }
 {
     let matched = mates[pair.sell as usize] == pair.buy as usize;
@@ -157,8 +159,8 @@ fn take_in(pair: &Pair, mates: &[usize; POSITIONS], bundle: Bundle, cost: i128) 
 
 /// A worth less a cost.
 fn less(worth: Option<i128>, cost: i128) -> Option<i128>
-    requires small { IfSome worth (λ a. IsAtMost a (10 ^ 11)) }
-    requires small_cost { IsAtMost cost (10 ^ 9) }
+    requires small { IfSome worth (λ a. IsAtMost a most_worth) }
+    requires small_cost { IsAtMost cost most_amount }
     ensures { result ≡ option_map (λ a. a -ℤ cost) worth }
 {
     Some(worth? - cost)

@@ -25,11 +25,12 @@ impl RawFirm {
     ghost use Rattle.tn_exchange.specs.Verdicts.{IfFails};
     ghost use Rattle.tn_local.specs.First.{IsFirstTriple};
     ghost use Rattle.tn_firm.specs.Raw.{CanBeTested, raw_firm_of};
+    ghost use Rattle.tn_market.specs.Widths.{most_own};
 
     /// How many own trades there are.
     pub fn trades(&self) -> u32
         ensures count { result ≡ (raw_firm_of self.now).count }
-        ensures few { result ≤ 32 }
+        ensures few { result ≤ most_own }
     {
         match self {
             RawFirm::Table(table) => table.trades(),

@@ -1,7 +1,7 @@
 use tn_base::{Asked, Bundle, Side, Steps};
 use tn_dealer::Dealer;
 use tn_laminar::Laminar;
-use tn_market::{Oracle, Room, Valuation};
+use tn_market::{Oracle, Valuation};
 use tn_middle::Middle;
 use tn_table::Table;
 
@@ -19,15 +19,15 @@ pub enum FirmValue {
 }
 
 impl Valuation for FirmValue {
-    ghost use Rattle.std.specs.Prelude.{◌^◌};
     ghost use Rattle.tn_firm.specs.Firms.{firm_of};
     ghost use Rattle.tn_firm.specs.FirmLemmas.{firm_laws};
+    ghost use Rattle.tn_market.specs.Widths.{most_worth};
 
     type Mark = Asked;
 
     ghost firm = { firm_of };
 
-    ghost limit = { λ _. 10 ^ 11 };
+    ghost limit = { λ _. most_worth };
 
     fn trades(&self) -> u32 {
         match self {
@@ -65,37 +65,7 @@ impl Valuation for FirmValue {
         }
     }
 
-    ghost few_trades = { λ value. (firm_laws value).few_trades };
-
-    ghost own_purchases = { λ value. (firm_laws value).own_purchases };
-
-    ghost own_bundles = { λ value. (firm_laws value).own_bundles };
-
-    ghost empty_is_possible = { λ value. (firm_laws value).empty_is_possible };
-
-    ghost exchange_one = { λ value. (firm_laws value).exchange_one };
-
-    ghost exchange_net = { λ value. (firm_laws value).exchange_net };
-
-    ghost within = { λ value. (firm_laws value).within };
-
-    ghost small_limit = { λ value. (firm_laws value).small_limit };
+    ghost lawful = { firm_laws };
 }
 
-impl Oracle for FirmValue {
-    fn best(
-        &self,
-        need: Bundle,
-        free: Bundle,
-        scale: i128,
-        prices: &[i128],
-        room: &mut Room,
-    ) -> Option<(Bundle, i128)> {
-        match self {
-            FirmValue::Table(firm) => firm.best(need, free, scale, prices, room),
-            FirmValue::Laminar(firm) => firm.best(need, free, scale, prices, room),
-            FirmValue::Middle(firm) => firm.best(need, free, scale, prices, room),
-            FirmValue::Dealer(firm) => firm.best(need, free, scale, prices, room),
-        }
-    }
-}
+impl Oracle for FirmValue {}

@@ -1,5 +1,5 @@
 -- Lists that never bend are concave.
-use Rattle.std.proofs.Common.{◌≡◌, ℕ, ◌+◌, ◌-◌, ◌^◌, ◌<◌, ◌≤◌, sym, ap, ◌∙◌, arith, List, length, get_or, Some, None, inl, inr, subst, ◌↔◌, ℤ, pos, ◌+ℤ◌, ◌*ℤ◌, ◌<ℤ◌}
+use Rattle.std.proofs.Common.{◌≡◌, ℕ, ◌+◌, ◌-◌, ◌<◌, ◌≤◌, sym, ap, ◌∙◌, arith, List, length, get_or, Some, None, inl, inr, subst, ◌↔◌, ℤ, pos, ◌+ℤ◌, ◌*ℤ◌, ◌<ℤ◌}
 use Rattle.std.proofs.lemmas.Int.{ints, by_lt_z}
 use Rattle.std.specs.Prelude.{slice_get}
 use Rattle.std.proofs.lemmas.Bool.{cases_eq}
@@ -11,6 +11,7 @@ use Rattle.tn_law.specs.Nested.{IsConcaveList}
 use Rattle.tn_laminar.specs.declared.set.LaminarSet.{LaminarSet}
 use Rattle.tn_laminar.specs.declared.refusal.LaminarRefusal.{LaminarRefusal}
 use Rattle.tn_laminar.specs.Faults.{IsBend, IsSound, AreSound, AreSoundBelow, IsFirstFault, GivesFault}
+use Rattle.tn_base.specs.Widths.{most_amount}
 
 -- a list without a bend is concave
 pub concave_from : (numbers : List ℤ) → ((k : ℕ) → k < length numbers → IsBend numbers k → ⊥) → IsConcaveList numbers
@@ -27,10 +28,10 @@ concave_from numbers none k inside =
     (λ above. above)
 
 -- what the code computes
-pub twice_is : (n : ℤ) → IsAtMost n (10 ^ 9) → to_z w128 (of_z w128 (pos 2 *ℤ n)) ≡ pos 2 *ℤ n
+pub twice_is : (n : ℤ) → IsAtMost n most_amount → to_z w128 (of_z w128 (pos 2 *ℤ n)) ≡ pos 2 *ℤ n
 twice_is n small = let low = small.low in let high = small.high in omega (arith, ints, low, high)
 
-pub sum_is : (a b : ℤ) → IsAtMost a (10 ^ 9) → IsAtMost b (10 ^ 9) → to_z w128 (of_z w128 (a +ℤ b)) ≡ a +ℤ b
+pub sum_is : (a b : ℤ) → IsAtMost a most_amount → IsAtMost b most_amount → to_z w128 (of_z w128 (a +ℤ b)) ≡ a +ℤ b
 sum_is a b first second =
     let p = first.low in
     let q = first.high in

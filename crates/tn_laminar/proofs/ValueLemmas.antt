@@ -1,5 +1,5 @@
 -- The sum of the sets' numbers, set by set.
-use Rattle.std.proofs.Common.{◌≡◌, ℕ, ◌+◌, ◌*◌, ◌^◌, ◌<◌, ◌≤◌, refl, sym, ap, inl, inr, ◌∙◌, arith, List, ◌∷◌, length, drop, map, Option, Some, None, ℤ, pos, ◌+ℤ◌, add-one, if◌then◌else◌}
+use Rattle.std.proofs.Common.{◌≡◌, ℕ, ◌+◌, ◌*◌, ◌<◌, ◌≤◌, refl, sym, ap, inl, inr, ◌∙◌, arith, List, ◌∷◌, length, drop, map, Option, Some, None, ℤ, pos, ◌+ℤ◌, add-one, if◌then◌else◌}
 use Rattle.std.specs.Prelude.{slice_get, option_map, IfSome}
 use Rattle.std.proofs.lemmas.Int.{ints}
 use Rattle.std.proofs.lemmas.Option.{none-some, same_Some, slice_get-map, slice_get_cases, slice_get_within, get_or_from_slice_get}
@@ -17,11 +17,12 @@ use Rattle.tn_laminar.specs.Masked.{masks_of, net_within}
 use Rattle.tn_laminar.proofs.MaskLemmas.{net_within_is}
 use Rattle.tn_laminar.specs.Sum.{term_of, number_of, HasNumbersWithin}
 use Rattle.tn_laminar.specs.LawLemmas.{listed_small}
+use Rattle.tn_base.specs.Widths.{most_amount}
 
 -- the total of the first sets, with the sum over the rest, is the sum; and it is small
 pub record CountsSoFar (buys : ℕ) (sets : List LaminarSet) (x k : ℕ) (total : ℤ) : Type 0 where
   pub is : both (Some total) (count_sum buys (map term_of (drop k sets)) x) ≡ count_sum buys (map term_of sets) x
-  pub small : IsAtMost total (k * 10 ^ 9)
+  pub small : IsAtMost total (k * most_amount)
 
 both-zero : (o : Option ℤ) → both (Some (pos 0)) o ≡ o
 both-zero None = refl
@@ -54,7 +55,7 @@ rest_at buys sets x k set is =
 
 -- a set whose number is there
 pub counts_more : (buys : ℕ) (sets : List LaminarSet) (x k : ℕ) (total number : ℤ) → k < length sets
-    → number_of buys x (slice_get sets k) ≡ Some number → IsAtMost number (10 ^ 9)
+    → number_of buys x (slice_get sets k) ≡ Some number → IsAtMost number most_amount
     → CountsSoFar buys sets x k total → CountsSoFar buys sets x (k + 1) (total +ℤ number)
 counts_more buys sets x k total number inside number_is small so_far = by (slice_get sets k) refl number_is
   where
@@ -118,12 +119,12 @@ number_by_masks buys sets masks x k set mask masked set_is mask_is =
 
 -- a listed number is small
 pub number_small : (set : LaminarSet) (count : ℤ) (o : Option ℤ) → HasNumbersWithin set → o ≡ listed_from set.low set.numbers count
-    → IfSome o (λ number. IsAtMost number (10 ^ 9))
+    → IfSome o (λ number. IsAtMost number most_amount)
 number_small set count None within is = tt
 number_small set count (Some number) within is = listed_small set within count number (sym is)
 
 -- what the code computes
-pub step_is : (total number : ℤ) (k : ℕ) → k ≤ 64 → IsAtMost total (k * 10 ^ 9) → IsAtMost number (10 ^ 9)
+pub step_is : (total number : ℤ) (k : ℕ) → k ≤ 64 → IsAtMost total (k * most_amount) → IsAtMost number most_amount
     → to_z w128 (of_z w128 (total +ℤ to_z w128 (of_z w128 number))) ≡ total +ℤ number
 step_is total number k few first second =
     let a = first.low in

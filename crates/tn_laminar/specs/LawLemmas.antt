@@ -1,5 +1,5 @@
 -- The laws of a laminar firm, over what every one keeps.
-use Rattle.std.proofs.Common.{◌≡◌, ◌&&◌, ℕ, zero, suc, ◌*◌, ◌^◌, ◌<◌, ◌≤◌, Bool, true, false, refl, sym, ap, ◌∙◌, subst, arith, if◌then◌else◌, List, [], ◌∷◌, length, Option, Some, None, ℤ, pos, negsuc, ◌+ℤ◌, ◌-ℤ◌, neg_ℤ, ◌≤ℤ◌}
+use Rattle.std.proofs.Common.{◌≡◌, ◌&&◌, ℕ, suc, ◌*◌, ◌^◌, ◌<◌, ◌≤◌, Bool, true, false, refl, sym, ap, ◌∙◌, subst, arith, if◌then◌else◌, List, [], ◌∷◌, length, Option, Some, None, ℤ, pos, negsuc, ◌+ℤ◌, ◌-ℤ◌}
 use Rattle.std.specs.Prelude.{All, map, slice_get, option_map, IsSome, nat_lt}
 use Rattle.std.proofs.lemmas.Int.{ints}
 use Rattle.std.proofs.lemmas.Nat.{pow_pos}
@@ -14,6 +14,7 @@ use Rattle.tn_base.proofs.SetLemmas.{same_set, has-meet, has-zero}
 use Rattle.tn_base.proofs.FirmLemmas.{net-zero}
 use Rattle.tn_base.specs.Options.{both}
 use Rattle.tn_law.specs.Nested.{CountTerm, AreNested, Cross, IsConcave, count_sum, listed_from, at_place}
+use Rattle.tn_law.proofs.BoundLemmas.{sum_over_small}
 use Rattle.tn_law.proofs.NestedLemmas.{meets-nested}
 use Rattle.tn_law.proofs.ConcaveLemmas.{concave-listed}
 use Rattle.tn_market.specs.Valued.{IsWorthAtMost}
@@ -24,6 +25,9 @@ use Rattle.tn_laminar.specs.declared.set.LaminarSet.{LaminarSet}
 use Rattle.tn_laminar.specs.declared.masks.Masks.{Masks}
 use Rattle.tn_laminar.specs.Faults.{HasEmpty}
 use Rattle.tn_laminar.specs.Sum.{HasNumbersWithin, IsLaminar, IsOwnSet, amount_at, laminar_sum, term_of}
+use Rattle.tn_base.specs.Widths.{most_amount}
+use Rattle.tn_market.specs.Widths.{most_own, most_worth}
+use Rattle.tn_plain_data.specs.Limits.{most_sets}
 
 -- an element of a list of which all elements meet P meets it
 pub all_at : {X : Type 0} (P : X → Type 0) (xs : List X) (k : ℕ) (x : X) → All P xs → slice_get xs k ≡ Some x → P x
@@ -93,26 +97,12 @@ empty_is_possible_of count buys amounts sets masks is =
           ∙ ap (both (Some (sum_over (amount_at amounts) count 0))) counted.1,
     )
 
--- a sum of amounts of at most 10^9 in size
-pub sum_small : (c : ℕ → ℤ) (n x : ℕ) → ((k : ℕ) → k < n → IsAtMost (c k) (10 ^ 9)) → IsAtMost (sum_over c n x) (n * 10 ^ 9)
-unfolding sum_over
-sum_small c zero x each = record { low = omega (arith, ints); high = omega (arith, ints) }
-sum_small c (suc n) x each =
-    let before : IsAtMost (sum_over c n x) (n * 10 ^ 9) = sum_small c n x (λ k h. each k (omega (arith, h))) in
-    let here : IsAtMost (c n) (10 ^ 9) = each n (omega arith) in
-    by (has x n) (sum_over c n x) (c n) before.low before.high here.low here.high
-  where
-    by : (b : Bool) (s t : ℤ) → neg_ℤ (pos (n * 10 ^ 9)) ≤ℤ s → s ≤ℤ pos (n * 10 ^ 9) → neg_ℤ (pos (10 ^ 9)) ≤ℤ t → t ≤ℤ pos (10 ^ 9)
-        → IsAtMost (s +ℤ (if b then t else pos 0)) (suc n * 10 ^ 9)
-    by true s t p q u v = record { low = omega (arith, ints, p, q, u, v); high = omega (arith, ints, p, q, u, v) }
-    by false s t p q u v = record { low = omega (arith, ints, p, q, u, v); high = omega (arith, ints, p, q, u, v) }
-
 -- a listed number of a set with small numbers is small
-pub listed_small : (set : LaminarSet) → HasNumbersWithin set → (count u : ℤ) → listed_from set.low set.numbers count ≡ Some u → IsAtMost u (10 ^ 9)
+pub listed_small : (set : LaminarSet) → HasNumbersWithin set → (count u : ℤ) → listed_from set.low set.numbers count ≡ Some u → IsAtMost u most_amount
 listed_small set within count u is = by (count -ℤ set.low) is
   where
-    by : (place : ℤ) → at_place set.numbers place ≡ Some u → IsAtMost u (10 ^ 9)
-    by (pos k) e = all_at (λ a. IsAtMost a (10 ^ 9)) set.numbers k u within.small e
+    by : (place : ℤ) → at_place set.numbers place ≡ Some u → IsAtMost u most_amount
+    by (pos k) e = all_at (λ a. IsAtMost a most_amount) set.numbers k u within.small e
     by (negsuc k) e = absurd (none-some u e)
 
 -- both parts of a sum that is there are there
@@ -123,7 +113,7 @@ both_parts (Some a) (Some b) u e = (a, b, refl, refl, same_Some (a +ℤ b) u e)
 
 -- a sum of numbers of at most 10^9 in size
 pub count_sum_small : (buys x : ℕ) (sets : List LaminarSet) → ((k : ℕ) (set : LaminarSet) → slice_get sets k ≡ Some set → HasNumbersWithin set)
-    → (u : ℤ) → count_sum buys (map term_of sets) x ≡ Some u → IsAtMost u (length sets * 10 ^ 9)
+    → (u : ℤ) → count_sum buys (map term_of sets) x ≡ Some u → IsAtMost u (length sets * most_amount)
 count_sum_small buys x [] each u is =
     let e : pos 0 ≡ u = same_Some (pos 0) u is in
     record { low = omega (arith, ints, e); high = omega (arith, ints, e) }
@@ -139,27 +129,27 @@ count_sum_small buys x (set ∷ sets) each u is =
     record { low = omega (arith, ints, total, a, b, c, d); high = omega (arith, ints, total, a, b, c, d) }
 
 -- the amounts sum to at most 32 times 10^9
-pub amounts_small : (count : ℕ) (amounts : List ℤ) (x : ℕ) → count ≤ 32 → length amounts ≡ count → All (λ a. IsAtMost a (10 ^ 9)) amounts
-    → IsAtMost (sum_over (amount_at amounts) count x) (32 * 10 ^ 9)
+pub amounts_small : (count : ℕ) (amounts : List ℤ) (x : ℕ) → count ≤ most_own → length amounts ≡ count → All (λ a. IsAtMost a most_amount) amounts
+    → IsAtMost (sum_over (amount_at amounts) count x) (most_own * most_amount)
 amounts_small count amounts x few as_many small =
-    let sum = sum_small (amount_at amounts) count x (λ k h. All-get_or (λ a. IsAtMost a (10 ^ 9)) amounts k (pos 0) (omega (arith, h, as_many)) small) in
+    let sum = sum_over_small (amount_at amounts) count x most_amount (λ k h. All-get_or (λ a. IsAtMost a most_amount) amounts k (pos 0) (omega (arith, h, as_many)) small) in
     let low = sum.low in
     let high = sum.high in
     record { low = omega (arith, ints, few, low); high = omega (arith, ints, few, high) }
 
 -- the numbers to at most 64 times
-pub numbers_small : (buys x : ℕ) (sets : List LaminarSet) → length sets ≤ 64 → All HasNumbersWithin sets
-    → (u : ℤ) → count_sum buys (map term_of sets) x ≡ Some u → IsAtMost u (64 * 10 ^ 9)
+pub numbers_small : (buys x : ℕ) (sets : List LaminarSet) → length sets ≤ most_sets → All HasNumbersWithin sets
+    → (u : ℤ) → count_sum buys (map term_of sets) x ≡ Some u → IsAtMost u (most_sets * most_amount)
 numbers_small buys x sets few numbered u is =
     let sum = count_sum_small buys x sets (λ k set e. all_at HasNumbersWithin sets k set numbered e) u is in
     let low = sum.low in
     let high = sum.high in
     record { low = omega (arith, ints, few, low); high = omega (arith, ints, few, high) }
 
-within_of : (count buys : ℕ) (amounts : List ℤ) (sets : List LaminarSet) (masks : List Masks) → IsLaminar count buys amounts sets masks → IsWorthAtMost (10 ^ 11) (laminar_sum count buys amounts sets)
+within_of : (count buys : ℕ) (amounts : List ℤ) (sets : List LaminarSet) (masks : List Masks) → IsLaminar count buys amounts sets masks → IsWorthAtMost most_worth (laminar_sum count buys amounts sets)
 within_of count buys amounts sets masks is x a worth_is = by (nat_lt x (2 ^ count)) worth_is
   where
-    by : (b : Bool) → (if b then both (Some (sum_over (amount_at amounts) count x)) (count_sum buys (map term_of sets) x) else None) ≡ Some a → IsAtMost a (10 ^ 11)
+    by : (b : Bool) → (if b then both (Some (sum_over (amount_at amounts) count x)) (count_sum buys (map term_of sets) x) else None) ≡ Some a → IsAtMost a most_worth
     by false e = absurd (none-some a e)
     by true e =
         let parts = both_parts (Some (sum_over (amount_at amounts) count x)) (count_sum buys (map term_of sets) x) a e in
@@ -175,7 +165,7 @@ within_of count buys amounts sets masks is x a worth_is = by (nat_lt x (2 ^ coun
 
 -- a laminar sum is a firm that may be asked, and no worth of it is above 10^11
 pub laminar_sum_laws : (count buys : ℕ) (amounts : List ℤ) (sets : List LaminarSet) (masks : List Masks) → IsLaminar count buys amounts sets masks
-    → IsLawful (10 ^ 11) (laminar_sum count buys amounts sets)
+    → IsLawful most_worth (laminar_sum count buys amounts sets)
 laminar_sum_laws count buys amounts sets masks is =
     let few = is.few in
     let exchange = meets count buys amounts sets masks is in
@@ -191,5 +181,5 @@ laminar_sum_laws count buys amounts sets masks is =
     }
 
 -- so is each laminar firm
-pub laminar_laws : (firm : Laminar) → IsLawful (10 ^ 11) (firm_of firm)
+pub laminar_laws : (firm : Laminar) → IsLawful most_worth (firm_of firm)
 laminar_laws firm = laminar_sum_laws firm.trades firm.buys firm.amounts.items firm.sets.items firm.masks.items firm.laminar

@@ -10,12 +10,15 @@ use Rattle.tn_laminar.specs.declared.set.LaminarSet.{LaminarSet}
 use Rattle.tn_laminar.specs.declared.masks.Masks.{Masks}
 use Rattle.tn_laminar.specs.Masked.{masks_of}
 use Rattle.tn_laminar.specs.Faults.{AreSound}
+use Rattle.tn_plain_data.specs.Limits.{most_from, most_values, most_sets}
+use Rattle.tn_base.specs.Widths.{most_amount}
+use Rattle.tn_market.specs.Widths.{most_own}
 
 -- a set's numbers are few and small, and begin near 0
 pub record HasNumbersWithin (set : LaminarSet) : Type 0 where
-  pub low : IsAtMost set.low 32
-  pub few : length set.numbers ≤ 65
-  pub small : All (λ a. IsAtMost a (10 ^ 9)) set.numbers
+  pub low : IsAtMost set.low most_from
+  pub few : length set.numbers ≤ most_values
+  pub small : All (λ a. IsAtMost a most_amount) set.numbers
 
 -- the members are among so many own trades
 abbrev pub IsOwnSet : ℕ → LaminarSet → Type 0
@@ -44,11 +47,11 @@ laminar_firm sides amounts sets = laminar_sum (length sides) (buys_of sides) amo
 
 -- what every laminar firm keeps
 pub record IsLaminar (count buys : ℕ) (amounts : List ℤ) (sets : List LaminarSet) (masks : List Masks) : Type 0 where
-  pub few : count ≤ 32
+  pub few : count ≤ most_own
   pub bought : buys < 2 ^ count
   pub as_many : length amounts ≡ count
-  pub small : All (λ a. IsAtMost a (10 ^ 9)) amounts
-  pub few_sets : length sets ≤ 64
+  pub small : All (λ a. IsAtMost a most_amount) amounts
+  pub few_sets : length sets ≤ most_sets
   pub own : All (IsOwnSet count) sets
   pub numbered : All HasNumbersWithin sets
   pub sound : AreSound sets

@@ -5,6 +5,8 @@ ghost use Rattle.tn_base.specs.Arcs.{IsAtMost};
 ghost use Rattle.tn_law.specs.Nested.{Cross};
 ghost use Rattle.tn_laminar.specs.Faults.{CrossesEarlier, IsBend, GivesFirstBend, GivesFault, GivesFirstFault};
 ghost use Rattle.tn_laminar.specs.Sum.{HasNumbersWithin};
+ghost use Rattle.tn_plain_data.specs.Limits.{most_sets, most_values};
+ghost use Rattle.tn_base.specs.Widths.{most_amount};
 
 use crate::refusal::LaminarRefusal;
 use crate::set::LaminarSet;
@@ -13,7 +15,7 @@ use tn_market::Amounts;
 
 /// The first fault of the sets, None where they make a laminar firm.
 pub fn first_fault(sets: &[LaminarSet]) -> Option<LaminarRefusal>
-    requires few { length sets.now ≤ 64 }
+    requires few { length sets.now ≤ most_sets }
     requires within { All HasNumbersWithin sets.now }
     ensures { GivesFirstFault sets.now result }
 {
@@ -27,7 +29,7 @@ pub fn first_fault(sets: &[LaminarSet]) -> Option<LaminarRefusal>
 
 /// The first test that the set at a place fails, None where it passes all of them.
 fn fault(sets: &[LaminarSet], k: u32) -> Option<LaminarRefusal>
-    requires few { length sets.now ≤ 64 }
+    requires few { length sets.now ≤ most_sets }
     requires within { All HasNumbersWithin sets.now }
     requires place { k < length sets.now }
     ensures { GivesFault sets.now k result }
@@ -47,8 +49,8 @@ fn fault(sets: &[LaminarSet], k: u32) -> Option<LaminarRefusal>
 
 /// The first place whose number is below the middle of its two neighbours.
 fn first_bend(numbers: &Amounts) -> Option<u32>
-    requires few { length numbers.now ≤ 65 }
-    requires small { All (λ a. IsAtMost a (10 ^ 9)) numbers.now }
+    requires few { length numbers.now ≤ most_values }
+    requires small { All (λ a. IsAtMost a most_amount) numbers.now }
     ensures { GivesFirstBend numbers.now result }
 {
     for place in 1..numbers.len() {
@@ -61,8 +63,8 @@ fn first_bend(numbers: &Amounts) -> Option<u32>
 
 /// Whether the number at a place after the first is below the middle of its two neighbours.
 fn bends_at(numbers: &Amounts, place: usize) -> bool
-    requires few { length numbers.now ≤ 65 }
-    requires small { All (λ a. IsAtMost a (10 ^ 9)) numbers.now }
+    requires few { length numbers.now ≤ most_values }
+    requires small { All (λ a. IsAtMost a most_amount) numbers.now }
     requires after_first { 1 ≤ place }
     requires inside { place < length numbers.now }
     ensures { IsTrue result ↔ IsBend numbers.now place }
@@ -77,9 +79,9 @@ fn bends_at(numbers: &Amounts, place: usize) -> bool
 
 /// Whether a number is below the middle of its two neighbours.
 fn bends(before: i128, number: i128, after: i128) -> bool
-    requires small_before { IsAtMost before (10 ^ 9) }
-    requires small { IsAtMost number (10 ^ 9) }
-    requires small_after { IsAtMost after (10 ^ 9) }
+    requires small_before { IsAtMost before most_amount }
+    requires small { IsAtMost number most_amount }
+    requires small_after { IsAtMost after most_amount }
     ensures { IsTrue result ↔ (pos 2 *ℤ number) <ℤ (before +ℤ after) }
 {
     2 * number < before + after

@@ -5,6 +5,9 @@ ghost use Rattle.tn_law.specs.Nested.{count_sum};
 ghost use Rattle.tn_laminar.specs.Faults.{AreSound, IsRefusedFor};
 ghost use Rattle.tn_laminar.specs.Masked.{masks_of};
 ghost use Rattle.tn_laminar.specs.Sum.{HasNumbersWithin, IsLaminar, IsOwnSet, amount_at, laminar_firm, laminar_sum, number_of, term_of};
+ghost use Rattle.tn_market.specs.Widths.{most_own};
+ghost use Rattle.tn_base.specs.Widths.{most_amount};
+ghost use Rattle.tn_plain_data.specs.Limits.{most_sets};
 
 use crate::faults::first_fault;
 use crate::masks::Masks;
@@ -39,10 +42,10 @@ impl Laminar {
         amounts: Vec<i128>,
         sets: Vec<LaminarSet>,
     ) -> Result<Laminar, LaminarRefusal>
-        requires few { length sides.items ≤ 32 }
+        requires few { length sides.items ≤ most_own }
         requires as_many { length amounts.items ≡ length sides.items }
-        requires small { All (λ a. IsAtMost a (10 ^ 9)) amounts.items }
-        requires few_sets { length sets.items ≤ 64 }
+        requires small { All (λ a. IsAtMost a most_amount) amounts.items }
+        requires few_sets { length sets.items ≤ most_sets }
         requires own { All (IsOwnSet (length sides.items)) sets.items }
         requires numbered { All HasNumbersWithin sets.items }
         ensures firm { IfOk result (λ firm. firm_of firm ≡ laminar_firm sides.items amounts.items sets.items) }
@@ -69,7 +72,7 @@ impl Laminar {
     fn amount_in(&self, x: Bundle, k: u32) -> i128
         requires { k < self.now.trades }
         ensures term { result ≡ (if has x k then amount_at self.now.amounts.items k else pos 0) }
-        ensures small { IsAtMost result (10 ^ 9) }
+        ensures small { IsAtMost result most_amount }
     {
         if x.has(k) {
             self.amounts[k as usize]
@@ -82,7 +85,7 @@ impl Laminar {
     #[tactic(auto, unfolding(tn_base::specs::Sets::sum_over))]
     pub(crate) fn amount(&self, x: Bundle) -> i128
         ensures sum { result ≡ sum_over (amount_at self.now.amounts.items) self.now.trades x }
-        ensures small { IsAtMost result (32 * 10 ^ 9) }
+        ensures small { IsAtMost result (most_own * most_amount) }
     {
         let mut total = 0;
         for k in 0..self.trades {
@@ -95,7 +98,7 @@ impl Laminar {
     fn number(&self, x: Bundle, k: usize) -> Option<i128>
         requires { k < length self.now.sets.items }
         ensures number { result ≡ number_of self.now.buys x (slice_get self.now.sets.items k) }
-        ensures small { IfSome result (λ number. IsAtMost number (10 ^ 9)) }
+        ensures small { IfSome result (λ number. IsAtMost number most_amount) }
     {
         self.sets[k].number_at(self.masks[k].net(x))
     }
@@ -103,7 +106,7 @@ impl Laminar {
     /// The sum of the sets' numbers at the net counts of a bundle within them, None where one isn't listed.
     pub(crate) fn numbers(&self, x: Bundle) -> Option<i128>
         ensures sum { result ≡ count_sum self.now.buys (map term_of self.now.sets.items) x }
-        ensures small { IfSome result (λ total. IsAtMost total (64 * 10 ^ 9)) }
+        ensures small { IfSome result (λ total. IsAtMost total (most_sets * most_amount)) }
     {
         let mut total = 0;
         for k in 0..self.sets.len() {

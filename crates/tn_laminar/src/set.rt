@@ -1,6 +1,7 @@
 ghost use Rattle.std.specs.Prelude.{◌≡◌};
 ghost use Rattle.tn_base.specs.Arcs.{IsAtMost};
 ghost use Rattle.tn_law.specs.Nested.{listed_from};
+ghost use Rattle.tn_plain_data.specs.Limits.{most_from};
 
 use tn_base::Bundle;
 use tn_market::Amounts;
@@ -20,7 +21,7 @@ pub struct LaminarSet {
 impl LaminarSet {
     /// The number at a net count, None where it isn't listed.
     pub(crate) fn number_at(&self, count: i32) -> Option<i128>
-        requires low { IsAtMost self.now.low 32 }
+        requires low { IsAtMost self.now.low most_from }
         requires count { IsAtMost count 64 }
         ensures { result ≡ listed_from self.now.low self.now.numbers count }
     {

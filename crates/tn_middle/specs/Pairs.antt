@@ -6,6 +6,8 @@ use Rattle.tn_base.specs.Sets.{meet, minus, size, sum_over}
 use Rattle.tn_base.specs.Firm.{Firm, payments}
 use Rattle.tn_base.specs.Table.{buys_of}
 use Rattle.tn_base.specs.declared.side.Side.{Side}
+use Rattle.tn_market.specs.Widths.{most_own}
+use Rattle.tn_base.specs.Widths.{most_amount}
 
 -- the cost of the purchase, or the gain of the sale, at a position
 abbrev pub number_at : List ℤ → ℕ → ℤ
@@ -36,8 +38,8 @@ middle_firm sides numbers keep = pairing (length sides) (buys_of sides) numbers 
 
 -- what every middleman keeps
 pub record IsMiddle (count buys : ℕ) (numbers : List ℤ) (keep : Option ℤ) : Type 0 where
-  pub few : count ≤ 32
+  pub few : count ≤ most_own
   pub bought : buys < 2 ^ count
   pub as_many : length numbers ≡ count
-  pub small : All (λ a. IsAtMost a (10 ^ 9)) numbers
-  pub small_keep : ForSome keep (λ a. IsAtMost a (10 ^ 9))
+  pub small : All (λ a. IsAtMost a most_amount) numbers
+  pub small_keep : ForSome keep (λ a. IsAtMost a most_amount)

@@ -4,6 +4,8 @@ ghost use Rattle.tn_base.specs.Arcs.{IsAtMost};
 ghost use Rattle.tn_base.specs.Sets.{has, meet, minus, size, sum_over};
 ghost use Rattle.tn_base.specs.Firm.{payments};
 ghost use Rattle.tn_middle.specs.Pairs.{IsMiddle, by_counts, number_at, middle_firm};
+ghost use Rattle.tn_market.specs.Widths.{most_own};
+ghost use Rattle.tn_base.specs.Widths.{most_amount};
 
 use tn_base::{Bundle, Side, purchases};
 
@@ -25,10 +27,10 @@ impl Middle {
     /// `keep` is what a purchase without a sale is worth before its cost, None where it isn't possible. There are at
     /// most 32 trades, and no number is above 10^9 in size. It takes no memory.
     pub fn new(sides: Vec<Side>, numbers: Vec<i128>, keep: Option<i128>) -> Middle
-        requires few { length sides.items ≤ 32 }
+        requires few { length sides.items ≤ most_own }
         requires as_many { length numbers.items ≡ length sides.items }
-        requires small { All (λ a. IsAtMost a (10 ^ 9)) numbers.items }
-        requires small_keep { ForSome keep (λ a. IsAtMost a (10 ^ 9)) }
+        requires small { All (λ a. IsAtMost a most_amount) numbers.items }
+        requires small_keep { ForSome keep (λ a. IsAtMost a most_amount) }
         ensures { firm_of result ≡ middle_firm sides.items numbers.items keep }
     {
         Middle {
@@ -43,7 +45,7 @@ impl Middle {
     fn balance_at(&self, x: Bundle, k: u32) -> i128
         requires { k < self.now.trades }
         ensures term { result ≡ (if has x k then payments self.now.buys (number_at self.now.numbers.items) k else pos 0) }
-        ensures small { IsAtMost result (10 ^ 9) }
+        ensures small { IsAtMost result most_amount }
     {
         let number = self.numbers[k as usize];
         match (x.has(k), self.buys.has(k)) {
@@ -57,7 +59,7 @@ impl Middle {
     #[tactic(auto, unfolding(tn_base::specs::Sets::sum_over))]
     fn balance(&self, x: Bundle) -> i128
         ensures sum { result ≡ sum_over (payments self.now.buys (number_at self.now.numbers.items)) self.now.trades x }
-        ensures small { IsAtMost result (32 * 10 ^ 9) }
+        ensures small { IsAtMost result (most_own * most_amount) }
     {
         let mut total = 0;
         for k in 0..self.trades {

@@ -1,5 +1,5 @@
 -- What the impl for a table needs: it is a firm that may be asked.
-use Rattle.std.specs.Prelude.{◌^◌, ◌≤◌, ℤ}
+use Rattle.std.specs.Prelude.{◌≤◌, ℤ}
 use Rattle.std.proofs.Common.{arith}
 use Rattle.std.proofs.lemmas.Int.{ints}
 use Rattle.tn_base.specs.Arcs.{IsAtMost}
@@ -10,15 +10,18 @@ use Rattle.tn_exchange.proofs.RowLemmas.{own_bundles, may_abstain, worth_is_smal
 use Rattle.tn_market.specs.Lawful.{IsLawful}
 use Rattle.tn_table.specs.declared.table.Table.{Table}
 use Rattle.tn_table.specs.Tables.{firm_of}
+use Rattle.tn_base.specs.Widths.{most_amount}
+use Rattle.tn_market.specs.Widths.{most_worth}
+use Rattle.tn_exchange.specs.Widths.{most_table_trades}
 
-at_most_bound : (z : ℤ) → IsAtMost z (10 ^ 9) → IsAtMost z (10 ^ 11)
+at_most_bound : (z : ℤ) → IsAtMost z most_amount → IsAtMost z most_worth
 at_most_bound z small =
     let low = small.low in
     let high = small.high in
     record { low = omega (arith, ints, low); high = omega (arith, ints, high) }
 
 -- a table is a firm that may be asked, and no worth of it is above 10^11
-pub table_laws : (table : Table) → IsLawful (10 ^ 11) (firm_of table)
+pub table_laws : (table : Table) → IsLawful most_worth (firm_of table)
 table_laws table =
     let few = table.within.few in
     let meets : MeetsExchange (firm_of table) = exchange_from_none_fails (firm_of table) (own_bundles table.raw) table.none_fails in
@@ -34,5 +37,5 @@ table_laws table =
     }
 
 -- a table has at most 14 own trades
-pub table_few : (table : Table) → (firm_of table).count ≤ 14
+pub table_few : (table : Table) → (firm_of table).count ≤ most_table_trades
 table_few table = table.within.few
