@@ -4,10 +4,10 @@ use Rattle.std.specs.Prelude.{All}
 use Rattle.std.proofs.lemmas.Nat.{mod_below}
 use Rattle.std.proofs.lemmas.List.Elements.{All-nil, All-cons, All-append}
 use Rattle.std.proofs.lemmas.List.FromFn.{map-range_with_len_more}
-use Rattle.tn_drill.specs.Draws.{IsWithin, drawn, number_below, state_after}
+use Rattle.tn_drill.specs.Draws.{most_drilled, IsWithin, drawn, number_below, state_after}
 use Rattle.tn_drill.specs.Drill.{draws_of, ends_after, trades_of}
 
-pub drawn_within : (start i : ℕ) → i < 64 → IsWithin (drawn start i)
+pub drawn_within : (start i : ℕ) → i < most_drilled → IsWithin (drawn start i)
 drawn_within start i below = record {
   trade = below;
   step = mod_below (state_after start (3 * i + 1) / 65536) 2 (lit< tt);
@@ -33,7 +33,7 @@ trades_counted start (suc size) =
     let more = length-append (trades_of start size) (ends_after (trades_of start size) (drawn start size) ∷ []) in
     omega (arith, before, more)
 
-pub draws_within : (start size : ℕ) → size ≤ 64 → All IsWithin (draws_of start size)
+pub draws_within : (start size : ℕ) → size ≤ most_drilled → All IsWithin (draws_of start size)
 draws_within start zero few = All-nil IsWithin
 draws_within start (suc size) few =
     subst (All IsWithin) (sym (ap (draws_of start) (sym (add-one size)) ∙ draws_more start size))

@@ -1,5 +1,5 @@
 -- A drill network is a network, whose firms have few trades.
-use Rattle.std.proofs.Common.{◌≡◌, ℕ, zero, suc, ◌+◌, ◌/◌, ◌%◌, ◌^◌, ◌<◌, ◌≤◌, ◌==◌, ◌||◌, ◌&&◌, Bool, true, false, if◌then◌else◌, nat_lt, List, [], ◌∷◌, ◌++◌, length, map, slice_get, Some, None, refl, sym, ap, ap₂, ◌∙◌, subst, arith, lit<, lit≤, inl, inr, ℤ, pos, neg_ℤ, add-one, length-append}
+use Rattle.std.proofs.Common.{◌≡◌, ℕ, zero, suc, ◌+◌, ◌/◌, ◌%◌, ◌<◌, ◌≤◌, ◌==◌, ◌||◌, ◌&&◌, Bool, true, false, if◌then◌else◌, nat_lt, List, [], ◌∷◌, ◌++◌, length, map, slice_get, Some, None, refl, sym, ap, ap₂, ◌∙◌, subst, arith, lit<, lit≤, inl, inr, ℤ, pos, neg_ℤ, add-one, length-append}
 use Rattle.std.specs.Prelude.{All, nat_le}
 use Rattle.std.specs.List.{filter_map, cons_option, range_with_len}
 use Rattle.std.proofs.lemmas.Int.{ints}
@@ -20,9 +20,11 @@ use Rattle.tn_plain_data.specs.InOrder.{side_in, sides_of, ComesNext, AreInOrder
 use Rattle.tn_plain_data.proofs.InOrderLemmas.{AreInOrder-push, sides_of-none}
 use Rattle.tn_plain_data.proofs.InOrderNetworks.{network}
 use Rattle.tn_drill.specs.declared.draws.Drawn.{Drawn}
-use Rattle.tn_drill.specs.Draws.{IsWithin, drawn}
+use Rattle.tn_drill.specs.Draws.{most_drilled, IsWithin, drawn}
 use Rattle.tn_drill.specs.Drill.{AreOwn, buyer_of, consumer, draws_of, ends_after, firm_by, firm_in, firms_of, middleman_of, number_to, producer, seller_of, trades_of}
 use Rattle.tn_drill.proofs.DrawLemmas.{drawn_within, draws_more}
+use Rattle.tn_base.specs.Widths.{most_amount}
+use Rattle.tn_market.specs.Widths.{most_own}
 
 -- ---- the ends of a trade
 
@@ -126,17 +128,17 @@ joins-may f start i is = by (drawn start i).step (mod_below _ 2 (lit< tt)) is
 -- each firm may join few of 64 trades
 abbrev few_below : ℕ → Bool
 few_below zero = true
-few_below (suc f) = few_below f && nat_le (tally (may_join f) 64) 32
+few_below (suc f) = few_below f && nat_le (tally (may_join f) most_drilled) most_own
 
 all_few : few_below 16 ≡ true
 all_few = refl
 
-few_at : (n f : ℕ) → f < n → few_below n ≡ true → tally (may_join f) 64 ≤ 32
+few_at : (n f : ℕ) → f < n → few_below n ≡ true → tally (may_join f) most_drilled ≤ most_own
 few_at zero f below is = absurd (omega (arith, below))
 few_at (suc n) f below is =
-    let parts = and_parts (few_below n) (nat_le (tally (may_join n) 64) 32) is in
+    let parts = and_parts (few_below n) (nat_le (tally (may_join n) most_drilled) most_own) is in
     elim (cases_eq f n) [
-      | inl same ↦ subst (λ (g : ℕ). tally (may_join g) 64 ≤ 32) (sym same) (leb-true (tally (may_join n) 64) 32 parts.1)
+      | inl same ↦ subst (λ (g : ℕ). tally (may_join g) most_drilled ≤ most_own) (sym same) (leb-true (tally (may_join n) most_drilled) most_own parts.1)
       | inr other ↦ few_at n f (omega (arith, below, other)) parts.0
     ]
 
@@ -190,7 +192,7 @@ same_count start (suc size) f =
     let other = number_counted f (drawn start size) in
     omega (arith, before, sides, numbers, one, other)
 
-number_small : (f : ℕ) (draw : Drawn) → IsWithin draw → All (λ a. IsAtMost a (10 ^ 9)) (cons_option (number_to f draw) [])
+number_small : (f : ℕ) (draw : Drawn) → IsWithin draw → All (λ a. IsAtMost a most_amount) (cons_option (number_to f draw) [])
 number_small f draw within = by (seller_of draw == f) (buyer_of draw == f) _ _ (seller (draw.trade % 2 == 0)) (buyer (draw.trade % 2 == 0))
   where
     amount : draw.amount < 100
@@ -199,30 +201,30 @@ number_small f draw within = by (seller_of draw == f) (buyer_of draw == f) _ _ (
     number : draw.number < 10
     number = within.number
 
-    seller : (even : Bool) → IsAtMost (if even then neg_ℤ (pos (1 + draw.amount)) else pos draw.number) (10 ^ 9)
+    seller : (even : Bool) → IsAtMost (if even then neg_ℤ (pos (1 + draw.amount)) else pos draw.number) most_amount
     seller true = record { low = omega (arith, ints, amount); high = omega (arith, ints, amount) }
     seller false = record { low = omega (arith, ints, number); high = omega (arith, ints, number) }
 
-    buyer : (even : Bool) → IsAtMost (if even then pos draw.number else pos (50 + draw.amount)) (10 ^ 9)
+    buyer : (even : Bool) → IsAtMost (if even then pos draw.number else pos (50 + draw.amount)) most_amount
     buyer true = record { low = omega (arith, ints, number); high = omega (arith, ints, number) }
     buyer false = record { low = omega (arith, ints, amount); high = omega (arith, ints, amount) }
 
-    by : (a b : Bool) (x y : ℤ) → IsAtMost x (10 ^ 9) → IsAtMost y (10 ^ 9) → All (λ z. IsAtMost z (10 ^ 9)) (cons_option (if a then Some x else (if b then Some y else None)) [])
-    by true b x y first second = All-cons (λ z. IsAtMost z (10 ^ 9)) x [] first (All-nil (λ z. IsAtMost z (10 ^ 9)))
-    by false true x y first second = All-cons (λ z. IsAtMost z (10 ^ 9)) y [] second (All-nil (λ z. IsAtMost z (10 ^ 9)))
-    by false false x y first second = All-nil (λ z. IsAtMost z (10 ^ 9))
+    by : (a b : Bool) (x y : ℤ) → IsAtMost x most_amount → IsAtMost y most_amount → All (λ z. IsAtMost z most_amount) (cons_option (if a then Some x else (if b then Some y else None)) [])
+    by true b x y first second = All-cons (λ z. IsAtMost z most_amount) x [] first (All-nil (λ z. IsAtMost z most_amount))
+    by false true x y first second = All-cons (λ z. IsAtMost z most_amount) y [] second (All-nil (λ z. IsAtMost z most_amount))
+    by false false x y first second = All-nil (λ z. IsAtMost z most_amount)
 
-all_small : (start size f : ℕ) → size ≤ 64 → All (λ a. IsAtMost a (10 ^ 9)) (filter_map (number_to f) (draws_of start size))
-all_small start zero f few = All-nil (λ a. IsAtMost a (10 ^ 9))
+all_small : (start size f : ℕ) → size ≤ most_drilled → All (λ a. IsAtMost a most_amount) (filter_map (number_to f) (draws_of start size))
+all_small start zero f few = All-nil (λ a. IsAtMost a most_amount)
 all_small start (suc size) f few =
-    subst (All (λ a. IsAtMost a (10 ^ 9))) (sym (numbers_more start size f))
-    (All-append (λ a. IsAtMost a (10 ^ 9)) (filter_map (number_to f) (draws_of start size)) (cons_option (number_to f (drawn start size)) []) (all_small start size f (omega (arith, few)))
+    subst (All (λ a. IsAtMost a most_amount)) (sym (numbers_more start size f))
+    (All-append (λ a. IsAtMost a most_amount) (filter_map (number_to f) (draws_of start size)) (cons_option (number_to f (drawn start size)) []) (all_small start size f (omega (arith, few)))
     (number_small f (drawn start size) (drawn_within start size (omega (arith, few)))))
 
-pub own_of : (start size f : ℕ) → size ≤ 64 → f < 16 → AreOwn (trades_of start size) (draws_of start size) f
+pub own_of : (start size f : ℕ) → size ≤ most_drilled → f < 16 → AreOwn (trades_of start size) (draws_of start size) f
 own_of start size f few below =
     let sides = few_sides start size f in
-    let grows = tally-grows (may_join f) size 64 few in
+    let grows = tally-grows (may_join f) size most_drilled few in
     let most = few_at 16 f below all_few in
     record { few = omega (arith, sides, grows, most); as_many = same_count start size f; small = all_small start size f few }
 

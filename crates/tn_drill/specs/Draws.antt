@@ -2,9 +2,17 @@
 use Rattle.std.specs.Prelude.{ℕ, zero, suc, ◌+◌, ◌*◌, ◌/◌, ◌%◌, ◌==◌, ◌<◌, if◌then◌else◌}
 use Rattle.tn_drill.specs.declared.draws.Drawn.{Drawn}
 
+-- a drill network has at most so many trades
+abbrev pub most_drilled : ℕ
+most_drilled = 64
+
+-- the greatest number that one is drawn from, which is the greatest state of the generator
+abbrev pub most_start : ℕ
+most_start = 2147483647
+
 -- the generator goes from one state to the next
 abbrev pub next : ℕ → ℕ
-next state = (state * 1103515245 + 12345) % 2147483648
+next state = (state * 1103515245 + 12345) % suc most_start
 
 -- its state after so many draws
 abbrev pub state_after : ℕ → ℕ → ℕ
@@ -27,7 +35,7 @@ drawn start i = record {
 
 -- the limits of what is drawn for the trades of a drill network
 pub record IsWithin (draw : Drawn) : Type 0 where
-  pub trade : draw.trade < 64
+  pub trade : draw.trade < most_drilled
   pub step : draw.step < 2
   pub amount : draw.amount < 100
   pub number : draw.number < 10

@@ -10,6 +10,8 @@ use Rattle.tn_middle.specs.Pairs.{middle_firm}
 use Rattle.tn_plain_data.specs.InOrder.{sides_of}
 use Rattle.tn_drill.specs.declared.draws.Drawn.{Drawn}
 use Rattle.tn_drill.specs.Draws.{drawn}
+use Rattle.tn_market.specs.Widths.{most_own}
+use Rattle.tn_base.specs.Widths.{most_amount}
 
 -- trades with even numbers go from a producer to a middleman, those with odd numbers from a middleman to a consumer; two
 -- trades after another have the same turn
@@ -78,6 +80,6 @@ firms_of start size = map (firm_in (trades_of start size) (draws_of start size))
 
 -- firm f has few trades, with a small number for each
 pub record AreOwn (trades : List Ends) (draws : List Drawn) (f : ℕ) : Type 0 where
-  pub few : length (sides_of trades f) ≤ 32
+  pub few : length (sides_of trades f) ≤ most_own
   pub as_many : length (filter_map (number_to f) draws) ≡ length (sides_of trades f)
-  pub small : All (λ a. IsAtMost a (10 ^ 9)) (filter_map (number_to f) draws)
+  pub small : All (λ a. IsAtMost a most_amount) (filter_map (number_to f) draws)

@@ -1,7 +1,7 @@
 //! The numbers that are drawn, and what they are for a trade.
 
 ghost use Rattle.std.specs.Prelude.{◌≡◌, ℕ, ◌+◌, ◌*◌, ◌<◌, ◌≤◌, length};
-ghost use Rattle.tn_drill.specs.Draws.{IsWithin, drawn, next, number_below, state_after};
+ghost use Rattle.tn_drill.specs.Draws.{IsWithin, drawn, most_drilled, most_start, next, number_below, state_after};
 ghost use Rattle.tn_drill.specs.Drill.{buyer_number, buyer_of, ends_after, middleman_of, number_to, seller_number, seller_of};
 
 use crate::firms::{FIRST_CONSUMER, FIRST_MIDDLEMAN};
@@ -12,7 +12,7 @@ use tn_market::{Ends, count_own};
 #[derive(Clone, Copy)]
 pub struct Generator {
     state: u32,
-    ghost small: { state < 2147483648 },
+    ghost small: { state ≤ most_start },
 }
 
 /// A trade as it is drawn: its number, how far its middleman is from the one whose turn it is, and two numbers.
@@ -27,7 +27,7 @@ pub struct Drawn {
 impl Generator {
     /// The generator in this state.
     pub fn new(state: u32) -> Generator
-        requires { state < 2147483648 }
+        requires { state ≤ most_start }
         ensures { result.state ≡ state }
     {
         Generator { state }
@@ -46,7 +46,7 @@ impl Generator {
 
     /// Draws a trade.
     pub fn draw(&mut self, trade: u32) -> Drawn
-        requires { trade < 64 }
+        requires { trade < most_drilled }
         ensures drawn { (start : ℕ) → self.old.state ≡ state_after start (3 * trade) → result ≡ drawn start trade }
         ensures state { (start : ℕ) → self.old.state ≡ state_after start (3 * trade) → self.new.state ≡ state_after start (3 * trade + 3) }
     {
@@ -98,7 +98,7 @@ impl Drawn {
     /// The ends of the trade after other trades.
     pub fn ends_after(&self, before: &[Ends]) -> Ends
         requires within { IsWithin self.now }
-        requires few { length before.now ≤ 64 }
+        requires few { length before.now ≤ most_drilled }
         ensures { result ≡ ends_after before.now self.now }
     {
         let seller = self.seller();

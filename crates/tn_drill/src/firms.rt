@@ -7,6 +7,9 @@ ghost use Rattle.tn_firm.specs.Firms.{firm_of};
 ghost use Rattle.tn_law.specs.Nested.{IsConcaveList, listed_from};
 ghost use Rattle.tn_drill.specs.Draws.{IsWithin};
 ghost use Rattle.tn_drill.specs.Drill.{AreOwn, by_net_count, firm_in, number_to};
+ghost use Rattle.tn_market.specs.Widths.{most_own};
+ghost use Rattle.tn_base.specs.Widths.{most_amount};
+ghost use Rattle.tn_plain_data.specs.Limits.{most_from, most_values};
 
 use crate::draws::Drawn;
 use std::alloc::Global;
@@ -57,12 +60,12 @@ fn laminar(
     sides: Vec<Side>,
     amounts: Vec<i128>,
 ) -> Result<FirmValue, OutOfMemory>
-    requires few { length sides.items ≤ 32 }
+    requires few { length sides.items ≤ most_own }
     requires as_many { length amounts.items ≡ length sides.items }
-    requires small { All (λ a. IsAtMost a (10 ^ 9)) amounts.items }
-    requires low { IsAtMost low 32 }
-    requires few_numbers { length numbers.items ≤ 65 }
-    requires small_numbers { All (λ a. IsAtMost a (10 ^ 9)) numbers.items }
+    requires small { All (λ a. IsAtMost a most_amount) amounts.items }
+    requires low { IsAtMost low most_from }
+    requires few_numbers { length numbers.items ≤ most_values }
+    requires small_numbers { All (λ a. IsAtMost a most_amount) numbers.items }
     requires empty { IsSome (listed_from low numbers.items (pos 0)) }
     requires concave { IsConcaveList numbers.items }
     ensures { IfOk result (λ firm. firm_of firm ≡ by_net_count low numbers.items sides.items amounts.items) }

@@ -2,6 +2,7 @@
 
 ghost use Rattle.std.specs.Prelude.{◌≡◌, ◌<◌, ◌≤◌, map, IfOk};
 ghost use Rattle.tn_firm.specs.Firms.{firm_of};
+ghost use Rattle.tn_drill.specs.Draws.{most_drilled, most_start};
 ghost use Rattle.tn_drill.specs.Drill.{draws_of, firms_of, trades_of};
 
 use crate::draws::{Drawn, Generator};
@@ -20,8 +21,8 @@ struct Draft {
 
 /// Draws the trades.
 fn draw_trades(alloc: Global, size: u32, start: u32) -> Result<Draft, OutOfMemory>
-    requires few { size ≤ 64 }
-    requires start { start < 2147483648 }
+    requires few { size ≤ most_drilled }
+    requires start { start ≤ most_start }
     ensures trades { IfOk result (λ draft. draft.trades.items ≡ trades_of start size) }
     ensures draws { IfOk result (λ draft. draft.draws.items ≡ draws_of start size) }
 {
@@ -41,8 +42,8 @@ fn draw_trades(alloc: Global, size: u32, start: u32) -> Result<Draft, OutOfMemor
 /// number is at most 2,147,483,647. It fails only where memory runs out.
 pub fn drill(alloc: Global, size: u32, start: u32) -> Result<Market<FirmValue>, OutOfMemory>
     requires some { 1 ≤ size }
-    requires few { size ≤ 64 }
-    requires start { start ≤ 2147483647 }
+    requires few { size ≤ most_drilled }
+    requires start { start ≤ most_start }
     ensures firms { IfOk result (λ market. map firm_of market.firms ≡ firms_of start size) }
     ensures trades { IfOk result (λ market. market.trades ≡ trades_of start size) }
 {
