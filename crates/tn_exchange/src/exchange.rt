@@ -5,7 +5,7 @@ ghost use Rattle.tn_base.specs.Firm.{up};
 ghost use Rattle.tn_base.specs.Table.{buys_of};
 ghost use Rattle.tn_base.specs.Exchange.{AreEnough, Exchanges, IsWrongAt, Fails, NoneFails};
 ghost use Rattle.tn_exchange.specs.Rows.{firm_of_table, IsWithinLimits};
-ghost use Rattle.tn_exchange.specs.TestOrder.{Triple, IsFirstFailure};
+ghost use Rattle.tn_exchange.specs.TestOrder.{IsFirstFailure};
 ghost use Rattle.tn_exchange.specs.Verdicts.{HasTotal, IfFails, IsVerdictOn, Swaps};
 ghost use Rattle.tn_base.specs.Widths.{most_amount};
 ghost use Rattle.tn_exchange.specs.Widths.{most_table_trades};

@@ -21,7 +21,6 @@ pub enum RawFirm {
 impl RawFirm {
     ghost use Rattle.std.specs.Prelude.{◌≡◌, ◌≤◌, ◌↔◌};
     ghost use Rattle.tn_base.specs.Exchange.{NoneFails};
-    ghost use Rattle.tn_exchange.specs.Rows.{firm_of_table};
     ghost use Rattle.tn_exchange.specs.Verdicts.{IfFails};
     ghost use Rattle.tn_local.specs.First.{IsFirstTriple};
     ghost use Rattle.tn_firm.specs.Raw.{CanBeTested, raw_firm_of};

@@ -1,6 +1,6 @@
 //! What is wrong with the sets of a laminar firm.
 
-ghost use Rattle.std.specs.Prelude.{◌≡◌, ◌<◌, ◌≤◌, ◌↔◌, length, slice_get, All, IsTrue, Some, pos, ◌*ℤ◌, ◌+ℤ◌, ◌<ℤ◌, ◌^◌};
+ghost use Rattle.std.specs.Prelude.{◌<◌, ◌≤◌, ◌↔◌, length, All, IsTrue, Some, pos, ◌*ℤ◌, ◌+ℤ◌, ◌<ℤ◌};
 ghost use Rattle.tn_base.specs.Arcs.{IsAtMost};
 ghost use Rattle.tn_law.specs.Nested.{Cross};
 ghost use Rattle.tn_laminar.specs.Faults.{CrossesEarlier, IsBend, GivesFirstBend, GivesFault, GivesFirstFault};

@@ -1,10 +1,10 @@
-ghost use Rattle.std.specs.Prelude.{map, slice_get, if◌then◌else◌, pos, ◌≡◌, ◌<◌, ◌≤◌, ◌^◌, ◌*◌, length, All, IfOk, IfErr, IfSome};
+ghost use Rattle.std.specs.Prelude.{map, slice_get, if◌then◌else◌, pos, ◌≡◌, ◌<◌, ◌≤◌, ◌*◌, length, All, IfOk, IfErr, IfSome};
 ghost use Rattle.tn_base.specs.Arcs.{IsAtMost};
 ghost use Rattle.tn_base.specs.Sets.{has, sum_over};
 ghost use Rattle.tn_law.specs.Nested.{count_sum};
 ghost use Rattle.tn_laminar.specs.Faults.{AreSound, IsRefusedFor};
 ghost use Rattle.tn_laminar.specs.Masked.{masks_of};
-ghost use Rattle.tn_laminar.specs.Sum.{HasNumbersWithin, IsLaminar, IsOwnSet, amount_at, laminar_firm, laminar_sum, number_of, term_of};
+ghost use Rattle.tn_laminar.specs.Sum.{HasNumbersWithin, IsLaminar, IsOwnSet, amount_at, laminar_firm, number_of, term_of};
 ghost use Rattle.tn_market.specs.Widths.{most_own};
 ghost use Rattle.tn_base.specs.Widths.{most_amount};
 ghost use Rattle.tn_plain_data.specs.Limits.{most_sets};

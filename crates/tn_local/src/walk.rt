@@ -1,12 +1,11 @@
 ghost use Rattle.std.specs.Prelude.{◌≡◌, ◌+◌, ◌^◌, ◌<◌, ◌≤◌, ◌↔◌, ◌⊎◌, IsTrue, Some, length, if◌then◌else◌};
 ghost use Rattle.tn_base.specs.Arcs.{IsAtMost};
-ghost use Rattle.tn_base.specs.Sets.{has, toggle};
+ghost use Rattle.tn_base.specs.Sets.{toggle};
 ghost use Rattle.tn_base.specs.Table.{buys_of};
 ghost use Rattle.tn_law.specs.Places.{move, toggle_at, trade_level};
-ghost use Rattle.tn_law.specs.Close.{AreClose};
 ghost use Rattle.tn_exchange.specs.Rows.{firm_of_table};
 ghost use Rattle.tn_exchange.specs.Verdicts.{HasTotal, IsVerdictOn};
-ghost use Rattle.tn_local.specs.Walk.{AgreesFrom, OfClose, IsReached, IsKnown, PairsAreEnough, with_one_more};
+ghost use Rattle.tn_local.specs.Walk.{OfClose, IsReached, IsKnown, PairsAreEnough, with_one_more};
 ghost use Rattle.tn_base.specs.Widths.{most_amount};
 
 use tn_base::Bundle;

@@ -2,9 +2,9 @@
 //! until none gains. For a firm that meets exchange it then stands at a best bundle (Murota, Discrete Convex Analysis,
 //! 2003, on the maximisation of M-natural concave functions).
 
-ghost use Rattle.std.specs.Prelude.{◌≡◌, ◌*◌, ◌<◌, ◌≤◌, ◌^◌, ◌≤ℤ◌, ◌+ℤ◌, ◌*ℤ◌, pos, if◌then◌else◌, IfSome, Some};
+ghost use Rattle.std.specs.Prelude.{◌≡◌, ◌*◌, ◌<◌, ◌≤◌, ◌≤ℤ◌, ◌+ℤ◌, ◌*ℤ◌, pos, if◌then◌else◌, IfSome, Some};
 ghost use Rattle.tn_base.specs.Arcs.{IsAtMost};
-ghost use Rattle.tn_base.specs.Sets.{has, sum_over, toggle};
+ghost use Rattle.tn_base.specs.Sets.{has, sum_over};
 ghost use Rattle.tn_base.specs.Firm.{IsBest};
 ghost use Rattle.tn_market.specs.Ascent.{aimed, IsAim, IsValued, TriesOne, TriesBeside, TriesNearby};
 ghost use Rattle.tn_plain_data.specs.Prices.{price_at};
