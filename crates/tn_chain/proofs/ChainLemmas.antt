@@ -33,7 +33,7 @@ use Rattle.tn_chain.proofs.NumberLemmas.{number_less, unsigned_size}
 use Rattle.tn_chain.proofs.SizeLemmas.{made_more}
 use Rattle.tn_chain.proofs.SearchLemmas.{IsRound, found_in_graph, listed_left, unsigned_member, different_listed, walk_arc, arc_linked, null_arc}
 use Rattle.tn_plain_data.specs.Network.{IsNetwork}
-use Rattle.tn_market.specs.Valued.{ExchangesOne, ExchangesNet}
+use Rattle.tn_market.specs.Lawful.{IsLawful}
 use Rattle.tn_market.specs.Limits.{IsOutcomeOf}
 use Rattle.tn_plain_data.specs.Choices.{IsIndividuallyRational}
 use Rattle.tn_network.proofs.EachLemmas.{meet_all}
@@ -209,12 +209,12 @@ three_ok P Q R S (Ok x) step p q r = step x p q r
 three_ok P Q R S (Err e) step p q r = p
 
 -- an individually rational outcome of a market
-pub rational_outcome : {V : Type 0} (firm_of : V → Firm) (items : List V) (trades : List Ends) (over : ℤ) (contracts : List Contract) → IsNetwork (map firm_of items) trades
-    → ((v : V) → HasOwnBundles (firm_of v)) → ((v : V) → ExchangesOne (firm_of v)) → ((v : V) → ExchangesNet (firm_of v)) → IsOutcomeOf trades over contracts
+pub rational_outcome : {V : Type 0} {limit_of : V → ℕ} (firm_of : V → Firm) (items : List V) (trades : List Ends) (over : ℤ) (contracts : List Contract) → IsNetwork (map firm_of items) trades
+    → ((v : V) → IsLawful (limit_of v) (firm_of v)) → IsOutcomeOf trades over contracts
     → IsIndividuallyRational (map firm_of items) trades over contracts → IsRationalOutcome (map firm_of items) trades over contracts
-rational_outcome firm_of items trades over contracts network own_bundles one net outcome rational = record {
+rational_outcome firm_of items trades over contracts network lawful outcome rational = record {
   network = network;
-  meet = meet_all firm_of items own_bundles one net;
+  meet = meet_all firm_of items lawful;
   from_one = outcome.least;
   feasible = outcome_feasible trades over contracts outcome;
   rational = rational;

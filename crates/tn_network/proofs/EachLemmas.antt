@@ -9,7 +9,8 @@ use Rattle.tn_base.specs.Exchange.{MeetsExchange}
 use Rattle.tn_base.proofs.SumLemmas.{sum_over-same_terms}
 use Rattle.tn_plain_data.specs.declared.ends.Ends.{Ends}
 use Rattle.tn_plain_data.specs.Network.{own, part, IsNetwork}
-use Rattle.tn_market.specs.Valued.{IsWorthAtMost, ExchangesOne, ExchangesNet, meets_exchange}
+use Rattle.tn_market.specs.Lawful.{IsLawful}
+use Rattle.tn_market.specs.Valued.{IsWorthAtMost, meets_exchange}
 use Rattle.tn_market.specs.Equilibrium.{prices_at, utility_at, IsEquilibrium}
 use Rattle.tn_network.specs.Laws.{MeetExchange}
 
@@ -21,9 +22,9 @@ each_firm {V} firm_of P firms each f firm is = by (slice_get firms f) (sym (slic
     by None e = absurd (cc e)
     by (Some v) e = subst P (same_Some _ _ e) (each v)
 
-pub meet_all : {V : Type 0} (firm_of : V → Firm) (firms : List V) → ((v : V) → HasOwnBundles (firm_of v)) → ((v : V) → ExchangesOne (firm_of v)) → ((v : V) → ExchangesNet (firm_of v))
-    → MeetExchange (map firm_of firms)
-meet_all firm_of firms own one net = each_firm firm_of (λ z. HasOwnBundles z × MeetsExchange z) firms (λ v. (own v, meets_exchange (firm_of v) (one v) (net v)))
+pub meet_all : {V : Type 0} {limit_of : V → ℕ} (firm_of : V → Firm) (firms : List V) → ((v : V) → IsLawful (limit_of v) (firm_of v)) → MeetExchange (map firm_of firms)
+meet_all firm_of firms lawful = each_firm firm_of (λ z. HasOwnBundles z × MeetsExchange z) firms
+    (λ v. ((lawful v).own_bundles, meets_exchange (firm_of v) (lawful v).exchange_one (lawful v).exchange_net))
 
 -- a bound that no item's limit is above bounds the worths of all firms
 pub each_within : {V : Type 0} (firm_of : V → Firm) (limit_of : V → ℕ) (items : List V) → ((v : V) → IsWorthAtMost (limit_of v) (firm_of v)) → (bound : ℕ)

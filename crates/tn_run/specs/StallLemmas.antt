@@ -1,6 +1,6 @@
 -- What the impl for the stall of the tests needs.
 use Rattle.std.specs.Prelude.{◌≡◌, ℕ, ◌<◌, Bool, true, false, nat_lt, if◌then◌else◌, ℤ, pos, negsuc, ◌+ℤ◌, Some, None, refl}
-use Rattle.std.proofs.Common.{sym, ap, ◌∙◌, subst, arith}
+use Rattle.std.proofs.Common.{sym, ap, ◌∙◌, subst, arith, lit≤, lit<}
 use Rattle.std.proofs.lemmas.Int.{ints}
 use Rattle.std.proofs.lemmas.Bool.{lt-ltb}
 use Rattle.std.proofs.lemmas.Option.{same_Some}
@@ -8,7 +8,8 @@ use Rattle.tn_base.specs.Sets.{has, sum_over}
 use Rattle.tn_base.specs.Arcs.{IsAtMost}
 use Rattle.tn_law.specs.Additive.{additive}
 use Rattle.tn_law.proofs.AdditiveLemmas.{meets-additive}
-use Rattle.tn_market.specs.Valued.{ExchangesOne, ExchangesNet, IsWorthAtMost}
+use Rattle.tn_market.specs.Lawful.{IsLawful}
+use Rattle.tn_market.specs.Valued.{IsWorthAtMost}
 use Rattle.tn_run.specs.Stall.{amounts, stall, amounts_of}
 
 pub sum_over-amounts : (x : ℕ) → sum_over amounts 2 x ≡ amounts_of (has x 0) (has x 1)
@@ -38,8 +39,14 @@ stall-within x a is = by_case (nat_lt x 4) is
     by_case true e = subst (λ (z : ℤ). IsAtMost z 8) (same_Some _ _ e) (subst (λ (z : ℤ). IsAtMost z 8) (sym (sum_over-amounts x)) (small (has x 0) (has x 1)))
     by_case false e = absurd (cc e)
 
-pub stall-exchanges_one : ExchangesOne stall
-stall-exchanges_one = (meets-additive 2 1 amounts).1.one
-
-pub stall-exchanges_net : ExchangesNet stall
-stall-exchanges_net = (meets-additive 2 1 amounts).1.net_count
+pub stall-lawful : IsLawful 8 stall
+stall-lawful = record {
+  few_trades = lit≤ tt;
+  own_purchases = lit< tt;
+  own_bundles = (meets-additive 2 1 amounts).0;
+  empty_is_possible = (_, refl);
+  exchange_one = (meets-additive 2 1 amounts).1.one;
+  exchange_net = (meets-additive 2 1 amounts).1.net_count;
+  within = stall-within;
+  small_limit = lit≤ tt;
+}

@@ -6,9 +6,7 @@ ghost use Rattle.tn_run.specs.Stall.{trade_between};
 
 use std::alloc::Global;
 use tn_base::{Asked, Bundle, OutOfMemory, Side, Steps};
-use tn_market::{
-    Contract, Contracts, Ends, Market, Oracle, Outcome, Room, Valuation, best_by_ascent,
-};
+use tn_market::{Contract, Contracts, Ends, Market, Oracle, Outcome, Valuation};
 
 /// An amount, if it counts.
 fn counted(counts: bool, amount: i128) -> i128
@@ -24,30 +22,12 @@ pub(crate) struct Stall;
 impl Valuation for Stall {
     type Mark = Asked;
 
-    ghost use Rattle.std.proofs.Common.{refl, lit≤, lit<};
-    ghost use Rattle.tn_law.proofs.AdditiveLemmas.{meets-additive};
-    ghost use Rattle.tn_run.specs.Stall.{stall, amounts};
-    ghost use Rattle.tn_run.specs.StallLemmas.{stall-within, stall-exchanges_one, stall-exchanges_net};
+    ghost use Rattle.tn_run.specs.Stall.{stall};
+    ghost use Rattle.tn_run.specs.StallLemmas.{stall-lawful};
 
     ghost firm = { λ _. stall };
 
     ghost limit = { λ _. 8 };
-
-    ghost few_trades = { λ _. lit≤ tt };
-
-    ghost own_purchases = { λ _. lit< tt };
-
-    ghost own_bundles = { λ _. (meets-additive 2 1 amounts).0 };
-
-    ghost empty_is_possible = { λ _. (_, refl) };
-
-    ghost exchange_one = { λ _. stall-exchanges_one };
-
-    ghost exchange_net = { λ _. stall-exchanges_net };
-
-    ghost within = { λ _. stall-within };
-
-    ghost small_limit = { λ _. lit≤ tt };
 
     fn trades(&self) -> u32 {
         2
@@ -66,20 +46,11 @@ impl Valuation for Stall {
         steps.tick();
         Some(counted(x.has(0), -3) + counted(x.has(1), 5))
     }
+
+    ghost lawful = { λ _. stall-lawful };
 }
 
-impl Oracle for Stall {
-    fn best(
-        &self,
-        need: Bundle,
-        free: Bundle,
-        scale: i128,
-        prices: &[i128],
-        _room: &mut Room,
-    ) -> Option<(Bundle, i128)> {
-        best_by_ascent(self, need, free, scale, prices, &mut Steps::new(Asked))
-    }
-}
+impl Oracle for Stall {}
 
 /// A trade between two stalls.
 pub(crate) fn ends(seller: u32, buyer: u32) -> Ends

@@ -11,7 +11,8 @@ use Rattle.tn_base.specs.Arcs.{IsAtMost}
 use Rattle.tn_base.specs.Firm.{Firm, HasOwnBundles, MayAbstain}
 use Rattle.tn_market.specs.Traded.{Traded}
 use Rattle.tn_plain_data.specs.Network.{IsNetwork}
-use Rattle.tn_market.specs.Valued.{IsWorthAtMost, ExchangesOne, ExchangesNet}
+use Rattle.tn_market.specs.Lawful.{IsLawful}
+use Rattle.tn_market.specs.Valued.{IsWorthAtMost}
 use Rattle.tn_plain_data.specs.Prices.{price_at}
 use Rattle.tn_graph.specs.Matrix.{Matrix}
 use Rattle.tn_cycle.specs.Reading.{Reading}
@@ -40,13 +41,12 @@ pub record HasLaws {V : Type 0} (firm_of : V → Firm) (limit_of : V → ℕ) (m
   pub within : (v : V) → IsWorthAtMost (limit_of v) (firm_of v)
 
 pub laws_of : {V : Type 0} (firm_of : V → Firm) (limit_of : V → ℕ) (market : Traded V) → IsNetwork (map firm_of market.firms) market.trades
-    → ((v : V) → HasOwnBundles (firm_of v)) → ((v : V) → ExchangesOne (firm_of v)) → ((v : V) → ExchangesNet (firm_of v)) → ((v : V) → MayAbstain (firm_of v))
-    → ((v : V) → IsWorthAtMost (limit_of v) (firm_of v)) → HasLaws firm_of limit_of market
-laws_of firm_of limit_of market network own one net abstain within = record {
+    → ((v : V) → IsLawful (limit_of v) (firm_of v)) → HasLaws firm_of limit_of market
+laws_of firm_of limit_of market network lawful = record {
   network = network;
-  meet = meet_all firm_of market.firms own one net;
-  abstain = each_firm firm_of MayAbstain market.firms abstain;
-  within = within;
+  meet = meet_all firm_of market.firms lawful;
+  abstain = each_firm firm_of MayAbstain market.firms (λ v. (lawful v).empty_is_possible);
+  within = λ v. (lawful v).within;
 }
 
 -- no arc costs too much for a graph

@@ -30,7 +30,7 @@ best-best-requires-clause-own g c =
 pub unwrap-requires : goal.unwrap-requires
 unwrap-requires g c =
     some_best (g.V.Valuation.firm c.firm-firm.result.now) (to_z w128 (of_z w128 c.args.scale)) (price_at (take c.trades.result c.terms_of-terms.result.prices)) c.empty.result
-    c.terms_of-terms.result.free c.best-best.result (g.met.V.Valuation.empty_is_possible c.firm-firm.result.now) c.empty.ensures c.best-best.ensures
+    c.terms_of-terms.result.free c.best-best.result (g.met.V.Valuation.lawful c.firm-firm.result.now).empty_is_possible c.empty.ensures c.best-best.ensures
 
 pub returns-clause-greatest : goal.returns-clause-greatest
 returns-clause-greatest g c = λ v is.
@@ -62,7 +62,7 @@ returns-clause-size g c =
     (to_z-of_z w128 c.args.scale fits) c.best-best.ensures in
     let best = subst (GivesBest c.empty.result c.terms_of-terms.result.free (utility c.args.scale (price_at (take c.trades.result c.terms_of-terms.result.prices)) (g.V.Valuation.firm now))) c.unwrap.ensures gives in
     let asked : IsAsked (g.V.Valuation.firm now) (g.V.Valuation.limit now) c.args.scale (take c.trades.result c.terms_of-terms.result.prices) = record {
-      within = g.met.V.Valuation.within now;
+      within = (g.met.V.Valuation.lawful now).within;
       small_limit = c.requires.limits.small_worths c.args.f now c.firm-firm.ensures;
       priced = length-take-le c.trades.result c.terms_of-terms.result.prices (omega (arith, few, count, counted)) ∙ count;
       few = few;

@@ -63,7 +63,7 @@ returns g c = record {
   solved = solved_among (party_firm g.V.Valuation) (party_limit g.V.Valuation) (map g.V.Valuation.firm c.args.market.now.firms) c.args.market.now.trades c.args.outcome.now.over
       c.args.outcome.now.contracts c.args.residual.now c.args.allowed.now c.args.free c.numbers_of-numbers.result c.add_numbers.new.numbers c.solve_among.new.self c.requires.network
       (outcome_feasible c.args.market.now.trades c.args.outcome.now.over c.args.outcome.now.contracts c.requires.outcome)
-      (each_firm g.V.Valuation.firm (λ (z : Firm). HasOwnBundles z) c.args.market.now.firms g.met.V.Valuation.own_bundles) c.requires.residual c.requires.free
+      (each_firm g.V.Valuation.firm (λ (z : Firm). HasOwnBundles z) c.args.market.now.firms (λ v. (g.met.V.Valuation.lawful v).own_bundles)) c.requires.residual c.requires.free
       (subst (λ (n : ℕ). AreNumbers c.args.outcome.now.contracts c.args.allowed.now n c.numbers_of-numbers.result) c.trades-count.ensures.count c.numbers_of-numbers.ensures)
       (subst (λ (n : ℕ). AreNumbersUpTo c.numbers_of-numbers.result c.args.free n c.add_numbers.new.numbers) c.trades.ensures.count c.add_numbers.ensures)
       c.solve_among.ensures.solution c.solve_among.ensures.prices;

@@ -29,4 +29,4 @@ pub returns-clause-small : goal.returns-clause-small
 returns-clause-small g c =
     small_graph (reduced_arc (map g.V.Valuation.firm c.args.market.now.firms) c.args.market.now.trades c.args.outcome.now.over c.args.outcome.now.contracts) most_reduced_cost c.loop-u.graph
     (reduced_arcs_small g.V.Valuation.firm g.V.Valuation.limit c.args.market.now c.args.outcome.now.over c.args.outcome.now.contracts c.trades-nodes.ensures.network c.requires.limits
-    c.requires.outcome g.met.V.Valuation.within) (returns-clause-graph g c).arcs
+    c.requires.outcome (λ v. (g.met.V.Valuation.lawful v).within)) (returns-clause-graph g c).arcs

@@ -15,7 +15,7 @@ overflow_sub-result g c = elim (slice_get_cases c.args.market.now.firms c.args.f
   | inr past ↦ absurd (let above = past.0 in let inside = c.requires.firm in omega (arith, above, inside))
   | inl item ↦
       let small = item_small g.V.Valuation.firm g.V.Valuation.limit c.args.market.now c.args.outcome.now.over c.args.outcome.now.contracts c.requires.limits c.requires.outcome
-      g.met.V.Valuation.within c.args.f item.0 item.2 in
+      (λ v. (g.met.V.Valuation.lawful v).within) c.args.f item.0 item.2 in
       let firm = reduced c.args.market.now.trades c.args.outcome.now.over c.args.outcome.now.contracts c.args.f (g.V.Valuation.firm item.0) in
       difference_fits c.in_ok-before.before c.in_ok-after.after
       (found_small firm.worth c.empty.result c.reduced_best.result c.in_ok-before.field-0-0 c.in_ok-before.before small (c.reduced_best.ensures.worth item.0 item.2) (c.in_ok-before.was)).0
@@ -26,7 +26,7 @@ pub returns : goal.returns
 returns g c = record {
   loss = λ v is.
       let small = item_small g.V.Valuation.firm g.V.Valuation.limit c.args.market.now c.args.outcome.now.over c.args.outcome.now.contracts c.requires.limits c.requires.outcome
-      g.met.V.Valuation.within c.args.f v is in
+      (λ v. (g.met.V.Valuation.lawful v).within) c.args.f v is in
       let firm = reduced c.args.market.now.trades c.args.outcome.now.over c.args.outcome.now.contracts c.args.f (g.V.Valuation.firm v) in
       let before = found_small firm.worth c.empty.result c.reduced_best.result c.in_ok-before.field-0-0 c.in_ok-before.before small (c.reduced_best.ensures.worth v is) (c.in_ok-before.was) in
       let after = found_small firm.worth c.args.bundle c.reduced_best-2.result c.in_ok-after.field-0-0 c.in_ok-after.after small (c.reduced_best-2.ensures.worth v is) (c.in_ok-after.was) in

@@ -24,7 +24,7 @@ pub set-requires-clause-small : goal.set-requires-clause-small
 set-requires-clause-small g c =
     cost_small (reduced_arc (map g.V.Valuation.firm c.args.market.now.firms) c.args.market.now.trades c.args.outcome.now.over c.args.outcome.now.contracts)
     (reduced_arcs_small g.V.Valuation.firm g.V.Valuation.limit c.args.market.now c.args.outcome.now.over c.args.outcome.now.contracts c.requires.network c.requires.limits c.requires.outcome
-    g.met.V.Valuation.within) c.args.u c.loop-v.v c.reduced_cost-cost.result c.reduced_cost-cost.ensures.cost
+    (λ v. (g.met.V.Valuation.lawful v).within)) c.args.u c.loop-v.v c.reduced_cost-cost.result c.reduced_cost-cost.ensures.cost
 
 pub loop-v-preserved : goal.loop-v-preserved
 loop-v-preserved g c =

@@ -19,7 +19,7 @@ returns-in-Feasible g c =
     let one_each = labels.one_each in
     labels_complete (map g.V.Valuation.firm c.args.market.now.firms) c.args.market.now.trades c.args.outcome.now.over c.args.outcome.now.contracts
     (rational_outcome g.V.Valuation.firm c.args.market.now.firms c.args.market.now.trades c.args.outcome.now.over c.args.outcome.now.contracts c.trades-trades.ensures.network
-    g.met.V.Valuation.own_bundles g.met.V.Valuation.exchange_one g.met.V.Valuation.exchange_net c.requires.outcome c.requires.rational) c.requires.outcome.contracts.small c.in_ok-graph.graph c.in_ok-graph.ensures.graph c.labels.new.self.labels labels.keeps
+    g.met.V.Valuation.lawful c.requires.outcome c.requires.rational) c.requires.outcome.contracts.small c.in_ok-graph.graph c.in_ok-graph.ensures.graph c.labels.new.self.labels labels.keeps
     (labels_small c.in_ok-finder.finder.nodes c.in_ok-graph.graph c.labels.new.self.labels (omega (arith, sized, count, few)) c.in_ok-graph.ensures.small labels)
     (omega (arith, one_each, sized, count)) c.trades-trades.result count c.in_ok-prices-in-Feasible.prices c.in_ok-prices-in-Feasible.ensures
 
@@ -27,4 +27,4 @@ pub returns : goal.returns
 returns g c =
     cycle_incomplete (map g.V.Valuation.firm c.args.market.now.firms) c.args.market.now.trades c.args.outcome.now.over c.args.outcome.now.contracts
     (rational_outcome g.V.Valuation.firm c.args.market.now.firms c.args.market.now.trades c.args.outcome.now.over c.args.outcome.now.contracts c.trades-trades.ensures.network
-    g.met.V.Valuation.own_bundles g.met.V.Valuation.exchange_one g.met.V.Valuation.exchange_net c.requires.outcome c.requires.rational) c.in_ok-graph.graph c.in_ok-graph.ensures.graph c.in_ok-finder.finder.nodes c.labels.new.self.listed c.in-Negative.cost c.in-Negative.length c.in-Negative.ensures.answer.0
+    g.met.V.Valuation.lawful c.requires.outcome c.requires.rational) c.in_ok-graph.graph c.in_ok-graph.ensures.graph c.in_ok-finder.finder.nodes c.labels.new.self.listed c.in-Negative.cost c.in-Negative.length c.in-Negative.ensures.answer.0

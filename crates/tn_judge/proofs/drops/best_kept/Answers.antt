@@ -13,7 +13,7 @@ pub unwrap-requires : goal.unwrap-requires
 unwrap-requires g c = elim (slice_get_cases c.args.market.now.firms c.args.f).1 [
   | inr past ↦ absurd (let above = past.0 in let inside = c.requires.firm in omega (arith, above, inside))
   | inl item ↦ some_best c.args.market.now.trades c.args.outcome.now.over c.args.outcome.now.contracts c.args.f (g.V.Valuation.firm item.0) c.empty.result c.reduced_best.result
-      (g.met.V.Valuation.empty_is_possible item.0) c.empty.ensures (c.reduced_best.ensures.part item.0 item.2)
+      (g.met.V.Valuation.lawful item.0).empty_is_possible c.empty.ensures (c.reduced_best.ensures.part item.0 item.2)
 ]
 
 pub returns-clause-small : goal.returns-clause-small
@@ -21,7 +21,7 @@ returns-clause-small g c = elim (slice_get_cases c.args.market.now.firms c.args.
   | inr past ↦ absurd (let above = past.0 in let inside = c.requires.firm in omega (arith, above, inside))
   | inl item ↦
       let small = item_small g.V.Valuation.firm g.V.Valuation.limit c.args.market.now c.args.outcome.now.over c.args.outcome.now.contracts c.requires.limits c.requires.outcome
-      g.met.V.Valuation.within c.args.f item.0 item.2 in
+      (λ v. (g.met.V.Valuation.lawful v).within) c.args.f item.0 item.2 in
       let firm = reduced c.args.market.now.trades c.args.outcome.now.over c.args.outcome.now.contracts c.args.f (g.V.Valuation.firm item.0) in
       (found_small firm.worth c.empty.result c.reduced_best.result c.unwrap.result.0 c.unwrap.result.1 small (c.reduced_best.ensures.worth item.0 item.2) c.unwrap.ensures).0
 ]

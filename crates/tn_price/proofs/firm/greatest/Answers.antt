@@ -24,7 +24,7 @@ unwrap-requires g c =
     let gives = subst (λ (scale : ℤ). GivesBest c.empty.result c.all_positions-all.result (utility scale (price_at c.args.prices.now) firm) c.best.result)
     (to_z-of_z w128 c.args.scale fits) c.best.ensures in
     some_greatest firm c.args.scale (price_at c.args.prices.now) c.empty.result c.all_positions-all.result c.best.result
-    (g.met.V.Valuation.empty_is_possible c.args.firm.now) (g.met.V.Valuation.own_bundles c.args.firm.now) c.empty.ensures
+    (g.met.V.Valuation.lawful c.args.firm.now).empty_is_possible (g.met.V.Valuation.lawful c.args.firm.now).own_bundles c.empty.ensures
     (c.all_positions-all.ensures ∙ ap (set_of (λ k. true)) c.trades.ensures.count) gives
 
 pub returns-clause-best : goal.returns-clause-best
@@ -34,7 +34,7 @@ returns-clause-best g c =
     let gives = subst (λ (scale : ℤ). GivesBest c.empty.result c.all_positions-all.result (utility scale (price_at c.args.prices.now) firm) c.best.result)
     (to_z-of_z w128 c.args.scale fits) c.best.ensures in
     greatest_is_best firm c.args.scale (price_at c.args.prices.now) c.empty.result c.all_positions-all.result c.unwrap.result.0 c.unwrap.result.1
-    (g.met.V.Valuation.own_bundles c.args.firm.now) c.empty.ensures (c.all_positions-all.ensures ∙ ap (set_of (λ k. true)) c.trades.ensures.count)
+    (g.met.V.Valuation.lawful c.args.firm.now).own_bundles c.empty.ensures (c.all_positions-all.ensures ∙ ap (set_of (λ k. true)) c.trades.ensures.count)
     c.best.result c.unwrap.ensures gives
 
 pub returns-clause-small : goal.returns-clause-small
@@ -44,10 +44,10 @@ returns-clause-small g c =
     let gives = subst (λ (scale : ℤ). GivesBest c.empty.result c.all_positions-all.result (utility scale (price_at c.args.prices.now) firm) c.best.result)
     (to_z-of_z w128 c.args.scale fits) c.best.ensures in
     let best = greatest_is_best firm c.args.scale (price_at c.args.prices.now) c.empty.result c.all_positions-all.result c.unwrap.result.0 c.unwrap.result.1
-    (g.met.V.Valuation.own_bundles c.args.firm.now) c.empty.ensures (c.all_positions-all.ensures ∙ ap (set_of (λ k. true)) c.trades.ensures.count)
+    (g.met.V.Valuation.lawful c.args.firm.now).own_bundles c.empty.ensures (c.all_positions-all.ensures ∙ ap (set_of (λ k. true)) c.trades.ensures.count)
     c.best.result c.unwrap.ensures gives in
     let asked : IsAsked firm (g.V.Valuation.limit c.args.firm.now) c.args.scale c.args.prices.now = record {
-      within = g.met.V.Valuation.within c.args.firm.now;
+      within = (g.met.V.Valuation.lawful c.args.firm.now).within;
       small_limit = c.requires.small_worths;
       priced = c.requires.priced;
       few = c.requires.few_trades;

@@ -31,7 +31,7 @@ returns g c =
     let small_worths = c.requires.small_worths in
     let worth_is = sym c.worth_of.ensures ∙ c.unwrap.ensures in
     let small = smaller c.unwrap.result (g.V.Valuation.limit c.args.firm.now) most_worth small_worths
-    (g.met.V.Valuation.within c.args.firm.now c.args.own c.unwrap.result worth_is) in
+    ((g.met.V.Valuation.lawful c.args.firm.now).within c.args.own c.unwrap.result worth_is) in
     let plain = as_is c.unwrap.result (smaller c.unwrap.result most_worth most_utility (omega arith) small) in
     let own_is = subst (λ (scale : ℤ). ◌≡◌ {A = Option ℤ} (Some c.in-Some.value) (utility scale (price_at c.args.prices.now) firm c.args.own))
     plain_scale c.in-Some.ensures.value in

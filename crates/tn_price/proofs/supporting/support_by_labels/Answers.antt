@@ -20,7 +20,7 @@ returns-in-Feasible-clause-answer g c =
     let firms = map g.V.Valuation.firm c.args.market.now.firms in
     let trades = c.args.market.now.trades in
     labels_support firms trades c.args.on.now c.labels.new.self.labels c.in_ok-prices_from-in-Feasible.field-0 c.trades-trades.ensures.network
-    (meet_all g.V.Valuation.firm c.args.market.now.firms g.met.V.Valuation.own_bundles g.met.V.Valuation.exchange_one g.met.V.Valuation.exchange_net) c.requires.possible
+    (meet_all g.V.Valuation.firm c.args.market.now.firms g.met.V.Valuation.lawful) c.requires.possible
     (exchange_labels firms trades c.args.on.now c.in_ok-finder.finder.nodes c.fill.new.self c.labels.new.self.labels c.fill.ensures.graph (search rules) c.in-Feasible.ensures.answer.1)
     (read c.trades-trades.result (length trades) c.labels.new.self.labels c.in_ok-prices_from-in-Feasible.field-0 c.trades-trades.ensures.count c.in_ok-prices_from-in-Feasible.ensures.one_each
     c.in_ok-prices_from-in-Feasible.ensures.each)
@@ -30,7 +30,7 @@ returns-in-Feasible-clause-prices g c =
     let firms = map g.V.Valuation.firm c.args.market.now.firms in
     let trades = c.args.market.now.trades in
     priced_within g.V.Valuation.firm g.V.Valuation.limit c.args.market.now.firms trades c.args.on.now c.labels.new.self.labels c.in_ok-prices_from-in-Feasible.field-0 c.trades-trades.ensures.network
-    g.met.V.Valuation.within
+    (λ v. (g.met.V.Valuation.lawful v).within)
     (exchange_labels firms trades c.args.on.now c.in_ok-finder.finder.nodes c.fill.new.self c.labels.new.self.labels c.fill.ensures.graph (search rules) c.in-Feasible.ensures.answer.1)
     (read c.trades-trades.result (length trades) c.labels.new.self.labels c.in_ok-prices_from-in-Feasible.field-0 c.trades-trades.ensures.count c.in_ok-prices_from-in-Feasible.ensures.one_each
     c.in_ok-prices_from-in-Feasible.ensures.each)

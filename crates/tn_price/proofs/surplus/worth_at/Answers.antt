@@ -26,5 +26,5 @@ returns-clause-small g c = by c.value.result c.value.ensures.worth
     by : (o : Option ℤ) → o ≡ (g.V.Valuation.firm c.firm.result.now).worth c.bundle_of-bundle.result → IfSome o (λ worth. IsAtMost worth most_limit)
     by None is = tt
     by (Some worth) is =
-        smaller worth (g.V.Valuation.limit c.firm.result.now) most_limit (g.met.V.Valuation.small_limit c.firm.result.now)
-        (g.met.V.Valuation.within c.firm.result.now c.bundle_of-bundle.result worth (sym is))
+        smaller worth (g.V.Valuation.limit c.firm.result.now) most_limit (g.met.V.Valuation.lawful c.firm.result.now).small_limit
+        ((g.met.V.Valuation.lawful c.firm.result.now).within c.bundle_of-bundle.result worth (sym is))

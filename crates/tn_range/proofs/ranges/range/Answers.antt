@@ -38,7 +38,7 @@ returns-clause-ranges g c =
     let firms = map g.V.Valuation.firm c.args.market.now.firms in
     let trades = c.args.market.now.trades in
     IfOk-weaker c.ranges_from.result _ _ (λ ranges are. all_ranges firms trades c.args.on.now c.least_from.new.self c.least_to.new.self c.trades-trades.ensures.network
-    (meet_all g.V.Valuation.firm c.args.market.now.firms g.met.V.Valuation.own_bundles g.met.V.Valuation.exchange_one g.met.V.Valuation.exchange_net) c.requires.supported
+    (meet_all g.V.Valuation.firm c.args.market.now.firms g.met.V.Valuation.lawful) c.requires.supported
     (found firms trades c.args.on.now c.in_ok-from_null.from_null.nodes c.in_ok-to_null.to_null.nodes c.trades-trades.result c.fill.new.self c.least_from.new.self c.least_to.new.self c.fill.ensures.graph
     (search rules) (search rules) c.trades-trades.ensures.count c.least_from.ensures.walks c.least_to.ensures.walks)
     ranges (subst (λ (n : ℕ). AreRangesBy n n c.least_from.new.self c.least_to.new.self ranges) c.trades-trades.ensures.count are)) c.ranges_from.ensures

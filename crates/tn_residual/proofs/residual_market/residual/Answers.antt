@@ -76,7 +76,7 @@ returns-clause-surplus g c =
     let from_one = (scale_fits c.args.outcome.now.over c.args.scale outcome.least c.requires.scaled c.requires.small_scale).0 in
     let law = surplus_is_reduced_worth (map g.V.Valuation.firm c.args.market.now.firms) c.args.market.now.trades c.args.outcome.now.over c.args.outcome.now.contracts c.args.scale c.args.tax
     c.all_trades.ensures.network (outcome_feasible c.args.market.now.trades c.args.outcome.now.over c.args.outcome.now.contracts c.requires.outcome)
-    (each_firm g.V.Valuation.firm HasOwnBundles c.args.market.now.firms g.met.V.Valuation.own_bundles) (omega (arith, ints, from_one)) in
+    (each_firm g.V.Valuation.firm HasOwnBundles c.args.market.now.firms (λ v. (g.met.V.Valuation.lawful v).own_bundles)) (omega (arith, ints, from_one)) in
     IfOk-weaker c.new.result _ _ (λ market is. subst (λ (m : Traded (Party g.row.V.Denot g.row.V-Mark.Denot g.V.Valuation)).
     IsSurplusOfReduced (map (party_firm g.V.Valuation) m.firms) m.trades (map g.V.Valuation.firm c.args.market.now.firms) c.args.market.now.trades
     c.args.outcome.now.over c.args.outcome.now.contracts c.args.scale c.args.tax) (sym is)

@@ -52,4 +52,4 @@ returns-clause-worth g c = λ v is.
     (c.requires.limits.few_own c.args.firm c.firm-firm.result.now c.firm-firm.ensures) holds best v is in
     ap (option_map (λ (p : ℕ × ℤ). p.1)) c.without.ensures ∙ same_utility c.args.x c.best.result
     ∙ sym ((reduced_worths_are_greatest c.args.market.now.trades c.args.outcome.now.over c.args.outcome.now.contracts c.args.firm (g.V.Valuation.firm v) c.args.x
-    (option_map (λ found. found.1) c.best.result) (g.met.V.Valuation.own_bundles v) (c.requires.unsigned v is)).1 (c.best.result, found, refl))
+    (option_map (λ found. found.1) c.best.result) (g.met.V.Valuation.lawful v).own_bundles (c.requires.unsigned v is)).1 (c.best.result, found, refl))

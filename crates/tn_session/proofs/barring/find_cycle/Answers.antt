@@ -6,8 +6,7 @@ use Rattle.tn_session.proofs.barring.find_cycle.Goals as goal
 pub invariant_of-lowered : goal.invariant_of-lowered
 invariant_of-lowered g c = record {
   small = leaving_small g.V.Valuation.firm g.V.Valuation.limit c.args.market.now c.args.rounds.now.graph c.args.rounds.now.finder c.args.rounds.now.allowed c.args.rounds.now.on c.args.t
-      (laws_of g.V.Valuation.firm g.V.Valuation.limit c.args.market.now c.trades-trades.ensures.network g.met.V.Valuation.own_bundles g.met.V.Valuation.exchange_one g.met.V.Valuation.exchange_net
-      g.met.V.Valuation.empty_is_possible g.met.V.Valuation.within) c.requires.leaving;
+      (laws_of g.V.Valuation.firm g.V.Valuation.limit c.args.market.now c.trades-trades.ensures.network g.met.V.Valuation.lawful) c.requires.leaving;
 }
 
 pub through-requires : goal.through-requires
@@ -24,8 +23,7 @@ through-requires g c =
           (
             omega (arith, sized, trade),
             leaving_asks g.V.Valuation.firm g.V.Valuation.limit c.args.market.now c.args.rounds.now.graph c.args.rounds.now.finder c.args.rounds.now.allowed c.args.rounds.now.on c.args.t
-                (laws_of g.V.Valuation.firm g.V.Valuation.limit c.args.market.now c.trades-trades.ensures.network g.met.V.Valuation.own_bundles g.met.V.Valuation.exchange_one g.met.V.Valuation.exchange_net
-                g.met.V.Valuation.empty_is_possible g.met.V.Valuation.within) c.requires.leaving,
+                (laws_of g.V.Valuation.firm g.V.Valuation.limit c.args.market.now c.trades-trades.ensures.network g.met.V.Valuation.lawful) c.requires.leaving,
           ),
         ),
       ),
@@ -33,11 +31,9 @@ through-requires g c =
 
 pub unreachable-requires : goal.unreachable-requires
 unreachable-requires g c = leaving_never g.V.Valuation.firm g.V.Valuation.limit c.args.market.now c.args.rounds.now.graph c.args.rounds.now.finder c.args.rounds.now.allowed c.args.rounds.now.on c.args.t
-    (laws_of g.V.Valuation.firm g.V.Valuation.limit c.args.market.now c.trades-trades.ensures.network g.met.V.Valuation.own_bundles g.met.V.Valuation.exchange_one g.met.V.Valuation.exchange_net
-    g.met.V.Valuation.empty_is_possible g.met.V.Valuation.within) c.requires.leaving c.in-None.ensures.answer.0
+    (laws_of g.V.Valuation.firm g.V.Valuation.limit c.args.market.now c.trades-trades.ensures.network g.met.V.Valuation.lawful) c.requires.leaving c.in-None.ensures.answer.0
 
 pub returns-clause-kept : goal.returns-clause-kept
 returns-clause-kept g c = (leaving_finds g.V.Valuation.firm g.V.Valuation.limit c.args.market.now c.args.rounds.now.graph c.args.rounds.now.finder c.args.rounds.now.allowed c.args.rounds.now.on c.args.t
-    (laws_of g.V.Valuation.firm g.V.Valuation.limit c.args.market.now c.trades-trades.ensures.network g.met.V.Valuation.own_bundles g.met.V.Valuation.exchange_one g.met.V.Valuation.exchange_net
-    g.met.V.Valuation.empty_is_possible g.met.V.Valuation.within) c.requires.leaving
+    (laws_of g.V.Valuation.firm g.V.Valuation.limit c.args.market.now c.trades-trades.ensures.network g.met.V.Valuation.lawful) c.requires.leaving
     c.through.new.self.listed c.in-Cycle.cost c.in-Cycle.length c.in-Cycle.ensures.answer).1

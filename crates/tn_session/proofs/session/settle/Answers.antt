@@ -9,26 +9,22 @@ returns-clause-settled g c = record {
   fits_graph = firms_small g.V.Valuation.limit c.args.market.now c.requires.small;
   under_way = c.settle.ensures.under_way;
   settled = settled g.V.Valuation.firm g.V.Valuation.limit c.args.market.now c.settle.new.self.allowed c.settle.new.self.on c.args.rounds.now.allowed c.args.rounds.now.on c.settle.new.self.finder.labels
-      (laws_of g.V.Valuation.firm g.V.Valuation.limit c.args.market.now c.trades-trades.ensures.network g.met.V.Valuation.own_bundles g.met.V.Valuation.exchange_one g.met.V.Valuation.exchange_net
-      g.met.V.Valuation.empty_is_possible g.met.V.Valuation.within)
+      (laws_of g.V.Valuation.firm g.V.Valuation.limit c.args.market.now c.trades-trades.ensures.network g.met.V.Valuation.lawful)
       c.settle.ensures.admitted c.settle.ensures.on c.settle.ensures.labels;
 }
 
 pub returns-clause-equilibrium : goal.returns-clause-equilibrium
 returns-clause-equilibrium g c =
     holds g.V.Valuation.firm g.V.Valuation.limit c.args.market.now c.settle.new.self.graph c.settle.new.self.finder c.settle.new.self.allowed c.settle.new.self.on
-    (laws_of g.V.Valuation.firm g.V.Valuation.limit c.args.market.now c.trades-trades.ensures.network g.met.V.Valuation.own_bundles g.met.V.Valuation.exchange_one g.met.V.Valuation.exchange_net
-    g.met.V.Valuation.empty_is_possible g.met.V.Valuation.within)
+    (laws_of g.V.Valuation.firm g.V.Valuation.limit c.args.market.now c.trades-trades.ensures.network g.met.V.Valuation.lawful)
     c.settle.ensures.under_way
     (settled g.V.Valuation.firm g.V.Valuation.limit c.args.market.now c.settle.new.self.allowed c.settle.new.self.on c.args.rounds.now.allowed c.args.rounds.now.on c.settle.new.self.finder.labels
-    (laws_of g.V.Valuation.firm g.V.Valuation.limit c.args.market.now c.trades-trades.ensures.network g.met.V.Valuation.own_bundles g.met.V.Valuation.exchange_one g.met.V.Valuation.exchange_net
-    g.met.V.Valuation.empty_is_possible g.met.V.Valuation.within)
+    (laws_of g.V.Valuation.firm g.V.Valuation.limit c.args.market.now c.trades-trades.ensures.network g.met.V.Valuation.lawful)
     c.settle.ensures.admitted c.settle.ensures.on c.settle.ensures.labels)
 
 pub returns-clause-prices : goal.returns-clause-prices
 returns-clause-prices g c =
     small_prices g.V.Valuation.firm g.V.Valuation.limit c.args.market.now c.settle.new.self.allowed c.settle.new.self.on c.settle.new.self.finder.labels
     (settled g.V.Valuation.firm g.V.Valuation.limit c.args.market.now c.settle.new.self.allowed c.settle.new.self.on c.args.rounds.now.allowed c.args.rounds.now.on c.settle.new.self.finder.labels
-    (laws_of g.V.Valuation.firm g.V.Valuation.limit c.args.market.now c.trades-trades.ensures.network g.met.V.Valuation.own_bundles g.met.V.Valuation.exchange_one g.met.V.Valuation.exchange_net
-    g.met.V.Valuation.empty_is_possible g.met.V.Valuation.within)
+    (laws_of g.V.Valuation.firm g.V.Valuation.limit c.args.market.now c.trades-trades.ensures.network g.met.V.Valuation.lawful)
     c.settle.ensures.admitted c.settle.ensures.on c.settle.ensures.labels)

@@ -46,7 +46,7 @@ returns-clause-solution g c =
     (sym c.settle.ensures.on)
     (solution_from (map g.V.Valuation.firm c.args.market.now.firms) c.args.market.now.trades c.admit_all.new.self.graph c.admit_all.new.self.finder c.admit_all.new.self.allowed c.args.admitted.now
     c.admit_all.new.self.on c.settle.new.self.finder.labels c.write_differences.new.into.items c.trades.ensures.network
-    (meet_all g.V.Valuation.firm c.args.market.now.firms g.met.V.Valuation.own_bundles g.met.V.Valuation.exchange_one g.met.V.Valuation.exchange_net)
+    (meet_all g.V.Valuation.firm c.args.market.now.firms g.met.V.Valuation.lawful)
     c.admit_all.ensures.under_way c.admit_all.ensures.admitted c.settle.ensures.labels.keeps (c.write_differences.ensures.one_each ∙ count)
     (read c.write_differences.new.into.items c.settle.new.self.finder.labels c.trades.result (length c.args.market.now.trades) count c.write_differences.ensures.each))
 
@@ -54,5 +54,5 @@ pub returns-clause-prices : goal.returns-clause-prices
 returns-clause-prices g c =
     let count = c.trades.ensures.count in
     prices_within g.V.Valuation.firm g.V.Valuation.limit c.args.market.now.firms c.args.market.now.trades c.admit_all.new.self.allowed c.admit_all.new.self.on
-    c.settle.new.self.finder.labels c.write_differences.new.into.items c.trades.ensures.network g.met.V.Valuation.within c.settle.ensures.labels (c.write_differences.ensures.one_each ∙ count)
+    c.settle.new.self.finder.labels c.write_differences.new.into.items c.trades.ensures.network (λ v. (g.met.V.Valuation.lawful v).within) c.settle.ensures.labels (c.write_differences.ensures.one_each ∙ count)
     (read c.write_differences.new.into.items c.settle.new.self.finder.labels c.trades.result (length c.args.market.now.trades) count c.write_differences.ensures.each)

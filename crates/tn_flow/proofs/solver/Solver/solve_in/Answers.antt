@@ -35,7 +35,7 @@ solve_among-requires g c = (
 pub returns-clause-equilibrium : goal.returns-clause-equilibrium
 returns-clause-equilibrium g c =
     one_cycle_for_each_trade.all (map g.V.Valuation.firm c.args.market.now.firms) c.args.market.now.trades c.all_trades-all.result c.solve_among.new.self.on c.trades-trades.ensures.network
-    (meet_all g.V.Valuation.firm c.args.market.now.firms g.met.V.Valuation.own_bundles g.met.V.Valuation.exchange_one g.met.V.Valuation.exchange_net)
+    (meet_all g.V.Valuation.firm c.args.market.now.firms g.met.V.Valuation.lawful)
     (λ t below. all_members c.all_trades-all.result (length c.args.self.now.prices) (length c.args.market.now.trades) t c.all_trades-all.ensures c.requires.made_for below)
     (price_at c.solve_among.new.self.prices) c.solve_among.ensures.solution.equilibrium
 

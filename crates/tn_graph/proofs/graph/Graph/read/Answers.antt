@@ -24,7 +24,7 @@ read_arcs-requires g c =
       few = c.trades.ensures.few;
       bundle_is = c.bundle_of-bundle.ensures c.firm-firm.result.now is ∙ ap (λ (n : ℕ). part c.args.market.now.trades c.args.f n c.args.on.now) (sym counted);
       worth_is = known;
-      within = g.met.V.Valuation.within c.firm-firm.result.now;
+      within = (g.met.V.Valuation.lawful c.firm-firm.result.now).within;
       small = c.requires.small c.args.f c.firm-firm.result.now is;
     } in
     (lit< tt, (simp to_z-of_z stand, c.requires.sized))

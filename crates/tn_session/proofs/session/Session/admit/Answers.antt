@@ -7,8 +7,7 @@ use Rattle.tn_session.proofs.session.Session.admit.Goals as goal
 pub returns-then-has-clause-equilibrium : goal.returns-then-has-clause-equilibrium
 returns-then-has-clause-equilibrium g c = subst (HoldsEquilibrium g.V.Valuation.firm) c.self.view_is
     (holds g.V.Valuation.firm g.V.Valuation.limit c.self.inside.market.now c.self.inside.rounds.graph c.self.inside.rounds.finder c.self.inside.rounds.allowed c.self.inside.rounds.on
-    (laws_of g.V.Valuation.firm g.V.Valuation.limit c.self.inside.market.now c.self.invariant.network g.met.V.Valuation.own_bundles g.met.V.Valuation.exchange_one g.met.V.Valuation.exchange_net
-    g.met.V.Valuation.empty_is_possible g.met.V.Valuation.within)
+    (laws_of g.V.Valuation.firm g.V.Valuation.limit c.self.inside.market.now c.self.invariant.network g.met.V.Valuation.lawful)
     c.self.invariant.under_way c.self.invariant.settled)
 
 pub returns-then-has-clause-prices : goal.returns-then-has-clause-prices

@@ -7,8 +7,7 @@ use Rattle.tn_session.proofs.session.Session.bar.Goals as goal
 pub returns-then-not-has-clause-equilibrium : goal.returns-then-not-has-clause-equilibrium
 returns-then-not-has-clause-equilibrium g c = subst (HoldsEquilibrium g.V.Valuation.firm) c.self.view_is
     (holds g.V.Valuation.firm g.V.Valuation.limit c.self.inside.market.now c.self.inside.rounds.graph c.self.inside.rounds.finder c.self.inside.rounds.allowed c.self.inside.rounds.on
-    (laws_of g.V.Valuation.firm g.V.Valuation.limit c.self.inside.market.now c.self.invariant.network g.met.V.Valuation.own_bundles g.met.V.Valuation.exchange_one g.met.V.Valuation.exchange_net
-    g.met.V.Valuation.empty_is_possible g.met.V.Valuation.within)
+    (laws_of g.V.Valuation.firm g.V.Valuation.limit c.self.inside.market.now c.self.invariant.network g.met.V.Valuation.lawful)
     c.self.invariant.under_way c.self.invariant.settled)
 
 pub returns-then-not-has-clause-prices : goal.returns-then-not-has-clause-prices
@@ -34,8 +33,7 @@ pub returns-else-has-clause-equilibrium : goal.returns-else-has-clause-equilibri
 returns-else-has-clause-equilibrium g c =
     let session = invariant_of-self-else-has g c in
     holds g.V.Valuation.firm g.V.Valuation.limit c.self.inside.market.now c.self.inside.rounds.graph c.self.inside.rounds.finder c.toggle.new.self c.self.inside.rounds.on
-    (laws_of g.V.Valuation.firm g.V.Valuation.limit c.self.inside.market.now c.self.invariant.network g.met.V.Valuation.own_bundles g.met.V.Valuation.exchange_one g.met.V.Valuation.exchange_net
-    g.met.V.Valuation.empty_is_possible g.met.V.Valuation.within)
+    (laws_of g.V.Valuation.firm g.V.Valuation.limit c.self.inside.market.now c.self.invariant.network g.met.V.Valuation.lawful)
     session.under_way session.settled
 
 pub returns-else-has-clause-prices : goal.returns-else-has-clause-prices
