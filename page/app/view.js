@@ -1,0 +1,92 @@
+// The value of the page, shown.
+import {lineAndColumn} from "../read/json.js";
+import {verdictOf} from "./commands.js";
+
+/** The element of an id. */
+export function part(id) {
+    return document.getElementById(id);
+}
+
+/** Shows a value. What a document holds comes into the page as text alone. */
+export function show({document: shown, words, run, answer}) {
+    document.documentElement.dataset.state = run.state === "none" ? "ready" : run.state;
+    part("name").textContent = nameOf(shown);
+    if (part("text").value !== shown.text) part("text").value = shown.text;
+    part("text").readOnly = !shown.isWhole;
+    part("run").disabled = run.state === "asking";
+    part("end").disabled = run.state !== "asking";
+    part("status").textContent = statusOf(run, words, answer);
+    part("shown").hidden = answer === null;
+    if (answer !== null) showAnswer(answer);
+}
+
+function nameOf({name, bytes, isWhole}) {
+    const size = bytes.length < 1000 ? `${bytes.length} bytes` : `${Math.round(bytes.length / 100) / 10} KB`;
+    return [name, size, isWhole ? "" : "too long to be changed here; its beginning is shown"].filter(Boolean).join(", ");
+}
+
+const STATES = {none: "", asking: "The program runs.", ended: "The run was ended."};
+
+function statusOf({state, message}, words, answer) {
+    if (state === "trouble") return message;
+    if (state !== "answered") return STATES[state];
+    return `${verdictOf(answer.status, words)} (exit status ${answer.status}, ${answer.ms.toFixed(answer.ms < 10 ? 1 : 0)} ms).`;
+}
+
+function showAnswer({text, length, sentences, mark, pictures}) {
+    part("sentences").replaceChildren(...said(sentences.map((sentence) => made("p", sentence))));
+    part("fault").replaceChildren(...(mark === null ? [] : [excerpt(mark)]));
+    part("pictures").replaceChildren(...pictures.map(pictureOf));
+    part("bytes").textContent = text;
+    part("raw").open = sentences.length === 0;
+    part("raw").firstElementChild.textContent = `What the program wrote: ${length} bytes`;
+}
+
+const MOST_SENTENCES = 12;
+
+/** Sentences; where they are many, those after the first few are folded, so that the picture isn't far below. */
+function said(sentences) {
+    if (sentences.length <= MOST_SENTENCES) return sentences;
+    const rest = made("details", "");
+    rest.append(made("summary", `${sentences.length - MOST_SENTENCES / 2} more sentences`), ...sentences.slice(MOST_SENTENCES / 2));
+    return [...sentences.slice(0, MOST_SENTENCES / 2), rest];
+}
+
+function made(name, content, className = "") {
+    const element = document.createElement(name);
+    element.textContent = content;
+    element.className = className;
+    return element;
+}
+
+/** A picture, which is read as XML, so that it holds no script that runs. */
+function pictureOf(svg) {
+    const figure = made("figure", "");
+    const drawn = new DOMParser().parseFromString(svg, "image/svg+xml").documentElement;
+    drawn.setAttribute("role", "img");
+    figure.append(document.adoptNode(drawn));
+    return figure;
+}
+
+const AROUND = 2, WIDEST = 160;
+
+/** The lines around a fault, with the fault marked. */
+function excerpt({text, start, end}) {
+    const lines = text.split("\n"), first = lineAndColumn(text, start).line - 1, last = Math.min(lineAndColumn(text, Math.max(start, end - 1)).line - 1, first + 8);
+    const drawn = made("pre", "", "excerpt");
+    let at = lines.slice(0, Math.max(0, first - AROUND)).reduce((sum, line) => sum + line.length + 1, 0);
+    for (let k = Math.max(0, first - AROUND); k <= Math.min(lines.length - 1, last + AROUND); k += 1) {
+        drawn.append(made("span", `${k + 1}`.padStart(6) + "  ", "number"), ...marked(lines[k], start - at, end - at), "\n");
+        at += lines[k].length + 1;
+    }
+    return drawn;
+}
+
+/** A line with what lies in it from one place to another as a mark; of a long line what is near the mark. */
+function marked(line, from, to) {
+    const isIn = from <= line.length && to > 0, start = Math.max(0, from), end = Math.min(line.length, to);
+    if (!isIn) return [line.slice(0, WIDEST)];
+    const left = Math.max(0, start - WIDEST / 2), right = Math.min(line.length, Math.max(end, start) + WIDEST / 2);
+    const inside = line.slice(start, Math.min(end, start + WIDEST)) || " ";
+    return [`${left > 0 ? "\u2026" : ""}${line.slice(left, start)}`, made("mark", inside), line.slice(end, Math.min(right, end + WIDEST / 2))];
+}
