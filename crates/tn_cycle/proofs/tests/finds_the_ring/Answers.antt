@@ -43,4 +43,4 @@ through-path-requires g c =
     let others : HasNoNegativeCycle (arcs_among (is_admitted (c.in_ok-finder.finder.nodes - 1) c.toggle-2.new.self) (ring 4 true)) =
     none_negative_kept (arcs_among (is_admitted (c.in_ok-finder.finder.nodes - 1) c.toggle-2.new.self) (ring 4 true)) (λ _. pos 0)
     (zeros_keep (c.in_ok-finder.finder.nodes - 1) c.toggle-2.new.self 4 true (λ e. omega (arith, e, nodes)) lacks) in
-    (omega arith, (omega (arith, nodes), (omega (arith, nodes), (omega arith, (omega (arith, nodes), others)))))
+    (omega arith, (omega (arith, nodes), (omega (arith, nodes), (omega (arith, nodes), others))))
