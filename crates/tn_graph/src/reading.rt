@@ -6,6 +6,7 @@ ghost use Rattle.tn_law.specs.Places.{level, CanRise};
 ghost use Rattle.tn_plain_data.specs.Network.{IsNetwork};
 ghost use Rattle.tn_market.specs.ArcPlaces.{node_at, AreArcPlaces};
 ghost use Rattle.tn_market.specs.Graph.{exchange_arc, graph_worths, ArePossible};
+ghost use Rattle.tn_market.specs.NetworkOf.{network_of};
 ghost use Rattle.tn_graph.specs.Matrix.{arcs_of};
 ghost use Rattle.tn_graph.specs.Reading.{AreForgotten, HasArcsOf, HasRow, Improves, IsExchangeGraph, IsStand, changed_worths, is_toggled};
 
@@ -17,13 +18,13 @@ use tn_market::{Market, Valuation};
 impl<V: Valuation, const W: usize> Stand<'_, V, W> {
     /// Writes what the arc from place `i` to place `j` costs.
     fn read_arc(&self, graph: &mut Graph, i: u32, j: u32, steps: &mut Steps<V::Mark>)
-        requires stand { IsStand (map V.firm self.now.market.now.firms) self.now.market.now.trades self.now.on.now self.now.f self.now.count
+        requires stand { network_of V.firm self.now.market.now IsStand self.now.on.now self.now.f self.now.count
             (V.firm self.now.firm.now) (V.limit self.now.firm.now) self.now.bundle self.now.worth }
         requires sized { graph.old.nodes ≡ length self.now.market.now.trades + 1 }
         requires places { AreArcPlaces (V.firm self.now.firm.now) self.now.bundle i j }
-        ensures improved { Improves (exchange_arc (map V.firm self.now.market.now.firms) self.now.market.now.trades self.now.on.now) graph.old graph.new }
+        ensures improved { Improves (network_of V.firm self.now.market.now exchange_arc self.now.on.now) graph.old graph.new }
         ensures arc { arcs_of graph.new (node_at self.now.market.now.trades self.now.f self.now.count i) (node_at self.now.market.now.trades self.now.f self.now.count j)
-            ≡ exchange_arc (map V.firm self.now.market.now.firms) self.now.market.now.trades self.now.on.now
+            ≡ network_of V.firm self.now.market.now exchange_arc self.now.on.now
             (node_at self.now.market.now.trades self.now.f self.now.count i) (node_at self.now.market.now.trades self.now.f self.now.count j) }
         ensures asked { steps.new ≡ steps.old + 1 }
     {
@@ -33,13 +34,13 @@ impl<V: Valuation, const W: usize> Stand<'_, V, W> {
 
     /// Writes what the arcs from place `i` cost.
     fn read_row(&self, graph: &mut Graph, i: u32, steps: &mut Steps<V::Mark>)
-        requires stand { IsStand (map V.firm self.now.market.now.firms) self.now.market.now.trades self.now.on.now self.now.f self.now.count
+        requires stand { network_of V.firm self.now.market.now IsStand self.now.on.now self.now.f self.now.count
             (V.firm self.now.firm.now) (V.limit self.now.firm.now) self.now.bundle self.now.worth }
         requires sized { graph.old.nodes ≡ length self.now.market.now.trades + 1 }
         requires place { i ≤ self.now.count }
         requires rises { CanRise self.now.count (level self.now.count (V.firm self.now.firm.now).buys self.now.bundle) i }
-        ensures improved { Improves (exchange_arc (map V.firm self.now.market.now.firms) self.now.market.now.trades self.now.on.now) graph.old graph.new }
-        ensures row { HasRow (map V.firm self.now.market.now.firms) self.now.market.now.trades self.now.on.now self.now.f self.now.count
+        ensures improved { Improves (network_of V.firm self.now.market.now exchange_arc self.now.on.now) graph.old graph.new }
+        ensures row { network_of V.firm self.now.market.now HasRow self.now.on.now self.now.f self.now.count
             (V.firm self.now.firm.now) self.now.bundle i graph.new }
         ensures asked { steps.new ≤ steps.old + self.now.count }
     {
@@ -52,11 +53,11 @@ impl<V: Valuation, const W: usize> Stand<'_, V, W> {
 
     /// Writes what all arcs of the firm cost.
     pub fn read_arcs(&self, graph: &mut Graph, steps: &mut Steps<V::Mark>)
-        requires stand { IsStand (map V.firm self.now.market.now.firms) self.now.market.now.trades self.now.on.now self.now.f self.now.count
+        requires stand { network_of V.firm self.now.market.now IsStand self.now.on.now self.now.f self.now.count
             (V.firm self.now.firm.now) (V.limit self.now.firm.now) self.now.bundle self.now.worth }
         requires sized { graph.old.nodes ≡ length self.now.market.now.trades + 1 }
-        ensures improved { Improves (exchange_arc (map V.firm self.now.market.now.firms) self.now.market.now.trades self.now.on.now) graph.old graph.new }
-        ensures arcs { HasArcsOf (map V.firm self.now.market.now.firms) self.now.market.now.trades self.now.on.now self.now.f graph.new }
+        ensures improved { Improves (network_of V.firm self.now.market.now exchange_arc self.now.on.now) graph.old graph.new }
+        ensures arcs { network_of V.firm self.now.market.now HasArcsOf self.now.on.now self.now.f graph.new }
         ensures asked { steps.new ≤ steps.old + (self.now.count + 1) * self.now.count }
     {
         for i in 0..self.count + 1 {
@@ -77,13 +78,13 @@ impl Graph {
         steps: &mut Steps<V::Mark>,
     )
         requires wide { length market.now.trades ≤ 64 * W }
-        requires network { IsNetwork (map V.firm market.now.firms) market.now.trades }
+        requires network { network_of V.firm market.now IsNetwork }
         requires sized { self.old.nodes ≡ length market.now.trades + 1 }
         requires firm { f < length market.now.firms }
-        requires possible { ArePossible (map V.firm market.now.firms) market.now.trades on.now }
+        requires possible { network_of V.firm market.now ArePossible on.now }
         requires small { (g : ℕ) (v : V) → slice_get market.now.firms g ≡ Some v → 2 * V.limit v ≤ most_cost }
-        ensures improved { Improves (exchange_arc (map V.firm market.now.firms) market.now.trades on.now) self.old self.new }
-        ensures arcs { HasArcsOf (map V.firm market.now.firms) market.now.trades on.now f self.new }
+        ensures improved { Improves (network_of V.firm market.now exchange_arc on.now) self.old self.new }
+        ensures arcs { network_of V.firm market.now HasArcsOf on.now f self.new }
         ensures asked { (v : V) → slice_get market.now.firms f ≡ Some v → steps.new ≤ steps.old + ((V.firm v).count + 1) * ((V.firm v).count + 1) }
     {
         let firm = market.firm(f);
@@ -113,9 +114,9 @@ impl Graph {
     )
         requires wide { length market.now.trades ≤ 64 * W }
         requires sized { self.old.nodes ≡ length market.now.trades + 1 }
-        requires possible { ArePossible (map V.firm market.now.firms) market.now.trades on.now }
+        requires possible { network_of V.firm market.now ArePossible on.now }
         requires small { (f : ℕ) (v : V) → slice_get market.now.firms f ≡ Some v → 2 * V.limit v ≤ most_cost }
-        ensures graph { IsExchangeGraph (map V.firm market.now.firms) market.now.trades on.now self.new }
+        ensures graph { network_of V.firm market.now IsExchangeGraph on.now self.new }
         ensures asked { steps.new ≤ steps.old + graph_worths (map V.firm market.now.firms) }
     {
         self.clear();
@@ -159,11 +160,11 @@ impl Graph {
         steps: &mut Steps<V::Mark>,
     )
         requires wide { length market.now.trades ≤ 64 * W }
-        requires graph { IsExchangeGraph (map V.firm market.now.firms) market.now.trades before.now self.old }
-        requires possible { ArePossible (map V.firm market.now.firms) market.now.trades on.now }
+        requires graph { network_of V.firm market.now IsExchangeGraph before.now self.old }
+        requires possible { network_of V.firm market.now ArePossible on.now }
         requires small { (f : ℕ) (v : V) → slice_get market.now.firms f ≡ Some v → 2 * V.limit v ≤ most_cost }
-        ensures graph { IsExchangeGraph (map V.firm market.now.firms) market.now.trades on.now self.new }
-        ensures asked { steps.new ≤ steps.old + changed_worths (map V.firm market.now.firms) market.now.trades before.now on.now }
+        ensures graph { network_of V.firm market.now IsExchangeGraph on.now self.new }
+        ensures asked { steps.new ≤ steps.old + network_of V.firm market.now changed_worths before.now on.now }
     {
         self.forget(market.trades(), before, on);
         for f in 0..market.firms() {

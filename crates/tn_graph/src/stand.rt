@@ -6,6 +6,7 @@ ghost use Rattle.tn_base.specs.Widths.{most_cost};
 ghost use Rattle.tn_law.specs.Places.{trade_level, level, toggle_at, move, CanRise, CanFall};
 ghost use Rattle.tn_market.specs.ArcPlaces.{node_at};
 ghost use Rattle.tn_market.specs.Graph.{loss};
+ghost use Rattle.tn_market.specs.NetworkOf.{network_of};
 ghost use Rattle.tn_graph.specs.Reading.{IsStand};
 
 use tn_base::{Bundle, Side, Steps, TradeSet};
@@ -38,7 +39,7 @@ fn toggled(x: Bundle, count: u32, k: u32) -> Bundle
 impl<V: Valuation, const W: usize> Stand<'_, V, W> {
     /// The node of a place.
     pub fn node(&self, k: u32) -> u32
-        requires stand { IsStand (map V.firm self.now.market.now.firms) self.now.market.now.trades self.now.on.now self.now.f self.now.count
+        requires stand { network_of V.firm self.now.market.now IsStand self.now.on.now self.now.f self.now.count
             (V.firm self.now.firm.now) (V.limit self.now.firm.now) self.now.bundle self.now.worth }
         ensures { result ≡ node_at self.now.market.now.trades self.now.f self.now.count k }
     {
@@ -52,7 +53,7 @@ impl<V: Valuation, const W: usize> Stand<'_, V, W> {
     /// Whether a position has level 1.
     #[tactic(auto, unfolding(tn_law::specs::Places::trade_level))]
     fn is_high(&self, k: u32) -> bool
-        requires stand { IsStand (map V.firm self.now.market.now.firms) self.now.market.now.trades self.now.on.now self.now.f self.now.count
+        requires stand { network_of V.firm self.now.market.now IsStand self.now.on.now self.now.f self.now.count
             (V.firm self.now.firm.now) (V.limit self.now.firm.now) self.now.bundle self.now.worth }
         requires own { k < self.now.count }
         ensures { result ≡ (trade_level (V.firm self.now.firm.now).buys self.now.bundle k == 1) }
@@ -65,7 +66,7 @@ impl<V: Valuation, const W: usize> Stand<'_, V, W> {
 
     /// Whether a place can be raised.
     pub fn can_rise(&self, k: u32) -> bool
-        requires stand { IsStand (map V.firm self.now.market.now.firms) self.now.market.now.trades self.now.on.now self.now.f self.now.count
+        requires stand { network_of V.firm self.now.market.now IsStand self.now.on.now self.now.f self.now.count
             (V.firm self.now.firm.now) (V.limit self.now.firm.now) self.now.bundle self.now.worth }
         ensures { IsTrue result ↔ CanRise self.now.count (level self.now.count (V.firm self.now.firm.now).buys self.now.bundle) k }
     {
@@ -74,7 +75,7 @@ impl<V: Valuation, const W: usize> Stand<'_, V, W> {
 
     /// Whether a place can be lowered.
     pub fn can_fall(&self, k: u32) -> bool
-        requires stand { IsStand (map V.firm self.now.market.now.firms) self.now.market.now.trades self.now.on.now self.now.f self.now.count
+        requires stand { network_of V.firm self.now.market.now IsStand self.now.on.now self.now.f self.now.count
             (V.firm self.now.firm.now) (V.limit self.now.firm.now) self.now.bundle self.now.worth }
         ensures { IsTrue result ↔ CanFall self.now.count (level self.now.count (V.firm self.now.firm.now).buys self.now.bundle) k }
     {
@@ -83,7 +84,7 @@ impl<V: Valuation, const W: usize> Stand<'_, V, W> {
 
     /// What the firm loses by a move at two places, None where it makes its bundle impossible. It asks for one worth.
     pub fn loss(&self, i: u32, j: u32, steps: &mut Steps<V::Mark>) -> Option<i128>
-        requires stand { IsStand (map V.firm self.now.market.now.firms) self.now.market.now.trades self.now.on.now self.now.f self.now.count
+        requires stand { network_of V.firm self.now.market.now IsStand self.now.on.now self.now.f self.now.count
             (V.firm self.now.firm.now) (V.limit self.now.firm.now) self.now.bundle self.now.worth }
         ensures loss { result ≡ loss (V.firm self.now.firm.now) self.now.bundle (move self.now.count self.now.bundle i j) }
         ensures small { IfSome result (λ c. IsAtMost c most_cost) }

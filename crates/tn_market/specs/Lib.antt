@@ -13,6 +13,7 @@ pub mod Valued
 pub mod Best
 pub mod Accepted
 pub mod Traded
+pub mod NetworkOf
 pub mod Ascent
 pub mod Lawful
 pub mod Levied
