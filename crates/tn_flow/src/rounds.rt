@@ -12,6 +12,7 @@ ghost use Rattle.tn_network.specs.Laws.{MeetExchange};
 ghost use Rattle.tn_plain_data.specs.Network.{IsNetwork};
 ghost use Rattle.tn_network.specs.Kept.{IsKept};
 ghost use Rattle.tn_flow.specs.Underway.{HaveRoom, AreUnderWay, IsNext};
+ghost use Rattle.tn_market.specs.NetworkOf.{network_of};
 
 use std::alloc::Global;
 use tn_base::{OutOfMemory, Steps, TradeSet};
@@ -34,9 +35,9 @@ pub struct Rounds<const W: usize> {
 
 /// What is known of every market: its firms meet exchange, and without any trade their bundles are possible.
 fn know<V: Valuation>(market: &Market<V>)
-    ensures network { IsNetwork (map V.firm market.now.firms) market.now.trades }
+    ensures network { network_of V.firm market.now IsNetwork }
     ensures meet { MeetExchange (map V.firm market.now.firms) }
-    ensures start { IsKept (map V.firm market.now.firms) market.now.trades 0 0 }
+    ensures start { network_of V.firm market.now IsKept 0 0 }
 {
     let _trades = market.trades();
 }
@@ -77,7 +78,7 @@ impl<const W: usize> Rounds<W> {
         requires wide { length market.now.trades ≤ 64 * W }
         requires room { HaveRoom (length market.now.trades) self.old.graph self.old.finder }
         requires small { (f : ℕ) (v : V) → slice_get market.now.firms f ≡ Some v → 2 * V.limit v ≤ most_cost }
-        ensures under_way { AreUnderWay (map V.firm market.now.firms) market.now.trades self.new.graph self.new.finder self.new.allowed self.new.on }
+        ensures under_way { network_of V.firm market.now AreUnderWay self.new.graph self.new.finder self.new.allowed self.new.on }
         ensures none_admitted { self.new.allowed ≡ 0 }
         ensures none_on { self.new.on ≡ 0 }
         ensures asked { steps.new ≤ steps.old + graph_worths (map V.firm market.now.firms) }
@@ -103,12 +104,12 @@ impl<const W: usize> Rounds<W> {
     /// Looks for a cycle through a trade that is negative, over it, the admitted trades and null.
     fn find<V: Valuation>(&mut self, market: &Market<V>, t: u32) -> Path
         requires wide { length market.now.trades ≤ 64 * W }
-        requires under_way { AreUnderWay (map V.firm market.now.firms) market.now.trades self.old.graph self.old.finder self.old.allowed self.old.on }
+        requires under_way { network_of V.firm market.now AreUnderWay self.old.graph self.old.finder self.old.allowed self.old.on }
         requires trade { t < length market.now.trades }
         requires out { has self.old.allowed t ≡ false }
         ensures rest { self.new ≡ record self.old { finder = self.new.finder } }
         ensures sized { self.new.finder.nodes ≡ self.old.finder.nodes }
-        ensures next { IsNext (map V.firm market.now.firms) market.now.trades self.old.allowed self.old.on t self.new.finder.listed result }
+        ensures next { network_of V.firm market.now IsNext self.old.allowed self.old.on t self.new.finder.listed result }
     {
         know(market);
         self.finder.through(&self.graph, t, &self.allowed)
@@ -121,10 +122,10 @@ impl<const W: usize> Rounds<W> {
     pub fn admit<V: Valuation>(&mut self, market: &Market<V>, t: u32, steps: &mut Steps<V::Mark>)
         requires wide { length market.now.trades ≤ 64 * W }
         requires small { (f : ℕ) (v : V) → slice_get market.now.firms f ≡ Some v → 2 * V.limit v ≤ most_cost }
-        requires under_way { AreUnderWay (map V.firm market.now.firms) market.now.trades self.old.graph self.old.finder self.old.allowed self.old.on }
+        requires under_way { network_of V.firm market.now AreUnderWay self.old.graph self.old.finder self.old.allowed self.old.on }
         requires trade { t < length market.now.trades }
         requires out { has self.old.allowed t ≡ false }
-        ensures under_way { AreUnderWay (map V.firm market.now.firms) market.now.trades self.new.graph self.new.finder self.new.allowed self.new.on }
+        ensures under_way { network_of V.firm market.now AreUnderWay self.new.graph self.new.finder self.new.allowed self.new.on }
         ensures admitted { self.new.allowed ≡ toggle self.old.allowed t }
         ensures asked { steps.new ≤ steps.old + graph_worths (map V.firm market.now.firms) }
     {
@@ -147,10 +148,10 @@ impl<const W: usize> Rounds<W> {
     )
         requires wide { length market.now.trades ≤ 64 * W }
         requires small { (f : ℕ) (v : V) → slice_get market.now.firms f ≡ Some v → 2 * V.limit v ≤ most_cost }
-        requires under_way { AreUnderWay (map V.firm market.now.firms) market.now.trades self.old.graph self.old.finder self.old.allowed self.old.on }
+        requires under_way { network_of V.firm market.now AreUnderWay self.old.graph self.old.finder self.old.allowed self.old.on }
         requires trade { t < length market.now.trades }
         requires out { has self.old.allowed t ≡ false }
-        ensures under_way { AreUnderWay (map V.firm market.now.firms) market.now.trades self.new.graph self.new.finder self.new.allowed self.new.on }
+        ensures under_way { network_of V.firm market.now AreUnderWay self.new.graph self.new.finder self.new.allowed self.new.on }
         ensures admitted { self.new.allowed ≡ (if wanted then toggle self.old.allowed t else self.old.allowed) }
         ensures asked { steps.new ≤ steps.old + graph_worths (map V.firm market.now.firms) }
     {
@@ -173,7 +174,7 @@ impl<const W: usize> Rounds<W> {
         requires room { HaveRoom (length market.now.trades) self.old.graph self.old.finder }
         requires small { (f : ℕ) (v : V) → slice_get market.now.firms f ≡ Some v → 2 * V.limit v ≤ most_cost }
         requires inside { (t : ℕ) → has admitted.now t ≡ true → t < length market.now.trades }
-        ensures under_way { AreUnderWay (map V.firm market.now.firms) market.now.trades self.new.graph self.new.finder self.new.allowed self.new.on }
+        ensures under_way { network_of V.firm market.now AreUnderWay self.new.graph self.new.finder self.new.allowed self.new.on }
         ensures admitted { self.new.allowed ≡ admitted.now }
         ensures asked { steps.new ≤ steps.old + (length market.now.trades + 1) * graph_worths (map V.firm market.now.firms) }
     {
@@ -188,12 +189,12 @@ impl<const W: usize> Rounds<W> {
     /// market.
     pub fn settle<V: Valuation>(&mut self, market: &Market<V>)
         requires wide { length market.now.trades ≤ 64 * W }
-        requires under_way { AreUnderWay (map V.firm market.now.firms) market.now.trades self.old.graph self.old.finder self.old.allowed self.old.on }
-        ensures under_way { AreUnderWay (map V.firm market.now.firms) market.now.trades self.new.graph self.new.finder self.new.allowed self.new.on }
+        requires under_way { network_of V.firm market.now AreUnderWay self.old.graph self.old.finder self.old.allowed self.old.on }
+        ensures under_way { network_of V.firm market.now AreUnderWay self.new.graph self.new.finder self.new.allowed self.new.on }
         ensures admitted { self.new.allowed ≡ self.old.allowed }
         ensures on { self.new.on ≡ self.old.on }
         ensures labels { AreLabels (length market.now.trades + 1) (arcs_among (is_admitted (length market.now.trades) self.old.allowed)
-            (exchange_arc (map V.firm market.now.firms) market.now.trades self.old.on)) self.new.finder.labels }
+            (network_of V.firm market.now exchange_arc self.old.on)) self.new.finder.labels }
     {
         let admitted = Admitted {
             costs: &self.graph,

@@ -7,6 +7,7 @@ ghost use Rattle.tn_plain_data.specs.Prices.{price_at};
 ghost use Rattle.tn_market.specs.Equilibrium.{IsEquilibrium};
 ghost use Rattle.tn_market.specs.Graph.{graph_worths};
 ghost use Rattle.tn_flow.specs.Solved.{AreSmallPrices, IsSolution, IsUnsolved};
+ghost use Rattle.tn_market.specs.NetworkOf.{network_of};
 
 use crate::rounds::Rounds;
 use std::alloc::Global;
@@ -105,7 +106,7 @@ impl<const W: usize> Solver<W> {
         requires made_for { length self.old.prices ≡ length market.now.trades }
         requires inside { (t : ℕ) → has admitted.now t ≡ true → t < length market.now.trades }
         requires small { (f : ℕ) (v : V) → slice_get market.now.firms f ≡ Some v → 2 * V.limit v * (length market.now.trades + 1) ≤ most_cost }
-        ensures solution { IsSolution (map V.firm market.now.firms) market.now.trades admitted.now self.new }
+        ensures solution { network_of V.firm market.now IsSolution admitted.now self.new }
         ensures prices { (bound : ℕ) → ((f : ℕ) (v : V) → slice_get market.now.firms f ≡ Some v → V.limit v ≤ bound)
             → AreSmallPrices (2 * bound * length market.now.trades) self.new.prices }
         ensures asked { steps.new ≤ steps.old + (length market.now.trades + 1) * graph_worths (map V.firm market.now.firms) }
@@ -123,7 +124,7 @@ impl<const W: usize> Solver<W> {
         requires made_for { length self.old.prices ≡ length market.now.trades }
         requires small { (f : ℕ) (v : V) → slice_get market.now.firms f ≡ Some v → 2 * V.limit v * (length market.now.trades + 1) ≤ most_cost }
         ensures one_each { length self.new.prices ≡ length market.now.trades }
-        ensures equilibrium { IsEquilibrium (map V.firm market.now.firms) market.now.trades (pos 1) self.new.on (price_at self.new.prices) }
+        ensures equilibrium { network_of V.firm market.now IsEquilibrium (pos 1) self.new.on (price_at self.new.prices) }
         ensures inside { (t : ℕ) → has self.new.on t ≡ true → t < length market.now.trades }
         ensures prices { (bound : ℕ) → ((f : ℕ) (v : V) → slice_get market.now.firms f ≡ Some v → V.limit v ≤ bound)
             → AreSmallPrices (2 * bound * length market.now.trades) self.new.prices }
