@@ -7,6 +7,7 @@ ghost use Rattle.tn_network.specs.Along.{along};
 ghost use Rattle.tn_network.specs.Kept.{IsKept};
 ghost use Rattle.tn_flow.specs.Underway.{AreUnderWay};
 ghost use Rattle.tn_session.specs.Standing.{AreFirmsSmall, IsLeaving};
+ghost use Rattle.tn_market.specs.NetworkOf.{network_of};
 
 use crate::lowered::Lowered;
 use tn_base::Steps;
@@ -26,7 +27,7 @@ fn find_cycle<V: Valuation, const W: usize>(
     ensures rest { rounds.new ≡ record rounds.old { finder = rounds.new.finder } }
     ensures sized { rounds.new.finder.nodes ≡ rounds.old.finder.nodes }
     ensures counted { result ≡ length rounds.new.finder.listed }
-    ensures kept { IsKept (map V.firm market.now.firms) market.now.trades rounds.old.allowed (along (length market.now.trades) rounds.old.on rounds.new.finder.listed) }
+    ensures kept { network_of V.firm market.now IsKept rounds.old.allowed (along (length market.now.trades) rounds.old.on rounds.new.finder.listed) }
 {
     let _trades = market.trades();
     let lowered = Lowered {
@@ -49,11 +50,11 @@ pub fn switch_off<V: Valuation, const W: usize>(
 )
     requires wide { length market.now.trades ≤ 64 * W }
     requires small { AreFirmsSmall V.limit market.now }
-    requires under_way { AreUnderWay (map V.firm market.now.firms) market.now.trades rounds.old.graph rounds.old.finder rounds.old.allowed rounds.old.on }
+    requires under_way { network_of V.firm market.now AreUnderWay rounds.old.graph rounds.old.finder rounds.old.allowed rounds.old.on }
     requires trade { t < length market.now.trades }
     requires admitted { has rounds.old.allowed t ≡ true }
     requires on { has rounds.old.on t ≡ true }
-    ensures under_way { AreUnderWay (map V.firm market.now.firms) market.now.trades rounds.new.graph rounds.new.finder rounds.new.allowed rounds.new.on }
+    ensures under_way { network_of V.firm market.now AreUnderWay rounds.new.graph rounds.new.finder rounds.new.allowed rounds.new.on }
     ensures barred { rounds.new.allowed ≡ toggle rounds.old.allowed t }
     ensures asked { steps.new ≤ steps.old + graph_worths (map V.firm market.now.firms) }
 {

@@ -5,6 +5,7 @@ ghost use Rattle.tn_plain_data.specs.Prices.{price_at};
 ghost use Rattle.tn_market.specs.Graph.{graph_worths};
 ghost use Rattle.tn_flow.specs.Underway.{AreUnderWay};
 ghost use Rattle.tn_session.specs.Standing.{AreFirmsSmall, HasSmallPrices, HoldsEquilibrium, IsSession, standing_of};
+ghost use Rattle.tn_market.specs.NetworkOf.{network_of};
 
 use crate::barring::switch_off;
 use std::alloc::Global;
@@ -40,7 +41,7 @@ impl<'a, V: Valuation, const W: usize> Model for Session<'a, V, W> {
 fn settle<V: Valuation, const W: usize>(rounds: &mut Rounds<W>, market: &Market<V>)
     requires wide { length market.now.trades ≤ 64 * W }
     requires small { AreFirmsSmall V.limit market.now }
-    requires under_way { AreUnderWay (map V.firm market.now.firms) market.now.trades rounds.old.graph rounds.old.finder rounds.old.allowed rounds.old.on }
+    requires under_way { network_of V.firm market.now AreUnderWay rounds.old.graph rounds.old.finder rounds.old.allowed rounds.old.on }
     ensures settled { IsSession V.firm V.limit W market.now rounds.new.graph rounds.new.finder rounds.new.allowed rounds.new.on }
     ensures equilibrium { HoldsEquilibrium V.firm (standing_of market.now rounds.new.allowed rounds.new.on rounds.new.finder.labels) }
     ensures prices { HasSmallPrices V.limit (standing_of market.now rounds.new.allowed rounds.new.on rounds.new.finder.labels) }
