@@ -8,6 +8,7 @@ ghost use Rattle.tn_cycle.specs.Widths.{most_read};
 ghost use Rattle.tn_market.specs.Graph.{graph_worths};
 ghost use Rattle.tn_market.specs.Ranges.{AreRanges, IsSupported};
 ghost use Rattle.tn_range.specs.Shown.{AreRangesBy};
+ghost use Rattle.tn_market.specs.NetworkOf.{network_of};
 
 use crate::bounds::range_of;
 use std::alloc::Global;
@@ -51,8 +52,8 @@ pub fn range<V: Valuation, const W: usize>(
 ) -> Result<Ranges, OutOfMemory>
     requires wide { length market.now.trades ≤ 64 * W }
     requires small { (f : ℕ) (v : V) → slice_get market.now.firms f ≡ Some v → 2 * V.limit v ≤ most_cost }
-    requires supported { IsSupported (map V.firm market.now.firms) market.now.trades on.now }
-    ensures ranges { IfOk result (AreRanges (map V.firm market.now.firms) market.now.trades on.now) }
+    requires supported { network_of V.firm market.now IsSupported on.now }
+    ensures ranges { IfOk result (network_of V.firm market.now AreRanges on.now) }
     ensures asked { steps.new ≤ steps.old + graph_worths (map V.firm market.now.firms) }
 {
     let trades = market.trades();
