@@ -1,10 +1,11 @@
-ghost use Rattle.std.specs.Prelude.{◌≡◌, ℕ, ◌^◌, ◌*◌, ◌<◌, ◌≤◌, Some, pos, ◌≤ℤ◌, length, map, slice_get, All};
+ghost use Rattle.std.specs.Prelude.{◌≡◌, ℕ, ◌^◌, ◌*◌, ◌<◌, ◌≤◌, Some, pos, ◌≤ℤ◌, length, slice_get, All};
 ghost use Rattle.tn_base.specs.Arcs.{IsAtMost};
 ghost use Rattle.tn_plain_data.specs.Prices.{price_at};
 ghost use Rattle.tn_plain_data.specs.Limits.{most_claimed_over, most_number};
 ghost use Rattle.tn_market.specs.Widths.{most_own, most_worth};
 ghost use Rattle.tn_price.specs.Checks.{Checks};
 ghost use Rattle.tn_price.specs.Standings.{AreOwnPrices, StandsAt};
+ghost use Rattle.tn_market.specs.NetworkOf.{network_of};
 
 use crate::check::Check;
 use crate::firm::standing;
@@ -50,7 +51,7 @@ fn standing_of<V: Oracle, const W: usize>(
     requires firm { f < length market.now.firms }
     requires few_own { (v : V) → slice_get market.now.firms f ≡ Some v → (V.firm v).count ≤ most_own }
     requires small_worths { (v : V) → slice_get market.now.firms f ≡ Some v → V.limit v ≤ most_worth }
-    ensures { StandsAt (map V.firm market.now.firms) market.now.trades over on.now (price_at prices.now) f result }
+    ensures { network_of V.firm market.now StandsAt over on.now (price_at prices.now) f result }
 {
     let firm = market.firm(f);
     let n = firm.trades();
@@ -76,7 +77,7 @@ pub fn judge_at<V: Oracle, const W: usize>(
     requires small_over { over ≤ℤ pos most_claimed_over }
     requires few_own { (f : ℕ) (v : V) → slice_get market.now.firms f ≡ Some v → (V.firm v).count ≤ most_own }
     requires small_worths { (f : ℕ) (v : V) → slice_get market.now.firms f ≡ Some v → V.limit v ≤ most_worth }
-    ensures { Checks (map V.firm market.now.firms) market.now.trades over on.now (price_at prices.now) result }
+    ensures { network_of V.firm market.now Checks over on.now (price_at prices.now) result }
 {
     let mut surplus = 0;
     for f in 0..market.firms() {
@@ -112,7 +113,7 @@ pub fn judge_arrangement<V: Oracle, const W: usize>(
     requires small_over { over ≤ℤ pos most_claimed_over }
     requires few_own { (f : ℕ) (v : V) → slice_get market.now.firms f ≡ Some v → (V.firm v).count ≤ most_own }
     requires small_worths { (f : ℕ) (v : V) → slice_get market.now.firms f ≡ Some v → V.limit v ≤ most_worth }
-    ensures { Checks (map V.firm market.now.firms) market.now.trades over at.now.on (price_at at.now.prices) result }
+    ensures { network_of V.firm market.now Checks over at.now.on (price_at at.now.prices) result }
 {
     judge_at(market, &at.on, &at.prices, over, room)
 }

@@ -11,6 +11,7 @@ ghost use Rattle.tn_market.specs.Graph.{graph_worths, ArePossible};
 ghost use Rattle.tn_market.specs.Widths.{most_market_trades};
 ghost use Rattle.tn_plain_data.specs.Network.{part};
 ghost use Rattle.tn_price.specs.Supports.{Supports, FindsUnable, IsPricedWithin};
+ghost use Rattle.tn_market.specs.NetworkOf.{network_of};
 
 use crate::supported::Support;
 use crate::surplus::worth_at;
@@ -43,7 +44,7 @@ pub fn first_unable<V: Valuation, const W: usize>(
     steps: &mut Steps<V::Mark>,
 ) -> Option<u32>
     requires wide { length market.now.trades ≤ 64 * W }
-    ensures found { FindsUnable (map V.firm market.now.firms) market.now.trades on.now result }
+    ensures found { network_of V.firm market.now FindsUnable on.now result }
     ensures asked { steps.new ≤ steps.old + length market.now.firms }
 {
     for f in 0..market.firms() {
@@ -76,8 +77,8 @@ fn support_by_labels<V: Valuation, const W: usize>(
 ) -> Result<Support, OutOfMemory>
     requires wide { length market.now.trades ≤ 64 * W }
     requires small { (f : ℕ) (v : V) → slice_get market.now.firms f ≡ Some v → 2 * V.limit v ≤ most_cost }
-    requires possible { ArePossible (map V.firm market.now.firms) market.now.trades on.now }
-    ensures answer { IfOk result (Supports (map V.firm market.now.firms) market.now.trades on.now) }
+    requires possible { network_of V.firm market.now ArePossible on.now }
+    ensures answer { IfOk result (network_of V.firm market.now Supports on.now) }
     ensures prices { (bound : ℕ) → ((f : ℕ) (v : V) → slice_get market.now.firms f ≡ Some v → V.limit v ≤ bound)
         → IfOk result (IsPricedWithin (2 * bound * length market.now.trades)) }
     ensures asked { steps.new ≤ steps.old + graph_worths (map V.firm market.now.firms) }
@@ -110,7 +111,7 @@ pub fn support<V: Valuation, const W: usize>(
 ) -> Result<Support, OutOfMemory>
     requires wide { length market.now.trades ≤ 64 * W }
     requires small { (f : ℕ) (v : V) → slice_get market.now.firms f ≡ Some v → 2 * V.limit v ≤ most_cost }
-    ensures answer { IfOk result (Supports (map V.firm market.now.firms) market.now.trades on.now) }
+    ensures answer { IfOk result (network_of V.firm market.now Supports on.now) }
     ensures prices { (bound : ℕ) → ((f : ℕ) (v : V) → slice_get market.now.firms f ≡ Some v → V.limit v ≤ bound)
         → IfOk result (IsPricedWithin (2 * bound * length market.now.trades)) }
     ensures asked { steps.new ≤ steps.old + 2 * graph_worths (map V.firm market.now.firms) }

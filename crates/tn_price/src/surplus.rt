@@ -6,6 +6,7 @@ ghost use Rattle.tn_base.specs.Firm.{Firm};
 ghost use Rattle.tn_market.specs.Equilibrium.{surplus_of};
 ghost use Rattle.tn_market.specs.Widths.{most_limit};
 ghost use Rattle.tn_plain_data.specs.Network.{part};
+ghost use Rattle.tn_market.specs.NetworkOf.{network_of};
 
 use tn_base::{Steps, TradeSet};
 use tn_market::{Market, Valuation};
@@ -36,7 +37,7 @@ pub fn surplus_of<V: Valuation, const W: usize>(
     steps: &mut Steps<V::Mark>,
 ) -> Option<i128>
     requires wide { length market.now.trades ≤ 64 * W }
-    ensures surplus { result ≡ surplus_of (map V.firm market.now.firms) market.now.trades on.now }
+    ensures surplus { result ≡ network_of V.firm market.now surplus_of on.now }
     ensures asked { steps.new ≤ steps.old + length market.now.firms }
 {
     let mut surplus = 0;
