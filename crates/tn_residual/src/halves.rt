@@ -1,10 +1,11 @@
 //! The trades of a residual market.
 
-ghost use Rattle.std.specs.Prelude.{◌≡◌, ◌++◌, ◌<◌, ◌≤◌, All, IfOk, length, map};
+ghost use Rattle.std.specs.Prelude.{◌≡◌, ◌++◌, ◌<◌, ◌≤◌, All, IfOk, length};
 ghost use Rattle.tn_market.specs.Limits.{IsOutcomeOf, IsWithinLimits};
 ghost use Rattle.tn_plain_data.specs.Limits.{most_firms, most_trades};
 ghost use Rattle.tn_plain_data.specs.Network.{IsNetwork};
 ghost use Rattle.tn_residual.specs.Residual.{bought_from, halves_from, residual_trades, sold_to, unsigned_from};
+ghost use Rattle.tn_market.specs.NetworkOf.{network_of};
 
 use crate::signed::contract_price;
 use std::alloc::Global;
@@ -82,7 +83,7 @@ pub fn all_trades<V: Valuation>(
     requires limits { IsWithinLimits V.firm V.limit market.now }
     requires outcome { IsOutcomeOf market.now.trades outcome.now.over outcome.now.contracts }
     ensures trades { IfOk result (λ trades. trades.items ≡ residual_trades (length market.now.firms) market.now.trades outcome.now.contracts) }
-    ensures network { IsNetwork (map V.firm market.now.firms) market.now.trades }
+    ensures network { network_of V.firm market.now IsNetwork }
 {
     let firms = market.firms();
     let mut trades = free_trades(alloc, market, outcome)?;

@@ -6,6 +6,7 @@ ghost use Rattle.tn_market.specs.Limits.{IsOutcomeOf, IsWithinLimits};
 ghost use Rattle.tn_plain_data.specs.Limits.{most_claimed_over, most_numerator};
 ghost use Rattle.tn_plain_data.specs.Network.{part};
 ghost use Rattle.tn_residual.specs.Residual.{levied_from, outsides, residual_limit, residual_of, unsigned};
+ghost use Rattle.tn_market.specs.NetworkOf.{network_of};
 
 use crate::signed::contract_price;
 use std::alloc::Global;
@@ -102,7 +103,7 @@ pub fn all_parties<'a, V: Valuation>(
     requires taxed { pos 0 ≤ℤ tax }
     requires small_tax { tax ≤ℤ pos 1 }
     ensures firms { IfOk result (λ parties. map ⟦<Party<'a, V> as Valuation>⟧.firm parties.items
-        ≡ residual_of (map V.firm market.now.firms) market.now.trades outcome.now.over outcome.now.contracts scale tax) }
+        ≡ network_of V.firm market.now residual_of outcome.now.over outcome.now.contracts scale tax) }
     ensures limits { IfOk result (λ parties. All (λ party. ⟦<Party<'a, V> as Valuation>⟧.limit party ≤ residual_limit (outcome.now.over *ℤ scale)) parties.items) }
 {
     let mut parties = members(alloc, market, outcome, outcome.over * scale, tax)?;

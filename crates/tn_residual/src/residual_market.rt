@@ -3,6 +3,7 @@ ghost use Rattle.tn_market.specs.Limits.{IsOutcomeOf, IsWithinLimits};
 ghost use Rattle.tn_plain_data.specs.Limits.{most_claimed_over};
 ghost use Rattle.tn_residual.specs.Residual.{residual_limit, residual_of, residual_trades};
 ghost use Rattle.tn_residual.specs.Surplus.{IsSurplusOfReduced};
+ghost use Rattle.tn_market.specs.NetworkOf.{network_of};
 
 use crate::halves::all_trades;
 use crate::parties::all_parties;
@@ -33,11 +34,11 @@ pub fn residual<'a, V: Valuation>(
     requires taxed { pos 0 ≤ℤ tax }
     requires small_tax { tax ≤ℤ pos 1 }
     ensures firms { IfOk result (λ residual. map ⟦<Party<'a, V> as Valuation>⟧.firm residual.firms
-        ≡ residual_of (map V.firm market.now.firms) market.now.trades outcome.now.over outcome.now.contracts scale tax) }
+        ≡ network_of V.firm market.now residual_of outcome.now.over outcome.now.contracts scale tax) }
     ensures trades { IfOk result (λ residual. residual.trades
         ≡ residual_trades (length market.now.firms) market.now.trades outcome.now.contracts) }
     ensures limits { IfOk result (λ residual. All (λ party. ⟦<Party<'a, V> as Valuation>⟧.limit party ≤ residual_limit (outcome.now.over *ℤ scale)) residual.firms) }
-    ensures surplus { IfOk result (λ residual. IsSurplusOfReduced (map ⟦<Party<'a, V> as Valuation>⟧.firm residual.firms) residual.trades
+    ensures surplus { IfOk result (λ residual. network_of ⟦<Party<'a, V> as Valuation>⟧.firm residual IsSurplusOfReduced
         (map V.firm market.now.firms) market.now.trades outcome.now.over outcome.now.contracts scale tax) }
 {
     let parties = all_parties(alloc, market, outcome, scale, tax)?;
