@@ -16,6 +16,7 @@ ghost use Rattle.tn_market.specs.Reduced.{reduced_arc, reduced_firms};
 ghost use Rattle.tn_market.specs.Signed.{Completes};
 ghost use Rattle.tn_outcome.specs.Rational.{IsRationalOutcome};
 ghost use Rattle.tn_residual.specs.Residual.{unsigned, unsigned_part, residual_trades};
+ghost use Rattle.tn_market.specs.NetworkOf.{network_of};
 
 use crate::cycle::{contracts_at, first_trade, listed_trades};
 use crate::graph::reduced_graph;
@@ -61,12 +62,12 @@ fn solve_among<'a, V: Oracle>(
     requires limits { IsWithinLimits V.firm V.limit market.now }
     requires few { length market.now.trades ≤ most_judged_trades }
     requires outcome { IsOutcomeOf market.now.trades outcome.now.over outcome.now.contracts }
-    requires network { IsNetwork (map V.firm market.now.firms) market.now.trades }
-    requires residual { IsResidual ⟦<Party<'a, V> as Valuation>⟧.firm ⟦<Party<'a, V> as Valuation>⟧.limit (map V.firm market.now.firms) market.now.trades
+    requires network { network_of V.firm market.now IsNetwork }
+    requires residual { network_of V.firm market.now (IsResidual ⟦<Party<'a, V> as Valuation>⟧.firm ⟦<Party<'a, V> as Valuation>⟧.limit)
         outcome.now.over outcome.now.contracts residual.now }
     requires free { free ≡ size (unsigned (length market.now.trades) outcome.now.contracts) }
     requires made_for { length solver.old.prices ≡ length residual.now.trades }
-    ensures solved { IsSolvedAmong (map V.firm market.now.firms) market.now.trades outcome.now.over outcome.now.contracts allowed.now solver.new }
+    ensures solved { network_of V.firm market.now IsSolvedAmong outcome.now.over outcome.now.contracts allowed.now solver.new }
 {
     let count = market.trades();
     let mut numbers = numbers_of(&outcome.contracts, count, allowed);
@@ -90,14 +91,14 @@ fn search<'a, V: Oracle>(
     requires limits { IsWithinLimits V.firm V.limit market.now }
     requires few { length market.now.trades ≤ most_judged_trades }
     requires outcome { IsOutcomeOf market.now.trades outcome.now.over outcome.now.contracts }
-    requires rational { IsRationalOutcome (map V.firm market.now.firms) market.now.trades outcome.now.over outcome.now.contracts }
-    requires residual { IsResidual ⟦<Party<'a, V> as Valuation>⟧.firm ⟦<Party<'a, V> as Valuation>⟧.limit (map V.firm market.now.firms) market.now.trades
+    requires rational { network_of V.firm market.now IsRationalOutcome outcome.now.over outcome.now.contracts }
+    requires residual { network_of V.firm market.now (IsResidual ⟦<Party<'a, V> as Valuation>⟧.firm ⟦<Party<'a, V> as Valuation>⟧.limit)
         outcome.now.over outcome.now.contracts residual.now }
     requires graph { IsExchangeGraph (reduced_firms market.now.trades outcome.now.over outcome.now.contracts (map V.firm market.now.firms)) market.now.trades 0 graph.now }
     requires finder_sized { finder.old.nodes ≡ length market.now.trades + 1 }
     requires made_for { length solver.old.prices ≡ length residual.now.trades }
-    requires broken { HasCycle (map V.firm market.now.firms) market.now.trades outcome.now.over outcome.now.contracts (unsigned (length market.now.trades) outcome.now.contracts) }
-    ensures { IfOk result (IsBlockingChain (map V.firm market.now.firms) market.now.trades outcome.now.over outcome.now.contracts) }
+    requires broken { network_of V.firm market.now HasCycle outcome.now.over outcome.now.contracts (unsigned (length market.now.trades) outcome.now.contracts) }
+    ensures { IfOk result (network_of V.firm market.now IsBlockingChain outcome.now.over outcome.now.contracts) }
 {
     let null = market.trades();
     let mut left = unsigned_trades(&outcome.contracts, null);
@@ -134,7 +135,7 @@ fn taxed_residual<'a, V: Oracle>(
     requires limits { IsWithinLimits V.firm V.limit market.now }
     requires few { length market.now.trades ≤ most_judged_trades }
     requires outcome { IsOutcomeOf market.now.trades outcome.now.over outcome.now.contracts }
-    ensures { IfOk result (IsResidual ⟦<Party<'a, V> as Valuation>⟧.firm ⟦<Party<'a, V> as Valuation>⟧.limit (map V.firm market.now.firms) market.now.trades
+    ensures { IfOk result (network_of V.firm market.now (IsResidual ⟦<Party<'a, V> as Valuation>⟧.firm ⟦<Party<'a, V> as Valuation>⟧.limit)
         outcome.now.over outcome.now.contracts) }
 {
     let scale = chain_scale(&outcome.contracts, market.trades());
@@ -155,9 +156,9 @@ pub fn chain_of<V: Oracle>(
     requires limits { IsWithinLimits V.firm V.limit market.now }
     requires few { length market.now.trades ≤ most_judged_trades }
     requires outcome { IsOutcomeOf market.now.trades outcome.now.over outcome.now.contracts }
-    requires rational { IsIndividuallyRational (map V.firm market.now.firms) market.now.trades outcome.now.over outcome.now.contracts }
-    requires incomplete { (prices : ℕ → ℤ) → Completes (map V.firm market.now.firms) market.now.trades outcome.now.over outcome.now.contracts prices → ⊥ }
-    ensures { IfOk result (IsBlockingChain (map V.firm market.now.firms) market.now.trades outcome.now.over outcome.now.contracts) }
+    requires rational { network_of V.firm market.now IsIndividuallyRational outcome.now.over outcome.now.contracts }
+    requires incomplete { (prices : ℕ → ℤ) → network_of V.firm market.now Completes outcome.now.over outcome.now.contracts prices → ⊥ }
+    ensures { IfOk result (network_of V.firm market.now IsBlockingChain outcome.now.over outcome.now.contracts) }
 {
     let residual = taxed_residual(alloc, market, outcome)?;
     let graph = reduced_graph(alloc, market, outcome)?;

@@ -12,6 +12,7 @@ ghost use Rattle.tn_market.specs.Graph.{loss};
 ghost use Rattle.tn_plain_data.specs.Network.{IsNetwork};
 ghost use Rattle.tn_market.specs.Reduced.{reduced, reduced_arc, reduced_firms};
 ghost use Rattle.tn_market.specs.Signed.{signed_bundle};
+ghost use Rattle.tn_market.specs.NetworkOf.{network_of};
 
 use std::alloc::Global;
 use tn_base::{Bundle, OutOfMemory};
@@ -80,12 +81,12 @@ fn reduced_cost<V: Oracle>(
     v: u32,
     room: &mut Room,
 ) -> Option<i128>
-    requires network { IsNetwork (map V.firm market.now.firms) market.now.trades }
+    requires network { network_of V.firm market.now IsNetwork }
     requires limits { IsWithinLimits V.firm V.limit market.now }
     requires outcome { IsOutcomeOf market.now.trades outcome.now.over outcome.now.contracts }
     requires from { u ≤ length market.now.trades }
     requires to { v ≤ length market.now.trades }
-    ensures cost { result ≡ reduced_arc (map V.firm market.now.firms) market.now.trades outcome.now.over outcome.now.contracts u v }
+    ensures cost { result ≡ network_of V.firm market.now reduced_arc outcome.now.over outcome.now.contracts u v }
 {
     if contract_price(&outcome.contracts, u).is_some() {
         return None;
@@ -107,12 +108,12 @@ fn write_row<V: Oracle>(
     u: u32,
     room: &mut Room,
 )
-    requires network { IsNetwork (map V.firm market.now.firms) market.now.trades }
+    requires network { network_of V.firm market.now IsNetwork }
     requires limits { IsWithinLimits V.firm V.limit market.now }
     requires outcome { IsOutcomeOf market.now.trades outcome.now.over outcome.now.contracts }
     requires from { u ≤ length market.now.trades }
-    requires written { AreWritten (reduced_arc (map V.firm market.now.firms) market.now.trades outcome.now.over outcome.now.contracts) (length market.now.trades + 1) u 0 graph.old }
-    ensures { AreWritten (reduced_arc (map V.firm market.now.firms) market.now.trades outcome.now.over outcome.now.contracts) (length market.now.trades + 1) (u + 1) 0 graph.new }
+    requires written { AreWritten (network_of V.firm market.now reduced_arc outcome.now.over outcome.now.contracts) (length market.now.trades + 1) u 0 graph.old }
+    ensures { AreWritten (network_of V.firm market.now reduced_arc outcome.now.over outcome.now.contracts) (length market.now.trades + 1) (u + 1) 0 graph.new }
 {
     for v in 0..market.trades() + 1 {
         let cost = reduced_cost(market, outcome, u, v, room);

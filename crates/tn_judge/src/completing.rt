@@ -1,6 +1,6 @@
 //! Prices that complete an outcome.
 
-ghost use Rattle.std.specs.Prelude.{◌≡◌, ℕ, ◌+◌, ◌*◌, ◌≤◌, ◌<◌, ◌-ℤ◌, if◌then◌else◌, length, map, slice_index_or, IfOk, pos};
+ghost use Rattle.std.specs.Prelude.{◌≡◌, ℕ, ◌+◌, ◌*◌, ◌≤◌, ◌<◌, ◌-ℤ◌, if◌then◌else◌, length, slice_index_or, IfOk, pos};
 ghost use Rattle.tn_base.specs.Arcs.{IsAtMost};
 ghost use Rattle.tn_cycle.specs.Answers.{label_in};
 ghost use Rattle.tn_judge.specs.Completion.{AnswersCompletion, ArePricesTo};
@@ -8,6 +8,7 @@ ghost use Rattle.tn_judge.specs.Limits.{most_reduced_label};
 ghost use Rattle.tn_plain_data.specs.Choices.{IsIndividuallyRational};
 ghost use Rattle.tn_market.specs.Limits.{IsOutcomeOf, IsWithinLimits};
 ghost use Rattle.tn_market.specs.Signed.{is_signed, signed_price};
+ghost use Rattle.tn_market.specs.NetworkOf.{network_of};
 
 use std::alloc::Global;
 use tn_base::OutOfMemory;
@@ -65,8 +66,8 @@ pub fn completion<V: Oracle>(
 ) -> Result<Option<Prices>, OutOfMemory>
     requires limits { IsWithinLimits V.firm V.limit market.now }
     requires outcome { IsOutcomeOf market.now.trades outcome.now.over outcome.now.contracts }
-    requires rational { IsIndividuallyRational (map V.firm market.now.firms) market.now.trades outcome.now.over outcome.now.contracts }
-    ensures { IfOk result (AnswersCompletion (map V.firm market.now.firms) market.now.trades outcome.now.over outcome.now.contracts) }
+    requires rational { network_of V.firm market.now IsIndividuallyRational outcome.now.over outcome.now.contracts }
+    ensures { IfOk result (network_of V.firm market.now AnswersCompletion outcome.now.over outcome.now.contracts) }
 {
     let trades = market.trades();
     let graph = reduced_graph(alloc, market, outcome)?;

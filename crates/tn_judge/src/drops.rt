@@ -10,6 +10,7 @@ ghost use Rattle.tn_market.specs.Widths.{most_utility};
 ghost use Rattle.tn_plain_data.specs.Limits.{most_number};
 ghost use Rattle.tn_plain_data.specs.Network.{IsNetwork};
 ghost use Rattle.tn_market.specs.Signed.{contract_utility, signed_bundle};
+ghost use Rattle.tn_market.specs.NetworkOf.{network_of};
 
 use tn_base::Bundle;
 use tn_market::{Market, Oracle, Outcome, Room, Valuation, utility_of};
@@ -87,7 +88,7 @@ fn drop_at<V: Oracle>(
 ) -> Option<Kept>
     requires limits { IsWithinLimits V.firm V.limit market.now }
     requires outcome { IsOutcomeOf market.now.trades outcome.now.over outcome.now.contracts }
-    requires network { IsNetwork (map V.firm market.now.firms) market.now.trades }
+    requires network { network_of V.firm market.now IsNetwork }
     requires firm { f < length market.now.firms }
     ensures { (firm : Firm) → slice_get (map V.firm market.now.firms) f ≡ Some firm → FindsDrop market.now.trades outcome.now.over outcome.now.contracts f firm result }
 {
@@ -103,7 +104,7 @@ pub fn first_drop<V: Oracle>(
 ) -> Option<(u32, Kept)>
     requires limits { IsWithinLimits V.firm V.limit market.now }
     requires outcome { IsOutcomeOf market.now.trades outcome.now.over outcome.now.contracts }
-    ensures { FindsFirst (map V.firm market.now.firms) market.now.trades outcome.now.over outcome.now.contracts result }
+    ensures { network_of V.firm market.now FindsFirst outcome.now.over outcome.now.contracts result }
 {
     for f in 0..market.firms() {
         if let Some(drop) = drop_at(market, f, outcome, room) {

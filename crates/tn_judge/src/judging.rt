@@ -1,10 +1,11 @@
-ghost use Rattle.std.specs.Prelude.{◌≡◌, ◌≤◌, IfOk, length, map, pos, ◌*ℤ◌, ◌≤ℤ◌};
+ghost use Rattle.std.specs.Prelude.{◌≡◌, ◌≤◌, IfOk, length, pos, ◌*ℤ◌, ◌≤ℤ◌};
 ghost use Rattle.tn_base.specs.Sets.{size};
 ghost use Rattle.tn_chain.specs.Limits.{most_judged_trades};
 ghost use Rattle.tn_plain_data.specs.Limits.{most_over};
 ghost use Rattle.tn_chain.specs.Search.{chain_scale};
 ghost use Rattle.tn_judge.specs.Judges.{JudgesContracts};
 ghost use Rattle.tn_market.specs.Limits.{IsOutcomeOf, IsWithinLimits};
+ghost use Rattle.tn_market.specs.NetworkOf.{network_of};
 
 use crate::completing::completion;
 use crate::drops::first_drop;
@@ -63,7 +64,7 @@ pub fn judge<V: Oracle>(
     requires limits { IsWithinLimits V.firm V.limit market.now }
     requires few { length market.now.trades ≤ most_judged_trades }
     requires outcome { IsOutcomeOf market.now.trades outcome.now.over outcome.now.contracts }
-    ensures { IfOk result (JudgesContracts (map V.firm market.now.firms) market.now.trades outcome.now.over outcome.now.contracts) }
+    ensures { IfOk result (network_of V.firm market.now JudgesContracts outcome.now.over outcome.now.contracts) }
 {
     let mut room = Room::new(alloc)?;
     if let Some((firm, drop)) = first_drop(market, outcome, &mut room) {
