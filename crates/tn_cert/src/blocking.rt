@@ -1,6 +1,6 @@
 //! Claims that contracts block an outcome.
 
-ghost use Rattle.std.specs.Prelude.{◌≡◌, ◌<◌, ◌≤◌, pos, ◌*ℤ◌, ◌≤ℤ◌, length, map, All, IfOk};
+ghost use Rattle.std.specs.Prelude.{◌≡◌, ◌<◌, ◌≤◌, pos, ◌*ℤ◌, ◌≤ℤ◌, length, All, IfOk};
 ghost use Rattle.tn_base.specs.Arcs.{IsAtMost};
 ghost use Rattle.tn_cert.specs.Greatest.{DecidesContract, DecidesEqual, FindsLeaver, FindsSigned, HaveTradesOnce};
 ghost use Rattle.tn_cert.specs.Replays.{Replays};
@@ -9,6 +9,7 @@ ghost use Rattle.tn_plain_data.specs.ClaimLimits.{AreOffersWithin, IsOverWithin}
 ghost use Rattle.tn_market.specs.Limits.{IsOutcomeOf, IsWithinLimits};
 ghost use Rattle.tn_plain_data.specs.Limits.{most_claimed_over, most_number, most_numerator, most_over};
 ghost use Rattle.tn_market.specs.Widths.{most_scale};
+ghost use Rattle.tn_market.specs.NetworkOf.{network_of};
 
 use crate::choosing::first_left;
 use crate::least::earlier;
@@ -90,7 +91,7 @@ fn first_to_leave<V: Oracle>(
     requires outcome { IsOutcomeOf market.now.trades outcome.now.over outcome.now.contracts }
     requires offers { AreOffersWithin market.now.trades offers.now }
     requires over { IsOverWithin over }
-    ensures { IfOk result (FindsLeaver (map V.firm market.now.firms) market.now.trades outcome.now over offers.now) }
+    ensures { IfOk result (network_of V.firm market.now FindsLeaver outcome.now over offers.now) }
 {
     let mut room = Room::new(alloc)?;
     let pool = together(alloc, over, offers, outcome)?;
@@ -115,7 +116,7 @@ pub(crate) fn replay_blocks<V: Oracle>(
     requires outcome { IsOutcomeOf market.now.trades outcome.now.over outcome.now.contracts }
     requires offers { AreOffersWithin market.now.trades offers.now }
     requires over { IsOverWithin over }
-    ensures { IfOk result (Replays (map V.firm market.now.firms) market.now.trades (Blocks outcome.now offers.now over)) }
+    ensures { IfOk result (network_of V.firm market.now Replays (Blocks outcome.now offers.now over)) }
 {
     if offers.len() == 0 {
         return Ok(Replayed::Invalid(Reason::Empty));

@@ -1,12 +1,13 @@
 //! The contracts that a firm takes whatever it chooses.
 
-ghost use Rattle.std.specs.Prelude.{◌≡◌, ◌<◌, ◌≤◌, pos, ◌≤ℤ◌, length, map, slice_get, All, Some, None};
+ghost use Rattle.std.specs.Prelude.{◌≡◌, ◌<◌, ◌≤◌, pos, ◌≤ℤ◌, length, slice_get, All, Some, None};
 ghost use Rattle.tn_base.specs.Arcs.{IsAtMost};
 ghost use Rattle.tn_cert.specs.Greatest.{DecidesLeave, DecidesOwn, FindsLeft, IsGreatest};
 ghost use Rattle.tn_plain_data.specs.Choices.{is_end};
 ghost use Rattle.tn_market.specs.Limits.{IsWithinLimits};
 ghost use Rattle.tn_market.specs.Widths.{most_asked_price, most_scale, most_utility};
 ghost use Rattle.tn_plain_data.specs.Network.{IsNetwork};
+ghost use Rattle.tn_market.specs.NetworkOf.{network_of};
 
 use crate::least::earlier;
 use crate::terms::terms_of;
@@ -23,7 +24,7 @@ fn greatest_utility<V: Oracle>(
     room: &mut Room,
 ) -> i128
     requires limits { IsWithinLimits V.firm V.limit market.now }
-    requires network { IsNetwork (map V.firm market.now.firms) market.now.trades }
+    requires network { network_of V.firm market.now IsNetwork }
     requires firm { f < length market.now.firms }
     requires small { All (λ contract. IsAtMost contract.price most_asked_price) contracts.now }
     requires from_one { pos 1 ≤ℤ scale }
@@ -48,7 +49,7 @@ fn may_leave<V: Oracle>(
     room: &mut Room,
 ) -> bool
     requires limits { IsWithinLimits V.firm V.limit market.now }
-    requires network { IsNetwork (map V.firm market.now.firms) market.now.trades }
+    requires network { network_of V.firm market.now IsNetwork }
     requires firm { f < length market.now.firms }
     requires small { All (λ contract. IsAtMost contract.price most_asked_price) contracts.now }
     requires from_one { pos 1 ≤ℤ scale }
@@ -76,7 +77,7 @@ fn leaves<V: Oracle>(
     room: &mut Room,
 ) -> bool
     requires limits { IsWithinLimits V.firm V.limit market.now }
-    requires network { IsNetwork (map V.firm market.now.firms) market.now.trades }
+    requires network { network_of V.firm market.now IsNetwork }
     requires firm { f < length market.now.firms }
     requires known { All (λ contract. contract.trade < length market.now.trades) contracts.now }
     requires small { All (λ contract. IsAtMost contract.price most_asked_price) contracts.now }
@@ -100,7 +101,7 @@ pub(crate) fn first_left<V: Oracle>(
     room: &mut Room,
 ) -> Option<u32>
     requires limits { IsWithinLimits V.firm V.limit market.now }
-    requires network { IsNetwork (map V.firm market.now.firms) market.now.trades }
+    requires network { network_of V.firm market.now IsNetwork }
     requires firm { f < length market.now.firms }
     requires known { All (λ contract. contract.trade < length market.now.trades) contracts.now }
     requires small { All (λ contract. IsAtMost contract.price most_asked_price) contracts.now }

@@ -1,6 +1,6 @@
 //! Claims that prices complete an outcome.
 
-ghost use Rattle.std.specs.Prelude.{◌≡◌, ◌<◌, ◌≤◌, length, map, All, IfOk};
+ghost use Rattle.std.specs.Prelude.{◌≡◌, ◌<◌, ◌≤◌, length, All, IfOk};
 ghost use Rattle.tn_base.specs.Arcs.{IsAtMost};
 ghost use Rattle.tn_cert.specs.Outcomes.{FindsMispriced};
 ghost use Rattle.tn_cert.specs.Replays.{Replays};
@@ -11,6 +11,7 @@ ghost use Rattle.tn_market.specs.Limits.{IsOutcomeOf, IsWithinLimits};
 ghost use Rattle.tn_cert.specs.Limits.{most_claimed_trades};
 ghost use Rattle.tn_plain_data.specs.Limits.{most_number};
 ghost use Rattle.tn_market.specs.Signed.{signed};
+ghost use Rattle.tn_market.specs.NetworkOf.{network_of};
 
 use crate::equilibria::first_lack;
 use crate::replayed::Replayed;
@@ -62,7 +63,7 @@ pub(crate) fn replay_completes<V: Oracle>(
     requires priced { length prices.now ≡ length market.now.trades }
     requires small_prices { All (λ p. IsAtMost p most_number) prices.now }
     requires over { IsOverWithin over }
-    ensures { IfOk result (Replays (map V.firm market.now.firms) market.now.trades (Completes outcome.now prices.now over)) }
+    ensures { IfOk result (network_of V.firm market.now Replays (Completes outcome.now prices.now over)) }
 {
     if over != outcome.over {
         let over = outcome.over;

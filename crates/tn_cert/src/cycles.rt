@@ -7,6 +7,7 @@ ghost use Rattle.tn_cert.specs.Limits.{most_claimed_trades};
 ghost use Rattle.tn_cert.specs.Claims.{node_of};
 ghost use Rattle.tn_cert.specs.Reasons.{arc_after};
 ghost use Rattle.tn_cert.specs.Replays.{Replays, Rounds};
+ghost use Rattle.tn_market.specs.NetworkOf.{network_of};
 
 use crate::replayed::Replayed;
 use std::alloc::Global;
@@ -66,7 +67,7 @@ pub(crate) fn replay_cycle<V: Oracle>(
     requires limits { IsWithinLimits V.firm V.limit market.now }
     requires few_trades { length market.now.trades ≤ most_claimed_trades }
     requires nodes { AreNodesWithin (length market.now.trades) nodes.now }
-    ensures { IfOk result (Replays (map V.firm market.now.firms) market.now.trades (Claim.Cycle on.now nodes.now cost)) }
+    ensures { IfOk result (network_of V.firm market.now Replays (Claim.Cycle on.now nodes.now cost)) }
 {
     if let Some(firm) = first_unable(market, on, steps) {
         return Ok(Replayed::Invalid(Reason::Impossible { firm }));

@@ -1,6 +1,6 @@
 //! Claims that a firm would drop contracts.
 
-ghost use Rattle.std.specs.Prelude.{◌≡◌, ◌^◌, ◌<◌, ◌&&◌, not, length, map, slice_get, IfOk, IfSome, Some};
+ghost use Rattle.std.specs.Prelude.{◌≡◌, ◌^◌, ◌<◌, ◌&&◌, not, length, slice_get, IfOk, IfSome, Some};
 ghost use Rattle.tn_base.specs.Arcs.{IsAtMost};
 ghost use Rattle.tn_base.specs.Sets.{has};
 ghost use Rattle.tn_cert.specs.Outcomes.{FindsUnsigned};
@@ -10,6 +10,7 @@ ghost use Rattle.tn_market.specs.Limits.{IsOutcomeOf, IsWithinLimits};
 ghost use Rattle.tn_market.specs.Signed.{contract_utility, is_signed};
 ghost use Rattle.tn_market.specs.Widths.{most_utility};
 ghost use Rattle.tn_residual.specs.Held.{HoldsSigned};
+ghost use Rattle.tn_market.specs.NetworkOf.{network_of};
 
 use crate::gains::{gain_over, judge_gain};
 use crate::least::earlier;
@@ -86,7 +87,7 @@ pub(crate) fn replay_drops<V: Oracle>(
     requires outcome { IsOutcomeOf market.now.trades outcome.now.over outcome.now.contracts }
     requires firm { firm < length market.now.firms }
     requires own { (v : V) → slice_get market.now.firms firm ≡ Some v → keeps < 2 ^ (V.firm v).count }
-    ensures { IfOk result (Replays (map V.firm market.now.firms) market.now.trades (Drops outcome.now firm keeps gain over)) }
+    ensures { IfOk result (network_of V.firm market.now Replays (Drops outcome.now firm keeps gain over)) }
 {
     if over != outcome.over {
         let over = outcome.over;

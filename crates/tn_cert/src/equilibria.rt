@@ -1,12 +1,13 @@
 //! Claims that each firm has a best bundle.
 
-ghost use Rattle.std.specs.Prelude.{◌≡◌, ◌<◌, ◌≤◌, pos, ◌≤ℤ◌, All, IfOk, length, map};
+ghost use Rattle.std.specs.Prelude.{◌≡◌, ◌<◌, ◌≤◌, pos, ◌≤ℤ◌, All, IfOk, length};
 ghost use Rattle.tn_base.specs.Arcs.{IsAtMost};
 ghost use Rattle.tn_plain_data.specs.Prices.{price_at};
 ghost use Rattle.tn_market.specs.Limits.{IsWithinLimits};
 ghost use Rattle.tn_cert.specs.Limits.{most_claimed_trades};
 ghost use Rattle.tn_plain_data.specs.Limits.{most_claimed_over, most_number};
 ghost use Rattle.tn_cert.specs.Replays.{FindsLack, Replays, Weighs};
+ghost use Rattle.tn_market.specs.NetworkOf.{network_of};
 
 use crate::replayed::Replayed;
 use std::alloc::Global;
@@ -29,7 +30,7 @@ fn weigh<V: Oracle>(
     requires small_prices { All (λ p. IsAtMost p most_number) prices.now }
     requires from_one { pos 1 ≤ℤ scale }
     requires small_scale { scale ≤ℤ pos most_claimed_over }
-    ensures { IfOk result (Weighs (map V.firm market.now.firms) market.now.trades scale on.now (price_at prices.now)) }
+    ensures { IfOk result (network_of V.firm market.now Weighs scale on.now (price_at prices.now)) }
 {
     let mut room = Room::new(alloc)?;
     match judge_at(market, on, prices, scale, &mut room) {
@@ -57,7 +58,7 @@ pub(crate) fn first_lack<V: Oracle>(
     requires small_prices { All (λ p. IsAtMost p most_number) prices.now }
     requires from_one { pos 1 ≤ℤ scale }
     requires small_scale { scale ≤ℤ pos most_claimed_over }
-    ensures { IfOk result (FindsLack (map V.firm market.now.firms) market.now.trades scale on.now (price_at prices.now)) }
+    ensures { IfOk result (network_of V.firm market.now FindsLack scale on.now (price_at prices.now)) }
 {
     match weigh(alloc, market, scale, on, prices)? {
         Ok(_) => Ok(None),
@@ -76,7 +77,7 @@ pub(crate) fn replay_equilibrium<V: Oracle>(
     requires few_trades { length market.now.trades ≤ most_claimed_trades }
     requires priced { length at.now.prices ≡ length market.now.trades }
     requires small_prices { All (λ p. IsAtMost p most_number) at.now.prices }
-    ensures { IfOk result (Replays (map V.firm market.now.firms) market.now.trades (Claim.Equilibrium at.now surplus)) }
+    ensures { IfOk result (network_of V.firm market.now Replays (Claim.Equilibrium at.now surplus)) }
 {
     match weigh(alloc, market, 1, &at.on, &at.prices)? {
         Ok(actual) => {
@@ -101,7 +102,7 @@ pub(crate) fn replay_supported<V: Oracle>(
     requires few_trades { length market.now.trades ≤ most_claimed_trades }
     requires priced { length prices.now ≡ length market.now.trades }
     requires small_prices { All (λ p. IsAtMost p most_number) prices.now }
-    ensures { IfOk result (Replays (map V.firm market.now.firms) market.now.trades (Claim.Supported on.now prices.now)) }
+    ensures { IfOk result (network_of V.firm market.now Replays (Claim.Supported on.now prices.now)) }
 {
     match first_lack(alloc, market, 1, on, prices)? {
         None => Ok(Replayed::Valid),

@@ -8,6 +8,7 @@ ghost use Rattle.tn_market.specs.Limits.{IsWithinLimits};
 ghost use Rattle.tn_cert.specs.Limits.{most_claimed_trades};
 ghost use Rattle.tn_plain_data.specs.Limits.{most_firms};
 ghost use Rattle.tn_cert.specs.Replays.{Replays, in_trades, is_on_exchange};
+ghost use Rattle.tn_market.specs.NetworkOf.{network_of};
 
 use crate::blocking::replay_blocks;
 use crate::completing::replay_completes;
@@ -40,9 +41,9 @@ pub fn replay<V: Oracle>(
 ) -> Result<Replayed, OutOfMemory>
     requires limits { IsWithinLimits V.firm V.limit market.now }
     requires few_trades { length market.now.trades ≤ most_claimed_trades }
-    requires within { IsClaimWithin (map V.firm market.now.firms) market.now.trades claim.now }
+    requires within { network_of V.firm market.now IsClaimWithin claim.now }
     requires on_market { is_on_exchange claim.now ≡ false }
-    ensures { IfOk result (Replays (map V.firm market.now.firms) market.now.trades claim.now) }
+    ensures { IfOk result (network_of V.firm market.now Replays claim.now) }
 {
     match claim {
         Claim::Equilibrium { at, surplus } | Claim::Solved { at, surplus } => {

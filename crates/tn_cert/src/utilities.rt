@@ -8,6 +8,7 @@ ghost use Rattle.tn_market.specs.Limits.{IsWithinLimits};
 ghost use Rattle.tn_cert.specs.Limits.{most_claimed_trades};
 ghost use Rattle.tn_plain_data.specs.Limits.{most_price};
 ghost use Rattle.tn_cert.specs.Replays.{Replays, TellsGain};
+ghost use Rattle.tn_market.specs.NetworkOf.{network_of};
 
 use crate::replayed::Replayed;
 use std::alloc::Global;
@@ -29,7 +30,7 @@ fn gain_by<V: Oracle>(
     requires priced { length at.now.prices ≡ length market.now.trades }
     requires small_prices { All (λ p. IsAtMost p most_price) at.now.prices }
     requires own { IsFirmWith (map V.firm market.now.firms) f (λ firm. other < 2 ^ firm.count) }
-    ensures { TellsGain (map V.firm market.now.firms) market.now.trades at.now.on (price_at at.now.prices) f other result }
+    ensures { network_of V.firm market.now TellsGain at.now.on (price_at at.now.prices) f other result }
 {
     let firm = market.firm(f);
     let n = firm.trades();
@@ -54,7 +55,7 @@ pub(crate) fn replay_better<V: Oracle>(
     requires priced { length at.now.prices ≡ length market.now.trades }
     requires small_prices { All (λ p. IsAtMost p most_price) at.now.prices }
     requires own { IsFirmWith (map V.firm market.now.firms) firm (λ it. bundle < 2 ^ it.count) }
-    ensures { IfOk result (Replays (map V.firm market.now.firms) market.now.trades (Claim.Better at.now firm bundle gain)) }
+    ensures { IfOk result (network_of V.firm market.now Replays (Claim.Better at.now firm bundle gain)) }
 {
     let mut room = Room::new(alloc)?;
     match gain_by(market, at, firm, bundle, &mut room) {
@@ -81,7 +82,7 @@ pub(crate) fn replay_impossible<V: Valuation>(
 ) -> Replayed
     requires few_trades { length market.now.trades ≤ most_claimed_trades }
     requires known { firm < length market.now.firms }
-    ensures { Replays (map V.firm market.now.firms) market.now.trades (Claim.Impossible on.now firm) result }
+    ensures { network_of V.firm market.now Replays (Claim.Impossible on.now firm) result }
 {
     match worth_at(market, on, firm, steps) {
         None => Replayed::Valid,
