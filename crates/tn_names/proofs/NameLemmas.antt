@@ -10,7 +10,7 @@ use Rattle.std.proofs.lemmas.List.Quantifiers.{position-Some}
 use Rattle.std.proofs.lemmas.Map.Keys.{any_passes_from_place}
 use Rattle.std.proofs.lemmas.Option.{none-some, same_Some, slice_get-get_or}
 use Rattle.std.proofs.lemmas.Slice.Eq.{bytes_eq-Decides}
-use Rattle.tn_names.specs.Names.{IsNameList, is_name, has_name, number_of, MAX_NAMES}
+use Rattle.tn_names.specs.Names.{IsNameList, is_name, has_name, number_of, most_names}
 
 module _ {A B : Type 0} (f : A → B) (p : B → Bool) where
   pub list_any-map : (xs : List A) → list_any p (map f xs) ≡ list_any (λ x. p (f x)) xs
@@ -68,7 +68,7 @@ module _ (names : List (List ℕ)) (name : List ℕ) (kept : IsNameList names) (
       ]
 
   -- the list with a new name last
-  pub IsNameList-push : is_name name ≡ true → length names < MAX_NAMES → IsNameList (names ++ name ∷ [])
+  pub IsNameList-push : is_name name ≡ true → length names < most_names → IsNameList (names ++ name ∷ [])
   IsNameList-push rule room = record {
     few = omega (arith, length-append names (name ∷ []));
     named = λ k x e. elim (push_cases names name x k e) [ inl h ↦ kept.named k x h | inr h ↦ subst (λ (n : List ℕ). is_name n ≡ true) h.1 rule ];

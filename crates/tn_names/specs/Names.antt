@@ -2,8 +2,13 @@
 use Rattle.std.specs.Prelude.{◌≡◌, ℕ, ◌≤◌, Bool, true, ◌==◌, ◌&&◌, ◌||◌, nat_le, List, [], ◌∷◌, ◌++◌, length, slice_get, Option, Some, position, bytes_eq}
 use Rattle.std.specs.List.{list_all, list_any}
 
-abbrev pub MAX_NAMES : ℕ
-MAX_NAMES = 1024
+-- there is room for so many names of firms, and as many of trades
+abbrev pub most_names : ℕ
+most_names = 1024
+
+-- a name has at most so many characters
+abbrev pub most_letters : ℕ
+most_letters = 32
 
 abbrev pub is_between : ℕ → ℕ → ℕ → Bool
 is_between low high byte = nat_le low byte && nat_le byte high
@@ -12,9 +17,9 @@ is_between low high byte = nat_le low byte && nat_le byte high
 abbrev pub is_name_byte : ℕ → Bool
 is_name_byte byte = is_between 97 122 byte || is_between 65 90 byte || is_between 48 57 byte || byte == 95 || byte == 45 || byte == 46
 
--- a name has 1 to 32 such characters
+-- a name has at least one and at most so many such characters
 abbrev pub is_name : List ℕ → Bool
-is_name name = is_between 1 32 (length name) && list_all is_name_byte name
+is_name name = is_between 1 most_letters (length name) && list_all is_name_byte name
 
 -- the names of firms and those of trades, each in first-seen order
 pub record NameLists : Type 0 where
@@ -40,6 +45,6 @@ number_of names name = position (bytes_eq name) names
 
 -- the names keep the rule, and no name is there twice
 pub record IsNameList (names : List (List ℕ)) : Type 0 where
-  pub few : length names ≤ MAX_NAMES
+  pub few : length names ≤ most_names
   pub named : (k : ℕ) (name : List ℕ) → slice_get names k ≡ Some name → is_name name ≡ true
   pub once : (j k : ℕ) (name : List ℕ) → slice_get names j ≡ Some name → slice_get names k ≡ Some name → j ≡ k

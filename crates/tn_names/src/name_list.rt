@@ -1,5 +1,5 @@
 ghost use Rattle.std.specs.Prelude.{◌≡◌, ◌<◌, ◌++◌, [], ◌∷◌, true, false, Some, not, length, slice_get, if◌then◌else◌, ◌↔◌, IsSome, IfSome, IsTrue, IfOk, OnOk, OnErr};
-ghost use Rattle.tn_names.specs.Names.{IsNameList, has_name, is_name, number_of, MAX_NAMES};
+ghost use Rattle.tn_names.specs.Names.{IsNameList, has_name, is_name, number_of, most_names};
 
 use indexmap::IndexSet;
 use std::alloc::Global;
@@ -59,7 +59,7 @@ impl NameList {
 
     pub fn add(&mut self, name: &str) -> Result<bool, OutOfMemory>
         requires named { IsTrue (is_name name.now) }
-        requires room { length self.old < MAX_NAMES }
+        requires room { length self.old < most_names }
         ensures added { IfOk result (λ added. added ≡ not (has_name self.old name.now)) }
         ensures last { IfOk result
             (λ added. self.new ≡ (if added then self.old ++ name.now ∷ [] else self.old)) }
@@ -81,7 +81,7 @@ impl NameList {
 
     fn push(&mut self, name: &str) -> Result<(), OutOfMemory>
         requires named { IsTrue (is_name name.now) }
-        requires room { length self.old < MAX_NAMES }
+        requires room { length self.old < most_names }
         requires new { has_name self.old name.now ≡ false }
         ensures last { OnOk result (self.new ≡ self.old ++ name.now ∷ []) }
         ensures err { OnErr result (self.new ≡ self.old) }

@@ -1,5 +1,5 @@
 ghost use Rattle.std.specs.Prelude.{◌≡◌, ◌<◌, ◌++◌, [], ◌∷◌, true, false, Some, not, length, slice_get, if◌then◌else◌, ◌↔◌, IsSome, IfSome, IsTrue, IfOk, OnErr};
-ghost use Rattle.tn_names.specs.Names.{IsNameList, has_name, is_name, number_of, no_names, with_firm, with_trade, MAX_NAMES};
+ghost use Rattle.tn_names.specs.Names.{IsNameList, has_name, is_name, number_of, no_names, with_firm, with_trade, most_names};
 
 use crate::name_list::NameList;
 use std::alloc::Global;
@@ -70,7 +70,7 @@ impl Names {
     /// names, and fewer than 1,024 names of firms are there.
     pub fn add_firm(&mut self, name: &str) -> Result<bool, OutOfMemory>
         requires named { IsTrue (is_name name.now) }
-        requires room { length self.old.firms < MAX_NAMES }
+        requires room { length self.old.firms < most_names }
         ensures added { IfOk result (λ added. added ≡ not (has_name self.old.firms name.now)) }
         ensures last { IfOk result
             (λ added. self.new ≡ (if added then with_firm self.old name.now else self.old)) }
@@ -86,7 +86,7 @@ impl Names {
     /// names, and fewer than 1,024 names of trades are there.
     pub fn add_trade(&mut self, name: &str) -> Result<bool, OutOfMemory>
         requires named { IsTrue (is_name name.now) }
-        requires room { length self.old.trades < MAX_NAMES }
+        requires room { length self.old.trades < most_names }
         ensures added { IfOk result (λ added. added ≡ not (has_name self.old.trades name.now)) }
         ensures last { IfOk result
             (λ added. self.new ≡ (if added then with_trade self.old name.now else self.old)) }

@@ -2,11 +2,14 @@ ghost use Rattle.std.specs.Prelude.{◌≡◌};
 ghost use Rattle.std.specs.List.{list_all};
 ghost use Rattle.tn_names.specs.Names.{is_name, is_name_byte};
 
+/// The most characters of a name.
+const MOST_LETTERS: usize = 32;
+
 /// Whether a text may be a name: it has 1 to 32 characters, each an ASCII letter, an ASCII digit, `_`, `-` or `.`.
 pub fn is_name(text: &str) -> bool
     ensures { result ≡ is_name text.now }
 {
-    !text.is_empty() && text.len() <= 32 && has_name_bytes(text)
+    !text.is_empty() && text.len() <= MOST_LETTERS && has_name_bytes(text)
 }
 
 fn has_name_bytes(text: &str) -> bool

@@ -10,7 +10,7 @@ use Rattle.tn_plain_data.specs.declared.ends.Ends.{Ends}
 use Rattle.tn_plain_data.specs.declared.place.PlaceStep.{PlaceStep}
 use Rattle.tn_plain_data.specs.declared.place.PlaceStep.TheVariants.{Index, Word}
 use Rattle.tn_plain_data.specs.declared.place.Word.TheVariants.{Firms, Trades, Name, Seller, Buyer}
-use Rattle.tn_names.specs.Names.{NameLists, IsNameList, MAX_NAMES, has_name, is_name, with_firm, with_trade}
+use Rattle.tn_names.specs.Names.{NameLists, IsNameList, most_names, has_name, is_name, with_firm, with_trade}
 use Rattle.tn_names.proofs.NameLemmas.{IsNameList-push}
 use Rattle.tn_shape.specs.declared.members.ObjectKind.TheVariants.{Trade as TradeObject}
 use Rattle.tn_read_head.specs.Beside.{with_names}
@@ -64,7 +64,7 @@ trade_name_leads names trade =
 
 -- a list of names as long as there are few
 abbrev pub IsListWhileFew : List (List ℕ) → Type 0
-IsListWhileFew names = length names ≤ MAX_NAMES → IsNameList names
+IsListWhileFew names = length names ≤ most_names → IsNameList names
 
 pub more_names : (names more : List (List ℕ)) → IsMore names more → IsListWhileFew names → IsListWhileFew more
 more_names names more m kept few =
