@@ -1,6 +1,6 @@
 //! The answer of `check`.
 
-ghost use Rattle.std.specs.Prelude.{◌≡◌, ◌^◌, ◌≤◌, pos, All, IfOk, length, map};
+ghost use Rattle.std.specs.Prelude.{◌≡◌, ◌^◌, ◌≤◌, pos, All, IfOk, length};
 ghost use Rattle.tn_answer.specs.Kept.{IsWithinClaims};
 ghost use Rattle.tn_base.specs.Arcs.{IsAtMost};
 ghost use Rattle.tn_command.specs.Limits.{most_answered_trades};
@@ -8,6 +8,7 @@ ghost use Rattle.tn_plain_data.specs.Limits.{most_price};
 ghost use Rattle.tn_firm.specs.Firms.{firm_of};
 ghost use Rattle.tn_plain_data.specs.Prices.{price_at};
 ghost use Rattle.tn_market.specs.Judged.{Judges};
+ghost use Rattle.tn_market.specs.NetworkOf.{network_of};
 
 use std::alloc::Global;
 use tn_base::OutOfMemory;
@@ -25,7 +26,7 @@ pub fn check(
     requires wide { length market.now.trades ≤ most_answered_trades }
     requires priced { length at.now.prices ≡ length market.now.trades }
     requires small { All (λ p. IsAtMost p most_price) at.now.prices }
-    ensures answer { IfOk result (Judges (map firm_of market.now.firms) market.now.trades (pos 1) at.now.on (price_at at.now.prices)) }
+    ensures answer { IfOk result (network_of firm_of market.now Judges (pos 1) at.now.on (price_at at.now.prices)) }
     ensures within { IfOk result IsWithinClaims }
 {
     let mut room = Room::new(alloc)?;

@@ -1,6 +1,6 @@
 //! The answer of `session`.
 
-ghost use Rattle.std.specs.Prelude.{◌≡◌, ℕ, Bool, false, ◌<◌, ◌≤◌, [], ◌∷◌, All, IfOk, length, map};
+ghost use Rattle.std.specs.Prelude.{◌≡◌, ℕ, Bool, false, ◌<◌, ◌≤◌, [], ◌∷◌, All, IfOk, length};
 ghost use Rattle.tn_answer.specs.Kept.{IsWithinClaims, IsWithinState};
 ghost use Rattle.tn_command.specs.Edited.{IsStateOf, StandsWhere, TellsStates, is_admitted_after};
 ghost use Rattle.tn_command.specs.Limits.{most_answered_trades};
@@ -8,6 +8,7 @@ ghost use Rattle.tn_firm.specs.Firms.{firm_of};
 ghost use Rattle.tn_plain_data.specs.Prices.{price_at};
 ghost use Rattle.tn_plain_data.specs.Choices.{contracts_of};
 ghost use Rattle.tn_plain_data.specs.Edits.{edited};
+ghost use Rattle.tn_market.specs.NetworkOf.{network_of};
 
 use crate::solving::{surplus, trades_on};
 use std::alloc::Global;
@@ -44,7 +45,7 @@ fn state_of(
 ) -> Result<State, OutOfMemory>
     requires wide { length market.now.trades ≤ most_answered_trades }
     requires stands { (test : ℕ → Bool) × StandsWhere market.now.firms market.now.trades test session.now }
-    ensures state { IfOk result (IsStateOf (map firm_of market.now.firms) market.now.trades session.now.admitted) }
+    ensures state { IfOk result (network_of firm_of market.now IsStateOf session.now.admitted) }
     ensures within { IfOk result IsWithinState }
 {
     let count = market.trades();
@@ -80,7 +81,7 @@ pub fn states_after(
 ) -> Result<Said, OutOfMemory>
     requires wide { length market.now.trades ≤ most_answered_trades }
     requires known { All (λ edit. edited edit < length market.now.trades) edits.now }
-    ensures answer { IfOk result (TellsStates (map firm_of market.now.firms) market.now.trades edits.now) }
+    ensures answer { IfOk result (network_of firm_of market.now TellsStates edits.now) }
     ensures within { IfOk result IsWithinClaims }
 {
     let mut steps = Steps::new(Asked);

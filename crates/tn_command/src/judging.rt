@@ -1,12 +1,13 @@
 //! The answer of `judge`.
 
-ghost use Rattle.std.specs.Prelude.{◌≤◌, IfOk, length, map};
+ghost use Rattle.std.specs.Prelude.{◌≤◌, IfOk, length};
 ghost use Rattle.tn_answer.specs.Kept.{IsWithinClaims};
 ghost use Rattle.tn_command.specs.Outcome.{JudgesOutcome};
 ghost use Rattle.tn_command.specs.Limits.{most_answered_trades};
 ghost use Rattle.tn_plain_data.specs.Limits.{most_firms};
 ghost use Rattle.tn_firm.specs.Firms.{firm_of};
 ghost use Rattle.tn_market.specs.Limits.{IsOutcomeOf};
+ghost use Rattle.tn_market.specs.NetworkOf.{network_of};
 
 use std::alloc::Global;
 use tn_base::{Asked, OutOfMemory, Steps};
@@ -25,7 +26,7 @@ pub fn judge_outcome(
     requires few_firms { length market.now.firms ≤ most_firms }
     requires wide { length market.now.trades ≤ most_answered_trades }
     requires outcome { IsOutcomeOf market.now.trades outcome.now.over outcome.now.contracts }
-    ensures answer { IfOk result (JudgesOutcome (map firm_of market.now.firms) market.now.trades outcome.now.over outcome.now.contracts) }
+    ensures answer { IfOk result (network_of firm_of market.now JudgesOutcome outcome.now.over outcome.now.contracts) }
     ensures within { IfOk result IsWithinClaims }
 {
     let _count = market.trades();

@@ -1,10 +1,11 @@
 //! The answer of `range`.
 
-ghost use Rattle.std.specs.Prelude.{◌≤◌, IfOk, length, map};
+ghost use Rattle.std.specs.Prelude.{◌≤◌, IfOk, length};
 ghost use Rattle.tn_answer.specs.Kept.{IsWithinClaims};
 ghost use Rattle.tn_command.specs.Ranged.{TellsRanges};
 ghost use Rattle.tn_command.specs.Limits.{most_answered_trades};
 ghost use Rattle.tn_firm.specs.Firms.{firm_of};
+ghost use Rattle.tn_market.specs.NetworkOf.{network_of};
 
 use crate::solving::{equilibrium, trades_on};
 use std::alloc::Global;
@@ -16,7 +17,7 @@ use tn_range::range;
 /// The lowest and the highest price of each trade over all equilibria of a market. There are at most 128 trades.
 pub fn price_ranges(alloc: Global, market: &Market<FirmValue>) -> Result<Said, OutOfMemory>
     requires wide { length market.now.trades ≤ most_answered_trades }
-    ensures answer { IfOk result (TellsRanges (map firm_of market.now.firms) market.now.trades) }
+    ensures answer { IfOk result (network_of firm_of market.now TellsRanges) }
     ensures within { IfOk result IsWithinClaims }
 {
     let at = equilibrium(alloc, market)?;

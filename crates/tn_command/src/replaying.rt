@@ -1,6 +1,6 @@
 //! The answer of `replay` on a market.
 
-ghost use Rattle.std.specs.Prelude.{◌≡◌, ◌≤◌, false, IfOk, length, map};
+ghost use Rattle.std.specs.Prelude.{◌≡◌, ◌≤◌, false, IfOk, length};
 ghost use Rattle.tn_answer.specs.Kept.{IsWithinClaims};
 ghost use Rattle.tn_cert.specs.Replays.{is_on_exchange};
 ghost use Rattle.tn_command.specs.Claimed.{DecidesClaim};
@@ -8,6 +8,7 @@ ghost use Rattle.tn_command.specs.Limits.{most_answered_trades};
 ghost use Rattle.tn_plain_data.specs.Limits.{most_firms};
 ghost use Rattle.tn_firm.specs.Firms.{firm_of};
 ghost use Rattle.tn_plain_data.specs.ClaimLimits.{IsClaimWithin};
+ghost use Rattle.tn_market.specs.NetworkOf.{network_of};
 
 use std::alloc::Global;
 use tn_base::{Asked, OutOfMemory, Steps};
@@ -25,8 +26,8 @@ pub fn replay_claim(
     requires few_firms { length market.now.firms ≤ most_firms }
     requires wide { length market.now.trades ≤ most_answered_trades }
     requires kind { is_on_exchange claim.now ≡ false }
-    requires claim { IsClaimWithin (map firm_of market.now.firms) market.now.trades claim.now }
-    ensures answer { IfOk result (DecidesClaim (map firm_of market.now.firms) market.now.trades claim.now) }
+    requires claim { network_of firm_of market.now IsClaimWithin claim.now }
+    ensures answer { IfOk result (network_of firm_of market.now DecidesClaim claim.now) }
     ensures within { IfOk result IsWithinClaims }
 {
     let _count = market.trades();

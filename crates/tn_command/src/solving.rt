@@ -1,6 +1,6 @@
 //! The answer of `solve`.
 
-ghost use Rattle.std.specs.Prelude.{◌≡◌, ◌≤◌, pos, All, IfOk, Some, length, map};
+ghost use Rattle.std.specs.Prelude.{◌≡◌, ◌≤◌, pos, All, IfOk, Some, length};
 ghost use Rattle.tn_answer.specs.Kept.{IsWithinClaim, IsWithinClaims};
 ghost use Rattle.tn_base.specs.Arcs.{IsAtMost};
 ghost use Rattle.tn_firm.specs.Firms.{firm_of};
@@ -11,6 +11,7 @@ ghost use Rattle.tn_plain_data.specs.Network.{trades_on};
 ghost use Rattle.tn_command.specs.Solved.{Solves, SolvesInRows};
 ghost use Rattle.tn_command.specs.Limits.{most_answered_trades};
 ghost use Rattle.tn_plain_data.specs.Limits.{most_price};
+ghost use Rattle.tn_market.specs.NetworkOf.{network_of};
 
 use std::alloc::Global;
 use tn_base::{Asked, OutOfMemory, Steps, TradeSet};
@@ -51,7 +52,7 @@ pub(crate) fn equilibrium(
     market: &Market<FirmValue>,
 ) -> Result<Arrangement<2>, OutOfMemory>
     requires { length market.now.trades ≤ most_answered_trades }
-    ensures equilibrium { IfOk result (λ at. IsEquilibrium (map firm_of market.now.firms) market.now.trades (pos 1) at.on (price_at at.prices)) }
+    ensures equilibrium { IfOk result (λ at. network_of firm_of market.now IsEquilibrium (pos 1) at.on (price_at at.prices)) }
     ensures one_each { IfOk result (λ at. length at.prices ≡ length market.now.trades) }
     ensures small { IfOk result (λ at. All (λ price. IsAtMost price most_price) at.prices) }
 {
@@ -66,8 +67,8 @@ pub(crate) fn equilibrium(
 /// The surplus of a set of trades whose bundles are possible.
 pub(crate) fn surplus(market: &Market<FirmValue>, on: &TradeSet<2>) -> i128
     requires wide { length market.now.trades ≤ most_answered_trades }
-    requires possible { ArePossible (map firm_of market.now.firms) market.now.trades on.now }
-    ensures surplus { surplus_of (map firm_of market.now.firms) market.now.trades on.now ≡ Some result }
+    requires possible { network_of firm_of market.now ArePossible on.now }
+    ensures surplus { network_of firm_of market.now surplus_of on.now ≡ Some result }
     ensures within { IsWithinClaim result }
 {
     let _count = market.firms();
@@ -80,7 +81,7 @@ pub(crate) fn surplus(market: &Market<FirmValue>, on: &TradeSet<2>) -> i128
 /// An equilibrium of a market, with its surplus. There are at most 128 trades.
 pub fn solve(alloc: Global, market: &Market<FirmValue>) -> Result<Said, OutOfMemory>
     requires wide { length market.now.trades ≤ most_answered_trades }
-    ensures answer { IfOk result (Solves (map firm_of market.now.firms) market.now.trades) }
+    ensures answer { IfOk result (network_of firm_of market.now Solves) }
     ensures within { IfOk result IsWithinClaims }
 {
     let at = equilibrium(alloc, market)?;
@@ -95,7 +96,7 @@ pub fn solve(alloc: Global, market: &Market<FirmValue>) -> Result<Said, OutOfMem
 /// The same, to be written as rows.
 pub fn solve_in_rows(alloc: Global, market: &Market<FirmValue>) -> Result<Said, OutOfMemory>
     requires wide { length market.now.trades ≤ most_answered_trades }
-    ensures answer { IfOk result (SolvesInRows (map firm_of market.now.firms) market.now.trades) }
+    ensures answer { IfOk result (network_of firm_of market.now SolvesInRows) }
     ensures within { IfOk result IsWithinClaims }
 {
     let at = equilibrium(alloc, market)?;

@@ -1,10 +1,11 @@
 //! The answer of `support`.
 
-ghost use Rattle.std.specs.Prelude.{◌≤◌, IfOk, length, map};
+ghost use Rattle.std.specs.Prelude.{◌≤◌, IfOk, length};
 ghost use Rattle.tn_answer.specs.Kept.{IsWithinClaims};
 ghost use Rattle.tn_firm.specs.Firms.{firm_of};
 ghost use Rattle.tn_command.specs.Supported.{SupportsSet};
 ghost use Rattle.tn_command.specs.Limits.{most_answered_trades};
+ghost use Rattle.tn_market.specs.NetworkOf.{network_of};
 
 use std::alloc::Global;
 use tn_base::{Asked, OutOfMemory, Steps, TradeSet};
@@ -19,7 +20,7 @@ pub fn prices_for(
     on: &TradeSet<2>,
 ) -> Result<Said, OutOfMemory>
     requires wide { length market.now.trades ≤ most_answered_trades }
-    ensures answer { IfOk result (SupportsSet (map firm_of market.now.firms) market.now.trades on.now) }
+    ensures answer { IfOk result (network_of firm_of market.now SupportsSet on.now) }
     ensures within { IfOk result IsWithinClaims }
 {
     let _count = market.trades();
