@@ -1,5 +1,6 @@
 pub mod TestLemmas
 pub mod TakenLemmas
+pub mod VerdictLemmas
 pub mod NamedLemmas
 pub mod CompleteLemmas
 pub mod NumberLemmas

@@ -17,12 +17,13 @@ use Rattle.tn_names.specs.Names.{NameLists}
 use Rattle.tn_names.specs.Named.{IsNamed}
 use Rattle.tn_answer.specs.Kept.{HasAscendingTrades, IsWithinClaims}
 use Rattle.tn_answer.proofs.LawLemmas.{within_sayable}
-use Rattle.tn_file.specs.declared.document.DocRefusal.{DocRefusal}
 use Rattle.tn_file.specs.declared.need.Need.{Need}
 use Rattle.tn_file.specs.Document.{DocumentData, ExtraData, arrangement, on_alone, outcome, edits, claim, reading_of}
 use Rattle.tn_file.specs.Laws.{IsDocument, IsExtra}
+use Rattle.tn_read_head.specs.declared.refusal.DocRefusal.{DocRefusal}
 use Rattle.tn_read_head.specs.Beside.{IsStop, Stop}
-use Rattle.tn_file.specs.Refusal.{Reads}
+use Rattle.tn_read_head.specs.Refused.{Reads}
+use Rattle.tn_file.specs.Refusal.{document_view}
 use Rattle.tn_file.proofs.DocumentLeads.{documents_are_networks}
 use Rattle.tn_file.proofs.DocumentStops.{faults_are_sayable}
 use Rattle.tn_run.specs.Answer.{ChecksExtra, EditsExtra, FirmsExtra, JudgesExtra, ReplaysExtra, SupportsExtra, IsAnswerOf, IsAnswerTo, KeepsRules}
@@ -362,7 +363,7 @@ pub document_read : (command : Command) (need : Need) (bytes : List ℕ) (doc : 
 document_read command need bytes doc same e = subst (λ (n : Need). IsDocument n doc) same (documents_are_networks need bytes doc e)
 
 -- a refusal for a fault is a stop
-pub stop_read : (need : Need) (bytes : List ℕ) (refusal : DocRefusal) (fault : FaultIs) (names : NameLists) → refusal ≡ DocRefusal.Fault fault names → Reads (Err refusal) (reading_of need bytes)
+pub stop_read : (need : Need) (bytes : List ℕ) (refusal : DocRefusal) (fault : FaultIs) (names : NameLists) → refusal ≡ DocRefusal.Fault fault names → Reads document_view (Err refusal) (reading_of need bytes)
     → IsStop (record { fault = fault; names = names })
 stop_read need bytes refusal fault names same reads =
-    faults_are_sayable need bytes (record { fault = fault; names = names }) (subst (λ (e : DocRefusal). Reads (Err e) (reading_of need bytes)) same reads)
+    faults_are_sayable need bytes (record { fault = fault; names = names }) (subst (λ (e : DocRefusal). Reads document_view (Err e) (reading_of need bytes)) same reads)

@@ -1,7 +1,9 @@
 -- What the program may say of what it read.
 use Rattle.std.specs.Prelude.{◌≡◌, ◌≢◌, ℕ, ℤ, ◌+◌, ◌≤◌, ◌⊎◌, pos, List, [], length, Option, None, IfSome, Result, Ok, Err}
 use Rattle.std.specs.Io.KnownBytes.{Consumes, IsAtEnd}
+use Rattle.tn_base.specs.Firm.{Firm}
 use Rattle.tn_base.specs.declared.fault.FaultKind.TheVariants.{TooLong}
+use Rattle.tn_plain_data.specs.declared.ends.Ends.{Ends}
 use Rattle.tn_plain_data.specs.declared.said.Fault.{Fault as FaultIs}
 use Rattle.tn_plain_data.specs.declared.said.Said.{Said}
 use Rattle.tn_plain_data.specs.declared.said.Said.TheVariants.{Usage, ReadFault, NoMemory, Fault, Equilibrium}
@@ -11,9 +13,9 @@ use Rattle.tn_io.specs.Counts.{Rose}
 use Rattle.tn_io.specs.Source.{TakesFirst, TakesAtMost}
 use Rattle.tn_answer.specs.Apart.{HasShortNumbers, IsNamedAnswer}
 use Rattle.tn_answer.specs.Kept.{HasAscendingTrades, IsWithinClaims}
-use Rattle.tn_names.specs.Names.{NameLists, IsNameList}
+use Rattle.tn_names.specs.Names.{NameLists, IsNameList, no_names}
 use Rattle.tn_read_head.specs.Beside.{Stop}
-use Rattle.tn_file.specs.Document.{DocumentData, ExtraData, arrangement, on_alone, outcome, edits, claim, reading_of}
+use Rattle.tn_file.specs.Document.{DocumentData, ExtraData, nothing, arrangement, on_alone, outcome, edits, claim, reading_of}
 use Rattle.tn_run.specs.declared.command.Command.{Command}
 use Rattle.tn_run.specs.declared.command.Command.TheVariants.{Check, Firms, Judge, Range, Replay, Session, Solve, SolveRows, Support, Test}
 use Rattle.tn_command.specs.Implied.{IsEfficientAndStable}
@@ -74,6 +76,10 @@ IsAnswerOf Solve doc said = Solves doc.firms doc.ends said
 IsAnswerOf SolveRows doc said = SolvesInRows doc.firms doc.ends said
 IsAnswerOf Support doc said = SupportsExtra doc doc.extra said
 IsAnswerOf Test doc said = Tests doc.firms doc.ends said
+
+-- a network alone: what is read for a command that reads no more has these firms and trades, and names
+abbrev pub network_alone : List Firm → List Ends → DocumentData
+network_alone firms ends = record { names = no_names; firms = firms; ends = ends; extra = nothing }
 
 -- the defined answer where the bytes read so, over the names that are read
 abbrev pub IsAnswerTo : Command → Result DocumentData Stop → NameLists → Said → Type 0

@@ -4,6 +4,7 @@ use Rattle.std.specs.List.{list_all}
 use Rattle.std.specs.Char.{is_ascii_digit}
 use Rattle.std.specs.Str.{bytes_eq}
 use Rattle.std.specs.Str.Parse.{digits_value}
+use Rattle.tn_drill.specs.Draws.{most_drilled, most_start}
 use Rattle.tn_file.specs.declared.need.Need.{Need}
 use Rattle.tn_file.specs.declared.need.Need.TheVariants.{Market, Raw, Arrangement, RawArrangement, On, Outcome, Edits, Claim}
 use Rattle.tn_plain_data.specs.declared.said.Page.{Page}
@@ -62,7 +63,7 @@ two_numbers size start = None
 
 -- the size and the start of a drill, by the words
 abbrev pub drill_of : List (List ℕ) → Option (ℕ × ℕ)
-drill_of (word ∷ size ∷ start ∷ []) = if bytes_eq word (codes "drill") then two_numbers (number_within 1 64 size) (number_within 0 2147483647 start) else None
+drill_of (word ∷ size ∷ start ∷ []) = if bytes_eq word (codes "drill") then two_numbers (number_within 1 most_drilled size) (number_within 0 most_start start) else None
 drill_of words = None
 
 -- whether the words ask for the program's own cases

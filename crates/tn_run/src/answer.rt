@@ -1,11 +1,13 @@
 //! The answer to the bytes of a document.
 
-ghost use Rattle.std.specs.Prelude.{◌≡◌, ◌≤◌, IfOk};
+ghost use Rattle.std.specs.Prelude.{◌≡◌, ◌≤◌, length, map, IfOk};
 ghost use Rattle.tn_answer.specs.Kept.{IsWithinClaims};
 ghost use Rattle.tn_file.specs.Document.{reading_of};
 ghost use Rattle.tn_file.specs.Laws.{IsDocument};
-ghost use Rattle.tn_file.specs.Refusal.{IsExtraFor, IsLoadedFor, document_view};
-ghost use Rattle.tn_run.specs.Answer.{IsAnswerOf, IsAnswerTo, KeepsRules, MayBeSaid, too_long};
+ghost use Rattle.tn_file.specs.Refusal.{IsFor, document_view};
+ghost use Rattle.tn_firm.specs.Firms.{firm_of};
+ghost use Rattle.tn_plain_data.specs.Limits.{most_listed};
+ghost use Rattle.tn_run.specs.Answer.{IsAnswerOf, IsAnswerTo, KeepsRules, MayBeSaid, network_alone, too_long};
 ghost use Rattle.tn_run.specs.Words.{need_of};
 
 use crate::command::{Command, need_of};
@@ -18,210 +20,62 @@ use tn_command::{
     check, judge_outcome, price_ranges, prices_for, replay_claim, solve, solve_in_rows,
     states_after,
 };
-use tn_file::{DocRefusal, Document, Extra, Loaded, Need, read_doc};
+use tn_file::{Content, DocRefusal, Document, Extra, Need, RawExtra, read_doc};
+use tn_firm::FirmValue;
 use tn_holding::firm_holdings;
 use tn_io::{ReadStop, Source, read_all};
-use tn_market::{Fault, Place, Said};
+use tn_market::{Fault, Market, Place, Said};
 
 /// How many bytes a document may have.
 const DOCUMENT_LIMIT: usize = 4_194_304;
 
-/// The answer of `check` on a document.
-fn check_document(alloc: Global, doc: &Document) -> Result<Said, OutOfMemory>
-    requires document { IsDocument Need.Arrangement (document_view doc.now) }
-    requires loaded { IsLoadedFor Need.Arrangement doc.now.extra doc.now.firms }
-    requires extra { IsExtraFor Need.Arrangement doc.now.extra }
-    ensures answer { IfOk result (IsAnswerOf Command.Check (document_view doc.now)) }
-    ensures within { IfOk result IsWithinClaims }
-{
-    match &doc.firms {
-        Loaded::Market(market) => match &doc.extra {
-            Extra::Arrangement(at) => check(alloc, market, at),
-            Extra::None | Extra::On(_) | Extra::Outcome(_) | Extra::Edits(_) | Extra::Claim(_) =>
-                unreachable!(),
-        },
-        Loaded::Raw(_) => unreachable!(),
-    }
-}
-
-/// The answer of `firms` on a document.
-fn firms_document(alloc: Global, doc: &Document) -> Result<Said, OutOfMemory>
-    requires document { IsDocument Need.RawArrangement (document_view doc.now) }
-    requires loaded { IsLoadedFor Need.RawArrangement doc.now.extra doc.now.firms }
-    requires extra { IsExtraFor Need.RawArrangement doc.now.extra }
-    ensures answer { IfOk result (IsAnswerOf Command.Firms (document_view doc.now)) }
-    ensures within { IfOk result IsWithinClaims }
-{
-    match &doc.firms {
-        Loaded::Raw(net) => match &doc.extra {
-            Extra::Arrangement(at) => firm_holdings(alloc, net.firms(), net.ends(), at),
-            Extra::None | Extra::On(_) | Extra::Outcome(_) | Extra::Edits(_) | Extra::Claim(_) =>
-                unreachable!(),
-        },
-        Loaded::Market(_) => unreachable!(),
-    }
-}
-
-/// The answer of `judge` on a document.
-fn judge_document(alloc: Global, doc: &Document) -> Result<Said, OutOfMemory>
-    requires document { IsDocument Need.Outcome (document_view doc.now) }
-    requires loaded { IsLoadedFor Need.Outcome doc.now.extra doc.now.firms }
-    requires extra { IsExtraFor Need.Outcome doc.now.extra }
-    ensures answer { IfOk result (IsAnswerOf Command.Judge (document_view doc.now)) }
-    ensures within { IfOk result IsWithinClaims }
-{
-    match &doc.firms {
-        Loaded::Market(market) => match &doc.extra {
-            Extra::Outcome(outcome) => judge_outcome(alloc, market, outcome),
-            Extra::None
-            | Extra::Arrangement(_)
-            | Extra::On(_)
-            | Extra::Edits(_)
-            | Extra::Claim(_) => { unreachable!() }
-        },
-        Loaded::Raw(_) => unreachable!(),
-    }
-}
-
-/// The answer of `range` on a document.
-fn range_document(alloc: Global, doc: &Document) -> Result<Said, OutOfMemory>
-    requires document { IsDocument Need.Market (document_view doc.now) }
-    requires loaded { IsLoadedFor Need.Market doc.now.extra doc.now.firms }
-    ensures answer { IfOk result (IsAnswerOf Command.Range (document_view doc.now)) }
-    ensures within { IfOk result IsWithinClaims }
-{
-    match &doc.firms {
-        Loaded::Market(market) => price_ranges(alloc, market),
-        Loaded::Raw(_) => unreachable!(),
-    }
-}
-
-/// The answer of `replay` on a document.
-fn replay_document(alloc: Global, doc: &Document) -> Result<Said, OutOfMemory>
-    requires document { IsDocument Need.Claim (document_view doc.now) }
-    requires loaded { IsLoadedFor Need.Claim doc.now.extra doc.now.firms }
-    requires extra { IsExtraFor Need.Claim doc.now.extra }
-    ensures answer { IfOk result (IsAnswerOf Command.Replay (document_view doc.now)) }
-    ensures within { IfOk result IsWithinClaims }
-{
-    match &doc.extra {
-        Extra::Claim(claim) => match &doc.firms {
-            Loaded::Market(market) => replay_claim(alloc, market, claim),
-            Loaded::Raw(net) => replay_raw(alloc, net, claim),
-        },
-        Extra::None | Extra::Arrangement(_) | Extra::On(_) | Extra::Outcome(_) | Extra::Edits(_) =>
-            unreachable!(),
-    }
-}
-
-/// The answer of `session` on a document.
-fn session_document(alloc: Global, doc: &Document) -> Result<Said, OutOfMemory>
-    requires document { IsDocument Need.Edits (document_view doc.now) }
-    requires loaded { IsLoadedFor Need.Edits doc.now.extra doc.now.firms }
-    requires extra { IsExtraFor Need.Edits doc.now.extra }
-    ensures answer { IfOk result (IsAnswerOf Command.Session (document_view doc.now)) }
-    ensures within { IfOk result IsWithinClaims }
-{
-    match &doc.firms {
-        Loaded::Market(market) => match &doc.extra {
-            Extra::Edits(edits) => states_after(alloc, market, edits),
-            Extra::None
-            | Extra::Arrangement(_)
-            | Extra::On(_)
-            | Extra::Outcome(_)
-            | Extra::Claim(_) => { unreachable!() }
-        },
-        Loaded::Raw(_) => unreachable!(),
-    }
-}
-
-/// The answer of `solve` on a document.
-fn solve_document(alloc: Global, doc: &Document) -> Result<Said, OutOfMemory>
-    requires document { IsDocument Need.Market (document_view doc.now) }
-    requires loaded { IsLoadedFor Need.Market doc.now.extra doc.now.firms }
-    ensures answer { IfOk result (IsAnswerOf Command.Solve (document_view doc.now)) }
-    ensures within { IfOk result IsWithinClaims }
-{
-    match &doc.firms {
-        Loaded::Market(market) => solve(alloc, market),
-        Loaded::Raw(_) => unreachable!(),
-    }
-}
-
-/// The answer of `solve --csv` on a document.
-fn solve_rows_document(alloc: Global, doc: &Document) -> Result<Said, OutOfMemory>
-    requires document { IsDocument Need.Market (document_view doc.now) }
-    requires loaded { IsLoadedFor Need.Market doc.now.extra doc.now.firms }
-    ensures answer { IfOk result (IsAnswerOf Command.SolveRows (document_view doc.now)) }
-    ensures within { IfOk result IsWithinClaims }
-{
-    match &doc.firms {
-        Loaded::Market(market) => solve_in_rows(alloc, market),
-        Loaded::Raw(_) => unreachable!(),
-    }
-}
-
-/// The answer of `support` on a document.
-fn support_document(alloc: Global, doc: &Document) -> Result<Said, OutOfMemory>
-    requires document { IsDocument Need.On (document_view doc.now) }
-    requires loaded { IsLoadedFor Need.On doc.now.extra doc.now.firms }
-    requires extra { IsExtraFor Need.On doc.now.extra }
-    ensures answer { IfOk result (IsAnswerOf Command.Support (document_view doc.now)) }
-    ensures within { IfOk result IsWithinClaims }
-{
-    match &doc.firms {
-        Loaded::Market(market) => match &doc.extra {
-            Extra::On(on) => prices_for(alloc, market, on),
-            Extra::None
-            | Extra::Arrangement(_)
-            | Extra::Outcome(_)
-            | Extra::Edits(_)
-            | Extra::Claim(_) => { unreachable!() }
-        },
-        Loaded::Raw(_) => unreachable!(),
-    }
-}
-
-/// The answer of `test` on a document.
-fn test_document(alloc: Global, doc: &Document) -> Result<Said, OutOfMemory>
-    requires document { IsDocument Need.Raw (document_view doc.now) }
-    requires loaded { IsLoadedFor Need.Raw doc.now.extra doc.now.firms }
-    ensures answer { IfOk result (IsAnswerOf Command.Test (document_view doc.now)) }
-    ensures within { IfOk result IsWithinClaims }
-{
-    match &doc.firms {
-        Loaded::Raw(net) => test(alloc, net),
-        Loaded::Market(_) => unreachable!(),
-    }
-}
-
-/// The answer of a command on a document.
-fn answer_document(alloc: Global, command: Command, doc: &Document) -> Result<Said, OutOfMemory>
-    requires document { IsDocument (need_of command) (document_view doc.now) }
-    requires loaded { IsLoadedFor (need_of command) doc.now.extra doc.now.firms }
-    requires extra { IsExtraFor (need_of command) doc.now.extra }
-    ensures answer { IfOk result (IsAnswerOf command (document_view doc.now)) }
+/// The answer of a command that reads a network alone.
+fn answer_network(
+    alloc: Global,
+    command: Command,
+    market: &Market<FirmValue>,
+) -> Result<Said, OutOfMemory>
+    requires reads { need_of command ≡ Need.Market }
+    requires few_trades { length market.now.trades ≤ most_listed }
+    ensures answer { IfOk result (IsAnswerOf command (network_alone (map firm_of market.now.firms) market.now.trades)) }
     ensures within { IfOk result IsWithinClaims }
 {
     match command {
-        Command::Check => check_document(alloc, doc),
-        Command::Firms => firms_document(alloc, doc),
-        Command::Judge => judge_document(alloc, doc),
-        Command::Range => range_document(alloc, doc),
-        Command::Replay => replay_document(alloc, doc),
-        Command::Session => session_document(alloc, doc),
-        Command::Solve => solve_document(alloc, doc),
-        Command::SolveRows => solve_rows_document(alloc, doc),
-        Command::Support => support_document(alloc, doc),
-        Command::Test => test_document(alloc, doc),
+        Command::Range => price_ranges(alloc, market),
+        Command::SolveRows => solve_in_rows(alloc, market),
+        // No other command but `solve` reads a network alone.
+        _ => solve(alloc, market),
+    }
+}
+
+/// The answer of a command on a document. What was read beside its network tells the command, but where nothing was.
+fn answer_document(alloc: Global, command: Command, doc: &Document) -> Result<Said, OutOfMemory>
+    requires document { IsDocument (need_of command) (document_view doc.now) }
+    requires needed { IsFor (need_of command) doc.now.content }
+    ensures answer { IfOk result (IsAnswerOf command (document_view doc.now)) }
+    ensures within { IfOk result IsWithinClaims }
+{
+    match &doc.content {
+        Content::Market(market, extra) => match extra {
+            Extra::None => answer_network(alloc, command, market),
+            Extra::Arrangement(at) => check(alloc, market, at),
+            Extra::On(on) => prices_for(alloc, market, on),
+            Extra::Outcome(outcome) => judge_outcome(alloc, market, outcome),
+            Extra::Edits(edits) => states_after(alloc, market, edits),
+            Extra::Claim(claim) => replay_claim(alloc, market, claim),
+        },
+        Content::Raw(net, extra) => match extra {
+            RawExtra::None => test(alloc, net),
+            RawExtra::Arrangement(at) => firm_holdings(alloc, net.firms(), net.ends(), at),
+            RawExtra::Claim(claim) => replay_raw(alloc, net, claim),
+        },
     }
 }
 
 /// The answer of a command on a document that was read, with its names.
 fn answer_read(alloc: Global, command: Command, doc: Document) -> Result<(Said, Names), OutOfMemory>
     requires document { IsDocument (need_of command) (document_view doc) }
-    requires loaded { IsLoadedFor (need_of command) doc.extra doc.firms }
-    requires extra { IsExtraFor (need_of command) doc.extra }
+    requires needed { IsFor (need_of command) doc.content }
     ensures answer { IfOk result (λ told. IsAnswerOf command (document_view doc) told.0) }
     ensures names { IfOk result (λ told. told.1 ≡ (document_view doc).names) }
     ensures within { IfOk result (λ told. IsWithinClaims told.0) }

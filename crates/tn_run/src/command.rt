@@ -1,10 +1,17 @@
 ghost use Rattle.std.specs.Prelude.{◌≡◌, ◌≤◌, map, string_bytes, IfSome};
+ghost use Rattle.tn_drill.specs.Draws.{most_drilled, most_start};
 ghost use Rattle.tn_run.specs.Words.{asks_for_cases, case_command, command_of, drill_of, need_of, page_of, two_numbers, word_command};
 
 use crate::numbers::number_within;
 use tn_file::Need;
 use tn_market::Page;
 use tn_shape::value_of_word;
+
+/// The most trades of a drill network.
+const MOST_DRILLED: u32 = 64;
+
+/// The greatest number that a drill network is drawn from.
+const MOST_START: u32 = 2_147_483_647;
 
 /// What the program is asked to do with a document.
 #[derive(Clone, Copy)]
@@ -99,14 +106,14 @@ pub fn need_of(command: Command) -> Need
 /// The size and the start of the drill that the words are, None where they are none.
 pub fn drill_of(words: &[String]) -> Option<(u32, u32)>
     ensures drill { result ≡ drill_of (map string_bytes words.now) }
-    ensures within { IfSome result (λ drill. (1 ≤ drill.0) × (drill.0 ≤ 64) × (drill.1 ≤ 2147483647)) }
+    ensures within { IfSome result (λ drill. (1 ≤ drill.0) × (drill.0 ≤ most_drilled) × (drill.1 ≤ most_start)) }
 {
     match words {
         [word, size, start] => {
             if word.as_str() == "drill" {
                 two_numbers(
-                    number_within(size, 1, 64),
-                    number_within(start, 0, 2_147_483_647),
+                    number_within(size, 1, MOST_DRILLED),
+                    number_within(start, 0, MOST_START),
                 )
             } else {
                 None

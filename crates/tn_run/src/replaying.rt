@@ -1,10 +1,11 @@
 //! The answer of `replay` on firms that are read raw.
 
-ghost use Rattle.std.specs.Prelude.{◌≡◌, ◌≤◌, All, IfOk, length, map, true};
+ghost use Rattle.std.specs.Prelude.{◌≡◌, ◌≤◌, IfOk, length, map, true};
 ghost use Rattle.tn_answer.specs.Kept.{IsWithinClaims};
 ghost use Rattle.tn_cert.specs.Replays.{is_on_exchange, reason_in};
 ghost use Rattle.tn_command.specs.Claimed.{DecidesClaim};
-ghost use Rattle.tn_firm.specs.Raw.{CanBeTested, raw_firm_of};
+ghost use Rattle.tn_firm.specs.Raw.{raw_firm_of};
+ghost use Rattle.tn_plain_data.specs.Limits.{most_firms, most_trades};
 ghost use Rattle.tn_plain_data.specs.ClaimLimits.{IsClaimWithin};
 ghost use Rattle.tn_plain_data.specs.Network.{own};
 
@@ -16,7 +17,7 @@ use tn_market::{Claim, Reason, Said, Trades};
 
 /// The trade at a position of firm `f`.
 fn own_trade(net: &RawNet, f: u32, k: u32) -> u32
-    requires { length net.now.ends ≤ 128 }
+    requires { length net.now.ends ≤ most_trades }
     ensures { result ≡ own net.now.ends f k }
 {
     match net.trade_at(f, Some(k)) {
@@ -32,7 +33,7 @@ fn own_trades(
     f: u32,
     positions: &Trades,
 ) -> Result<Trades, OutOfMemory>
-    requires { length net.now.ends ≤ 128 }
+    requires { length net.now.ends ≤ most_trades }
     ensures { IfOk result (λ trades. trades ≡ map (own net.now.ends f) positions.now) }
 {
     let mut trades = Vec::new(alloc);
@@ -44,7 +45,7 @@ fn own_trades(
 
 /// A reason with the trades at a firm's positions in place of these.
 fn reason_in(alloc: Global, net: &RawNet, reason: Reason) -> Result<Reason, OutOfMemory>
-    requires { length net.now.ends ≤ 128 }
+    requires { length net.now.ends ≤ most_trades }
     ensures { IfOk result (λ named. named ≡ reason_in net.now.ends reason) }
 {
     match reason {
@@ -58,11 +59,11 @@ fn reason_in(alloc: Global, net: &RawNet, reason: Reason) -> Result<Reason, OutO
     }
 }
 
-/// Whether a claim of the exchange property holds, or else the first of its conditions that fails.
+/// Whether a claim of the exchange property holds, or else the first of its conditions that fails. There are at most 1,024
+/// firms and 1,024 trades.
 pub fn replay_raw(alloc: Global, net: &RawNet, claim: &Claim) -> Result<Said, OutOfMemory>
-    requires few_firms { length net.now.firms ≤ 1024 }
-    requires few_trades { length net.now.ends ≤ 128 }
-    requires testable { All CanBeTested net.now.firms }
+    requires few_firms { length net.now.firms ≤ most_firms }
+    requires few_trades { length net.now.ends ≤ most_trades }
     requires kind { is_on_exchange claim.now ≡ true }
     requires claim { IsClaimWithin (map raw_firm_of net.now.firms) net.now.ends claim.now }
     ensures answer { IfOk result (DecidesClaim (map raw_firm_of net.now.firms) net.now.ends claim.now) }

@@ -1,8 +1,9 @@
 //! The answer of `test`.
 
-ghost use Rattle.std.specs.Prelude.{◌≡◌, ◌<◌, ◌≤◌, All, IfOk, length, map, option_map};
+ghost use Rattle.std.specs.Prelude.{◌≡◌, ◌<◌, ◌≤◌, IfOk, length, map, option_map};
 ghost use Rattle.tn_answer.specs.Kept.{IsWithinClaims};
-ghost use Rattle.tn_firm.specs.Raw.{CanBeTested, raw_firm_of};
+ghost use Rattle.tn_firm.specs.Raw.{raw_firm_of};
+ghost use Rattle.tn_plain_data.specs.Limits.{most_firms, most_trades};
 ghost use Rattle.tn_plain_data.specs.Network.{own, trades_of};
 ghost use Rattle.tn_run.specs.Tested.{Tests};
 
@@ -13,11 +14,10 @@ use tn_file::RawNet;
 use tn_market::Said;
 
 /// Whether every firm of a network meets the exchange property, or else the first that doesn't, with its first
-/// triple.
+/// triple. There are at most 1,024 firms and 1,024 trades.
 pub fn test(alloc: Global, net: &RawNet) -> Result<Said, OutOfMemory>
-    requires few_firms { length net.now.firms ≤ 128 }
-    requires few_trades { length net.now.ends ≤ 128 }
-    requires testable { All CanBeTested net.now.firms }
+    requires few_firms { length net.now.firms ≤ most_firms }
+    requires few_trades { length net.now.ends ≤ most_trades }
     ensures answer { IfOk result (Tests (map raw_firm_of net.now.firms) net.now.ends) }
     ensures within { IfOk result IsWithinClaims }
 {

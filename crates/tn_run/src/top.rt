@@ -5,6 +5,7 @@ ghost use Rattle.tn_answer.specs.AnswerText.{answer_line};
 ghost use Rattle.tn_plain_data.specs.declared.said.Page.{Page};
 ghost use Rattle.tn_names.specs.Names.{NameLists};
 ghost use Rattle.tn_answer.specs.Kept.{IsWithinClaims};
+ghost use Rattle.tn_drill.specs.Draws.{most_drilled, most_start};
 ghost use Rattle.tn_io.specs.Sink.{Grows, GrowsByPrefix};
 ghost use Rattle.tn_run.specs.Answer.{MayBeSaid};
 ghost use Rattle.tn_run.specs.Cases.{MayBeCases};
@@ -107,8 +108,8 @@ fn tell<K: Sink>(alloc: Global, names: &Names, said: Said, sink: &mut K) -> Run
 /// The answer of `drill`, or that memory ran out.
 fn drilled(alloc: Global, size: u32, start: u32) -> Said
     requires some { 1 ≤ size }
-    requires few { size ≤ 64 }
-    requires start { start ≤ 2147483647 }
+    requires few { size ≤ most_drilled }
+    requires start { start ≤ most_start }
     ensures drill { MayBeDrilled size start result }
     ensures within { IsWithinClaims result }
 {

@@ -14,7 +14,7 @@ returns-in-Valid-clause-answer c =
     let ends = c.args.net.now.ends in
     let claim = c.args.claim.now in
     let valid =
-    subst (λ (firms : List RawFirm). Replays (map raw_firm_of firms) ends claim (in_trades ends Replayed.Valid)) c.firms.ensures
+    subst (λ (firms : List RawFirm). Replays (map raw_firm_of firms) ends claim (in_trades ends Replayed.Valid)) c.firms.ensures.is
     (subst (λ (replayed : Replayed). Replays (map raw_firm_of c.firms.result.now) ends claim (in_trades ends replayed)) c.in-Valid.is (c.in_ok-replay_exchange.ensures ends)) in
     (valid, exchange_implies (map raw_firm_of c.args.net.now.firms) ends claim c.requires.kind)
 
@@ -23,7 +23,7 @@ returns-in_ok-reason_in-in-Invalid-clause-answer c =
     let ends = c.args.net.now.ends in
     let claim = c.args.claim.now in
     subst (Refutes (map raw_firm_of c.args.net.now.firms) ends claim) (sym c.in_ok-reason_in-in-Invalid.ensures)
-    (subst (λ (firms : List RawFirm). Refutes (map raw_firm_of firms) ends claim (reason_in ends c.in-Invalid.reason)) c.firms.ensures
+    (subst (λ (firms : List RawFirm). Refutes (map raw_firm_of firms) ends claim (reason_in ends c.in-Invalid.reason)) c.firms.ensures.is
     (subst (λ (replayed : Replayed). Replays (map raw_firm_of c.firms.result.now) ends claim (in_trades ends replayed)) c.in-Invalid.is (c.in_ok-replay_exchange.ensures ends)))
 
 pub returns-in_ok-reason_in-in-Invalid-clause-within : goal.returns-in_ok-reason_in-in-Invalid-clause-within

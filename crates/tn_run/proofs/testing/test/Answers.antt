@@ -21,9 +21,9 @@ pub returns-in-Fails-clause-answer : goal.returns-in-Fails-clause-answer
 returns-in-Fails-clause-answer c =
     let there = item_there c.firms-firms.result.now c.loop-firm.firm-index c.loop-firm.f c.firm-item.result c.loop-firm.invariant.counted c.loop-firm-test.true c.firm-item.is in
     record {
-      before = subst (λ (xs : List RawFirm). MeetBefore (map raw_firm_of xs) c.loop-firm.f) c.firms-firms.ensures c.loop-firm.invariant.met;
+      before = subst (λ (xs : List RawFirm). MeetBefore (map raw_firm_of xs) c.loop-firm.f) c.firms-firms.ensures.is c.loop-firm.invariant.met;
       firm = raw_firm_of c.firm-item.result;
-      is = ap (λ (xs : List RawFirm). slice_get (map raw_firm_of xs) c.loop-firm.f) (sym c.firms-firms.ensures) ∙ firm_is raw_firm_of c.firms-firms.result.now c.loop-firm.f c.firm-item.result there;
+      is = ap (λ (xs : List RawFirm). slice_get (map raw_firm_of xs) c.loop-firm.f) (sym c.firms-firms.ensures.is) ∙ firm_is raw_firm_of c.firms-firms.result.now c.loop-firm.f c.firm-item.result there;
       triple = record { x = c.in-Fails.x; y = c.in-Fails.y; at = c.in-Fails.at };
       first = c.in-Fails.ensures.first;
       x_is = c.in_ok-x-in-Fails.ensures ∙ ap (λ n. trades_of c.args.net.now.ends c.loop-firm.f n c.in-Fails.x) c.trades-count.ensures.count;
@@ -32,4 +32,4 @@ returns-in-Fails-clause-answer c =
     }
 
 pub returns-clause-answer : goal.returns-clause-answer
-returns-clause-answer c = all_meet c.firms-firms.result.now c.args.net.now.firms c.loop-firm.f c.loop-firm.firm-index c.firms-firms.ensures c.loop-firm.invariant.counted c.loop-firm-test.false c.loop-firm.invariant.met
+returns-clause-answer c = all_meet c.firms-firms.result.now c.args.net.now.firms c.loop-firm.f c.loop-firm.firm-index c.firms-firms.ensures.is c.loop-firm.invariant.counted c.loop-firm-test.false c.loop-firm.invariant.met
