@@ -3,6 +3,7 @@
 ghost use Rattle.std.specs.Prelude.{◌≤◌, IfOk};
 ghost use Rattle.tn_answer.specs.Kept.{IsWithinClaims};
 ghost use Rattle.tn_command.specs.Drilled.{TellsDrill};
+ghost use Rattle.tn_drill.specs.Draws.{most_drilled, most_start};
 
 use crate::solving::{equilibrium, surplus};
 use std::alloc::Global;
@@ -14,8 +15,8 @@ use tn_market::Said;
 /// and the number is at most 2,147,483,647.
 pub fn drill_surplus(alloc: Global, size: u32, start: u32) -> Result<Said, OutOfMemory>
     requires some { 1 ≤ size }
-    requires few { size ≤ 64 }
-    requires start { start ≤ 2147483647 }
+    requires few { size ≤ most_drilled }
+    requires start { start ≤ most_start }
     ensures answer { IfOk result (TellsDrill size start) }
     ensures within { IfOk result IsWithinClaims }
 {

@@ -1,6 +1,7 @@
 ghost use Rattle.std.specs.Prelude.{◌≡◌, ◌*◌, ◌<◌, ◌≤◌, Some, All, IfOk, length, map, slice_get, get_or};
 ghost use Rattle.tn_base.specs.Sets.{has, set_of};
 ghost use Rattle.tn_plain_data.specs.Network.{own, part, IsNetwork};
+ghost use Rattle.tn_market.specs.NetworkOf.{network_of};
 ghost use Rattle.tn_market.specs.Traded.{AreOwn, HasOnePlace, placed};
 ghost use Rattle.tn_market.specs.Widths.{most_market_firms, most_market_trades};
 
@@ -38,7 +39,7 @@ impl<V: Valuation> Market<V> {
     pub fn firms(&self) -> u32
         ensures count { result ≡ length self.now.firms }
         ensures few { result ≤ most_market_firms }
-        ensures network { IsNetwork (map V.firm self.now.firms) self.now.trades }
+        ensures network { network_of V.firm self.now IsNetwork }
     {
         self.firms.len() as u32
     }
@@ -47,7 +48,7 @@ impl<V: Valuation> Market<V> {
     pub fn trades(&self) -> u32
         ensures count { result ≡ length self.now.trades }
         ensures few { result ≤ most_market_trades }
-        ensures network { IsNetwork (map V.firm self.now.firms) self.now.trades }
+        ensures network { network_of V.firm self.now IsNetwork }
     {
         self.trades.len() as u32
     }
