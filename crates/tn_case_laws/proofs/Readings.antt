@@ -15,10 +15,11 @@ use Rattle.tn_shape.specs.Members.{allows}
 use Rattle.tn_shape.specs.Claims.{allows_in_claim}
 use Rattle.tn_shape.specs.Reading.{each}
 use Rattle.tn_shape.specs.Shapes.{few_at, two_at, number_in, object_of}
+use Rattle.tn_plain_data.specs.Limits.{limits_of, limits_with}
 use Rattle.tn_read_references.specs.Ordered.{Listed, sides_of}
 use Rattle.tn_read_references.specs.References.{firm_at, trade_at, new_trade, own_position, new_own, own_reference, bundle_at}
 use Rattle.tn_read_references.specs.Entries.{entry_of, one_entry}
-use Rattle.tn_read_head.specs.Listing.{listed_of, version_limit}
+use Rattle.tn_read_head.specs.Listing.{limits_at, listed_of}
 use Rattle.tn_read_head.specs.Naming.{name_at, new_name, firm_name, trade_name, ends_at, one_trade}
 use Rattle.tn_read_firms.specs.Kinds.{kind_of, frame_of}
 use Rattle.tn_read_firms.specs.Tables.{row_of, one_row, full_if_large, rows_of, table_of}
@@ -55,7 +56,7 @@ unfolding tested_firm exchange_of
 passes trades f table holds = rw (none table holds) refl
 
 -- where a firm is read as such a table, it is the table's firm
-pub table_read : (listed : Listed) (firms : List Firm) (value : Data) (table : TableRows) → kind_of (length firms) value ≡ Ok Table → frame_of listed.ends (length firms) Table value ≡ Ok tt
+pub table_read : (listed : Listed) (firms : List Firm) (value : Data) (table : TableRows) → kind_of (length firms) value ≡ Ok Table → frame_of listed (length firms) Table value ≡ Ok tt
     → firm_by true listed (length firms) Table value ≡ tested_firm true listed.ends (length firms) table → NoneFails (firm_of_table table) → one_firm true listed firms value ≡ Ok (firms ++ firm_of_table table ∷ [])
 unfolding one_firm firm_of
 table_read listed firms value table a b c holds = rw (a, b, c, passes listed.ends (length firms) table holds) refl
@@ -70,7 +71,7 @@ abbrev pub deal_names : NameLists
 deal_names = record { firms = codes "S" ∷ codes "B" ∷ []; trades = codes "a" ∷ [] }
 
 abbrev pub deal_listed : Listed
-deal_listed = record { names = deal_names; ends = deal_trades }
+deal_listed = record { limits = limits_with 64; names = deal_names; ends = deal_trades }
 
 abbrev pub deal_items : List Data → Items
 deal_items rows = items_of (Trees.deal_firms_data rows)
@@ -107,7 +108,7 @@ abbrev pub extra_1 : ExtraData
 extra_1 = arrangement (record { on = 1; prices = pos 4 ∷ [] })
 
 listed_1 : listed_of Trees.top_1 ≡ Ok (deal_listed, deal_items (Trees.asks (negsuc 2)))
-unfolding listed_of version_limit object_of allows few_at each firm_name new_name name_at trade_name ends_at firm_at one_trade sides_of
+unfolding listed_of limits_at limits_of object_of allows few_at each firm_name new_name name_at trade_name ends_at firm_at one_trade sides_of
 listed_1 = refl
 
 extra_1_is : extra_of Arrangement deal_listed Trees.top_1 ≡ Ok extra_1
@@ -121,7 +122,7 @@ abbrev pub extra_2 : ExtraData
 extra_2 = arrangement (record { on = 1; prices = pos 6 ∷ [] })
 
 listed_2 : listed_of Trees.top_2 ≡ Ok (deal_listed, deal_items (Trees.asks (negsuc 2)))
-unfolding listed_of version_limit object_of allows few_at each firm_name new_name name_at trade_name ends_at firm_at one_trade sides_of
+unfolding listed_of limits_at limits_of object_of allows few_at each firm_name new_name name_at trade_name ends_at firm_at one_trade sides_of
 listed_2 = refl
 
 extra_2_is : extra_of Arrangement deal_listed Trees.top_2 ≡ Ok extra_2
@@ -135,7 +136,7 @@ abbrev pub extra_7 : ExtraData
 extra_7 = on_alone 1
 
 listed_7 : listed_of Trees.top_7 ≡ Ok (deal_listed, deal_items [])
-unfolding listed_of version_limit object_of allows few_at each firm_name new_name name_at trade_name ends_at firm_at one_trade sides_of
+unfolding listed_of limits_at limits_of object_of allows few_at each firm_name new_name name_at trade_name ends_at firm_at one_trade sides_of
 listed_7 = refl
 
 extra_7_is : extra_of On deal_listed Trees.top_7 ≡ Ok extra_7
@@ -149,7 +150,7 @@ abbrev pub extra_8 : ExtraData
 extra_8 = outcome (record { over = pos 1; contracts = [] })
 
 listed_8 : listed_of Trees.top_8 ≡ Ok (deal_listed, deal_items (Trees.asks (negsuc 4)))
-unfolding listed_of version_limit object_of allows few_at each firm_name new_name name_at trade_name ends_at firm_at one_trade sides_of
+unfolding listed_of limits_at limits_of object_of allows few_at each firm_name new_name name_at trade_name ends_at firm_at one_trade sides_of
 listed_8 = refl
 
 extra_8_is : extra_of Outcome deal_listed Trees.top_8 ≡ Ok extra_8
@@ -163,7 +164,7 @@ abbrev pub extra_9 : ExtraData
 extra_9 = outcome (record { over = pos 1; contracts = record { trade = 0; price = pos 2 } ∷ [] })
 
 listed_9 : listed_of Trees.top_9 ≡ Ok (deal_listed, deal_items (Trees.asks (negsuc 2)))
-unfolding listed_of version_limit object_of allows few_at each firm_name new_name name_at trade_name ends_at firm_at one_trade sides_of
+unfolding listed_of limits_at limits_of object_of allows few_at each firm_name new_name name_at trade_name ends_at firm_at one_trade sides_of
 listed_9 = refl
 
 extra_9_is : extra_of Outcome deal_listed Trees.top_9 ≡ Ok extra_9
@@ -177,7 +178,7 @@ abbrev pub extra_10 : ExtraData
 extra_10 = outcome (record { over = pos 2; contracts = record { trade = 0; price = pos 9 } ∷ [] })
 
 listed_10 : listed_of Trees.top_10 ≡ Ok (deal_listed, deal_items (Trees.asks (negsuc 2)))
-unfolding listed_of version_limit object_of allows few_at each firm_name new_name name_at trade_name ends_at firm_at one_trade sides_of
+unfolding listed_of limits_at limits_of object_of allows few_at each firm_name new_name name_at trade_name ends_at firm_at one_trade sides_of
 listed_10 = refl
 
 extra_10_is : extra_of Outcome deal_listed Trees.top_10 ≡ Ok extra_10
@@ -191,7 +192,7 @@ abbrev pub extra_11 : ExtraData
 extra_11 = on_alone 0
 
 listed_11 : listed_of Trees.top_11 ≡ Ok (deal_listed, deal_items (Trees.asks (negsuc 2)))
-unfolding listed_of version_limit object_of allows few_at each firm_name new_name name_at trade_name ends_at firm_at one_trade sides_of
+unfolding listed_of limits_at limits_of object_of allows few_at each firm_name new_name name_at trade_name ends_at firm_at one_trade sides_of
 listed_11 = refl
 
 extra_11_is : extra_of On deal_listed Trees.top_11 ≡ Ok extra_11
@@ -205,7 +206,7 @@ abbrev pub extra_12 : ExtraData
 extra_12 = claim blocks_claim
 
 listed_12 : listed_of Trees.top_12 ≡ Ok (deal_listed, deal_items (Trees.asks (negsuc 2)))
-unfolding listed_of version_limit object_of allows few_at each firm_name new_name name_at trade_name ends_at firm_at one_trade sides_of
+unfolding listed_of limits_at limits_of object_of allows few_at each firm_name new_name name_at trade_name ends_at firm_at one_trade sides_of
 listed_12 = refl
 
 extra_12_is : extra_of Claim deal_listed Trees.top_12 ≡ Ok extra_12
@@ -218,7 +219,7 @@ reading_12 = reading_by Claim Trees.bytes_12 Trees.top_12 deal_listed (deal_item
 -- ---- no trades
 
 abbrev pub idle_listed : Listed
-idle_listed = record { names = record { firms = codes "S" ∷ codes "B" ∷ []; trades = [] }; ends = no_ends }
+idle_listed = record { limits = limits_with 64; names = record { firms = codes "S" ∷ codes "B" ∷ []; trades = [] }; ends = no_ends }
 
 abbrev idle_data : Data
 idle_data = Trees.table Trees.name_S (Trees.row [] (Trees.whole 7) ∷ [])
@@ -230,7 +231,7 @@ abbrev pub idle_document : DocumentData
 idle_document = record { names = idle_listed.names; firms = idle_firms; ends = no_ends; extra = nothing }
 
 listed_3 : listed_of Trees.top_3 ≡ Ok (idle_listed, item idle_data (item idle_other no_items))
-unfolding listed_of version_limit object_of allows few_at each firm_name new_name name_at trade_name ends_at firm_at one_trade sides_of
+unfolding listed_of limits_at limits_of object_of allows few_at each firm_name new_name name_at trade_name ends_at firm_at one_trade sides_of
 listed_3 = refl
 
 firms_idle : each (one_firm true idle_listed) [] (item idle_data (item idle_other no_items)) ≡ Ok idle_firms
@@ -249,17 +250,17 @@ reading_3 = reading_by Market Trees.bytes_3 Trees.top_3 idle_listed (item idle_d
 -- ---- networks that are read raw
 
 abbrev pub listed_at_4 : Listed
-listed_at_4 = record { names = record { firms = codes "S" ∷ codes "B" ∷ []; trades = codes "a" ∷ codes "b" ∷ [] }; ends = both_trades }
+listed_at_4 = record { limits = limits_with 64; names = record { firms = codes "S" ∷ codes "B" ∷ []; trades = codes "a" ∷ codes "b" ∷ [] }; ends = both_trades }
 
 abbrev pub document_4 : DocumentData
 document_4 = record { names = listed_at_4.names; firms = both_firms; ends = both_trades; extra = nothing }
 
 listed_4 : listed_of Trees.top_4 ≡ Ok (listed_at_4, items_of Trees.firms_4)
-unfolding listed_of version_limit few_at firm_name new_name name_at trade_name ends_at firm_at one_trade one_firm firm_of firm_by tested_firm kind_of frame_of object_of allows sides_of table_of full_if_large rows_of each one_row row_of laminar_of own_numbers sets_at checked_laminar one_entry entry_of two_at bundle_at own_reference new_own own_position trade_at number_in has toggle size size_below
+unfolding listed_of limits_at limits_of few_at firm_name new_name name_at trade_name ends_at firm_at one_trade one_firm firm_of firm_by tested_firm kind_of frame_of object_of allows sides_of table_of full_if_large rows_of each one_row row_of laminar_of own_numbers sets_at checked_laminar one_entry entry_of two_at bundle_at own_reference new_own own_position trade_at number_in has toggle size size_below
 listed_4 = refl
 
 firms_4_are : each (one_firm false listed_at_4) [] (items_of Trees.firms_4) ≡ Ok both_firms
-unfolding listed_of version_limit few_at firm_name new_name name_at trade_name ends_at firm_at one_trade one_firm firm_of firm_by tested_firm kind_of frame_of object_of allows sides_of table_of full_if_large rows_of each one_row row_of laminar_of own_numbers sets_at checked_laminar one_entry entry_of two_at bundle_at own_reference new_own own_position trade_at number_in has toggle size size_below
+unfolding listed_of limits_at limits_of few_at firm_name new_name name_at trade_name ends_at firm_at one_trade one_firm firm_of firm_by tested_firm kind_of frame_of object_of allows sides_of table_of full_if_large rows_of each one_row row_of laminar_of own_numbers sets_at checked_laminar one_entry entry_of two_at bundle_at own_reference new_own own_position trade_at number_in has toggle size size_below
 firms_4_are = refl
 
 extra_4_is : extra_of Raw listed_at_4 Trees.top_4 ≡ Ok nothing
@@ -270,17 +271,17 @@ pub reading_4 : reading_of Raw Trees.bytes_4 ≡ Ok document_4
 reading_4 = reading_by Raw Trees.bytes_4 Trees.top_4 listed_at_4 (items_of Trees.firms_4) both_firms nothing Trees.tree_4 listed_4 firms_4_are extra_4_is
 
 abbrev pub listed_at_5 : Listed
-listed_at_5 = record { names = record { firms = codes "S" ∷ codes "M" ∷ codes "B" ∷ []; trades = codes "a" ∷ codes "b" ∷ [] }; ends = dealer_trades }
+listed_at_5 = record { limits = limits_with 64; names = record { firms = codes "S" ∷ codes "M" ∷ codes "B" ∷ []; trades = codes "a" ∷ codes "b" ∷ [] }; ends = dealer_trades }
 
 abbrev pub document_5 : DocumentData
 document_5 = record { names = listed_at_5.names; firms = dealer_firms; ends = dealer_trades; extra = nothing }
 
 listed_5 : listed_of Trees.top_5 ≡ Ok (listed_at_5, items_of Trees.firms_5)
-unfolding listed_of version_limit few_at firm_name new_name name_at trade_name ends_at firm_at one_trade one_firm firm_of firm_by tested_firm kind_of frame_of object_of allows sides_of table_of full_if_large rows_of each one_row row_of laminar_of own_numbers sets_at checked_laminar one_entry entry_of two_at bundle_at own_reference new_own own_position trade_at number_in has toggle size size_below
+unfolding listed_of limits_at limits_of few_at firm_name new_name name_at trade_name ends_at firm_at one_trade one_firm firm_of firm_by tested_firm kind_of frame_of object_of allows sides_of table_of full_if_large rows_of each one_row row_of laminar_of own_numbers sets_at checked_laminar one_entry entry_of two_at bundle_at own_reference new_own own_position trade_at number_in has toggle size size_below
 listed_5 = refl
 
 firms_5_are : each (one_firm false listed_at_5) [] (items_of Trees.firms_5) ≡ Ok dealer_firms
-unfolding listed_of version_limit few_at firm_name new_name name_at trade_name ends_at firm_at one_trade one_firm firm_of firm_by tested_firm kind_of frame_of object_of allows sides_of table_of full_if_large rows_of each one_row row_of laminar_of own_numbers sets_at checked_laminar one_entry entry_of two_at bundle_at own_reference new_own own_position trade_at number_in has toggle size size_below
+unfolding listed_of limits_at limits_of few_at firm_name new_name name_at trade_name ends_at firm_at one_trade one_firm firm_of firm_by tested_firm kind_of frame_of object_of allows sides_of table_of full_if_large rows_of each one_row row_of laminar_of own_numbers sets_at checked_laminar one_entry entry_of two_at bundle_at own_reference new_own own_position trade_at number_in has toggle size size_below
 firms_5_are = refl
 
 extra_5_is : extra_of Raw listed_at_5 Trees.top_5 ≡ Ok nothing
@@ -291,17 +292,17 @@ pub reading_5 : reading_of Raw Trees.bytes_5 ≡ Ok document_5
 reading_5 = reading_by Raw Trees.bytes_5 Trees.top_5 listed_at_5 (items_of Trees.firms_5) dealer_firms nothing Trees.tree_5 listed_5 firms_5_are extra_5_is
 
 abbrev pub listed_at_6 : Listed
-listed_at_6 = record { names = record { firms = codes "S" ∷ codes "M" ∷ codes "B" ∷ []; trades = codes "a1" ∷ codes "a2" ∷ codes "b1" ∷ codes "b2" ∷ [] }; ends = tied_trades }
+listed_at_6 = record { limits = limits_with 64; names = record { firms = codes "S" ∷ codes "M" ∷ codes "B" ∷ []; trades = codes "a1" ∷ codes "a2" ∷ codes "b1" ∷ codes "b2" ∷ [] }; ends = tied_trades }
 
 abbrev pub document_6 : DocumentData
 document_6 = record { names = listed_at_6.names; firms = tied_firms; ends = tied_trades; extra = nothing }
 
 listed_6 : listed_of Trees.top_6 ≡ Ok (listed_at_6, items_of Trees.firms_6)
-unfolding listed_of version_limit few_at firm_name new_name name_at trade_name ends_at firm_at one_trade one_firm firm_of firm_by tested_firm kind_of frame_of object_of allows sides_of table_of full_if_large rows_of each one_row row_of laminar_of own_numbers sets_at checked_laminar one_entry entry_of two_at bundle_at own_reference new_own own_position trade_at number_in has toggle size size_below
+unfolding listed_of limits_at limits_of few_at firm_name new_name name_at trade_name ends_at firm_at one_trade one_firm firm_of firm_by tested_firm kind_of frame_of object_of allows sides_of table_of full_if_large rows_of each one_row row_of laminar_of own_numbers sets_at checked_laminar one_entry entry_of two_at bundle_at own_reference new_own own_position trade_at number_in has toggle size size_below
 listed_6 = refl
 
 firms_6_are : each (one_firm false listed_at_6) [] (items_of Trees.firms_6) ≡ Ok tied_firms
-unfolding listed_of version_limit few_at firm_name new_name name_at trade_name ends_at firm_at one_trade one_firm firm_of firm_by tested_firm kind_of frame_of object_of allows sides_of table_of full_if_large rows_of each one_row row_of laminar_of own_numbers sets_at checked_laminar one_entry entry_of two_at bundle_at own_reference new_own own_position trade_at number_in has toggle size size_below
+unfolding listed_of limits_at limits_of few_at firm_name new_name name_at trade_name ends_at firm_at one_trade one_firm firm_of firm_by tested_firm kind_of frame_of object_of allows sides_of table_of full_if_large rows_of each one_row row_of laminar_of own_numbers sets_at checked_laminar one_entry entry_of two_at bundle_at own_reference new_own own_position trade_at number_in has toggle size size_below
 firms_6_are = refl
 
 extra_6_is : extra_of Raw listed_at_6 Trees.top_6 ≡ Ok nothing

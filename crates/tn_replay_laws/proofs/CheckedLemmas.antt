@@ -19,6 +19,7 @@ use Rattle.tn_answer.specs.AnswerText.{answer_data}
 use Rattle.tn_replay_laws.specs.Fits.{FitsClaim}
 use Rattle.tn_local.proofs.FirstLemmas.{triple_fails}
 use Rattle.tn_read_firms.proofs.ShownLemmas.{own_position_of}
+use Rattle.tn_read_head.proofs.ListingLeads.{listed_leads}
 use Rattle.tn_read_parts.specs.Arranged.{Arranged, arrangement_of}
 use Rattle.tn_read_claims.specs.Claimed.{claim_of, names_raw}
 use Rattle.tn_file.specs.declared.need.Need.{Need}
@@ -43,8 +44,9 @@ pub read_from : (need : Need) (top : Data) (doc : DocumentData) → document_of 
 read_from need top doc e = record { parts = parts need top doc e; is = (document_leads need top).at doc e }
 
 module _ (need : Need) (top : Data) (doc : DocumentData) (from : IsReadFrom need top doc) where
-  pub are_read : AreRead (listed_in doc) doc.firms
+  pub are_read : AreRead (listed_in from.parts.limits doc) doc.firms
   are_read = record {
+    limits = ((listed_leads top).at (listed_in from.parts.limits doc, from.parts.items) from.parts.listed).trades.limits;
     firm_names = from.is.firm_names;
     trade_names = from.is.trade_names;
     firms_named = from.is.firms_named;
@@ -54,11 +56,11 @@ module _ (need : Need) (top : Data) (doc : DocumentData) (from : IsReadFrom need
 
   -- the answer is there as the claim
   pub there : (said : Said) → get (codes "claim") (with_claim (answer_data doc.names said) top) ≡ Some (answer_data doc.names said)
-  there said = claim_is_there (answer_data doc.names said) top (listed_in doc, from.parts.items) from.parts.listed
+  there said = claim_is_there (answer_data doc.names said) top (listed_in from.parts.limits doc, from.parts.items) from.parts.listed
 
   -- a claim that is read, whose answer needs the same test of the firms, is the extra part of the document
   pub replayed : (said : Said) (text : List ℕ) (read : ClaimIs) → option_and_then as_str (get (codes "answer") (answer_data doc.names said)) ≡ Some text → is_tested need top ≡ not (names_raw text)
-      → claim_of (listed_in doc) (with_claim (answer_data doc.names said) top) ≡ Ok read → IsValid doc.firms doc.ends read → IsReplayed top doc said
+      → claim_of (listed_in from.parts.limits doc) (with_claim (answer_data doc.names said) top) ≡ Ok read → IsValid doc.firms doc.ends read → IsReplayed top doc said
   replayed said text read answer tested claimed valid = record {
     read = read;
     reads = document_back need top (answer_data doc.names said) doc read from.parts (tested ∙ ap not (sym (raw_there (answer_data doc.names said) top text (there said) answer))) claimed;
@@ -74,14 +76,14 @@ worth_there None g value e = absurd (none-some value e)
 
 module _ (top : Data) (doc : DocumentData) (at : Arranged) (from : IsReadFrom Arrangement top doc) (extra : doc.extra ≡ arrangement at) where
   -- the arrangement is still there
-  part : (value : Data) → arrangement_of doc.names.trades (with_claim value top) ≡ Ok at
-  part value = arrangement_other doc.names.trades value top ∙ arranged (listed_in doc) top at (from.parts.extra ∙ ap Ok extra)
+  part : (value : Data) → arrangement_of (listed_in from.parts.limits doc) (with_claim value top) ≡ Ok at
+  part value = arrangement_other (listed_in from.parts.limits doc) value top ∙ arranged (listed_in from.parts.limits doc) top at (from.parts.extra ∙ ap Ok extra)
 
   equilibrium_replays : (surplus : ℤ) → Judges doc.firms doc.ends (pos 1) at.on (price_at at.prices) (Equilibrium surplus) → FitsClaim (Equilibrium surplus) → IsReplayed top doc (Equilibrium surplus)
   equilibrium_replays surplus judges within =
       let said = Equilibrium surplus in
       replayed Arrangement top doc from said (codes "equilibrium") (EquilibriumClaim (record { on = at.on; prices = at.prices }) surplus) refl refl
-      (equilibrium_back (listed_in doc) doc.firms (are_read Arrangement top doc from) (with_claim (answer_data doc.names said) top) at surplus (there Arrangement top doc from said) (part (answer_data doc.names said)) within)
+      (equilibrium_back (listed_in from.parts.limits doc) doc.firms (are_read Arrangement top doc from) (with_claim (answer_data doc.names said) top) at surplus (there Arrangement top doc from said) (part (answer_data doc.names said)) within)
       judges
 
   better_replays : (f x : ℕ) (gain : ℤ) (is : IsFirstBettered doc.firms doc.ends (pos 1) at.on (price_at at.prices) f x gain) → FitsClaim (Equilibrium gain)
@@ -91,7 +93,7 @@ module _ (top : Data) (doc : DocumentData) (at : Arranged) (from : IsReadFrom Ar
       let worth = worth_there (is.firm.worth x) _ is.best_value is.best.is in
       let below : x < 2 ^ is.firm.count = from.is.own_bundles f is.firm is.is x worth.0 worth.1 in
       replayed Arrangement top doc from said (codes "better") (BetterClaim (record { on = at.on; prices = at.prices }) f x gain) refl refl
-      (better_back (listed_in doc) doc.firms (are_read Arrangement top doc from) (with_claim (answer_data doc.names said) top) at f is.firm x gain is.is below (there Arrangement top doc from said) (part (answer_data doc.names said)) within)
+      (better_back (listed_in from.parts.limits doc) doc.firms (are_read Arrangement top doc from) (with_claim (answer_data doc.names said) top) at f is.firm x gain is.is below (there Arrangement top doc from said) (part (answer_data doc.names said)) within)
       ((is.firm, is.is, record { value = is.best_value; value_is = is.best.is; other = is.own_value; other_is = is.own_is; gain_is = is.gain_is }), is.gains)
 
   impossible_replays : (f : ℕ) → IsFirstImpossible doc.firms doc.ends (pos 1) at.on (price_at at.prices) f → IsReplayed top doc (Impossible f)
@@ -99,8 +101,8 @@ module _ (top : Data) (doc : DocumentData) (at : Arranged) (from : IsReadFrom Ar
       let said = Impossible f in
       let value = answer_data doc.names said in
       replayed Arrangement top doc from said (codes "impossible") (ImpossibleClaim at.on f) refl refl
-      (impossible_back (listed_in doc) doc.firms (are_read Arrangement top doc from) (with_claim value top) at.on f (slice_get_within doc.firms f is.firm is.is) (there Arrangement top doc from said)
-      (on_arranged doc.names.trades (with_claim value top) at (part value)))
+      (impossible_back (listed_in from.parts.limits doc) doc.firms (are_read Arrangement top doc from) (with_claim value top) at.on f (slice_get_within doc.firms f is.firm is.is) (there Arrangement top doc from said)
+      (on_arranged (listed_in from.parts.limits doc) (with_claim value top) at (part value)))
       (is.firm, is.is, is.impossible)
 
 -- the answer of `check`
@@ -121,7 +123,7 @@ module _ (top : Data) (doc : DocumentData) (from : IsReadFrom Raw top doc) where
   acceptance_replays : ((f : ℕ) (firm : Firm) → slice_get doc.firms f ≡ Some firm → MeetsExchange firm) → IsReplayed top doc Accepted
   acceptance_replays meet =
       replayed Raw top doc from Accepted (codes "accepted") AcceptedClaim refl refl
-      (accepted_back (listed_in doc) doc.firms (are_read Raw top doc from) (with_claim (answer_data doc.names Accepted) top) (there Raw top doc from Accepted))
+      (accepted_back (listed_in from.parts.limits doc) doc.firms (are_read Raw top doc from) (with_claim (answer_data doc.names Accepted) top) (there Raw top doc from Accepted))
       meet
 
   -- the position of a failing triple is an own one
@@ -134,7 +136,7 @@ module _ (top : Data) (doc : DocumentData) (from : IsReadFrom Raw top doc) where
   failure_replays f firm x y at is fails =
       let said = ExchangeFails f (trades_of doc.ends f firm.count x) (trades_of doc.ends f firm.count y) (option_map (own doc.ends f) at) in
       replayed Raw top doc from said (codes "exchange_fails") (FailureClaim f x y at) refl refl
-      (failure_back (listed_in doc) doc.firms (are_read Raw top doc from) (with_claim (answer_data doc.names said) top) f firm x y at is
+      (failure_back (listed_in from.parts.limits doc) doc.firms (are_read Raw top doc from) (with_claim (answer_data doc.names said) top) f firm x y at is
       (from.is.own_bundles f firm is x fails.first fails.first_is) (from.is.own_bundles f firm is y fails.second fails.second_is) (own_at f firm is x y at fails) (there Raw top doc from said))
       (firm, is, fails)
 

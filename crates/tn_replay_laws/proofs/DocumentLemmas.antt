@@ -4,6 +4,7 @@ use Rattle.std.specs.Prelude.{not}
 use Rattle.serde_json.specs.Data.{Data, Items}
 use Rattle.tn_base.specs.Firm.{Firm}
 use Rattle.tn_plain_data.specs.declared.claim.Claim.{Claim as ClaimIs}
+use Rattle.tn_plain_data.specs.declared.limits.Limits.{Limits}
 use Rattle.tn_read_head.specs.Beside.{with_names}
 use Rattle.tn_read_head.specs.Listing.{listed_of}
 use Rattle.tn_read_head.proofs.BesideLemmas.{leads_beside}
@@ -18,16 +19,17 @@ use Rattle.tn_file.specs.Document.{DocumentData, ExtraData, content_of, document
 use Rattle.tn_replay_laws.specs.Replayed.{claimed_in, with_claim}
 use Rattle.tn_replay_laws.proofs.Frame.{listed_other}
 
--- the names and the ends of a document
-abbrev pub listed_in : DocumentData → Listed
-listed_in doc = record { names = doc.names; ends = doc.ends }
+-- the head of a document of these limits
+abbrev pub listed_in : Limits → DocumentData → Listed
+listed_in limits doc = record { limits = limits; names = doc.names; ends = doc.ends }
 
 -- what a document was read from, part by part
 pub record AreParts (need : Need) (top : Data) (doc : DocumentData) : Type 0 where
+  pub limits : Limits
   pub items : Items
-  pub listed : listed_of top ≡ Ok (listed_in doc, items)
-  pub firms : each (one_firm (is_tested need top) (listed_in doc)) [] items ≡ Ok doc.firms
-  pub extra : extra_of need (listed_in doc) top ≡ Ok doc.extra
+  pub listed : listed_of top ≡ Ok (listed_in limits doc, items)
+  pub firms : each (one_firm (is_tested need top) (listed_in limits doc)) [] items ≡ Ok doc.firms
+  pub extra : extra_of need (listed_in limits doc) top ≡ Ok doc.extra
 
 -- a result that is there is itself
 pub itself : {A E : Type 0} (r : Result A E) → Leads (λ x. r ≡ Ok x) r
@@ -51,15 +53,15 @@ parts_lead need top =
     leads_bind (λ network. listed_of top ≡ Ok network) (AreParts need top) (listed_of top) _ (itself (listed_of top)) (λ network at.
     leads_bind (IsContent need network.0 network.1 top) (AreParts need top) (with_names network.0.names (content_of need network.0 network.1 top)) _
     (leads_beside (IsContent need network.0 network.1 top) network.0.names (content_of need network.0 network.1 top) (content_lead need network.0 network.1 top)) (λ content is.
-    leads_ok (AreParts need top) (record { names = network.0.names; firms = content.0; ends = network.0.ends; extra = content.1 }) (record { items = network.1; listed = at; firms = is.firms; extra = is.extra })))
+    leads_ok (AreParts need top) (record { names = network.0.names; firms = content.0; ends = network.0.ends; extra = content.1 }) (record { limits = network.0.limits; items = network.1; listed = at; firms = is.firms; extra = is.extra })))
 
 pub parts : (need : Need) (top : Data) (doc : DocumentData) → document_of need top ≡ Ok doc → AreParts need top doc
 parts need top doc e = (parts_lead need top).at doc e
 
-pub document_back : (need : Need) (top value : Data) (doc : DocumentData) (read : ClaimIs) → AreParts need top doc → is_tested need top ≡ not (claims_raw (with_claim value top))
-    → claim_of (listed_in doc) (with_claim value top) ≡ Ok read → document_of Claim (with_claim value top) ≡ Ok (claimed_in doc read)
+pub document_back : (need : Need) (top value : Data) (doc : DocumentData) (read : ClaimIs) → (are : AreParts need top doc) → is_tested need top ≡ not (claims_raw (with_claim value top))
+    → claim_of (listed_in are.limits doc) (with_claim value top) ≡ Ok read → document_of Claim (with_claim value top) ≡ Ok (claimed_in doc read)
 unfolding document_of content_of extra_of
 document_back need top value doc read are tested claimed =
-    let firms : each (one_firm (not (claims_raw (with_claim value top))) (listed_in doc)) [] are.items ≡ Ok doc.firms =
-    ap (λ b. each (one_firm b (listed_in doc)) [] are.items) (sym tested) ∙ are.firms in
+    let firms : each (one_firm (not (claims_raw (with_claim value top))) (listed_in are.limits doc)) [] are.items ≡ Ok doc.firms =
+    ap (λ b. each (one_firm b (listed_in are.limits doc)) [] are.items) (sym tested) ∙ are.firms in
     rw (listed_other value top, are.listed, firms, claimed)

@@ -1,17 +1,15 @@
 -- What the program answers has numbers that a claim may have.
-use Rattle.std.proofs.Common.{◌^◌, ℤ, List, get_or, arith}
+use Rattle.std.proofs.Common.{ℤ, List, arith}
 use Rattle.std.specs.Prelude.{All}
-use Rattle.std.proofs.lemmas.Int.{ints}
 use Rattle.tn_base.specs.Arcs.{IsAtMost}
+use Rattle.tn_plain_data.specs.Limits.{most_number, most_price}
 use Rattle.tn_plain_data.specs.declared.said.Said.TheVariants.{Better, Blocks, Completes, Cycle, Drops, Equilibrium, Solved, Supported}
 use Rattle.tn_answer.specs.Kept.{IsWithinPrices}
+use Rattle.tn_read_references.proofs.EntryLeads.{all_within}
 use Rattle.tn_replay_laws.specs.Fits.{AnswersFitClaims}
 
-pub prices_within : (prices : List ℤ) → All IsWithinPrices prices → All (λ z. IsAtMost z (10 ^ 18)) prices
-prices_within prices small = λ k d below. wider (get_or prices k d) (small k d below)
-  where
-    wider : (z : ℤ) → IsAtMost z (10 ^ 14) → IsAtMost z (10 ^ 18)
-    wider z h = let low = h.low in let high = h.high in record { low = omega (arith, ints, low); high = omega (arith, ints, high) }
+pub prices_within : (prices : List ℤ) → All IsWithinPrices prices → All (λ z. IsAtMost z most_number) prices
+prices_within prices small = all_within most_price most_number prices (omega arith) small
 
 pub answers_fit_claims : AnswersFitClaims
 answers_fit_claims (Equilibrium surplus) within = within

@@ -1,5 +1,5 @@
 -- What `support` and `solve` say of a document is a valid claim on it.
-use Rattle.std.proofs.Common.{◌≡◌, ◌≢◌, ℕ, zero, suc, ◌+◌, ◌<◌, ◌≤◌, ◌^◌, ℤ, pos, ◌+ℤ◌, Bool, true, false, ◌&&◌, ◌⊎◌, List, [], ◌∷◌, map, length, slice_get, Option, Some, None, Ok, inl, inr, refl, sym, ap, subst, ◌∙◌, arith}
+use Rattle.std.proofs.Common.{◌≡◌, ◌≢◌, ℕ, zero, suc, ◌+◌, ◌<◌, ◌≤◌, ℤ, pos, ◌+ℤ◌, Bool, true, false, ◌&&◌, ◌⊎◌, List, [], ◌∷◌, map, length, slice_get, Option, Some, None, Ok, inl, inr, refl, sym, ap, subst, ◌∙◌, arith}
 use Rattle.std.specs.Prelude.{codes, All, IfSome, cond, nat_le, nat_lt, option_and_then, option_map}
 use Rattle.std.proofs.lemmas.Bool.{cases_eq, eq-eqb, ne_eqb}
 use Rattle.std.proofs.lemmas.List.{length-map}
@@ -7,6 +7,7 @@ use Rattle.std.proofs.lemmas.List.Elements.{All-head}
 use Rattle.std.proofs.lemmas.Option.{none-some, slice_get_within}
 use Rattle.serde_json.specs.Data.{Data}
 use Rattle.tn_base.specs.Arcs.{IsAtMost}
+use Rattle.tn_plain_data.specs.Limits.{most_number}
 use Rattle.tn_base.specs.Firm.{Firm, IsBest}
 use Rattle.tn_base.specs.Sets.{has, set_of, toggle}
 use Rattle.tn_base.specs.Walks.{walk_cost}
@@ -36,8 +37,9 @@ use Rattle.tn_replay_laws.specs.Replayed.{IsReplayed, with_claim}
 use Rattle.tn_replay_laws.proofs.CheckedLemmas.{IsReadFrom, are_read, read_from, replayed, there}
 use Rattle.tn_replay_laws.proofs.ClaimLemmas.{cycle_back, impossible_back, solved_back, supported_back}
 use Rattle.tn_replay_laws.proofs.DocumentLemmas.{listed_in}
-use Rattle.tn_replay_laws.proofs.ExtraLemmas.{on_read, trades_few}
-use Rattle.tn_replay_laws.proofs.Frame.{most_other, trades_on_other}
+use Rattle.tn_read_head.proofs.ListingLeads.{listed_leads}
+use Rattle.tn_replay_laws.proofs.ExtraLemmas.{on_read}
+use Rattle.tn_replay_laws.proofs.Frame.{trades_on_other}
 
 -- ---- cycles
 
@@ -100,14 +102,14 @@ module _ (firms : List Firm) (trades : List Ends) (network : IsNetwork firms tra
 
 module _ (top : Data) (doc : DocumentData) (on : ℕ) (from : IsReadFrom On top doc) (extra : doc.extra ≡ on_alone on) where
   on_there : (value : Data) → trades_on_of doc.names.trades (with_claim value top) ≡ Ok on
-  on_there value = trades_on_other doc.names.trades value top ∙ on_read (listed_in doc) top on (from.parts.extra ∙ ap Ok extra)
+  on_there value = trades_on_other doc.names.trades value top ∙ on_read (listed_in from.parts.limits doc) top on (from.parts.extra ∙ ap Ok extra)
 
   unable_replays : (f : ℕ) → IsFirstUnable doc.firms doc.ends on f → IsReplayed top doc (Impossible f)
   unable_replays f is =
       let said = Impossible f in
       let value = answer_data doc.names said in
       replayed On top doc from said (codes "impossible") (ImpossibleClaim on f) refl refl
-      (impossible_back (listed_in doc) doc.firms (are_read On top doc from) (with_claim value top) on f (slice_get_within doc.firms f is.firm is.is) (there On top doc from said) (on_there value))
+      (impossible_back (listed_in from.parts.limits doc) doc.firms (are_read On top doc from) (with_claim value top) on f (slice_get_within doc.firms f is.firm is.is) (there On top doc from said) (on_there value))
       (is.firm, is.is, is.impossible)
 
   supported_replays : (prices : List ℤ) → SupportsSet doc.firms doc.ends on (Supported prices) → FitsClaim (Supported prices) → IsReplayed top doc (Supported prices)
@@ -115,7 +117,7 @@ module _ (top : Data) (doc : DocumentData) (on : ℕ) (from : IsReadFrom On top 
       let said = Supported prices in
       let value = answer_data doc.names said in
       replayed On top doc from said (codes "prices") (SupportedClaim on prices) refl refl
-      (supported_back (listed_in doc) doc.firms (are_read On top doc from) (with_claim value top) on prices (supports.0.one_each ∙ sym from.is.trades_named) within
+      (supported_back (listed_in from.parts.limits doc) doc.firms (are_read On top doc from) (with_claim value top) on prices (supports.0.one_each ∙ sym from.is.trades_named) within
       (there On top doc from said) (on_there value))
       supports.0.equilibrium
 
@@ -125,11 +127,11 @@ module _ (top : Data) (doc : DocumentData) (on : ℕ) (from : IsReadFrom On top 
       let value = answer_data doc.names said in
       let known = subst (λ n. All (λ node. IfSome node (λ t. t < n)) nodes) (sym from.is.trades_named) (nodes_inside doc.firms doc.ends on nodes cost cycle) in
       let most = nodes_most doc.firms doc.ends from.is.network on nodes cost cycle in
-      let version = trades_few top (listed_in doc, from.parts.items) from.parts.listed in
-      let same = most_other value top in
+      let few = ((listed_leads top).at (listed_in from.parts.limits doc, from.parts.items) from.parts.listed).trades.few in
+      let enough = (are_read On top doc from).limits.enough_nodes in
       replayed On top doc from said (codes "cycle") (CycleClaim on nodes cost) refl refl
-      (cycle_back (listed_in doc) doc.firms (are_read On top doc from) (with_claim value top) on nodes cost known (nodes_least doc.firms doc.ends from.is.network on nodes cost cycle)
-      (subst (λ n. length nodes ≤ n) (sym same) (omega (arith, most, version))) within (there On top doc from said) (on_there value))
+      (cycle_back (listed_in from.parts.limits doc) doc.firms (are_read On top doc from) (with_claim value top) on nodes cost known (nodes_least doc.firms doc.ends from.is.network on nodes cost cycle)
+      (omega (arith, most, few, enough)) within (there On top doc from said) (on_there value))
       (cycle.possible, goes_round doc.firms doc.ends from.is.network on nodes cost cycle, cycle.negative)
 
 supported : (top : Data) (doc : DocumentData) (on : ℕ) (said : Said) → IsReadFrom On top doc → doc.extra ≡ on_alone on → SupportsSet doc.firms doc.ends on said → FitsClaim said → IsReplayed top doc said
@@ -181,12 +183,12 @@ surplus-same firms trades network set = surplus_from-same trades set (set_of (ha
 
 module _ (top : Data) (doc : DocumentData) (from : IsReadFrom Market top doc) where
   set_replays : (set : ℕ) (prices : List ℤ) (surplus : ℤ) → length prices ≡ length doc.ends → IsEquilibrium doc.firms doc.ends (pos 1) set (price_at prices) → surplus_of doc.firms doc.ends set ≡ Some surplus
-      → All (λ z. IsAtMost z (10 ^ 18)) prices → IsAtMost surplus (10 ^ 18) → IsReplayed top doc (Solved (trades_on set (length doc.names.trades)) prices surplus)
+      → All (λ z. IsAtMost z most_number) prices → IsAtMost surplus most_number → IsReplayed top doc (Solved (trades_on set (length doc.names.trades)) prices surplus)
   set_replays set prices surplus one_each equilibrium is small_prices small =
       let said = Solved (trades_on set (length doc.names.trades)) prices surplus in
       let value = answer_data doc.names said in
       replayed Market top doc from said (codes "solved") (SolvedClaim (record { on = set_of (has set) (length doc.names.trades); prices = prices }) surplus) refl refl
-      (solved_back (listed_in doc) doc.firms (are_read Market top doc from) (with_claim value top) set prices surplus (one_each ∙ sym from.is.trades_named) small_prices small (there Market top doc from said)) (
+      (solved_back (listed_in from.parts.limits doc) doc.firms (are_read Market top doc from) (with_claim value top) set prices surplus (one_each ∙ sym from.is.trades_named) small_prices small (there Market top doc from said)) (
         subst (λ n. IsEquilibrium doc.firms doc.ends (pos 1) (set_of (has set) n) (price_at prices)) (sym from.is.trades_named) (equilibrium-same doc.firms doc.ends from.is.network set (pos 1) (price_at prices) equilibrium),
         subst (λ n. surplus_of doc.firms doc.ends (set_of (has set) n) ≡ Some surplus) (sym from.is.trades_named) (sym (surplus-same doc.firms doc.ends from.is.network set) ∙ is),
       )

@@ -1,12 +1,12 @@
 -- A document with another claim: all that is read beside the claim stays.
 use Rattle.std.proofs.Common.{◌≡◌, ℕ, true, false, List, [], Some, Ok, refl, sym, ap, ◌∙◌, true≢false, Ordering, Less, Equal, Greater, nat_cmp}
-use Rattle.std.specs.Prelude.{codes, ◌&&◌, option_and_then, option_map, unwrap_or, nat_eq, cond}
+use Rattle.std.specs.Prelude.{codes, ◌&&◌, option_and_then, option_map, unwrap_or}
 use Rattle.std.specs.Ordering.{match_ordering}
 use Rattle.std.specs.Cmp.Lexicographic.{slice_cmp}
 use Rattle.std.specs.Str.{bytes_eq}
 use Rattle.std.proofs.lemmas.Slice.Eq.{bytes_eq-Decides}
 use Rattle.serde_json.specs.Data.{Data, null, boolean, number, string, array, object, put, Items, Members, no_members, member}
-use Rattle.serde_json.specs.Find.{get, as_number, as_str, as_u64}
+use Rattle.serde_json.specs.Find.{get, as_str}
 use Rattle.serde_json.proofs.Views.{get_member-put, get_member-put_other}
 use Rattle.tn_shape.specs.declared.members.ObjectKind.{ObjectKind}
 use Rattle.tn_shape.specs.declared.members.ObjectKind.TheVariants.{Top}
@@ -15,11 +15,10 @@ use Rattle.tn_shape.specs.Reading.{holds}
 use Rattle.tn_shape.specs.Shapes.{object_of}
 use Rattle.tn_base.specs.declared.fault.FaultKind.TheVariants.{Shape}
 use Rattle.tn_read_references.specs.Ordered.{Listed}
-use Rattle.tn_read_head.specs.Listing.{listed_of, version_limit}
+use Rattle.tn_read_head.specs.Listing.{limits_at, listed_of}
 use Rattle.tn_read_parts.specs.Arranged.{arrangement_of, on_of, trades_on_of}
 use Rattle.tn_read_parts.specs.Signed.{outcome_of}
 use Rattle.tn_read_claims.specs.Claimed.{claims_raw, names_raw}
-use Rattle.tn_read_claims.specs.Members.{most_nodes}
 use Rattle.tn_replay_laws.specs.Replayed.{with_claim}
 
 -- ---- members
@@ -68,13 +67,13 @@ top_other value (string s) = refl
 top_other value (array ds) = refl
 top_other value (object ms) = ap (holds Shape []) (allows_put Top (codes "claim") value ms claim_allowed)
 
-limit_other : (value top : Data) → version_limit (with_claim value top) ≡ version_limit top
-unfolding version_limit
-limit_other value top = rw (get_other (codes "version") value top refl)
+limits_other : (value top : Data) → limits_at (with_claim value top) ≡ limits_at top
+unfolding limits_at
+limits_other value top = rw (get_other (codes "version") value top refl)
 
 pub listed_other : (value top : Data) → listed_of (with_claim value top) ≡ listed_of top
 unfolding listed_of
-listed_other value top = rw (top_other value top, limit_other value top, get_other (codes "firms") value top refl, get_other (codes "trades") value top refl)
+listed_other value top = rw (top_other value top, limits_other value top, get_other (codes "firms") value top refl, get_other (codes "trades") value top refl)
 
 -- a document that is listed is an object, so the claim is there
 pub claim_is_there : (value top : Data) (found : Listed × Items) → listed_of top ≡ Ok found → get (codes "claim") (with_claim value top) ≡ Some value
@@ -92,20 +91,17 @@ on_other : (trades : List (List ℕ)) (value top : Data) → on_of trades (with_
 unfolding on_of
 on_other trades value top = rw (get_other (codes "arrangement") value top refl)
 
-pub arrangement_other : (trades : List (List ℕ)) (value top : Data) → arrangement_of trades (with_claim value top) ≡ arrangement_of trades top
+pub arrangement_other : (listed : Listed) (value top : Data) → arrangement_of listed (with_claim value top) ≡ arrangement_of listed top
 unfolding arrangement_of
-arrangement_other trades value top = rw (on_other trades value top)
+arrangement_other listed value top = rw (on_other listed.names.trades value top)
 
 pub trades_on_other : (trades : List (List ℕ)) (value top : Data) → trades_on_of trades (with_claim value top) ≡ trades_on_of trades top
 unfolding trades_on_of
 trades_on_other trades value top = rw (on_other trades value top)
 
-pub outcome_other : (trades : List (List ℕ)) (value top : Data) → outcome_of trades (with_claim value top) ≡ outcome_of trades top
+pub outcome_other : (listed : Listed) (value top : Data) → outcome_of listed (with_claim value top) ≡ outcome_of listed top
 unfolding outcome_of
-outcome_other trades value top = rw (get_other (codes "outcome") value top refl)
-
-pub most_other : (value top : Data) → most_nodes (with_claim value top) ≡ most_nodes top
-most_other value top = ap (λ found. cond (nat_eq (unwrap_or (option_and_then as_u64 (option_and_then as_number found)) 0) 1) 65 129) (get_other (codes "version") value top refl)
+outcome_other listed value top = rw (get_other (codes "outcome") value top refl)
 
 -- whether the claim is one on exchange is told by its answer
 pub raw_there : (value top : Data) (text : List ℕ) → get (codes "claim") (with_claim value top) ≡ Some value → option_and_then as_str (get (codes "answer") value) ≡ Some text

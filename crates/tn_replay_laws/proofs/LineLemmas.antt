@@ -17,6 +17,7 @@ use Rattle.serde_json.specs.Written.{compact_text, items_outline, outline}
 use Rattle.serde_json.proofs.Numbers.{number_of-decimal, number_of-negative}
 use Rattle.serde_json.proofs.Texts.{print-outline}
 use Rattle.tn_base.specs.Arcs.{IsAtMost}
+use Rattle.tn_plain_data.specs.Limits.{most_number}
 use Rattle.tn_plain_data.specs.declared.contract.Contract.{Contract}
 use Rattle.tn_plain_data.specs.declared.said.Said.{Said}
 use Rattle.tn_plain_data.specs.declared.said.Said.TheVariants.{Accepted, Better, Blocks, Completes, Cycle, Drops, Equilibrium, ExchangeFails, Impossible, Solved, Supported}
@@ -46,7 +47,7 @@ text_readable deep s = record { reads = refl; numbers = tt; shallow = omega arit
 null_readable : (deep : ℕ) → IsReadable deep null
 null_readable deep = record { reads = refl; numbers = tt; shallow = omega arith }
 
-number_readable : (deep : ℕ) (z : ℤ) → IsAtMost z (10 ^ 18) → IsReadable deep (integer_data z)
+number_readable : (deep : ℕ) (z : ℤ) → IsAtMost z most_number → IsReadable deep (integer_data z)
 number_readable deep (pos n) small =
     let high = small.high in
     let below : n < 2 ^ 64 = omega (arith, ints, high) in
@@ -89,22 +90,22 @@ module _ (names : List (List ℕ)) where
   nodes_readable [] = tt
   nodes_readable (node ∷ nodes) = (option_readable 0 node, nodes_readable nodes)
 
-  price_readable : (k : ℕ) (price : ℤ) → IsAtMost price (10 ^ 18) → IsReadable 1 (price_data names k price)
+  price_readable : (k : ℕ) (price : ℤ) → IsAtMost price most_number → IsReadable 1 (price_data names k price)
   price_readable k price small = list_readable 0 (name_data names k ∷ integer_data price ∷ []) (text_readable 0 _, (number_readable 0 price small, tt))
 
-  prices_readable : (k : ℕ) (prices : List ℤ) → All (λ z. IsAtMost z (10 ^ 18)) prices → AreReadable 1 (prices_from names k prices)
+  prices_readable : (k : ℕ) (prices : List ℤ) → All (λ z. IsAtMost z most_number) prices → AreReadable 1 (prices_from names k prices)
   prices_readable k [] small = tt
   prices_readable k (price ∷ prices) small =
-      (price_readable k price (All-head (λ z. IsAtMost z (10 ^ 18)) price prices small), prices_readable (suc k) prices (All-tail (λ z. IsAtMost z (10 ^ 18)) price prices small))
+      (price_readable k price (All-head (λ z. IsAtMost z most_number) price prices small), prices_readable (suc k) prices (All-tail (λ z. IsAtMost z most_number) price prices small))
 
-  contracts_readable : (contracts : List Contract) → All (λ contract. IsAtMost contract.price (10 ^ 18)) contracts → AreReadable 1 (map (contract_data names) contracts)
+  contracts_readable : (contracts : List Contract) → All (λ contract. IsAtMost contract.price most_number) contracts → AreReadable 1 (map (contract_data names) contracts)
   contracts_readable [] small = tt
   contracts_readable (contract ∷ contracts) small = (
-    price_readable contract.trade contract.price (All-head (λ (c : Contract). IsAtMost c.price (10 ^ 18)) contract contracts small),
-    contracts_readable contracts (All-tail (λ (c : Contract). IsAtMost c.price (10 ^ 18)) contract contracts small),
+    price_readable contract.trade contract.price (All-head (λ (c : Contract). IsAtMost c.price most_number) contract contracts small),
+    contracts_readable contracts (All-tail (λ (c : Contract). IsAtMost c.price most_number) contract contracts small),
   )
 
-gain_readable : (gain : Option ℤ) → IfSome gain (λ z. IsAtMost z (10 ^ 18)) → IsReadable 0 (bound_data gain)
+gain_readable : (gain : Option ℤ) → IfSome gain (λ z. IsAtMost z most_number) → IsReadable 0 (bound_data gain)
 gain_readable None small = null_readable 0
 gain_readable (Some z) small = number_readable 0 z small
 

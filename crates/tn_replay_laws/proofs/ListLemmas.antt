@@ -10,6 +10,7 @@ use Rattle.serde_json.specs.View.{items_of}
 use Rattle.tn_base.specs.Sets.{has, set_of, size, toggle}
 use Rattle.tn_base.proofs.SetLemmas.{has-set_of, same_below, set_of_within}
 use Rattle.tn_base.specs.Firm.{Firm}
+use Rattle.tn_plain_data.specs.Limits.{AreLimits}
 use Rattle.tn_plain_data.specs.declared.ends.Ends.{Ends}
 use Rattle.tn_plain_data.specs.declared.place.PlaceStep.{PlaceStep}
 use Rattle.tn_plain_data.specs.declared.place.PlaceStep.TheVariants.{Index}
@@ -122,6 +123,7 @@ position_of f k trade different stands = by_tests (nat_eq trade.seller f) (nat_e
     by_tests false false seller buyer stands = absurd (true≢false (sym stands))
 
 pub record AreRead (listed : Listed) (firms : List Firm) : Type 0 where
+  pub limits : AreLimits listed.limits
   pub firm_names : IsNameList listed.names.firms
   pub trade_names : IsNameList listed.names.trades
   pub firms_named : length listed.names.firms ≡ length firms

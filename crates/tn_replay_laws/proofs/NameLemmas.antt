@@ -72,10 +72,10 @@ pub number_back : (limit : ℕ) (place : List PlaceStep) (z : ℤ) → limit < 2
 unfolding number_in
 number_back limit place z short small = rw (whole_back z limit short small, is_small z limit small)
 
-pub over_back : (place : List PlaceStep) (z : ℤ) → pos 1 ≤ℤ z → z ≤ℤ pos 100000 → over_at 100000 place (Some (integer_data z)) ≡ Ok z
+pub over_back : (limit : ℕ) (place : List PlaceStep) (z : ℤ) → limit < 2 ^ 63 → pos 1 ≤ℤ z → z ≤ℤ pos limit → over_at limit place (Some (integer_data z)) ≡ Ok z
 unfolding over_at
-over_back place z least most =
-    let small : IsAtMost z 100000 = record { low = omega (arith, ints, least); high = most } in
+over_back limit place z short least most =
+    let small : IsAtMost z limit = record { low = omega (arith, ints, least); high = most } in
     let first : int_le (pos 1) z ≡ true = grind (arith, ints, least) in
-    let second : int_le z (pos 100000) ≡ true = grind (arith, ints, most) in
-    rw (whole_back z 100000 (omega arith) small, first, second)
+    let second : int_le z (pos limit) ≡ true = grind (arith, ints, most) in
+    rw (whole_back z limit short small, first, second)

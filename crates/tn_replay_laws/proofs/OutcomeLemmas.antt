@@ -4,6 +4,7 @@ use Rattle.std.specs.Prelude.{codes, All, IfSome, ◌≤ℤ◌, ◌*ℤ◌, int_
 use Rattle.std.proofs.lemmas.Int.{ints}
 use Rattle.serde_json.specs.Data.{Data}
 use Rattle.tn_base.specs.Arcs.{IsAtMost}
+use Rattle.tn_plain_data.specs.Limits.{most_claimed_over, most_number}
 use Rattle.tn_base.specs.Firm.{Firm}
 use Rattle.tn_base.specs.Sets.{has}
 use Rattle.tn_base.proofs.SetLemmas.{has_below, set_of_within}
@@ -49,8 +50,8 @@ product_least d e d_least e_least =
     omega (arith, ints, more, one, d_least)
 
 module _ (top : Data) (doc : DocumentData) (signed : OutcomeIs) (from : IsReadFrom Outcome top doc) (extra : doc.extra ≡ outcome signed) where
-  outcome_there : (value : Data) → outcome_of doc.names.trades (with_claim value top) ≡ Ok signed
-  outcome_there value = outcome_other doc.names.trades value top ∙ outcome_read (listed_in doc) top signed (from.parts.extra ∙ ap Ok extra)
+  outcome_there : (value : Data) → outcome_of (listed_in from.parts.limits doc) (with_claim value top) ≡ Ok signed
+  outcome_there value = outcome_other (listed_in from.parts.limits doc) value top ∙ outcome_read (listed_in from.parts.limits doc) top signed (from.parts.extra ∙ ap Ok extra)
 
   within_limits : IsOutcomeWithin (length doc.ends) signed
   within_limits = subst (IsExtra doc.firms doc.ends) extra from.is.extra
@@ -58,7 +59,7 @@ module _ (top : Data) (doc : DocumentData) (signed : OutcomeIs) (from : IsReadFr
   feasible : IsFeasible doc.ends signed.contracts
   feasible = outcome_feasible doc.ends signed.over signed.contracts within_limits
 
-  over_most : signed.over ≤ℤ pos 100000
+  over_most : signed.over ≤ℤ pos most_claimed_over
   over_most = let most = within_limits.most in omega (arith, ints, most)
 
   -- ---- a firm that would drop contracts
@@ -117,41 +118,41 @@ module _ (top : Data) (doc : DocumentData) (signed : OutcomeIs) (from : IsReadFr
         subst (λ g. GainsByKeeping doc.ends signed f firm keeps g × IfSome g IsPositive) (sym first.drops.gains)
         (gains_by (part_utility doc.ends signed.over f firm signed.contracts (own_part doc.ends f signed.contracts)) refl)
 
-    drops_replay : IfSome gain (λ z. IsAtMost z (10 ^ 18)) → IsReplayed top doc (Drops f (trades_of doc.ends f firm.count keeps) gain signed.over)
+    drops_replay : IfSome gain (λ z. IsAtMost z most_number) → IsReplayed top doc (Drops f (trades_of doc.ends f firm.count keeps) gain signed.over)
     drops_replay small =
         let said = Drops f (trades_of doc.ends f firm.count keeps) gain signed.over in
         let value = answer_data doc.names said in
         let valid = drops_valid in
         replayed Outcome top doc from said (codes "drops") (DropsClaim signed f keeps gain signed.over) refl refl
-        (drops_back (listed_in doc) doc.firms (are_read Outcome top doc from) (with_claim value top) signed f firm keeps gain signed.over first.is keeps_below small within_limits.least over_most
+        (drops_back (listed_in from.parts.limits doc) doc.firms (are_read Outcome top doc from) (with_claim value top) signed f firm keeps gain signed.over first.is keeps_below small within_limits.least over_most
         (there Outcome top doc from said) (outcome_there value))
         (refl, are_signed, (firm, first.is, valid.0), valid.1)
 
   -- ---- prices that complete the outcome
 
-  completes_replay : (prices : List ℤ) → IsCompletedBy doc.firms doc.ends signed.over signed.contracts prices → All (λ z. IsAtMost z (10 ^ 18)) prices → IsReplayed top doc (Completes prices signed.over)
+  completes_replay : (prices : List ℤ) → IsCompletedBy doc.firms doc.ends signed.over signed.contracts prices → All (λ z. IsAtMost z most_number) prices → IsReplayed top doc (Completes prices signed.over)
   completes_replay prices completed small =
       let said = Completes prices signed.over in
       let value = answer_data doc.names said in
       replayed Outcome top doc from said (codes "completes") (CompletesClaim signed prices signed.over) refl refl
-      (completes_back (listed_in doc) doc.firms (are_read Outcome top doc from) (with_claim value top) signed prices signed.over (completed.one_each ∙ sym from.is.trades_named) small within_limits.least over_most
+      (completes_back (listed_in from.parts.limits doc) doc.firms (are_read Outcome top doc from) (with_claim value top) signed prices signed.over (completed.one_each ∙ sym from.is.trades_named) small within_limits.least over_most
       (there Outcome top doc from said) (outcome_there value))
       (refl, completed.completes)
 
   -- ---- contracts that block it
 
-  blocks_replay : (offers : List Contract) → (over : ℤ) → pos 1 ≤ℤ over → over ≤ℤ pos 100000 → DoBlock doc.firms doc.ends signed.over signed.contracts over offers
-      → All (λ contract. IsAtMost contract.price (10 ^ 18)) offers → IsReplayed top doc (Blocks offers over)
+  blocks_replay : (offers : List Contract) → (over : ℤ) → pos 1 ≤ℤ over → over ≤ℤ pos most_claimed_over → DoBlock doc.firms doc.ends signed.over signed.contracts over offers
+      → All (λ contract. IsAtMost contract.price most_number) offers → IsReplayed top doc (Blocks offers over)
   blocks_replay offers over least most blocks small =
       let said = Blocks offers over in
       let value = answer_data doc.names said in
       replayed Outcome top doc from said (codes "blocks") (BlocksClaim signed offers over) refl refl
-      (blocks_back (listed_in doc) doc.firms (are_read Outcome top doc from) (with_claim value top) signed offers over
+      (blocks_back (listed_in from.parts.limits doc) doc.firms (are_read Outcome top doc from) (with_claim value top) signed offers over
       (λ k contract at. subst (λ n. contract.trade < n) (sym from.is.trades_named) (blocks.feasible.known k contract at)) blocks.feasible.once small least most
       (there Outcome top doc from said) (outcome_there value))
       blocks
 
-  chain_replays : (offers : List Contract) (told : ℤ) → IsBlockedBy doc.firms doc.ends signed.over signed.contracts offers told → All (λ contract. IsAtMost contract.price (10 ^ 18)) offers
+  chain_replays : (offers : List Contract) (told : ℤ) → IsBlockedBy doc.firms doc.ends signed.over signed.contracts offers told → All (λ contract. IsAtMost contract.price most_number) offers
       → IsReplayed top doc (Blocks offers told)
   chain_replays offers told blocked small =
       let scale = chain_scale (length doc.ends) signed.contracts in
