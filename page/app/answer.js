@@ -11,13 +11,13 @@ import {networkOf} from "./state.js";
 const MOST_LETTERS = 200000;
 
 /**
- * What is shown of `{status, bytes, ms}`, which was answered to a document, as `{status, ms, text, length, sentences, mark, pictures}`.
+ * What is shown of `{status, bytes, ms}`, which was answered to words and a document: these with `said`, the answer as plain data or
+ * null, its `text`, `sentences` and `pictures`, and the `mark` of a fault.
  * `ask` is for what sentences and pictures want to know beside, in texts.
  */
-export async function shownOf(document, {status, bytes, ms}, ask) {
-    const whole = new TextDecoder().decode(bytes), text = whole.slice(0, MOST_LETTERS);
-    const shown = {status, ms, text, length: bytes.length, sentences: [], mark: null, pictures: []};
-    const said = answerIn(whole);
+export async function shownOf(document, words, {status, bytes, ms}, ask) {
+    const whole = new TextDecoder().decode(bytes), text = whole.slice(0, MOST_LETTERS), said = answerIn(whole);
+    const shown = {document, words, said, status, ms, bytes, text, sentences: [], mark: null, pictures: []};
     if (said === null) return shown;
     const network = networkOf(document);
     return {...shown, sentences: await explain(network, said, ask), mark: said.answer === "fault" ? markOf(network, said) : null,
@@ -35,7 +35,7 @@ function answerIn(text) {
 }
 
 /** Where a fault stands in the text of the document, as `{text, start, end}`; null where it is of the document as a whole. */
-function markOf(network, {place}) {
+export function markOf(network, {place}) {
     const {text, problem} = network;
     if (problem) return {text, start: problem.offset, end: problem.offset + 1};
     if (place.length === 0) return null;

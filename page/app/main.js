@@ -1,10 +1,20 @@
-// The page: a document, a command, and what the program answers.
+// The page: a network to look at and guess with, its document, and what the program answers.
 import {shownOf} from "./answer.js";
 import {Ended, inText, NoAnswerCame, Program} from "./ask.js";
-import {COMMANDS} from "./commands.js";
-import {bytesOf, compiled, partOf} from "./parts.js";
+import {bind} from "./controls.js";
+import {readyEditor, showEditor} from "./editor.js";
+import {showFirms} from "./firms.js";
+import {Guesses} from "./guess.js";
+import {handle} from "./hand.js";
+import {bytesIn, isDocument} from "./link.js";
+import {part} from "./page.js";
+import {compiled, partOf} from "./parts.js";
+import {showPath, trace} from "./path.js";
+import {showScene} from "./scene.js";
+import {showShell} from "./shell.js";
 import {Store} from "./state.js";
-import {part, show} from "./view.js";
+import {readyTrades, showTrades, typePrice} from "./trades.js";
+import {showAnswers} from "./view.js";
 
 const store = new Store();
 
@@ -14,72 +24,64 @@ async function askNow(program) {
     store.act("asked");
     const {run} = store.value;
     try {
-        const shown = await shownOf(document, await ask(words, document.bytes), inText(ask));
-        if (store.value.run === run) store.act("answered", shown);
+        const shown = await shownOf(document, words, await ask(words, document.bytes), inText(ask));
+        if (store.value.run !== run) return;
+        store.act("answered", shown);
+        if (shown.said?.answer === "solved") store.act("looked", {isOver: true});
     } catch (error) {
         if (error instanceof NoAnswerCame) store.act("broke", error.message);
         else if (!(error instanceof Ended)) throw error;
     }
 }
 
-async function open(file) {
-    if (file) store.act("opened", file.name, new Uint8Array(await file.arrayBuffer()));
+/** Opens the document in the address, and answers whether there was one. */
+async function openAddress() {
+    if (!isDocument(location.hash)) return false;
+    try {
+        store.act("opened", "from a link", await bytesIn(location.hash));
+        return true;
+    } catch {
+        part("notice").hidden = false;
+        part("notice").textContent = "The link's document could not be read: it isn't whole.";
+        return false;
+    }
 }
 
-function wordsChosen() {
-    const chosen = part("command").value, isOther = chosen === "";
-    part("words").hidden = !isOther;
-    store.act("chosen", (isOther ? part("words").value : chosen).split(/\s+/).filter(Boolean));
-}
-
-/** What a user does, as actions; whatever changes what is asked ends a run. */
-function listen(program) {
-    const changed = (act) => (...details) => {
-        program.end();
-        return act(...details);
-    };
-    part("form").addEventListener("submit", (event) => {
-        event.preventDefault();
-        askNow(program);
-    });
-    part("end").addEventListener("click", changed(() => store.act("ended")));
-    part("text").addEventListener("input", changed(() => store.act("typed", part("text").value)));
-    part("file").addEventListener("change", changed(() => open(part("file").files[0])));
-    for (const id of ["command", "words"]) part(id).addEventListener("input", changed(wordsChosen));
-    part("drop").addEventListener("dragover", (event) => event.preventDefault());
-    part("drop").addEventListener("drop", changed((event) => {
-        event.preventDefault();
-        open(event.dataTransfer.files[0]);
-    }));
-}
-
-function fill() {
-    for (const [words, asks] of COMMANDS) part("command").append(new Option(`${words}: ${asks}`, words));
-    part("command").append(new Option("other words", ""));
-    part("sources").textContent = document.documentElement.dataset.sources;
-    part("example").remove();
+function show(value) {
+    showShell(value);
+    showScene(value);
+    showFirms(value);
+    showTrades(value);
+    showPath(value);
+    showEditor(value);
+    showAnswers(value);
 }
 
 async function start() {
     document.addEventListener("securitypolicyviolation", ({violatedDirective, blockedURI}) => {
         document.documentElement.dataset.violation = `${violatedDirective} ${blockedURI}`;
     });
-    const program = new Program(await compiled(), partOf("worker"));
-    const example = bytesOf("example");
-    fill();
-    listen(program);
-    store.watch(show);
-    const text = inText(program.turn());
-    part("version").textContent = await text(["--version"], "");
+    const module = await compiled(), [program, guesser, tracer] = [1, 2, 3].map(() => new Program(module, partOf("worker")));
+    const documents = JSON.parse(partOf("documents"));
+    readyEditor(store);
+    readyTrades(store);
+    handle(store, typePrice);
+    bind(store, documents, {ask: () => askNow(program), end: () => program.end()});
+    part("version").textContent = await inText(program.turn())(["--version"], "");
     globalThis.market = Object.freeze({
         /** For the console, and for tests: `market.ask(["solve"], bytes)` is a promise of `{status, bytes, ms}`. */
         ask: (words, bytes) => program.turn()(words, bytes),
     });
-    store.act("opened", "used-cars.json", example);
+    store.watch(show);
+    new Guesses(store, guesser);
+    store.watch(() => trace(store, tracer));
+    addEventListener("hashchange", openAddress);
+    const [[, [[name, text]]]] = documents;
+    if (!await openAddress()) store.act("opened", name, new TextEncoder().encode(text));
     document.documentElement.dataset.loaded = Math.round(performance.now());
 }
 
 start().catch((error) => {
     document.documentElement.dataset.state = "failed";
-    part("status").textContent = `The program can't run in this browser: ${error.message}.`;
+    part("status").textContent = part("verdict").textContent = `The program can't run in this browser: ${error.message}.`;
 });

@@ -1,38 +1,86 @@
 // All that the page shows, as one value that named actions change.
 import {NotJson, readable, textOf} from "../read/json.js";
 import {Network} from "../read/network.js";
+import {applied} from "./edits.js";
 
 /** Up to how many bytes a document is shown as a text that can be changed. */
-const MOST_SHOWN = 1 << 18;
+export const MOST_SHOWN = 1 << 18;
 
 const BEGINNING = 2000;
 
+/** How many changes of the document can be taken back. */
+const MOST_UNDONE = 400;
+
 /**
- * The value: a `document`, the `words` of the command, the `run` (its `state`: none, asking, answered, trouble or ended), and what was
- * answered to which document, as `answer`, or null. An answer is shown only beside the document and the words that it was asked of.
+ * The value. `document` is what is looked at, with `past` and `future` of it, and `mark`, which says what made the last change: changes
+ * with one mark are taken back together. `selection` is null or `{kind, ..}`: lane, firm or bound. `guess` and `ranges` are what
+ * `firms` and `range` answered, and `answer` is that of the command in `words`, each with the `document` that it was asked of; where
+ * that isn't the present one it is old. `run` is how far the command is, `view` how all this is looked at.
  */
-export const START = {document: {name: "", bytes: new Uint8Array(0), text: "", isWhole: true}, words: ["solve"], run: {state: "none"}, answer: null};
+export const START = {
+    document: {name: "", bytes: new Uint8Array(0), text: "", isWhole: true}, past: [], future: [], mark: null, selection: null,
+    guess: null, ranges: null, path: null, words: ["solve"], run: {state: "none"}, answer: null,
+    view: {panel: "guess", isOver: false, hasRanges: false, window: null, isWide: null, filter: "", firm: null, sort: {by: null, isDown: false}},
+};
 
 /** What may happen. Each takes a value, and answers the next one. */
 export const ACTIONS = {
     /** A document was opened: it is asked about as the bytes of its file, until it is edited. */
-    opened: (value, name, bytes) => ({...value, document: documentOf(name, bytes), run: {state: "none"}, answer: null}),
+    opened: (value, name, bytes) => {
+        const next = changed(value, documentOf(name, bytes), null);
+        return {...next, selection: null, guess: null, ranges: null, path: null, answer: null,
+            view: {...value.view, isOver: false, window: null, isWide: null, filter: "", firm: null}};
+    },
     /** The text of the document was edited. */
-    typed: (value, text) => ({...value, document: {...value.document, text, bytes: new TextEncoder().encode(text), isWhole: true}, run: {state: "none"}, answer: null}),
+    typed: (value, text, mark = null) => text === value.document.text ? value : changed(value, withText(value.document, text), mark),
+    /** Some places of the text were changed, by the picture or a form. */
+    edited: (value, edits, mark = null) => edits.length === 0 ? value : changed(value, withText(value.document, applied(value.document.text, edits)), mark),
+    undone: (value) => value.past.length === 0 ? value : moved(value, value.past, value.future, (past, future) => ({past, future})),
+    redone: (value) => value.future.length === 0 ? value : moved(value, value.future, value.past, (future, past) => ({past, future})),
+    /** A lane, a firm or a bound was chosen, or nothing. */
+    selected: (value, selection) => ({...value, selection, mark: null}),
+    looked: (value, view) => ({...value, view: {...value.view, ...view}}),
+    guessed: (value, guess) => ({...value, guess}),
+    ranged: (value, ranges) => ({...value, ranges}),
+    traced: (value, path) => ({...value, path}),
     /** Another command was chosen. */
-    chosen: (value, words) => ({...value, words, run: {state: "none"}, answer: null}),
-    asked: (value) => ({...value, run: {state: "asking"}, answer: null}),
+    chosen: (value, words) => ({...value, words, run: {state: "none"}}),
+    asked: (value) => ({...value, run: {state: "asking"}}),
     answered: (value, answer) => ({...value, run: {state: "answered"}, answer}),
     broke: (value, message) => ({...value, run: {state: "trouble", message}, answer: null}),
-    ended: (value) => ({...value, run: {state: "ended"}, answer: null}),
+    ended: (value) => ({...value, run: {state: "ended"}}),
 };
+
+function changed(value, document, mark) {
+    const {document: before, selection} = value, isMerged = mark !== null && mark === value.mark;
+    const past = isMerged || before.name + before.text === "" ? value.past : [...value.past.slice(1 - MOST_UNDONE), {document: before, selection}];
+    return {...value, document, past, future: [], mark, run: {state: "none"}, view: {...value.view, isOver: false}};
+}
+
+/** Goes to the last of some earlier or later documents, and keeps the present one among the others. */
+function moved(value, from, to, named) {
+    const {document, selection} = from[from.length - 1];
+    const here = {document: value.document, selection: value.selection};
+    return {...value, document, selection, mark: null, run: {state: "none"}, view: {...value.view, isOver: false}, ...named(from.slice(0, -1), [...to, here])};
+}
 
 function documentOf(name, bytes) {
     const isWhole = bytes.length <= MOST_SHOWN, shown = isWhole ? bytes : bytes.subarray(0, BEGINNING);
     return {name, bytes, text: new TextDecoder("utf-8", {ignoreBOM: true}).decode(shown), isWhole};
 }
 
-/** The one value of the page. Whoever watches is told of each new one. */
+function withText(document, text) {
+    return {...document, text, bytes: new TextEncoder().encode(text), isWhole: true};
+}
+
+/** Whether what was asked of a document isn't so of the present one any more. */
+export function isOld(value, said) {
+    if (said === null || said.document === value.document) return false;
+    const [one, other] = [said.document, value.document];
+    return !one.isWhole || !other.isWhole || one.text !== other.text || one.bytes.length !== other.bytes.length;
+}
+
+/** The one value of the page. Whoever watches is told of each new one, after all of it is there. */
 export class Store {
     constructor() {
         this.value = START;
@@ -49,8 +97,15 @@ export class Store {
     }
 }
 
+const networks = new WeakMap();
+
 /** A document as pictures and sentences see it. */
-export function networkOf({bytes}) {
+export function networkOf(document) {
+    if (!networks.has(document)) networks.set(document, readNetwork(document));
+    return networks.get(document);
+}
+
+function readNetwork({bytes}) {
     try {
         return new Network(textOf(bytes));
     } catch (error) {

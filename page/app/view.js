@@ -1,23 +1,26 @@
 // The value of the page, shown.
 import {lineAndColumn} from "../read/json.js";
 import {verdictOf} from "./commands.js";
+import {lineOf} from "./exports.js";
+import {drawing, made, part, write} from "./page.js";
+import {isOld} from "./state.js";
 
-/** The element of an id. */
-export function part(id) {
-    return document.getElementById(id);
-}
+let last = null;
 
-/** Shows a value. What a document holds comes into the page as text alone. */
-export function show({document: shown, words, run, answer}) {
+/** Shows the document's name and what is answered to the command. */
+export function showAnswers(value) {
+    const {document: shown, words, run, answer} = value;
     document.documentElement.dataset.state = run.state === "none" ? "ready" : run.state;
     part("name").textContent = nameOf(shown);
-    if (part("text").value !== shown.text) part("text").value = shown.text;
-    part("text").readOnly = !shown.isWhole;
-    part("run").disabled = run.state === "asking";
+    part("run").disabled = false;
     part("end").disabled = run.state !== "asking";
-    part("status").textContent = statusOf(run, words, answer);
     part("shown").hidden = answer === null;
-    if (answer !== null) showAnswer(answer);
+    const old = answer !== null && (isOld(value, answer) || run.state === "asking");
+    part("shown").classList.toggle("old", old);
+    part("shown").dataset.old = `${old}`;
+    write("status", statusOf(run, words, answer) || (old ? "This was answered to an earlier text of the document." : ""));
+    if (answer !== null && answer !== last) showAnswer(answer);
+    last = answer;
 }
 
 function nameOf({name, bytes, isWhole}) {
@@ -33,13 +36,14 @@ function statusOf({state, message}, words, answer) {
     return `${verdictOf(answer.status, words)} (exit status ${answer.status}, ${answer.ms.toFixed(answer.ms < 10 ? 1 : 0)} ms).`;
 }
 
-function showAnswer({text, length, sentences, mark, pictures}) {
+function showAnswer({document: asked, words, text, bytes, sentences, mark, pictures}) {
+    part("line").textContent = lineOf({words, document: asked});
     part("sentences").replaceChildren(...said(sentences.map((sentence) => made("p", sentence))));
     part("fault").replaceChildren(...(mark === null ? [] : [excerpt(mark)]));
     part("pictures").replaceChildren(...pictures.map(pictureOf));
     part("bytes").textContent = text;
     part("raw").open = sentences.length === 0;
-    part("raw").firstElementChild.textContent = `What the program wrote: ${length} bytes`;
+    part("raw").firstElementChild.textContent = `What the program wrote: ${bytes.length} bytes`;
 }
 
 const MOST_SENTENCES = 12;
@@ -47,24 +51,15 @@ const MOST_SENTENCES = 12;
 /** Sentences; where they are many, those after the first few are folded, so that the picture isn't far below. */
 function said(sentences) {
     if (sentences.length <= MOST_SENTENCES) return sentences;
-    const rest = made("details", "");
+    const rest = made("details");
     rest.append(made("summary", `${sentences.length - MOST_SENTENCES / 2} more sentences`), ...sentences.slice(MOST_SENTENCES / 2));
     return [...sentences.slice(0, MOST_SENTENCES / 2), rest];
 }
 
-function made(name, content, className = "") {
-    const element = document.createElement(name);
-    element.textContent = content;
-    element.className = className;
-    return element;
-}
-
-/** A picture, which is read as XML, so that it holds no script that runs. */
 function pictureOf(svg) {
-    const figure = made("figure", "");
-    const drawn = new DOMParser().parseFromString(svg, "image/svg+xml").documentElement;
+    const figure = made("figure"), drawn = drawing(svg);
     drawn.setAttribute("role", "img");
-    figure.append(document.adoptNode(drawn));
+    figure.append(drawn);
     return figure;
 }
 
@@ -73,10 +68,10 @@ const AROUND = 2, WIDEST = 160;
 /** The lines around a fault, with the fault marked. */
 function excerpt({text, start, end}) {
     const lines = text.split("\n"), first = lineAndColumn(text, start).line - 1, last = Math.min(lineAndColumn(text, Math.max(start, end - 1)).line - 1, first + 8);
-    const drawn = made("pre", "", "excerpt");
+    const drawn = made("pre", "", {class: "excerpt"});
     let at = lines.slice(0, Math.max(0, first - AROUND)).reduce((sum, line) => sum + line.length + 1, 0);
     for (let k = Math.max(0, first - AROUND); k <= Math.min(lines.length - 1, last + AROUND); k += 1) {
-        drawn.append(made("span", `${k + 1}`.padStart(6) + "  ", "number"), ...marked(lines[k], start - at, end - at), "\n");
+        drawn.append(made("span", `${k + 1}`.padStart(6) + "  ", {class: "number"}), ...marked(lines[k], start - at, end - at), "\n");
         at += lines[k].length + 1;
     }
     return drawn;

@@ -14,12 +14,19 @@ const MOST_ROOMY = 60;
 export function layout(boxes, arrows, room) {
     const roomy = arrows.length <= MOST_ROOMY ? placed(boxes, arrows, room, true) : null;
     if (roomy && roomy.width <= room.width && roomy.height <= room.height) return roomy;
-    const close = placed(boxes, arrows, room, false);
-    const taken = boxes.map(({id, width, height}) => ({...close.centers.get(id), width, height}));
-    arrows.forEach(({size}, k) => {
-        if (size) close.arrows[k].label = freePlace(close.arrows[k].points, size, taken, close);
-    });
-    return close;
+    return labelled(closely(boxes, arrows, room), boxes, arrows);
+}
+
+/** A layout that leaves no room for labels. */
+export function closely(boxes, arrows, room) {
+    return placed(boxes, arrows, room, false);
+}
+
+/** A layout with each label at the first free place of its arrow; one that finds none is null. */
+export function labelled(found, boxes, arrows) {
+    const taken = boxes.map(({id, width, height}) => ({...found.centers.get(id), width, height}));
+    const labels = arrows.map(({size}, k) => size && freePlace(found.arrows[k].points, size, taken, found));
+    return {...found, arrows: found.arrows.map((arrow, k) => ({...arrow, label: labels[k]}))};
 }
 
 function placed(boxes, arrows, room, withLabels) {

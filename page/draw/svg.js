@@ -76,7 +76,7 @@ export function arrow(points, {ink = INK, width = 1.5, dashes = null} = {}) {
 }
 
 /** A curve through points that goes on to the right, or to the left, and never beyond the heights of its points. */
-function smooth(points) {
+export function smooth(points) {
     const at = ({x, y}) => `${x.toFixed(1)},${y.toFixed(1)}`;
     const steps = points.slice(1).map((point, k) => ({x: point.x - points[k].x, y: point.y - points[k].y}));
     const isOneWay = steps.every(({x}) => x > 1) || steps.every(({x}) => x < -1);

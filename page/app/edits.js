@@ -1,0 +1,109 @@
+// Changes of a document's text at its offsets: what takes place, and at which prices. All else of the text stays as it is.
+
+/** A text with some edits `{start, end, text}`, which don't overlap. */
+export function applied(text, edits) {
+    let made = "", at = 0;
+    for (const edit of inOrder(edits)) {
+        made += text.slice(at, edit.start) + edit.text;
+        at = edit.end;
+    }
+    return made + text.slice(at);
+}
+
+/** Edits in the order of the text; of those at one place the earlier first. */
+export function inOrder(edits) {
+    return edits.map((edit, k) => ({edit, k})).sort((one, other) => one.edit.start - other.edit.start || one.k - other.k).map(({edit}) => edit);
+}
+
+/** The edits that turn a trade on or off. */
+export function turned(network, name, isOn) {
+    const arrangement = arrangementOf(network);
+    if (arrangement === null) return begun(network, isOn ? [name] : []);
+    const list = memberOf(arrangement, "on", "list");
+    if (list === null) return [withMember(arrangement, "on", JSON.stringify(isOn ? [name] : []))];
+    const isIt = ({kind, value}) => kind === "text" && value === name;
+    if (!isOn) return without(list, isIt);
+    return list.value.some(isIt) ? [] : [added(list, JSON.stringify(name))];
+}
+
+/** The edits that give trades prices, by a Map from names to whole numbers in letters. */
+export function priced(network, prices) {
+    const arrangement = arrangementOf(network);
+    if (arrangement === null) return begun(network, [], prices);
+    const list = memberOf(arrangement, "prices", "list");
+    if (list === null) return [withMember(arrangement, "prices", entriesText(network, prices))];
+    const places = new Map(list.value.filter(({kind, value}) => kind === "list" && value[0]?.kind === "text").map(({value}) => [value[0].value, value[1]]));
+    const edits = [], missing = [];
+    for (const [name, price] of prices) {
+        const place = places.get(name);
+        if (!place) missing.push(`[${JSON.stringify(name)},${price}]`);
+        else if (network.text.slice(place.start, place.end) !== price) edits.push({start: place.start, end: place.end, text: price});
+    }
+    return missing.length === 0 ? edits : [...edits, added(list, missing.join(","))];
+}
+
+/** The edits that make an arrangement of some trades and prices; what is so already isn't touched. */
+export function arranged(network, on, prices) {
+    const arrangement = arrangementOf(network);
+    if (arrangement === null) return begun(network, on, prices);
+    const list = memberOf(arrangement, "on", "list"), now = list === null ? null : list.value.map(({value}) => value);
+    const isSame = now !== null && now.length === on.length && on.every((name) => now.includes(name));
+    const text = JSON.stringify(on);
+    const turning = isSame ? [] : [list === null ? withMember(arrangement, "on", text) : {start: list.start, end: list.end, text}];
+    return [...turning, ...priced(network, prices)];
+}
+
+/** Whether a document has an arrangement that can be changed. */
+export function hasArrangement(network) {
+    return arrangementOf(network) !== null;
+}
+
+/** Whether a document can have one: it is an object. */
+export function mayHaveArrangement(network) {
+    return network.root.kind === "object" && network.trades.length > 0;
+}
+
+function arrangementOf(network) {
+    return network.root.kind === "object" ? memberOf(network.root, "arrangement", "object") : null;
+}
+
+function memberOf(object, name, kind) {
+    const member = object.value.get(name);
+    return member?.kind === kind ? member : null;
+}
+
+/** The edit that begins an arrangement at the end of a document; prices that aren't given are 0. */
+function begun(network, on, prices = new Map()) {
+    if (!mayHaveArrangement(network)) return [];
+    return [withMember(network.root, "arrangement", `{"on":${JSON.stringify(on)},"prices":${entriesText(network, prices)}}`)];
+}
+
+function entriesText(network, prices) {
+    return `[${network.trades.map(({name}) => `[${JSON.stringify(name)},${prices.get(name) ?? "0"}]`).join(",")}]`;
+}
+
+/** A member at the end of an object; of equal members the last one counts. */
+function withMember({value, end}, name, text) {
+    return {start: end - 1, end: end - 1, text: `${value.size > 0 ? "," : ""}${JSON.stringify(name)}:${text}`};
+}
+
+/** Another item behind the last one of a list. */
+function added({value, end}, text) {
+    if (value.length === 0) return {start: end - 1, end: end - 1, text};
+    const last = value[value.length - 1].end;
+    return {start: last, end: last, text: `,${text}`};
+}
+
+/** A list without some of its items, and without the commas that set them apart. */
+function without({value}, isGone) {
+    const kept = value.filter((item) => !isGone(item));
+    if (kept.length === value.length) return [];
+    if (kept.length === 0) return [{start: value[0].start, end: value[value.length - 1].end, text: ""}];
+    const edits = [];
+    value.forEach((item, k) => {
+        if (!isGone(item)) return;
+        const isLast = value.slice(k).every(isGone);
+        edits.push(isLast ? {start: value[k - 1].end, end: item.end, text: ""} : {start: item.start, end: value[k + 1].start, text: ""});
+    });
+    return edits;
+}

@@ -1,0 +1,49 @@
+// What goes out of the page as a file: the document, a picture, an answer, and tables.
+import {networkPicture} from "../draw/network.js";
+import {cellsOf, linesOf} from "./firms.js";
+import {offer} from "./page.js";
+import {neighbourhood} from "./scene.js";
+import {networkOf} from "./state.js";
+
+/** The name of a file without its ending. */
+function stem(name) {
+    return name.replace(/\.\w+$/, "") || "document";
+}
+
+export function saveDocument({document: {name, bytes}}) {
+    offer(`${stem(name)}.json`, bytes, "application/json");
+}
+
+/** The picture of the network with what is answered of the guess, as page/draw draws it. */
+export function savePicture(value) {
+    const {document, guess, answer, view} = value, network = networkOf(document);
+    const said = view.isOver ? answer.said : guess?.said?.answer === "firms" ? guess.said : {};
+    offer(`${stem(document.name)}.svg`, networkPicture(network, said, {firm: neighbourhood(value)}), "image/svg+xml");
+}
+
+/** The bytes that the program wrote. */
+export function saveAnswer({answer}) {
+    const isCsv = answer.words.includes("--csv");
+    offer(`${stem(answer.document.name)}-${answer.words[0]}.${isCsv ? "csv" : "json"}`, answer.bytes, isCsv ? "text/csv" : "application/json");
+}
+
+/** How an answer is asked for in a terminal. */
+export function lineOf({words, document}) {
+    const isRead = !["drill", "cases", "help", "-h", "--help", "--version"].includes(words[0]);
+    const quoted = (word) => (/^[\w.\-/]+$/.test(word) ? word : `'${word.replaceAll("'", "'\\''")}'`);
+    return ["market", ...words.map(quoted), ...(isRead ? ["<", quoted(document.name || "document.json")] : [])].join(" ");
+}
+
+export function saveFirms({guess, document}) {
+    const lines = [...linesOf(guess).values()].map((line) => [line.firm, ...cellsOf(line)]);
+    offer(`${stem(document.name)}-firms.csv`, rows([["firm", "has", "worth", "utility", "would rather", "gain"], ...lines]), "text/csv");
+}
+
+export function saveRanges({ranges, document}) {
+    const lines = ranges.said.ranges.map(({trade, low, high}) => [trade, ranges.said.on.includes(trade) ? 1 : 0, low ?? "", high ?? ""]);
+    offer(`${stem(document.name)}-ranges.csv`, rows([["trade", "on", "low", "high"], ...lines]), "text/csv");
+}
+
+function rows(lines) {
+    return lines.map((line) => `${line.map((cell) => (/[",\n]/.test(cell) ? `"${String(cell).replaceAll('"', '""')}"` : cell)).join(",")}\n`).join("");
+}

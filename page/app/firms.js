@@ -1,0 +1,86 @@
+// The table of firms: what each has, what that is worth to it, and what it would rather have.
+import {keepingFocus, made, part, write} from "./page.js";
+import {isOld, networkOf} from "./state.js";
+import {moodOf} from "./stage.js";
+
+const HEADS = ["Firm", "Has", "Worth", "Utility", "Would rather", "Gain"];
+const SIGNS = {content: "\u2713", objects: "\u2717", impossible: "\u2717", unknown: ""};
+const MOODS = {content: "content", objects: "objects", impossible: "objects: what it has is impossible for it", unknown: ""};
+
+let shownOf = null;
+
+/** Shows the table, and what is said of the guess above the network. */
+export function showFirms(value) {
+    showVerdict(value);
+    const {guess, document, selection} = value, table = part("firms");
+    table.classList.toggle("old", isOld(value, guess));
+    if (shownOf !== null && shownOf.guess === guess && shownOf.document === document && shownOf.selection === selection) return;
+    shownOf = {guess, document, selection};
+    if (table.tHead.rows.length === 0) table.tHead.append(rowOf(HEADS.map((head) => made("th", head, {scope: "col"}))));
+    const lines = linesOf(guess), firms = networkOf(document).firms.map(({name}) => name).filter((name) => name !== "");
+    keepingFocus(table, () => table.tBodies[0].replaceChildren(...firms.map((name) => firmRow(name, lines.get(name), selection))));
+}
+
+/** What `firms` says, by the names of the firms. */
+export function linesOf(guess) {
+    return new Map(guess?.said?.answer === "firms" ? guess.said.firms.map((line) => [line.firm, line]) : []);
+}
+
+function rowOf(cells) {
+    const row = made("tr");
+    row.append(...cells);
+    return row;
+}
+
+function firmRow(name, line, selection) {
+    const mood = moodOf(line), isChosen = selection?.kind === "firm" && selection.name === name;
+    const button = made("button", `${SIGNS[mood]} ${name}`.trim(), {type: "button", "data-key": `row:${name}`, "data-firm": name, "aria-pressed": `${isChosen}`, class: mood});
+    if (mood !== "unknown") button.append(made("span", MOODS[mood], {class: "unseen"}));
+    const head = made("th", "", {scope: "row"});
+    head.append(button);
+    const row = rowOf([head, ...cellsOf(line).map((content, k) => made("td", content, {class: k === 0 || k === 3 ? null : "number"}))]);
+    row.className = isChosen ? `${mood} chosen` : mood;
+    return row;
+}
+
+/** What stands in a firm's line, after its name. */
+export function cellsOf(line) {
+    if (!line) return ["", "", "", "", ""];
+    const best = line.gain === 0n ? "" : namesOf(line.best);
+    const number = (value) => value === null ? "impossible" : String(value);
+    return [namesOf(line.has), number(line.worth), number(line.utility), best, line.gain === null ? "" : String(line.gain)];
+}
+
+function namesOf(names) {
+    return names.length === 0 ? "nothing" : names.join(", ");
+}
+
+/** The firms that aren't content. */
+export function objectors({guess}) {
+    return [...linesOf(guess).values()].filter((line) => moodOf(line) !== "content").map(({firm}) => firm);
+}
+
+function showVerdict(value) {
+    const {guess, document, selection} = value, verdict = verdictOf(value), list = objectors(value);
+    write("verdict", verdict.says);
+    part("verdict").className = isOld(value, guess) ? `${verdict.mood} old` : verdict.mood;
+    part("objects").disabled = list.length === 0 || isOld(value, guess);
+    document.isWhole && write("told", selection?.kind === "firm" ? toldOf(value, selection.name) : "");
+}
+
+/** The sentence of one firm. */
+function toldOf({guess, document}, name) {
+    const place = networkOf(document).firms.findIndex((firm) => firm.name === name);
+    return guess?.said?.answer === "firms" && place >= 0 ? guess.sentences[place + 1] ?? "" : "";
+}
+
+function verdictOf({document, guess}) {
+    if (!document.isWhole) return {mood: "unknown", says: "The document is too long to guess at. The commands can be asked."};
+    if (guess === null) return {mood: "unknown", says: "The program is asked."};
+    if (guess.trouble) return {mood: "fault", says: guess.trouble};
+    if (guess.isNone) return {mood: "unknown", says: "No guess yet: click a trade, or press Solve."};
+    if (guess.said.answer !== "firms") return {mood: "fault", says: guess.sentences.join(" ")};
+    const {firms, content, surplus} = guess.said;
+    if (content === BigInt(firms.length)) return {mood: "content", says: `\u2713 An equilibrium: every firm is content, and the worths sum to ${surplus}.`};
+    return {mood: "objects", says: `\u2717 No equilibrium: ${content} of ${firms.length} firms are content.`};
+}

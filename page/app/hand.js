@@ -1,0 +1,128 @@
+// Pointer and keys on the network: a click turns a trade on or off, a drag gives it a price, and elsewhere moves the picture.
+import {priced, turned} from "./edits.js";
+import {part} from "./page.js";
+import {lookedBy, panned, zoomIn, zoomOut} from "./scene.js";
+import {networkOf} from "./state.js";
+
+/** How far a pointer goes before it drags, and for how many pixels a price changes by a step. */
+const LEAST_DRAG = 5, PER_STEP = 8;
+
+let drags = 0;
+
+/** Listens to pointer and keys on the network. `type` is called with a trade and a first letter where somebody begins to type a price. */
+export function handle(store, type) {
+    const stage = part("stage");
+    let held = null;
+    stage.addEventListener("pointerdown", (event) => {
+        if (event.button !== 0) return;
+        held = {x: event.clientX, y: event.clientY, pointer: event.pointerId, key: keyAt(event.target), view: store.value.view, isMoved: false, ...grip(store, keyAt(event.target))};
+    });
+    stage.addEventListener("pointermove", (event) => {
+        if (held === null || event.pointerId !== held.pointer) return;
+        const dx = event.clientX - held.x, dy = event.clientY - held.y;
+        if (!held.isMoved && Math.hypot(dx, dy) < LEAST_DRAG) return;
+        if (!held.isMoved) stage.setPointerCapture(event.pointerId);
+        held.isMoved = true;
+        if (held.trade) dragPrice(store, held, Math.round(-dy / PER_STEP), event.shiftKey);
+        else store.act("looked", panned(held.view, dx, dy));
+    });
+    stage.addEventListener("pointerup", () => {
+        if (held !== null && !held.isMoved) choose(store, held.key, true);
+        held = null;
+    });
+    stage.addEventListener("pointercancel", () => (held = null));
+    stage.addEventListener("wheel", (event) => {
+        if (!event.ctrlKey && !event.metaKey) return;
+        event.preventDefault();
+        const at = {x: event.clientX, y: event.clientY};
+        store.act("looked", event.deltaY < 0 ? zoomIn(store.value.view, at) : zoomOut(store.value.view, at));
+    }, {passive: false});
+    stage.addEventListener("keydown", (event) => {
+        if (!event.ctrlKey && !event.metaKey && !event.altKey && pressed(store, event, type)) event.preventDefault();
+    });
+}
+
+/** The key of the lane or firm that an element belongs to, or null. */
+function keyAt(element) {
+    const found = element.closest?.("[data-key], [data-of]");
+    return found ? found.dataset.key ?? found.dataset.of : null;
+}
+
+/** What is held by a lane of one trade: its name and price. */
+function grip(store, key) {
+    const trade = onlyTrade(key);
+    if (trade === null) return {trade: null};
+    drags += 1;
+    return {trade, price: priceOf(store, trade), mark: `drag ${drags}`};
+}
+
+/** The trades of the lane of a key. */
+export function tradesOf(key) {
+    const lane = [...part("stage").querySelectorAll(".lane")].find((element) => element.dataset.key === key);
+    return lane ? lane.dataset.trades.split(" ") : [];
+}
+
+function onlyTrade(key) {
+    const trades = key?.startsWith("lane:") ? tradesOf(key) : [];
+    return trades.length === 1 ? trades[0] : null;
+}
+
+/** The price of a trade in the document as a whole number; 0 where it has none. */
+function priceOf(store, trade) {
+    const {arrangement} = networkOf(store.value.document), entries = Array.isArray(arrangement.prices) ? arrangement.prices : [];
+    const found = entries.findLast?.((entry) => Array.isArray(entry) && entry[0] === trade)?.[1];
+    return typeof found === "bigint" ? found : 0n;
+}
+
+/** A step of a price by its size: 1 below a hundred, 10 below ten thousand, and so on. */
+function stepOf(price, isFine) {
+    const digits = String(price < 0n ? -price : price).length;
+    return isFine ? 1n : 10n ** BigInt(Math.max(0, Math.ceil(digits / 2) - 1));
+}
+
+function dragPrice(store, {trade, price, mark, key}, steps, isFine) {
+    if (store.value.selection?.key !== key) store.act("selected", {kind: "lane", key});
+    setPrice(store, trade, price + BigInt(steps) * stepOf(price, isFine), mark);
+}
+
+/** Gives a trade a price by a change of the text. */
+export function setPrice(store, trade, price, mark = null) {
+    store.act("edited", priced(networkOf(store.value.document), new Map([[trade, String(price)]])), mark);
+}
+
+/** Turns a trade on or off by a change of the text. */
+export function turn(store, trade, isOn = null) {
+    const network = networkOf(store.value.document), on = Array.isArray(network.arrangement.on) ? network.arrangement.on : [];
+    store.act("edited", turned(network, trade, isOn ?? !on.includes(trade)));
+}
+
+/** Chooses a lane or firm; a lane of one trade is turned on or off too. */
+function choose(store, key, isTurned) {
+    if (key === null) return store.act("selected", null);
+    if (key.startsWith("firm:")) return store.act("selected", {kind: "firm", name: key.slice(5)});
+    const trade = onlyTrade(key);
+    if (trade !== null && isTurned) turn(store, trade);
+    return store.act("selected", {kind: "lane", key});
+}
+
+/** Whether a key did something. */
+function pressed(store, event, type) {
+    const key = event.target.dataset?.key ?? null;
+    if (key === null) {
+        const view = lookedBy(store.value.view, event.key);
+        if (view !== null) store.act("looked", view);
+        return view !== null;
+    }
+    if (event.key === "Enter" || event.key === " ") return choose(store, key, true), true;
+    const trade = onlyTrade(key);
+    if (trade === null) return false;
+    if (/^[-\d]$/.test(event.key)) {
+        choose(store, key, false);
+        return type(trade, event.key), true;
+    }
+    const steps = {ArrowUp: 1n, ArrowDown: -1n}[event.key];
+    if (steps === undefined) return false;
+    choose(store, key, false);
+    const price = priceOf(store, trade);
+    return setPrice(store, trade, price + steps * stepOf(price, event.shiftKey)), true;
+}

@@ -1,0 +1,110 @@
+// The network as it is guessed, or as an answer has it, drawn so that its firms and lanes can be clicked and reached by keys.
+import {arrow, escaped, INK, NORMAL, SMALL, smooth, tag, text, widthOf} from "../draw/svg.js";
+import {labelPlaces, planOf} from "./plan.js";
+
+const OFF = "#64748b", GOOD = "#166534", BAD = "#9a3412";
+
+/** How long the numbers of a guess are at most, rounded so that they rarely change it. */
+export function digitsOf(stands, lines) {
+    const numbers = [...stands.prices.values(), ...lines.flatMap(({utility, best_utility: most}) => [utility, most].filter((number) => number !== null))];
+    return Math.max(3, ...numbers.map((number) => String(number).length));
+}
+
+/**
+ * The picture as SVG, with its size: `{svg, width, height, plan}`. `stands` has the trades that are on and the prices, `lines` those of
+ * `firms`, by name, `marks` the colours of trades with what they say, and `selection` what is chosen.
+ */
+export function stageOf({network, firm, stands, lines, marks, selection}) {
+    const digits = digitsOf(stands, [...lines.values()]);
+    const plan = planOf(network, firm, digits), on = new Set(stands.on ?? []);
+    const lanes = plan.lanes.map((lane) => laneAt(lane, on, stands, marks, selection));
+    const labels = labelPlaces(plan, digits, (lane) => lanes[plan.lanes.indexOf(lane)].isNamed);
+    const drawn = lanes.map((lane, k) => ({lane, svg: laneSvg(lane, plan.places.arrows[k].points, labels[k], plan.isClose)}));
+    drawn.sort((one, other) => one.lane.rank - other.lane.rank);
+    const boxes = plan.boxes.map((box) => firmSvg(box, plan.places.centers.get(box.id), lines.get(box.name), selection, plan.isClose));
+    const width = plan.places.width + 24, height = plan.places.height + 24;
+    const whole = tag("g", {transform: "translate(12 12)"}, drawn.map(({svg}) => svg.line), boxes, drawn.map(({svg}) => svg.label));
+    return {width, height, plan, svg: `<svg xmlns="http://www.w3.org/2000/svg" viewBox="0 0 ${width} ${height}">${whole}</svg>`};
+}
+
+/** The key by which a lane is chosen and found again. */
+export function laneKey({seller, buyer}) {
+    return `lane:${seller} ${buyer}`;
+}
+
+function laneAt(lane, on, stands, marks, selection) {
+    const taking = lane.trades.filter((name) => on.has(name)), isOn = taking.length > 0;
+    const mark = lane.trades.map((name) => marks.get(name)).find(Boolean) ?? null;
+    const isChosen = selection?.kind === "lane" && selection.key === laneKey(lane);
+    const price = spanOf(isOn ? taking : lane.trades, stands.prices);
+    const name = lane.trades.length === 1 ? lane.trades[0] : `${taking.length} of ${lane.trades.length} on`;
+    return {...lane, key: laneKey(lane), name, price, isOn, mark, isChosen, isNamed: isOn || mark !== null || isChosen, rank: (isOn ? 2 : 0) + (mark ? 1 : 0) + (isChosen ? 4 : 0)};
+}
+
+/** The one price of some trades, or their least and greatest; null where there is none, or one is no number. */
+function spanOf(names, prices) {
+    const found = names.map((name) => prices.get(name)).filter((price) => price !== undefined && /^-?\d+$/.test(price));
+    if (found.length === 0) return null;
+    const sorted = found.map(BigInt).sort((one, other) => (one < other ? -1 : one > other ? 1 : 0));
+    return sorted[0] === sorted[sorted.length - 1] ? `${sorted[0]}` : `${sorted[0]} to ${sorted[sorted.length - 1]}`;
+}
+
+function laneSvg(lane, points, at, isClose) {
+    const ink = lane.mark?.ink ?? (lane.isOn ? INK : OFF);
+    const drawn = arrow(points, {ink, width: lane.isOn ? 4 : lane.mark ? 2 : 1.2, dashes: !lane.isOn && lane.mark ? "7 4" : null});
+    const attributes = {class: `lane${lane.isOn ? " on" : ""}${lane.isChosen ? " chosen" : ""}`, "data-key": lane.key, "data-trades": lane.trades.join(" ")};
+    const says = laneSays(lane);
+    return {
+        line: tag("g", {...attributes, role: "button", tabindex: 0, "aria-pressed": lane.isOn ? "true" : "false", "aria-label": says},
+            tag("title", {}, escaped(says)), tag("path", {class: "hit", d: smooth(points)}), drawn),
+        label: at && tag("g", {class: `label lane-label${lane.isChosen ? " chosen" : ""}`, "data-of": lane.key, "aria-hidden": "true"}, isClose ? lineLabel(lane, at, ink) : twoLines(lane, at, ink))};
+}
+
+/** A lane in words, for those who hear it. */
+function laneSays({trades, seller, buyer, name, price, isOn, mark}) {
+    const priced = price === null ? "without a price" : `at ${price}`;
+    const state = mark === null ? (isOn ? "on" : "off") : isOn ? `on, ${mark.says}` : `off, ${mark.says}`;
+    return trades.length === 1 ? `Trade ${name}, from ${seller} to ${buyer}, ${priced}: ${state}` : `${trades.length} trades from ${seller} to ${buyer}, ${name}, ${priced}: ${trades.join(", ")}`;
+}
+
+function twoLines({name, price, isOn}, {x, y}, ink) {
+    const width = Math.max(widthOf(name, NORMAL), widthOf(price ?? "", 15)) + 10;
+    return [tag("rect", {x: x - width / 2, y: y - 17, width, height: 34, rx: 4}),
+        text(x, y - 4, name, {ink, weight: isOn ? "bold" : null}), price === null ? null : text(x, y + 12, price, {size: 15, ink, weight: isOn ? "bold" : null})];
+}
+
+function lineLabel({name, price, isOn}, {x, y}, ink) {
+    const says = price === null ? name : `${name} at ${price}`, width = widthOf(says, NORMAL) + 6;
+    return [tag("rect", {x: x - width / 2, y: y - 8, width, height: 16, rx: 3}), text(x, y + 4, says, {ink, weight: isOn ? "bold" : null})];
+}
+
+function firmSvg({name, width, height}, {x, y}, line, selection, isClose) {
+    const mood = moodOf(line), isChosen = selection?.kind === "firm" && selection.name === name;
+    const box = {x: x - width / 2, y: y - height / 2, width, height, rx: 6};
+    const attributes = {class: `firm ${mood}${isChosen ? " chosen" : ""}`, "data-key": `firm:${name}`, "data-firm": name};
+    const inkBelow = mood === "content" ? GOOD : mood === "unknown" ? INK : BAD;
+    return tag("g", {...attributes, role: "button", tabindex: 0, "aria-label": firmSays(name, line)}, tag("rect", box),
+        text(x, y + (line ? -3 : 5), name, {size: 15, weight: "bold"}),
+        line ? text(x, y + (isClose ? 11 : 14), belowOf(line, isClose), {size: isClose ? SMALL : NORMAL, ink: inkBelow, weight: mood === "content" ? null : "bold"}) : null);
+}
+
+/** Whether a firm is content, objects, or has what is impossible, as a class; "unknown" where nothing is answered of it. */
+export function moodOf(line) {
+    if (!line) return "unknown";
+    return line.worth === null ? "impossible" : line.gain === 0n ? "content" : "objects";
+}
+
+function belowOf(line, isClose) {
+    const mood = moodOf(line);
+    if (mood === "content") return `\u2713 ${line.utility}`;
+    if (mood === "impossible") return isClose ? "\u2717 none" : "\u2717 impossible";
+    return isClose ? `\u2717 ${line.utility}` : `\u2717 ${line.utility}, best ${line.best_utility}`;
+}
+
+/** A firm in words. */
+function firmSays(name, line) {
+    const mood = moodOf(line);
+    if (mood === "unknown") return `Firm ${name}`;
+    if (mood === "content") return `Firm ${name}, content with a utility of ${line.utility}`;
+    return mood === "impossible" ? `Firm ${name} objects: what it has is impossible for it` : `Firm ${name} objects: its utility is ${line.utility}, and it could have ${line.best_utility}`;
+}

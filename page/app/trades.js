@@ -1,0 +1,195 @@
+// The table of trades: each can be turned on or off, and be given a price, with the bounds of its price beside it. Of very many only
+// the rows in sight are there.
+import {made, part} from "./page.js";
+import {setPrice, turn} from "./hand.js";
+import {boundsAt, isWithin, scaleOf} from "./bounds.js";
+import {isOld, networkOf} from "./state.js";
+
+const HEADS = [["Trade", "name"], ["From", "seller"], ["To", "buyer"], ["On", "on"], ["Price", "price"], ["Bounds", null]];
+
+/** How high a row is, in pixels, and beyond how many rows only those in sight are there. */
+const HIGH = 37, MOST_ROWS = 200, AROUND = 8;
+
+const WHOLE = /^-?(0|[1-9]\d{0,17})$/;
+
+let store = null, rows = [], present = new Map(), shownOf = null;
+
+/** Makes the table ready for a store. */
+export function readyTrades(of) {
+    store = of;
+    part("trades").tHead.append(headRow());
+    part("trades-scroll").addEventListener("scroll", () => requestAnimationFrame(() => fill(store.value)));
+    part("filter").addEventListener("input", () => store.act("looked", {filter: part("filter").value.trim()}));
+    part("by-firm").addEventListener("change", () => store.act("looked", {firm: part("by-firm").value || null, window: null}));
+}
+
+function headRow() {
+    const row = made("tr");
+    for (const [head, by] of HEADS) {
+        const cell = made("th", by === null ? head : "", {scope: "col", "data-by": by});
+        if (by !== null) {
+            const button = made("button", head, {type: "button", class: "plain"});
+            button.addEventListener("click", () => sortBy(by));
+            cell.append(button);
+        }
+        row.append(cell);
+    }
+    return row;
+}
+
+function sortBy(by) {
+    const {sort} = store.value.view;
+    store.act("looked", {sort: sort.by !== by ? {by, isDown: false} : sort.isDown ? {by: null, isDown: false} : {by, isDown: true}});
+}
+
+/** Shows the table of a value. */
+export function showTrades(value) {
+    const {document, view, ranges, selection} = value;
+    if (shownOf !== null && ["document", "view", "ranges", "selection"].every((name) => shownOf[name] === value[name])) return;
+    const isMoved = shownOf?.selection !== selection && selection !== null;
+    shownOf = {document, view, ranges, selection};
+    const network = networkOf(document);
+    rows = sorted(rowsOf(network, view), view.sort);
+    for (const cell of part("trades").tHead.rows[0].cells) cell.setAttribute("aria-sort", cell.dataset.by !== view.sort.by || !view.sort.by ? "none" : view.sort.isDown ? "descending" : "ascending");
+    part("trades").setAttribute("aria-rowcount", rows.length + 1);
+    part("trades").tHead.rows[0].cells[5].hidden = ranges?.said?.answer !== "ranges";
+    fillFirms(network, view);
+    if (part("filter").value.trim() !== view.filter) part("filter").value = view.filter;
+    fill(value);
+    if (isMoved) bringIn(value);
+}
+
+function rowsOf(network, {filter, firm}) {
+    const {on, prices} = network.arrangement, isOn = new Set(Array.isArray(on) ? on : []);
+    const priceOf = new Map((Array.isArray(prices) ? prices : []).filter(Array.isArray).map(([name, price]) => [name, price]));
+    const all = network.trades.map(({name, seller, buyer}, place) => ({name, seller, buyer, place, on: isOn.has(name), price: priceOf.get(name)}));
+    return all.filter(({name, seller, buyer}) => (firm === null || seller === firm || buyer === firm)
+        && (filter === "" || `${name} ${seller} ${buyer}`.toLowerCase().includes(filter.toLowerCase())));
+}
+
+function sorted(all, {by, isDown}) {
+    if (by === null) return all;
+    const order = (one, other) => (typeof one === "bigint" && typeof other === "bigint" ? (one < other ? -1 : one > other ? 1 : 0)
+        : String(one ?? "").localeCompare(String(other ?? ""), "en", {numeric: true}));
+    return all.sort((one, other) => (isDown ? -1 : 1) * order(one[by], other[by]) || one.place - other.place);
+}
+
+function fillFirms(network, view) {
+    const names = network.firms.map(({name}) => name).filter((name) => name !== ""), select = part("by-firm");
+    const key = JSON.stringify(names);
+    if (select.dataset.names !== key) {
+        select.replaceChildren(new Option("All firms", ""), ...names.map((name) => new Option(name, name)));
+        select.dataset.names = key;
+    }
+    select.value = view.firm ?? "";
+}
+
+/** Puts the rows there that are in sight, between two that stand for all others. */
+function fill(value) {
+    const scroll = part("trades-scroll"), body = part("trades").tBodies[0];
+    const isAll = rows.length <= MOST_ROWS, many = Math.ceil((scroll.clientHeight || 600) / HIGH) + 2 * AROUND;
+    const first = isAll ? 0 : Math.max(0, Math.min(rows.length - many, Math.floor(scroll.scrollTop / HIGH) - AROUND));
+    const seen = isAll ? rows : rows.slice(first, first + many);
+    const scale = scaleOf(value), bounds = new Map((value.ranges?.said?.ranges ?? []).map((range) => [range.trade, range]));
+    const isOldRange = isOld(value, value.ranges);
+    const next = new Map(seen.map((row) => [row.name, present.get(row.name) ?? rowFor(row.name)]));
+    for (const [k, row] of seen.entries()) update(next.get(row.name), row, first + k, value, {scale, range: bounds.get(row.name), isOldRange});
+    present = next;
+    const wanted = [...(isAll ? [] : [gap(first)]), ...next.values(), ...(isAll ? [] : [gap(rows.length - first - seen.length)])];
+    const isSame = body.children.length === wanted.length && wanted.every((row, k) => body.children[k] === row);
+    if (!isSame) replaced(body, wanted);
+}
+
+/** Replaces rows, and keeps the focus in a row that stays. */
+function replaced(body, wanted) {
+    const focused = body.contains(document.activeElement) ? document.activeElement : null;
+    body.replaceChildren(...wanted);
+    if (focused?.isConnected) focused.focus({preventScroll: true});
+}
+
+function gap(count) {
+    const row = made("tr", "", {"aria-hidden": "true", class: "gap"}), cell = made("td", "", {colspan: 6});
+    cell.style.height = `${count * HIGH}px`;
+    row.append(cell);
+    return row;
+}
+
+/** A row with its button and field, which outlives changes. */
+function rowFor(name) {
+    const row = made("tr", "", {"data-trade": name});
+    const on = made("input", "", {type: "checkbox", "data-key": `on:${name}`, "aria-label": `${name} is on`});
+    const price = made("input", "", {type: "text", inputmode: "numeric", size: 6, autocomplete: "off", "data-key": `price:${name}`, "aria-label": `Price of ${name}`});
+    on.addEventListener("change", () => turn(store, name, on.checked));
+    price.addEventListener("input", () => typed(name, price));
+    price.addEventListener("blur", () => shownPrice(price));
+    price.addEventListener("focus", () => chosen(name));
+    price.addEventListener("keydown", (event) => stepped(event, name, price));
+    const head = made("th", name, {scope: "row"}), cells = [made("td"), made("td"), made("td"), made("td", "", {class: "number"}), made("td", "", {class: "bounds"})];
+    cells[2].append(on);
+    cells[3].append(price);
+    row.append(head, ...cells);
+    return row;
+}
+
+/** Marks the trade of a field in the network, without moving the focus. */
+function chosen(name) {
+    const {seller, buyer} = networkOf(store.value.document).trade(name), key = `lane:${seller} ${buyer}`;
+    if (store.value.selection?.key !== key) store.act("selected", {kind: "lane", key, trade: name});
+}
+
+function typed(name, price) {
+    const isWhole = WHOLE.test(price.value.trim());
+    price.setAttribute("aria-invalid", `${!isWhole}`);
+    if (isWhole) setPrice(store, name, price.value.trim(), `price of ${name}`);
+}
+
+function stepped(event, name, price) {
+    const step = {ArrowUp: 1n, ArrowDown: -1n}[event.key];
+    if (step === undefined || !WHOLE.test(price.value.trim())) return;
+    event.preventDefault();
+    price.value = String(BigInt(price.value.trim()) + step);
+    setPrice(store, name, price.value);
+}
+
+function shownPrice(price) {
+    price.value = price.dataset.price;
+    price.setAttribute("aria-invalid", "false");
+}
+
+function update(element, row, place, value, {scale, range, isOldRange}) {
+    const [head, from, to, on, price, bounds] = element.cells, box = on.firstElementChild, field = price.firstElementChild;
+    element.setAttribute("aria-rowindex", place + 2);
+    const isChosen = value.selection?.kind === "lane" ? value.selection.key === `lane:${row.seller} ${row.buyer}` : value.selection?.trade === row.name;
+    element.className = `${row.on ? "on" : ""}${isChosen ? " chosen" : ""}`.trim();
+    if (from.textContent !== row.seller) from.textContent = row.seller;
+    if (to.textContent !== row.buyer) to.textContent = row.buyer;
+    if (head.textContent !== row.name) head.textContent = row.name;
+    box.checked = row.on;
+    const shown = row.price === undefined ? "" : String(row.price);
+    field.dataset.price = shown;
+    const isTyped = field === document.activeElement && field.value.trim() === shown;
+    if (!isTyped && (field !== document.activeElement || WHOLE.test(field.value.trim()))) field.value = shown;
+    bounds.hidden = !range;
+    boundsAt(bounds, {range, price: row.price, scale, isOld: isOldRange, selection: value.selection, choose: (side) => store.act("selected", {kind: "bound", trade: row.name, side})});
+    field.classList.toggle("beyond", range !== undefined && !isOldRange && typeof row.price === "bigint" && !isWithin(range, row.price));
+}
+
+/** Scrolls the first chosen row into sight, but not away from a field that somebody types in. */
+function bringIn({selection}) {
+    const place = rows.findIndex(({name, seller, buyer}) => name === selection.trade || `lane:${seller} ${buyer}` === selection.key);
+    const scroll = part("trades-scroll");
+    if (place < 0 || scroll.contains(document.activeElement)) return;
+    const top = place * HIGH;
+    if (top < scroll.scrollTop || top > scroll.scrollTop + scroll.clientHeight - 2 * HIGH) scroll.scrollTop = top - scroll.clientHeight / 3;
+}
+
+/** Goes to the field of a trade's price, with a first letter in it. */
+export function typePrice(trade, letter) {
+    fill(store.value);
+    const field = present.get(trade)?.cells[4].firstElementChild;
+    if (!field) return;
+    field.focus();
+    field.value = letter;
+    field.setSelectionRange(1, 1);
+    typed(trade, field);
+}
