@@ -76,6 +76,7 @@ async function start() {
     new Guesses(store, guesser);
     store.watch(() => trace(store, tracer));
     addEventListener("hashchange", openAddress);
+    new ResizeObserver(() => showScene(store.value)).observe(part("stage"));
     const [[, [[name, text]]]] = documents;
     if (!await openAddress()) store.act("opened", name, new TextEncoder().encode(text));
     document.documentElement.dataset.loaded = Math.round(performance.now());

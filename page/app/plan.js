@@ -1,17 +1,19 @@
 // Where the firms and lanes of a network stand in the picture. A guess doesn't move them: the room for what it changes is kept free.
 import {lanesOf} from "../draw/lanes.js";
 import {closely, labelled, layout} from "../draw/layout.js";
-import {NORMAL, SMALL, widthOf} from "../draw/svg.js";
+import {NORMAL, widthOf} from "../draw/svg.js";
 
-const ROOM = {width: 1580, height: 880};
+/** The room for a picture, by the shape of its place in the page. */
+const ROOMS = {wide: {width: 1540, height: 760}, usual: {width: 940, height: 720}, narrow: {width: 400, height: 460}}, ROOM = {width: 1580, height: 880};
 
 /** Beyond how many lanes there is a table, and only one firm's neighbourhood is drawn. */
 export const MOST_LANES = 120;
 
-/** Up to how many lanes each has its name and price beside it. */
-const FEW = 24;
+/** Up to how many lanes each has its name and price in a place of its own, and up to how many where there is one left. */
+const FEW = 24, SOME = 60;
 
-const PRICE = 15, NAME = 15;
+/** The sizes of letters, which are smaller where there is much. */
+export const PRICE = 15, NAME = 15, BELOW = 13;
 
 const kept = new Map(), MOST_KEPT = 8;
 
@@ -30,46 +32,57 @@ function lanesAt(network, firm = null) {
 
 /**
  * The plan of a network, or of one firm and its neighbours: `{lanes, boxes, places, isClose}`, where `places` is a layout. `digits` is
- * how long numbers are at most.
+ * how long numbers are at most, and `shape` one of those of the rooms.
  */
-export function planOf(network, firm, digits) {
-    const key = JSON.stringify([firm, digits, network.firms.map(({name}) => name), network.trades.map(({name, seller, buyer}) => [name, seller, buyer])]);
+export function planOf(network, firm, digits, shape) {
+    const key = JSON.stringify([firm, digits, shape, network.firms.map(({name}) => name), network.trades.map(({name, seller, buyer}) => [name, seller, buyer])]);
     if (!kept.has(key)) {
         if (kept.size >= MOST_KEPT) kept.delete(kept.keys().next().value);
-        kept.set(key, madePlan(network, firm, digits));
+        kept.set(key, madePlan(network, firm, digits, shape));
     }
     return kept.get(key);
 }
 
-function madePlan(network, firm, digits) {
-    const lanes = lanesAt(network, firm), isClose = lanes.length > FEW;
+function madePlan(network, firm, digits, shape) {
+    const lanes = lanesAt(network, firm), isClose = lanes.length > FEW || shape === "narrow";
     const near = new Set([firm, ...lanes.flatMap(({seller, buyer}) => [seller, buyer])]);
     const firms = [...new Set(network.firms.map(({name}) => name))].filter((name) => name !== "" && (firm === null || near.has(name)));
     const boxes = firms.map((name) => ({id: name, name, ...boxSize(name, digits, isClose)}));
     const arrows = lanes.map((lane) => ({from: lane.seller, to: lane.buyer, size: isClose ? null : labelSize(lane, digits)}));
-    return {lanes, boxes, arrows, isClose, places: isClose ? closely(boxes, arrows, ROOM) : layout(boxes, arrows, ROOM)};
+    return {lanes, boxes, arrows, isClose, places: isClose ? closely(boxes, arrows, ROOMS[shape]) : layout(boxes, arrows, ROOM)};
 }
 
-/** The places of labels where only some lanes have them; `isNamed` says of a lane whether it has. */
+/**
+ * The places of the labels, null for a lane that finds none. `isNamed` says which lanes have one for sure, as long as there is a free
+ * place; these come first, and others only where lanes aren't many.
+ */
 export function labelPlaces(plan, digits, isNamed) {
-    if (!plan.isClose) return plan.places.arrows.map(({label}) => label);
-    const arrows = plan.lanes.map((lane) => ({size: isNamed(lane) ? lineSize(lane, digits) : null}));
-    return labelled(plan.places, plan.boxes, arrows).arrows.map(({label}) => label);
+    const {lanes, places, boxes, isClose} = plan;
+    if (!isClose) return places.arrows.map(({label}) => label);
+    const order = [...lanes.keys()].sort((one, other) => isNamed(lanes[other]) - isNamed(lanes[one]) || one - other);
+    const sizes = order.map((k) => ({size: isNamed(lanes[k]) || lanes.length <= SOME ? lineSize(lanes[k], digits) : null}));
+    const found = labelled({...places, arrows: order.map((k) => places.arrows[k])}, boxes, sizes), labels = [];
+    order.forEach((k, place) => (labels[k] = found.arrows[place].label));
+    return labels;
 }
+
+/** How much wider letters can be than they are reckoned: those of DejaVu Sans are. */
+const WIDER = 1.12;
 
 function boxSize(name, digits, isClose) {
-    const below = isClose ? widthOf(`\u2717 ${"0".repeat(digits)}`, SMALL) : widthOf(`\u2717 could have ${"0".repeat(digits)}`, NORMAL);
-    return {width: Math.max(widthOf(name, NAME) + 4, below) + 16, height: isClose ? 34 : 44};
+    const number = "0".repeat(digits), below = isClose ? ["\u2717 none", `\u2717 ${number}`] : [`\u2717 ${number}, best ${number}`];
+    const widest = Math.max(widthOf(name, NAME), ...below.map((says) => widthOf(says, BELOW)));
+    return {width: widest * WIDER + 12, height: isClose ? 38 : 46};
 }
 
 /** The room for a name above a price. */
 function labelSize({trades}, digits) {
     const [name, price] = trades.length === 1 ? [trades[0], "0".repeat(digits)] : [`${trades.length} of ${trades.length} on`, `${"0".repeat(digits)} to ${"0".repeat(digits)}`];
-    return {width: Math.max(widthOf(name, NORMAL), widthOf(price, PRICE)) + 10, height: NORMAL + PRICE + 8};
+    return {width: Math.max(widthOf(name, NORMAL), widthOf(price, PRICE)) * WIDER + 8, height: NORMAL + PRICE + 8};
 }
 
 /** The room for both in one line. */
 function lineSize({trades}, digits) {
     const name = trades.length === 1 ? trades[0] : `${trades.length} of ${trades.length} on`;
-    return {width: widthOf(`${name} at ${"0".repeat(digits)}`, NORMAL) + 8, height: NORMAL + 4};
+    return {width: widthOf(`${name} at ${"0".repeat(digits)}`, NORMAL) * WIDER + 4, height: NORMAL + 4};
 }

@@ -11,9 +11,15 @@ const STEP = 60, ZOOM = 1.25, MOST_ZOOM = 12;
 
 let size = {width: 100, height: 100}, drawnOf = null;
 
+/** The shape of the place that the picture has. */
+function shapeNow() {
+    const across = part("stage").clientWidth;
+    return across > 1150 ? "wide" : across < 520 ? "narrow" : "usual";
+}
+
 /** Draws what a value has to show. */
 export function showScene(value) {
-    const scene = sceneOf(value), key = JSON.stringify([scene.key, value.view.firm, value.selection, [...scene.marks]]);
+    const scene = sceneOf(value), key = JSON.stringify([scene.key, shapeNow(), value.view.firm, value.selection, [...scene.marks]]);
     const isNew = drawnOf === null || drawnOf.key !== key || drawnOf.document !== value.document || drawnOf.guess !== value.guess;
     if (isNew) draw(scene, value);
     drawnOf = {key, document: value.document, guess: value.guess};
@@ -23,16 +29,18 @@ export function showScene(value) {
 
 function draw(scene, value) {
     const network = networkOf(value.document), stage = part("stage"), firm = neighbourhood(value);
-    const drawn = stageOf({...scene, network, firm, selection: value.selection});
+    const drawn = stageOf({...scene, network, firm, shape: shapeNow(), selection: value.selection});
     size = drawn;
     keepingFocus(stage, () => stage.replaceChildren(drawing(drawn.svg)));
     write("legend", legendOf(network, firm, scene));
 }
 
 /** The one firm whose neighbourhood is drawn; null where the whole network is. */
-export function neighbourhood({document, view}) {
+export function neighbourhood({document, view, selection}) {
     const network = networkOf(document);
-    return view.firm ?? (isTable(network) ? network.firms[0]?.name ?? null : null);
+    if (view.firm !== null || !isTable(network)) return view.firm;
+    if (selection?.kind === "firm") return selection.name;
+    return selection?.kind === "lane" ? network.firms.find(({name}) => selection.key.startsWith(`lane:${name} `))?.name ?? null : network.firms[0]?.name ?? null;
 }
 
 const SIGNS = "Thick: takes place. Thin: doesn't. \u2713 content. \u2717 objects.";

@@ -1,6 +1,6 @@
 // The network as it is guessed, or as an answer has it, drawn so that its firms and lanes can be clicked and reached by keys.
-import {arrow, escaped, INK, NORMAL, SMALL, smooth, tag, text, widthOf} from "../draw/svg.js";
-import {labelPlaces, planOf} from "./plan.js";
+import {arrow, escaped, INK, NORMAL, smooth, tag, text, widthOf} from "../draw/svg.js";
+import {BELOW, labelPlaces, NAME, planOf, PRICE} from "./plan.js";
 
 const OFF = "#64748b", GOOD = "#166534", BAD = "#9a3412";
 
@@ -14,9 +14,9 @@ export function digitsOf(stands, lines) {
  * The picture as SVG, with its size: `{svg, width, height, plan}`. `stands` has the trades that are on and the prices, `lines` those of
  * `firms`, by name, `marks` the colours of trades with what they say, and `selection` what is chosen.
  */
-export function stageOf({network, firm, stands, lines, marks, selection}) {
+export function stageOf({network, firm, shape, stands, lines, marks, selection}) {
     const digits = digitsOf(stands, [...lines.values()]);
-    const plan = planOf(network, firm, digits), on = new Set(stands.on ?? []);
+    const plan = planOf(network, firm, digits, shape), on = new Set(stands.on ?? []);
     const lanes = plan.lanes.map((lane) => laneAt(lane, on, stands, marks, selection));
     const labels = labelPlaces(plan, digits, (lane) => lanes[plan.lanes.indexOf(lane)].isNamed);
     const drawn = lanes.map((lane, k) => ({lane, svg: laneSvg(lane, plan.places.arrows[k].points, labels[k], plan.isClose)}));
@@ -68,9 +68,9 @@ function laneSays({trades, seller, buyer, name, price, isOn, mark}) {
 }
 
 function twoLines({name, price, isOn}, {x, y}, ink) {
-    const width = Math.max(widthOf(name, NORMAL), widthOf(price ?? "", 15)) + 10;
+    const width = Math.max(widthOf(name, NORMAL), widthOf(price ?? "", PRICE)) + 10;
     return [tag("rect", {x: x - width / 2, y: y - 17, width, height: 34, rx: 4}),
-        text(x, y - 4, name, {ink, weight: isOn ? "bold" : null}), price === null ? null : text(x, y + 12, price, {size: 15, ink, weight: isOn ? "bold" : null})];
+        text(x, y - 4, name, {ink, weight: isOn ? "bold" : null}), price === null ? null : text(x, y + 12, price, {size: PRICE, ink, weight: isOn ? "bold" : null})];
 }
 
 function lineLabel({name, price, isOn}, {x, y}, ink) {
@@ -84,8 +84,8 @@ function firmSvg({name, width, height}, {x, y}, line, selection, isClose) {
     const attributes = {class: `firm ${mood}${isChosen ? " chosen" : ""}`, "data-key": `firm:${name}`, "data-firm": name};
     const inkBelow = mood === "content" ? GOOD : mood === "unknown" ? INK : BAD;
     return tag("g", {...attributes, role: "button", tabindex: 0, "aria-label": firmSays(name, line)}, tag("rect", box),
-        text(x, y + (line ? -3 : 5), name, {size: 15, weight: "bold"}),
-        line ? text(x, y + (isClose ? 11 : 14), belowOf(line, isClose), {size: isClose ? SMALL : NORMAL, ink: inkBelow, weight: mood === "content" ? null : "bold"}) : null);
+        text(x, y + (line ? -3 : 5), name, {size: NAME, weight: "bold"}),
+        line ? text(x, y + (isClose ? 13 : 15), belowOf(line, isClose), {size: BELOW, ink: inkBelow, weight: mood === "content" ? null : "bold"}) : null);
 }
 
 /** Whether a firm is content, objects, or has what is impossible, as a class; "unknown" where nothing is answered of it. */

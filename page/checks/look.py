@@ -49,7 +49,7 @@ SHOWN = """
 const texts = (selector) => [...document.querySelectorAll(selector)].map((element) => element.textContent);
 return {status: texts("#status")[0], sentences: texts("#sentences p"), bytes: texts("#bytes")[0], marks: texts("mark"),
     firms: [...document.querySelectorAll("#pictures figure")].map((figure) => figure.querySelectorAll("[data-firm]").length),
-    isHidden: document.getElementById("shown").hidden};"""
+    isOld: document.getElementById("shown").dataset.old === "true"};"""
 
 
 class Page:
@@ -112,7 +112,7 @@ def tries(page: Page, program: str | None):
     shown = page.ask("solve")
     yield "a name that is none of the page is a fault", "<img src=x" in shown["marks"][0] and page.browser.run("return document.images.length") == 0
     page.type(example("one-trade.json").decode())
-    yield "an edit hides the answer", page.browser.run(SHOWN)["isHidden"] and page.state == "ready"
+    yield "an edit makes the answer an old one", page.browser.run(SHOWN)["isOld"] and page.state == "ready"
     yield "rows are shown as they are", page.ask("solve --csv")["bytes"] == "trade,on,price\na,1,3\n"
     yield "other words are asked", '"surplus":872' in page.ask("drill 64 7")["bytes"]
 
