@@ -21,7 +21,7 @@ export class Guesses {
     /** What is to be asked next: words and how their answer is taken in; null where all is answered. */
     next() {
         const {value} = this.store, {document, guess, ranges, view} = value;
-        if (!document.isWhole || document.text === "") return null;
+        if (!document.isWhole) return null;
         if (guess === null || isOld(value, guess)) return ["firms", "guessed"];
         return view.hasRanges && (ranges === null || isOld(value, ranges)) ? ["range", "ranged"] : null;
     }

@@ -26,7 +26,7 @@ export function isTable(network) {
 function lanesAt(network, firm = null) {
     const trades = firm === null ? network.trades : network.trades.filter(({seller, buyer}) => seller === firm || buyer === firm);
     const names = new Set(network.firms.map(({name}) => name));
-    const both = trades.filter(({name, seller, buyer}) => name !== "" && names.has(seller) && names.has(buyer));
+    const both = trades.filter(({name, seller, buyer}) => name !== "" && seller !== buyer && names.has(seller) && names.has(buyer));
     return lanesOf(both, {on: null, prices: new Map()}, new Map(), false);
 }
 
@@ -49,6 +49,7 @@ function madePlan(network, firm, digits, shape) {
     const firms = [...new Set(network.firms.map(({name}) => name))].filter((name) => name !== "" && (firm === null || near.has(name)));
     const boxes = firms.map((name) => ({id: name, name, ...boxSize(name, digits, isClose)}));
     const arrows = lanes.map((lane) => ({from: lane.seller, to: lane.buyer, size: isClose ? null : labelSize(lane, digits)}));
+    if (boxes.length === 0) return {lanes, boxes, arrows, isClose, places: {width: 100, height: 100, centers: new Map(), arrows: []}};
     return {lanes, boxes, arrows, isClose, places: isClose ? closely(boxes, arrows, ROOMS[shape]) : layout(boxes, arrows, ROOM)};
 }
 

@@ -16,6 +16,7 @@ export function showShell(value) {
     const {document: shown, past, future, view, ranges, guess} = value, page = document.documentElement;
     page.dataset.guess = guessState(value);
     page.dataset.ranges = !view.hasRanges ? "none" : ranges === null || isOld(value, ranges) ? "asking" : ranges.said?.answer === "ranges" ? "answered" : "fault";
+    page.dataset.path = value.path === null || value.path.selection !== value.selection ? "none" : value.path.lines === null ? "asking" : "answered";
     page.dataset.wide = `${isWide(value)}`;
     part("wide").setAttribute("aria-pressed", `${isWide(value)}`);
     able("undo", past.length > 0);

@@ -38,6 +38,10 @@ class Chromium:
         """What a script returns, or the promise that it returns comes to."""
         return self.driver.execute_script(script, *words)
 
+    def act(self, actions: list[dict]) -> None:
+        """Pointer and keys, as WebDriver writes them."""
+        self.driver.execute("actions", {"actions": actions})
+
     def requests(self) -> list[str]:
         """What the page asked for, beside itself."""
         page, asked = self.driver.current_url, []
@@ -47,8 +51,11 @@ class Chromium:
                 asked.append(message["params"]["request"]["url"])
         return [url for url in asked if urlsplit(url).scheme not in ("blob", "data") and url != page]
 
-    def picture(self, path: str, width: int, height: int) -> None:
+    def size(self, width: int, height: int) -> None:
         self.driver.execute_cdp_cmd("Emulation.setDeviceMetricsOverride", {"width": width, "height": height, "deviceScaleFactor": 1, "mobile": False})
+
+    def picture(self, path: str, width: int, height: int) -> None:
+        self.size(width, height)
         self.driver.save_screenshot(path)
 
     def quit(self) -> None:
@@ -81,9 +88,8 @@ class WebKit(Chromium):
     def requests(self) -> list[str]:
         return self.run("return performance.getEntriesByType('resource').map(({name}) => name)")
 
-    def picture(self, path: str, width: int, height: int) -> None:
+    def size(self, width: int, height: int) -> None:
         self.driver.set_window_size(width, height)
-        self.driver.save_screenshot(path)
 
     def quit(self) -> None:
         self.driver.quit()

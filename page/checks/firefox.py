@@ -78,12 +78,19 @@ class Firefox:
         """What a script returns, or the promise that it returns comes to."""
         return self.send("WebDriver:ExecuteScript", {"script": script, "args": list(words)})["value"]
 
+    def act(self, actions: list[dict]) -> None:
+        """Pointer and keys, as WebDriver writes them."""
+        self.send("WebDriver:PerformActions", {"actions": actions})
+
     def requests(self) -> list[str]:
         """What the page asked for, beside itself."""
         return self.run("return performance.getEntriesByType('resource').map(({name}) => name)")
 
-    def picture(self, path: str, width: int, height: int) -> None:
+    def size(self, width: int, height: int) -> None:
         self.send("WebDriver:SetWindowRect", {"width": width, "height": height})
+
+    def picture(self, path: str, width: int, height: int) -> None:
+        self.size(width, height)
         Path(path).write_bytes(base64.b64decode(self.send("WebDriver:TakeScreenshot", {"full": False, "hash": False})["value"]))
 
     def quit(self) -> None:

@@ -33,22 +33,27 @@ function placed(boxes, arrows, room, withLabels) {
     const graph = new dagre.graphlib.Graph({multigraph: true});
     graph.setGraph({rankdir: "LR", nodesep: withLabels ? 28 : 8, edgesep: withLabels ? 10 : 1, ranksep: withLabels ? 80 : 120,
         ranker: withLabels ? "network-simplex" : "tight-tree"});
-    for (const {id, width, height} of boxes) graph.setNode(id, {width, height});
+    for (const {id, width, height} of boxes) graph.setNode(nodeOf(id), {width, height});
     arrows.forEach(({from, to, size}, k) => {
-        graph.setEdge(from, to, withLabels && size ? {...size, labelpos: "c"} : {width: 0, height: 0}, `${k}`);
+        graph.setEdge(nodeOf(from), nodeOf(to), withLabels && size ? {...size, labelpos: "c"} : {width: 0, height: 0}, `${k}`);
     });
     dagre.layout(graph);
     const twins = countsOf(arrows);
     const drawn = arrows.map((arrow, k) => {
-        const {points, x, y} = graph.edge(arrow.from, arrow.to, `${k}`);
+        const {points, x, y} = graph.edge(nodeOf(arrow.from), nodeOf(arrow.to), `${k}`);
         const bends = points.slice(1, -1), label = withLabels && arrow.size ? {x, y} : null;
         return {bends: twins.get(pairOf(arrow)) === 1 && bends.length === 1 && label === null ? [] : bends, label};
     });
-    const found = {...graph.graph(), centers: new Map(boxes.map(({id}) => [id, graph.node(id)])), arrows: drawn};
+    const found = {...graph.graph(), centers: new Map(boxes.map(({id}) => [id, graph.node(nodeOf(id))])), arrows: drawn};
     const whole = {width: room.width, height: Math.min(room.height, 0.6 * room.width)};
     const wide = stretched(found, boxes, withLabels ? {width: 1.5 * found.height, height: found.height} : whole);
     const sides = new Map(boxes.map((box) => [box.id, box]));
     return {...wide, arrows: wide.arrows.map(({bends, label}, k) => ({points: joined(wide.centers, sides, arrows[k], bends), label}))};
+}
+
+/** The name of a box in a graph, where names such as __proto__ can't stand as they are. */
+function nodeOf(id) {
+    return `=${id}`;
 }
 
 /** A layout that is made larger, up to a room, while its boxes keep their sizes. Without bends the boxes of a layer go far apart. */

@@ -1,0 +1,372 @@
+"""What is tried of the workbench, by pointer and keys: guesses, who objects, ranges, undo, links, and documents that mean it ill."""
+import json
+import re
+import subprocess
+import zlib
+from base64 import urlsafe_b64encode
+from pathlib import Path
+
+import look
+
+HERE = Path(__file__).resolve().parent
+
+# Waits until the page names a state under some name.
+WAIT_FOR = """
+const [name, wanted] = arguments, page = document.documentElement;
+return new Promise((done) => {
+    const look = () => wanted.includes(page.dataset[name]) && done(page.dataset[name]);
+    new MutationObserver(look).observe(page, {attributes: true});
+    look();
+});"""
+
+# The middle of the first element of a selector, after it was brought into sight.
+MIDDLE = """
+const element = document.querySelector(arguments[0]);
+element.scrollIntoView({block: "center"});
+const {x, y, width, height} = element.getBoundingClientRect();
+return [Math.round(x + width / 2), Math.round(y + height / 2)];"""
+
+# What is drawn: each firm with its mood and where it stands, each lane with its words, and the labels.
+DRAWN = """
+const all = (selector) => [...document.querySelectorAll(`#stage ${selector}`)];
+const mood = (element) => ["content", "objects", "impossible", "unknown"].find((name) => element.classList.contains(name));
+return {
+    firms: Object.fromEntries(all(".firm").map((firm) => [firm.dataset.firm, {mood: mood(firm), x: firm.getBoundingClientRect().x, says: firm.getAttribute("aria-label"), shown: firm.textContent}])),
+    lanes: Object.fromEntries(all(".lane").map((lane) => [lane.dataset.trades, {isOn: lane.classList.contains("on"), says: lane.getAttribute("aria-label")}])),
+    labels: all(".lane-label").map((label) => label.textContent)};"""
+
+KEYS = {"Control": "\ue009", "Shift": "\ue008", "ArrowUp": "\ue013", "ArrowDown": "\ue015", "Enter": "\ue007", "End": "\ue010", "Backspace": "\ue003", "Tab": "\ue004"}
+
+
+class Bench(look.Page):
+    """The page, used by pointer and keys, at the size of a projector."""
+
+    def __init__(self, browser, path: Path) -> None:
+        browser.size(1280, 800)
+        super().__init__(browser, path)
+
+    def wait_for(self, name: str, *states: str) -> str:
+        return self.browser.run(WAIT_FOR, name, list(states))
+
+    def open(self, name: str, data: bytes, is_dropped: bool = False) -> str:
+        said = super().open(name, data, is_dropped)
+        self.wait_for("guess", "answered", "fault", "none", "trouble")
+        return said
+
+    def value(self, script: str, *words: object) -> object:
+        return self.browser.run(f"return {script};", *words)
+
+    def text(self) -> str:
+        return self.value("document.getElementById('text').value")
+
+    def says(self, element: str) -> str:
+        return self.value("document.getElementById(arguments[0]).textContent", element)
+
+    def drawn(self) -> dict:
+        return self.browser.run(DRAWN)
+
+    def pointer(self, steps: list[dict]) -> None:
+        self.browser.act([{"type": "pointer", "id": "mouse", "parameters": {"pointerType": "mouse"}, "actions": steps}])
+
+    def click(self, selector: str) -> None:
+        x, y = self.browser.run(MIDDLE, selector)
+        self.pointer([{"type": "pointerMove", "x": x, "y": y, "origin": "viewport", "duration": 0}, {"type": "pointerDown", "button": 0}, {"type": "pointerUp", "button": 0}])
+
+    def drag(self, selector: str, dy: int) -> None:
+        x, y = self.browser.run(MIDDLE, selector)
+        moves = [{"type": "pointerMove", "x": x, "y": y + dy * k // 4, "origin": "viewport", "duration": 10} for k in range(1, 5)]
+        self.pointer([{"type": "pointerMove", "x": x, "y": y, "origin": "viewport", "duration": 0}, {"type": "pointerDown", "button": 0}, *moves, {"type": "pointerUp", "button": 0}])
+
+    def press(self, *keys: str) -> None:
+        """Keys one after another; "Control+z" holds the first while it presses the second."""
+        steps = []
+        for key in keys:
+            parts = [KEYS.get(part, part) for part in (key.split("+") if len(key) > 1 else [key])]
+            steps += [{"type": "keyDown", "value": part} for part in parts] + [{"type": "keyUp", "value": part} for part in reversed(parts)]
+        self.browser.act([{"type": "key", "id": "keys", "actions": steps}])
+
+    def focus(self, key: str) -> None:
+        self.browser.run("[...document.querySelectorAll('[data-key]')].find((element) => element.dataset.key === arguments[0]).focus()", key)
+
+    def focused(self) -> str:
+        return self.value("document.activeElement.dataset.key ?? ''")
+
+    def guess(self) -> str:
+        """Waits for the answer to the guess, and answers what is said of it."""
+        self.wait_for("guess", "answered", "fault", "none", "trouble")
+        return self.says("verdict")
+
+
+def asked(program: str, words: list[str], document: str) -> dict:
+    return json.loads(subprocess.run([program, *words], input=document.encode(), capture_output=True).stdout)
+
+
+def example(name: str) -> str:
+    return look.example(name).decode()
+
+
+def label(trade_ends: str) -> str:
+    return f'[data-of="lane:{trade_ends}"]'
+
+
+def tries(page: Bench, program: str):
+    """Each as a name, and whether it is so."""
+    for part in (tries_to_guess, tries_of_undo, tries_to_solve, tries_of_ranges, tries_of_complements, tries_of_the_text, tries_of_size, tries_of_ill_will):
+        yield from part(page, program)
+
+
+def tries_to_guess(page: Bench, program: str):
+    page.open("used-cars.json", look.example("used-cars.json"))
+    first, drawn = page.text(), page.drawn()
+    yield "the used cars are an equilibrium", page.guess().endswith("An equilibrium: every firm is content, and the worths sum to 10.")
+    yield "each firm and each trade is drawn", len(drawn["firms"]) == 6 and len(drawn["lanes"]) == 10 and len(drawn["labels"]) == 10
+    yield "sellers stand on the left", all(drawn["firms"][left]["x"] < drawn["firms"][right]["x"] for left, right in [("O1", "D"), ("O2", "D"), ("D", "B1"), ("D", "B3")])
+    yield "what is on is told", [name for name, lane in drawn["lanes"].items() if lane["isOn"]] == [name for name in drawn["lanes"] if name in ("o1d", "db1", "o2b2")]
+    page.click(label("O1 B1"))
+    yield "a click turns a trade on", page.guess().endswith("4 of 6 firms are content.")
+    yield "by a change of the text at one place", page.text() == first.replace('"on":["o1d","db1","o2b2"]', '"on":["o1d","db1","o2b2","o1b1"]')
+    firms = page.drawn()["firms"]
+    yield "who objects has a sign and a word", all("\u2717" in firms[name]["shown"] and "objects" in firms[name]["says"] for name in ("O1", "B1"))
+    yield "and who is content too", all("\u2713" in firms[name]["shown"] and "content" in firms[name]["says"] for name in ("O2", "D", "B2", "B3"))
+    told = []
+    for _ in range(3):
+        page.click("#objects")
+        told.append(page.says("told").split(" ")[0])
+    yield "who objects is stepped through", told == ["O1", "B1", "O1"]
+    page.click(label("O1 B1"))
+    yield "another click turns it off", page.guess().endswith("the worths sum to 10.") and page.text() == first
+    page.focus("lane:O1 D")
+    page.press("ArrowUp")
+    yield "an arrow key makes a price greater", page.guess() != "" and '["o1d",9]' in page.text() and page.focused() == "lane:O1 D"
+    page.press("1", "0")
+    yield "a price is typed", page.guess().endswith("5 of 6 firms are content.") and page.text() == first.replace('["o1d",8]', '["o1d",10]') and page.focused() == "price:o1d"
+    line = asked(program, ["firms"], page.text())["firms"][2]
+    cells = page.value("[...document.querySelectorAll('#firms tbody tr')[2].cells].slice(1).map(({textContent}) => textContent)")
+    yield "the table of firms has the program's numbers", cells == [", ".join(line["has"]), str(line["worth"]), str(line["utility"]), ", ".join(line["best"]), str(line["gain"])]
+    page.drag(label("D B1"), -32)
+    yield "a drag upwards makes a price greater", page.guess() != "" and '["db1",15]' in page.text()
+
+
+def tries_of_undo(page: Bench, program: str):
+    page.open("used-cars.json", look.example("used-cars.json"))
+    first = page.text()
+    page.drag(label("D B1"), -32)
+    page.click(label("O2 D"))
+    page.focus("lane:O1 D")
+    page.press("9", "9", "Tab")
+    last = page.text()
+    for _ in range(3):
+        page.press("Control+z")
+    yield "a drag, a click and letters are taken back as three", page.text() == first and page.guess().endswith("the worths sum to 10.")
+    for _ in range(3):
+        page.press("Control+Shift+Z")
+    yield "and done again", page.text() == last
+    for _ in range(3):
+        page.press("Control+z")
+    page.focus("lane:O1 D")
+    page.press(*["ArrowUp"] * 210)
+    yield "210 keys change a price 210 times", '["o1d",' in page.text() and page.text() != first
+    page.press(*["Control+z"] * 210)
+    yield "and 210 changes are taken back", page.text() == first and page.guess().endswith("the worths sum to 10.")
+
+
+def tries_to_solve(page: Bench, program: str):
+    page.open("used-cars-dear-car.json", look.example("used-cars-dear-car.json"))
+    first = page.text()
+    yield "the dear car has one that objects", page.guess().endswith("5 of 6 firms are content.")
+    page.click("#solve")
+    page.wait_for("state", "answered")
+    solved = asked(program, ["solve"], first)
+    lanes = page.drawn()["lanes"]
+    yield "solve's answer lies over the network", all(lanes[name]["isOn"] == (name in solved["on"]) and f" at {price}:" in lanes[name]["says"] for name, price in solved["prices"])
+    yield "and the text is as it was", page.text() == first
+    page.click("#over-take")
+    yield "it is taken as the guess", page.guess().endswith(f"the worths sum to {solved['surplus']}.") and json.loads(page.text())["arrangement"] == {"on": solved["on"], "prices": solved["prices"]}
+    before, after = first.split('"arrangement"')[0], page.text().split('"arrangement"')[0]
+    yield "and the rest of the text is as it was", before == after
+    yield "its answer is an old one then", page.browser.run(look.SHOWN)["isOld"]
+
+
+def tries_of_ranges(page: Bench, program: str):
+    page.open("houses.json", look.example("houses.json"))
+    page.click("#ranges")
+    page.wait_for("ranges", "answered")
+    said = asked(program, ["range"], page.text())["ranges"]
+    bounds = page.value("[...document.querySelectorAll('#trades tbody tr')].map((row) => [row.dataset.trade, ...[...row.querySelectorAll('.bound')].map(({textContent}) => textContent)])")
+    yield "bounds stand beside the prices", bounds == [[each["trade"], str(each["low"]), str(each["high"])] for each in said]
+    for button, side in (("#buyers-best", "low"), ("#sellers-best", "high")):
+        page.click(button)
+        prices = json.loads(page.text())["arrangement"]["prices"]
+        yield f"{button} takes the prices", dict(map(tuple, prices)) == {each["trade"]: each[side] for each in said} and page.guess().endswith("the worths sum to 16.")
+        page.wait_for("ranges", "answered")
+    page.click('[data-key="high:h1b1"]')
+    page.wait_for("path", "answered")
+    path = next(each["high_path"] for each in said if each["trade"] == "h1b1")
+    yield "a click on a bound shows its path", page.value("document.querySelectorAll('#path p').length") == len(path)
+    lanes = page.drawn()["lanes"]
+    yield "and marks it in the network", all("holds h1b1 from above" in lanes[name]["says"] for name in path[1:-1])
+    page.click("#ranges")
+
+
+def tries_of_complements(page: Bench, program: str):
+    page.open("complements.json", look.example("complements.json"))
+    yield "complements can be guessed at", page.guess().endswith("the worths sum to 8.")
+    page.click('#trades [data-key="on:b"]')
+    yield "and objected to", page.guess().endswith("0 of 2 firms are content.")
+    page.press("Control+z")
+    page.click("#solve")
+    page.wait_for("state", "answered")
+    yield "solve says of them what fails", "doesn't meet the exchange property" in page.says("sentences") or "exchange property" in page.says("sentences")
+
+
+def tries_of_the_text(page: Bench, program: str):
+    note = '{"version":1,"note":"é \\u00e9, 1e3, and {\\"on\\":[]}","firms":[{"name":"S","kind":"table","rows":[[["a"],-1]]},{"name":"B","kind":"table","rows":[[["a"],4]]}],' \
+        '"arrangement":{"prices":[ ["a" , 99999999999999 ] ],"on":[ ]},"trades":[{"name":"a","seller":"S","buyer":"B"}],"on":1}'
+    clean = note.replace(',"on":1}', "}")
+    page.type(clean)
+    page.guess()
+    page.click("#tab-document")
+    yield "one long line is offered laid out", page.value("!document.getElementById('one-line').hidden")
+    page.click(label("S B"))
+    page.guess()
+    yield "a click changes nothing else of an odd text", page.text() == clean.replace('"on":[ ]', '"on":[ "a"]')
+    page.click("#lay-out")
+    laid = page.text()
+    yield "laying it out adds ends of lines and blanks alone", laid != clean and re.sub(r"\n *", "", laid) == clean.replace('"on":[ ]', '"on":[ "a"]').strip() and page.guess() != ""
+    page.open("one-trade.json", look.example("one-trade.json"))
+    page.click(".CodeMirror-code")
+    page.press("Control+End", "Backspace", "Backspace")
+    wrong = page.guess()
+    yield "a text that is typed wrong has a fault", page.value("document.documentElement.dataset.guess") == "fault" and "fault 1" in wrong
+    yield "which is told beside it", "fault 1" in page.says("document-fault")
+    page.press("Control+z", "Control+z")
+    yield "letters are taken back in the same history", page.text() == example("one-trade.json") and page.guess().startswith("\u2713")
+    page.open("used-cars-misspelt.json", look.example("used-cars-misspelt.json"))
+    marked = page.value("[...document.querySelectorAll('.CodeMirror .faulty')].map(({textContent}) => textContent).join('')")
+    yield "a fault is marked at its place in the text", marked != "" and marked in example("used-cars-misspelt.json")
+    page.open("trades.json", b'{"version":1,"firms":[{"name":"S","kind":"table","rows":[[["a"],-1]]},{"name":"B","kind":"table","rows":[[["a"],4]]}],"trades":[{"name":"a","seller":"S","buyer":"B"}]}')
+    yield "without an arrangement there is no guess yet", page.guess().startswith("No guess yet")
+    page.click("#tab-guess")
+    page.click(label("S B"))
+    yield "and a click begins one", page.guess() != "" and json.loads(page.text())["arrangement"] == {"on": ["a"], "prices": [["a", 0]]}
+
+
+def many_trades() -> bytes:
+    """1,024 trades, more than the program takes so far."""
+    ends = [(f"S{k // 32}", f"B{k % 32}") for k in range(1024)]
+    firms = [{"name": f"{side}{k}", "kind": "table", "rows": []} for side in "SB" for k in range(32)]
+    trades = [{"name": f"t{k}", "seller": seller, "buyer": buyer} for k, (seller, buyer) in enumerate(ends)]
+    return json.dumps({"version": 2, "firms": firms, "trades": trades, "arrangement": {"on": [], "prices": [[f"t{k}", k] for k in range(1024)]}}).encode()
+
+
+# Scrolls the table to its end in 40 steps, and answers the longest time between two pictures, in milliseconds.
+SCROLL = """
+const scroll = document.getElementById("trades-scroll");
+return new Promise((done) => {
+    let last = performance.now(), longest = 0, k = 0;
+    const step = (now) => {
+        longest = Math.max(longest, now - last);
+        last = now;
+        scroll.scrollTop = scroll.scrollHeight * (k += 1) / 40;
+        if (k <= 40) requestAnimationFrame(step);
+        else setTimeout(() => done(longest), 50);
+    };
+    requestAnimationFrame(step);
+});"""
+
+
+def tries_of_size(page: Bench, program: str):
+    page.open("many.json", many_trades())
+    rows = page.value("document.querySelectorAll('#trades tbody tr').length")
+    yield "of 1,024 trades the rows in sight are there", 10 < rows < 80 and page.value("document.getElementById('trades').getAttribute('aria-rowcount')") == "1025"
+    longest = page.browser.run(SCROLL)
+    print(f"{page.browser.name}: 1,024 trades scrolled, at most {longest:.0f} ms between two pictures")
+    yield "the last one is there when it is scrolled to", page.value("document.querySelector('#trades tbody [data-trade=t1023]') !== null")
+    yield "one firm's neighbourhood is drawn", len(page.drawn()["lanes"]) == 32
+    page.browser.run("const filter = document.getElementById('filter'); filter.value = 't1000'; filter.dispatchEvent(new Event('input'))")
+    yield "the table is filtered", page.value("document.querySelectorAll('#trades tbody tr[data-trade]').length") == 1
+    page.browser.run("const filter = document.getElementById('filter'); filter.value = ''; filter.dispatchEvent(new Event('input'))")
+    page.open("large.json", b'{"note":"' + b"x" * (1 << 18) + b'"}')
+    yield "a large document isn't in the editor", page.value("document.querySelector('.CodeMirror').CodeMirror.getValue()") == "" and page.says("name").startswith("large.json, 262")
+    yield "and is answered", "fault 3" in page.ask("solve")["sentences"][0]
+    page.open("large.json", look.example("used-cars.json"))
+
+
+def packed(data: bytes) -> str:
+    maker = zlib.compressobj(9, zlib.DEFLATED, -15)
+    return "#1." + urlsafe_b64encode(maker.compress(data) + maker.flush()).decode().rstrip("=")
+
+
+def tries_of_links(page: Bench, address: str):
+    page.open("houses.json", look.example("houses.json"))
+    page.click("#link")
+    page.browser.run("const page = document.documentElement; return new Promise((done) => { const look = () => page.dataset.linked && done(); new MutationObserver(look).observe(page, {attributes: true}); look(); });")
+    fragment = page.value("document.getElementById('fragment').value")
+    yield "from a disk the link is the fragment alone", fragment.startswith("#1.") and len(fragment) < 8000 and "behind any address" in page.says("linked-says")
+    for name, there, wanted in [("a link brings the document back", fragment, example("houses.json")), ("and so does one from elsewhere", packed(look.example("ring.json")), example("ring.json"))]:
+        page.browser.open("about:blank")
+        page.browser.open(address + there)
+        page.wait("ready")
+        page.guess()
+        yield name, page.text() == wanted
+    page.browser.open("about:blank")
+    page.browser.open(address + packed(b"[" * (1 << 24)))
+    page.wait("ready")
+    yield "what a link unpacks to stops at 4 MiB and one byte", page.says("name").startswith("from a link, 4194.3 KB") and page.ask("solve")["sentences"][0].startswith("The document has a fault")
+    page.browser.open("about:blank")
+    page.browser.open(address + "#1.!!")
+    page.wait("ready")
+    yield "a broken link is told", "could not be read" in page.says("notice") and page.guess().startswith("\u2713")
+    page.browser.open("about:blank")
+    page.browser.open(address)
+    page.wait("ready")
+    page.guess()
+    yield "what was changed last is asked about", page.value("!document.getElementById('kept').hidden")
+    page.click("#kept-forget")
+    page.browser.open("about:blank")
+    page.browser.open(address)
+    page.wait("ready")
+    yield "and forgotten", page.value("document.getElementById('kept').hidden")
+
+
+def tries_of_ill_will(page: Bench, program: str):
+    deep = b'{"version":1,"note":' + b"[" * 120 + b"]" * 120 + b',"firms":[],"trades":[]}'
+    names = ["</script><script>document.title='bad'</script>", "<img src=x onerror=document.title='bad'>", "__proto__", "constructor", "a\u202eb", "\ud83d\ude97"]
+    for data in (deep, b"[" * 4194304, b'{"version":1,"note":"' + b"a" * 4194304 + b'"}', b"\xff\xfe", b"",
+                 *(json.dumps({"version": 1, "firms": [{"name": name, "kind": "table", "rows": []}, {"name": "B", "kind": "table", "rows": []}],
+                               "trades": [{"name": name, "seller": name, "buyer": "B"}], "arrangement": {"on": [name], "prices": [[name, 1]]}}).encode() for name in names)):
+        page.open("ill.json", data)
+        page.ask("firms")
+    yield "no document makes elements of the page", page.value("document.images.length + document.scripts.length") == 4 and page.value("document.title").startswith("market:")
+    page.open("used-cars.json", look.example("used-cars.json"))
+    yield "and after them the page answers", page.guess().endswith("the worths sum to 10.")
+
+
+def tries_of_access(page: Bench):
+    """Chromium's accessibility tree, and what the style table says of colours and motion."""
+    page.open("used-cars-dear-car.json", look.example("used-cars-dear-car.json"))
+    page.click("#tab-guess")
+    nodes = page.browser.driver.execute_cdp_cmd("Accessibility.getFullAXTree", {})["nodes"]
+    names = [node.get("name", {}).get("value", "") for node in nodes if not node.get("ignored")]
+    yield "firms are in the accessibility tree", all(any(name.startswith(f"Firm {firm} ") or name.startswith(f"Firm {firm},") for name in names) for firm in ("O1", "O2", "D", "B1", "B2", "B3"))
+    yield "trades with prices are", all(any(name.startswith(f"Trade {trade}, ") and " at " in name for name in names) for trade in ("o1d", "o2d", "db1", "o2b3"))
+    yield "the verdict is", any("No equilibrium: 5 of 6 firms are content." in name for name in names)
+    unnamed = [node["role"]["value"] for node in nodes if not node.get("ignored") and node.get("role", {}).get("value") in ("button", "textbox", "combobox", "checkbox", "tab", "searchbox")
+               and not node.get("name", {}).get("value")]
+    yield f"all that is pressed or filled in has a name {unnamed}", unnamed == []
+    style = (HERE.parent / "style.css").read_text()
+    colours = dict(re.findall(r"--([\w-]+): (#[0-9a-f]{6})", style))
+    pairs = [(text, ground) for text in ("ink", "quiet", "good", "bad") for ground in ("paper", "ground")] + [("good", "good-ground"), ("bad", "bad-ground"), ("paper", "main"), ("ink", "mark")]
+    yield "letters stand out", all(contrast(colours[text], colours[ground]) >= 4.5 for text, ground in pairs)
+    yield "edges and the focus do", all(contrast(colours[line], colours[ground]) >= 3 for line in ("edge", "main", "focus") for ground in ("paper", "ground"))
+    still = re.sub(r"@media \(prefers-reduced-motion: no-preference\) \{[^}]*\{[^}]*\}\s*\}", "", style)
+    yield "nothing moves for those who want no motion", not re.search(r"transition|animation|scroll-behavior", still)
+
+
+def contrast(one: str, other: str) -> float:
+    """The contrast of two colours, as WCAG reckons it."""
+    def light(colour: str) -> float:
+        parts = [int(colour[k:k + 2], 16) / 255 for k in (1, 3, 5)]
+        return sum(weight * (part / 12.92 if part <= 0.04045 else ((part + 0.055) / 1.055) ** 2.4) for weight, part in zip((0.2126, 0.7152, 0.0722), parts))
+    lights = sorted((light(one), light(other)))
+    return (lights[1] + 0.05) / (lights[0] + 0.05)
