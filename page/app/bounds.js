@@ -18,11 +18,11 @@ export function isWithin({low, high}, price) {
 
 /** Shows bounds in a cell. */
 export function boundsAt(cell, {range, price, scale, isOld, selection, choose}) {
-    const key = range ? JSON.stringify([String(range.low), String(range.high), String(price), scale, isOld, selection?.trade === range.trade && selection.side]) : "";
+    const key = range ? JSON.stringify([String(range.low), String(range.high), String(price), scale, selection?.trade === range.trade && selection.side]) : "";
+    cell.classList.toggle("old", isOld);
     if (cell.dataset.shown === key) return;
     const focused = cell.contains(document.activeElement) ? document.activeElement.dataset.key : null;
     cell.dataset.shown = key;
-    cell.classList.toggle("old", isOld);
     cell.replaceChildren(...(range ? [bound(range, "low", selection, choose), bar(range, price, scale), bound(range, "high", selection, choose)] : []));
     for (const child of cell.children) if (focused !== null && child.dataset.key === focused) child.focus({preventScroll: true});
 }

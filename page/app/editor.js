@@ -1,6 +1,6 @@
 // The document's text in CodeMirror. Its history is the page's own; changes from elsewhere are put in at their offsets.
 import "../vendor/codemirror-5.65.0/codemirror.min.js";
-import {part} from "./page.js";
+import {made, part} from "./page.js";
 
 const {CodeMirror} = globalThis;
 
@@ -18,17 +18,24 @@ CodeMirror.defineMode("document", () => ({
 /** The mark that the changes come from the page, and not from somebody who types. */
 const OWN = "page";
 
-let editor = null, isSetting = false, marked = null;
+let editor = null, isSetting = false, marked = null, shown = "";
 
 /** Makes the editor ready for a store. */
 export function readyEditor(store) {
-    editor = CodeMirror(part("editor"), {mode: "document", inputStyle: "contenteditable", lineNumbers: true, undoDepth: 0, tabSize: 2, indentUnit: 1, lineWrapping: false,
+    editor = CodeMirror(part("editor"), {mode: "document", inputStyle: "contenteditable", lineNumbers: true, lineSeparator: "\n", specialCharPlaceholder: placeholder, undoDepth: 0, tabSize: 2, indentUnit: 1, lineWrapping: false,
         spellcheck: false, autocorrect: false, autocapitalize: false, screenReaderLabel: "The document, as JSON",
         extraKeys: {"Ctrl-Z": () => store.act("undone"), "Cmd-Z": () => store.act("undone"), "Ctrl-Y": () => store.act("redone"), "Shift-Ctrl-Z": () => store.act("redone"),
             "Shift-Cmd-Z": () => store.act("redone"), Tab: false, "Shift-Tab": false}});
     editor.on("changes", (_, changes) => {
-        if (!isSetting) store.act("typed", editor.getValue(), markFor(store.value.mark, changes));
+        if (isSetting) return;
+        shown = editor.getValue();
+        store.act("typed", shown, markFor(store.value.mark, changes));
     });
+}
+
+/** What stands for a sign that can't be seen; nothing does for the first half of an end of line of Windows, which stays in the text. */
+function placeholder(sign) {
+    return made("span", sign === "\r" ? "" : "\u2022", {class: "unseen-sign", title: `U+${sign.codePointAt(0).toString(16).padStart(4, "0")}`});
 }
 
 /** Letters that are typed one behind the other, without a blank, are taken back together. */
@@ -43,7 +50,8 @@ function markFor(last, changes) {
 export function showEditor({document, guess}) {
     const text = document.isWhole ? document.text : "";
     part("editor").hidden = !document.isWhole;
-    if (editor.getValue() !== text) set(text);
+    if (shown !== text) set(text);
+    shown = text;
     const mark = guess !== null && guess.document.text === document.text ? guess.mark ?? null : null;
     if (mark === marked?.of) return;
     marked?.range.clear();

@@ -58,7 +58,12 @@ function madePlan(network, firm, digits, shape) {
  * place; these come first, and others only where lanes aren't many.
  */
 export function labelPlaces(plan, digits, isNamed) {
-    const {lanes, places, boxes, isClose} = plan;
+    const key = plan.lanes.map((lane) => (isNamed(lane) ? "1" : "0")).join("");
+    if (plan.labels?.key !== key) plan.labels = {key, places: madeLabels(plan, digits, isNamed)};
+    return plan.labels.places;
+}
+
+function madeLabels({lanes, places, boxes, isClose}, digits, isNamed) {
     if (!isClose) return places.arrows.map(({label}) => label);
     const order = [...lanes.keys()].sort((one, other) => isNamed(lanes[other]) - isNamed(lanes[one]) || one - other);
     const sizes = order.map((k) => ({size: isNamed(lanes[k]) || lanes.length <= SOME ? lineSize(lanes[k], digits) : null}));

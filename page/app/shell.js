@@ -9,7 +9,7 @@ const PANELS = ["guess", "document", "answer"];
 /** From how many lanes the network takes the whole width by itself. */
 const MANY = 24;
 
-let shownPanel = null;
+let shownPanel = null, shownText = "";
 
 /** Shows all that. */
 export function showShell(value) {
@@ -58,7 +58,8 @@ function showPanel(panel) {
 
 /** The plain field has the beginning of a document that is too long for the editor. */
 function showText({text, isWhole}, guess) {
-    if (part("text").value !== text) part("text").value = text;
+    if (shownText !== text) part("text").value = text;
+    shownText = text;
     part("text").readOnly = !isWhole;
     part("text").hidden = isWhole;
     part("one-line").hidden = !isWhole || !isOneLine(text);

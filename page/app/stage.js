@@ -18,7 +18,7 @@ export function stageOf({network, firm, shape, stands, lines, marks, selection})
     const digits = digitsOf(stands, [...lines.values()]);
     const plan = planOf(network, firm, digits, shape), on = new Set(stands.on ?? []);
     const lanes = plan.lanes.map((lane) => laneAt(lane, on, stands, marks, selection));
-    const labels = labelPlaces(plan, digits, (lane) => lanes[plan.lanes.indexOf(lane)].isNamed);
+    const named = new Set(plan.lanes.filter((_, k) => lanes[k].isNamed)), labels = labelPlaces(plan, digits, (lane) => named.has(lane));
     const drawn = lanes.map((lane, k) => ({lane, svg: laneSvg(lane, plan.places.arrows[k].points, labels[k], plan.isClose)}));
     drawn.sort((one, other) => one.lane.rank - other.lane.rank);
     const boxes = plan.boxes.map((box) => firmSvg(box, plan.places.centers.get(box.id), lines.get(box.name), selection, plan.isClose));

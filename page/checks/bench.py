@@ -5,6 +5,7 @@ import subprocess
 import zlib
 from base64 import urlsafe_b64encode
 from pathlib import Path
+from statistics import median
 
 import look
 
@@ -97,7 +98,10 @@ class Bench(look.Page):
         return self.says("verdict")
 
 
-def asked(program: str, words: list[str], document: str) -> dict:
+def asked(page: Bench, program: str | None, words: list[str], document: str) -> dict:
+    """An answer of the program, or where there is none of the page."""
+    if program is None:
+        return json.loads(page.browser.run("return market.ask(arguments[0], new TextEncoder().encode(arguments[1])).then(({bytes}) => new TextDecoder().decode(bytes));", words, document))
     return json.loads(subprocess.run([program, *words], input=document.encode(), capture_output=True).stdout)
 
 
@@ -109,13 +113,13 @@ def label(trade_ends: str) -> str:
     return f'[data-of="lane:{trade_ends}"]'
 
 
-def tries(page: Bench, program: str):
+def tries(page: Bench, program: str | None):
     """Each as a name, and whether it is so."""
     for part in (tries_to_guess, tries_of_undo, tries_to_solve, tries_of_ranges, tries_of_complements, tries_of_the_text, tries_of_size, tries_of_ill_will):
         yield from part(page, program)
 
 
-def tries_to_guess(page: Bench, program: str):
+def tries_to_guess(page: Bench, program: str | None):
     page.open("used-cars.json", look.example("used-cars.json"))
     first, drawn = page.text(), page.drawn()
     yield "the used cars are an equilibrium", page.guess().endswith("An equilibrium: every firm is content, and the worths sum to 10.")
@@ -140,14 +144,14 @@ def tries_to_guess(page: Bench, program: str):
     yield "an arrow key makes a price greater", page.guess() != "" and '["o1d",9]' in page.text() and page.focused() == "lane:O1 D"
     page.press("1", "0")
     yield "a price is typed", page.guess().endswith("5 of 6 firms are content.") and page.text() == first.replace('["o1d",8]', '["o1d",10]') and page.focused() == "price:o1d"
-    line = asked(program, ["firms"], page.text())["firms"][2]
+    line = asked(page, program, ["firms"], page.text())["firms"][2]
     cells = page.value("[...document.querySelectorAll('#firms tbody tr')[2].cells].slice(1).map(({textContent}) => textContent)")
     yield "the table of firms has the program's numbers", cells == [", ".join(line["has"]), str(line["worth"]), str(line["utility"]), ", ".join(line["best"]), str(line["gain"])]
     page.drag(label("D B1"), -32)
     yield "a drag upwards makes a price greater", page.guess() != "" and '["db1",15]' in page.text()
 
 
-def tries_of_undo(page: Bench, program: str):
+def tries_of_undo(page: Bench, program: str | None):
     page.open("used-cars.json", look.example("used-cars.json"))
     first = page.text()
     page.drag(label("D B1"), -32)
@@ -170,13 +174,13 @@ def tries_of_undo(page: Bench, program: str):
     yield "and 210 changes are taken back", page.text() == first and page.guess().endswith("the worths sum to 10.")
 
 
-def tries_to_solve(page: Bench, program: str):
+def tries_to_solve(page: Bench, program: str | None):
     page.open("used-cars-dear-car.json", look.example("used-cars-dear-car.json"))
     first = page.text()
     yield "the dear car has one that objects", page.guess().endswith("5 of 6 firms are content.")
     page.click("#solve")
     page.wait_for("state", "answered")
-    solved = asked(program, ["solve"], first)
+    solved = asked(page, program, ["solve"], first)
     lanes = page.drawn()["lanes"]
     yield "solve's answer lies over the network", all(lanes[name]["isOn"] == (name in solved["on"]) and f" at {price}:" in lanes[name]["says"] for name, price in solved["prices"])
     yield "and the text is as it was", page.text() == first
@@ -187,11 +191,11 @@ def tries_to_solve(page: Bench, program: str):
     yield "its answer is an old one then", page.browser.run(look.SHOWN)["isOld"]
 
 
-def tries_of_ranges(page: Bench, program: str):
+def tries_of_ranges(page: Bench, program: str | None):
     page.open("houses.json", look.example("houses.json"))
     page.click("#ranges")
     page.wait_for("ranges", "answered")
-    said = asked(program, ["range"], page.text())["ranges"]
+    said = asked(page, program, ["range"], page.text())["ranges"]
     bounds = page.value("[...document.querySelectorAll('#trades tbody tr')].map((row) => [row.dataset.trade, ...[...row.querySelectorAll('.bound')].map(({textContent}) => textContent)])")
     yield "bounds stand beside the prices", bounds == [[each["trade"], str(each["low"]), str(each["high"])] for each in said]
     for button, side in (("#buyers-best", "low"), ("#sellers-best", "high")):
@@ -208,7 +212,7 @@ def tries_of_ranges(page: Bench, program: str):
     page.click("#ranges")
 
 
-def tries_of_complements(page: Bench, program: str):
+def tries_of_complements(page: Bench, program: str | None):
     page.open("complements.json", look.example("complements.json"))
     yield "complements can be guessed at", page.guess().endswith("the worths sum to 8.")
     page.click('#trades [data-key="on:b"]')
@@ -219,7 +223,7 @@ def tries_of_complements(page: Bench, program: str):
     yield "solve says of them what fails", "doesn't meet the exchange property" in page.says("sentences") or "exchange property" in page.says("sentences")
 
 
-def tries_of_the_text(page: Bench, program: str):
+def tries_of_the_text(page: Bench, program: str | None):
     note = '{"version":1,"note":"é \\u00e9, 1e3, and {\\"on\\":[]}","firms":[{"name":"S","kind":"table","rows":[[["a"],-1]]},{"name":"B","kind":"table","rows":[[["a"],4]]}],' \
         '"arrangement":{"prices":[ ["a" , 99999999999999 ] ],"on":[ ]},"trades":[{"name":"a","seller":"S","buyer":"B"}],"on":1}'
     clean = note.replace(',"on":1}', "}")
@@ -275,7 +279,7 @@ return new Promise((done) => {
 });"""
 
 
-def tries_of_size(page: Bench, program: str):
+def tries_of_size(page: Bench, program: str | None):
     page.open("many.json", many_trades())
     rows = page.value("document.querySelectorAll('#trades tbody tr').length")
     yield "of 1,024 trades the rows in sight are there", 10 < rows < 80 and page.value("document.getElementById('trades').getAttribute('aria-rowcount')") == "1025"
@@ -329,7 +333,7 @@ def tries_of_links(page: Bench, address: str):
     yield "and forgotten", page.value("document.getElementById('kept').hidden")
 
 
-def tries_of_ill_will(page: Bench, program: str):
+def tries_of_ill_will(page: Bench, program: str | None):
     deep = b'{"version":1,"note":' + b"[" * 120 + b"]" * 120 + b',"firms":[],"trades":[]}'
     names = ["</script><script>document.title='bad'</script>", "<img src=x onerror=document.title='bad'>", "__proto__", "constructor", "a\u202eb", "\ud83d\ude97"]
     for data in (deep, b"[" * 4194304, b'{"version":1,"note":"' + b"a" * 4194304 + b'"}', b"\xff\xfe", b"",
@@ -361,6 +365,30 @@ def tries_of_access(page: Bench):
     yield "edges and the focus do", all(contrast(colours[line], colours[ground]) >= 3 for line in ("edge", "main", "focus") for ground in ("paper", "ground"))
     still = re.sub(r"@media \(prefers-reduced-motion: no-preference\) \{[^}]*\{[^}]*\}\s*\}", "", style)
     yield "nothing moves for those who want no motion", not re.search(r"transition|animation|scroll-behavior", still)
+
+
+# Clicks on a trade's box, and answers after how many milliseconds the answer stands in the next picture.
+CLICK = """
+const page = document.documentElement, box = document.querySelector("#trades [type=checkbox]"), begun = performance.now();
+return new Promise((done) => {
+    const look = () => page.dataset.guess === "answered" && ["none", "answered"].includes(page.dataset.ranges) && requestAnimationFrame(() => setTimeout(() => done(performance.now() - begun), 0));
+    box.click();
+    new MutationObserver(look).observe(page, {attributes: true});
+});"""
+
+
+def speed(page: Bench, drawn: bytes) -> None:
+    """How long it takes from a click to the answer that is shown, as a median of 20."""
+    network = json.loads(drawn)
+    guess = {"on": [], "prices": [[trade["name"], 0] for trade in network["trades"]]}
+    for name, data in (("used cars", look.example("used-cars.json")), ("128 trades", json.dumps({**network, "arrangement": guess}).encode())):
+        page.open("speed.json", data)
+        spent = [page.browser.run(CLICK) for _ in range(20)]
+        page.click("#ranges")
+        page.wait_for("ranges", "answered", "fault")
+        more = [page.browser.run(CLICK) for _ in range(20)]
+        page.click("#ranges")
+        print(f"    {name}: a click is answered after {median(spent):.0f} ms, and with ranges after {median(more):.0f} ms")
 
 
 def contrast(one: str, other: str) -> float:

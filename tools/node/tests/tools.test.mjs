@@ -68,9 +68,10 @@ test("a network of very many arrows is a table, and one of its firms a picture",
 });
 
 test("what is kept of others is what its licence file says", () => {
-    const folder = new URL("../../../page/vendor/dagre-0.8.5/", import.meta.url);
-    const [, wanted] = /sha256 +([0-9a-f]{64})/.exec(readFileSync(new URL("LICENCE.txt", folder), "utf8"));
-    assert.equal(createHash("sha256").update(readFileSync(new URL("dagre.min.js", folder))).digest("hex"), wanted);
+    for (const [folder, names] of [["dagre-0.8.5", ["dagre.min.js"]], ["codemirror-5.65.0", ["codemirror.min.js", "codemirror.css"]]]) {
+        const place = new URL(`../../../page/vendor/${folder}/`, import.meta.url), licence = readFileSync(new URL("LICENCE.txt", place), "utf8");
+        for (const name of names) assert.ok(licence.includes(createHash("sha256").update(readFileSync(new URL(name, place))).digest("hex")), name);
+    }
 });
 
 test("the modules of page/ take nothing that node alone has", () => {

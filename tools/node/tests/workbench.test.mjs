@@ -1,0 +1,115 @@
+// Whether the workbench changes of a text what it says and nothing else, takes changes back, and brings documents back from links.
+import assert from "node:assert/strict";
+import {deflateRawSync} from "node:zlib";
+import {test} from "node:test";
+import {applied, arranged, priced, turned} from "../../../page/app/edits.js";
+import {isOneLine, laidOut} from "../../../page/app/lines.js";
+import {bytesIn, fragmentOf} from "../../../page/app/link.js";
+import {isOld, networkOf, Store} from "../../../page/app/state.js";
+import {parse, plain, written} from "../../../page/read/json.js";
+import {Network} from "../../../page/read/network.js";
+import {draws, examples} from "./support.mjs";
+
+const bytesOf = (text) => new TextEncoder().encode(text);
+
+/** The examples with trades, as they are, on one line, and spread over many. */
+function texts() {
+    const own = examples().map(({bytes}) => bytes.toString()).filter((text) => new Network(text).trades.length > 0);
+    return [...own, ...own.map((text) => JSON.stringify(JSON.parse(text))), ...own.map((text) => JSON.stringify(JSON.parse(text), null, "\t"))];
+}
+
+/** What stands before and behind the arrangement of a text. */
+function around(text) {
+    const {start, end} = parse(text).value.get("arrangement");
+    return [text.slice(0, start), text.slice(end)];
+}
+
+/** Whether an edited text has an arrangement, and all else as it was. */
+function holds(before, after, network, wanted) {
+    const {on, prices} = plain(parse(after)).arrangement;
+    assert.deepEqual([...on].sort(), [...wanted.on].sort());
+    assert.deepEqual(new Map(prices), wanted.prices);
+    if (plain(parse(before)).arrangement === undefined) assert.ok(after.startsWith(before.slice(0, network.root.end - 1)));
+    else assert.deepEqual(around(after), around(before));
+}
+
+test("a trade is turned, and a price given, by a change of the text that leaves all else", () => {
+    const draw = draws(44);
+    for (const text of texts()) {
+        const network = new Network(text), {on = [], prices = []} = plain(network.root).arrangement ?? {};
+        const {name} = network.trades[draw(network.trades.length)], isOn = draw(2) === 0, price = String(draw(2000) - 1000);
+        const zeros = prices.length > 0 ? new Map(prices) : new Map(network.trades.map((trade) => [trade.name, 0n]));
+        const edited = applied(text, turned(network, name, isOn));
+        if (network.arrangement.on) holds(text, edited, network, {on: isOn ? [...new Set([...on, name])] : on.filter((other) => other !== name), prices: new Map(prices)});
+        holds(text, applied(text, priced(network, new Map([[name, price]]))), network, {on, prices: new Map(zeros).set(name, BigInt(price))});
+    }
+});
+
+test("a whole arrangement is taken, and what is so already isn't touched", () => {
+    for (const text of texts()) {
+        const network = new Network(text), names = network.trades.map(({name}) => name);
+        const prices = new Map(names.map((name, k) => [name, String(k * 7 - 3)]));
+        const edited = applied(text, arranged(network, names, prices));
+        const {on, prices: made} = plain(parse(edited)).arrangement;
+        assert.deepEqual([...on].sort(), [...names].sort());
+        for (const [name, price] of prices) assert.equal(new Map(made).get(name), BigInt(price));
+        assert.deepEqual(arranged(new Network(edited), names, prices), []);
+    }
+});
+
+test("odd texts keep what is odd", () => {
+    const text = '{ "arrangement" : {"on":["x"]}, "arrangement" : {"prices" : [ ["a" , 9999999999999999999999 ],["b",1e3] ] , "on" : [ "a" , "b", "a" ] } ,"trades":[{"name":"a"},{"name":"b"}],"n":1.50}\r\n';
+    const network = new Network(text);
+    assert.equal(applied(text, turned(network, "a", false)), text.replace('[ "a" , "b", "a" ]', '[ "b" ]'));
+    assert.equal(applied(text, turned(network, "b", false)), text.replace('"a" , "b", "a"', '"a" , "a"'));
+    assert.equal(applied(text, priced(network, new Map([["b", "7"], ["a", "-1"]]))), text.replace("9999999999999999999999", "-1").replace("1e3", "7"));
+    assert.deepEqual(turned(network, "a", true), []);
+    assert.deepEqual(turned(new Network("[1]"), "a", true), []);
+});
+
+test("a document on one line is laid out by ends of lines and blanks alone", () => {
+    for (const text of texts()) {
+        const line = JSON.stringify(JSON.parse(text)), laid = laidOut(line);
+        assert.equal(written(plain(parse(laid))), written(plain(parse(line))));
+        assert.equal(laid.replace(/\n */g, ""), line);
+        assert.equal(isOneLine(laid), false);
+    }
+    assert.equal(laidOut('{"a":"[,{\\",","b":[1,2]}'), '{\n  "a":"[,{\\",",\n  "b":[\n    1,\n    2]}\n');
+});
+
+test("a link brings a document back, stops at 4 MiB and a byte, and is refused where it is broken", async () => {
+    for (const {bytes} of examples()) assert.deepEqual(Buffer.from(await bytesIn(await fragmentOf(bytes))), bytes);
+    const bomb = `#1.${deflateRawSync(Buffer.alloc(1 << 26)).toString("base64url")}`;
+    assert.equal((await bytesIn(bomb)).length, (1 << 22) + 1);
+    for (const fragment of ["#1.", "#1.!", "#1.AAAA"]) await assert.rejects(bytesIn(fragment));
+});
+
+test("at least 200 changes are taken back and done again, those with one mark together", () => {
+    const store = new Store(), seen = [];
+    store.act("opened", "a.json", bytesOf("0"));
+    for (let k = 1; k <= 300; k += 1) {
+        seen.push(store.value.document.text);
+        store.act("typed", `${k}`);
+    }
+    for (let k = 0; k < 5; k += 1) store.act("typed", `letters ${k}`, "letters");
+    store.act("undone");
+    for (const text of seen.reverse()) {
+        store.act("undone");
+        assert.equal(store.value.document.text, text);
+    }
+    for (let k = 1; k <= 301; k += 1) store.act("redone");
+    assert.equal(store.value.document.text, "letters 4");
+    assert.equal(store.value.future.length, 0);
+});
+
+test("an answer is old as soon as the text is another, and isn't any more when it is taken back", () => {
+    const store = new Store();
+    store.act("opened", "a.json", bytesOf("{}"));
+    store.act("answered", {document: store.value.document});
+    assert.equal(isOld(store.value, store.value.answer), false);
+    store.act("typed", "{ }");
+    assert.equal(isOld(store.value, store.value.answer), true);
+    store.act("undone");
+    assert.equal(isOld(store.value, store.value.answer), false);
+    assert.equal(networkOf(store.value.document).trades.length, 0);
+});
