@@ -57,7 +57,7 @@ function bindDocument(store, documents) {
     });
     on("save", () => saveDocument(store.value));
     on("lay-out", () => store.act("typed", laidOut(store.value.document.text)));
-    part("document-fault").addEventListener("click", () => store.value.guess?.mark && goTo(store.value.guess.mark));
+    on("fault-go", () => store.value.guess?.mark && goTo(store.value.guess.mark));
 }
 
 /** One history, also while somebody types in a field of a price. */

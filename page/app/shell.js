@@ -64,7 +64,8 @@ function showText({text, isWhole}, guess) {
     part("text").hidden = isWhole;
     part("one-line").hidden = !isWhole || !isOneLine(text);
     const isFault = isWhole && guess !== null && guess.said?.answer === "fault" && !guess.isNone && guess.document.text === text;
-    part("document-fault").hidden = !isFault;
+    part("faulty").hidden = !isFault;
+    part("fault-go").hidden = !isFault || guess.mark === null;
     write("document-fault", isFault ? guess.sentences.join(" ") : "");
 }
 

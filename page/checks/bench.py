@@ -115,7 +115,8 @@ def label(trade_ends: str) -> str:
 
 def tries(page: Bench, program: str | None):
     """Each as a name, and whether it is so."""
-    for part in (tries_to_guess, tries_of_undo, tries_to_solve, tries_of_ranges, tries_of_complements, tries_of_the_text, tries_of_size, tries_of_ill_will):
+    for part in (tries_to_guess, tries_of_undo, tries_to_solve, tries_of_ranges, tries_of_complements, tries_of_the_text, tries_of_files, tries_of_size,
+                 tries_of_ill_will):
         yield from part(page, program)
 
 
@@ -248,11 +249,53 @@ def tries_of_the_text(page: Bench, program: str | None):
     page.open("used-cars-misspelt.json", look.example("used-cars-misspelt.json"))
     marked = page.value("[...document.querySelectorAll('.CodeMirror .faulty')].map(({textContent}) => textContent).join('')")
     yield "a fault is marked at its place in the text", marked != "" and marked in example("used-cars-misspelt.json")
+    page.click("#fault-go")
+    yield "and is gone to by a button", page.value("document.querySelector('.CodeMirror').CodeMirror.getSelection()") == marked
+    page.open("windows.json", look.example("one-trade.json").replace(b"\n", b"\r\n"))
+    page.click(".CodeMirror-code")
+    page.press("Control+End", " ")
+    page.guess()
+    typed = page.value("document.querySelector('.CodeMirror').CodeMirror.getValue()")
+    yield "what is typed leaves other ends of lines as they are", typed == example("one-trade.json").replace("\n", "\r\n") + " "
     page.open("trades.json", b'{"version":1,"firms":[{"name":"S","kind":"table","rows":[[["a"],-1]]},{"name":"B","kind":"table","rows":[[["a"],4]]}],"trades":[{"name":"a","seller":"S","buyer":"B"}]}')
     yield "without an arrangement there is no guess yet", page.guess().startswith("No guess yet")
     page.click("#tab-guess")
     page.click(label("S B"))
     yield "and a click begins one", page.guess() != "" and json.loads(page.text())["arrangement"] == {"on": ["a"], "prices": [["a", 0]]}
+
+
+# Keeps what is offered to be saved, in place of saving it.
+KEEP = """
+window.offered = [];
+const made = URL.createObjectURL.bind(URL);
+let last = null;
+URL.createObjectURL = (blob) => made(last = blob);
+HTMLAnchorElement.prototype.click = function () {
+    window.offered.push([this.download, last]);
+};"""
+OFFERED = "return Promise.all(window.offered.splice(0).map(async ([name, blob]) => [name, await blob.text()]));"
+
+
+def tries_of_files(page: Bench, program: str | None):
+    page.browser.run(KEEP)
+    page.open("used-cars-dear-car.json", look.example("used-cars-dear-car.json"))
+    page.click("#tab-guess")
+    page.click("#ranges")
+    page.wait_for("ranges", "answered")
+    page.ask("solve --csv")
+    line = page.says("line")
+    page.click("#answer-save")
+    page.click("#tab-guess")
+    for button in ("#save", "#picture-save", "#firms-csv", "#ranges-csv"):
+        page.click(button)
+    page.click("#ranges")
+    offered = dict(page.browser.run(OFFERED))
+    yield "each is offered as a file", list(offered) == ["used-cars-dear-car-solve.csv", "used-cars-dear-car.json", "used-cars-dear-car.svg", "used-cars-dear-car-firms.csv", "used-cars-dear-car-ranges.csv"]
+    yield "rows as the program wrote them, and the document as it is", offered["used-cars-dear-car-solve.csv"].startswith("trade,on,price\no1d,1,8\n") and offered["used-cars-dear-car.json"] == page.text()
+    yield "a picture", offered["used-cars-dear-car.svg"].startswith("<svg") and "could have 1" in offered["used-cars-dear-car.svg"]
+    yield "firms as rows", 'D,"o1d, db1",-1,0,"o2d, db1",1\n' in offered["used-cars-dear-car-firms.csv"]
+    yield "ranges as rows", "\no1d,1,8,10\n" in offered["used-cars-dear-car-ranges.csv"]
+    yield "the command for a terminal stands there", line == "market solve --csv < used-cars-dear-car.json"
 
 
 def many_trades() -> bytes:
