@@ -18,22 +18,28 @@ export function isWithin({low, high}, price) {
 
 /** Shows bounds in a cell. */
 export function boundsAt(cell, {range, price, scale, isOld, selection, choose}) {
-    const key = range ? JSON.stringify([String(range.low), String(range.high), String(price), scale, selection?.trade === range.trade && selection.side]) : "";
+    const side = selection?.kind === "bound" && selection.trade === range?.trade ? selection.side : null;
+    const key = range ? JSON.stringify([String(range.low), String(range.high), String(price), scale, side]) : "";
     cell.classList.toggle("old", isOld);
     if (cell.dataset.shown === key) return;
     const focused = cell.contains(document.activeElement) ? document.activeElement.dataset.key : null;
     cell.dataset.shown = key;
-    cell.replaceChildren(...(range ? [bound(range, "low", selection, choose), bar(range, price, scale), bound(range, "high", selection, choose)] : []));
+    const [low, high] = range ? ["low", "high"].map((end) => bound(range, end, end === side, choose)) : [];
+    cell.replaceChildren(...(range ? [low, bar(range, price, scale), high] : []));
     for (const child of cell.children) if (focused !== null && child.dataset.key === focused) child.focus({preventScroll: true});
 }
 
 const NONE = {low: "no lowest", high: "no highest"};
 
-function bound({trade, ...range}, side, selection, choose) {
+const SAYS = {
+    low: ({trade, low}) => `${trade} is at least ${low}: show what holds it`,
+    high: ({trade, high}) => `${trade} is at most ${high}: show what holds it`,
+};
+
+function bound(range, side, isChosen, choose) {
     if (range[side] === null) return made("span", NONE[side], {class: "quiet"});
-    const isChosen = selection?.kind === "bound" && selection.trade === trade && selection.side === side;
-    const says = side === "low" ? `${trade} is at least ${range.low}: show what holds it` : `${trade} is at most ${range.high}: show what holds it`;
-    const button = made("button", String(range[side]), {type: "button", class: "bound", "data-key": `${side}:${trade}`, "aria-label": says, "aria-pressed": `${isChosen}`});
+    const names = {"data-key": `${side}:${range.trade}`, "aria-label": SAYS[side](range), "aria-pressed": `${isChosen}`};
+    const button = made("button", String(range[side]), {type: "button", class: "bound", ...names});
     button.addEventListener("click", () => choose(side));
     return button;
 }

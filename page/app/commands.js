@@ -16,7 +16,8 @@ export const COMMANDS = [
     ["help", "all commands"]];
 
 const VERDICTS = {
-    0: "Yes", 1: "The document has a fault", 2: "These words are no command", 3: "The document could not be read", 5: "Memory ran out", 6: "No"};
+    0: "Yes", 1: "The document has a fault", 2: "These words are no command", 3: "The document could not be read", 5: "Memory ran out",
+    6: "No"};
 
 /** An exit status in words. */
 export function verdictOf(status, words) {

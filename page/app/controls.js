@@ -11,6 +11,9 @@ import {part} from "./page.js";
 import {zoomIn, zoomOut} from "./scene.js";
 import {isOld, networkOf} from "./state.js";
 
+/** The actions that change the document. */
+const CHANGES = ["opened", "typed", "edited", "undone", "redone"];
+
 /** Binds everything. `documents` are the examples in groups; `run` asks and ends the command. */
 export function bind(store, documents, run) {
     bindDocument(store, documents);
@@ -106,7 +109,7 @@ function bindGuess(store, {ask}) {
     on("sellers-best", () => take(store, "high"));
     on("over-take", () => {
         const {on: names, prices} = store.value.answer.said;
-        store.act("edited", arranged(networkOf(store.value.document), names, new Map(prices.map(([name, price]) => [name, String(price)]))));
+        arrange(store, names, prices);
     });
     on("over-leave", () => store.act("looked", {isOver: false}));
     on("firms-csv", () => saveFirms(store.value));
@@ -116,8 +119,12 @@ function bindGuess(store, {ask}) {
 /** Takes all lowest or all highest prices as the guess. */
 function take(store, side) {
     const {ranges} = store.value;
-    if (isOld(store.value, ranges)) return;
-    store.act("edited", arranged(networkOf(store.value.document), ranges.said.on, new Map(ranges.said.ranges.map((range) => [range.trade, String(range[side])]))));
+    if (!isOld(store.value, ranges)) arrange(store, ranges.said.on, ranges.said.ranges.map((range) => [range.trade, range[side]]));
+}
+
+function arrange(store, names, prices) {
+    const inLetters = new Map(prices.map(([name, price]) => [name, String(price)]));
+    store.act("edited", arranged(networkOf(store.value.document), names, inLetters));
 }
 
 function bindTabs(store) {
@@ -158,19 +165,20 @@ function bindCommand(store, {ask, end}) {
         end();
         store.act("ended");
     });
-    store.watch(({run}, name) => run.state === "none" && ["opened", "typed", "edited", "undone", "redone"].includes(name) && end());
+    store.watch(({run}, name) => run.state === "none" && CHANGES.includes(name) && end());
     on("answer-save", () => saveAnswer(store.value));
 }
 
+const TOO_LONG = "The document is too long for a link: save it, and hand on the file.";
 const FROM_DISK = "Put this behind any address of the page, to open it with this document. It is copied:";
+const FROM_HOST = "This link opens the page with this document. It is copied:";
 
 function bindLink(store) {
     on("link", async () => {
         const fragment = await fragmentOf(store.value.document.bytes), isDisk = location.protocol === "file:";
         part("linked").hidden = false;
         part("fragment").hidden = fragment.length > MOST_LETTERS;
-        part("linked-says").textContent = fragment.length > MOST_LETTERS ? "The document is too long for a link: save it, and hand on the file."
-            : isDisk ? FROM_DISK : "This link opens the page with this document. It is copied:";
+        part("linked-says").textContent = fragment.length > MOST_LETTERS ? TOO_LONG : isDisk ? FROM_DISK : FROM_HOST;
         if (fragment.length > MOST_LETTERS) return;
         part("fragment").value = isDisk ? fragment : `${location.href.replace(/#.*$/, "")}${fragment}`;
         part("fragment").select();
@@ -195,5 +203,5 @@ function bindKept(store) {
         part("kept").hidden = true;
         forget();
     });
-    store.watch(({document: now, past}, name) => ["opened", "typed", "edited", "undone", "redone"].includes(name) && past.length > 0 && keep(now));
+    store.watch(({document: now, past}, name) => CHANGES.includes(name) && past.length > 0 && keep(now));
 }

@@ -15,17 +15,21 @@ CodeMirror.defineMode("document", () => ({
     },
 }));
 
+const SETTINGS = {
+    mode: "document", inputStyle: "contenteditable", lineNumbers: true, lineSeparator: "\n", undoDepth: 0, tabSize: 2, indentUnit: 1,
+    lineWrapping: false, spellcheck: false, autocorrect: false, autocapitalize: false, screenReaderLabel: "The document, as JSON",
+};
+
 /** The mark that the changes come from the page, and not from somebody who types. */
 const OWN = "page";
 
-let editor = null, isSetting = false, marked = null, shown = "";
+let editor = null, isSetting = false, marked = null, shown = "", letters = {run: 0, line: 0, ch: 0};
 
 /** Makes the editor ready for a store. */
 export function readyEditor(store) {
-    editor = CodeMirror(part("editor"), {mode: "document", inputStyle: "contenteditable", lineNumbers: true, lineSeparator: "\n", specialCharPlaceholder: placeholder, undoDepth: 0, tabSize: 2, indentUnit: 1, lineWrapping: false,
-        spellcheck: false, autocorrect: false, autocapitalize: false, screenReaderLabel: "The document, as JSON",
-        extraKeys: {"Ctrl-Z": () => store.act("undone"), "Cmd-Z": () => store.act("undone"), "Ctrl-Y": () => store.act("redone"), "Shift-Ctrl-Z": () => store.act("redone"),
-            "Shift-Cmd-Z": () => store.act("redone"), Tab: false, "Shift-Tab": false}});
+    const undo = () => store.act("undone"), redo = () => store.act("redone");
+    const keys = {"Ctrl-Z": undo, "Cmd-Z": undo, "Ctrl-Y": redo, "Shift-Ctrl-Z": redo, "Shift-Cmd-Z": redo, Tab: false, "Shift-Tab": false};
+    editor = CodeMirror(part("editor"), {...SETTINGS, specialCharPlaceholder: placeholder, extraKeys: keys});
     editor.on("changes", (_, changes) => {
         if (isSetting) return;
         shown = editor.getValue();
@@ -35,15 +39,17 @@ export function readyEditor(store) {
 
 /** What stands for a sign that can't be seen; nothing does for the first half of an end of line of Windows, which stays in the text. */
 function placeholder(sign) {
-    return made("span", sign === "\r" ? "" : "\u2022", {class: "unseen-sign", title: `U+${sign.codePointAt(0).toString(16).padStart(4, "0")}`});
+    const number = sign.codePointAt(0).toString(16).padStart(4, "0");
+    return made("span", sign === "\r" ? "" : "\u2022", {class: "unseen-sign", title: `U+${number}`});
 }
 
-/** Letters that are typed one behind the other, without a blank, are taken back together. */
+/** Letters that are typed one behind the other, without a blank, have one mark, and are taken back together. */
 function markFor(last, changes) {
-    const [{origin, text, from}] = changes, isLetter = changes.length === 1 && origin === "+input" && text.length === 1 && /^\S$/.test(text[0]);
-    if (!isLetter) return null;
-    const [, row, column] = /^letters (\d+) (\d+) /.exec(last ?? "") ?? [];
-    return Number(row) === from.line && Number(column) === from.ch ? last.replace(/ \d+ /, ` ${from.ch + 1} `) : `letters ${from.line} ${from.ch + 1} `;
+    const [{origin, text, from}] = changes;
+    if (changes.length !== 1 || origin !== "+input" || text.length !== 1 || !/^\S$/.test(text[0])) return null;
+    const goesOn = last === `letters ${letters.run}` && from.line === letters.line && from.ch === letters.ch;
+    letters = {run: letters.run + (goesOn ? 0 : 1), line: from.line, ch: from.ch + 1};
+    return `letters ${letters.run}`;
 }
 
 /** Shows the text of a document, and a place in it as a fault, or none. */
@@ -55,7 +61,12 @@ export function showEditor({document, guess}) {
     const mark = guess !== null && guess.document.text === document.text ? guess.mark ?? null : null;
     if (mark === marked?.of) return;
     marked?.range.clear();
-    marked = mark === null ? null : {of: mark, range: editor.markText(editor.posFromIndex(mark.start), editor.posFromIndex(endOf(mark)), {className: "faulty", title: "Here the document has a fault."})};
+    marked = mark === null ? null : {of: mark, range: marking(mark)};
+}
+
+function marking(mark) {
+    const [from, to] = [mark.start, endOf(mark)].map((offset) => editor.posFromIndex(offset));
+    return editor.markText(from, to, {className: "faulty", title: "Here the document has a fault."});
 }
 
 /** Where a mark ends; a long one is marked at its beginning alone. */

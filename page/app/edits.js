@@ -12,7 +12,7 @@ export function applied(text, edits) {
 
 /** Edits in the order of the text; of those at one place the earlier first. */
 export function inOrder(edits) {
-    return edits.map((edit, k) => ({edit, k})).sort((one, other) => one.edit.start - other.edit.start || one.k - other.k).map(({edit}) => edit);
+    return [...edits].sort((one, other) => one.start - other.start);
 }
 
 /** The edits that turn a trade on or off. */
@@ -32,7 +32,8 @@ export function priced(network, prices) {
     if (arrangement === null) return begun(network, [], prices);
     const list = memberOf(arrangement, "prices", "list");
     if (list === null) return [withMember(arrangement, "prices", entriesText(network, prices))];
-    const places = new Map(list.value.filter(({kind, value}) => kind === "list" && value[0]?.kind === "text").map(({value}) => [value[0].value, value[1]]));
+    const entries = list.value.filter(({kind, value}) => kind === "list" && value[0]?.kind === "text");
+    const places = new Map(entries.map(({value: [name, number]}) => [name.value, number]));
     const edits = [], missing = [];
     for (const [name, price] of prices) {
         const place = places.get(name);

@@ -23,8 +23,8 @@ export function savePicture(value) {
 
 /** The bytes that the program wrote. */
 export function saveAnswer({answer}) {
-    const isCsv = answer.words.includes("--csv");
-    offer(`${stem(answer.document.name)}-${answer.words[0]}.${isCsv ? "csv" : "json"}`, answer.bytes, isCsv ? "text/csv" : "application/json");
+    const [ending, type] = answer.words.includes("--csv") ? ["csv", "text/csv"] : ["json", "application/json"];
+    offer(`${stem(answer.document.name)}-${answer.words[0] ?? "usage"}.${ending}`, answer.bytes, type);
 }
 
 /** How an answer is asked for in a terminal. */
@@ -45,5 +45,6 @@ export function saveRanges({ranges, document}) {
 }
 
 function rows(lines) {
-    return lines.map((line) => `${line.map((cell) => (/[",\n]/.test(cell) ? `"${String(cell).replaceAll('"', '""')}"` : cell)).join(",")}\n`).join("");
+    const quoted = (cell) => (/[",\n]/.test(cell) ? `"${String(cell).replaceAll('"', '""')}"` : cell);
+    return lines.map((line) => `${line.map(quoted).join(",")}\n`).join("");
 }

@@ -34,7 +34,8 @@ function rowOf(cells) {
 
 function firmRow(name, line, selection) {
     const mood = moodOf(line), isChosen = selection?.kind === "firm" && selection.name === name;
-    const button = made("button", `${SIGNS[mood]} ${name}`.trim(), {type: "button", "data-key": `row:${name}`, "data-firm": name, "aria-pressed": `${isChosen}`, class: mood});
+    const names = {"data-key": `row:${name}`, "data-firm": name, "aria-pressed": `${isChosen}`, class: mood};
+    const button = made("button", `${SIGNS[mood]} ${name}`.trim(), {type: "button", ...names});
     if (mood !== "unknown") button.append(made("span", MOODS[mood], {class: "unseen"}));
     const head = made("th", "", {scope: "row"});
     head.append(button);
@@ -81,6 +82,7 @@ function verdictOf({document, guess}) {
     if (guess.isNone) return {mood: "unknown", says: "No guess yet: click a trade, or press Solve."};
     if (guess.said.answer !== "firms") return {mood: "fault", says: guess.sentences.join(" ")};
     const {firms, content, surplus} = guess.said;
-    if (content === BigInt(firms.length)) return {mood: "content", says: `\u2713 An equilibrium: every firm is content, and the worths sum to ${surplus}.`};
-    return {mood: "objects", says: `\u2717 No equilibrium: ${content} of ${firms.length} firms are content.`};
+    return content === BigInt(firms.length)
+        ? {mood: "content", says: `\u2713 An equilibrium: every firm is content, and the worths sum to ${surplus}.`}
+        : {mood: "objects", says: `\u2717 No equilibrium: ${content} of ${firms.length} firms are content.`};
 }

@@ -15,7 +15,8 @@ export function handle(store, type) {
     let held = null;
     stage.addEventListener("pointerdown", (event) => {
         if (event.button !== 0) return;
-        held = {x: event.clientX, y: event.clientY, pointer: event.pointerId, key: keyAt(event.target), view: store.value.view, isMoved: false, ...grip(store, keyAt(event.target))};
+        const {clientX: x, clientY: y, pointerId: pointer} = event, key = keyAt(event.target);
+        held = {x, y, pointer, key, view: store.value.view, isMoved: false, ...grip(store, key)};
     });
     stage.addEventListener("pointermove", (event) => {
         if (held === null || event.pointerId !== held.pointer) return;

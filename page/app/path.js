@@ -27,9 +27,12 @@ export async function trace(store, program) {
     }
 }
 
+const ABOVE = "at a higher price, whatever the others are, one of these firms would rather make its change.";
+const BELOW = "at a lower price, whatever the others are, one of these firms would rather make its change.";
+
 function headOf({trade, low, high}, side) {
-    return side === "high" ? `In no equilibrium is ${trade} above ${high}: at a higher price, whatever the others are, one of these firms would rather make its change.`
-        : `In no equilibrium is ${trade} below ${low}: at a lower price, whatever the others are, one of these firms would rather make its change.`;
+    return side === "high" ? `In no equilibrium is ${trade} above ${high}: ${ABOVE}`
+        : `In no equilibrium is ${trade} below ${low}: ${BELOW}`;
 }
 
 /** Shows the path of a value. */

@@ -4,7 +4,10 @@ import {closely, labelled, layout} from "../draw/layout.js";
 import {NORMAL, widthOf} from "../draw/svg.js";
 
 /** The room for a picture, by the shape of its place in the page. */
-const ROOMS = {wide: {width: 1540, height: 760}, usual: {width: 940, height: 720}, narrow: {width: 400, height: 460}}, ROOM = {width: 1580, height: 880};
+const ROOMS = {wide: {width: 1540, height: 760}, usual: {width: 940, height: 720}, narrow: {width: 400, height: 460}};
+
+/** The room in which labels may stand between the layers. */
+const ROOM = {width: 1580, height: 880};
 
 /** Beyond how many lanes there is a table, and only one firm's neighbourhood is drawn. */
 export const MOST_LANES = 120;
@@ -35,7 +38,8 @@ function lanesAt(network, firm = null) {
  * how long numbers are at most, and `shape` one of those of the rooms.
  */
 export function planOf(network, firm, digits, shape) {
-    const key = JSON.stringify([firm, digits, shape, network.firms.map(({name}) => name), network.trades.map(({name, seller, buyer}) => [name, seller, buyer])]);
+    const trades = network.trades.map(({name, seller, buyer}) => [name, seller, buyer]);
+    const key = JSON.stringify([firm, digits, shape, network.firms.map(({name}) => name), trades]);
     if (!kept.has(key)) {
         if (kept.size >= MOST_KEPT) kept.delete(kept.keys().next().value);
         kept.set(key, madePlan(network, firm, digits, shape));
@@ -83,7 +87,8 @@ function boxSize(name, digits, isClose) {
 
 /** The room for a name above a price. */
 function labelSize({trades}, digits) {
-    const [name, price] = trades.length === 1 ? [trades[0], "0".repeat(digits)] : [`${trades.length} of ${trades.length} on`, `${"0".repeat(digits)} to ${"0".repeat(digits)}`];
+    const number = "0".repeat(digits);
+    const [name, price] = trades.length === 1 ? [trades[0], number] : [`${trades.length} of ${trades.length} on`, `${number} to ${number}`];
     return {width: Math.max(widthOf(name, NORMAL), widthOf(price, PRICE)) * WIDER + 8, height: NORMAL + PRICE + 8};
 }
 

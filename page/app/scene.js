@@ -40,7 +40,8 @@ export function neighbourhood({document, view, selection}) {
     const network = networkOf(document);
     if (view.firm !== null || !isTable(network)) return view.firm;
     if (selection?.kind === "firm") return selection.name;
-    return selection?.kind === "lane" ? network.firms.find(({name}) => selection.key.startsWith(`lane:${name} `))?.name ?? null : network.firms[0]?.name ?? null;
+    const isIts = ({name}) => selection?.kind === "lane" && selection.key.startsWith(`lane:${name} `);
+    return (network.firms.find(isIts) ?? network.firms[0])?.name ?? null;
 }
 
 const SIGNS = "Thick: takes place. Thin: doesn't. \u2713 content. \u2717 objects.";
@@ -64,12 +65,17 @@ function sceneOf(value) {
 /** The trades in colour: those that a chosen firm would rather have, or those of the path that holds a chosen bound. */
 function marksOf({selection, ranges}, lines) {
     const line = selection?.kind === "firm" ? lines.get(selection.name) : null;
-    if (line && (line.gain === null || line.gain > 0n)) return new Map(line.best.map((name) => [name, {ink: FIRST, says: `what ${line.firm} would rather have`}]));
+    const rather = {ink: FIRST, says: `what ${line?.firm} would rather have`};
+    if (line && line.gain !== 0n) return new Map(line.best.map((name) => [name, rather]));
     const range = selection?.kind === "bound" && ranges?.said?.ranges?.find(({trade}) => trade === selection.trade);
-    if (!range) return new Map();
-    const isHigh = selection.side === "high", mark = isHigh ? {ink: FIRST, says: `holds ${range.trade} from above`} : {ink: SECOND, says: `holds ${range.trade} from below`};
-    const own = {ink: BOTH, says: `the price of ${range.trade}`};
-    return new Map((isHigh ? range.high_path : range.low_path).filter((node) => node !== null).map((node) => [node, node === range.trade ? own : mark]));
+    return range ? marksOfPath(range, selection.side === "high") : new Map();
+}
+
+function marksOfPath({trade, high_path: above, low_path: below}, isHigh) {
+    const own = {ink: BOTH, says: `the price of ${trade}`};
+    const other = isHigh ? {ink: FIRST, says: `holds ${trade} from above`} : {ink: SECOND, says: `holds ${trade} from below`};
+    const nodes = (isHigh ? above : below).filter((node) => node !== null);
+    return new Map(nodes.map((node) => [node, node === trade ? own : other]));
 }
 
 /** Shows a window of the picture, or all of it. */
@@ -83,7 +89,8 @@ export function zoomed(view, factor, at = null) {
     const now = view.window ?? {x: 0, y: 0, width: size.width, height: size.height};
     const width = Math.min(size.width * 1.5, Math.max(size.width / MOST_ZOOM, now.width * factor)), scale = width / now.width;
     const center = at === null ? {x: now.x + now.width / 2, y: now.y + now.height / 2} : inPicture(at);
-    return {window: {x: center.x - (center.x - now.x) * scale, y: center.y - (center.y - now.y) * scale, width, height: now.height * scale}};
+    const from = (middle, edge) => middle - (middle - edge) * scale;
+    return {window: {x: from(center.x, now.x), y: from(center.y, now.y), width, height: now.height * scale}};
 }
 
 export const zoomIn = (view, at) => zoomed(view, 1 / ZOOM, at), zoomOut = (view, at) => zoomed(view, ZOOM, at);

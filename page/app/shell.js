@@ -13,10 +13,10 @@ let shownPanel = null, shownText = "";
 
 /** Shows all that. */
 export function showShell(value) {
-    const {document: shown, past, future, view, ranges, guess} = value, page = document.documentElement;
+    const {document: shown, past, future, view, guess} = value, page = document.documentElement;
     page.dataset.guess = guessState(value);
-    page.dataset.ranges = !view.hasRanges ? "none" : ranges === null || isOld(value, ranges) ? "asking" : ranges.said?.answer === "ranges" ? "answered" : "fault";
-    page.dataset.path = value.path === null || value.path.selection !== value.selection ? "none" : value.path.lines === null ? "asking" : "answered";
+    page.dataset.ranges = rangesState(value);
+    page.dataset.path = pathState(value);
     page.dataset.wide = `${isWide(value)}`;
     part("wide").setAttribute("aria-pressed", `${isWide(value)}`);
     able("undo", past.length > 0);
@@ -33,6 +33,17 @@ function guessState(value) {
     if (guess === null || isOld(value, guess)) return "asking";
     if (guess.trouble) return "trouble";
     return guess.isNone ? "none" : guess.said.answer === "firms" ? "answered" : "fault";
+}
+
+function rangesState(value) {
+    if (!value.view.hasRanges) return "none";
+    if (value.ranges === null || isOld(value, value.ranges)) return "asking";
+    return value.ranges.said?.answer === "ranges" ? "answered" : "fault";
+}
+
+function pathState({path, selection}) {
+    if (path === null || path.selection !== selection) return "none";
+    return path.lines === null ? "asking" : "answered";
 }
 
 /** Marks a button as one that does nothing now; it keeps the focus. */

@@ -6,8 +6,8 @@ const OFF = "#64748b", GOOD = "#166534", BAD = "#9a3412";
 
 /** How long the numbers of a guess are at most, rounded so that they rarely change it. */
 export function digitsOf(stands, lines) {
-    const numbers = [...stands.prices.values(), ...lines.flatMap(({utility, best_utility: most}) => [utility, most].filter((number) => number !== null))];
-    return Math.max(3, ...numbers.map((number) => String(number).length));
+    const utilities = lines.flatMap(({utility, best_utility: most}) => [utility ?? 0n, most]);
+    return Math.max(3, ...[...stands.prices.values(), ...utilities].map((number) => String(number).length));
 }
 
 /**
@@ -38,7 +38,8 @@ function laneAt(lane, on, stands, marks, selection) {
     const isChosen = selection?.kind === "lane" && selection.key === laneKey(lane);
     const price = spanOf(isOn ? taking : lane.trades, stands.prices);
     const name = lane.trades.length === 1 ? lane.trades[0] : `${taking.length} of ${lane.trades.length} on`;
-    return {...lane, key: laneKey(lane), name, price, isOn, mark, isChosen, isNamed: isOn || mark !== null || isChosen, rank: (isOn ? 2 : 0) + (mark ? 1 : 0) + (isChosen ? 4 : 0)};
+    const isNamed = isOn || mark !== null || isChosen, rank = (isChosen ? 4 : 0) + (isOn ? 2 : 0) + (mark ? 1 : 0);
+    return {...lane, key: laneKey(lane), name, price, isOn, mark, isChosen, isNamed, rank};
 }
 
 /** The one price of some trades, or their least and greatest; null where there is none, or one is no number. */
@@ -52,25 +53,27 @@ function spanOf(names, prices) {
 function laneSvg(lane, points, at, isClose) {
     const ink = lane.mark?.ink ?? (lane.isOn ? INK : OFF);
     const drawn = arrow(points, {ink, width: lane.isOn ? 4 : lane.mark ? 2 : 1.2, dashes: !lane.isOn && lane.mark ? "7 4" : null});
-    const attributes = {class: `lane${lane.isOn ? " on" : ""}${lane.isChosen ? " chosen" : ""}`, "data-key": lane.key, "data-trades": lane.trades.join(" ")};
-    const says = laneSays(lane);
+    const says = laneSays(lane), chosen = lane.isChosen ? " chosen" : "";
+    const attributes = {class: `lane${lane.isOn ? " on" : ""}${chosen}`, "data-key": lane.key, "data-trades": lane.trades.join(" ")};
+    const words = isClose ? lineLabel : twoLines;
     return {
         line: tag("g", {...attributes, role: "button", tabindex: 0, "aria-pressed": lane.isOn ? "true" : "false", "aria-label": says},
             tag("title", {}, escaped(says)), tag("path", {class: "hit", d: smooth(points)}), drawn),
-        label: at && tag("g", {class: `label lane-label${lane.isChosen ? " chosen" : ""}`, "data-of": lane.key, "aria-hidden": "true"}, isClose ? lineLabel(lane, at, ink) : twoLines(lane, at, ink))};
+        label: at && tag("g", {class: `lane-label${chosen}`, "data-of": lane.key, "aria-hidden": "true"}, words(lane, at, ink))};
 }
 
 /** A lane in words, for those who hear it. */
 function laneSays({trades, seller, buyer, name, price, isOn, mark}) {
     const priced = price === null ? "without a price" : `at ${price}`;
     const state = mark === null ? (isOn ? "on" : "off") : isOn ? `on, ${mark.says}` : `off, ${mark.says}`;
-    return trades.length === 1 ? `Trade ${name}, from ${seller} to ${buyer}, ${priced}: ${state}` : `${trades.length} trades from ${seller} to ${buyer}, ${name}, ${priced}: ${trades.join(", ")}`;
+    return trades.length === 1 ? `Trade ${name}, from ${seller} to ${buyer}, ${priced}: ${state}`
+        : `${trades.length} trades from ${seller} to ${buyer}, ${name}, ${priced}: ${trades.join(", ")}`;
 }
 
 function twoLines({name, price, isOn}, {x, y}, ink) {
-    const width = Math.max(widthOf(name, NORMAL), widthOf(price ?? "", PRICE)) + 10;
+    const width = Math.max(widthOf(name, NORMAL), widthOf(price ?? "", PRICE)) + 10, weight = isOn ? "bold" : null;
     return [tag("rect", {x: x - width / 2, y: y - 17, width, height: 34, rx: 4}),
-        text(x, y - 4, name, {ink, weight: isOn ? "bold" : null}), price === null ? null : text(x, y + 12, price, {size: PRICE, ink, weight: isOn ? "bold" : null})];
+        text(x, y - 4, name, {ink, weight}), price === null ? null : text(x, y + 12, price, {size: PRICE, ink, weight})];
 }
 
 function lineLabel({name, price, isOn}, {x, y}, ink) {
@@ -82,10 +85,10 @@ function firmSvg({name, width, height}, {x, y}, line, selection, isClose) {
     const mood = moodOf(line), isChosen = selection?.kind === "firm" && selection.name === name;
     const box = {x: x - width / 2, y: y - height / 2, width, height, rx: 6};
     const attributes = {class: `firm ${mood}${isChosen ? " chosen" : ""}`, "data-key": `firm:${name}`, "data-firm": name};
-    const inkBelow = mood === "content" ? GOOD : mood === "unknown" ? INK : BAD;
+    const isContent = mood === "content", style = {size: BELOW, ink: isContent ? GOOD : BAD, weight: isContent ? null : "bold"};
     return tag("g", {...attributes, role: "button", tabindex: 0, "aria-label": firmSays(name, line)}, tag("rect", box),
         text(x, y + (line ? -3 : 5), name, {size: NAME, weight: "bold"}),
-        line ? text(x, y + (isClose ? 13 : 15), belowOf(line, isClose), {size: BELOW, ink: inkBelow, weight: mood === "content" ? null : "bold"}) : null);
+        line ? text(x, y + (isClose ? 13 : 15), belowOf(line, isClose), style) : null);
 }
 
 /** Whether a firm is content, objects, or has what is impossible, as a class; "unknown" where nothing is answered of it. */
@@ -106,5 +109,6 @@ function firmSays(name, line) {
     const mood = moodOf(line);
     if (mood === "unknown") return `Firm ${name}`;
     if (mood === "content") return `Firm ${name}, content with a utility of ${line.utility}`;
-    return mood === "impossible" ? `Firm ${name} objects: what it has is impossible for it` : `Firm ${name} objects: its utility is ${line.utility}, and it could have ${line.best_utility}`;
+    if (mood === "impossible") return `Firm ${name} objects: what it has is impossible for it`;
+    return `Firm ${name} objects: its utility is ${line.utility}, and it could have ${line.best_utility}`;
 }

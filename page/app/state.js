@@ -20,7 +20,8 @@ const MOST_UNDONE = 400;
 export const START = {
     document: {name: "", bytes: new Uint8Array(0), text: "", isWhole: true}, past: [], future: [], mark: null, selection: null,
     guess: null, ranges: null, path: null, words: ["solve"], run: {state: "none"}, answer: null,
-    view: {panel: "guess", isOver: false, hasRanges: false, window: null, isWide: null, filter: "", firm: null, sort: {by: null, isDown: false}},
+    view: {panel: "guess", isOver: false, hasRanges: false, window: null, isWide: null, filter: "", firm: null,
+        sort: {by: null, isDown: false}},
 };
 
 /** What may happen. Each takes a value, and answers the next one. */
@@ -34,7 +35,7 @@ export const ACTIONS = {
     /** The text of the document was edited. */
     typed: (value, text, mark = null) => text === value.document.text ? value : changed(value, withText(value.document, text), mark),
     /** Some places of the text were changed, by the picture or a form. */
-    edited: (value, edits, mark = null) => edits.length === 0 ? value : changed(value, withText(value.document, applied(value.document.text, edits)), mark),
+    edited: (value, edits, mark = null) => ACTIONS.typed(value, applied(value.document.text, edits), mark),
     undone: (value) => value.past.length === 0 ? value : moved(value, value.past, value.future, (past, future) => ({past, future})),
     redone: (value) => value.future.length === 0 ? value : moved(value, value.future, value.past, (future, past) => ({past, future})),
     /** A lane, a firm or a bound was chosen, or nothing. */
@@ -51,17 +52,21 @@ export const ACTIONS = {
     ended: (value) => ({...value, run: {state: "ended"}}),
 };
 
+/** Of another text no command has been asked, and no answer lies over its network. */
+const LAID_DOWN = ({view}) => ({run: {state: "none"}, view: {...view, isOver: false}});
+
 function changed(value, document, mark) {
     const {document: before, selection} = value, isMerged = mark !== null && mark === value.mark;
-    const past = isMerged || before.name + before.text === "" ? value.past : [...value.past.slice(1 - MOST_UNDONE), {document: before, selection}];
-    return {...value, document, past, future: [], mark, run: {state: "none"}, view: {...value.view, isOver: false}};
+    const isKept = !isMerged && before.name + before.text !== "";
+    const past = isKept ? [...value.past.slice(1 - MOST_UNDONE), {document: before, selection}] : value.past;
+    return {...value, document, past, future: [], mark, ...LAID_DOWN(value)};
 }
 
 /** Goes to the last of some earlier or later documents, and keeps the present one among the others. */
 function moved(value, from, to, named) {
     const {document, selection} = from[from.length - 1];
     const here = {document: value.document, selection: value.selection};
-    return {...value, document, selection, mark: null, run: {state: "none"}, view: {...value.view, isOver: false}, ...named(from.slice(0, -1), [...to, here])};
+    return {...value, document, selection, mark: null, ...LAID_DOWN(value), ...named(from.slice(0, -1), [...to, here])};
 }
 
 function documentOf(name, bytes) {

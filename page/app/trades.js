@@ -3,6 +3,7 @@
 import {made, part} from "./page.js";
 import {setPrice, turn} from "./hand.js";
 import {boundsAt, isWithin, scaleOf} from "./bounds.js";
+import {laneKey} from "./stage.js";
 import {isOld, networkOf} from "./state.js";
 
 const HEADS = [["Trade", "name"], ["From", "seller"], ["To", "buyer"], ["On", "on"], ["Price", "price"], ["Bounds", null]];
@@ -50,7 +51,7 @@ export function showTrades(value) {
     shownOf = {document, view, ranges, selection};
     const network = networkOf(document);
     rows = sorted(rowsOf(network, view), view.sort);
-    for (const cell of part("trades").tHead.rows[0].cells) cell.setAttribute("aria-sort", cell.dataset.by !== view.sort.by || !view.sort.by ? "none" : view.sort.isDown ? "descending" : "ascending");
+    for (const cell of part("trades").tHead.rows[0].cells) cell.setAttribute("aria-sort", orderOf(cell.dataset.by, view.sort));
     part("trades").setAttribute("aria-rowcount", rows.length + 1);
     part("trades").tHead.rows[0].cells[5].hidden = ranges?.said?.answer !== "ranges";
     fillFirms(network, view);
@@ -59,10 +60,15 @@ export function showTrades(value) {
     if (isMoved) bringIn(value);
 }
 
+function orderOf(column, {by, isDown}) {
+    if (by === null || column !== by) return "none";
+    return isDown ? "descending" : "ascending";
+}
+
 function rowsOf(network, {filter, firm}) {
     const {on, prices} = network.arrangement, isOn = new Set(Array.isArray(on) ? on : []);
     const priceOf = new Map((Array.isArray(prices) ? prices : []).filter(Array.isArray).map(([name, price]) => [name, price]));
-    const all = network.trades.map(({name, seller, buyer}, place) => ({name, seller, buyer, place, on: isOn.has(name), price: priceOf.get(name)}));
+    const all = network.trades.map((trade, place) => ({...trade, place, on: isOn.has(trade.name), price: priceOf.get(trade.name)}));
     return all.filter(({name, seller, buyer}) => (firm === null || seller === firm || buyer === firm)
         && (filter === "" || `${name} ${seller} ${buyer}`.toLowerCase().includes(filter.toLowerCase())));
 }
@@ -93,7 +99,7 @@ function fill(value) {
     const scale = scaleOf(value), bounds = new Map((value.ranges?.said?.ranges ?? []).map((range) => [range.trade, range]));
     const isOldRange = isOld(value, value.ranges);
     const next = new Map(seen.map((row) => [row.name, present.get(row.name) ?? rowFor(row.name)]));
-    for (const [k, row] of seen.entries()) update(next.get(row.name), row, first + k, value, {scale, range: bounds.get(row.name), isOldRange});
+    seen.forEach((row, k) => update(next.get(row.name), row, first + k, value, {scale, range: bounds.get(row.name), isOldRange}));
     present = next;
     const wanted = [...(isAll ? [] : [gap(first)]), ...next.values(), ...(isAll ? [] : [gap(rows.length - first - seen.length)])];
     const isSame = body.children.length === wanted.length && wanted.every((row, k) => body.children[k] === row);
@@ -114,17 +120,20 @@ function gap(count) {
     return row;
 }
 
+const FIELD = {type: "text", inputmode: "numeric", size: 6, autocomplete: "off"};
+
 /** A row with its button and field, which outlives changes. */
 function rowFor(name) {
     const row = made("tr", "", {"data-trade": name});
     const on = made("input", "", {type: "checkbox", "data-key": `on:${name}`, "aria-label": `${name} is on`});
-    const price = made("input", "", {type: "text", inputmode: "numeric", size: 6, autocomplete: "off", "data-key": `price:${name}`, "aria-label": `Price of ${name}`});
+    const price = made("input", "", {...FIELD, "data-key": `price:${name}`, "aria-label": `Price of ${name}`});
     on.addEventListener("change", () => turn(store, name, on.checked));
     price.addEventListener("input", () => typed(name, price));
     price.addEventListener("blur", () => shownPrice(price));
     price.addEventListener("focus", () => chosen(name));
     price.addEventListener("keydown", (event) => stepped(event, name, price));
-    const head = made("th", name, {scope: "row"}), cells = [made("td"), made("td"), made("td"), made("td", "", {class: "number"}), made("td", "", {class: "bounds"})];
+    const head = made("th", name, {scope: "row"});
+    const cells = [null, null, null, "number", "bounds"].map((kind) => made("td", "", {class: kind}));
     cells[2].append(on);
     cells[3].append(price);
     row.append(head, ...cells);
@@ -133,7 +142,7 @@ function rowFor(name) {
 
 /** Marks the trade of a field in the network, without moving the focus. */
 function chosen(name) {
-    const {seller, buyer} = networkOf(store.value.document).trade(name), key = `lane:${seller} ${buyer}`;
+    const key = laneKey(networkOf(store.value.document).trade(name));
     if (store.value.selection?.key !== key) store.act("selected", {kind: "lane", key, trade: name});
 }
 
@@ -156,11 +165,15 @@ function shownPrice(price) {
     price.setAttribute("aria-invalid", "false");
 }
 
+/** Whether a row is of the lane or bound that is chosen. */
+function isChosen({name, seller, buyer}, selection) {
+    return selection?.kind === "lane" ? selection.key === laneKey({seller, buyer}) : selection?.trade === name;
+}
+
 function update(element, row, place, value, {scale, range, isOldRange}) {
     const [head, from, to, on, price, bounds] = element.cells, box = on.firstElementChild, field = price.firstElementChild;
     element.setAttribute("aria-rowindex", place + 2);
-    const isChosen = value.selection?.kind === "lane" ? value.selection.key === `lane:${row.seller} ${row.buyer}` : value.selection?.trade === row.name;
-    element.className = `${row.on ? "on" : ""}${isChosen ? " chosen" : ""}`.trim();
+    element.className = `${row.on ? "on" : ""}${isChosen(row, value.selection) ? " chosen" : ""}`.trim();
     if (from.textContent !== row.seller) from.textContent = row.seller;
     if (to.textContent !== row.buyer) to.textContent = row.buyer;
     if (head.textContent !== row.name) head.textContent = row.name;
@@ -170,13 +183,14 @@ function update(element, row, place, value, {scale, range, isOldRange}) {
     const isTyped = field === document.activeElement && field.value.trim() === shown;
     if (!isTyped && (field !== document.activeElement || WHOLE.test(field.value.trim()))) field.value = shown;
     bounds.hidden = !range;
-    boundsAt(bounds, {range, price: row.price, scale, isOld: isOldRange, selection: value.selection, choose: (side) => store.act("selected", {kind: "bound", trade: row.name, side})});
+    const choose = (side) => store.act("selected", {kind: "bound", trade: row.name, side});
+    boundsAt(bounds, {range, price: row.price, scale, isOld: isOldRange, selection: value.selection, choose});
     field.classList.toggle("beyond", range !== undefined && !isOldRange && typeof row.price === "bigint" && !isWithin(range, row.price));
 }
 
 /** Scrolls the first chosen row into sight, but not away from a field that somebody types in. */
 function bringIn({selection}) {
-    const place = rows.findIndex(({name, seller, buyer}) => name === selection.trade || `lane:${seller} ${buyer}` === selection.key);
+    const place = rows.findIndex((row) => isChosen(row, selection));
     const scroll = part("trades-scroll");
     if (place < 0 || scroll.contains(document.activeElement)) return;
     const top = place * HIGH;

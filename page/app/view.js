@@ -63,11 +63,12 @@ function pictureOf(svg) {
     return figure;
 }
 
-const AROUND = 2, WIDEST = 160;
+const AROUND = 2, WIDEST = 160, MOST_LINES = 8;
 
 /** The lines around a fault, with the fault marked. */
 function excerpt({text, start, end}) {
-    const lines = text.split("\n"), first = lineAndColumn(text, start).line - 1, last = Math.min(lineAndColumn(text, Math.max(start, end - 1)).line - 1, first + 8);
+    const lines = text.split("\n"), [first, end_] = [start, Math.max(start, end - 1)].map((offset) => lineAndColumn(text, offset).line - 1);
+    const last = Math.min(end_, first + MOST_LINES);
     const drawn = made("pre", "", {class: "excerpt"});
     let at = lines.slice(0, Math.max(0, first - AROUND)).reduce((sum, line) => sum + line.length + 1, 0);
     for (let k = Math.max(0, first - AROUND); k <= Math.min(lines.length - 1, last + AROUND); k += 1) {
@@ -83,5 +84,6 @@ function marked(line, from, to) {
     if (!isIn) return [line.slice(0, WIDEST)];
     const left = Math.max(0, start - WIDEST / 2), right = Math.min(line.length, Math.max(end, start) + WIDEST / 2);
     const inside = line.slice(start, Math.min(end, start + WIDEST)) || " ";
-    return [`${left > 0 ? "\u2026" : ""}${line.slice(left, start)}`, made("mark", inside), line.slice(end, Math.min(right, end + WIDEST / 2))];
+    const before = `${left > 0 ? "\u2026" : ""}${line.slice(left, start)}`;
+    return [before, made("mark", inside), line.slice(end, Math.min(right, end + WIDEST / 2))];
 }

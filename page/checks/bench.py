@@ -246,6 +246,10 @@ def tries_of_the_text(page: Bench, program: str | None):
     yield "which is told beside it", "fault 1" in page.says("document-fault")
     page.press("Control+z", "Control+z")
     yield "letters are taken back in the same history", page.text() == example("one-trade.json") and page.guess().startswith("\u2713")
+    page.press("Control+End", "a", "b", "c", " ", "d")
+    yield "what is typed is the text", page.text() == example("one-trade.json") + "abc d"
+    page.press(*["Control+z"] * 3)
+    yield "and a word is taken back at once", page.text() == example("one-trade.json")
     page.open("used-cars-misspelt.json", look.example("used-cars-misspelt.json"))
     marked = page.value("[...document.querySelectorAll('.CodeMirror .faulty')].map(({textContent}) => textContent).join('')")
     yield "a fault is marked at its place in the text", marked != "" and marked in example("used-cars-misspelt.json")

@@ -15,7 +15,7 @@ const bytesOf = (text) => new TextEncoder().encode(text);
 /** The examples with trades, as they are, on one line, and spread over many. */
 function texts() {
     const own = examples().map(({bytes}) => bytes.toString()).filter((text) => new Network(text).trades.length > 0);
-    return [...own, ...own.map((text) => JSON.stringify(JSON.parse(text))), ...own.map((text) => JSON.stringify(JSON.parse(text), null, "\t"))];
+    return own.flatMap((text) => [text, JSON.stringify(JSON.parse(text)), JSON.stringify(JSON.parse(text), null, "\t")]);
 }
 
 /** What stands before and behind the arrangement of a text. */
@@ -40,8 +40,9 @@ test("a trade is turned, and a price given, by a change of the text that leaves 
         const {name} = network.trades[draw(network.trades.length)], isOn = draw(2) === 0, price = String(draw(2000) - 1000);
         const zeros = prices.length > 0 ? new Map(prices) : new Map(network.trades.map((trade) => [trade.name, 0n]));
         const edited = applied(text, turned(network, name, isOn));
-        if (network.arrangement.on) holds(text, edited, network, {on: isOn ? [...new Set([...on, name])] : on.filter((other) => other !== name), prices: new Map(prices)});
-        holds(text, applied(text, priced(network, new Map([[name, price]]))), network, {on, prices: new Map(zeros).set(name, BigInt(price))});
+        const others = on.filter((other) => other !== name), dearer = applied(text, priced(network, new Map([[name, price]])));
+        if (network.arrangement.on) holds(text, edited, network, {on: isOn ? [...others, name] : others, prices: new Map(prices)});
+        holds(text, dearer, network, {on, prices: new Map(zeros).set(name, BigInt(price))});
     }
 });
 
@@ -58,11 +59,13 @@ test("a whole arrangement is taken, and what is so already isn't touched", () =>
 });
 
 test("odd texts keep what is odd", () => {
-    const text = '{ "arrangement" : {"on":["x"]}, "arrangement" : {"prices" : [ ["a" , 9999999999999999999999 ],["b",1e3] ] , "on" : [ "a" , "b", "a" ] } ,"trades":[{"name":"a"},{"name":"b"}],"n":1.50}\r\n';
+    const text = '{ "arrangement" : {"on":["x"]}, "arrangement" : {"prices" : [ ["a" , 9999999999999999999999 ],["b",1e3] ] , '
+        + '"on" : [ "a" , "b", "a" ] } ,"trades":[{"name":"a"},{"name":"b"}],"n":1.50}\r\n';
     const network = new Network(text);
     assert.equal(applied(text, turned(network, "a", false)), text.replace('[ "a" , "b", "a" ]', '[ "b" ]'));
     assert.equal(applied(text, turned(network, "b", false)), text.replace('"a" , "b", "a"', '"a" , "a"'));
-    assert.equal(applied(text, priced(network, new Map([["b", "7"], ["a", "-1"]]))), text.replace("9999999999999999999999", "-1").replace("1e3", "7"));
+    const both = priced(network, new Map([["b", "7"], ["a", "-1"]]));
+    assert.equal(applied(text, both), text.replace("9999999999999999999999", "-1").replace("1e3", "7"));
     assert.deepEqual(turned(network, "a", true), []);
     assert.deepEqual(turned(new Network("[1]"), "a", true), []);
 });
