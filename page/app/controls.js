@@ -182,7 +182,7 @@ function bindLink(store) {
         if (fragment.length > MOST_LETTERS) return;
         part("fragment").value = isDisk ? fragment : `${location.href.replace(/#.*$/, "")}${fragment}`;
         part("fragment").select();
-        document.documentElement.dataset.linked = fragment;
+        document.documentElement.dataset.linked = "true";
         await navigator.clipboard?.writeText(part("fragment").value).catch(() => document.execCommand("copy"));
     });
     on("linked-close", () => (part("linked").hidden = true));

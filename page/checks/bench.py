@@ -32,11 +32,17 @@ DRAWN = """
 const all = (selector) => [...document.querySelectorAll(`#stage ${selector}`)];
 const mood = (element) => ["content", "objects", "impossible", "unknown"].find((name) => element.classList.contains(name));
 return {
-    firms: Object.fromEntries(all(".firm").map((firm) => [firm.dataset.firm, {mood: mood(firm), x: firm.getBoundingClientRect().x, says: firm.getAttribute("aria-label"), shown: firm.textContent}])),
-    lanes: Object.fromEntries(all(".lane").map((lane) => [lane.dataset.trades, {isOn: lane.classList.contains("on"), says: lane.getAttribute("aria-label")}])),
+    firms: Object.fromEntries(all(".firm").map((firm) => [firm.dataset.firm,
+        {mood: mood(firm), x: firm.getBoundingClientRect().x, says: firm.getAttribute("aria-label"), shown: firm.textContent}])),
+    lanes: Object.fromEntries(all(".lane").map((lane) => [lane.dataset.trades,
+        {isOn: lane.classList.contains("on"), says: lane.getAttribute("aria-label")}])),
     labels: all(".lane-label").map((label) => label.textContent)};"""
 
-KEYS = {"Control": "\ue009", "Shift": "\ue008", "ArrowUp": "\ue013", "ArrowDown": "\ue015", "Enter": "\ue007", "End": "\ue010", "Backspace": "\ue003", "Tab": "\ue004"}
+# The text in the editor.
+EDITED = "document.querySelector('.CodeMirror').CodeMirror.getValue()"
+
+KEYS = {"Control": "\ue009", "Shift": "\ue008", "ArrowUp": "\ue013", "ArrowDown": "\ue015", "Enter": "\ue007", "End": "\ue010",
+        "Backspace": "\ue003", "Tab": "\ue004"}
 
 
 class Bench(look.Page):
@@ -66,17 +72,16 @@ class Bench(look.Page):
     def drawn(self) -> dict:
         return self.browser.run(DRAWN)
 
-    def pointer(self, steps: list[dict]) -> None:
+    def drag(self, selector: str, dy: int) -> None:
+        """Presses in the middle of an element, moves up or down by some pixels, and lets go."""
+        x, y = self.browser.run(MIDDLE, selector)
+        move = {"type": "pointerMove", "x": x, "origin": "viewport", "duration": 10}
+        moves = [{**move, "y": y + dy * k // 4} for k in range(1, 5)] if dy else []
+        steps = [{**move, "y": y}, {"type": "pointerDown", "button": 0}, *moves, {"type": "pointerUp", "button": 0}]
         self.browser.act([{"type": "pointer", "id": "mouse", "parameters": {"pointerType": "mouse"}, "actions": steps}])
 
     def click(self, selector: str) -> None:
-        x, y = self.browser.run(MIDDLE, selector)
-        self.pointer([{"type": "pointerMove", "x": x, "y": y, "origin": "viewport", "duration": 0}, {"type": "pointerDown", "button": 0}, {"type": "pointerUp", "button": 0}])
-
-    def drag(self, selector: str, dy: int) -> None:
-        x, y = self.browser.run(MIDDLE, selector)
-        moves = [{"type": "pointerMove", "x": x, "y": y + dy * k // 4, "origin": "viewport", "duration": 10} for k in range(1, 5)]
-        self.pointer([{"type": "pointerMove", "x": x, "y": y, "origin": "viewport", "duration": 0}, {"type": "pointerDown", "button": 0}, *moves, {"type": "pointerUp", "button": 0}])
+        self.drag(selector, 0)
 
     def press(self, *keys: str) -> None:
         """Keys one after another; "Control+z" holds the first while it presses the second."""
@@ -98,10 +103,15 @@ class Bench(look.Page):
         return self.says("verdict")
 
 
+ASK = """
+const [words, text] = arguments;
+return market.ask(words, new TextEncoder().encode(text)).then(({bytes}) => new TextDecoder().decode(bytes));"""
+
+
 def asked(page: Bench, program: str | None, words: list[str], document: str) -> dict:
     """An answer of the program, or where there is none of the page."""
     if program is None:
-        return json.loads(page.browser.run("return market.ask(arguments[0], new TextEncoder().encode(arguments[1])).then(({bytes}) => new TextDecoder().decode(bytes));", words, document))
+        return json.loads(page.browser.run(ASK, words, document))
     return json.loads(subprocess.run([program, *words], input=document.encode(), capture_output=True).stdout)
 
 
@@ -147,7 +157,8 @@ def tries_to_guess(page: Bench, program: str | None):
     yield "a price is typed", page.guess().endswith("5 of 6 firms are content.") and page.text() == first.replace('["o1d",8]', '["o1d",10]') and page.focused() == "price:o1d"
     line = asked(page, program, ["firms"], page.text())["firms"][2]
     cells = page.value("[...document.querySelectorAll('#firms tbody tr')[2].cells].slice(1).map(({textContent}) => textContent)")
-    yield "the table of firms has the program's numbers", cells == [", ".join(line["has"]), str(line["worth"]), str(line["utility"]), ", ".join(line["best"]), str(line["gain"])]
+    wanted = [", ".join(line["has"]), str(line["worth"]), str(line["utility"]), ", ".join(line["best"]), str(line["gain"])]
+    yield "the table of firms has the program's numbers", cells == wanted
     page.drag(label("D B1"), -32)
     yield "a drag upwards makes a price greater", page.guess() != "" and '["db1",15]' in page.text()
 
@@ -182,14 +193,21 @@ def tries_to_solve(page: Bench, program: str | None):
     page.click("#solve")
     page.wait_for("state", "answered")
     solved = asked(page, program, ["solve"], first)
-    lanes = page.drawn()["lanes"]
-    yield "solve's answer lies over the network", all(lanes[name]["isOn"] == (name in solved["on"]) and f" at {price}:" in lanes[name]["says"] for name, price in solved["prices"])
+    drawn = {name: (lane["isOn"], f" at {price}:" in lane["says"]) for name, price in solved["prices"] for lane in [page.drawn()["lanes"][name]]}
+    yield "solve's answer lies over the network", drawn == {name: (name in solved["on"], True) for name, _ in solved["prices"]}
     yield "and the text is as it was", page.text() == first
     page.click("#over-take")
-    yield "it is taken as the guess", page.guess().endswith(f"the worths sum to {solved['surplus']}.") and json.loads(page.text())["arrangement"] == {"on": solved["on"], "prices": solved["prices"]}
+    yield "it is taken as the guess", page.guess().endswith(f"the worths sum to {solved['surplus']}.")
+    yield "and stands in the text", json.loads(page.text())["arrangement"] == {"on": solved["on"], "prices": solved["prices"]}
     before, after = first.split('"arrangement"')[0], page.text().split('"arrangement"')[0]
     yield "and the rest of the text is as it was", before == after
     yield "its answer is an old one then", page.browser.run(look.SHOWN)["isOld"]
+
+
+# Each trade with the bounds beside it.
+BOUNDS = """
+return [...document.querySelectorAll("#trades tbody tr")]
+    .map((row) => [row.dataset.trade, ...[...row.querySelectorAll(".bound")].map(({textContent}) => textContent)]);"""
 
 
 def tries_of_ranges(page: Bench, program: str | None):
@@ -197,7 +215,7 @@ def tries_of_ranges(page: Bench, program: str | None):
     page.click("#ranges")
     page.wait_for("ranges", "answered")
     said = asked(page, program, ["range"], page.text())["ranges"]
-    bounds = page.value("[...document.querySelectorAll('#trades tbody tr')].map((row) => [row.dataset.trade, ...[...row.querySelectorAll('.bound')].map(({textContent}) => textContent)])")
+    bounds = page.browser.run(BOUNDS)
     yield "bounds stand beside the prices", bounds == [[each["trade"], str(each["low"]), str(each["high"])] for each in said]
     for button, side in (("#buyers-best", "low"), ("#sellers-best", "high")):
         page.click(button)
@@ -224,20 +242,24 @@ def tries_of_complements(page: Bench, program: str | None):
     yield "solve says of them what fails", "doesn't meet the exchange property" in page.says("sentences") or "exchange property" in page.says("sentences")
 
 
+ONE_TRADE = ('{"version":1,"firms":[{"name":"S","kind":"table","rows":[[["a"],-1]]},{"name":"B","kind":"table","rows":[[["a"],4]]}],'
+             '"trades":[{"name":"a","seller":"S","buyer":"B"}]}')
+
+
 def tries_of_the_text(page: Bench, program: str | None):
-    note = '{"version":1,"note":"é \\u00e9, 1e3, and {\\"on\\":[]}","firms":[{"name":"S","kind":"table","rows":[[["a"],-1]]},{"name":"B","kind":"table","rows":[[["a"],4]]}],' \
-        '"arrangement":{"prices":[ ["a" , 99999999999999 ] ],"on":[ ]},"trades":[{"name":"a","seller":"S","buyer":"B"}],"on":1}'
-    clean = note.replace(',"on":1}', "}")
-    page.type(clean)
+    odd = ONE_TRADE.replace('"version":1', '"version":1,"note":"é \\u00e9, 1e3, and {\\"on\\":[]}"')
+    odd = odd.replace('"trades":', '"arrangement":{"prices":[ ["a" , 99999999999999 ] ],"on":[ ]},"trades":')
+    page.type(odd)
     page.guess()
     page.click("#tab-document")
     yield "one long line is offered laid out", page.value("!document.getElementById('one-line').hidden")
     page.click(label("S B"))
     page.guess()
-    yield "a click changes nothing else of an odd text", page.text() == clean.replace('"on":[ ]', '"on":[ "a"]')
+    clicked = odd.replace('"on":[ ]', '"on":[ "a"]')
+    yield "a click changes nothing else of an odd text", page.text() == clicked
     page.click("#lay-out")
-    laid = page.text()
-    yield "laying it out adds ends of lines and blanks alone", laid != clean and re.sub(r"\n *", "", laid) == clean.replace('"on":[ ]', '"on":[ "a"]').strip() and page.guess() != ""
+    yield "laying it out adds ends of lines and blanks alone", page.text() != clicked and re.sub(r"\n *", "", page.text()) == clicked
+    page.guess()
     page.open("one-trade.json", look.example("one-trade.json"))
     page.click(".CodeMirror-code")
     page.press("Control+End", "Backspace", "Backspace")
@@ -259,9 +281,9 @@ def tries_of_the_text(page: Bench, program: str | None):
     page.click(".CodeMirror-code")
     page.press("Control+End", " ")
     page.guess()
-    typed = page.value("document.querySelector('.CodeMirror').CodeMirror.getValue()")
+    typed = page.value(EDITED)
     yield "what is typed leaves other ends of lines as they are", typed == example("one-trade.json").replace("\n", "\r\n") + " "
-    page.open("trades.json", b'{"version":1,"firms":[{"name":"S","kind":"table","rows":[[["a"],-1]]},{"name":"B","kind":"table","rows":[[["a"],4]]}],"trades":[{"name":"a","seller":"S","buyer":"B"}]}')
+    page.open("trades.json", ONE_TRADE.encode())
     yield "without an arrangement there is no guess yet", page.guess().startswith("No guess yet")
     page.click("#tab-guess")
     page.click(label("S B"))
@@ -294,11 +316,13 @@ def tries_of_files(page: Bench, program: str | None):
         page.click(button)
     page.click("#ranges")
     offered = dict(page.browser.run(OFFERED))
-    yield "each is offered as a file", list(offered) == ["used-cars-dear-car-solve.csv", "used-cars-dear-car.json", "used-cars-dear-car.svg", "used-cars-dear-car-firms.csv", "used-cars-dear-car-ranges.csv"]
-    yield "rows as the program wrote them, and the document as it is", offered["used-cars-dear-car-solve.csv"].startswith("trade,on,price\no1d,1,8\n") and offered["used-cars-dear-car.json"] == page.text()
-    yield "a picture", offered["used-cars-dear-car.svg"].startswith("<svg") and "could have 1" in offered["used-cars-dear-car.svg"]
-    yield "firms as rows", 'D,"o1d, db1",-1,0,"o2d, db1",1\n' in offered["used-cars-dear-car-firms.csv"]
-    yield "ranges as rows", "\no1d,1,8,10\n" in offered["used-cars-dear-car-ranges.csv"]
+    files = {name.removeprefix("used-cars-dear-car"): text for name, text in offered.items()}
+    yield "each is offered as a file", list(files) == ["-solve.csv", ".json", ".svg", "-firms.csv", "-ranges.csv"]
+    yield "rows as the program wrote them", files["-solve.csv"].startswith("trade,on,price\no1d,1,8\n")
+    yield "the document as it is", files[".json"] == page.text()
+    yield "a picture", files[".svg"].startswith("<svg") and "could have 1" in files[".svg"]
+    yield "firms as rows", 'D,"o1d, db1",-1,0,"o2d, db1",1\n' in files["-firms.csv"]
+    yield "ranges as rows", "\no1d,1,8,10\n" in files["-ranges.csv"]
     yield "the command for a terminal stands there", line == "market solve --csv < used-cars-dear-car.json"
 
 
@@ -338,7 +362,7 @@ def tries_of_size(page: Bench, program: str | None):
     yield "the table is filtered", page.value("document.querySelectorAll('#trades tbody tr[data-trade]').length") == 1
     page.browser.run("const filter = document.getElementById('filter'); filter.value = ''; filter.dispatchEvent(new Event('input'))")
     page.open("large.json", b'{"note":"' + b"x" * (1 << 18) + b'"}')
-    yield "a large document isn't in the editor", page.value("document.querySelector('.CodeMirror').CodeMirror.getValue()") == "" and page.says("name").startswith("large.json, 262")
+    yield "a large document isn't in the editor", page.value(EDITED) == "" and page.says("name").startswith("large.json, 262")
     yield "and is answered", "fault 3" in page.ask("solve")["sentences"][0]
     page.open("large.json", look.example("used-cars.json"))
 
@@ -351,10 +375,11 @@ def packed(data: bytes) -> str:
 def tries_of_links(page: Bench, address: str):
     page.open("houses.json", look.example("houses.json"))
     page.click("#link")
-    page.browser.run("const page = document.documentElement; return new Promise((done) => { const look = () => page.dataset.linked && done(); new MutationObserver(look).observe(page, {attributes: true}); look(); });")
+    page.wait_for("linked", "true")
     fragment = page.value("document.getElementById('fragment').value")
     yield "from a disk the link is the fragment alone", fragment.startswith("#1.") and len(fragment) < 8000 and "behind any address" in page.says("linked-says")
-    for name, there, wanted in [("a link brings the document back", fragment, example("houses.json")), ("and so does one from elsewhere", packed(look.example("ring.json")), example("ring.json"))]:
+    for name, there, wanted in (("a link brings the document back", fragment, example("houses.json")),
+                                ("and so does one from elsewhere", packed(look.example("ring.json")), example("ring.json"))):
         page.browser.open("about:blank")
         page.browser.open(address + there)
         page.wait("ready")
@@ -363,7 +388,8 @@ def tries_of_links(page: Bench, address: str):
     page.browser.open("about:blank")
     page.browser.open(address + packed(b"[" * (1 << 24)))
     page.wait("ready")
-    yield "what a link unpacks to stops at 4 MiB and one byte", page.says("name").startswith("from a link, 4194.3 KB") and page.ask("solve")["sentences"][0].startswith("The document has a fault")
+    yield "what a link unpacks to stops at 4 MiB and one byte", page.says("name").startswith("from a link, 4194.3 KB")
+    yield "and is a document like any other", page.ask("solve")["sentences"][0].startswith("The document has a fault")
     page.browser.open("about:blank")
     page.browser.open(address + "#1.!!")
     page.wait("ready")
@@ -399,15 +425,19 @@ def tries_of_access(page: Bench):
     page.click("#tab-guess")
     nodes = page.browser.driver.execute_cdp_cmd("Accessibility.getFullAXTree", {})["nodes"]
     names = [node.get("name", {}).get("value", "") for node in nodes if not node.get("ignored")]
-    yield "firms are in the accessibility tree", all(any(name.startswith(f"Firm {firm} ") or name.startswith(f"Firm {firm},") for name in names) for firm in ("O1", "O2", "D", "B1", "B2", "B3"))
-    yield "trades with prices are", all(any(name.startswith(f"Trade {trade}, ") and " at " in name for name in names) for trade in ("o1d", "o2d", "db1", "o2b3"))
+    firms = {name.split(" ")[1].rstrip(",") for name in names if name.startswith("Firm ")}
+    yield "firms are in the accessibility tree", firms >= {"O1", "O2", "D", "B1", "B2", "B3"}
+    trades = {name.split(" ")[1].rstrip(",") for name in names if name.startswith("Trade ") and " at " in name}
+    yield "trades with prices are", trades == {trade["name"] for trade in json.loads(page.text())["trades"]}
     yield "the verdict is", any("No equilibrium: 5 of 6 firms are content." in name for name in names)
-    unnamed = [node["role"]["value"] for node in nodes if not node.get("ignored") and node.get("role", {}).get("value") in ("button", "textbox", "combobox", "checkbox", "tab", "searchbox")
-               and not node.get("name", {}).get("value")]
+    roles = ("button", "textbox", "combobox", "checkbox", "tab", "searchbox")
+    unnamed = [node["role"]["value"] for node in nodes
+               if not node.get("ignored") and node.get("role", {}).get("value") in roles and not node.get("name", {}).get("value")]
     yield f"all that is pressed or filled in has a name {unnamed}", unnamed == []
     style = (HERE.parent / "style.css").read_text()
     colours = dict(re.findall(r"--([\w-]+): (#[0-9a-f]{6})", style))
-    pairs = [(text, ground) for text in ("ink", "quiet", "good", "bad") for ground in ("paper", "ground")] + [("good", "good-ground"), ("bad", "bad-ground"), ("paper", "main"), ("ink", "mark")]
+    pairs = [(text, ground) for text in ("ink", "quiet", "good", "bad") for ground in ("paper", "ground")]
+    pairs += [("good", "good-ground"), ("bad", "bad-ground"), ("paper", "main"), ("ink", "mark")]
     yield "letters stand out", all(contrast(colours[text], colours[ground]) >= 4.5 for text, ground in pairs)
     yield "edges and the focus do", all(contrast(colours[line], colours[ground]) >= 3 for line in ("edge", "main", "focus") for ground in ("paper", "ground"))
     still = re.sub(r"@media \(prefers-reduced-motion: no-preference\) \{[^}]*\{[^}]*\}\s*\}", "", style)
@@ -418,7 +448,8 @@ def tries_of_access(page: Bench):
 CLICK = """
 const page = document.documentElement, box = document.querySelector("#trades [type=checkbox]"), begun = performance.now();
 return new Promise((done) => {
-    const look = () => page.dataset.guess === "answered" && ["none", "answered"].includes(page.dataset.ranges) && requestAnimationFrame(() => setTimeout(() => done(performance.now() - begun), 0));
+    const shown = () => requestAnimationFrame(() => setTimeout(() => done(performance.now() - begun), 0));
+    const look = () => page.dataset.guess === "answered" && ["none", "answered"].includes(page.dataset.ranges) && shown();
     box.click();
     new MutationObserver(look).observe(page, {attributes: true});
 });"""

@@ -67,6 +67,11 @@ test("a network of very many arrows is a table, and one of its firms a picture",
     assert.equal([...networkPicture(network, {}, {firm: "S1"}).matchAll(/data-firm=/g)].length, 17);
 });
 
+test("a firm may have any name that the rule allows, also one that objects have already", () => {
+    const text = readFileSync(new URL("../../../examples/used-cars.json", import.meta.url), "utf8").replaceAll('"O1"', '"__proto__"').replaceAll('"D"', '"constructor"');
+    assert.match(networkPicture(new Network(text), {}), /data-firm="__proto__"/);
+});
+
 test("what is kept of others is what its licence file says", () => {
     for (const [folder, names] of [["dagre-0.8.5", ["dagre.min.js"]], ["codemirror-5.65.0", ["codemirror.min.js", "codemirror.css"]]]) {
         const place = new URL(`../../../page/vendor/${folder}/`, import.meta.url), licence = readFileSync(new URL("LICENCE.txt", place), "utf8");
