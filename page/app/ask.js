@@ -37,14 +37,14 @@ export class Program {
         return (words, bytes) => turn === this.count ? this.put(words, bytes) : Promise.reject(new Ended());
     }
 
-    /** Ends what is asked. The next question starts another worker. */
-    end() {
+    /** Ends what is asked, for a reason. The next question starts another worker. */
+    end(reason = new Ended()) {
         if (this.open.size === 0) return;
         this.worker.terminate();
         this.worker = null;
         const open = [...this.open.values()];
         this.open.clear();
-        for (const {fail} of open) fail(new Ended());
+        for (const {fail} of open) fail(reason);
     }
 
     put(words, bytes) {
@@ -64,7 +64,7 @@ export class Program {
             if (trouble) asked?.fail(new NoAnswerCame(trouble));
             else asked?.give(said);
         };
-        this.worker.onerror = () => this.end();
+        this.worker.onerror = () => this.end(new NoAnswerCame("trap"));
         this.worker.postMessage({module: this.module});
     }
 }

@@ -60,6 +60,13 @@ class Bench(look.Page):
         self.wait_for("guess", "answered", "fault", "none", "trouble")
         return said
 
+    def again(self, address: str) -> None:
+        """Opens the page at an address, as if it hadn't been open."""
+        self.browser.open("about:blank")
+        self.browser.open(address)
+        if self.wait("ready", "failed") == "failed":
+            raise RuntimeError(f"the page doesn't run at {address[:80]}: {self.says('status')}")
+
     def value(self, script: str, *words: object) -> object:
         return self.browser.run(f"return {script};", *words)
 
@@ -380,29 +387,19 @@ def tries_of_links(page: Bench, address: str):
     yield "from a disk the link is the fragment alone", fragment.startswith("#1.") and len(fragment) < 8000 and "behind any address" in page.says("linked-says")
     for name, there, wanted in (("a link brings the document back", fragment, example("houses.json")),
                                 ("and so does one from elsewhere", packed(look.example("ring.json")), example("ring.json"))):
-        page.browser.open("about:blank")
-        page.browser.open(address + there)
-        page.wait("ready")
+        page.again(address + there)
         page.guess()
         yield name, page.text() == wanted
-    page.browser.open("about:blank")
-    page.browser.open(address + packed(b"[" * (1 << 24)))
-    page.wait("ready")
+    page.again(address + packed(b"[" * (1 << 24)))
     yield "what a link unpacks to stops at 4 MiB and one byte", page.says("name").startswith("from a link, 4194.3 KB")
     yield "and is a document like any other", page.ask("solve")["sentences"][0].startswith("The document has a fault")
-    page.browser.open("about:blank")
-    page.browser.open(address + "#1.!!")
-    page.wait("ready")
+    page.again(address + "#1.!!")
     yield "a broken link is told", "could not be read" in page.says("notice") and page.guess().startswith("\u2713")
-    page.browser.open("about:blank")
-    page.browser.open(address)
-    page.wait("ready")
+    page.again(address)
     page.guess()
     yield "what was changed last is asked about", page.value("!document.getElementById('kept').hidden")
     page.click("#kept-forget")
-    page.browser.open("about:blank")
-    page.browser.open(address)
-    page.wait("ready")
+    page.again(address)
     yield "and forgotten", page.value("document.getElementById('kept').hidden")
 
 

@@ -124,14 +124,19 @@ return Promise.allSettled([market.ask(["solve"], long), market.ask(["--version"]
     .then((ended) => ended.map(({status, reason}) => `${status} ${reason?.constructor.name ?? ""}`.trim()));"""
 
 
+# In the same step as the question, so that its answer can't come before.
+END = """
+const {state} = document.documentElement.dataset;
+document.getElementById("end").click();
+return state;"""
+
+
 def tries_to_end(page: Page, long: bytes):
     """What ends a run."""
     yield "a newer question ends an older one", page.browser.run(LONG, long.decode()) == ["rejected Ended", "fulfilled"]
     page.open("long.json", long)
-    page.browser.run(CHOOSE, "solve")
-    page.wait("asking")
-    page.browser.run("document.getElementById('end').click()")
-    yield "End ends a run", page.wait("ended", "answered") == "ended"
+    asking = page.browser.run(CHOOSE + END, "solve")
+    yield "End ends a run", asking == "asking" and page.wait("ended", "answered") == "ended"
     page.open("one-trade.json", example("one-trade.json"))
     yield "and the next one is answered", page.ask("solve")["bytes"] == '{"answer":"solved","on":["a"],"prices":[["a",3]],"surplus":2}\n'
 
