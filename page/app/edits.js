@@ -11,7 +11,7 @@ export function applied(text, edits) {
 }
 
 /** Edits in the order of the text; of those at one place the earlier first. */
-export function inOrder(edits) {
+function inOrder(edits) {
     return [...edits].sort((one, other) => one.start - other.start);
 }
 
@@ -60,7 +60,7 @@ export function hasArrangement(network) {
 }
 
 /** Whether a document can have one: it is an object. */
-export function mayHaveArrangement(network) {
+function mayHaveArrangement(network) {
     return network.root.kind === "object" && network.trades.length > 0;
 }
 

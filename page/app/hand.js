@@ -58,7 +58,7 @@ function grip(store, key) {
 }
 
 /** The trades of the lane of a key. */
-export function tradesOf(key) {
+function tradesOf(key) {
     const lane = [...part("stage").querySelectorAll(".lane")].find((element) => element.dataset.key === key);
     return lane ? lane.dataset.trades.split(" ") : [];
 }

@@ -6,7 +6,7 @@ export function partOf(id) {
 }
 
 /** The bytes of a part that stands there in letters. */
-export function bytesOf(id) {
+function bytesOf(id) {
     return Uint8Array.from(atob(partOf(id)), (letter) => letter.charCodeAt(0));
 }
 

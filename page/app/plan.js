@@ -10,7 +10,7 @@ const ROOMS = {wide: {width: 1540, height: 760}, usual: {width: 940, height: 720
 const ROOM = {width: 1580, height: 880};
 
 /** Beyond how many lanes there is a table, and only one firm's neighbourhood is drawn. */
-export const MOST_LANES = 120;
+const MOST_LANES = 120;
 
 /** Up to how many lanes each has its name and price in a place of its own, and up to how many where there is one left. */
 const FEW = 24, SOME = 60;
@@ -80,9 +80,9 @@ function madeLabels({lanes, places, boxes, isClose}, digits, isNamed) {
 const WIDER = 1.12;
 
 function boxSize(name, digits, isClose) {
-    const number = "0".repeat(digits), below = isClose ? ["\u2717 none", `\u2717 ${number}`] : [`\u2717 ${number}, best ${number}`];
+    const number = "0".repeat(digits), below = isClose ? ["\u2717 none", `\u2717 ${number}`] : ["impossible", `best ${number}`];
     const widest = Math.max(widthOf(name, NAME), ...below.map((says) => widthOf(says, BELOW)));
-    return {width: widest * WIDER + 12, height: isClose ? 38 : 46};
+    return {width: widest * WIDER + 12, height: isClose ? 38 : 58};
 }
 
 /** The room for a name above a price. */

@@ -85,7 +85,7 @@ function look(window) {
 }
 
 /** The window, larger or smaller by a factor around a point of the screen, or around its middle. */
-export function zoomed(view, factor, at = null) {
+function zoomed(view, factor, at = null) {
     const now = view.window ?? {x: 0, y: 0, width: size.width, height: size.height};
     const width = Math.min(size.width * 1.5, Math.max(size.width / MOST_ZOOM, now.width * factor)), scale = width / now.width;
     const center = at === null ? {x: now.x + now.width / 2, y: now.y + now.height / 2} : inPicture(at);

@@ -36,7 +36,7 @@ function guessState(value) {
 }
 
 function rangesState(value) {
-    if (!value.view.hasRanges) return "none";
+    if (!value.view.hasRanges || !value.document.isWhole) return "none";
     if (value.ranges === null || isOld(value, value.ranges)) return "asking";
     return value.ranges.said?.answer === "ranges" ? "answered" : "fault";
 }

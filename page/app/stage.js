@@ -2,10 +2,13 @@
 import {arrow, escaped, INK, NORMAL, smooth, tag, text, widthOf} from "../draw/svg.js";
 import {BELOW, labelPlaces, NAME, planOf, PRICE} from "./plan.js";
 
+/** How far lines in a box stand from each other. */
+const HIGH = 16;
+
 const OFF = "#64748b", GOOD = "#166534", BAD = "#9a3412";
 
 /** How long the numbers of a guess are at most, rounded so that they rarely change it. */
-export function digitsOf(stands, lines) {
+function digitsOf(stands, lines) {
     const utilities = lines.flatMap(({utility, best_utility: most}) => [utility ?? 0n, most]);
     return Math.max(3, ...[...stands.prices.values(), ...utilities].map((number) => String(number).length));
 }
@@ -86,9 +89,9 @@ function firmSvg({name, width, height}, {x, y}, line, selection, isClose) {
     const box = {x: x - width / 2, y: y - height / 2, width, height, rx: 6};
     const attributes = {class: `firm ${mood}${isChosen ? " chosen" : ""}`, "data-key": `firm:${name}`, "data-firm": name};
     const isContent = mood === "content", style = {size: BELOW, ink: isContent ? GOOD : BAD, weight: isContent ? null : "bold"};
+    const lines = line ? belowOf(line, isClose) : [], top = y + 4 - lines.length * HIGH / 2;
     return tag("g", {...attributes, role: "button", tabindex: 0, "aria-label": firmSays(name, line)}, tag("rect", box),
-        text(x, y + (line ? -3 : 5), name, {size: NAME, weight: "bold"}),
-        line ? text(x, y + (isClose ? 13 : 15), belowOf(line, isClose), style) : null);
+        text(x, top, name, {size: NAME, weight: "bold"}), lines.map((says, k) => text(x, top + 1 + (k + 1) * HIGH, says, style)));
 }
 
 /** Whether a firm is content, objects, or has what is impossible, as a class; "unknown" where nothing is answered of it. */
@@ -97,11 +100,12 @@ export function moodOf(line) {
     return line.worth === null ? "impossible" : line.gain === 0n ? "content" : "objects";
 }
 
+/** What stands below the name of a firm: a sign and its utility, and the best that it could have where there is room. */
 function belowOf(line, isClose) {
     const mood = moodOf(line);
-    if (mood === "content") return `\u2713 ${line.utility}`;
-    if (mood === "impossible") return isClose ? "\u2717 none" : "\u2717 impossible";
-    return isClose ? `\u2717 ${line.utility}` : `\u2717 ${line.utility}, best ${line.best_utility}`;
+    if (mood === "content") return [`\u2713 ${line.utility}`];
+    if (mood === "impossible") return isClose ? ["\u2717 none"] : ["\u2717", "impossible"];
+    return isClose ? [`\u2717 ${line.utility}`] : [`\u2717 ${line.utility}`, `best ${line.best_utility}`];
 }
 
 /** A firm in words. */

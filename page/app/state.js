@@ -4,7 +4,7 @@ import {Network} from "../read/network.js";
 import {applied} from "./edits.js";
 
 /** Up to how many bytes a document is shown as a text that can be changed. */
-export const MOST_SHOWN = 1 << 18;
+const MOST_SHOWN = 1 << 18;
 
 const BEGINNING = 2000;
 
