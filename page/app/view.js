@@ -5,13 +5,14 @@ import {lineOf} from "./exports.js";
 import {drawing, made, part, write} from "./page.js";
 import {isOld} from "./state.js";
 
-let last = null;
+let last = null, named = null;
 
 /** Shows the document's name and what is answered to the command. */
 export function showAnswers(value) {
     const {document: shown, words, run, answer} = value;
     document.documentElement.dataset.state = run.state === "none" ? "ready" : run.state;
-    part("name").textContent = nameOf(shown);
+    if (shown !== named) part("name").textContent = nameOf(shown);
+    named = shown;
     part("run").disabled = false;
     part("end").disabled = run.state !== "asking";
     part("shown").hidden = answer === null;

@@ -144,7 +144,7 @@ def tries_to_end(page: Page, long: bytes):
 def tries_of_trouble(page: Page):
     """What is tried in a page whose module breaks off, by `trouble_module`."""
     page.open("small.json", b"{}")
-    for words, wanted in [("stack", "the browser's stack ran out"), ("trap", "the program was stopped by the browser")]:
+    for words, wanted in [("stacked", "the browser's stack ran out"), ("trap", "the program was stopped by the browser")]:
         shown = page.ask(words)
         yield f"{words} is told", shown["state"] == "trouble" and wanted in shown["status"]
         yield f"after {words} the next run is answered", page.ask("answer")["state"] == "answered"
@@ -157,7 +157,7 @@ def tries_of_trouble(page: Page):
 
 def trouble_module() -> bytes:
     """
-    A module whose page_answer calls itself without an end where the words have 5 bytes, as "stack", stops where they have 4, as
+    A module whose page_answer calls itself without an end where the words have 7 bytes, as "stacked", stops where they have 4, as
     "trap", and otherwise answers one byte with the status 0. Its memory has at most three pages.
     """
     def section(number: int, content: bytes) -> bytes:
@@ -165,6 +165,6 @@ def trouble_module() -> bytes:
         return bytes([number, len(content)]) + content
     call_itself = b"".join(bytes([0x20, k]) for k in range(6)) + b"\x10\x00"
     body = (b"\x00" + b"\x20\x01\x42\x04\x51\x04\x40\x00\x0b"  # (of 4 bytes: unreachable)
-            + b"\x20\x01\x42\x05\x51\x04\x7e" + call_itself + b"\x05\x42\x80\x02\x0b\x0b")  # (of 5: itself; else status 0, 1 byte)
+            + b"\x20\x01\x42\x07\x51\x04\x7e" + call_itself + b"\x05\x42\x80\x02\x0b\x0b")  # (of 7: itself; else status 0, 1 byte)
     return (b"\0asm\x01\0\0\0" + section(1, b"\x01\x60\x06" + b"\x7e" * 6 + b"\x01\x7e") + section(3, b"\x01\x00") + section(5, b"\x01\x01\x01\x03")
             + section(7, b"\x02\x06memory\x02\x00\x0bpage_answer\x00\x00") + section(10, b"\x01" + bytes([len(body)]) + body))
