@@ -19,15 +19,12 @@ fill-requires g c =
     let nodes = graph_is.nodes in (
       lit< tt,
       (
-        lit≤ tt,
+        omega (arith, trades),
         (
-          omega (arith, trades),
+          omega (arith, trades, nodes),
           (
-            omega (arith, trades, nodes),
-            (
-              stalls-possible _ c.expect-market.result.trades c.empty-none.result (ap (λ (vs : List Stall). map (λ (v : Stall). stall) vs) firms),
-              (λ f v is. lit≤ tt),
-            ),
+            stalls-possible _ c.expect-market.result.trades c.empty-none.result (ap (λ (vs : List Stall). map (λ (v : Stall). stall) vs) firms),
+            (λ f v is. lit≤ tt),
           ),
         ),
       ),
@@ -41,15 +38,12 @@ refresh-requires g c =
     subst (λ (r : Result (Traded Stall) OutOfMemory). IfOk r (λ market. length market.trades ≡ 2)) c.expect-market.ensures c.two_stalls.ensures.two_trades in (
       lit< tt,
       (
-        lit≤ tt,
+        omega (arith, trades),
         (
-          omega (arith, trades),
+          c.fill.ensures.graph,
           (
-            c.fill.ensures.graph,
-            (
-              stalls-possible _ c.expect-market.result.trades c.toggle.new.self (ap (λ (vs : List Stall). map (λ (v : Stall). stall) vs) firms),
-              (λ f v is. lit≤ tt),
-            ),
+            stalls-possible _ c.expect-market.result.trades c.toggle.new.self (ap (λ (vs : List Stall). map (λ (v : Stall). stall) vs) firms),
+            (λ f v is. lit≤ tt),
           ),
         ),
       ),

@@ -26,14 +26,11 @@ range-requires g c =
     let firms = map (λ (v : Stall). stall) c.expect-market.result.firms in (
       lit< tt,
       (
-        lit≤ tt,
+        omega (arith, count),
         (
-          omega (arith, count),
-          (
-            (λ f v is. lit≤ tt),
-            subst (λ (x : ℕ). IsSupported firms c.expect-market.result.trades x) (sym on)
-                (subst (λ (ts : List Ends). IsSupported firms ts 3) (sym trades) (stalls-supported firms (ap (λ (vs : List Stall). map (λ (v : Stall). stall) vs) stalls))),
-          ),
+          (λ f v is. lit≤ tt),
+          subst (λ (x : ℕ). IsSupported firms c.expect-market.result.trades x) (sym on)
+              (subst (λ (ts : List Ends). IsSupported firms ts 3) (sym trades) (stalls-supported firms (ap (λ (vs : List Stall). map (λ (v : Stall). stall) vs) stalls))),
         ),
       ),
     )

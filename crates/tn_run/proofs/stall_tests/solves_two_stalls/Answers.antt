@@ -1,4 +1,4 @@
-use Rattle.std.proofs.Common.{◌≡◌, length, lit<, lit≤, arith, IfOk, Result, subst}
+use Rattle.std.proofs.Common.{◌≡◌, length, lit<, arith, IfOk, Result, subst}
 use Rattle.tn_base.specs.declared.memory.OutOfMemory.{OutOfMemory}
 use Rattle.tn_base.proofs.SetLemmas.{has-zero}
 use Rattle.tn_market.specs.Traded.{Traded}
@@ -13,15 +13,12 @@ solve_among-requires g c =
       (
         lit< tt,
         (
-          lit≤ tt,
+          omega (arith, trades),
           (
-            omega (arith, trades),
+            c.solve_in.ensures.one_each,
             (
-              c.solve_in.ensures.one_each,
-              (
-                (λ t is. absurd (cc (is, has-zero t))),
-                (λ f v is. omega (arith, trades)),
-              ),
+              (λ t is. absurd (cc (is, has-zero t))),
+              (λ f v is. omega (arith, trades)),
             ),
           ),
         ),
