@@ -51,6 +51,11 @@ pub record IsLeastCycle (arc : ℕ → ℕ → Option ℤ) (t : ℕ) (vs : List 
 abbrev pub KeepsArcs : (ℕ → ℕ → Option ℤ) → (ℕ → ℤ) → Type 0
 KeepsArcs arc label = (u v : ℕ) (cost : ℤ) → arc u v ≡ Some cost → label v ≤ℤ (label u +ℤ cost)
 
+-- the same, where the arcs that end at t find another number there than those that begin at it
+pub record KeepsArcsEntering (arc : ℕ → ℕ → Option ℤ) (t : ℕ) (entering : ℤ) (label : ℕ → ℤ) : Type 0 where
+  pub others : (u v : ℕ) (cost : ℤ) → v ≢ t → arc u v ≡ Some cost → label v ≤ℤ (label u +ℤ cost)
+  pub enters : (u : ℕ) (cost : ℤ) → arc u t ≡ Some cost → entering ≤ℤ (label u +ℤ cost)
+
 -- the least cost of a walk from u to w
 pub record IsLeastWalk (arc : ℕ → ℕ → Option ℤ) (u w : ℕ) (vs : List ℕ) (cost : ℤ) : Type 0 where
   pub walk : walk_cost arc u vs w ≡ Some cost
