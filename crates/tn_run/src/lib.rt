@@ -7,32 +7,18 @@ mod casing;
 mod casing_tests;
 mod command;
 mod exit;
-#[cfg(test)]
-mod judged_tests;
-#[cfg(test)]
-mod kind_tests;
-#[cfg(test)]
-mod limit_tests;
 mod numbers;
-#[cfg(test)]
-mod ranged_tests;
-#[cfg(test)]
-mod replayed_tests;
 mod replaying;
 #[cfg(test)]
 mod row_tests;
 #[cfg(test)]
 mod rows;
 #[cfg(test)]
-mod solve_tests;
-#[cfg(test)]
 mod stall_outcome_tests;
 #[cfg(test)]
 mod stall_tests;
 #[cfg(test)]
 mod stalls;
-#[cfg(test)]
-mod table_tests;
 mod testing;
 #[cfg(test)]
 mod tests;

@@ -17,7 +17,7 @@ fn parts(row: &str) -> Option<(&str, &str, &str, &str)> {
 }
 
 /// Whether a line is the wanted text and a line end.
-pub(crate) fn is_line(written: &[u8], wanted: &str) -> bool {
+fn is_line(written: &[u8], wanted: &str) -> bool {
     match (written.strip_suffix(b"\n"), wanted.split_once("..")) {
         (None, _) => false,
         (Some(line), None) => line == wanted.as_bytes(),

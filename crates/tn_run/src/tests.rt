@@ -18,8 +18,6 @@ const EQUILIBRIUM: &str = "{\"answer\":\"equilibrium\",\"surplus\":2}\n";
 
 const NOT_JSON: &str = "{\"answer\":\"fault\",\"fault\":1,\"name\":\"NotJson\",\"place\":[]}\n";
 
-const TOO_LONG: &str = "{\"answer\":\"fault\",\"fault\":2,\"name\":\"TooLong\",\"place\":[]}\n";
-
 const SHAPE: &str = "{\"answer\":\"fault\",\"fault\":3,\"name\":\"Shape\",\"place\":[]}\n";
 
 const USAGE: &str = "{\"answer\":\"usage\"}\n";
@@ -85,53 +83,6 @@ fn answers_each_document(rt: HostRuntime) -> Result<(), Fail> {
         no_memory_text(),
         b"{\"answer\":\"no_memory\"}\n".as_slice()
     );
-    Ok(())
-}
-
-/// The deal with a note of so many nested lists.
-fn noted_deal(alloc: Global, depth: usize) -> Result<Vec<u8>, Fail> {
-    let mut document = b"{\"note\":".to_vec(alloc)?;
-    for bracket in [b'[', b']'] {
-        for _ in 0..depth {
-            document.push(bracket)?;
-        }
-    }
-    document.push(b',')?;
-    document.extend_from_slice(&DEAL[1..])?;
-    Ok(document)
-}
-
-#[test]
-fn takes_json_up_to_its_limits(rt: HostRuntime) -> Result<(), Fail> {
-    for (depth, status, text) in [(126, 0, EQUILIBRIUM), (127, 1, NOT_JSON)] {
-        let document = noted_deal(rt.alloc(), depth)?;
-        let (found, written) = run_on(rt.alloc(), "check", &document)?;
-        assert_eq!(rt; found, status);
-        assert_eq!(rt; written.as_slice(), text.as_bytes());
-    }
-    let mut document = DEAL.to_vec(rt.alloc())?;
-    document[0] = 255;
-    let (found, written) = run_on(rt.alloc(), "check", &document)?;
-    assert_eq!(rt; found, 1);
-    assert_eq!(rt; written.as_slice(), NOT_JSON.as_bytes());
-    Ok(())
-}
-
-/// The deal followed by blanks up to this length.
-fn padded_deal(alloc: Global, length: usize) -> Result<Vec<u8>, Fail> {
-    let mut document = DEAL.to_vec(alloc)?;
-    document.resize(length, b' ')?;
-    Ok(document)
-}
-
-#[test]
-fn takes_a_document_up_to_the_limit(rt: HostRuntime) -> Result<(), Fail> {
-    for (length, status, text) in [(4_194_304, 0, EQUILIBRIUM), (4_194_305, 1, TOO_LONG)] {
-        let document = padded_deal(rt.alloc(), length)?;
-        let (found, written) = run_on(rt.alloc(), "check", &document)?;
-        assert_eq!(rt; found, status);
-        assert_eq!(rt; written.as_slice(), text.as_bytes());
-    }
     Ok(())
 }
 
