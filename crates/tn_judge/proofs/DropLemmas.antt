@@ -1,20 +1,17 @@
 -- What a firm would drop: choices from its contracts by bundles of signed trades.
-use Rattle.std.proofs.Common.{◌≡◌, ℕ, ◌+◌, ◌^◌, ◌<◌, Bool, true, false, ◌&&◌, ◌||◌, List, length, slice_get, Option, Some, None, option_map, refl, sym, ap, ap₂, ◌∙◌, subst, arith, inl, inr, ℤ, ◌-ℤ◌}
-use Rattle.std.specs.Prelude.{IsSome, ◌+ℤ◌, ◌*ℤ◌}
+use Rattle.std.proofs.Common.{◌≡◌, ℕ, ◌+◌, ◌^◌, ◌<◌, Bool, true, false, ◌&&◌, List, length, slice_get, Option, Some, None, option_map, refl, sym, ap, ◌∙◌, subst, arith, inl, inr, ℤ, ◌-ℤ◌}
 use Rattle.std.proofs.lemmas.Int.{ints}
-use Rattle.std.proofs.lemmas.Bool.{cases_Bool, cases_eq, true≢false}
+use Rattle.std.proofs.lemmas.Bool.{cases_Bool, cases_eq}
 use Rattle.std.proofs.lemmas.Option.{same_Some}
-use Rattle.tn_base.specs.Sets.{has, sum_over, union}
-use Rattle.tn_base.specs.Firm.{Firm, MayAbstain, payments}
-use Rattle.tn_base.proofs.SetLemmas.{has_below, has-union, same_set, set_of_within, within_from, has-zero}
+use Rattle.tn_base.specs.Sets.{has}
+use Rattle.tn_base.specs.Firm.{Firm}
+use Rattle.tn_base.proofs.SetLemmas.{has_below, set_of_within, within_from}
 use Rattle.tn_plain_data.specs.declared.ends.Ends.{Ends}
 use Rattle.tn_plain_data.specs.declared.contract.Contract.{Contract}
 use Rattle.tn_plain_data.specs.Network.{own}
 use Rattle.tn_market.specs.Best.{IsSubset, IsBestBetween}
-use Rattle.tn_residual.specs.Held.{IsBestPart, GivesPart}
-use Rattle.tn_market.specs.Equilibrium.{prices_at}
 use Rattle.tn_plain_data.specs.Choices.{bundle_by, part_utility, own_part, IsPart, IsChoice}
-use Rattle.tn_market.specs.Signed.{is_signed, signed, signed_price, signed_bundle, contract_utility}
+use Rattle.tn_market.specs.Signed.{is_signed, signed, signed_bundle, contract_utility}
 use Rattle.tn_outcome.proofs.SignedLemmas.{has-signed_bundle}
 use Rattle.tn_outcome.proofs.RationalLemmas.{IsSigner, part_is_bundle, part_bundle, bundle_signed, is_in, in_is, wanted_part, wanted_is_part, own_is_part, own_bundle, between_signed, inside_signed, rational_from_bundles}
 use Rattle.tn_judge.specs.declared.drops.Kept.{Kept}
@@ -121,32 +118,3 @@ one_kept firms trades over contracts f before here g firm below is = elim (cases
   | inl e ↦ subst (λ (h : ℕ). IsChoice trades over h firm contracts (own_part trades h contracts)) (sym e) (here firm (ap (slice_get firms) (sym e) ∙ is))
   | inr d ↦ before g firm (omega (arith, below, d)) is
 ]
-
--- among the parts of a firm's contracts some one is possible: to keep none
-pub some_best : (trades : List Ends) (over : ℤ) (contracts : List Contract) (f : ℕ) (firm : Firm) (none : ℕ) (found : Option (ℕ × ℤ)) → MayAbstain firm → none ≡ 0
-    → GivesPart none (signed_bundle trades contracts f firm) (contract_utility trades over contracts f firm) found → IsSome found
-some_best trades over contracts f firm none (Some found) abstains empty best = refl
-some_best trades over contracts f firm none None abstains empty best =
-    let no = ap (contract_utility trades over contracts f firm) (sym nothing) ∙ best 0 (λ k there. absurd (true≢false (sym there ∙ has-zero k))) in
-    let yes : contract_utility trades over contracts f firm 0 ≡ Some _ =
-    ap (option_map (λ w. over *ℤ w +ℤ sum_over (payments firm.buys (prices_at trades (signed_price contracts) f)) firm.count 0)) abstains.1 in
-    absurd (cc (no, yes))
-  where
-    nothing : union none 0 ≡ 0
-    nothing = same_set (union none 0) 0 (λ k. has-union none 0 k ∙ ap₂ (λ (a b : Bool). a || b) (ap (λ (x : ℕ). has x k) empty ∙ has-zero k) (has-zero k) ∙ sym (has-zero k))
-
--- a best part of the contracts alone is a best bundle of signed trades
-pub best_from_part : (given none : ℕ) (value_of : ℕ → Option ℤ) (keeps : ℕ) (value : ℤ) → none ≡ 0 → IsBestPart none given value_of keeps value → IsBestBetween 0 given value_of keeps value
-best_from_part given none value_of keeps value empty best = record {
-  is = ap value_of (sym (beside keeps)) ∙ best.is;
-  between = between_signed keeps given best.inside;
-  most = λ y other between y_is. best.most y other (inside_signed y given between) (ap value_of (beside y) ∙ y_is);
-}
-  where
-    beside : (y : ℕ) → union none y ≡ y
-    beside y = same_set (union none y) y (λ k. has-union none y k ∙ ap (λ (b : Bool). b || has y k) (ap (λ (x : ℕ). has x k) empty ∙ has-zero k))
-
-pub best_found : (given none : ℕ) (value_of : ℕ → Option ℤ) (found : Option (ℕ × ℤ)) (keeps : ℕ) (value : ℤ) → none ≡ 0 → GivesPart none given value_of found → found ≡ Some (keeps, value)
-    → IsBestBetween 0 given value_of keeps value
-best_found given none value_of found keeps value empty gives is =
-    best_from_part given none value_of keeps value empty (subst (GivesPart none given value_of) is gives)

@@ -7,14 +7,13 @@ ghost use Rattle.tn_judge.specs.Drops.{FindsDrop, FindsFirst, TellsDrop};
 ghost use Rattle.tn_market.specs.Best.{IsBestBetween};
 ghost use Rattle.tn_market.specs.Limits.{IsOutcomeOf, IsWithinLimits};
 ghost use Rattle.tn_market.specs.Widths.{most_utility};
-ghost use Rattle.tn_plain_data.specs.Limits.{most_number};
 ghost use Rattle.tn_plain_data.specs.Network.{IsNetwork};
 ghost use Rattle.tn_market.specs.Signed.{contract_utility, signed_bundle};
 ghost use Rattle.tn_market.specs.NetworkOf.{network_of};
 
 use tn_base::Bundle;
 use tn_market::{Market, Oracle, Outcome, Room, Valuation, utility_of};
-use tn_residual::{reduced_best, signed_by};
+use tn_residual::signed_by;
 
 /// What a firm would keep, and what it gains by that: None where its contracts are an impossible bundle.
 #[derive(Clone, Copy, Debug)]
@@ -43,7 +42,7 @@ fn own_utility<V: Oracle>(
     utility_of(firm, held.signed, outcome.over, prices, room)
 }
 
-/// A choice of firm `f` from its contracts, with its utility.
+/// A choice of firm `f` from its contracts, with its utility. The search begins at all of them.
 fn best_kept<V: Oracle>(
     market: &Market<V>,
     f: u32,
@@ -55,14 +54,17 @@ fn best_kept<V: Oracle>(
     requires firm { f < length market.now.firms }
     ensures best { (v : V) → slice_get market.now.firms f ≡ Some v → IsBestBetween 0 (signed_bundle market.now.trades outcome.now.contracts f (V.firm v))
         (contract_utility market.now.trades outcome.now.over outcome.now.contracts f (V.firm v)) result.0 result.1 }
-    ensures small { IsAtMost result.1 most_number }
+    ensures small { IsAtMost result.1 most_utility }
 {
-    reduced_best(market, f, outcome, Bundle::empty(), room).unwrap()
+    let held = signed_by(market, f, outcome);
+    let firm = market.firm(f);
+    let prices = &held.prices[..firm.trades() as usize];
+    firm.best_from(held.signed, held.signed, outcome.over, prices, room)
 }
 
 /// A choice's utility less that of all contracts, if it is more; `own` is None where they are an impossible bundle.
 fn drop_from(keeps: Bundle, value: i128, own: Option<i128>) -> Option<Kept>
-    requires value { IsAtMost value most_number }
+    requires value { IsAtMost value most_utility }
     requires own { IfSome own (λ z. IsAtMost z most_utility) }
     ensures { TellsDrop keeps value own result }
 {

@@ -1,7 +1,8 @@
 -- Steepest ascent: the values that it compares, how far a step has looked, and that what it stops at is best.
-use Rattle.std.proofs.Common.{◌≡◌, ◌≢◌, ℕ, ◌+◌, ◌*◌, ◌^◌, ◌<◌, ◌≤◌, Bool, true, false, not, ◌==◌, if◌then◌else◌, List, Option, Some, None, option_map, refl, sym, ap, ◌∙◌, subst, arith, inl, inr, ◌⊎◌, ℤ, pos, ◌+ℤ◌, ◌*ℤ◌, ◌≤ℤ◌, add-one, IsSome}
+use Rattle.std.proofs.Common.{◌≡◌, ◌≢◌, ℕ, ◌+◌, ◌*◌, ◌^◌, ◌<◌, ◌≤◌, Bool, true, false, not, ◌==◌, if◌then◌else◌, List, Option, Some, None, option_map, refl, sym, ap, ◌∙◌, subst, arith, inl, inr, ◌⊎◌, ℤ, pos, ◌+ℤ◌, ◌*ℤ◌, ◌≤ℤ◌, ◌<ℤ◌, add-one, IsSome}
 use Rattle.std.proofs.lemmas.Int.{ints}
 use Rattle.std.proofs.lemmas.Bool.{cases_eq, eq-eqb, eqb-true, cases_lt}
+use Rattle.std.proofs.lemmas.Option.{same_Some}
 use lib.Signed.{le_z}
 use mir.Syntax.{w128}
 use mir.Val.{of_z, to_z}
@@ -15,7 +16,7 @@ use Rattle.tn_law.proofs.LocalLemmas.{local_to_global}
 use Rattle.tn_law.proofs.BoundLemmas.{times_small}
 use Rattle.tn_plain_data.specs.Prices.{price_at}
 use Rattle.tn_market.specs.declared.bundle_value.BundleValue.{BundleValue}
-use Rattle.tn_market.specs.Ascent.{aimed, IsBesideBest, IsNearbyBest, IsValued, IsNoWorse, TriesOne, TriesBeside, TriesNearby}
+use Rattle.tn_market.specs.Ascent.{aimed, IsBesideBest, IsNearbyBest, IsValued, StaysAt, IsNoWorse, TriesOne, TriesBeside, TriesNearby}
 use Rattle.tn_market.specs.Widths.{most_limit, most_utility, most_worth, most_scale, most_own}
 
 -- ---- sizes
@@ -53,6 +54,15 @@ pub aimed_some : (allowed : ℕ) (scale : ℤ) (gains : List ℤ) (firm : Firm) 
 aimed_some allowed scale gains firm x worth inside is =
     ap (λ (b : Bool). if b then option_map (λ a. scale *ℤ a +ℤ sum_over (price_at gains) firm.count x) (firm.worth x) else None) (eq-eqb _ _ inside)
     ∙ ap (option_map (λ a. scale *ℤ a +ℤ sum_over (price_at gains) firm.count x)) is
+
+pub aimed_none : (allowed : ℕ) (scale : ℤ) (gains : List ℤ) (firm : Firm) (x : ℕ) → firm.worth x ≡ None → (aimed allowed scale gains firm).worth x ≡ None
+aimed_none allowed scale gains firm x is =
+    ap (λ (worth : Option ℤ). if minus x allowed == 0 then option_map (λ a. scale *ℤ a +ℤ sum_over (price_at gains) firm.count x) worth else None) is
+    ∙ never (minus x allowed == 0)
+  where
+    never : (b : Bool) → (if b then option_map (λ a. scale *ℤ a +ℤ sum_over (price_at gains) firm.count x) None else None) ≡ None
+    never true = refl
+    never false = refl
 
 -- the values of a firm that meets exchange meet exchange
 pub aimed_exchanges : (allowed : ℕ) (scale : ℤ) (gains : List ℤ) (firm : Firm) → pos 0 ≤ℤ scale → HasOwnBundles firm → MeetsExchange firm
@@ -160,6 +170,21 @@ starts allowed scale gains firm bundle value abstains empty is =
 
 pub le_from_test : (a b : ℤ) → le_z a b ≡ true → a ≤ℤ b
 le_from_test a b test = grind (arith, ints)
+
+-- no step from a best bundle gains, so it isn't left
+pub stays : (value_of : ℕ → Option ℤ) (from : ℕ) (found next : BundleValue) → IsValued value_of found → IsNoWorse value_of found next → found.value <ℤ next.value
+    → StaysAt value_of from found.bundle → StaysAt value_of from next.bundle
+stays value_of from found next valued step gains kept value best =
+    let same = same_Some found.value value (sym valued ∙ ap value_of (kept value best) ∙ best.is) in
+    let most = best.most next.bundle next.value (step.valued valued) in
+    absurd (omega (arith, ints, same, most, gains))
+
+-- what has no value isn't best
+pub no_value : (value_of : ℕ → Option ℤ) (from x : ℕ) → None ≡ value_of from → StaysAt value_of from x
+no_value value_of from x none value best = let some = best.is in absurd (cc (none, some))
+
+pub lt_from_test : (a b : ℤ) → le_z a b ≡ false → b <ℤ a
+lt_from_test a b test = grind (arith, ints)
 
 -- where a step gains nothing, the bundle is best
 pub settled : (firm : Firm) (found next : BundleValue) → HasOwnBundles firm × MeetsExchange firm → IsValued firm.worth found

@@ -1,20 +1,19 @@
--- What an oracle says when it is asked for one bundle, or among all.
-use Rattle.std.proofs.Common.{rules, ◌≡◌, ℕ, zero, suc, ◌*◌, ◌^◌, ◌<◌, ◌≤◌, Bool, true, false, ◌&&◌, ◌||◌, if◌then◌else◌, List, length, take, replicate, Some, None, Option, option_map, IsSome, refl, sym, ap, ap₂, ◌∙◌, subst, arith, inl, inr, ℤ, pos, ◌+ℤ◌, neg_ℤ, ◌≤ℤ◌, ◌*ℤ◌}
+-- What an oracle says when it is asked among all bundles, and how large its answers are.
+use Rattle.std.proofs.Common.{rules, ◌≡◌, ℕ, ◌*◌, ◌^◌, ◌<◌, ◌≤◌, Bool, true, false, ◌&&◌, ◌||◌, if◌then◌else◌, List, length, Some, None, Option, option_map, IsSome, refl, sym, ap, ap₂, ◌∙◌, subst, arith, ℤ, pos, ◌+ℤ◌, neg_ℤ, ◌≤ℤ◌, ◌*ℤ◌}
 use Rattle.std.specs.List.{All}
 use Rattle.std.proofs.lemmas.Int.{ints}
-use Rattle.std.proofs.lemmas.Bool.{cases_Bool, lt-ltb}
-use Rattle.std.proofs.lemmas.List.Elements.{All-get_or, All-take, All-replicate}
-use Rattle.std.proofs.lemmas.List.{length-take, length-replicate}
+use Rattle.std.proofs.lemmas.Bool.{lt-ltb}
+use Rattle.std.proofs.lemmas.List.Elements.{All-get_or}
 use mir.Syntax.{w128}
 use mir.Val.{to_z, of_z}
-use Rattle.tn_base.specs.Sets.{has, meet, union, set_of, sum_over}
+use Rattle.tn_base.specs.Sets.{has, meet, set_of, sum_over}
 use Rattle.tn_base.specs.Arcs.{IsAtMost}
-use Rattle.tn_base.specs.Firm.{Firm, payments, utility, IsBest, HasOwnBundles, MayAbstain}
-use Rattle.tn_base.proofs.SetLemmas.{same_set, has-zero, has-meet, has-union, has-set_of, has_below, union_within, set_of_within}
+use Rattle.tn_base.specs.Firm.{Firm, payments, utility, IsBest, HasOwnBundles}
+use Rattle.tn_base.proofs.SetLemmas.{same_set, has-zero, has-meet, has-union, has-set_of, has_below, set_of_within}
 use Rattle.tn_law.proofs.BoundLemmas.{sum_over_small}
 use Rattle.tn_law.proofs.KeepLemmas.{option_map-some}
 use Rattle.tn_market.specs.Valued.{IsWorthAtMost}
-use Rattle.tn_market.specs.Best.{IsBetween, IsBestBetween, GivesBest}
+use Rattle.tn_market.specs.Best.{IsBetween, IsBestBetween}
 use Rattle.tn_plain_data.specs.Prices.{price_at}
 use Rattle.tn_market.proofs.AscentLemmas.{scaled_small, smaller}
 use Rattle.tn_market.specs.Widths.{most_asked_price, most_limit, most_utility, most_worth, most_scale, most_own}
@@ -24,93 +23,49 @@ use Rattle.tn_market.specs.Widths.{most_asked_price, most_limit, most_utility, m
 no_member : (e k : ℕ) → e ≡ 0 → has e k ≡ false
 no_member e k none = ap (λ (x : ℕ). has x k) none ∙ has-zero k
 
-pub meet_none : (x e : ℕ) → e ≡ 0 → meet x e ≡ 0
-meet_none x e none = same_set _ _ (λ k. has-meet x e k ∙ ap (λ (b : Bool). has x k && b) (no_member e k none) ∙ never (has x k) ∙ sym (has-zero k))
-  where
-    never : (b : Bool) → (b && false) ≡ false
-    never true = refl
-    never false = refl
-
 pub none_meet : (e x : ℕ) → e ≡ 0 → meet e x ≡ 0
 none_meet e x none = same_set _ _ (λ k. has-meet e x k ∙ ap (λ (b : Bool). b && has x k) (no_member e k none) ∙ sym (has-zero k))
-
-has-union_none : (x e k : ℕ) → e ≡ 0 → has (union x e) k ≡ has x k
-has-union_none x e k none = has-union x e k ∙ ap (λ (b : Bool). has x k || b) (no_member e k none) ∙ either (has x k)
-  where
-    either : (b : Bool) → (b || false) ≡ b
-    either true = refl
-    either false = refl
-
-pub union_none : (x e : ℕ) → e ≡ 0 → union x e ≡ x
-union_none x e none = same_set _ _ (λ k. has-union_none x e k none)
-
--- ---- one bundle
-
-itself : (x e : ℕ) → e ≡ 0 → IsBetween x e x
-itself x e none = ((λ k there. there), (λ k there. has-union_none x e k none ∙ there))
-
-only_itself : (x e y : ℕ) → e ≡ 0 → IsBetween x e y → y ≡ x
-only_itself x e y none between = same_set _ _ (λ k. elim (cases_Bool (has x k)) [
-  | inl there ↦ between.0 k there ∙ sym there
-  | inr away ↦ elim (cases_Bool (has y k)) [
-    | inl has_it ↦ let x_has = sym (has-union_none x e k none) ∙ between.1 k has_it in absurd (cc (x_has, away))
-    | inr no_it ↦ no_it ∙ sym away
-  ]
-])
-
--- the only bundle asked for is the answer
-pub asked_some : (value_of : ℕ → Option ℤ) (x e y : ℕ) (value : ℤ) (found : Option (ℕ × ℤ)) → e ≡ 0 → found ≡ Some (y, value)
-    → GivesBest x e value_of found → value_of x ≡ Some value
-asked_some value_of x e y value found none is gives =
-    let best : IsBestBetween x e value_of y value = subst (λ (o : Option (ℕ × ℤ)). GivesBest x e value_of o) is gives in
-    ap value_of (sym (only_itself x e y none best.between)) ∙ best.is
-
-pub asked_none : (value_of : ℕ → Option ℤ) (x e : ℕ) (found : Option (ℕ × ℤ)) → e ≡ 0 → found ≡ None → GivesBest x e value_of found → value_of x ≡ None
-asked_none value_of x e found none is gives =
-    let impossible : (y : ℕ) → IsBetween x e y → value_of y ≡ None = subst (λ (o : Option (ℕ × ℤ)). GivesBest x e value_of o) is gives in
-    impossible x (itself x e none)
 
 -- ---- all bundles
 
 has-all : (n k : ℕ) → k < n → has (set_of (λ k. true) n) k ≡ true
 has-all n k below = has-set_of (λ k. true) n k ∙ ap (λ (b : Bool). b && true) (lt-ltb k n below)
 
-pub all_within : (e all n : ℕ) → e ≡ 0 → all ≡ set_of (λ k. true) n → union e all < 2 ^ n
-all_within e all n none all_is =
-    let all_below : all < 2 ^ n = subst (λ (x : ℕ). x < 2 ^ n) (sym all_is) (set_of_within (λ k. true) n) in
-    union_within e all n (omega (arith, none, all_below)) all_below
+pub all_within : (all n : ℕ) → all ≡ set_of (λ k. true) n → all < 2 ^ n
+all_within all n all_is = subst (λ (x : ℕ). x < 2 ^ n) (sym all_is) (set_of_within (λ k. true) n)
 
-own_between : (e all n y : ℕ) → e ≡ 0 → all ≡ set_of (λ k. true) n → y < 2 ^ n → IsBetween e all y
-own_between e all n y none all_is below = (
-  (λ k there. let away = no_member e k none in absurd (cc (there, away))),
+own_between : (all n y : ℕ) → all ≡ set_of (λ k. true) n → y < 2 ^ n → IsBetween 0 all y
+own_between all n y all_is below = (
+  (λ k there. let away = has-zero k in absurd (cc (there, away))),
   (λ k there.
       let inside = has_below y n k below there in
       let in_all : has all k ≡ true = ap (λ (x : ℕ). has x k) all_is ∙ has-all n k inside in
-      has-union e all k ∙ ap₂ (λ (a b : Bool). a || b) (no_member e k none) in_all),
+      has-union 0 all k ∙ ap₂ (λ (a b : Bool). a || b) (has-zero k) in_all),
 )
 
--- a bundle of greatest utility among all of own positions is best
-pub greatest_is_best : (firm : Firm) (scale : ℤ) (prices : ℕ → ℤ) (e all x : ℕ) (value : ℤ) → HasOwnBundles firm → e ≡ 0
-    → all ≡ set_of (λ k. true) firm.count → (found : Option (ℕ × ℤ)) → found ≡ Some (x, value) → GivesBest e all (utility scale prices firm) found
-    → IsBest (utility scale prices firm) x value
-greatest_is_best firm scale prices e all x value own none all_is found is gives =
-    let best : IsBestBetween e all (utility scale prices firm) x value = subst (λ (o : Option (ℕ × ℤ)). GivesBest e all (utility scale prices firm) o) is gives in
-    record {
-      is = best.is;
-      most = λ y other y_is.
-          let worth = option_map-some (λ a. scale *ℤ a +ℤ sum_over (payments firm.buys prices) firm.count y) (firm.worth y) other y_is in
-          best.most y other (own_between e all firm.count y none all_is (own y worth.0 worth.1)) y_is;
-    }
+-- a possible bundle has own positions alone
+possible_between : (firm : Firm) (scale : ℤ) (prices : ℕ → ℤ) (all x : ℕ) (value : ℤ) → HasOwnBundles firm → all ≡ set_of (λ k. true) firm.count
+    → utility scale prices firm x ≡ Some value → IsBetween 0 all x
+possible_between firm scale prices all x value own all_is is =
+    let worth = option_map-some (λ a. scale *ℤ a +ℤ sum_over (payments firm.buys prices) firm.count x) (firm.worth x) value is in
+    own_between all firm.count x all_is (own x worth.0 worth.1)
 
--- there is one
-pub some_greatest : (firm : Firm) (scale : ℤ) (prices : ℕ → ℤ) (e all : ℕ) (found : Option (ℕ × ℤ)) → MayAbstain firm → HasOwnBundles firm → e ≡ 0
-    → all ≡ set_of (λ k. true) firm.count → GivesBest e all (utility scale prices firm) found → IsSome found
-some_greatest firm scale prices e all (Some best) abstains own none all_is gives = search rules
-some_greatest firm scale prices e all None abstains own none all_is gives =
-    let is : utility scale prices firm 0 ≡ Some (scale *ℤ abstains.0 +ℤ sum_over (payments firm.buys prices) firm.count 0) =
-    ap (option_map (λ a. scale *ℤ a +ℤ sum_over (payments firm.buys prices) firm.count 0)) abstains.1 in
-    let isnt = gives 0 (own_between e all firm.count 0 none all_is (own 0 abstains.0 abstains.1)) in
-    absurd (cc (is, isnt))
+-- a bundle of greatest utility among all of own positions is best
+pub greatest_is_best : (firm : Firm) (scale : ℤ) (prices : ℕ → ℤ) (all x : ℕ) (value : ℤ) → HasOwnBundles firm → all ≡ set_of (λ k. true) firm.count
+    → IsBestBetween 0 all (utility scale prices firm) x value → IsBest (utility scale prices firm) x value
+greatest_is_best firm scale prices all x value own all_is best = record {
+  is = best.is;
+  most = λ y other y_is. best.most y other (possible_between firm scale prices all y other own all_is y_is) y_is;
+}
+
+-- and the other way round
+pub best_is_greatest : (firm : Firm) (scale : ℤ) (prices : ℕ → ℤ) (all x : ℕ) (value : ℤ) → HasOwnBundles firm → all ≡ set_of (λ k. true) firm.count
+    → IsBest (utility scale prices firm) x value → IsBestBetween 0 all (utility scale prices firm) x value
+best_is_greatest firm scale prices all x value own all_is best = record {
+  is = best.is;
+  between = possible_between firm scale prices all x value own all_is best.is;
+  most = λ y other between y_is. best.most y other y_is;
+}
 
 -- ---- sizes
 
@@ -153,38 +108,7 @@ utility_small firm limit scale prices x value asked is =
 pub as_is : (z : ℤ) → IsAtMost z most_utility → to_z w128 (of_z w128 z) ≡ z
 as_is z small = let low = small.low in let high = small.high in omega (arith, ints, low, high)
 
--- ---- prices of 0
-
-sum_over-free : (c : ℕ → ℤ) (n x : ℕ) → ((k : ℕ) → k < n → c k ≡ pos 0) → sum_over c n x ≡ pos 0
-unfolding sum_over
-sum_over-free c zero x free = refl
-sum_over-free c (suc n) x free =
-    let rest = sum_over-free c n x (λ k below. free k (omega (arith, below))) in
-    let last : (if has x n then c n else pos 0) ≡ pos 0 = nothing (has x n) (c n) (free n (omega arith)) in
-    omega (arith, ints, rest, last)
-  where
-    nothing : (b : Bool) (z : ℤ) → z ≡ pos 0 → (if b then z else pos 0) ≡ pos 0
-    nothing true z e = e
-    nothing false z e = refl
-
--- the utility at scale 1 and prices of 0 is the worth
-pub free_utility : (firm : Firm) (prices : List ℤ) (x : ℕ) (value : ℤ) → length prices ≡ firm.count → All (λ p. p ≡ pos 0) prices
-    → utility (pos 1) (price_at prices) firm x ≡ Some value → firm.worth x ≡ Some value
-free_utility firm prices x value priced free is =
-    let worth = option_map-some (λ a. pos 1 *ℤ a +ℤ sum_over (payments firm.buys (price_at prices)) firm.count x) (firm.worth x) value is in
-    let sum = sum_over-free (payments firm.buys (price_at prices)) firm.count x (λ k below.
-    payment_free k (All-get_or (λ p. p ≡ pos 0) prices k (pos 0) (omega (arith, priced, below)) free)) in
-    worth.1 ∙ ap (λ (z : ℤ). Some z) (plain _ _ _ worth.2 sum)
-  where
-    payment_free : (k : ℕ) → price_at prices k ≡ pos 0 → payments firm.buys (price_at prices) k ≡ pos 0
-    payment_free k zero_is = by_side (has firm.buys k) (price_at prices k) zero_is
-      where
-        by_side : (b : Bool) (p : ℤ) → p ≡ pos 0 → (if b then neg_ℤ p else p) ≡ pos 0
-        by_side true p e = omega (arith, ints, e)
-        by_side false p e = e
-
-    plain : (a b c : ℤ) → pos 1 *ℤ a +ℤ b ≡ c → b ≡ pos 0 → a ≡ c
-    plain a b c sum none = omega (arith, ints, sum, none)
+-- ---- impossible bundles
 
 -- where the worth is known, so is the utility, and the other way round
 pub possible_worth : (f : ℤ → ℤ) (worth : Option ℤ) (value : ℤ) → option_map f worth ≡ Some value → IsSome worth
@@ -194,21 +118,3 @@ possible_worth f None value is = absurd (cc is)
 pub impossible_worth : (f : ℤ → ℤ) (worth : Option ℤ) → option_map f worth ≡ None → worth ≡ None
 impossible_worth f (Some a) is = absurd (cc is)
 impossible_worth f None is = refl
-
-pub free_count : (n count : ℕ) → n ≡ count → count ≤ most_own → length (take n (replicate most_own (pos 0))) ≡ count
-free_count n count same few = simp (length-take, length-replicate) (omega (arith, same, few))
-
-pub free_small : (n : ℕ) → All (λ p. IsAtMost p most_asked_price) (take n (replicate most_own (pos 0)))
-free_small n =
-    All-take (λ p. IsAtMost p most_asked_price) n (replicate most_own (pos 0))
-    (All-replicate (λ p. IsAtMost p most_asked_price) most_own (pos 0) (record { low = omega (arith, ints); high = omega (arith, ints) }))
-
-pub all_free : (n : ℕ) → All (λ p. p ≡ pos 0) (take n (replicate most_own (pos 0)))
-all_free n = All-take (λ p. p ≡ pos 0) n (replicate most_own (pos 0)) (All-replicate (λ p. p ≡ pos 0) most_own (pos 0) refl)
-
--- the utility at scale 1 and prices of 0 tells the worth, and that there is none
-pub worth_from_free : (firm : Firm) (prices : List ℤ) (x : ℕ) (found : Option ℤ) → length prices ≡ firm.count → All (λ p. p ≡ pos 0) prices
-    → found ≡ utility (pos 1) (price_at prices) firm x → found ≡ firm.worth x
-worth_from_free firm prices x (Some value) priced free is = sym (free_utility firm prices x value priced free (sym is))
-worth_from_free firm prices x None priced free is =
-    sym (impossible_worth (λ a. pos 1 *ℤ a +ℤ sum_over (payments firm.buys (price_at prices)) firm.count x) (firm.worth x) (sym is))

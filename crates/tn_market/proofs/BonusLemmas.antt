@@ -1,6 +1,7 @@
 -- The bonus of wanted positions: a bundle of greatest value has all of them, if any possible bundle has.
 use Rattle.std.proofs.Common.{◌≡◌, ◌≢◌, ℕ, zero, suc, ◌+◌, ◌*◌, ◌^◌, ◌<◌, ◌≤◌, Bool, true, false, ◌==◌, ◌||◌, if◌then◌else◌, List, length, Option, Some, None, option_map, refl, sym, ap, ◌∙◌, subst, arith, inl, inr, ℤ, pos, ◌+ℤ◌, ◌-ℤ◌, ◌*ℤ◌, neg_ℤ, negsuc, ◌≤ℤ◌}
 use Rattle.std.specs.List.{All}
+use Rattle.std.specs.Option.{IfSome}
 use Rattle.std.proofs.lemmas.Int.{ints}
 use Rattle.std.proofs.lemmas.Bool.{cases_eq, cases_Bool, eqb-true}
 use Rattle.std.proofs.lemmas.List.{get_or-set_same, get_or-set_other}
@@ -11,7 +12,7 @@ use mir.Val.{SFits, to_z, of_z}
 use Rattle.tn_base.specs.Sets.{has, minus, union, size_below, sum_over}
 use Rattle.tn_base.specs.Arcs.{IsAtMost}
 use Rattle.tn_base.specs.Firm.{Firm, payments, utility, IsBest}
-use Rattle.tn_base.proofs.SetLemmas.{has_from_minus-zero, minus-zero_from, has_below, has-union, within_from}
+use Rattle.tn_base.proofs.SetLemmas.{has_from_minus-zero, minus-zero_from, has_below, has-union, has-zero, same_set, within_from}
 use Rattle.tn_base.proofs.SumLemmas.{sum_over-same_terms, sum_over-plus}
 use Rattle.tn_base.specs.declared.side.Side.TheVariants.{Buy, Sell}
 use Rattle.tn_law.proofs.BoundLemmas.{sum_over_small}
@@ -20,7 +21,8 @@ use Rattle.tn_market.specs.Valued.{side_at, IsWorthAtMost}
 use Rattle.tn_market.specs.Best.{IsBetween, IsBestBetween, GivesBest}
 use Rattle.tn_plain_data.specs.Prices.{price_at}
 use Rattle.tn_market.specs.Ascent.{aimed, bonus, gain_at, payment_of, AreGains}
-use Rattle.tn_market.proofs.AscentLemmas.{aimed_some, scaled_small, smaller}
+use Rattle.tn_market.proofs.AscentLemmas.{aimed_some, aimed_none, scaled_small, smaller}
+use Rattle.tn_market.proofs.AskLemmas.{impossible_worth}
 use Rattle.tn_market.specs.Widths.{most_aimed, most_asked_price, most_utility, most_worth, most_scale, most_own}
 
 -- ---- the list of gains
@@ -312,6 +314,88 @@ best_none firm limit need free scale prices gains question x value best lacks = 
         → utility scale (price_at prices) firm y ≡ None
     by_case y between None e = e
     by_case y between (Some other) e = absurd (lacks (minus-zero_from need x (none_missing y between other e)))
+
+-- ---- where nothing is wanted
+
+sum_over-none : (c : ℕ → ℤ) (n x : ℕ) → ((k : ℕ) → c k ≡ pos 0) → sum_over c n x ≡ pos 0
+unfolding sum_over
+sum_over-none c zero x none = refl
+sum_over-none c (suc n) x none = let rest = sum_over-none c n x none in by_case (has x n) rest (none n)
+  where
+    by_case : (b : Bool) → sum_over c n x ≡ pos 0 → c n ≡ pos 0 → sum_over c n x +ℤ (if b then c n else pos 0) ≡ pos 0
+    by_case true rest last = omega (arith, ints, rest, last)
+    by_case false rest last = omega (arith, ints, rest)
+
+no_bonus : (n x : ℕ) → sum_over (bonus 0) n x ≡ pos 0
+no_bonus n x = sum_over-none (bonus 0) n x (λ k. ap (λ (b : Bool). if b then pos most_utility else pos 0) (has-zero k))
+
+nothing_in : (x k : ℕ) → has 0 k ≡ true → has x k ≡ true
+nothing_in x k there = let away = has-zero k in absurd (cc (there, away))
+
+beside_nothing : (x : ℕ) → union 0 x ≡ x
+beside_nothing x = same_set (union 0 x) x (λ k. has-union 0 x k ∙ ap (λ (b : Bool). b || has x k) (has-zero k))
+
+pub beside_none : (none x : ℕ) → none ≡ 0 → union none x ≡ x
+beside_none none x nothing = ap (λ (y : ℕ). union y x) nothing ∙ beside_nothing x
+
+-- then a value is a utility
+plain_aimed : (firm : Firm) (limit allowed : ℕ) (scale : ℤ) (prices gains : List ℤ) → IsQuestion firm limit 0 allowed scale prices gains
+    → (y : ℕ) (value : ℤ) → minus y (union 0 allowed) ≡ 0 → utility scale (price_at prices) firm y ≡ Some value → (aimed (union 0 allowed) scale gains firm).worth y ≡ Some value
+plain_aimed firm limit allowed scale prices gains question y value inside is =
+    let none = no_bonus firm.count y in
+    let same : value +ℤ sum_over (bonus 0) firm.count y ≡ value = omega (arith, ints, none) in
+    aimed_is firm limit 0 allowed scale prices gains question y value inside is ∙ ap (λ (z : ℤ). Some z) same
+
+pub plain_utility : (firm : Firm) (limit none x : ℕ) (scale : ℤ) (prices gains : List ℤ) → none ≡ 0 → IsQuestion firm limit none x scale prices gains
+    → (aimed x scale gains firm).worth x ≡ utility scale (price_at prices) firm x
+plain_utility firm limit none x scale prices gains nothing question = by_case (utility scale (price_at prices) firm x) refl
+  where
+    asked : IsQuestion firm limit 0 x scale prices gains
+    asked = subst (λ (need : ℕ). IsQuestion firm limit need x scale prices gains) nothing question
+
+    by_case : (o : Option ℤ) → utility scale (price_at prices) firm x ≡ o → (aimed x scale gains firm).worth x ≡ utility scale (price_at prices) firm x
+    by_case (Some value) e =
+        subst (λ (allowed : ℕ). (aimed allowed scale gains firm).worth x ≡ Some value) (beside_nothing x)
+        (plain_aimed firm limit x scale prices gains asked x value (minus-zero_from x (union 0 x) (λ k there. ap (λ (y : ℕ). has y k) (beside_nothing x) ∙ there)) e)
+        ∙ sym e
+    by_case None e =
+        aimed_none x scale gains firm x (impossible_worth (λ a. scale *ℤ a +ℤ sum_over (payments firm.buys (price_at prices)) firm.count x) (firm.worth x) e) ∙ sym e
+
+-- a bundle of greatest value is best within the allowed positions
+pub plain_best : (firm : Firm) (limit none allowed : ℕ) (scale : ℤ) (prices gains : List ℤ) → none ≡ 0 → IsQuestion firm limit none allowed scale prices gains
+    → (x : ℕ) (value : ℤ) → IsBest (aimed allowed scale gains firm).worth x value → IsBestBetween 0 allowed (utility scale (price_at prices) firm) x value
+plain_best firm limit none allowed scale prices gains nothing question x value best =
+    let asked = subst (λ (need : ℕ). IsQuestion firm limit need allowed scale prices gains) nothing question in
+    let at = subst (λ (within : ℕ). IsBest (aimed within scale gains firm).worth x value) (sym (beside_nothing allowed)) best in
+    let bonuses = sym (bonus_all 0 firm.count x (nothing_in x)) ∙ no_bonus firm.count x in
+    let same : value -ℤ all_bonuses 0 firm.count ≡ value = omega (arith, ints, bonuses) in
+    subst (IsBestBetween 0 allowed (utility scale (price_at prices) firm) x) same
+    (best_some firm limit 0 allowed scale prices gains asked x value at (minus-zero_from 0 x (nothing_in x)))
+
+-- and the other way round
+pub best_plain : (firm : Firm) (limit none allowed : ℕ) (scale : ℤ) (prices gains : List ℤ) → none ≡ 0 → IsQuestion firm limit none allowed scale prices gains
+    → (x : ℕ) (value : ℤ) → IsBestBetween 0 allowed (utility scale (price_at prices) firm) x value → IsBest (aimed allowed scale gains firm).worth x value
+best_plain firm limit none allowed scale prices gains nothing question x value best =
+    subst (λ (within : ℕ). IsBest (aimed within scale gains firm).worth x value) (beside_nothing allowed) (record {
+      is = plain_aimed firm limit allowed scale prices gains asked x value (minus-zero_from x (union 0 allowed) best.between.1) best.is;
+      most = λ y other there.
+          let parts = aimed_parts firm limit 0 allowed scale prices gains asked y other there in
+          let sum = parts.sum in
+          let bonuses = no_bonus firm.count y in
+          let below = best.most y parts.utility_of (nothing_in y, λ k in_it. has_from_minus-zero y (union 0 allowed) k parts.inside in_it) parts.is in
+          omega (arith, ints, sum, bonuses, below);
+    })
+  where
+    asked : IsQuestion firm limit 0 allowed scale prices gains
+    asked = subst (λ (need : ℕ). IsQuestion firm limit need allowed scale prices gains) nothing question
+
+-- a utility is small
+pub plain_small : (firm : Firm) (limit none allowed : ℕ) (scale : ℤ) (prices gains : List ℤ) → IsQuestion firm limit none allowed scale prices gains
+    → (x : ℕ) (found : Option ℤ) → found ≡ utility scale (price_at prices) firm x → IfSome found (λ value. IsAtMost value most_utility)
+plain_small firm limit none allowed scale prices gains question x None is = tt
+plain_small firm limit none allowed scale prices gains question x (Some value) is =
+    let made = made_of firm limit none allowed scale prices gains question x value (sym is) in
+    record { low = omega (arith, ints, made.small.low); high = omega (arith, ints, made.small.high) }
 
 -- what the code computes of a value
 pub plain_value : (value : ℤ) (count members : ℕ) → IsAtMost value most_aimed → count ≡ members → count ≤ 64

@@ -2,7 +2,7 @@
 use Rattle.std.specs.Prelude.{◌≡◌, ℕ, ◌*◌, ◌^◌, ◌<◌, ◌≤◌, ℤ, pos, neg_ℤ, ◌+ℤ◌, ◌≤ℤ◌, List, length, All, Option, Some, if◌then◌else◌}
 use Rattle.tn_base.specs.Sets.{has, toggle}
 use Rattle.tn_base.specs.Arcs.{IsAtMost}
-use Rattle.tn_base.specs.Firm.{Firm, plus_sum, among, payments}
+use Rattle.tn_base.specs.Firm.{Firm, plus_sum, among, payments, IsBest}
 use Rattle.tn_base.specs.declared.side.Side.{Side}
 use Rattle.tn_base.specs.declared.side.Side.TheVariants.{Buy, Sell}
 use Rattle.tn_market.specs.declared.bundle_value.BundleValue.{BundleValue}
@@ -36,6 +36,10 @@ IsNearbyBest value_of from n value = (i : ℕ) → i < n → IsBesideBest value_
 -- a bundle is possible with its value
 abbrev pub IsValued : (ℕ → Option ℤ) → BundleValue → Type 0
 IsValued value_of found = value_of found.bundle ≡ Some found.value
+
+-- x is the bundle at hand, wherever that is best
+abbrev pub StaysAt : (ℕ → Option ℤ) → ℕ → ℕ → Type 0
+StaysAt value_of from x = (value : ℤ) → IsBest value_of from value → x ≡ from
 
 -- what was found after is a possible bundle with its value, as it was before, and of no less value
 pub record IsNoWorse (value_of : ℕ → Option ℤ) (before after : BundleValue) : Type 0 where

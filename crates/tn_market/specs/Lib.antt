@@ -11,6 +11,7 @@ pub mod Limits
 pub mod Judged
 pub mod Valued
 pub mod Best
+pub mod BestFrom
 pub mod Accepted
 pub mod Traded
 pub mod NetworkOf

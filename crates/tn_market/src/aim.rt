@@ -1,12 +1,12 @@
-//! Steepest ascent: from the empty bundle on, the search takes the change of one or two positions that gains most,
-//! until none gains. For a firm that meets exchange it then stands at a best bundle (Murota, Discrete Convex Analysis,
-//! 2003, on the maximisation of M-natural concave functions).
+//! Steepest ascent: from a possible bundle on, the search takes the change of one or two positions that gains most,
+//! until none gains. For a firm that meets exchange it then stands at a best bundle, wherever it began (Murota, Discrete
+//! Convex Analysis, 2003, on the maximisation of M-natural concave functions).
 
 ghost use Rattle.std.specs.Prelude.{◌≡◌, ◌*◌, ◌<◌, ◌≤◌, ◌≤ℤ◌, ◌+ℤ◌, ◌*ℤ◌, pos, if◌then◌else◌, IfSome, Some};
 ghost use Rattle.tn_base.specs.Arcs.{IsAtMost};
 ghost use Rattle.tn_base.specs.Sets.{has, sum_over};
 ghost use Rattle.tn_base.specs.Firm.{IsBest};
-ghost use Rattle.tn_market.specs.Ascent.{aimed, IsAim, IsValued, TriesOne, TriesBeside, TriesNearby};
+ghost use Rattle.tn_market.specs.Ascent.{aimed, IsAim, IsValued, StaysAt, TriesOne, TriesBeside, TriesNearby};
 ghost use Rattle.tn_plain_data.specs.Prices.{price_at};
 ghost use Rattle.tn_market.specs.Widths.{most_worth, most_scale, most_own, most_utility, most_aimed};
 
@@ -60,8 +60,9 @@ impl<V: Valuation> Aim<'_, V> {
         total
     }
 
-    /// The value of a bundle, None where it is impossible or not within the allowed positions.
-    fn value(&self, x: Bundle, steps: &mut Steps<V::Mark>) -> Option<i128>
+    /// The value of a bundle, None where it is impossible or not within the allowed positions. It asks for one worth at
+    /// most.
+    pub fn value(&self, x: Bundle, steps: &mut Steps<V::Mark>) -> Option<i128>
         ensures value { result ≡ (aimed self.now.allowed self.now.scale self.now.gains.now (V.firm self.now.firm.now)).worth x }
         ensures small { IfSome result (λ value. IsAtMost value most_aimed) }
     {
@@ -116,11 +117,12 @@ impl<V: Valuation> Aim<'_, V> {
         best
     }
 
-    /// A best bundle with its value.
-    pub fn climb(&self, steps: &mut Steps<V::Mark>) -> BundleValue
-        ensures { IsBest (aimed self.now.allowed self.now.scale self.now.gains.now (V.firm self.now.firm.now)).worth result.bundle result.value }
+    /// A best bundle with its value, found from a bundle at hand: that one wherever it is best.
+    pub fn climb(&self, from: Bundle, steps: &mut Steps<V::Mark>) -> BundleValue
+        ensures best { IsBest (aimed self.now.allowed self.now.scale self.now.gains.now (V.firm self.now.firm.now)).worth result.bundle result.value }
+        ensures kept { StaysAt (aimed self.now.allowed self.now.scale self.now.gains.now (V.firm self.now.firm.now)).worth from result.bundle }
     {
-        let mut found = self.start(steps);
+        let mut found = self.start(from, steps);
         loop {
             let next = self.step(&found, steps);
             if next.value <= found.value {
@@ -130,10 +132,17 @@ impl<V: Valuation> Aim<'_, V> {
         }
     }
 
-    /// The empty bundle, which is always possible.
-    fn start(&self, steps: &mut Steps<V::Mark>) -> BundleValue
-        ensures { IsValued (aimed self.now.allowed self.now.scale self.now.gains.now (V.firm self.now.firm.now)).worth result }
+    /// The bundle at hand, or where that has no value the empty one, which always has.
+    fn start(&self, from: Bundle, steps: &mut Steps<V::Mark>) -> BundleValue
+        ensures valued { IsValued (aimed self.now.allowed self.now.scale self.now.gains.now (V.firm self.now.firm.now)).worth result }
+        ensures kept { StaysAt (aimed self.now.allowed self.now.scale self.now.gains.now (V.firm self.now.firm.now)).worth from result.bundle }
     {
+        if let Some(value) = self.value(from, steps) {
+            return BundleValue {
+                bundle: from,
+                value,
+            };
+        }
         let bundle = Bundle::empty();
         BundleValue {
             bundle,

@@ -1,4 +1,5 @@
-//! The search for a best bundle among those that have all wanted positions and no forbidden one.
+//! The search for a best bundle among those that have all wanted positions and no forbidden one, and that from a bundle
+//! at hand.
 
 ghost use Rattle.std.specs.Prelude.{◌≡◌, ◌+◌, ◌^◌, ◌*◌, ◌<◌, ◌≤◌, pos, ◌+ℤ◌, ◌≤ℤ◌, if◌then◌else◌, length, All};
 ghost use Rattle.tn_base.specs.Arcs.{IsAtMost};
@@ -6,6 +7,7 @@ ghost use Rattle.tn_base.specs.Sets.{meet, union};
 ghost use Rattle.tn_base.specs.Firm.{utility};
 ghost use Rattle.tn_market.specs.Ascent.{AreGains, payment_of};
 ghost use Rattle.tn_market.specs.Best.{GivesBest};
+ghost use Rattle.tn_market.specs.BestFrom.{IsBestFrom};
 ghost use Rattle.tn_plain_data.specs.Prices.{price_at};
 ghost use Rattle.tn_market.specs.Widths.{most_own, most_worth, most_asked_price, most_scale, most_utility};
 
@@ -32,7 +34,7 @@ fn gain(side: Side, price: i128, wanted: bool) -> i128
 }
 
 /// What the search counts for each position.
-fn gains<V: Valuation>(firm: &V, need: Bundle, prices: &[i128]) -> [i128; MOST_OWN]
+pub fn gains<V: Valuation>(firm: &V, need: Bundle, prices: &[i128]) -> [i128; MOST_OWN]
     requires priced { length prices.now ≡ (V.firm firm.now).count }
     requires few { (V.firm firm.now).count ≤ most_own }
     requires small { All (λ p. IsAtMost p most_asked_price) prices.now }
@@ -78,10 +80,46 @@ pub fn best_by_ascent<V: Valuation>(
         scale,
         gains: &gains,
     };
-    let found = aim.climb(steps);
+    let found = aim.climb(Bundle::empty(), steps);
     if need.minus(found.bundle) != Bundle::empty() {
         return None;
     }
     let bonuses = BONUS * need.count() as i128;
     Some((found.bundle, found.value - bonuses))
+}
+
+/// A best bundle among the possible ones within `allowed`, with its utility, found from a bundle at hand: that one
+/// wherever it is best. Each worth that it asks counts on `steps`. It takes no memory.
+///
+/// The search goes up from `from` as that of `best_by_ascent` does from the empty bundle, and from that one where `from`
+/// is impossible or not within `allowed`. So where `from` is best it asks for one worth and for those with one or two
+/// positions toggled. The positions in `allowed` are own; prices, scale and firm are within the limits of
+/// `best_by_ascent`.
+pub fn best_by_ascent_from<V: Valuation>(
+    firm: &V,
+    from: Bundle,
+    allowed: Bundle,
+    scale: i128,
+    prices: &[i128],
+    steps: &mut Steps<V::Mark>,
+) -> (Bundle, i128)
+    requires own { allowed < 2 ^ (V.firm firm.now).count }
+    requires priced { length prices.now ≡ (V.firm firm.now).count }
+    requires small_prices { All (λ p. IsAtMost p most_asked_price) prices.now }
+    requires scaled { pos 1 ≤ℤ scale }
+    requires small_scale { scale ≤ℤ pos most_scale }
+    requires few_trades { (V.firm firm.now).count ≤ most_own }
+    requires small_worths { V.limit firm.now ≤ most_worth }
+    ensures best { IsBestFrom from allowed (utility scale (price_at prices.now) (V.firm firm.now)) result }
+    ensures small { IsAtMost result.1 most_utility }
+{
+    let gains = gains(firm, Bundle::empty(), prices);
+    let aim = Aim {
+        firm,
+        allowed,
+        scale,
+        gains: &gains,
+    };
+    let found = aim.climb(from, steps);
+    (found.bundle, found.value)
 }

@@ -14,7 +14,7 @@ mod party;
 mod room;
 mod valuation;
 
-pub use ascent::best_by_ascent;
+pub use ascent::{best_by_ascent, best_by_ascent_from};
 pub use laws::{bundles_are_listed, positions_have_one_trade};
 pub use levied::Levied;
 pub use market::Market;

@@ -3,10 +3,12 @@ ghost use Rattle.tn_base.specs.Arcs.{IsAtMost};
 ghost use Rattle.tn_base.specs.Sets.{meet, union};
 ghost use Rattle.tn_base.specs.Firm.{utility};
 ghost use Rattle.tn_market.specs.Best.{GivesBest};
+ghost use Rattle.tn_market.specs.BestFrom.{IsBestFrom};
 ghost use Rattle.tn_plain_data.specs.Prices.{price_at};
 ghost use Rattle.tn_market.specs.Widths.{most_own, most_worth, most_asked_price, most_scale, most_utility};
 
-use crate::ascent::best_by_ascent;
+use crate::aim::Aim;
+use crate::ascent::{best_by_ascent, best_by_ascent_from, gains};
 use crate::room::Room;
 use crate::valuation::Valuation;
 use tn_base::{Asked, Bundle, Steps};
@@ -45,16 +47,40 @@ pub trait Oracle: Valuation<Mark = Asked> {
     {
         best_by_ascent(self, need, free, scale, prices, &mut Steps::new(Asked))
     }
+
+    /// A bundle of greatest utility among the possible ones within `allowed`, with that utility, found from a bundle at
+    /// hand: that one wherever it is of greatest utility, so that a verdict on one bundle asks for few worths. The
+    /// positions in `allowed` are own. Prices, scale and firm are within the limits of `best`. It takes no memory.
+    fn best_from(
+        &self,
+        from: Bundle,
+        allowed: Bundle,
+        scale: i128,
+        prices: &[i128],
+        _room: &mut Room,
+    ) -> (Bundle, i128)
+        requires own { allowed < 2 ^ (Self.firm self.now).count }
+        requires priced { length prices.now ≡ (Self.firm self.now).count }
+        requires small_prices { All (λ p. IsAtMost p most_asked_price) prices.now }
+        requires scaled { pos 1 ≤ℤ scale }
+        requires small_scale { scale ≤ℤ pos most_scale }
+        requires few_trades { (Self.firm self.now).count ≤ most_own }
+        requires small_worths { Self.limit self.now ≤ most_worth }
+        ensures best { IsBestFrom from allowed (utility scale (price_at prices.now) (Self.firm self.now)) result }
+        ensures small { IsAtMost result.1 most_utility }
+    {
+        best_by_ascent_from(self, from, allowed, scale, prices, &mut Steps::new(Asked))
+    }
 }
 
-/// The utility of a bundle at a scale and at the prices of the positions, None where it is impossible. It takes no
-/// memory. The bundle has own positions alone; prices, scale and firm are within the limits of `best`.
+/// The utility of a bundle at a scale and at the prices of the positions, None where it is impossible: by one worth. It
+/// takes no memory. The bundle has own positions alone; prices, scale and firm are within the limits of `best`.
 pub fn utility_of<V: Oracle>(
     firm: &V,
     x: Bundle,
     scale: i128,
     prices: &[i128],
-    room: &mut Room,
+    _room: &mut Room,
 ) -> Option<i128>
     requires own { x < 2 ^ (V.firm firm.now).count }
     requires priced { length prices.now ≡ (V.firm firm.now).count }
@@ -66,22 +92,24 @@ pub fn utility_of<V: Oracle>(
     ensures value { result ≡ utility scale (price_at prices.now) (V.firm firm.now) x }
     ensures small { IfSome result (λ value. IsAtMost value most_utility) }
 {
-    // No other bundle is as asked.
-    match firm.best(x, Bundle::empty(), scale, prices, room) {
-        Some((_, value)) => Some(value),
-        None => None,
-    }
+    // Where nothing is wanted, a value of the search is a utility.
+    let gains = gains(firm, Bundle::empty(), prices);
+    let aim = Aim {
+        firm,
+        allowed: x,
+        scale,
+        gains: &gains,
+    };
+    aim.value(x, &mut Steps::new(Asked))
 }
 
-/// The worth of a bundle, None where it is impossible. It takes no memory. The bundle has own positions alone; the firm
-/// has at most 32 own trades and no worth above 10^11.
-pub fn worth_of<V: Oracle>(firm: &V, x: Bundle, room: &mut Room) -> Option<i128>
+/// The worth of a bundle, None where it is impossible: by one worth. It takes no memory. The bundle has own positions
+/// alone; the firm has at most 32 own trades and no worth above 10^11.
+pub fn worth_of<V: Oracle>(firm: &V, x: Bundle, _room: &mut Room) -> Option<i128>
     requires own { x < 2 ^ (V.firm firm.now).count }
     requires few_trades { (V.firm firm.now).count ≤ most_own }
     requires small_worths { V.limit firm.now ≤ most_worth }
     ensures { result ≡ (V.firm firm.now).worth x }
 {
-    // At scale 1 and prices of 0 the utility is the worth.
-    let free = [0; MOST_OWN];
-    utility_of(firm, x, 1, &free[..firm.trades() as usize], room)
+    firm.value(x, &mut Steps::new(Asked))
 }

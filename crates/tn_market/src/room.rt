@@ -1,4 +1,4 @@
-ghost use Rattle.std.specs.Prelude.{◌≡◌, length};
+ghost use Rattle.std.specs.Prelude.{◌≡◌, IfOk, length};
 
 use std::alloc::Global;
 use tn_base::{Bundle, OutOfMemory};
@@ -6,25 +6,31 @@ use tn_base::{Bundle, OutOfMemory};
 /// How many cells a room has.
 const CELLS: usize = 8192;
 
-/// Memory for the search for a best bundle, taken once and used for any firm within the limits.
+/// Scratch for an oracle of one's own, the same for any firm within the limits. The search that stands here needs none,
+/// so a room takes no memory until cells are asked for.
 #[derive(Drop)]
 pub struct Room {
+    alloc: Global,
     cells: Vec<Option<(Bundle, i128)>>,
-    ghost wide: { length cells.items ≡ 8192 },
 }
 
 impl Room {
-    /// A room of 8,192 cells. It fails only where memory runs out.
+    /// A room without cells yet. It takes no memory, and doesn't fail.
     pub fn new(alloc: Global) -> Result<Room, OutOfMemory> {
         Ok(Room {
-            cells: vec![in alloc; None; CELLS]?,
+            alloc,
+            cells: Vec::new(alloc),
         })
     }
 
-    /// The cells, with any content. They are scratch: whoever asks for them may write what it likes.
-    pub fn cells(&mut self) -> &mut [Option<(Bundle, i128)>]
-        ensures { length result.now ≡ 8192 }
+    /// The 8,192 cells, with any content, taken at the first call. They are scratch: whoever asks for them may write
+    /// what it likes. It fails only where memory runs out.
+    pub fn cells(&mut self) -> Result<&mut [Option<(Bundle, i128)>], OutOfMemory>
+        ensures { IfOk result (λ cells. length cells.now ≡ 8192) }
     {
-        &mut self.cells
+        if self.cells.len() != CELLS {
+            self.cells = vec![in self.alloc; None; CELLS]?;
+        }
+        Ok(&mut self.cells)
     }
 }

@@ -1,7 +1,7 @@
 -- The judgement of an arrangement, firm by firm.
-use Rattle.std.proofs.Common.{◌≡◌, ℕ, zero, suc, ◌+◌, ◌*◌, ◌^◌, ◌<◌, ◌≤◌, if◌then◌else◌, List, [], ◌∷◌, length, map, take, slice_get, Some, Option, option_map, refl, sym, ap, ◌∙◌, subst, arith, inl, inr, ℤ, pos, ◌+ℤ◌, neg_ℤ, ◌*ℤ◌, ◌≤ℤ◌}
+use Rattle.std.proofs.Common.{◌≡◌, ◌≢◌, ℕ, zero, suc, ◌+◌, ◌*◌, ◌^◌, ◌<◌, ◌≤◌, if◌then◌else◌, List, [], ◌∷◌, length, map, take, slice_get, Some, Option, option_map, refl, sym, ap, ◌∙◌, subst, arith, inl, inr, ℤ, pos, ◌+ℤ◌, ◌-ℤ◌, neg_ℤ, ◌*ℤ◌}
 use Rattle.std.specs.List.{All}
-use Rattle.std.proofs.lemmas.Int.{ints}
+use Rattle.std.proofs.lemmas.Int.{ints, by_lt_z}
 use Rattle.std.proofs.lemmas.Bool.{cases_eq}
 use Rattle.std.proofs.lemmas.Option.{same_Some, slice_get-map, slice_get_within, get_or_from_slice_get}
 use Rattle.std.proofs.lemmas.List.{get_or-set_same, get_or-set_other}
@@ -9,7 +9,7 @@ use Rattle.std.proofs.lemmas.List.Elements.{All-set, All-get_or}
 use Rattle.std.proofs.Math.ListN.{set, length-set}
 use Rattle.std.proofs.Math.Seq.{take-length}
 use mir.Syntax.{w128}
-use mir.Val.{SFits}
+use mir.Val.{SFits, to_z, of_z}
 use Rattle.tn_base.specs.Sets.{has}
 use Rattle.tn_base.specs.Arcs.{IsAtMost}
 use Rattle.tn_base.specs.Firm.{Firm, payments, utility, IsBest}
@@ -24,7 +24,7 @@ use Rattle.tn_market.specs.Judged.{AreBestBefore, IsFirstImpossible, IsFirstBett
 use Rattle.tn_market.specs.Widths.{most_market_firms, most_own, most_utility, most_worth}
 use Rattle.tn_price.specs.declared.firm_verdict.FirmVerdict.{FirmVerdict}
 use Rattle.tn_price.specs.declared.firm_verdict.FirmVerdict.TheVariants.{Best, Impossible, Bettered}
-use Rattle.tn_price.specs.Standings.{IsBestWorth, Stands, StandsAt, AreOwnPrices}
+use Rattle.tn_price.specs.Standings.{IsBestWorth, IsBettered, Stands, StandsAt, AreOwnPrices}
 use Rattle.tn_price.proofs.SurplusLemmas.{sum_more}
 
 -- ---- the prices of a firm
@@ -203,12 +203,32 @@ sum_fits surplus amount f n small more below few =
     let more_high = more.high in
     omega (arith, ints, low, high, more_low, more_high, below, few)
 
--- a bundle of the greatest utility is best, with its worth
-pub best_worth : (worth value_of : ℕ → Option ℤ) (x y : ℕ) (amount value most : ℤ) → worth x ≡ Some amount → IsAtMost amount most_worth
-    → value_of x ≡ Some value → IsBest value_of y most → most ≤ℤ value → IsBestWorth worth value_of x amount
-best_worth worth value_of x y amount value most worth_is small value_is best above = record {
+-- the bundle at hand is best, with its worth
+pub best_worth : (worth value_of : ℕ → Option ℤ) (own x : ℕ) (amount most : ℤ) → worth own ≡ Some amount → IsAtMost amount most_worth → IsBest value_of x most → x ≡ own
+    → IsBestWorth worth value_of own amount
+best_worth worth value_of own x amount most worth_is small best same = record {
   worth_is = worth_is;
   small = small;
-  value = value;
-  best = record { is = value_is; most = λ z other z_is. let below = best.most z other z_is in omega (arith, ints, above, below) };
+  value = most;
+  best = subst (λ (y : ℕ). IsBest value_of y most) same best;
 }
+
+-- another one is best, which it is only where the one at hand isn't
+pub bettered : (value_of : ℕ → Option ℤ) (own x : ℕ) (value most : ℤ) → value_of own ≡ Some value → IsBest value_of x most → ((other : ℤ) → IsBest value_of own other → x ≡ own) → x ≢ own
+    → IsBettered value_of own x (most -ℤ value)
+bettered value_of own x value most own_is best kept apart = record {
+  own_value = value;
+  own_is = own_is;
+  best_value = most;
+  best = best;
+  gain_is = refl;
+  gains = by_lt_z value most (λ below. omega (arith, ints, below)) (λ above. absurd (apart (kept value (record {
+    is = own_is;
+    most = λ y other y_is. let step = best.most y other y_is in omega (arith, ints, step, above);
+  }))));
+}
+
+-- the difference of two utilities as the code computes it
+pub gain_is : (most value : ℤ) → IsAtMost most most_utility → IsAtMost value most_utility
+    → to_z w128 (of_z w128 (to_z w128 (of_z w128 most) -ℤ to_z w128 (of_z w128 value))) ≡ most -ℤ value
+gain_is most value small_most small_value = omega (arith, ints, small_most.low, small_most.high, small_value.low, small_value.high)

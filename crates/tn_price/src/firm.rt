@@ -1,6 +1,6 @@
 //! What a firm says of its bundles, asked through its oracle.
 
-ghost use Rattle.std.specs.Prelude.{◌≡◌, ◌^◌, ◌*◌, ◌+◌, ◌<◌, ◌≤◌, pos, ◌≤ℤ◌, length, All, IsSome, IfSome, true};
+ghost use Rattle.std.specs.Prelude.{◌≡◌, ◌^◌, ◌*◌, ◌+◌, ◌<◌, ◌≤◌, ℤ, pos, ◌≤ℤ◌, length, All, IsSome, IfSome, true};
 ghost use Rattle.tn_base.specs.Arcs.{IsAtMost};
 ghost use Rattle.tn_base.specs.Sets.{set_of};
 ghost use Rattle.tn_base.specs.Firm.{utility, IsBest};
@@ -25,6 +25,29 @@ fn all_positions(n: u32) -> Bundle
     all
 }
 
+/// A best bundle with its utility, found from a bundle at hand: that one wherever it is best. Prices, scale and firm are
+/// within the limits of `best`.
+fn greatest_from<V: Oracle>(
+    firm: &V,
+    from: Bundle,
+    scale: i128,
+    prices: &[i128],
+    room: &mut Room,
+) -> (Bundle, i128)
+    requires priced { length prices.now ≡ (V.firm firm.now).count }
+    requires small_prices { All (λ p. IsAtMost p most_asked_price) prices.now }
+    requires scaled { pos 1 ≤ℤ scale }
+    requires small_scale { scale ≤ℤ pos most_scale }
+    requires few_trades { (V.firm firm.now).count ≤ most_own }
+    requires small_worths { V.limit firm.now ≤ most_worth }
+    ensures best { IsBest (utility scale (price_at prices.now) (V.firm firm.now)) result.0 result.1 }
+    ensures kept { (value : ℤ) → IsBest (utility scale (price_at prices.now) (V.firm firm.now)) from value → result.0 ≡ from }
+    ensures small { IsAtMost result.1 most_utility }
+{
+    let all = all_positions(firm.trades());
+    firm.best_from(from, all, scale, prices, room)
+}
+
 /// A best bundle with its utility. There is one, since the empty bundle is possible. Prices, scale and firm are within the
 /// limits of `best`.
 pub fn greatest<V: Oracle>(
@@ -42,12 +65,11 @@ pub fn greatest<V: Oracle>(
     ensures best { IsBest (utility scale (price_at prices.now) (V.firm firm.now)) result.0 result.1 }
     ensures small { IsAtMost result.1 most_utility }
 {
-    let all = all_positions(firm.trades());
-    firm.best(Bundle::empty(), all, scale, prices, room)
-        .unwrap()
+    greatest_from(firm, Bundle::empty(), scale, prices, room)
 }
 
-/// How a firm stands with its bundle at the prices of its positions.
+/// How a firm stands with its bundle at the prices of its positions. The search for a best bundle begins at its own, and
+/// leaves that only for a better one.
 pub fn standing<V: Oracle>(
     firm: &V,
     own: Bundle,
@@ -64,12 +86,13 @@ pub fn standing<V: Oracle>(
     requires small_worths { V.limit firm.now ≤ most_worth }
     ensures { Stands (V.firm firm.now).worth (utility scale (price_at prices.now) (V.firm firm.now)) own result }
 {
-    let Some(value) = utility_of(firm, own, scale, prices, room) else {
+    let Some(worth) = worth_of(firm, own, room) else {
         return FirmVerdict::Impossible;
     };
-    let (bundle, most) = greatest(firm, scale, prices, room);
-    if value < most {
-        return FirmVerdict::Bettered(bundle, most - value);
+    let (bundle, most) = greatest_from(firm, own, scale, prices, room);
+    if bundle == own {
+        return FirmVerdict::Best(worth);
     }
-    FirmVerdict::Best(worth_of(firm, own, room).unwrap())
+    let value = utility_of(firm, own, scale, prices, room).unwrap();
+    FirmVerdict::Bettered(bundle, most - value)
 }

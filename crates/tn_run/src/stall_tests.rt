@@ -70,7 +70,7 @@ fn bundles_of_a_stall(rt: HostRuntime) {
 #[test]
 fn room_has_its_cells(rt: HostRuntime) {
     let mut room = Room::new(rt.alloc()).expect(&rt, "memory");
-    let cells = room.cells();
+    let cells = room.cells().expect(&rt, "memory");
     assert_eq!(rt; cells.len(), 8192);
     cells[8191] = Some((Bundle::empty(), 7));
     let last = cells[8191];

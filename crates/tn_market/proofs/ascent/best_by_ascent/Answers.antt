@@ -27,11 +27,11 @@ returns-then-ne g c =
     } in
     let scale_fits : SFits w128 c.args.scale = c.ranges.scale in
     let climbed = subst (λ (scale : ℤ). IsBest (aimed c.union.result scale c.gains-gains.result firm).worth c.climb-found.result.bundle c.climb-found.result.value)
-    (to_z-of_z w128 c.args.scale scale_fits) c.climb-found.ensures in
+    (to_z-of_z w128 c.args.scale scale_fits) c.climb-found.ensures.best in
     let best = subst (λ (allowed : ℕ). IsBest (aimed allowed c.args.scale c.gains-gains.result firm).worth c.climb-found.result.bundle c.climb-found.result.value)
     c.union.ensures climbed in
     best_none firm (g.V.Valuation.limit c.args.firm.now) c.args.need c.args.free c.args.scale c.args.prices.now c.gains-gains.result question c.climb-found.result.bundle c.climb-found.result.value best
-    (λ e. not_emptied c.minus.result c.empty.result c.ne.result c.ne.ensures c.if-ne.true c.empty.ensures (c.minus.ensures ∙ e))
+    (λ e. not_emptied c.minus.result c.empty-2.result c.ne.result c.ne.ensures c.if-ne.true c.empty-2.ensures (c.minus.ensures ∙ e))
 
 pub overflow_sub-result : goal.overflow_sub-result
 overflow_sub-result g c =
@@ -49,7 +49,7 @@ overflow_sub-result g c =
     } in
     let scale_fits : SFits w128 c.args.scale = c.ranges.scale in
     let climbed = subst (λ (scale : ℤ). IsBest (aimed c.union.result scale c.gains-gains.result firm).worth c.climb-found.result.bundle c.climb-found.result.value)
-    (to_z-of_z w128 c.args.scale scale_fits) c.climb-found.ensures in
+    (to_z-of_z w128 c.args.scale scale_fits) c.climb-found.ensures.best in
     let best = subst (λ (allowed : ℕ). IsBest (aimed allowed c.args.scale c.gains-gains.result firm).worth c.climb-found.result.bundle c.climb-found.result.value)
     c.union.ensures climbed in
     let small = value_small firm (g.V.Valuation.limit c.args.firm.now) c.args.need c.args.free c.args.scale c.args.prices.now c.gains-gains.result question c.climb-found.result.bundle c.climb-found.result.value best.is in
@@ -71,14 +71,14 @@ returns g c =
     } in
     let scale_fits : SFits w128 c.args.scale = c.ranges.scale in
     let climbed = subst (λ (scale : ℤ). IsBest (aimed c.union.result scale c.gains-gains.result firm).worth c.climb-found.result.bundle c.climb-found.result.value)
-    (to_z-of_z w128 c.args.scale scale_fits) c.climb-found.ensures in
+    (to_z-of_z w128 c.args.scale scale_fits) c.climb-found.ensures.best in
     let best = subst (λ (allowed : ℕ). IsBest (aimed allowed c.args.scale c.gains-gains.result firm).worth c.climb-found.result.bundle c.climb-found.result.value)
     c.union.ensures climbed in
     let small = value_small firm (g.V.Valuation.limit c.args.firm.now) c.args.need c.args.free c.args.scale c.args.prices.now c.gains-gains.result question c.climb-found.result.bundle c.climb-found.result.value best.is in
     let size = size_at firm.count c.args.need (need_within firm c.args.need c.args.free c.requires.own) in
     let members = c.count.ensures.members in
     let counted = c.count.ensures.few in
-    let has_all = sym c.minus.ensures ∙ emptied c.minus.result c.empty.result c.ne.result c.ne.ensures c.if-ne.false c.empty.ensures in
+    let has_all = sym c.minus.ensures ∙ emptied c.minus.result c.empty-2.result c.ne.result c.ne.ensures c.if-ne.false c.empty-2.ensures in
     let some = best_some firm (g.V.Valuation.limit c.args.firm.now) c.args.need c.args.free c.args.scale c.args.prices.now c.gains-gains.result question c.climb-found.result.bundle c.climb-found.result.value best has_all in
     let plain = plain_value c.climb-found.result.value c.count.result _ small (members ∙ size) counted in
     subst (IsBestBetween c.args.need c.args.free (utility c.args.scale (price_at c.args.prices.now) firm) c.climb-found.result.bundle) (sym plain) some

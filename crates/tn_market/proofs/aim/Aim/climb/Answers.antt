@@ -4,11 +4,24 @@ use mir.Syntax.{w128}
 use mir.Val.{SFits}
 use Rattle.tn_market.specs.Valued.{meets_exchange}
 use Rattle.tn_market.specs.Ascent.{aimed}
-use Rattle.tn_market.proofs.AscentLemmas.{aimed_exchanges, settled, le_from_test}
+use Rattle.tn_market.proofs.AscentLemmas.{aimed_exchanges, settled, le_from_test, lt_from_test, stays}
 use Rattle.tn_market.proofs.aim.Aim.climb.Goals as goal
 
-pub returns-then-next-found : goal.returns-then-next-found
-returns-then-next-found g c =
+pub loop-found-preserved : goal.loop-found-preserved
+loop-found-preserved g c =
+    let aim = c.args.self.now in
+    let values = (aimed aim.allowed aim.scale aim.gains.now (g.V.Valuation.firm aim.firm.now)).worth in
+    let after : SFits w128 c.step-next.result.value = search rules in
+    let before : SFits w128 c.loop-found.found.value = search rules in
+    let gain = simp to_z-of_z at c.if-next-found.false in
+    record {
+      valued = c.step-next.ensures.no_worse.valued c.loop-found.invariant.valued;
+      kept = stays values c.args.from c.loop-found.found c.step-next.result c.loop-found.invariant.valued c.step-next.ensures.no_worse
+          (lt_from_test c.step-next.result.value c.loop-found.found.value gain) c.loop-found.invariant.kept;
+    }
+
+pub returns-then-next-found-clause-best : goal.returns-then-next-found-clause-best
+returns-then-next-found-clause-best g c =
     let aim = c.args.self.now in
     let firm = g.V.Valuation.firm aim.firm.now in
     let from_one = aim.fits.from_one in
@@ -17,5 +30,5 @@ returns-then-next-found g c =
     let no_gain = simp to_z-of_z at c.if-next-found.true in
     let meets = meets_exchange firm (g.met.V.Valuation.lawful aim.firm.now).exchange_one (g.met.V.Valuation.lawful aim.firm.now).exchange_net in
     let laws = aimed_exchanges aim.allowed aim.scale aim.gains.now firm (omega (arith, ints, from_one)) (g.met.V.Valuation.lawful aim.firm.now).own_bundles meets in
-    settled (aimed aim.allowed aim.scale aim.gains.now firm) c.loop-found.found c.step-next.result laws c.loop-found.invariant c.step-next.ensures
+    settled (aimed aim.allowed aim.scale aim.gains.now firm) c.loop-found.found c.step-next.result laws c.loop-found.invariant.valued c.step-next.ensures
     (le_from_test c.step-next.result.value c.loop-found.found.value no_gain)
