@@ -330,10 +330,10 @@ part_for-utility firms trades scale f firm contracts left_out free list y wanted
 
 -- ---- the greatest utility
 
-pub greatest_from_best : (firms : List Firm) (trades : List Ends) (scale : ℤ) (f : ℕ) (firm : Firm) → IsChooser firms trades f firm → (contracts : List Contract) (left_out : Option ℕ) (free n none b : ℕ)
-    (list : List ℤ) (value : ℤ) → n ≡ firm.count → none ≡ 0 → HasTerms trades contracts left_out f firm.count free list
-    → IsBestBetween none free (utility scale (price_at (take n list)) firm) b value → IsGreatest trades scale f firm contracts left_out value
-greatest_from_best firms trades scale f firm chooser contracts left_out free n none b list value counted empty holds best = record {
+pub greatest_from_best : (firms : List Firm) (trades : List Ends) (scale : ℤ) (f : ℕ) (firm : Firm) → IsChooser firms trades f firm → (contracts : List Contract) (left_out : Option ℕ) (free n b : ℕ)
+    (list : List ℤ) (value : ℤ) → n ≡ firm.count → HasTerms trades contracts left_out f firm.count free list
+    → IsBestBetween 0 free (utility scale (price_at (take n list)) firm) b value → IsGreatest trades scale f firm contracts left_out value
+greatest_from_best firms trades scale f firm chooser contracts left_out free n b list value counted holds best = record {
   part = part_for holds.at b firm.count contracts;
   signs = part_for-signs firms trades f firm contracts left_out free list b wanted;
   avoids = λ j member. (had firms trades f firm contracts left_out free list b wanted j member).kept;
@@ -341,21 +341,11 @@ greatest_from_best firms trades scale f firm chooser contracts left_out free n n
   most = λ y other signs avoids y_is.
       let high = part_at_most firms trades scale f firm chooser contracts left_out free list holds y signs avoids other y_is in
       let bundle = bundle_by trades f firm.count contracts y in
-      let between = subst (λ (z : ℕ). IsBetween z free (bundle_by trades f firm.count contracts y)) (sym empty)
-      (between_signed (bundle_by trades f firm.count contracts y) free (part_free firms trades f firm chooser contracts left_out free list holds y signs avoids)) in
+      let between = between_signed (bundle_by trades f firm.count contracts y) free (part_free firms trades f firm chooser contracts left_out free list holds y signs avoids) in
       let most = best.most (bundle_by trades f firm.count contracts y) high.0 between (term_utility firms trades scale f firm chooser n list counted (bundle_by trades f firm.count contracts y) ∙ high.1) in
       let less = high.2 in
       omega (arith, ints, most, less);
 }
   where
     wanted : IsWanted firms trades f firm contracts left_out free list b
-    wanted = record { chooser = chooser; holds = holds; inside = inside_signed b free (subst (λ (z : ℕ). IsBetween z free b) empty best.between) }
-
--- there is one, as a firm may abstain
-pub some_best : (firm : Firm) (scale : ℤ) (prices : ℕ → ℤ) (none free : ℕ) (found : Option (ℕ × ℤ)) → MayAbstain firm → none ≡ 0 → GivesBest none free (utility scale prices firm) found → IsSome found
-some_best firm scale prices none free (Some best) abstains empty gives = refl
-some_best firm scale prices none free None abstains empty gives =
-    let is : utility scale prices firm 0 ≡ Some (scale *ℤ abstains.0 +ℤ sum_over (payments firm.buys prices) firm.count 0) =
-    ap (option_map (λ a. scale *ℤ a +ℤ sum_over (payments firm.buys prices) firm.count 0)) abstains.1 in
-    let isnt = gives 0 (subst (λ (z : ℕ). IsBetween z free 0) (sym empty) (between_signed 0 free (λ k there. absurd (true≢false (sym there ∙ has-zero k))))) in
-    absurd (cc (is, isnt))
+    wanted = record { chooser = chooser; holds = holds; inside = inside_signed b free best.between }

@@ -11,10 +11,10 @@ ghost use Rattle.tn_market.specs.NetworkOf.{network_of};
 
 use crate::least::earlier;
 use crate::terms::terms_of;
-use tn_base::Bundle;
 use tn_market::{Contracts, Ends, Market, Oracle, Room};
 
-/// The greatest utility that firm `f` has by a part of the contracts without the one that is left out. It takes no memory.
+/// The greatest utility that firm `f` has by a part of the contracts without the one that is left out. The search begins
+/// at all of these. It takes no memory.
 fn greatest_utility<V: Oracle>(
     market: &Market<V>,
     contracts: &Contracts,
@@ -35,8 +35,8 @@ fn greatest_utility<V: Oracle>(
     let terms = terms_of(market, contracts, left_out, f);
     let firm = market.firm(f);
     let prices = &terms.prices[..firm.trades() as usize];
-    let best = firm.best(Bundle::empty(), terms.free, scale, prices, room);
-    best.unwrap().1
+    let best = firm.best_from(terms.free, terms.free, scale, prices, room);
+    best.1
 }
 
 /// Whether some choice of firm `f` lacks the contract with index `k`. It takes no memory.
