@@ -23,7 +23,7 @@ returns-clause-greatest g c = λ v is.
     let firms = map g.V.Valuation.firm c.args.market.now.firms in
     let now = c.firm-firm.result.now in
     let best = subst (λ (scale : ℤ). IsBestBetween 0 c.terms_of-terms.result.free (utility scale (price_at (take c.trades.result c.terms_of-terms.result.prices)) (g.V.Valuation.firm now))
-        c.best_from-best.result.0 c.best_from-best.result.1)
+    c.best_from-best.result.0 c.best_from-best.result.1)
     (to_z-of_z w128 c.args.scale fits) c.best_from-best.ensures.best.best in
     let greatest = greatest_from_best firms c.args.market.now.trades c.args.scale c.args.f (g.V.Valuation.firm now)
     (record { network = c.requires.network; is = listed g.V.Valuation.firm c.args.market.now.firms c.args.f now c.firm-firm.ensures })
