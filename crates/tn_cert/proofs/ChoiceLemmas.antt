@@ -1,19 +1,19 @@
 -- A firm's choices from a list of contracts, by its terms: a part gives it at most what its bundle gives at the terms, and
 -- each bundle of free positions is had by a part that gives just this.
-use Rattle.std.proofs.Common.{◌≡◌, ◌≢◌, ℕ, zero, suc, ◌^◌, ◌<◌, Bool, true, false, ◌==◌, ◌&&◌, ◌||◌, if◌then◌else◌, List, length, take, slice_get, Option, Some, None, option_map, IsSome, refl, sym, ap, ap₂, ◌∙◌, subst, arith, inl, inr, ℤ, pos, ◌+ℤ◌, ◌-ℤ◌, neg_ℤ, ◌*ℤ◌, ◌≤ℤ◌}
+use Rattle.std.proofs.Common.{◌≡◌, ◌≢◌, ℕ, zero, suc, ◌^◌, ◌<◌, Bool, true, false, ◌==◌, ◌&&◌, ◌||◌, if◌then◌else◌, List, length, take, slice_get, Option, Some, None, option_map, refl, sym, ap, ap₂, ◌∙◌, subst, arith, inl, inr, ℤ, pos, ◌+ℤ◌, ◌-ℤ◌, neg_ℤ, ◌*ℤ◌, ◌≤ℤ◌}
 use Rattle.std.specs.Prelude.{unwrap_or}
 use Rattle.std.proofs.lemmas.Int.{ints}
 use Rattle.std.proofs.lemmas.Bool.{cases_Bool, cases_eq, eqb-true, eq-eqb, and_parts, and_from, or_cases, or_left, or_right, lt-ltb, true≢false}
 use Rattle.std.proofs.lemmas.Option.{same_Some, slice_get_cases, slice_get_within}
 use Rattle.std.proofs.lemmas.List.{get_or-take}
 use Rattle.tn_base.specs.Sets.{has, set_of, sum_over}
-use Rattle.tn_base.specs.Firm.{Firm, MayAbstain, payments, utility}
-use Rattle.tn_base.proofs.SetLemmas.{same_below, has-set_of, has-zero, has_above, has_below, set_of_within, within_from}
+use Rattle.tn_base.specs.Firm.{Firm, payments, utility}
+use Rattle.tn_base.proofs.SetLemmas.{same_below, has-set_of, has_above, has_below, set_of_within, within_from}
 use Rattle.tn_base.proofs.SumLemmas.{sum_over-same_terms}
 use Rattle.tn_law.proofs.KeepLemmas.{option_map-some}
 use Rattle.tn_plain_data.specs.declared.contract.Contract.{Contract}
 use Rattle.tn_plain_data.specs.declared.ends.Ends.{Ends}
-use Rattle.tn_market.specs.Best.{IsSubset, IsBetween, IsBestBetween, GivesBest}
+use Rattle.tn_market.specs.Best.{IsSubset, IsBestBetween}
 use Rattle.tn_plain_data.specs.Prices.{price_at}
 use Rattle.tn_plain_data.specs.Choices.{is_of, paid_to, paid_by, payment, is_traded, bundle_by, part_utility, IsPart}
 use Rattle.tn_market.specs.Equilibrium.{prices_at, utility_at}

@@ -1,4 +1,4 @@
-use Rattle.std.proofs.Common.{rules, ◌∙◌, ℤ, map, take, sym, subst, arith}
+use Rattle.std.proofs.Common.{rules, ◌∙◌, ℤ, map, take, sym, subst}
 use Rattle.std.proofs.lemmas.Int.{to_z-of_z}
 use Rattle.std.proofs.lemmas.Option.{same_Some}
 use mir.Syntax.{w128}
