@@ -15,7 +15,7 @@ pub struct Room {
 }
 
 impl Room {
-    /// A room without cells yet. It takes no memory, and doesn't fail.
+    /// A room without cells yet. It takes no memory.
     pub fn new(alloc: Global) -> Result<Room, OutOfMemory> {
         Ok(Room {
             alloc,
