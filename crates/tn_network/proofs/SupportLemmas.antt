@@ -154,10 +154,41 @@ loss_of firm x y a b x_is y_is = ap₂ (λ (p q : Option ℤ). both p (option_ma
 
 -- ---- supporting prices keep the arcs
 
+-- numbers of the nodes keep the arcs of a graph whose costs count so many times
+abbrev pub KeepsArcsAt : (ℕ → ℕ → Option ℤ) → ℤ → (ℕ → ℤ) → Type 0
+KeepsArcsAt arc scale label = (u v : ℕ) (cost : ℤ) → arc u v ≡ Some cost → label v ≤ℤ (label u +ℤ scale *ℤ cost)
+
+-- once, these are the arcs as they are
+pub keeps_at_one : (arc : ℕ → ℕ → Option ℤ) (label : ℕ → ℤ) → KeepsArcs arc label → KeepsArcsAt arc (pos 1) label
+keeps_at_one arc label keeps u v cost is = once (label v) (label u) cost (keeps u v cost is)
+  where
+    once : (a b c : ℤ) → a ≤ℤ (b +ℤ c) → a ≤ℤ (b +ℤ pos 1 *ℤ c)
+    once a b c kept = omega (arith, ints, kept)
+
+keeps_from_one : (arc : ℕ → ℕ → Option ℤ) (label : ℕ → ℤ) → KeepsArcsAt arc (pos 1) label → KeepsArcs arc label
+keeps_from_one arc label keeps u v cost is = once (label v) (label u) cost (keeps u v cost is)
+  where
+    once : (a b c : ℤ) → a ≤ℤ (b +ℤ pos 1 *ℤ c) → a ≤ℤ (b +ℤ c)
+    once a b c kept = omega (arith, ints, kept)
+
+-- a multiple of a loss is the loss of the multiples
+times_loss : (scale first second : ℤ) → scale *ℤ (first +ℤ neg_ℤ second) ≡ scale *ℤ first -ℤ scale *ℤ second
+times_loss scale first second =
+    less _ (scale *ℤ first) (scale *ℤ second) (scale *ℤ neg_ℤ second) (times-plus scale first (neg_ℤ second))
+    (sym (times-plus scale second (neg_ℤ second)) ∙ ap (λ (z : ℤ). scale *ℤ z) (none second) ∙ nothing scale)
+  where
+    none : (z : ℤ) → z +ℤ neg_ℤ z ≡ pos 0
+    none z = omega (arith, ints)
+
+    nothing : (s : ℤ) → s *ℤ pos 0 ≡ pos 0
+    nothing s = omega (arith, ints)
+
+    less : (w a b c : ℤ) → w ≡ a +ℤ c → b +ℤ c ≡ pos 0 → w ≡ a -ℤ b
+    less w a b c sum back = omega (arith, ints, sum, back)
+
 -- at a scale the costs count that many times
 pub arc_kept : (firms : List Firm) (trades : List Ends) → IsNetwork firms trades → (scale : ℤ) (on : ℕ) (prices : ℕ → ℤ) → IsEquilibrium firms trades scale on prices
-    → (u v : ℕ) (cost : ℤ) → exchange_arc firms trades on u v ≡ Some cost
-    → price_of_node (length trades) prices v ≤ℤ (price_of_node (length trades) prices u +ℤ scale *ℤ cost)
+    → KeepsArcsAt (exchange_arc firms trades on) scale (price_of_node (length trades) prices)
 arc_kept firms trades network scale on prices equilibrium u v cost is =
     let at = arc_from firms trades network on u v cost is in
     let x = part trades at.f at.firm.count on in
@@ -172,21 +203,14 @@ arc_kept firms trades network scale on prices equilibrium u v cost is =
     let pays = paid_move at.firm (prices_at trades prices at.f) x at.from at.to at.places in
     let from_price = sym (ap (price_of_node (length trades) prices) at.begin) ∙ place_price firms trades network prices at.f at.firm at.is at.from in
     let to_price = sym (ap (price_of_node (length trades) prices) at.end) ∙ place_price firms trades network prices at.f at.firm at.is at.to in
-    let scaled : scale *ℤ cost ≡ scale *ℤ loses.first +ℤ scale *ℤ neg_ℤ loses.second = ap (λ (z : ℤ). scale *ℤ z) loses.cost_is ∙ times-plus scale loses.first (neg_ℤ loses.second) in
-    let back : scale *ℤ loses.second +ℤ scale *ℤ neg_ℤ loses.second ≡ pos 0 =
-    sym (times-plus scale loses.second (neg_ℤ loses.second)) ∙ nothing scale (loses.second +ℤ neg_ℤ loses.second) (omega (arith, ints)) in
-    keep (scale *ℤ loses.first) (scale *ℤ loses.second) (scale *ℤ neg_ℤ loses.second) (paid x) (paid y) best.0 _ _ _ _ (scale *ℤ cost) value other pays from_price to_price scaled back
+    let scaled : scale *ℤ cost ≡ scale *ℤ loses.first -ℤ scale *ℤ loses.second = ap (λ (z : ℤ). scale *ℤ z) loses.cost_is ∙ times_loss scale loses.first loses.second in
+    keep (scale *ℤ loses.first) (scale *ℤ loses.second) (paid x) (paid y) best.0 _ _ _ _ (scale *ℤ cost) value other pays from_price to_price scaled
   where
-    nothing : (s z : ℤ) → z ≡ pos 0 → s *ℤ z ≡ pos 0
-    nothing s z none = ap (λ (w : ℤ). s *ℤ w) none ∙ omega (arith, ints)
-
-    keep : (a b c px py value pi pj pu pv cost : ℤ) → a +ℤ px ≡ value → (b +ℤ py) ≤ℤ value → py ≡ (px -ℤ pi) +ℤ pj → pu ≡ pi → pv ≡ pj → cost ≡ a +ℤ c → b +ℤ c ≡ pos 0
-        → pv ≤ℤ (pu +ℤ cost)
-    keep a b c px py value pi pj pu pv cost value_is most pays from to scaled back = omega (arith, ints, value_is, most, pays, from, to, scaled, back)
+    keep : (a b px py value pi pj pu pv cost : ℤ) → a +ℤ px ≡ value → (b +ℤ py) ≤ℤ value → py ≡ (px -ℤ pi) +ℤ pj → pu ≡ pi → pv ≡ pj → cost ≡ a -ℤ b → pv ≤ℤ (pu +ℤ cost)
+    keep a b px py value pi pj pu pv cost value_is most pays from to scaled = omega (arith, ints, value_is, most, pays, from, to, scaled)
 
 -- and so does a walk
-pub walk_kept : (arc : ℕ → ℕ → Option ℤ) (label : ℕ → ℤ) (scale : ℤ)
-    → ((u v : ℕ) (cost : ℤ) → arc u v ≡ Some cost → label v ≤ℤ (label u +ℤ scale *ℤ cost))
+pub walk_kept : (arc : ℕ → ℕ → Option ℤ) (label : ℕ → ℤ) (scale : ℤ) → KeepsArcsAt arc scale label
     → (u : ℕ) (vs : List ℕ) (w : ℕ) (cost : ℤ) → walk_cost arc u vs w ≡ Some cost → label w ≤ℤ (label u +ℤ scale *ℤ cost)
 walk_kept arc label scale keeps u [] w cost is = keeps u w cost is
 walk_kept arc label scale keeps u (v ∷ vs) w cost is = by_case (walk_kept arc label scale keeps v vs w) (arc u v) (walk_cost arc v vs w) refl refl is
@@ -214,21 +238,21 @@ negative_cycles firms trades on u vs cost network walk negative scale prices fro
 
 -- ---- and prices that keep the arcs support
 
--- where prices keep the arcs, no move of a firm gains at them
-pub unmoved_from_arcs : (firms : List Firm) (trades : List Ends) → IsNetwork firms trades → (on : ℕ) (prices : ℕ → ℤ)
-    → KeepsArcs (exchange_arc firms trades on) (price_of_node (length trades) prices)
+-- where prices keep the arcs at a scale, no move of a firm gains at them
+unmoved_at_scale : (firms : List Firm) (trades : List Ends) → IsNetwork firms trades → (scale : ℤ) (on : ℕ) (prices : ℕ → ℤ)
+    → KeepsArcsAt (exchange_arc firms trades on) scale (price_of_node (length trades) prices)
     → (f : ℕ) (firm : Firm) → slice_get firms f ≡ Some firm → (a : ℤ) → firm.worth (part trades f firm.count on) ≡ Some a
-    → IsUnmoved (plus_sum (pos 1) (payments firm.buys (prices_at trades prices f)) firm) (part trades f firm.count on)
-    (pos 1 *ℤ a +ℤ sum_over (payments firm.buys (prices_at trades prices f)) firm.count (part trades f firm.count on))
-unmoved_from_arcs firms trades network on prices keeps f firm is a x_is i j other i_within j_within apart rises falls y_is =
+    → IsUnmoved (plus_sum scale (payments firm.buys (prices_at trades prices f)) firm) (part trades f firm.count on)
+    (scale *ℤ a +ℤ sum_over (payments firm.buys (prices_at trades prices f)) firm.count (part trades f firm.count on))
+unmoved_at_scale firms trades network scale on prices keeps f firm is a x_is i j other i_within j_within apart rises falls y_is =
     let places : AreArcPlaces firm x i j = record { from_within = i_within; to_within = j_within; apart = apart; rises = rises; falls = falls } in
-    let theirs = option_map-some (λ w. pos 1 *ℤ w +ℤ paid (move firm.count x i j)) (firm.worth (move firm.count x i j)) other y_is in
+    let theirs = option_map-some (λ w. scale *ℤ w +ℤ paid (move firm.count x i j)) (firm.worth (move firm.count x i j)) other y_is in
     let arc = arc_at firms trades network on f firm is i j places ∙ loss_of firm x (move firm.count x i j) a theirs.0 x_is theirs.1 in
     let kept = keeps _ _ (a +ℤ neg_ℤ theirs.0) arc in
     let from_price = place_price firms trades network prices f firm is i in
     let to_price = place_price firms trades network prices f firm is j in
     let pays = paid_move firm (prices_at trades prices f) x i j places in
-    most a theirs.0 (paid x) (paid (move firm.count x i j)) other _ _ _ _ theirs.2 kept from_price to_price pays
+    most (scale *ℤ a) (scale *ℤ theirs.0) (scale *ℤ (a +ℤ neg_ℤ theirs.0)) (paid x) (paid (move firm.count x i j)) other _ _ _ _ theirs.2 kept (times_loss scale a theirs.0) from_price to_price pays
   where
     x : ℕ
     x = part trades f firm.count on
@@ -236,21 +260,28 @@ unmoved_from_arcs firms trades network on prices keeps f firm is a x_is i j othe
     paid : ℕ → ℤ
     paid y = sum_over (payments firm.buys (prices_at trades prices f)) firm.count y
 
-    most : (a b px py other pi pj pu pv : ℤ) → pos 1 *ℤ b +ℤ py ≡ other → pv ≤ℤ (pu +ℤ (a +ℤ neg_ℤ b)) → pu ≡ pi → pv ≡ pj → py ≡ (px -ℤ pi) +ℤ pj
-        → other ≤ℤ (pos 1 *ℤ a +ℤ px)
-    most a b px py other pi pj pu pv is kept from to pays = omega (arith, ints, is, kept, from, to, pays)
+    most : (a b cost px py other pi pj pu pv : ℤ) → b +ℤ py ≡ other → pv ≤ℤ (pu +ℤ cost) → cost ≡ a -ℤ b → pu ≡ pi → pv ≡ pj → py ≡ (px -ℤ pi) +ℤ pj → other ≤ℤ (a +ℤ px)
+    most a b cost px py other pi pj pu pv is kept loses from to pays = omega (arith, ints, is, kept, loses, from, to, pays)
+
+pub unmoved_from_arcs : (firms : List Firm) (trades : List Ends) → IsNetwork firms trades → (on : ℕ) (prices : ℕ → ℤ)
+    → KeepsArcs (exchange_arc firms trades on) (price_of_node (length trades) prices)
+    → (f : ℕ) (firm : Firm) → slice_get firms f ≡ Some firm → (a : ℤ) → firm.worth (part trades f firm.count on) ≡ Some a
+    → IsUnmoved (plus_sum (pos 1) (payments firm.buys (prices_at trades prices f)) firm) (part trades f firm.count on)
+    (pos 1 *ℤ a +ℤ sum_over (payments firm.buys (prices_at trades prices f)) firm.count (part trades f firm.count on))
+unmoved_from_arcs firms trades network on prices keeps =
+    unmoved_at_scale firms trades network (pos 1) on prices (keeps_at_one (exchange_arc firms trades on) (price_of_node (length trades) prices) keeps)
 
 -- so its bundle is best
-firm_best : (firms : List Firm) (trades : List Ends) → IsNetwork firms trades → (on : ℕ) (prices : ℕ → ℤ)
-    → KeepsArcs (exchange_arc firms trades on) (price_of_node (length trades) prices)
+firm_best : (firms : List Firm) (trades : List Ends) → IsNetwork firms trades → (scale : ℤ) (on : ℕ) (prices : ℕ → ℤ) → pos 0 ≤ℤ scale
+    → KeepsArcsAt (exchange_arc firms trades on) scale (price_of_node (length trades) prices)
     → (f : ℕ) (firm : Firm) → slice_get firms f ≡ Some firm → HasOwnBundles firm → MeetsExchange firm → (a : ℤ) → firm.worth (part trades f firm.count on) ≡ Some a
-    → HasBest trades (pos 1) on prices f firm
-firm_best firms trades network on prices keeps f firm is own meets a x_is =
-    let priced = meets-plus_sum firm (pos 1) (payments firm.buys (prices_at trades prices f)) (omega (arith, ints)) own meets in (
-      pos 1 *ℤ a +ℤ paid x,
-      best_from_unmoved (plus_sum (pos 1) (payments firm.buys (prices_at trades prices f)) firm) priced.0
-          (exchange_to_places (plus_sum (pos 1) (payments firm.buys (prices_at trades prices f)) firm) priced.0 priced.1) x (pos 1 *ℤ a +ℤ paid x)
-          (ap (option_map (λ w. pos 1 *ℤ w +ℤ paid x)) x_is) (unmoved_from_arcs firms trades network on prices keeps f firm is a x_is),
+    → HasBest trades scale on prices f firm
+firm_best firms trades network scale on prices from_zero keeps f firm is own meets a x_is =
+    let priced = meets-plus_sum firm scale (payments firm.buys (prices_at trades prices f)) from_zero own meets in (
+      scale *ℤ a +ℤ paid x,
+      best_from_unmoved (plus_sum scale (payments firm.buys (prices_at trades prices f)) firm) priced.0
+          (exchange_to_places (plus_sum scale (payments firm.buys (prices_at trades prices f)) firm) priced.0 priced.1) x (scale *ℤ a +ℤ paid x)
+          (ap (option_map (λ w. scale *ℤ w +ℤ paid x)) x_is) (unmoved_at_scale firms trades network scale on prices keeps f firm is a x_is),
     )
   where
     x : ℕ
@@ -259,25 +290,29 @@ firm_best firms trades network on prices keeps f firm is own meets a x_is =
     paid : ℕ → ℤ
     paid y = sum_over (payments firm.buys (prices_at trades prices f)) firm.count y
 
-pub supports_from_arcs : (firms : List Firm) (trades : List Ends) (on : ℕ) (prices : ℕ → ℤ) → IsNetwork firms trades → MeetExchange firms
-    → ArePossible firms trades on → KeepsArcs (exchange_arc firms trades on) (price_of_node (length trades) prices)
-    → IsEquilibrium firms trades (pos 1) on prices
-supports_from_arcs firms trades on prices network meet possible keeps f firm is =
+pub supports_at_scale : (firms : List Firm) (trades : List Ends) (scale : ℤ) (on : ℕ) (prices : ℕ → ℤ) → IsNetwork firms trades → MeetExchange firms → pos 0 ≤ℤ scale
+    → ArePossible firms trades on → KeepsArcsAt (exchange_arc firms trades on) scale (price_of_node (length trades) prices)
+    → IsEquilibrium firms trades scale on prices
+supports_at_scale firms trades scale on prices network meet from_zero possible keeps f firm is =
     let law = meet f firm is in
     let worth = some_worth (firm.worth (part trades f firm.count on)) (possible f firm is) in
-    firm_best firms trades network on prices keeps f firm is law.0 law.1 worth.0 worth.1
+    firm_best firms trades network scale on prices from_zero keeps f firm is law.0 law.1 worth.0 worth.1
   where
     some_worth : (o : Option ℤ) → IsSome o → (a : ℤ) × (o ≡ Some a)
     some_worth (Some a) there = (a, refl)
     some_worth None there = absurd (cc there)
 
+pub supports_from_arcs : (firms : List Firm) (trades : List Ends) (on : ℕ) (prices : ℕ → ℤ) → IsNetwork firms trades → MeetExchange firms
+    → ArePossible firms trades on → KeepsArcs (exchange_arc firms trades on) (price_of_node (length trades) prices)
+    → IsEquilibrium firms trades (pos 1) on prices
+supports_from_arcs firms trades on prices network meet possible keeps =
+    supports_at_scale firms trades (pos 1) on prices network meet (omega (arith, ints)) possible
+    (keeps_at_one (exchange_arc firms trades on) (price_of_node (length trades) prices) keeps)
+
 pub arcs_from_supports : (firms : List Firm) (trades : List Ends) (on : ℕ) (prices : ℕ → ℤ) → IsNetwork firms trades
     → IsEquilibrium firms trades (pos 1) on prices → KeepsArcs (exchange_arc firms trades on) (price_of_node (length trades) prices)
-arcs_from_supports firms trades on prices network equilibrium u v cost is =
-    once _ _ cost (arc_kept firms trades network (pos 1) on prices equilibrium u v cost is)
-  where
-    once : (a b c : ℤ) → a ≤ℤ (b +ℤ pos 1 *ℤ c) → a ≤ℤ (b +ℤ c)
-    once a b c kept = omega (arith, ints, kept)
+arcs_from_supports firms trades on prices network equilibrium =
+    keeps_from_one (exchange_arc firms trades on) (price_of_node (length trades) prices) (arc_kept firms trades network (pos 1) on prices equilibrium)
 
 pub supports_keep_arcs : (firms : List Firm) (trades : List Ends) (on : ℕ) (prices : ℕ → ℤ) → IsNetwork firms trades → MeetExchange firms
     → ArePossible firms trades on
@@ -298,14 +333,20 @@ less_null count label u within = elim (cases_lt u count) [
     nothing a b same = omega (arith, ints, same)
 
 -- these prices keep the arcs
-pub prices_keep : (firms : List Firm) (trades : List Ends) → IsNetwork firms trades → (on : ℕ) (label : ℕ → ℤ) → KeepsArcs (exchange_arc firms trades on) label
-    → KeepsArcs (exchange_arc firms trades on) (price_of_node (length trades) (λ t. label t -ℤ label (length trades)))
-prices_keep firms trades network on label keeps u v cost is =
+pub prices_keep_at : (firms : List Firm) (trades : List Ends) (scale : ℤ) (on : ℕ) (label : ℕ → ℤ) → KeepsArcsAt (exchange_arc firms trades on) scale label
+    → KeepsArcsAt (exchange_arc firms trades on) scale (price_of_node (length trades) (λ t. label t -ℤ label (length trades)))
+prices_keep_at firms trades scale on label keeps u v cost is =
     let inside = arc_within firms trades on u v cost is in
-    shift _ _ (label u) (label v) (label (length trades)) cost (less_null (length trades) label u inside.0) (less_null (length trades) label v inside.1) (keeps u v cost is)
+    shift _ _ (label u) (label v) (label (length trades)) (scale *ℤ cost) (less_null (length trades) label u inside.0) (less_null (length trades) label v inside.1) (keeps u v cost is)
   where
     shift : (pu pv lu lv ln cost : ℤ) → pu ≡ lu -ℤ ln → pv ≡ lv -ℤ ln → lv ≤ℤ (lu +ℤ cost) → pv ≤ℤ (pu +ℤ cost)
     shift pu pv lu lv ln cost u v kept = omega (arith, ints, u, v, kept)
+
+pub prices_keep : (firms : List Firm) (trades : List Ends) → IsNetwork firms trades → (on : ℕ) (label : ℕ → ℤ) → KeepsArcs (exchange_arc firms trades on) label
+    → KeepsArcs (exchange_arc firms trades on) (price_of_node (length trades) (λ t. label t -ℤ label (length trades)))
+prices_keep firms trades network on label keeps =
+    keeps_from_one (exchange_arc firms trades on) (price_of_node (length trades) (λ t. label t -ℤ label (length trades)))
+    (prices_keep_at firms trades (pos 1) on label (keeps_at_one (exchange_arc firms trades on) label keeps))
 
 pub labels_are_supports : (firms : List Firm) (trades : List Ends) (on : ℕ) (label : ℕ → ℤ) → IsNetwork firms trades → MeetExchange firms
     → ArePossible firms trades on → KeepsArcs (exchange_arc firms trades on) label

@@ -24,7 +24,7 @@ use Rattle.tn_network.specs.Laws.{price_of_node}
 use Rattle.tn_network.proofs.SupportLemmas.{unmoved_from_arcs, prices_keep, arcs_from_supports}
 use Rattle.tn_outcome.specs.Rational.{IsRationalOutcome}
 use Rattle.tn_outcome.specs.Laws.{completed, CompletionIsLabels}
-use Rattle.tn_outcome.proofs.SignedLemmas.{contract_on, signed_by, price_of_contract, no_price, has-signed_bundle}
+use Rattle.tn_outcome.proofs.SignedLemmas.{signed_by, agreed_price, price_of_contract, no_price, has-signed_bundle}
 use Rattle.tn_outcome.proofs.RationalLemmas.{rational_by_bundles}
 use Rattle.tn_outcome.proofs.MirrorLemmas.{IsMirror, mirror-empty, best_in_mirror, best_from_unmoved_mirror}
 use Rattle.tn_outcome.proofs.SplitLemmas.{AreSplit, mirror_of}
@@ -87,10 +87,7 @@ completed_are trades contracts label = record {
 agreeing_are : (firms : List Firm) (trades : List Ends) (over : ℤ) (contracts : List Contract) → IsRationalOutcome firms trades over contracts → (prices : ℕ → ℤ)
     → ((k : ℕ) (contract : Contract) → slice_get contracts k ≡ Some contract → prices contract.trade ≡ contract.price) → AreCompleting contracts prices prices
 agreeing_are firms trades over contracts outcome prices agree = record {
-  on = λ t is.
-      let found = contract_on contracts t is in
-      ap prices (sym found.trade) ∙ agree found.place found.contract found.is
-      ∙ sym (price_of_contract contracts outcome.feasible.once found.place found.contract found.is) ∙ ap (signed_price contracts) found.trade;
+  on = agreed_price trades contracts outcome.feasible prices agree;
   off = λ t is. refl;
 }
 

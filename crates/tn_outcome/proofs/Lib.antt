@@ -8,3 +8,4 @@ pub mod SplitLemmas
 pub mod CompletionLemmas
 pub mod NoMoreLemmas
 pub mod ArcLemmas
+pub mod FixedLemmas

@@ -1,5 +1,5 @@
 -- The trades and prices of contracts of which no two are on one trade.
-use Rattle.std.proofs.Common.{◌≡◌, ℕ, zero, suc, ◌<◌, Bool, true, false, ◌==◌, ◌&&◌, if◌then◌else◌, List, [], ◌∷◌, length, slice_get, Some, refl, ap, ◌∙◌, arith, inl, inr, pos}
+use Rattle.std.proofs.Common.{◌≡◌, ℕ, zero, suc, ◌<◌, Bool, true, false, ◌==◌, ◌&&◌, if◌then◌else◌, List, [], ◌∷◌, length, slice_get, Some, refl, sym, ap, ◌∙◌, arith, inl, inr, ℤ, pos}
 use Rattle.std.proofs.lemmas.Bool.{cases_Bool, eqb-true, eq-eqb, or_cases, or_parts, or_left, or_right, lt-ltb}
 use Rattle.std.proofs.lemmas.Option.{same_Some}
 use Rattle.tn_base.specs.Sets.{has}
@@ -8,6 +8,7 @@ use Rattle.tn_base.proofs.SetLemmas.{has-set_of}
 use Rattle.tn_plain_data.specs.declared.ends.Ends.{Ends}
 use Rattle.tn_plain_data.specs.declared.contract.Contract.{Contract}
 use Rattle.tn_plain_data.specs.Network.{own, IsNetwork}
+use Rattle.tn_plain_data.specs.Choices.{IsFeasible}
 use Rattle.tn_market.specs.Signed.{is_signed, signed, signed_price, signed_bundle}
 use Rattle.tn_market.proofs.GraphLemmas.{has-part}
 
@@ -54,6 +55,23 @@ no_price [] t e = refl
 no_price (contract ∷ contracts) t e =
     let parts = or_parts (contract.trade == t) (is_signed contracts t) e in
     ap (λ (b : Bool). if b then contract.price else signed_price contracts t) parts.0 ∙ no_price contracts t parts.1
+
+-- a signed trade is one of the network
+pub signed_within : (trades : List Ends) (contracts : List Contract) → IsFeasible trades contracts → (t : ℕ) → is_signed contracts t ≡ true → t < length trades
+signed_within trades contracts feasible t there =
+    let found = contract_on contracts t there in
+    let below = feasible.known found.place found.contract found.is in
+    let same = found.trade in
+    omega (arith, below, same)
+
+-- prices that agree with the contracts are at a signed trade the price of its contract
+pub agreed_price : (trades : List Ends) (contracts : List Contract) → IsFeasible trades contracts → (prices : ℕ → ℤ)
+    → ((k : ℕ) (contract : Contract) → slice_get contracts k ≡ Some contract → prices contract.trade ≡ contract.price)
+    → (t : ℕ) → is_signed contracts t ≡ true → prices t ≡ signed_price contracts t
+agreed_price trades contracts feasible prices agree t there =
+    let found = contract_on contracts t there in
+    ap prices (sym found.trade) ∙ agree found.place found.contract found.is
+    ∙ sym (price_of_contract contracts feasible.once found.place found.contract found.is) ∙ ap (signed_price contracts) found.trade
 
 -- a position is in a firm's signed bundle exactly where its trade is signed
 pub has-signed_bundle : (firms : List Firm) (trades : List Ends) → IsNetwork firms trades → (contracts : List Contract) (f k : ℕ) (firm : Firm) → slice_get firms f ≡ Some firm

@@ -1,2 +1,3 @@
 pub mod Rational
 pub mod Laws
+pub mod Fixed

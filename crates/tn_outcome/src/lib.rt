@@ -6,6 +6,9 @@ mod completion;
 mod rational;
 mod reduced;
 
-pub use completion::{completed_outcomes_are_stable, completion_is_labels};
+pub use completion::{
+    completed_outcomes_are_rational, completed_outcomes_are_stable, completion_is_fixed_labels,
+    completion_is_labels,
+};
 pub use rational::rational_by_bundles;
 pub use reduced::{numbers_leave_no_more, reduced_arcs_are_unsigned, reduced_worths_are_greatest};

@@ -1,0 +1,5 @@
+use Rattle.tn_outcome.proofs.FixedLemmas.{completed_is_rational}
+use Rattle.tn_outcome.proofs.completion.completed_outcomes_are_rational.Goals as goal
+
+pub returns : goal.returns
+returns c = completed_is_rational
