@@ -1,32 +1,138 @@
--- Prices that complete an outcome, from labels of the reduced graph.
-use Rattle.std.proofs.Common.{◌≡◌, ℕ, ◌+◌, ◌-◌, ◌<◌, ◌≤◌, Bool, true, false, if◌then◌else◌, List, [], ◌∷◌, ◌++◌, length, get_or, refl, sym, ap, ◌∙◌, subst, arith, inl, inr, ℤ, pos, ◌-ℤ◌}
-use Rattle.std.specs.Prelude.{All}
+-- Prices that complete an outcome, from labels of its fixed graph.
+use Rattle.std.proofs.Common.{◌≡◌, ℕ, ◌+◌, ◌-◌, ◌<◌, ◌≤◌, ◌==◌, Bool, true, false, if◌then◌else◌, List, [], ◌∷◌, ◌++◌, length, map, get_or, Option, Some, None, option_map, refl, sym, ap, ap₂, ◌∙◌, subst, arith, inl, inr, ℤ, pos, ◌+ℤ◌, ◌-ℤ◌, ◌*ℤ◌, neg_ℤ}
+use Rattle.std.specs.Prelude.{All, IfSome, ◌≤ℤ◌, ◌<ℤ◌}
 use Rattle.std.proofs.lemmas.Int.{ints}
 use Rattle.std.proofs.lemmas.Nat.{mul-le}
-use Rattle.std.proofs.lemmas.Bool.{cases_eq}
-use Rattle.std.proofs.lemmas.List.{length-append, get_or_append_left, get_or_default}
-use Rattle.tn_base.specs.Arcs.{IsAtMost, AreSmall}
+use Rattle.std.proofs.lemmas.Bool.{cases_eq, cases_lt, cases_Bool}
+use Rattle.std.proofs.lemmas.List.{length-append, get_or_append_left, get_or_default, get_or_past}
+use Rattle.tn_base.specs.Arcs.{IsAtMost}
 use Rattle.tn_base.specs.Firm.{Firm}
 use Rattle.tn_base.specs.Walks.{KeepsArcs}
+use Rattle.tn_law.proofs.KeepLemmas.{option_map-some}
+use Rattle.tn_law.proofs.LabelLemmas.{walk-kept}
 use Rattle.tn_cycle.specs.Answers.{label_in, AreLabels, IsNegative}
 use Rattle.tn_graph.specs.Matrix.{Matrix, arcs_of}
 use Rattle.tn_graph.specs.Reading.{IsExchangeGraph}
 use Rattle.tn_plain_data.specs.declared.ends.Ends.{Ends}
 use Rattle.tn_plain_data.specs.declared.contract.Contract.{Contract}
-use Rattle.tn_plain_data.specs.Prices.{price_at}
-use Rattle.tn_market.specs.Signed.{is_signed, signed_price, signed, Completes}
-use Rattle.tn_market.specs.Reduced.{reduced_firms, reduced_arc}
-use Rattle.tn_network.proofs.EachLemmas.{same_prices}
-use Rattle.tn_outcome.specs.Rational.{IsRationalOutcome}
-use Rattle.tn_outcome.specs.Laws.{completed}
-use Rattle.tn_outcome.proofs.CompletionLemmas.{completes_from_labels, completion_is_labels}
-use Rattle.tn_base.proofs.WalkLemmas.{walk-same}
-use Rattle.tn_chain.proofs.MoveLemmas.{price_small}
-use Rattle.tn_chain.specs.Limits.{most_reduced_cost}
 use Rattle.tn_plain_data.specs.Limits.{most_numerator, most_trades}
+use Rattle.tn_plain_data.specs.Network.{IsNetwork}
+use Rattle.tn_plain_data.specs.Prices.{price_at}
+use Rattle.tn_market.specs.Graph.{exchange_arc, ArePossible}
+use Rattle.tn_market.specs.Lawful.{IsLawful}
+use Rattle.tn_market.specs.Limits.{IsOutcomeOf, IsWithinLimits}
+use Rattle.tn_market.specs.Signed.{is_signed, signed_price, signed, Completes}
+use Rattle.tn_market.specs.Supported.{IsFirstUnable}
+use Rattle.tn_market.specs.Traded.{Traded}
+use Rattle.tn_market.specs.Valued.{IsWorthAtMost}
+use Rattle.tn_market.specs.Widths.{most_worth}
+use Rattle.tn_network.specs.Laws.{price_of_node}
+use Rattle.tn_network.proofs.EachLemmas.{each_within, meet_all, same_prices}
+use Rattle.tn_network.proofs.SupportLemmas.{arcs_small}
+use Rattle.tn_outcome.specs.Fixed.{lesser, fixed_at, fixed_arc, fixing_arc, IsPossibleOutcome}
+use Rattle.tn_outcome.proofs.FixedLemmas.{completion_is_fixed_labels, null_unsigned}
+use Rattle.tn_outcome.proofs.SignedLemmas.{agreed_price}
+use Rattle.tn_residual.specs.Held.{contract_price}
+use Rattle.tn_residual.proofs.HeldLemmas.{price_some}
+use Rattle.tn_residual.proofs.MakingLemmas.{outcome_feasible}
+use Rattle.tn_chain.proofs.CostLemmas.{small_graph}
+use Rattle.tn_chain.proofs.MoveLemmas.{price_small}
 use Rattle.tn_judge.specs.Completion.{ArePricesTo}
-use Rattle.tn_judge.specs.Limits.{most_completing_price, most_reduced_label}
+use Rattle.tn_judge.specs.Fixing.{price_in, height, raised_arc, raised_fixed, ArePriced, CanBeFixed}
+use Rattle.tn_judge.specs.FixingLemmas.{raised_small}
+use Rattle.tn_judge.specs.Limits.{most_completing_price, most_exchange_cost, most_fixed_cost, most_fixed_label}
 use Rattle.tn_judge.specs.Verdict.{IsCompletedBy, IsIncomplete}
+
+-- ---- an outcome whose bundles are possible
+
+pub possible_outcome : {V : Type 0} {limit_of : V → ℕ} (firm_of : V → Firm) (items : List V) (trades : List Ends) (over : ℤ) (contracts : List Contract) → IsNetwork (map firm_of items) trades
+    → ((v : V) → IsLawful (limit_of v) (firm_of v)) → IsOutcomeOf trades over contracts → ArePossible (map firm_of items) trades (signed (length trades) contracts)
+    → IsPossibleOutcome (map firm_of items) trades over contracts
+possible_outcome firm_of items trades over contracts network lawful outcome possible = record {
+  network = network;
+  meet = meet_all firm_of items lawful;
+  from_one = outcome.least;
+  feasible = outcome_feasible trades over contracts outcome;
+  possible = possible;
+}
+
+-- where a bundle isn't, no prices complete the outcome
+pub unable_incomplete : (firms : List Firm) (trades : List Ends) (over : ℤ) (contracts : List Contract) (f : ℕ) → IsFirstUnable firms trades (signed (length trades) contracts) f
+    → IsIncomplete firms trades over contracts
+unable_incomplete firms trades over contracts f unable prices completes =
+    let best = completes.equilibrium f unable.firm unable.is in
+    let none = unable.impossible in
+    let is = best.1.is in
+    absurd (cc (none, is))
+
+-- ---- prices of the nodes
+
+at_end : {A : Type 0} (xs : List A) (x d : A) → get_or (xs ++ (x ∷ [])) (length xs) d ≡ x
+at_end [] x d = refl
+at_end (y ∷ xs) x d = at_end xs x d
+
+-- the prices of the first v nodes are those of the contracts on them
+pub record ArePricedBelow (contracts : List Contract) (v : ℕ) (prices : List (Option ℤ)) : Type 0 where
+  pub counted : length prices ≡ v
+  pub each : (i : ℕ) → i < v → price_in prices i ≡ contract_price contracts i
+
+pub none_priced : (contracts : List Contract) (prices : List (Option ℤ)) → prices ≡ [] → ArePricedBelow contracts 0 prices
+none_priced contracts prices none = record {
+  counted = ap length none;
+  each = λ i below. absurd (omega (arith, below));
+}
+
+pub one_priced : (contracts : List Contract) (v : ℕ) (prices next : List (Option ℤ)) (price : Option ℤ) → ArePricedBelow contracts v prices → next ≡ prices ++ (price ∷ [])
+    → price ≡ contract_price contracts v → ArePricedBelow contracts (v + 1) next
+one_priced contracts v prices next price are next_is price_is = record {
+  counted = (let sum = ap length next_is ∙ length-append prices (price ∷ []) in let before = are.counted in omega (arith, sum, before));
+  each = λ i below. ap (λ (xs : List (Option ℤ)). price_in xs i) next_is ∙ elim (cases_eq i v) [
+    | inl e ↦ ap (price_in (prices ++ (price ∷ []))) (e ∙ sym are.counted) ∙ at_end prices price None ∙ price_is ∙ sym (ap (contract_price contracts) e)
+    | inr d ↦ get_or_append_left prices (price ∷ []) None i (let before = are.counted in omega (arith, before, below, d)) ∙ are.each i (omega (arith, below, d))
+  ];
+}
+
+-- all nodes have their prices then
+pub all_priced : (contracts : List Contract) (nodes : ℕ) (prices : List (Option ℤ)) → ((t : ℕ) → is_signed contracts t ≡ true → t < nodes) → ArePricedBelow contracts nodes prices
+    → ArePriced contracts nodes prices
+all_priced contracts nodes prices known are = record {
+  counted = are.counted;
+  each = λ v. elim (cases_lt v nodes) [
+    | inl below ↦ are.each v below
+    | inr past ↦
+        get_or_past prices v None (let counted = are.counted in omega (arith, counted, past))
+        ∙ sym (ap (λ (b : Bool). if b then Some (signed_price contracts v) else None) (unsigned v past))
+  ];
+}
+  where
+    unsigned : (v : ℕ) → nodes ≤ v → is_signed contracts v ≡ false
+    unsigned v past = elim (cases_Bool (is_signed contracts v)) [
+      | inr away ↦ away
+      | inl there ↦ absurd (let below = known v there in omega (arith, below, past))
+    ]
+
+-- a graph with such prices can be fixed
+pub can_be_fixed : {V : Type 0} (firm_of : V → Firm) (limit_of : V → ℕ) (market : Traded V) (over : ℤ) (contracts : List Contract) → IsNetwork (map firm_of market.firms) market.trades
+    → ((v : V) → IsWorthAtMost (limit_of v) (firm_of v)) → IsWithinLimits firm_of limit_of market → IsOutcomeOf market.trades over contracts
+    → (on : ℕ) (graph : Matrix) → IsExchangeGraph (map firm_of market.firms) market.trades on graph → (null : ℕ) → null ≡ length market.trades
+    → (prices : List (Option ℤ)) → ArePriced contracts (null + 1) prices → CanBeFixed graph over null prices
+can_be_fixed firm_of limit_of market over contracts network within limits outcome on graph is null null_is prices priced = record {
+  nodes = (let nodes = is.nodes in omega (arith, nodes, null_is));
+  counted = priced.counted;
+  small_costs = small_graph (exchange_arc (map firm_of market.firms) market.trades on) most_exchange_cost graph
+      (arcs_small (map firm_of market.firms) market.trades network most_worth on (each_within firm_of limit_of market.firms within most_worth limits.small_worths)) is.arcs;
+  from_one = outcome.least;
+  small_over = outcome.most;
+  small_prices = λ v price there.
+      subst (λ (z : ℤ). IsAtMost z most_numerator) (price_some contracts v price (sym (priced.each v) ∙ there)).1 (price_small contracts outcome.contracts.small v);
+}
+
+-- a cost that is there is small
+pub small_if : (limit : ℕ) (o : Option ℤ) → ((z : ℤ) → o ≡ Some z → IsAtMost z limit) → IfSome o (λ z. IsAtMost z limit)
+small_if limit None small = tt
+small_if limit (Some z) small = small z refl
+
+-- ---- prices of the trades
 
 pub no_prices : (contracts : List Contract) (labels : List ℤ) (null : ℕ) (prices : List ℤ) → prices ≡ [] → ArePricesTo contracts labels null 0 prices
 no_prices contracts labels null prices none = record {
@@ -39,50 +145,95 @@ pub one_price : (contracts : List Contract) (labels : List ℤ) (null t : ℕ) (
 one_price contracts labels null t prices next price are next_is price_is = record {
   counted = (let sum = ap length next_is ∙ length-append prices (price ∷ []) in let before = are.counted in omega (arith, sum, before));
   each = λ i below. ap (λ (xs : List ℤ). price_at xs i) next_is ∙ elim (cases_eq i t) [
-    | inl e ↦ ap (price_at (prices ++ (price ∷ []))) (e ∙ sym are.counted) ∙ get_or_at_end ∙ price_is
+    | inl e ↦ ap (price_at (prices ++ (price ∷ []))) (e ∙ sym are.counted) ∙ at_end prices price (pos 0) ∙ price_is
         ∙ sym (ap (λ (k : ℕ). if is_signed contracts k then signed_price contracts k else label_in labels k -ℤ label_in labels null) e)
     | inr d ↦ get_or_append_left prices (price ∷ []) (pos 0) i (let before = are.counted in omega (arith, before, below, d)) ∙ are.each i (omega (arith, below, d))
   ];
 }
-  where
-    get_or_at_end : price_at (prices ++ (price ∷ [])) (length prices) ≡ price
-    get_or_at_end = at_end prices
-      where
-        at_end : (xs : List ℤ) → get_or (xs ++ (price ∷ [])) (length xs) (pos 0) ≡ price
-        at_end [] = refl
-        at_end (x ∷ xs) = at_end xs
 
--- labels of the reduced graph are small
-pub labels_small : (nodes : ℕ) (graph : Matrix) (labels : List ℤ) → nodes ≤ most_trades + 1 → AreSmall (arcs_of graph) most_reduced_cost → AreLabels nodes (arcs_of graph) labels
-    → (v : ℕ) → v < length labels → IsAtMost (label_in labels v) most_reduced_label
-labels_small nodes graph labels few small are v below =
+-- ---- raised nodes
+
+-- numbers that keep the arcs of a graph keep those of the raised one, raised themselves, and the other way round
+keeps_raised : (high : ℕ → ℤ) (arc : ℕ → ℕ → Option ℤ) (label : ℕ → ℤ) → KeepsArcs arc label → KeepsArcs (raised_arc high arc) (λ v. label v +ℤ high v)
+keeps_raised high arc label keeps u v cost is =
+    let found = option_map-some (λ c. (c +ℤ high v) -ℤ high u) (arc u v) cost is in
+    rises (label u) (label v) (high u) (high v) found.0 cost (keeps u v found.0 found.1) found.2
+  where
+    rises : (lu lv hu hv c cost : ℤ) → lv ≤ℤ (lu +ℤ c) → (c +ℤ hv) -ℤ hu ≡ cost → (lv +ℤ hv) ≤ℤ ((lu +ℤ hu) +ℤ cost)
+    rises lu lv hu hv c cost kept is = omega (arith, ints, kept, is)
+
+keeps_lowered : (high : ℕ → ℤ) (arc : ℕ → ℕ → Option ℤ) (label : ℕ → ℤ) → KeepsArcs (raised_arc high arc) label → KeepsArcs arc (λ v. label v -ℤ high v)
+keeps_lowered high arc label keeps u v cost is =
+    falls (label u) (label v) (high u) (high v) cost (keeps u v ((cost +ℤ high v) -ℤ high u) (ap (option_map (λ c. (c +ℤ high v) -ℤ high u)) is))
+  where
+    falls : (lu lv hu hv cost : ℤ) → lv ≤ℤ (lu +ℤ ((cost +ℤ hv) -ℤ hu)) → (lv -ℤ hv) ≤ℤ ((lu -ℤ hu) +ℤ cost)
+    falls lu lv hu hv cost kept = omega (arith, ints, kept)
+
+-- the graph that is read is the fixed one before nodes are raised
+same_fixed : (firms : List Firm) (trades : List Ends) (over : ℤ) (contracts : List Contract) (graph : Matrix) → IsExchangeGraph firms trades (signed (length trades) contracts) graph
+    → (null : ℕ) → null ≡ length trades → (prices : List (Option ℤ)) → ArePriced contracts (null + 1) prices
+    → (u v : ℕ) → fixed_at over (price_in prices) null (arcs_of graph) u v ≡ fixed_arc firms trades over contracts u v
+same_fixed firms trades over contracts graph is null null_is prices priced u v =
+    ap₂ lesser (ap (option_map (λ c. over *ℤ c)) (is.arcs u v))
+    (ap (λ (n : ℕ). fixing_arc (price_in prices) n u v) null_is
+    ∙ ap₂ (λ (a b : Option ℤ). if u == length trades then a else (if v == length trades then option_map neg_ℤ b else None)) (priced.each v) (priced.each u))
+
+-- ---- labels
+
+-- labels of the fixed graph are small
+pub labels_small : (nodes : ℕ) (graph : Matrix) (over : ℤ) (null : ℕ) (prices : List (Option ℤ)) (labels : List ℤ) → nodes ≤ most_trades + 1 → CanBeFixed graph over null prices
+    → AreLabels nodes (raised_fixed over prices null (arcs_of graph)) labels → (v : ℕ) → v < length labels → IsAtMost (label_in labels v) most_fixed_label
+labels_small nodes graph over null prices labels few fits are v below =
     let inside : v < nodes = (let one_each = are.one_each in omega (arith, below, one_each)) in
     let high = are.high v inside in
-    let low = are.low most_reduced_cost v small inside in
-    let product = mul-le (nodes - 1) most_reduced_cost most_trades most_reduced_cost (omega (arith, few)) (omega arith) in
+    let low = are.low most_fixed_cost v (raised_small graph over null prices fits) inside in
+    let product = mul-le (nodes - 1) most_fixed_cost most_trades most_fixed_cost (omega (arith, few)) (omega arith) in
     record { low = omega (arith, ints, low, product); high = omega (arith, ints, high) }
 
-pub labels_complete : (firms : List Firm) (trades : List Ends) (over : ℤ) (contracts : List Contract) → IsRationalOutcome firms trades over contracts → All (λ contract. IsAtMost contract.price most_numerator) contracts
-    → (graph : Matrix) → IsExchangeGraph (reduced_firms trades over contracts firms) trades 0 graph → (labels : List ℤ) → KeepsArcs (arcs_of graph) (label_in labels)
-    → ((v : ℕ) → v < length labels → IsAtMost (label_in labels v) most_reduced_label) → length labels ≡ length trades + 1 → (null : ℕ) → null ≡ length trades
-    → (prices : List ℤ) → ArePricesTo contracts labels null null prices → IsCompletedBy firms trades over contracts prices
-labels_complete firms trades over contracts outcome small_contracts graph is labels keeps small labelled null null_is prices are = record {
+pub labels_complete : (firms : List Firm) (trades : List Ends) (over : ℤ) (contracts : List Contract) → IsPossibleOutcome firms trades over contracts → All (λ contract. IsAtMost contract.price most_numerator) contracts
+    → (graph : Matrix) → IsExchangeGraph firms trades (signed (length trades) contracts) graph → (null : ℕ) → null ≡ length trades
+    → (prices : List (Option ℤ)) → ArePriced contracts (null + 1) prices → (labels : List ℤ) → KeepsArcs (raised_fixed over prices null (arcs_of graph)) (label_in labels)
+    → ((v : ℕ) → v < length labels → IsAtMost (label_in labels v) most_fixed_label) → length labels ≡ length trades + 1
+    → (answer : List ℤ) → ArePricesTo contracts labels null null answer → IsCompletedBy firms trades over contracts answer
+labels_complete firms trades over contracts outcome small_contracts graph is null null_is prices priced labels keeps small labelled answer are = record {
   one_each = are.counted ∙ null_is;
-  small = λ k d below. subst (λ (z : ℤ). IsAtMost z most_completing_price) (sym (get_or_default prices k d (pos 0) below ∙ are.each k (let counted = are.counted in omega (arith, below, counted))))
+  small = λ k d below. subst (λ (z : ℤ). IsAtMost z most_completing_price) (sym (get_or_default answer k d (pos 0) below ∙ are.each k (let counted = are.counted in omega (arith, below, counted))))
       (by_case (is_signed contracts k) k (let counted = are.counted in omega (arith, below, counted, null_is)));
   completes = record {
     agree = λ k contract there. price_is contract.trade (outcome.feasible.known k contract there) ∙ complete.agree k contract there;
-    equilibrium = same_prices firms trades over (signed (length trades) contracts) (price_at prices) (completed trades contracts (label_in labels)) outcome.network price_is complete.equilibrium;
+    equilibrium = same_prices firms trades over (signed (length trades) contracts) (price_at answer) (λ t. low t -ℤ low (length trades)) outcome.network price_is complete.equilibrium;
   };
 }
   where
-    complete : Completes firms trades over contracts (completed trades contracts (label_in labels))
-    complete = completes_from_labels firms trades over contracts (label_in labels) outcome (λ u v cost arc. keeps u v cost (is.arcs u v ∙ arc))
+    high : ℕ → ℤ
+    high v = height (price_in prices v)
 
-    price_is : (t : ℕ) → t < length trades → price_at prices t ≡ completed trades contracts (label_in labels) t
-    price_is t below = are.each t (omega (arith, below, null_is)) ∙ ap (λ (n : ℕ). if is_signed contracts t then signed_price contracts t else label_in labels t -ℤ label_in labels n) null_is
+    low : ℕ → ℤ
+    low v = label_in labels v -ℤ height (price_in prices v)
 
-    difference : (a b : ℤ) → IsAtMost a most_reduced_label → IsAtMost b most_reduced_label → IsAtMost (a -ℤ b) most_completing_price
+    complete : Completes firms trades over contracts (λ t. low t -ℤ low (length trades))
+    complete = completion_is_fixed_labels.from_labels firms trades over contracts low outcome (λ u v cost arc.
+        keeps_lowered high (fixed_at over (price_in prices) null (arcs_of graph)) (label_in labels) keeps u v cost
+        (same_fixed firms trades over contracts graph is null null_is prices priced u v ∙ arc))
+
+    -- a node without a contract isn't raised
+    flat : (v : ℕ) → is_signed contracts v ≡ false → low v ≡ label_in labels v
+    flat v away =
+        at (label_in labels v) (height (price_in prices v)) (ap height (priced.each v ∙ ap (λ (b : Bool). if b then Some (signed_price contracts v) else None) away))
+      where
+        at : (l h : ℤ) → h ≡ pos 0 → l -ℤ h ≡ l
+        at l h none = omega (arith, ints, none)
+
+    by_sign : (t : ℕ) (s : Bool) → is_signed contracts t ≡ s → (if s then signed_price contracts t else label_in labels t -ℤ label_in labels null) ≡ low t -ℤ low (length trades)
+    by_sign t true there = sym (agreed_price trades contracts outcome.feasible (λ t. low t -ℤ low (length trades)) complete.agree t there)
+    by_sign t false away =
+        ap (λ (n : ℕ). label_in labels t -ℤ label_in labels n) null_is
+        ∙ ap₂ (λ (a b : ℤ). a -ℤ b) (sym (flat t away)) (sym (flat (length trades) (null_unsigned trades contracts outcome.feasible)))
+
+    price_is : (t : ℕ) → t < length trades → price_at answer t ≡ low t -ℤ low (length trades)
+    price_is t below = are.each t (omega (arith, below, null_is)) ∙ by_sign t (is_signed contracts t) refl
+
+    difference : (a b : ℤ) → IsAtMost a most_fixed_label → IsAtMost b most_fixed_label → IsAtMost (a -ℤ b) most_completing_price
     difference a b first second = record { low = omega (arith, ints, first.low, first.high, second.low, second.high); high = omega (arith, ints, first.low, first.high, second.low, second.high) }
 
     wider : (z : ℤ) → IsAtMost z most_numerator → IsAtMost z most_completing_price
@@ -92,11 +243,18 @@ labels_complete firms trades over contracts outcome small_contracts graph is lab
     by_case true k below = wider (signed_price contracts k) (price_small contracts small_contracts k)
     by_case false k below = difference (label_in labels k) (label_in labels null) (small k (omega (arith, below, labelled))) (small null (omega (arith, labelled, null_is)))
 
-pub cycle_incomplete : (firms : List Firm) (trades : List Ends) (over : ℤ) (contracts : List Contract) → IsRationalOutcome firms trades over contracts → (graph : Matrix)
-    → IsExchangeGraph (reduced_firms trades over contracts firms) trades 0 graph → (nodes : ℕ) (listed : List ℕ) (cost : ℤ) (count : ℕ) → IsNegative nodes (arcs_of graph) listed cost count
+pub cycle_incomplete : (firms : List Firm) (trades : List Ends) (over : ℤ) (contracts : List Contract) → IsPossibleOutcome firms trades over contracts → (graph : Matrix)
+    → IsExchangeGraph firms trades (signed (length trades) contracts) graph → (null : ℕ) → null ≡ length trades → (prices : List (Option ℤ)) → ArePriced contracts (null + 1) prices
+    → (nodes : ℕ) (listed : List ℕ) (cost : ℤ) (count : ℕ) → IsNegative nodes (raised_fixed over prices null (arcs_of graph)) listed cost count
     → IsIncomplete firms trades over contracts
-cycle_incomplete firms trades over contracts outcome graph is nodes listed cost count found prices completes =
-    let none = (completion_is_labels.some firms trades over contracts outcome).0 (prices, completes) in
-    let least = none found.first found.rest cost (sym (walk-same (arcs_of graph) (reduced_arc firms trades over contracts) is.arcs found.first found.rest found.first) ∙ found.cycle.walk) in
+cycle_incomplete firms trades over contracts outcome graph is null null_is prices priced nodes listed cost count found completing completes =
+    let keeps = completion_is_fixed_labels.to_labels firms trades over contracts completing outcome completes in
+    let raised = keeps_raised (λ v. height (price_in prices v)) (fixed_at over (price_in prices) null (arcs_of graph)) (price_of_node (length trades) completing)
+    (λ u v c arc. keeps u v c (sym (same_fixed firms trades over contracts graph is null null_is prices priced u v) ∙ arc)) in
+    let round = walk-kept (raised_fixed over prices null (arcs_of graph)) (λ v. price_of_node (length trades) completing v +ℤ height (price_in prices v)) raised
+    found.first found.rest found.first cost found.cycle.walk in
     let negative = found.negative in
-    absurd (omega (arith, ints, least, negative))
+    absurd (less (price_of_node (length trades) completing found.first +ℤ height (price_in prices found.first)) cost round negative)
+  where
+    less : (l c : ℤ) → l ≤ℤ (l +ℤ c) → c <ℤ pos 0 → ⊥
+    less l c round negative = omega (arith, ints, round, negative)

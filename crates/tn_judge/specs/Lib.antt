@@ -1,4 +1,6 @@
 pub mod Limits
+pub mod Fixing
+pub mod FixingLemmas
 pub mod Verdict
 pub mod Drops
 pub mod Completion

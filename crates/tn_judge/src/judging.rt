@@ -50,8 +50,8 @@ fn blocking_over(outcome: &Outcome, count: u32) -> i128
     outcome.over * chain_scale(&outcome.contracts, count)
 }
 
-/// Judges an outcome: the first firm that would drop contracts; or else prices that complete it, exactly where there are
-/// any; or else a chain of contracts that blocks it. It fails only where memory runs out (Hatfield, Kominers, Nichifor,
+/// Judges an outcome: prices that complete it, exactly where there are any; or else the first firm that would drop
+/// contracts; or else a chain of contracts that blocks it. It fails only where memory runs out (Hatfield, Kominers, Nichifor,
 /// Ostrovsky and Westkamp, 2013, on stable outcomes and equilibria, and 2021 on chains). The limits of firms and
 /// outcomes hold: at most 1,024 firms, 32 own trades and worths of at most 10^11 in size; the outcome's denominator is 1
 /// to 100, and its numerators are at most 10^11 in size. There are at most 128 trades.
@@ -66,6 +66,10 @@ pub fn judge<V: Oracle>(
     requires outcome { IsOutcomeOf market.now.trades outcome.now.over outcome.now.contracts }
     ensures { IfOk result (network_of V.firm market.now JudgesContracts outcome.now.over outcome.now.contracts) }
 {
+    let trades = market.trades();
+    if let Some(prices) = completion(alloc, market, outcome, steps)? {
+        return Ok(Judged::Completes { prices });
+    }
     let mut room = Room::new(alloc)?;
     if let Some((firm, drop)) = first_drop(market, outcome, &mut room) {
         return Ok(Judged::Drops {
@@ -74,10 +78,7 @@ pub fn judge<V: Oracle>(
             gain: drop.gain,
         });
     }
-    if let Some(prices) = completion(alloc, market, outcome)? {
-        return Ok(Judged::Completes { prices });
-    }
     let contracts = chain_of(alloc, market, outcome, steps)?;
-    let over = blocking_over(outcome, market.trades());
+    let over = blocking_over(outcome, trades);
     Ok(Judged::Blocks { contracts, over })
 }

@@ -4,6 +4,7 @@
 
 mod completing;
 mod drops;
+mod fixed;
 mod judging;
 
 pub use judging::{Judged, judge};

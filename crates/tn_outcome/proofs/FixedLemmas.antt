@@ -1,10 +1,10 @@
 -- Numbers that keep the arcs of an outcome's fixed graph are prices that complete it.
-use Rattle.std.proofs.Common.{◌≡◌, ℕ, suc, ◌<◌, Bool, true, false, ◌==◌, if◌then◌else◌, List, length, slice_get, Option, Some, None, option_map, refl, sym, ap, ◌∙◌, arith, inl, inr, ◌⊎◌, ℤ, pos, neg_ℤ, ◌+ℤ◌, ◌-ℤ◌, ◌*ℤ◌, ◌≤ℤ◌}
+use Rattle.std.proofs.Common.{◌≡◌, ℕ, suc, ◌<◌, Bool, true, false, ◌==◌, if◌then◌else◌, List, length, slice_get, Option, Some, None, option_map, refl, sym, ap, ◌∙◌, subst, arith, inl, inr, ◌⊎◌, ℤ, pos, neg_ℤ, ◌+ℤ◌, ◌-ℤ◌, ◌*ℤ◌, ◌≤ℤ◌}
 use Rattle.std.specs.Prelude.{int_lt}
 use Rattle.std.proofs.lemmas.Int.{ints}
 use Rattle.std.proofs.lemmas.Bool.{cases_Bool, eqb-true, eq-eqb, lt-ltb, le-ltb}
 use Rattle.std.proofs.lemmas.Option.{same_Some}
-use Rattle.tn_base.specs.Arcs.{AreBetweenNodes}
+use Rattle.tn_base.specs.Arcs.{IsAtMost, AreBetweenNodes, AreSmall}
 use Rattle.tn_base.specs.Sets.{has}
 use Rattle.tn_base.specs.Firm.{Firm, payments}
 use Rattle.tn_base.specs.Walks.{KeepsArcs}
@@ -149,6 +149,21 @@ between-fixed_at nodes scale price null arc between null_below priced u v cost i
       ]
     ]
 
+-- and no cost is large where those at the scale and the prices are small
+pub small-fixed_at : (limit : ℕ) (scale : ℤ) (price : ℕ → Option ℤ) (null : ℕ) (arc : ℕ → ℕ → Option ℤ)
+    → ((u v : ℕ) (cost : ℤ) → arc u v ≡ Some cost → IsAtMost (scale *ℤ cost) limit) → ((v : ℕ) (p : ℤ) → price v ≡ Some p → IsAtMost p limit)
+    → AreSmall (fixed_at scale price null arc) limit
+small-fixed_at limit scale price null arc small priced u v cost is =
+    elim (lesser_one (option_map (λ c. scale *ℤ c) (arc u v)) (fixing_arc price null u v) cost is) [
+      | inl scaled ↦
+          let found = option_map-some (λ c. scale *ℤ c) (arc u v) cost scaled in
+          subst (λ (z : ℤ). IsAtMost z limit) found.2 (small u v found.0 found.1)
+      | inr fixing ↦ elim (fixing_parts price null u v cost fixing) [
+        | inl up ↦ priced v cost up.1
+        | inr down ↦ (let same = down.3 in let p = priced u down.0 down.2 in record { low = omega (arith, ints, p.low, p.high, same); high = omega (arith, ints, p.low, p.high, same) })
+      ]
+    ]
+
 -- ---- prices of the signed trades
 
 -- the price of the contract on a trade, none where it isn't signed
@@ -164,12 +179,16 @@ price_parts contracts t p is = elim (cases_Bool (is_signed contracts t)) [
   | inr away ↦ absurd (let none = sym (ap (λ (b : Bool). if b then Some (signed_price contracts t) else None) away) ∙ is in cc none)
 ]
 
--- null has none
-null_unpriced : (trades : List Ends) (contracts : List Contract) → IsFeasible trades contracts → price_of contracts (length trades) ≡ None
-null_unpriced trades contracts feasible = elim (cases_Bool (is_signed contracts (length trades))) [
+-- null is no signed trade, and has none
+pub null_unsigned : (trades : List Ends) (contracts : List Contract) → IsFeasible trades contracts → is_signed contracts (length trades) ≡ false
+null_unsigned trades contracts feasible = elim (cases_Bool (is_signed contracts (length trades))) [
   | inl there ↦ absurd (let below = signed_within trades contracts feasible (length trades) there in omega (arith, below))
-  | inr away ↦ ap (λ (b : Bool). if b then Some (signed_price contracts (length trades)) else None) away
+  | inr away ↦ away
 ]
+
+null_unpriced : (trades : List Ends) (contracts : List Contract) → IsFeasible trades contracts → price_of contracts (length trades) ≡ None
+null_unpriced trades contracts feasible =
+    ap (λ (b : Bool). if b then Some (signed_price contracts (length trades)) else None) (null_unsigned trades contracts feasible)
 
 -- ---- completion
 

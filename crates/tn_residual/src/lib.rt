@@ -10,5 +10,5 @@ mod worth;
 
 pub use laws::surplus_is_reduced_worth;
 pub use residual_market::residual;
-pub use signed::{Held, contract_price, signed_by};
+pub use signed::{Held, contract_price, signed_by, signed_trades};
 pub use worth::reduced_best;

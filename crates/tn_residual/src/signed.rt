@@ -1,8 +1,10 @@
-ghost use Rattle.std.specs.Prelude.{◌≡◌, ◌<◌, length, map, slice_get, Some};
+ghost use Rattle.std.specs.Prelude.{◌≡◌, ◌*◌, ◌<◌, ◌≤◌, length, map, slice_get, Some};
+ghost use Rattle.tn_base.specs.Widths.{most_limbs};
 ghost use Rattle.tn_market.specs.Limits.{IsOutcomeOf, IsWithinLimits};
+ghost use Rattle.tn_market.specs.Signed.{signed};
 ghost use Rattle.tn_residual.specs.Held.{contract_price, HoldsSigned};
 
-use tn_base::Bundle;
+use tn_base::{Bundle, TradeSet};
 use tn_market::{Contracts, MOST_OWN, Market, Outcome, Valuation};
 
 /// The price of the contract on trade `t`, None exactly where the trade isn't signed.
@@ -16,6 +18,22 @@ pub fn contract_price(contracts: &Contracts, t: u32) -> Option<i128>
         }
     }
     None
+}
+
+/// Which of the first `count` trades are signed. There are at most `64 * W` of them.
+#[tactic(auto, unfolding(tn_base::specs::Sets::set_of))]
+pub fn signed_trades<const W: usize>(contracts: &Contracts, count: u32) -> TradeSet<W>
+    requires width { W ≤ most_limbs }
+    requires wide { count ≤ 64 * W }
+    ensures { result ≡ signed count contracts.now }
+{
+    let mut on = TradeSet::empty();
+    for t in 0..count {
+        if contract_price(contracts, t).is_some() {
+            on.toggle(t);
+        }
+    }
+    on
 }
 
 /// The signed positions of a firm, and the prices of all its positions: those of unsigned ones are 0.
