@@ -1,8 +1,9 @@
 -- The costs of the reduced graph, as they are read and written.
-use Rattle.std.proofs.Common.{◌≡◌, ℕ, ◌+◌, ◌^◌, ◌<◌, ◌≤◌, Bool, true, false, if◌then◌else◌, List, length, map, slice_get, Option, Some, None, option_map, refl, sym, ap, ap₂, ◌∙◌, subst, arith, inl, inr, ℤ}
+use Rattle.std.proofs.Common.{◌≡◌, ℕ, ◌+◌, ◌^◌, ◌<◌, ◌≤◌, Bool, true, false, if◌then◌else◌, List, [], ◌∷◌, ◌++◌, length, get_or, map, slice_get, Option, Some, None, option_map, refl, sym, ap, ap₂, ◌∙◌, subst, arith, inl, inr, ℤ}
 use Rattle.std.specs.Prelude.{option_and_then, is_some, IfSome}
 use Rattle.std.proofs.lemmas.Bool.{cases_eq, cases_lt}
 use Rattle.std.proofs.lemmas.Int.{ints}
+use Rattle.std.proofs.lemmas.List.{length-append, get_or_append_left}
 use Rattle.std.proofs.lemmas.Option.{same_Some, slice_get-map, slice_get_within, get_or_from_slice_get}
 use Rattle.tn_base.specs.Arcs.{IsAtMost, AreSmall}
 use Rattle.tn_base.specs.Widths.{most_cost}
@@ -23,7 +24,7 @@ use Rattle.tn_graph.specs.Reading.{IsWithoutArcs, IsWritten, IsExchangeGraph}
 use Rattle.tn_residual.specs.Held.{contract_price}
 use Rattle.tn_outcome.proofs.CompletionLemmas.{reduced_is}
 use Rattle.tn_outcome.proofs.SignedLemmas.{contract_on}
-use Rattle.tn_chain.specs.Moves.{arc_move, AreWritten}
+use Rattle.tn_chain.specs.Moves.{arc_move, AreKeptWorths, AreWritten}
 use Rattle.tn_chain.proofs.MoveLemmas.{arc_of_move, move_cost, move_is, signed_from, signed_to}
 
 -- ---- one cost
@@ -97,6 +98,54 @@ pub no_move_cost : (firms : List Firm) (trades : List Ends) (over : ℤ) (contra
     → None ≡ reduced_arc firms trades over contracts u v
 no_move_cost firms trades over contracts u v from to none =
     sym (arc_of_move (reduced_firms trades over contracts firms) trades u v from to ∙ ap (move_cost (reduced_firms trades over contracts firms)) none)
+
+-- ---- the worths of no unsigned trade
+
+-- they are known of the first n firms
+pub record AreKeptBefore (firms : List Firm) (trades : List Ends) (over : ℤ) (contracts : List Contract) (n : ℕ) (kept : List (Option ℤ)) : Type 0 where
+  pub counted : length kept ≡ n
+  pub each : (f : ℕ) (firm : Firm) → f < n → slice_get firms f ≡ Some firm → get_or kept f None ≡ (reduced trades over contracts f firm).worth 0
+
+pub none_kept : (firms : List Firm) (trades : List Ends) (over : ℤ) (contracts : List Contract) (kept : List (Option ℤ)) → kept ≡ [] → AreKeptBefore firms trades over contracts 0 kept
+none_kept firms trades over contracts kept none = record {
+  counted = ap length none;
+  each = λ f firm below is. absurd (omega (arith, below));
+}
+
+pub one_kept : (firms : List Firm) (trades : List Ends) (over : ℤ) (contracts : List Contract) (n : ℕ) (kept next : List (Option ℤ)) (worth : Option ℤ)
+    → AreKeptBefore firms trades over contracts n kept → next ≡ kept ++ (worth ∷ [])
+    → ((firm : Firm) → slice_get firms n ≡ Some firm → worth ≡ (reduced trades over contracts n firm).worth 0) → AreKeptBefore firms trades over contracts (n + 1) next
+one_kept firms trades over contracts n kept next worth are next_is worth_is = record {
+  counted = (let sum = ap length next_is ∙ length-append kept (worth ∷ []) in let before = are.counted in omega (arith, sum, before));
+  each = λ f firm below is. ap (λ (xs : List (Option ℤ)). get_or xs f None) next_is ∙ elim (cases_eq f n) [
+    | inl e ↦
+        ap (λ (i : ℕ). get_or (kept ++ (worth ∷ [])) i None) (e ∙ sym are.counted) ∙ at_end kept
+        ∙ worth_is firm (ap (slice_get firms) (sym e) ∙ is) ∙ sym (ap (λ (i : ℕ). (reduced trades over contracts i firm).worth 0) e)
+    | inr d ↦
+        get_or_append_left kept (worth ∷ []) None f (let before = are.counted in omega (arith, before, below, d)) ∙ are.each f firm (omega (arith, below, d)) is
+  ];
+}
+  where
+    at_end : (xs : List (Option ℤ)) → get_or (xs ++ (worth ∷ [])) (length xs) None ≡ worth
+    at_end [] = refl
+    at_end (x ∷ xs) = at_end xs
+
+pub all_kept : (firms : List Firm) (trades : List Ends) (over : ℤ) (contracts : List Contract) (n : ℕ) (kept : List (Option ℤ)) → n ≡ length firms
+    → AreKeptBefore firms trades over contracts n kept → AreKeptWorths firms trades over contracts kept
+all_kept firms trades over contracts n kept all are = record {
+  counted = are.counted ∙ all;
+  each = λ f firm is. are.each f firm (let below = slice_get_within firms f firm is in omega (arith, below, all)) is;
+}
+
+-- what a list of a market's items says of a firm of it
+pub item_kept : {V : Type 0} (firm_of : V → Firm) (items : List V) (trades : List Ends) (over : ℤ) (contracts : List Contract) (f : ℕ) (worth : Option ℤ)
+    → ((v : V) → slice_get items f ≡ Some v → worth ≡ (reduced trades over contracts f (firm_of v)).worth 0)
+    → (firm : Firm) → slice_get (map firm_of items) f ≡ Some firm → worth ≡ (reduced trades over contracts f firm).worth 0
+item_kept {V} firm_of items trades over contracts f worth worth_is firm is = by (slice_get items f) refl (sym (slice_get-map firm_of items f) ∙ is)
+  where
+    by : (o : Option V) → slice_get items f ≡ o → option_map firm_of o ≡ Some firm → worth ≡ (reduced trades over contracts f firm).worth 0
+    by None there e = absurd (cc e)
+    by (Some v) there e = worth_is v there ∙ ap (λ (z : Firm). (reduced trades over contracts f z).worth 0) (same_Some _ _ e)
 
 -- ---- all costs
 

@@ -231,15 +231,20 @@ reduced_arcs_small {V} firm_of limit_of market over contracts network limits out
 pub meet_empty : (x y : ℕ) → x ≡ 0 → meet x y ≡ 0
 meet_empty x y none = same_set (meet x y) 0 (λ k. has-meet x y k ∙ ap (λ (b : Bool). b && has y k) (ap (λ (z : ℕ). has z k) none ∙ has-zero k) ∙ sym (has-zero k))
 
--- a reduced worth that is found is small
-pub found_small : (worth : ℕ → Option ℤ) (x : ℕ) (found : Option (ℕ × ℤ)) (bundle : ℕ) (a : ℤ) → ((x : ℕ) (a : ℤ) → worth x ≡ Some a → IsAtMost a most_reduced_worth)
-    → option_map (λ p. p.1) found ≡ worth x → found ≡ Some (bundle, a) → IsAtMost a most_cost × (worth x ≡ Some a)
-found_small worth x found bundle a small is there =
-    let at : worth x ≡ Some a = sym is ∙ ap (option_map (λ p. p.1)) there in
+-- a reduced worth that is known is small
+pub known_small : (worth : ℕ → Option ℤ) (x : ℕ) (known : Option ℤ) (a : ℤ) → ((x : ℕ) (a : ℤ) → worth x ≡ Some a → IsAtMost a most_reduced_worth)
+    → known ≡ worth x → known ≡ Some a → IsAtMost a most_cost × (worth x ≡ Some a)
+known_small worth x known a small is there =
+    let at : worth x ≡ Some a = sym is ∙ there in
     (wider a (small x a at), at)
   where
     wider : (a : ℤ) → IsAtMost a most_reduced_worth → IsAtMost a most_cost
     wider a h = record { low = omega (arith, ints, h.low); high = omega (arith, ints, h.high) }
+
+-- and so is one that is found with its bundle
+pub found_small : (worth : ℕ → Option ℤ) (x : ℕ) (found : Option (ℕ × ℤ)) (bundle : ℕ) (a : ℤ) → ((x : ℕ) (a : ℤ) → worth x ≡ Some a → IsAtMost a most_reduced_worth)
+    → option_map (λ p. p.1) found ≡ worth x → found ≡ Some (bundle, a) → IsAtMost a most_cost × (worth x ≡ Some a)
+found_small worth x found bundle a small is there = known_small worth x (option_map (λ p. p.1) found) a small is (ap (option_map (λ p. p.1)) there)
 
 -- where a worth is none, so is the loss
 pub lost_before : (firm : Firm) (x y : ℕ) → firm.worth x ≡ None → loss firm x y ≡ None

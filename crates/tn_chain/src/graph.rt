@@ -1,10 +1,10 @@
 //! The exchange graph of the reduced worths, where no unsigned trade is on.
 
-ghost use Rattle.std.specs.Prelude.{◌≡◌, ℕ, ◌+◌, ◌*◌, ◌^◌, ◌≤◌, ◌<◌, IfOk, IfSome, Some, length, map, slice_get};
+ghost use Rattle.std.specs.Prelude.{◌≡◌, ℕ, ◌+◌, ◌*◌, ◌^◌, ◌≤◌, ◌<◌, IfOk, IfSome, Some, length, map, slice_get, slice_index_or};
 ghost use Rattle.tn_base.specs.Arcs.{AreSmall};
 ghost use Rattle.tn_base.specs.Sets.{meet};
 ghost use Rattle.tn_chain.specs.Limits.{most_reduced_cost};
-ghost use Rattle.tn_chain.specs.Moves.{AreWritten, move_between};
+ghost use Rattle.tn_chain.specs.Moves.{AreKeptWorths, AreWritten, move_between};
 ghost use Rattle.tn_graph.specs.Matrix.{arcs_of};
 ghost use Rattle.tn_graph.specs.Reading.{IsExchangeGraph};
 ghost use Rattle.tn_market.specs.Limits.{IsOutcomeOf, IsWithinLimits};
@@ -53,10 +53,45 @@ fn move_between(bought: Option<Ends>, sold: Option<Ends>) -> Option<(u32, Bundle
     }
 }
 
-/// What firm `f` loses of its reduced worth where it has a bundle of unsigned trades in place of none.
+/// The reduced worth of no unsigned trade of firm `f`.
+fn kept_worth<V: Oracle>(
+    market: &Market<V>,
+    outcome: &Outcome,
+    f: u32,
+    room: &mut Room,
+) -> Option<i128>
+    requires limits { IsWithinLimits V.firm V.limit market.now }
+    requires outcome { IsOutcomeOf market.now.trades outcome.now.over outcome.now.contracts }
+    requires firm { f < length market.now.firms }
+    ensures worth { (v : V) → slice_get market.now.firms f ≡ Some v → result ≡ (reduced market.now.trades outcome.now.over outcome.now.contracts f (V.firm v)).worth 0 }
+{
+    let (_, worth) = reduced_best(market, f, outcome, Bundle::empty(), room)?;
+    Some(worth)
+}
+
+/// The same of each firm. It fails only where memory runs out.
+fn kept_worths<V: Oracle>(
+    alloc: Global,
+    market: &Market<V>,
+    outcome: &Outcome,
+    room: &mut Room,
+) -> Result<Vec<Option<i128>>, OutOfMemory>
+    requires limits { IsWithinLimits V.firm V.limit market.now }
+    requires outcome { IsOutcomeOf market.now.trades outcome.now.over outcome.now.contracts }
+    ensures { IfOk result (λ kept. network_of V.firm market.now AreKeptWorths outcome.now.over outcome.now.contracts kept.items) }
+{
+    let mut kept = Vec::with_capacity(alloc, market.firms() as usize)?;
+    for f in 0..market.firms() {
+        kept.push(kept_worth(market, outcome, f, room))?;
+    }
+    Ok(kept)
+}
+
+/// What firm `f` loses of its reduced worth, `before`, where it has a bundle of unsigned trades in place of none.
 fn reduced_loss<V: Oracle>(
     market: &Market<V>,
     outcome: &Outcome,
+    before: Option<i128>,
     f: u32,
     bundle: Bundle,
     room: &mut Room,
@@ -65,18 +100,20 @@ fn reduced_loss<V: Oracle>(
     requires outcome { IsOutcomeOf market.now.trades outcome.now.over outcome.now.contracts }
     requires firm { f < length market.now.firms }
     requires own { (v : V) → slice_get market.now.firms f ≡ Some v → bundle < 2 ^ (V.firm v).count }
+    requires before { (v : V) → slice_get market.now.firms f ≡ Some v → before ≡ (reduced market.now.trades outcome.now.over outcome.now.contracts f (V.firm v)).worth 0 }
     requires unsigned { (v : V) → slice_get market.now.firms f ≡ Some v → meet bundle (signed_bundle market.now.trades outcome.now.contracts f (V.firm v)) ≡ 0 }
     ensures loss { (v : V) → slice_get market.now.firms f ≡ Some v → result ≡ loss (reduced market.now.trades outcome.now.over outcome.now.contracts f (V.firm v)) 0 bundle }
 {
-    let (_, before) = reduced_best(market, f, outcome, Bundle::empty(), room)?;
+    let before = before?;
     let (_, after) = reduced_best(market, f, outcome, bundle, room)?;
     Some(before - after)
 }
 
-/// The cost of the arc from node `u` to node `v`.
+/// The cost of the arc from node `u` to node `v`, by the firms' reduced worths of no unsigned trade.
 fn reduced_cost<V: Oracle>(
     market: &Market<V>,
     outcome: &Outcome,
+    kept: &[Option<i128>],
     u: u32,
     v: u32,
     room: &mut Room,
@@ -84,6 +121,7 @@ fn reduced_cost<V: Oracle>(
     requires network { network_of V.firm market.now IsNetwork }
     requires limits { IsWithinLimits V.firm V.limit market.now }
     requires outcome { IsOutcomeOf market.now.trades outcome.now.over outcome.now.contracts }
+    requires kept { network_of V.firm market.now AreKeptWorths outcome.now.over outcome.now.contracts kept.now }
     requires from { u ≤ length market.now.trades }
     requires to { v ≤ length market.now.trades }
     ensures cost { result ≡ network_of V.firm market.now reduced_arc outcome.now.over outcome.now.contracts u v }
@@ -95,7 +133,10 @@ fn reduced_cost<V: Oracle>(
         return None;
     }
     match move_between(ends_of(market, u), ends_of(market, v)) {
-        Some(moved) => reduced_loss(market, outcome, moved.0, moved.1, room),
+        Some(moved) => {
+            let before = kept[moved.0 as usize];
+            reduced_loss(market, outcome, before, moved.0, moved.1, room)
+        }
         None => None,
     }
 }
@@ -105,18 +146,20 @@ fn write_row<V: Oracle>(
     graph: &mut Graph,
     market: &Market<V>,
     outcome: &Outcome,
+    kept: &[Option<i128>],
     u: u32,
     room: &mut Room,
 )
     requires network { network_of V.firm market.now IsNetwork }
     requires limits { IsWithinLimits V.firm V.limit market.now }
     requires outcome { IsOutcomeOf market.now.trades outcome.now.over outcome.now.contracts }
+    requires kept { network_of V.firm market.now AreKeptWorths outcome.now.over outcome.now.contracts kept.now }
     requires from { u ≤ length market.now.trades }
     requires written { AreWritten (network_of V.firm market.now reduced_arc outcome.now.over outcome.now.contracts) (length market.now.trades + 1) u 0 graph.old }
     ensures { AreWritten (network_of V.firm market.now reduced_arc outcome.now.over outcome.now.contracts) (length market.now.trades + 1) (u + 1) 0 graph.new }
 {
     for v in 0..market.trades() + 1 {
-        let cost = reduced_cost(market, outcome, u, v, room);
+        let cost = reduced_cost(market, outcome, kept, u, v, room);
         graph.set(u, v, cost);
     }
 }
@@ -137,8 +180,9 @@ pub fn reduced_graph<V: Oracle>(
     let nodes = market.trades() + 1;
     let mut graph = Graph::new(alloc, nodes)?;
     let mut room = Room::new(alloc)?;
+    let kept = kept_worths(alloc, market, outcome, &mut room)?;
     for u in 0..nodes {
-        write_row(&mut graph, market, outcome, u, &mut room);
+        write_row(&mut graph, market, outcome, &kept, u, &mut room);
     }
     Ok(graph)
 }

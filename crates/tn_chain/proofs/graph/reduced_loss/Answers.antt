@@ -4,11 +4,8 @@ use Rattle.std.proofs.lemmas.Option.{slice_get_cases}
 use Rattle.tn_market.specs.Reduced.{reduced}
 use Rattle.tn_market.proofs.LevyLemmas.{difference_fits, difference_is}
 use Rattle.tn_network.proofs.SupportLemmas.{loss_of}
-use Rattle.tn_chain.proofs.MoveLemmas.{meet_empty, item_small, found_small}
+use Rattle.tn_chain.proofs.MoveLemmas.{item_small, known_small, found_small}
 use Rattle.tn_chain.proofs.graph.reduced_loss.Goals as goal
-
-pub reduced_best-requires-clause-unsigned : goal.reduced_best-requires-clause-unsigned
-reduced_best-requires-clause-unsigned g c = λ v is. meet_empty c.empty.result _ c.empty.ensures
 
 pub overflow_sub-result : goal.overflow_sub-result
 overflow_sub-result g c = elim (slice_get_cases c.args.market.now.firms c.args.f).1 [
@@ -18,8 +15,8 @@ overflow_sub-result g c = elim (slice_get_cases c.args.market.now.firms c.args.f
       (λ v. (g.met.V.Valuation.lawful v).within) c.args.f item.0 item.2 in
       let firm = reduced c.args.market.now.trades c.args.outcome.now.over c.args.outcome.now.contracts c.args.f (g.V.Valuation.firm item.0) in
       difference_fits c.in_ok-before.before c.in_ok-after.after
-      (found_small firm.worth c.empty.result c.reduced_best.result c.in_ok-before.field-0-0 c.in_ok-before.before small (c.reduced_best.ensures.worth item.0 item.2) (c.in_ok-before.was)).0
-      (found_small firm.worth c.args.bundle c.reduced_best-2.result c.in_ok-after.field-0-0 c.in_ok-after.after small (c.reduced_best-2.ensures.worth item.0 item.2) (c.in_ok-after.was)).0
+      (known_small firm.worth 0 c.args.before c.in_ok-before.before small (c.requires.before item.0 item.2) c.in_ok-before.was).0
+      (found_small firm.worth c.args.bundle c.reduced_best.result c.in_ok-after.field-0-0 c.in_ok-after.after small (c.reduced_best.ensures.worth item.0 item.2) (c.in_ok-after.was)).0
 ]
 
 pub returns : goal.returns
@@ -28,10 +25,10 @@ returns g c = record {
       let small = item_small g.V.Valuation.firm g.V.Valuation.limit c.args.market.now c.args.outcome.now.over c.args.outcome.now.contracts c.requires.limits c.requires.outcome
       (λ v. (g.met.V.Valuation.lawful v).within) c.args.f v is in
       let firm = reduced c.args.market.now.trades c.args.outcome.now.over c.args.outcome.now.contracts c.args.f (g.V.Valuation.firm v) in
-      let before = found_small firm.worth c.empty.result c.reduced_best.result c.in_ok-before.field-0-0 c.in_ok-before.before small (c.reduced_best.ensures.worth v is) (c.in_ok-before.was) in
-      let after = found_small firm.worth c.args.bundle c.reduced_best-2.result c.in_ok-after.field-0-0 c.in_ok-after.after small (c.reduced_best-2.ensures.worth v is) (c.in_ok-after.was) in
+      let before = known_small firm.worth 0 c.args.before c.in_ok-before.before small (c.requires.before v is) c.in_ok-before.was in
+      let after = found_small firm.worth c.args.bundle c.reduced_best.result c.in_ok-after.field-0-0 c.in_ok-after.after small (c.reduced_best.ensures.worth v is) (c.in_ok-after.was) in
       ap (λ (z : ℤ). Some z) (difference_is c.in_ok-before.before c.in_ok-after.after before.0 after.0 ∙ minus c.in_ok-before.before c.in_ok-after.after)
-      ∙ sym (loss_of firm 0 c.args.bundle c.in_ok-before.before c.in_ok-after.after (ap firm.worth (sym c.empty.ensures) ∙ before.1) after.1);
+      ∙ sym (loss_of firm 0 c.args.bundle c.in_ok-before.before c.in_ok-after.after before.1 after.1);
 }
   where
     minus : (a b : ℤ) → a -ℤ b ≡ a +ℤ neg_ℤ b
