@@ -111,9 +111,9 @@ fn completion_by_labels<V: Oracle>(
     }
 }
 
-/// Prices that complete an outcome, None exactly where there are none. It asks for no best bundle, and for at most a worth
-/// of each firm and one for each two of its places; it fails only where memory runs out. The limits of firms and outcomes
-/// hold, and there are at most 128 trades.
+/// Prices that complete an outcome, None exactly where there are none. It asks for no best bundle, and for at most
+/// a worth of each firm and one for each two of its places; it fails only where memory runs out. The limits of
+/// firms and outcomes hold, and there are at most 128 trades.
 pub fn completion<V: Oracle>(
     alloc: Global,
     market: &Market<V>,

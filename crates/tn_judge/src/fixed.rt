@@ -15,10 +15,11 @@ use tn_graph::Graph;
 /// How much higher a node with a price stands than others, which is at least the size of every price.
 const HEIGHT: i128 = 100_000_000_000;
 
-/// A graph whose costs count `over` times, where the prices of some nodes are fixed: an arc from null to such a node at
-/// the price, and one back at minus it. Beside that such nodes are raised: an arc to one costs so much more, and an arc
-/// from one so much less. Closed walks cost what they cost; but no least walk to any node need end at a raised one, since
-/// null is one step further and costs no more. So the labels of the other nodes are those of walks that end at one of them.
+/// A graph whose costs count `over` times, where the prices of some nodes are fixed: an arc from null to such a
+/// node at the price, and one back at minus it. Beside that such nodes are raised: an arc to one costs so much
+/// more, and an arc from one so much less. Closed walks cost what they cost; but no least walk to any node need end
+/// at a raised one, since null is one step further and costs no more. So the labels of the other nodes are those of
+/// walks that end at one of them.
 #[derive(Drop)]
 pub struct Fixed<'a> {
     pub graph: &'a Graph,

@@ -10,10 +10,10 @@ pub fn completion_is_labels()
 {}
 
 /// Completion is labels of the fixed graph too: the exchange graph at the signed trades, its costs counted over the
-/// outcome's denominator, where an arc from null to each signed trade at its price and one back at minus that fix the
-/// trade's price. Where each firm's signed trades are a possible bundle, prices complete the outcome exactly where no
-/// closed walk of that graph is negative; numbers that keep its arcs, less null's, are such prices. (The exchange graph:
-/// Candogan, Epitropou and Vohra, 2021.)
+/// outcome's denominator, where an arc from null to each signed trade at its price and one back at minus that fix
+/// the trade's price. Where each firm's signed trades are a possible bundle, prices complete the outcome exactly
+/// where no closed walk of that graph is negative; numbers that keep its arcs, less null's, are such prices. (The
+/// exchange graph: Candogan, Epitropou and Vohra, 2021.)
 pub fn completion_is_fixed_labels()
     ensures { CompletionIsFixedLabels }
 {}
