@@ -20,8 +20,7 @@ use Rattle.tn_cycle.specs.Searched.{IsSettled}
 use Rattle.tn_cycle.specs.Answers.{AreLabels, IsLowest, label_in}
 use Rattle.tn_cycle.proofs.OrderLemmas.{parts}
 use Rattle.tn_cycle.proofs.WalkLemmas.{AreApart, few_apart, avoids-cons, avoids-head, avoids-tail}
-use Rattle.tn_cycle.proofs.RoundLemmas.{walk_small}
-use Rattle.tn_cycle.proofs.ReadLemmas.{length-trail}
+use Rattle.tn_cycle.proofs.RoundLemmas.{led_room}
 use Rattle.tn_cycle.proofs.GraphLemmas.{to_sink, off_sink, none_off_sink}
 use Rattle.tn_cycle.proofs.SettledLemmas.{led_walk, led_apart, led_once, led_inside}
 
@@ -40,24 +39,12 @@ pub none_negative_kept : (arc : ℕ → ℕ → Option ℤ) (label : ℕ → ℤ
 none_negative_kept arc label keeps u vs cost walk =
     let round : label u ≤ℤ (label u +ℤ cost) = walk_kept arc label keeps u vs u cost walk in omega (arith, ints, round)
 
--- the costs of settled cells are far from the limits of their type
-settled_room : (nodes : ℕ) (arc : ℕ → ℕ → Option ℤ) (end : ℕ) (cell : ℕ → Cell) → AreSmall arc most_cost → nodes ≤ most_graph_nodes + 1 → IsSettled nodes arc end cell
-    → HasRoom nodes cell
-settled_room nodes arc end cell small few found v inside cost is =
-    let whole = walk_small arc most_cost small v (trail cell (cell v).round v) end cost (found.leads v inside ∙ is) in
-    let size : length (trail cell (cell v).round v) ≡ (cell v).round = length-trail cell (cell v).round v in
-    let short : (cell v).round < nodes = found.few v inside in
-    record {
-      low = omega (arith, ints, whole.low, size, short, few);
-      high = omega (arith, ints, whole.high, size, short, few);
-    }
-
 -- what a search to the sink found, however the sink is written, and the room that its costs leave
 pub sunk_at : (nodes sink : ℕ) (arc : ℕ → ℕ → Option ℤ) (cell : ℕ → Cell) → AreSmall arc most_cost → nodes ≤ most_graph_nodes → sink ≡ nodes
     → IsSettled (nodes + 1) (with_sink nodes arc) sink cell → IsSettled (nodes + 1) (with_sink nodes arc) nodes cell × HasRoom (nodes + 1) cell
 sunk_at nodes sink arc cell small few same settled =
     let found : IsSettled (nodes + 1) (with_sink nodes arc) nodes cell = subst (λ (k : ℕ). IsSettled (nodes + 1) (with_sink nodes arc) k cell) same settled in
-    (found, settled_room (nodes + 1) (with_sink nodes arc) nodes cell (small-with_sink nodes most_cost arc small) (omega (arith, few)) found)
+    (found, led_room (nodes + 1) (with_sink nodes arc) nodes cell (small-with_sink nodes most_cost arc small) (omega (arith, few)) found.leads found.few)
 
 -- a walk to the sink, by the number of its arcs before the last
 sunk_low : (nodes : ℕ) (arc : ℕ → ℕ → Option ℤ) (limit : ℕ) → AreSmall arc limit → (v : ℕ) (ws : List ℕ) (cost : ℤ) → Avoids nodes ws

@@ -11,3 +11,7 @@ pub mod WalkLemmas
 pub mod Rounds
 pub mod RoundLemmas
 pub mod DifferenceLemmas
+pub mod KeyLemmas
+pub mod KeptLemmas
+pub mod StoppedLemmas
+pub mod KeptCycleLemmas

@@ -16,6 +16,7 @@ use Rattle.tn_cycle.specs.Searched.{HasNoNegativeCycleOff, IsSettled}
 use Rattle.tn_cycle.specs.Widths.{most_graph_nodes, most_walk_cost}
 use Rattle.tn_cycle.proofs.OrderLemmas.{up_to_itself, up_to-trans, below_up_to, below-up_to, up_to-below, not_below, below_some, both-up_to, both-below, parts, up_to_none}
 use Rattle.tn_cycle.proofs.WalkLemmas.{avoids-cons, avoids-head, avoids-tail, walk_inside, few_apart, cut_apart}
+use Rattle.tn_cycle.proofs.ReadLemmas.{length-trail}
 use Rattle.tn_cycle.proofs.Rounds.{IsBegun, GoesOnTo, IsTied, Reaches, IsRound}
 
 -- an arc is a walk
@@ -251,6 +252,18 @@ walk_small arc m small u (v ∷ vs) w cost walk =
     record {
       low = omega (arith, ints, one.low, rest.low, two.sum_is);
       high = omega (arith, ints, one.high, rest.high, two.sum_is);
+    }
+
+-- the costs of cells that lead along short walks are far from the limits of their type
+pub led_room : (nodes : ℕ) (arc : ℕ → ℕ → Option ℤ) (end : ℕ) (cell : ℕ → Cell) → AreSmall arc most_cost → nodes ≤ most_graph_nodes + 1
+    → ((v : ℕ) → v < nodes → walk_cost arc v (trail cell (cell v).round v) end ≡ (cell v).cost) → ((v : ℕ) → v < nodes → (cell v).round < nodes) → HasRoom nodes cell
+led_room nodes arc end cell small few leads short v inside cost is =
+    let whole = walk_small arc most_cost small v (trail cell (cell v).round v) end cost (leads v inside ∙ is) in
+    let size : length (trail cell (cell v).round v) ≡ (cell v).round = length-trail cell (cell v).round v in
+    let fewer : (cell v).round < nodes = short v inside in
+    record {
+      low = omega (arith, ints, whole.low, size, fewer, few);
+      high = omega (arith, ints, whole.high, size, fewer, few);
     }
 
 -- the costs of the cells are far from the limits of their type

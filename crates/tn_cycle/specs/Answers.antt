@@ -1,6 +1,6 @@
 -- What the searches answer.
 use Rattle.std.specs.Prelude.{◌≡◌, ℕ, ◌+◌, ◌-◌, ◌*◌, ◌<◌, ◌≤◌, ◌⊎◌, ℤ, pos, neg_ℤ, ◌≤ℤ◌, ◌<ℤ◌, List, [], ◌∷◌, ◌++◌, length, All, Option, Some, None, slice_index_or, unwrap_or, Bool, true, false}
-use Rattle.tn_base.specs.Arcs.{AreSmall}
+use Rattle.tn_base.specs.Arcs.{AreSmall, IsAtMost}
 use Rattle.tn_base.specs.Walks.{AreDifferent, Avoids, CyclesCostAtLeast, HasNoNegativeCycle, IsCycle, IsLeastCycle, KeepsArcs, IsLeastWalk, IsUnreached}
 use Rattle.tn_cycle.specs.declared.cell.Cell.{Cell}
 use Rattle.tn_cycle.specs.declared.answer.Path.{Path}
@@ -23,6 +23,23 @@ abbrev pub AnswersCycle : (ℕ → ℕ → Option ℤ) → ℕ → List ℕ → 
 AnswersCycle arc node listed path.None = CyclesCostAtLeast arc node (pos 0) × (listed ≡ [])
 AnswersCycle arc node listed (path.Cycle cost count) = IsFound arc node listed cost count
 
+-- the listed nodes are a least cycle from the node, whatever it costs
+pub record IsLeastFound (arc : ℕ → ℕ → Option ℤ) (node : ℕ) (listed : List ℕ) (cost : ℤ) (count : ℕ) : Type 0 where
+  pub rest : List ℕ
+  pub nodes_are : listed ≡ node ∷ rest
+  pub counted : count ≡ length listed
+  pub least : IsLeastCycle arc node rest cost
+
+-- none where no closed walk leads through the node, and otherwise a least cycle
+abbrev pub AnswersLeast : (ℕ → ℕ → Option ℤ) → ℕ → List ℕ → Path → Type 0
+AnswersLeast arc node listed path.None = IsUnreached arc node node × (listed ≡ [])
+AnswersLeast arc node listed (path.Cycle cost count) = IsLeastFound arc node listed cost count
+
+-- what an answer costs, 0 where there is none
+abbrev pub cost_of : Path → ℤ
+cost_of path.None = pos 0
+cost_of (path.Cycle cost count) = cost
+
 -- how many arcs an answer has
 abbrev pub arc_count : Path → ℕ
 arc_count path.None = 0
@@ -31,6 +48,10 @@ arc_count (path.Cycle cost count) = count
 -- numbers by node, 0 past the last node
 abbrev pub label_in : List ℤ → ℕ → ℤ
 label_in labels v = slice_index_or labels v (pos 0)
+
+-- each label is at most so far from 0
+abbrev pub AreNear : ℕ → List ℤ → Type 0
+AreNear reach labels = (v : ℕ) → v < length labels → IsAtMost (label_in labels v) reach
 
 -- the labels keep the arcs, and are between 0 and the least cost of a path
 pub record AreLabels (nodes : ℕ) (arc : ℕ → ℕ → Option ℤ) (labels : List ℤ) : Type 0 where

@@ -2,6 +2,7 @@ pub mod Widths
 pub mod Order
 pub mod Cells
 pub mod Searched
+pub mod Kept
 pub mod Graphs
 pub mod GraphLemmas
 pub mod Reading

@@ -20,13 +20,6 @@ pub record Reading : Type 0 where
 abbrev pub nothing : ℕ → Reading
 nothing nodes = record { nodes = nodes; listed = []; labels = []; distances = []; walks = [] }
 
--- nodes alone may be read
-pub record ListsOnly (nodes : ℕ) (reading : Reading) : Type 0 where
-  pub same_nodes : reading.nodes ≡ nodes
-  pub no_labels : reading.labels ≡ []
-  pub no_distances : reading.distances ≡ []
-  pub no_walks : reading.walks ≡ []
-
 -- no walks may be read
 pub record ListsNoWalks (nodes : ℕ) (reading : Reading) : Type 0 where
   pub same_nodes : reading.nodes ≡ nodes
@@ -64,11 +57,12 @@ pub record IsListable (places : ℕ) (row : List Cell) (v : ℕ) : Type 0 where
   pub inside : All (λ u. u < length row) (trail (cell_at row) (cell_at row v).round v)
 
 -- the finder's lists are long enough for its nodes
-pub record HasPlaces (nodes count labelled reached path labels row_places after_places : ℕ) (row : List Cell) : Type 0 where
+pub record HasPlaces (nodes count labelled reached path labels row_places after_places waits : ℕ) (row : List Cell) : Type 0 where
   pub some : 1 ≤ nodes
   pub not_many : nodes ≤ most_graph_nodes
   pub row_sized : row_places ≡ nodes + 1
   pub after_sized : after_places ≡ nodes + 1
+  pub waits_sized : waits ≡ nodes + 1
   pub path_sized : path ≡ nodes + 2
   pub labels_sized : labels ≡ nodes
   pub listed : count ≤ nodes + 2

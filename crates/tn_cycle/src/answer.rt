@@ -1,9 +1,9 @@
-/// What `Finder::through` answers.
+/// What `Finder::through` and `Finder::least_through` answer.
 #[derive(Clone, Copy, Debug, PartialEq, Eq)]
 pub enum Path {
-    /// No cycle through the node has a negative cost.
+    /// No cycle through the node counts: none has a negative cost, or there is none.
     None,
-    /// A least cycle, whose cost is negative.
+    /// A least cycle.
     Cycle {
         /// The sum of its arcs' costs.
         cost: i128,
@@ -28,7 +28,7 @@ pub enum Labels {
 
 impl Path {
     ghost use Rattle.std.specs.Prelude.{◌≡◌};
-    ghost use Rattle.tn_cycle.specs.Answers.{arc_count};
+    ghost use Rattle.tn_cycle.specs.Answers.{arc_count, cost_of};
 
     /// How many arcs it has, 0 where there is none.
     pub(crate) fn arcs(&self) -> u32
@@ -37,6 +37,16 @@ impl Path {
         match *self {
             Path::None => 0,
             Path::Cycle { length, .. } => length,
+        }
+    }
+
+    /// What it costs, 0 where there is none.
+    pub(crate) fn cost(&self) -> i128
+        ensures { result ≡ cost_of self.now }
+    {
+        match *self {
+            Path::None => 0,
+            Path::Cycle { cost, .. } => cost,
         }
     }
 }

@@ -1,12 +1,12 @@
-ghost use Rattle.std.specs.Prelude.{◌≡◌, ℕ, ◌+◌, ◌-◌, ◌*◌, ◌<◌, ◌≤◌, Some, length, slice_get, IfOk, IsSome};
-ghost use Rattle.tn_base.specs.Walks.{arcs_among, is_admitted, is_looked_at, HasNoNegativeCycle};
-ghost use Rattle.tn_cycle.specs.Searched.{HasNoNegativeCycleOff};
-ghost use Rattle.tn_cycle.specs.Widths.{most_graph_nodes};
+ghost use Rattle.std.specs.Prelude.{◌≡◌, ℕ, ◌+◌, ◌-◌, ◌*◌, ◌<◌, ◌≤◌, pos, ◌+ℤ◌, Some, [], length, slice_get, IfOk, IsSome};
+ghost use Rattle.tn_base.specs.Walks.{arcs_among, is_admitted, is_looked_at, HasNoNegativeCycle, KeepsArcs, KeepsArcsEntering};
+ghost use Rattle.tn_cycle.specs.Widths.{label_step, most_graph_nodes, most_label};
 
 use crate::answer::{Labels, Path};
 use crate::cell::Cell;
-use crate::cycles::{least_cycle, negative_cycle};
+use crate::cycles::negative_cycle;
 use crate::graphs::{Admitted, Looked, Turned};
+use crate::kept_cycles::{least_kept, negative_kept, relabel_kept};
 use crate::labels::find_labels;
 use crate::read::list_walk;
 use crate::search::search;
@@ -27,9 +27,10 @@ use tn_base::{Costs, OutOfMemory, TradeSet};
 #[derive(Drop)]
 pub struct Finder {
     nodes: u32,
-    /// The cells after the last round, and room for the next.
+    /// The cells after the last round, room for the next, and which nodes wait for a search over kept labels.
     row: Vec<Cell>,
     after: Vec<Cell>,
+    waits: Vec<bool>,
     /// The nodes that may be read, and how many; while a search runs, the nodes that a round goes over.
     path: Vec<u32>,
     count: u32,
@@ -50,12 +51,12 @@ impl Model for Finder {
 
     ghost view = { λ f. reading_of f.nodes f.count f.path.items f.labelled f.labels.items f.reached f.turns f.end f.row.items };
 
-    ghost invariant = { λ f. HasPlaces f.nodes f.count f.labelled f.reached (vec_len f.path) (vec_len f.labels) (vec_len f.row) (vec_len f.after) f.row.items };
+    ghost invariant = { λ f. HasPlaces f.nodes f.count f.labelled f.reached (vec_len f.path) (vec_len f.labels) (vec_len f.row) (vec_len f.after) (vec_len f.waits) f.row.items };
 }
 
 impl Finder {
-    ghost use Rattle.tn_cycle.specs.Reading.{ListsNoWalks, ListsOnly, ReadsWalks, nothing};
-    ghost use Rattle.tn_cycle.specs.Answers.{AnswersCycle, AnswersLabels, LeadsAlong, LeadsLeast, distance_in, walk_in};
+    ghost use Rattle.tn_cycle.specs.Reading.{ListsNoWalks, ReadsWalks, nothing};
+    ghost use Rattle.tn_cycle.specs.Answers.{AnswersCycle, AnswersLabels, AnswersLeast, AreLabels, AreNear, LeadsAlong, LeadsLeast, cost_of, distance_in, label_in, walk_in};
 
     /// A finder for graphs of so many nodes, at least 1 and at most 2,049. Nothing may be read yet. It takes all memory
     /// that the searches need, and refuses where that isn't there.
@@ -74,6 +75,7 @@ impl Finder {
             nodes,
             row: vec![in alloc; cell; places + 1]?,
             after: vec![in alloc; cell; places + 1]?,
+            waits: vec![in alloc; false; places + 1]?,
             path: vec![in alloc; 0; places + 2]?,
             count: 0,
             labels: vec![in alloc; 0; places]?,
@@ -100,25 +102,26 @@ impl Finder {
         &self.path[..self.count as usize]
     }
 
-    /// A least cycle through the node, where one is negative.
-    fn cycle_through<C: Costs>(&mut self, costs: &C, node: u32) -> Path
-        requires sized { C.node_count costs.now ≡ self.old.nodes }
-        requires inside { node < self.old.nodes }
-        requires others { HasNoNegativeCycleOff (C.arc costs.now) node }
-        ensures answer { AnswersCycle (C.arc costs.now) node self.new.listed result }
-        ensures rest { ListsOnly self.old.nodes self.new }
+    /// Forgets all that was found, and gives each node the label 0.
+    pub fn label_all(&mut self)
+        ensures one_each { length self.new.labels ≡ self.old.nodes }
+        ensures zero { (v : ℕ) → label_in self.new.labels v ≡ pos 0 }
+        ensures none_listed { self.new.listed ≡ [] }
+        ensures rest { ListsNoWalks self.old.nodes self.new }
     {
-        self.labelled = 0;
+        self.count = 0;
         self.reached = 0;
-        let found = least_cycle(costs, node, &mut self.row, &mut self.after, &mut self.path);
-        self.count = found.arcs();
-        found
+        self.labels.fill(0);
+        self.labelled = self.nodes;
     }
 
-    /// Looks for a negative cycle through a trade, on the admitted trades, the null node and that trade. A cycle that it
-    /// answers is of least cost among the closed walks that meet the trade at their ends alone, has the fewest arcs
-    /// among those of that cost, and has no node twice. No cycle of the admitted trades and the null node may be
-    /// negative. There are at most `64 * W` trades.
+    /// Looks for a negative cycle through a trade that isn't admitted yet, on the admitted trades, the null node and that
+    /// trade, over labels that keep the arcs among the admitted trades and the null node. A cycle that it answers is of
+    /// least cost among the closed walks that meet the trade at their ends alone, has the fewest arcs among those of that
+    /// cost, and has no node twice. There are at most `64 * W` trades.
+    ///
+    /// The new labels keep the arcs with the trade, whose own label is for the arcs that begin at it: those that end at it
+    /// find that label and the cost of the cycle.
     pub fn through<C: Costs, const W: usize>(
         &mut self,
         costs: &C,
@@ -128,17 +131,86 @@ impl Finder {
         requires sized { C.node_count costs.now ≡ self.old.nodes }
         requires wide { self.old.nodes ≤ 64 * W + 1 }
         requires trade { node + 1 < self.old.nodes }
-        requires others { HasNoNegativeCycle (arcs_among (is_admitted (self.old.nodes - 1) admitted.now) (C.arc costs.now)) }
+        requires labelled { length self.old.labels ≡ self.old.nodes }
+        requires near { AreNear most_label self.old.labels }
+        requires keeps { KeepsArcs (arcs_among (is_admitted (self.old.nodes - 1) admitted.now) (C.arc costs.now)) (label_in self.old.labels) }
         ensures answer { AnswersCycle (arcs_among (is_looked_at (self.old.nodes - 1) node admitted.now) (C.arc costs.now)) node self.new.listed result }
-        ensures rest { ListsOnly self.old.nodes self.new }
+        ensures labelled { length self.new.labels ≡ self.old.nodes }
+        ensures keeps { KeepsArcsEntering (arcs_among (is_looked_at (self.old.nodes - 1) node admitted.now) (C.arc costs.now)) node (label_in self.new.labels node +ℤ cost_of result) (label_in self.new.labels) }
+        ensures near { (reach : ℕ) → AreNear reach self.old.labels → AreNear (reach + label_step self.old.nodes) self.new.labels }
+        ensures rest { ListsNoWalks self.old.nodes self.new }
     {
+        self.reached = 0;
         let null = self.nodes - 1;
         let among = Admitted {
             costs,
             null,
             admitted,
         };
-        self.cycle_through(&Looked { among, node }, node)
+        let found = negative_kept(
+            &Looked { among, node },
+            &mut self.labels,
+            &mut self.waits,
+            &mut self.row,
+            &mut self.path,
+        );
+        self.count = found.arcs();
+        found
+    }
+
+    /// Finds a least cycle through a node, whatever it costs, on the admitted trades, the null node and that node, over
+    /// labels that keep the arcs among all of these; None where no closed walk leads through the node. The cycle and the
+    /// new labels are as `through` answers them.
+    pub fn least_through<C: Costs, const W: usize>(
+        &mut self,
+        costs: &C,
+        node: u32,
+        admitted: &TradeSet<W>,
+    ) -> Path
+        requires sized { C.node_count costs.now ≡ self.old.nodes }
+        requires wide { self.old.nodes ≤ 64 * W + 1 }
+        requires trade { node + 1 < self.old.nodes }
+        requires labelled { length self.old.labels ≡ self.old.nodes }
+        requires near { AreNear most_label self.old.labels }
+        requires keeps { KeepsArcs (arcs_among (is_looked_at (self.old.nodes - 1) node admitted.now) (C.arc costs.now)) (label_in self.old.labels) }
+        ensures answer { AnswersLeast (arcs_among (is_looked_at (self.old.nodes - 1) node admitted.now) (C.arc costs.now)) node self.new.listed result }
+        ensures labelled { length self.new.labels ≡ self.old.nodes }
+        ensures keeps { KeepsArcsEntering (arcs_among (is_looked_at (self.old.nodes - 1) node admitted.now) (C.arc costs.now)) node (label_in self.new.labels node +ℤ cost_of result) (label_in self.new.labels) }
+        ensures near { (reach : ℕ) → AreNear reach self.old.labels → AreNear (reach + label_step self.old.nodes) self.new.labels }
+        ensures rest { ListsNoWalks self.old.nodes self.new }
+    {
+        self.reached = 0;
+        let null = self.nodes - 1;
+        let among = Admitted {
+            costs,
+            null,
+            admitted,
+        };
+        let found = least_kept(
+            &Looked { among, node },
+            &mut self.labels,
+            &mut self.waits,
+            &mut self.row,
+            &mut self.path,
+        );
+        self.count = found.arcs();
+        found
+    }
+
+    /// Gives each node the label that `labels` would give: at most 0, and at least minus the largest size of a cost times
+    /// one less than the number of nodes. The labels at hand keep the arcs, so that no cycle is negative.
+    pub fn relabel<C: Costs>(&mut self, costs: &C)
+        requires sized { C.node_count costs.now ≡ self.old.nodes }
+        requires labelled { length self.old.labels ≡ self.old.nodes }
+        requires near { AreNear most_label self.old.labels }
+        requires keeps { KeepsArcs (C.arc costs.now) (label_in self.old.labels) }
+        ensures labels { AreLabels self.old.nodes (C.arc costs.now) self.new.labels }
+        ensures none_listed { self.new.listed ≡ [] }
+        ensures rest { ListsNoWalks self.old.nodes self.new }
+    {
+        self.count = 0;
+        self.reached = 0;
+        relabel_kept(costs, &mut self.labels, &mut self.waits, &mut self.row);
     }
 
     /// Looks for labels: a number for each node, such that no arc costs less than the label of its end less that of its

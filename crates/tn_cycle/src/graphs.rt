@@ -1,7 +1,8 @@
-ghost use Rattle.std.specs.Prelude.{◌≡◌, ◌+◌, ◌*◌, ◌^◌, ◌<◌, ◌≤◌};
+ghost use Rattle.std.specs.Prelude.{◌≡◌, ℕ, ◌+◌, ◌*◌, ◌^◌, ◌<◌, ◌≤◌, length};
 ghost use Rattle.tn_base.specs.Walks.{arcs_among, is_admitted, is_looked_at};
 ghost use Rattle.tn_base.specs.Widths.{most_cost};
 ghost use Rattle.tn_cycle.specs.Graphs.{is_between, turned, with_sink};
+ghost use Rattle.tn_cycle.specs.Kept.{IsOther, flag_at};
 ghost use Rattle.tn_cycle.specs.Widths.{most_graph_nodes};
 ghost use Rattle.tn_cycle.specs.GraphLemmas.{between-arcs_among, between-turned, between-with_sink, small-arcs_among, small-turned, small-with_sink};
 
@@ -68,6 +69,24 @@ impl<C: Costs, const W: usize> Looked<'_, C, W> {
         ensures { result ≡ is_looked_at self.now.among.null self.now.node self.now.among.admitted.now v }
     {
         v == self.node || self.among.admits(v)
+    }
+
+    /// Whether it has the node, which isn't its own one.
+    fn has_other(&self, v: u32) -> bool
+        requires { v ≤ self.now.among.null }
+        ensures { IsOther self.now.among.null self.now.node self.now.among.admitted.now v result }
+    {
+        v != self.node && self.among.admits(v)
+    }
+
+    /// Marks the nodes that it has but for its own one.
+    pub(crate) fn mark_others(&self, marks: &mut [bool])
+        requires { self.now.among.null < length marks.old }
+        ensures { (v : ℕ) → v ≤ self.now.among.null → IsOther self.now.among.null self.now.node self.now.among.admitted.now v (flag_at marks.new v) }
+    {
+        for v in 0..self.nodes() {
+            marks[v as usize] = self.has_other(v);
+        }
     }
 }
 

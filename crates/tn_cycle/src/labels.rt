@@ -20,7 +20,7 @@ fn lesser(first: i128, second: i128) -> i128
 }
 
 /// The lowest cost of the first cells, or 0 where none is below.
-fn lowest_cost(row: &[Cell], nodes: u32) -> i128
+pub(crate) fn lowest_cost(row: &[Cell], nodes: u32) -> i128
     requires { nodes ≤ length row.now }
     ensures { IsLowest nodes (cell_at row.now) result }
 {
@@ -41,7 +41,7 @@ fn label(lowest: i128, cost: i128) -> i128
 }
 
 /// Writes each node's label.
-fn write_labels(row: &[Cell], lowest: i128, labels: &mut [i128])
+pub(crate) fn write_labels(row: &[Cell], lowest: i128, labels: &mut [i128])
     requires sized { length labels.old ≤ length row.now }
     requires short { length labels.old < 2 ^ 31 }
     requires lowest { IsAtMost lowest most_walk_cost }

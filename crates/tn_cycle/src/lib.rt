@@ -18,6 +18,8 @@ mod cycles;
 mod differences;
 mod finder;
 mod graphs;
+mod kept;
+mod kept_cycles;
 mod labels;
 mod read;
 mod search;

@@ -21,7 +21,7 @@ fn total(first: i128, rest: i128) -> i128
 }
 
 /// The cost of going on over an arc.
-fn extended(first: Option<i128>, rest: Option<i128>) -> Option<i128>
+pub(crate) fn extended(first: Option<i128>, rest: Option<i128>) -> Option<i128>
     requires first { ForSome first (λ a. IsAtMost a most_cost) }
     requires rest { ForSome rest (λ a. IsAtMost a most_walk_cost) }
     ensures { result ≡ both first rest }
@@ -108,7 +108,7 @@ fn advance<C: Costs>(
 }
 
 /// The walks of one arc.
-fn begin<C: Costs>(costs: &C, end: u32, row: &mut [Cell])
+pub(crate) fn begin<C: Costs>(costs: &C, end: u32, row: &mut [Cell])
     requires sized { C.node_count costs.now ≤ length row.old }
     requires inside { end < C.node_count costs.now }
     ensures { (v : ℕ) → v < C.node_count costs.now →

@@ -27,7 +27,7 @@ invariant_of-self g c =
     let found = settled_at _ f.nodes arc c.args.node written c.search.result sized c.search.ensures.settled c.search.ensures.unsettled c.requires.none_negative in
     let places : length written ≡ f.row.len = omega (arith, c.search.auto.row, c.deref_mut.ensures.len) in
     let listable = listable_all f.nodes arc c.args.node written between c.requires.none_negative found (omega (arith, places, c.self.invariant.row_sized)) in
-    places_kept f.nodes _ _ _ _ _ _ _ _ 0 0 f.nodes _ c.self.invariant (omega arith) (omega arith) (omega arith)
+    places_kept f.nodes _ _ _ _ _ _ _ _ _ 0 0 f.nodes _ c.self.invariant (omega arith) (omega arith) (omega arith)
     (λ v inside. subst (λ (row : List Cell). IsListable (f.nodes + 2) row v) (sym (written-back written f.row.items f.row.len places)) (listable v inside))
 
 pub returns-clause-walks : goal.returns-clause-walks

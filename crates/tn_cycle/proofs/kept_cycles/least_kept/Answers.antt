@@ -1,0 +1,12 @@
+use Rattle.std.proofs.Common.{arith}
+use Rattle.std.proofs.lemmas.Int.{ints}
+use Rattle.tn_cycle.proofs.kept_cycles.least_kept.Goals as goal
+
+pub returns-clause-near : goal.returns-clause-near
+returns-clause-near g c reach near v inside =
+    let far = c.find_kept.ensures.near reach near v inside in
+    let sized = c.args.looked.now.among.last in
+    record {
+      low = omega (arith, ints, far.low, sized, c.requires.labels_sized);
+      high = omega (arith, ints, far.high, sized, c.requires.labels_sized);
+    }

@@ -1,0 +1,238 @@
+ghost use Rattle.std.specs.Prelude.{◌≡◌, ◌≢◌, ℕ, ◌+◌, ◌-◌, ◌*◌, ◌^◌, ◌<◌, ◌≤◌, ◌⊎◌, ℤ, pos, ◌+ℤ◌, ◌-ℤ◌, ◌≤ℤ◌, true, false, Some, None, length, take};
+ghost use Rattle.std.specs.Option.{ForSome};
+ghost use Rattle.tn_base.specs.Arcs.{IsAtMost};
+ghost use Rattle.tn_base.specs.Walks.{KeepsArcs, KeepsArcsEntering, arcs_among, is_admitted, is_looked_at};
+ghost use Rattle.tn_base.specs.Widths.{most_cost};
+ghost use Rattle.tn_cycle.specs.Answers.{AnswersCycle, AnswersLeast, AreLabels, AreNear, arc_count, cost_of, label_in};
+ghost use Rattle.tn_cycle.specs.Cells.{HasRoom, cell_at};
+ghost use Rattle.tn_cycle.specs.Kept.{AreRaised, IsCycleRead, IsLifted, IsLiftedBy, IsRaised, KeepsArcsOff, flag_at};
+ghost use Rattle.tn_cycle.specs.Reading.{IsListable};
+ghost use Rattle.tn_cycle.specs.Widths.{label_step, most_graph_nodes, most_label, most_walk_cost};
+
+use crate::answer::Path;
+use crate::cell::Cell;
+use crate::graphs::{Looked, Sunk};
+use crate::kept::{is_capped, search_kept};
+use crate::labels::{lowest_cost, write_labels};
+use crate::read::list_way;
+use tn_base::Costs;
+
+/// The walk of a node to itself, where it has one that costs less than the cap. Its nodes then stand at the front of
+/// `path`.
+fn read_cycle(row: &[Cell], node: u32, cap: Option<i128>, path: &mut [u32]) -> Path
+    requires inside { node < length row.now }
+    requires short { length path.old ≤ 2 ^ 31 }
+    requires listable { IsListable (length path.old) row.now node }
+    ensures { IsCycleRead (cell_at row.now) node cap (take (arc_count result) path.new) result }
+{
+    let own = row[node as usize];
+    match own.cost {
+        Some(cost) if !is_capped(cap, cost) => Path::Cycle {
+            cost,
+            length: list_way(row, node, node, path),
+        },
+        _ => Path::None,
+    }
+}
+
+/// The greater of two numbers.
+fn greater(first: i128, second: i128) -> i128
+    ensures first { first ≤ℤ result }
+    ensures second { second ≤ℤ result }
+    ensures one { (result ≡ first) ⊎ (result ≡ second) }
+{
+    if first < second { second } else { first }
+}
+
+/// The greater of a number and another one that may not be there.
+fn greater_of(first: Option<i128>, second: i128) -> i128
+    ensures first { (b : ℤ) → first ≡ Some b → b ≤ℤ result }
+    ensures second { second ≤ℤ result }
+    ensures one { (first ≡ Some result) ⊎ (result ≡ second) }
+{
+    match first {
+        Some(first) => greater(first, second),
+        None => second,
+    }
+}
+
+/// What a cost lacks to a number.
+fn lack(number: i128, cost: i128) -> i128
+    requires number { IsAtMost number (3 * most_label) }
+    requires cost { IsAtMost cost most_walk_cost }
+    ensures { result ≡ number -ℤ cost }
+{
+    number - cost
+}
+
+/// A number and a cost.
+fn gain(number: i128, cost: i128) -> i128
+    requires number { IsAtMost number (2 * most_label) }
+    requires cost { IsAtMost cost most_walk_cost }
+    ensures { result ≡ number +ℤ cost }
+{
+    number + cost
+}
+
+/// A label, raised to what a cost lacks to the limit, but for that of one node.
+fn raised(v: usize, node: usize, label: i128, cost: Option<i128>, limit: i128) -> i128
+    requires cost { ForSome cost (λ w. IsAtMost w most_walk_cost) }
+    requires limit { IsAtMost limit (3 * most_label) }
+    ensures own { v ≡ node → result ≡ label }
+    ensures others { v ≢ node → IsRaised label cost limit result }
+{
+    match cost {
+        Some(cost) if v != node => greater(label, lack(limit, cost)),
+        _ => label,
+    }
+}
+
+/// Raises the labels of all nodes but one to what the costs of their walks lack to the limit.
+fn raise(labels: &mut [i128], row: &[Cell], node: u32, limit: i128)
+    requires sized { length labels.old ≤ length row.now }
+    requires short { length labels.old < 2 ^ 31 }
+    requires room { HasRoom (length labels.old) (cell_at row.now) }
+    requires near { AreNear (2 * most_label) labels.old }
+    requires limit { IsAtMost limit (3 * most_label) }
+    ensures { AreRaised (length labels.old) node (label_in labels.old) (cell_at row.now) limit (label_in labels.new) }
+{
+    for v in 0..labels.len() {
+        let own = row[v];
+        labels[v] = raised(v, node as usize, labels[v], own.cost, limit);
+    }
+}
+
+/// A least cycle through a node that costs less than the cap, over labels that keep the arcs but those that end at the
+/// node. The labels are raised to what the costs of walks to the node lack to its own and the cost of the cycle.
+fn find_kept<C: Costs>(
+    costs: &C,
+    node: u32,
+    cap: Option<i128>,
+    labels: &mut [i128],
+    waits: &mut [bool],
+    row: &mut [Cell],
+    path: &mut [u32],
+) -> Path
+    requires sized { C.node_count costs.now ≤ length row.old }
+    requires waits_sized { C.node_count costs.now ≤ length waits.old }
+    requires path_sized { C.node_count costs.now + 1 ≤ length path.old }
+    requires labels_sized { length labels.old ≡ C.node_count costs.now }
+    requires short { length path.old ≤ 2 ^ 31 }
+    requires few { C.node_count costs.now ≤ most_graph_nodes }
+    requires inside { node < C.node_count costs.now }
+    requires near { AreNear (most_label + most_cost) labels.old }
+    requires shut { flag_at waits.old node ≡ false }
+    requires covers { (v u : ℕ) (cost : ℤ) → v ≢ node → C.arc costs.now v u ≡ Some cost → flag_at waits.old v ≡ true }
+    requires keeps { KeepsArcsOff (C.arc costs.now) node (label_in labels.old) }
+    ensures negative { cap ≡ Some (pos 0) → AnswersCycle (C.arc costs.now) node (take (arc_count result) path.new) result }
+    ensures least { cap ≡ None → AnswersLeast (C.arc costs.now) node (take (arc_count result) path.new) result }
+    ensures few_arcs { arc_count result ≤ C.node_count costs.now }
+    ensures keeps { cap ≡ Some (pos 0) ⊎ cap ≡ None → KeepsArcsEntering (C.arc costs.now) node (label_in labels.new node +ℤ cost_of result) (label_in labels.new) }
+    ensures near { (reach : ℕ) → AreNear reach labels.old → AreNear (reach + 2 * (C.node_count costs.now * most_cost)) labels.new }
+{
+    let base = labels[node as usize];
+    search_kept(costs, node, base, cap, labels, waits, row);
+    let found = read_cycle(row, node, cap, path);
+    raise(labels, row, node, gain(base, found.cost()));
+    found
+}
+
+/// The greater of a number that was found so far and what a cost lacks to the label of a node, but for one node.
+fn lifted(least: Option<i128>, v: u32, node: u32, label: i128, cost: Option<i128>) -> Option<i128>
+    requires label { IsAtMost label (3 * most_label) }
+    requires cost { ForSome cost (λ c. IsAtMost c most_walk_cost) }
+    ensures own { v ≡ node → result ≡ least }
+    ensures others { v ≢ node → IsLiftedBy least label cost result }
+{
+    match cost {
+        Some(cost) if v != node => Some(greater_of(least, lack(label, cost))),
+        _ => least,
+    }
+}
+
+/// The least number that keeps the arcs that begin at a node, None where none does.
+fn least_label<C: Costs>(costs: &C, node: u32, labels: &[i128]) -> Option<i128>
+    requires labels_sized { length labels.now ≡ C.node_count costs.now }
+    requires inside { node < C.node_count costs.now }
+    requires near { AreNear most_label labels.now }
+    ensures keeps { IsLifted (C.node_count costs.now) (C.arc costs.now) node (label_in labels.now) result }
+    ensures near { (reach : ℕ) → AreNear reach labels.now → ForSome result (λ p. IsAtMost p (reach + most_cost)) }
+{
+    let mut least = None;
+    for v in 0..costs.nodes() {
+        least = lifted(least, v, node, labels[v as usize], costs.cost(node, v));
+    }
+    least
+}
+
+/// Finds a least cycle through a node whose label isn't known yet, where one is negative. Its nodes then stand at the
+/// front of `path`.
+pub(crate) fn negative_kept<C: Costs, const W: usize>(
+    looked: &Looked<'_, C, W>,
+    labels: &mut [i128],
+    waits: &mut [bool],
+    row: &mut [Cell],
+    path: &mut [u32],
+) -> Path
+    requires labels_sized { length labels.old ≡ looked.now.among.null + 1 }
+    requires sized { length labels.old ≤ length row.old }
+    requires waits_sized { length labels.old ≤ length waits.old }
+    requires path_sized { length labels.old + 1 ≤ length path.old }
+    requires short { length path.old ≤ 2 ^ 31 }
+    requires few { length labels.old ≤ most_graph_nodes }
+    requires trade { looked.now.node < looked.now.among.null }
+    requires near { AreNear most_label labels.old }
+    requires keeps { KeepsArcs (arcs_among (is_admitted looked.now.among.null looked.now.among.admitted.now) (C.arc looked.now.among.costs.now)) (label_in labels.old) }
+    ensures answer { AnswersCycle (arcs_among (is_looked_at looked.now.among.null looked.now.node looked.now.among.admitted.now) (C.arc looked.now.among.costs.now)) looked.now.node (take (arc_count result) path.new) result }
+    ensures few_arcs { arc_count result ≤ length labels.old }
+    ensures keeps { KeepsArcsEntering (arcs_among (is_looked_at looked.now.among.null looked.now.node looked.now.among.admitted.now) (C.arc looked.now.among.costs.now)) looked.now.node (label_in labels.new looked.now.node +ℤ cost_of result) (label_in labels.new) }
+    ensures near { (reach : ℕ) → AreNear reach labels.old → AreNear (reach + label_step (length labels.old)) labels.new }
+{
+    let node = looked.node;
+    looked.mark_others(waits);
+    labels[node as usize] = least_label(looked, node, labels).unwrap_or(0);
+    find_kept(looked, node, Some(0), labels, waits, row, path)
+}
+
+/// Finds a least cycle through a node whose label is kept too. Its nodes then stand at the front of `path`.
+pub(crate) fn least_kept<C: Costs, const W: usize>(
+    looked: &Looked<'_, C, W>,
+    labels: &mut [i128],
+    waits: &mut [bool],
+    row: &mut [Cell],
+    path: &mut [u32],
+) -> Path
+    requires labels_sized { length labels.old ≡ looked.now.among.null + 1 }
+    requires sized { length labels.old ≤ length row.old }
+    requires waits_sized { length labels.old ≤ length waits.old }
+    requires path_sized { length labels.old + 1 ≤ length path.old }
+    requires short { length path.old ≤ 2 ^ 31 }
+    requires few { length labels.old ≤ most_graph_nodes }
+    requires trade { looked.now.node < looked.now.among.null }
+    requires near { AreNear most_label labels.old }
+    requires keeps { KeepsArcs (arcs_among (is_looked_at looked.now.among.null looked.now.node looked.now.among.admitted.now) (C.arc looked.now.among.costs.now)) (label_in labels.old) }
+    ensures answer { AnswersLeast (arcs_among (is_looked_at looked.now.among.null looked.now.node looked.now.among.admitted.now) (C.arc looked.now.among.costs.now)) looked.now.node (take (arc_count result) path.new) result }
+    ensures few_arcs { arc_count result ≤ length labels.old }
+    ensures keeps { KeepsArcsEntering (arcs_among (is_looked_at looked.now.among.null looked.now.node looked.now.among.admitted.now) (C.arc looked.now.among.costs.now)) looked.now.node (label_in labels.new looked.now.node +ℤ cost_of result) (label_in labels.new) }
+    ensures near { (reach : ℕ) → AreNear reach labels.old → AreNear (reach + label_step (length labels.old)) labels.new }
+{
+    looked.mark_others(waits);
+    find_kept(looked, looked.node, None, labels, waits, row, path)
+}
+
+/// Labels at most 0 that keep the arcs, by labels that do.
+pub(crate) fn relabel_kept<C: Costs>(costs: &C, labels: &mut [i128], waits: &mut [bool], row: &mut [Cell])
+    requires labels_sized { length labels.old ≡ C.node_count costs.now }
+    requires sized { C.node_count costs.now + 1 ≤ length row.old }
+    requires waits_sized { length waits.old ≡ C.node_count costs.now + 1 }
+    requires few { C.node_count costs.now ≤ most_graph_nodes }
+    requires near { AreNear most_label labels.old }
+    requires keeps { KeepsArcs (C.arc costs.now) (label_in labels.old) }
+    ensures { AreLabels (C.node_count costs.now) (C.arc costs.now) labels.new }
+{
+    let sink = costs.nodes();
+    waits.fill(true);
+    waits[sink as usize] = false;
+    search_kept(&Sunk { costs, sink }, sink, 0, None, labels, waits, row);
+    write_labels(row, lowest_cost(row, sink), labels);
+}
