@@ -51,8 +51,8 @@ raise_next labels old cell node v limit new places before left own others k belo
       let was : label_in labels v ≡ label_in old v = left v (omega arith) in (
         (λ e. here ∙ own (sym same ∙ e) ∙ was ∙ ap (label_in old) (sym same)),
         (λ off. subst (λ (z : ℤ). IsRaised (label_in old k) (cell k).cost limit z) (sym here)
-          (subst (λ (z : ℕ). IsRaised (label_in old z) (cell z).cost limit new) (sym same)
-          (subst (λ (z : ℤ). IsRaised z (cell v).cost limit new) was (others (λ e. off (same ∙ e)))))),
+            (subst (λ (z : ℕ). IsRaised (label_in old z) (cell z).cost limit new) (sym same)
+            (subst (λ (z : ℤ). IsRaised z (cell v).cost limit new) was (others (λ e. off (same ∙ e)))))),
       )
   | inr other ↦
       let here : label_in (set labels v new) k ≡ label_in labels k = get_or-set_other labels v k new (pos 0) other in

@@ -83,10 +83,10 @@ pub begun : (nodes : ℕ) (arc : ℕ → ℕ → Option ℤ) (end : ℕ) (label 
 begun nodes arc end label cell waits between shut covers made = record {
   shut = shut;
   first = λ v cost inside is. record {
-      least = cost;
-      is = cost_is v inside ∙ is;
-      before = (omega (arith, ints), λ back. omega (arith, round_is v inside));
-    };
+    least = cost;
+    is = cost_is v inside ∙ is;
+    before = (omega (arith, ints), λ back. omega (arith, round_is v inside));
+  };
   over = λ v u cost w off u_shut is u_is.
       absurd (false≢true (sym u_shut ∙ covers u end w off (sym (cost_is u (between v u cost is).1) ∙ u_is)));
   order = λ v u w x inside node off v_shut u_waits v_is u_is. absurd (false≢true (sym v_shut ∙ covers v end w off (sym (cost_is v inside) ∙ v_is)));
@@ -283,8 +283,8 @@ module _ (nodes : ℕ) (arc : ℕ → ℕ → Option ℤ) (end : ℕ) (label : �
             ap (λ (k : ℕ). trail new k v) at ∙ ap (λ (x : ℕ). x ∷ trail new (cell u).round x) goes.next_is
             ∙ ap (λ (us : List ℕ). u ∷ us) (old_trail u chosen.inside own_same) in (
               ap (λ (us : List ℕ). walk_cost arc v us end) e
-              ∙ ap (λ (z : Option ℤ). both (arc v u) z) (known.leads u chosen.inside)
-              ∙ goes.sum ∙ sym goes.cost_is,
+                  ∙ ap (λ (z : Option ℤ). both (arc v u) z) (known.leads u chosen.inside)
+                  ∙ goes.sum ∙ sym goes.cost_is,
               subst (All (λ x. (x < nodes) × (x ≢ end) × (now x ≡ false))) (sym e)
                   (All-cons (λ x. (x < nodes) × (x ≢ end) × (now x ≡ false)) u (trail cell (cell u).round u) (chosen.inside, off_end, closed) (old_passes u chosen.inside)),
             )

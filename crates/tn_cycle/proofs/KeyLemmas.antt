@@ -57,8 +57,12 @@ pub nearer_taken : (best : Option Near) (node : ℕ) (own : Cell) (label w key :
 nearer_taken best node own label w key is key_is before = record {
   one = inr (w, is, ap (λ (z : ℤ). Some (record { node = node; key = z; round = own.round })) key_is);
   before_best = λ near near_is. (record { node = node; key = key; round = own.round }, refl, before near near_is);
-  before_own = λ x x_is. (record { node = node; key = key; round = own.round }, refl, subst (λ (z : ℤ). IsNotAfter key own.round (z +ℤ label) own.round) (same_cost own.cost w x is x_is)
-      (subst (λ (z : ℤ). IsNotAfter key own.round z own.round) key_is (not_after_itself key own.round)));
+  before_own = λ x x_is. (
+    record { node = node; key = key; round = own.round },
+    refl,
+    subst (λ (z : ℤ). IsNotAfter key own.round (z +ℤ label) own.round) (same_cost own.cost w x is x_is)
+        (subst (λ (z : ℤ). IsNotAfter key own.round z own.round) key_is (not_after_itself key own.round)),
+  );
 }
 
 module _ (label : ℕ → ℤ) (cell : ℕ → Cell) (waits : ℕ → Bool) (v : ℕ) where

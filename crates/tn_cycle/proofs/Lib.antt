@@ -15,3 +15,4 @@ pub mod KeyLemmas
 pub mod KeptLemmas
 pub mod StoppedLemmas
 pub mod KeptCycleLemmas
+pub mod RingLemmas

@@ -169,7 +169,15 @@ fn offered(own: Cell, first: Option<i128>, beyond: Cell, u: u32) -> Cell
 }
 
 /// The cell of a node after another one is settled: only a node that waits and the end go on over that one.
-fn after_offer<C: Costs>(costs: &C, end: u32, u: u32, beyond: Cell, waits: bool, v: u32, own: Cell) -> Cell
+fn after_offer<C: Costs>(
+    costs: &C,
+    end: u32,
+    u: u32,
+    beyond: Cell,
+    waits: bool,
+    v: u32,
+    own: Cell,
+) -> Cell
     requires inside { v < C.node_count costs.now }
     requires settled { u < C.node_count costs.now }
     requires room { ForSome beyond.cost (λ w. IsAtMost w most_walk_cost) }

@@ -221,7 +221,12 @@ pub(crate) fn least_kept<C: Costs, const W: usize>(
 }
 
 /// Labels at most 0 that keep the arcs, by labels that do.
-pub(crate) fn relabel_kept<C: Costs>(costs: &C, labels: &mut [i128], waits: &mut [bool], row: &mut [Cell])
+pub(crate) fn relabel_kept<C: Costs>(
+    costs: &C,
+    labels: &mut [i128],
+    waits: &mut [bool],
+    row: &mut [Cell],
+)
     requires labels_sized { length labels.old ≡ C.node_count costs.now }
     requires sized { C.node_count costs.now + 1 ≤ length row.old }
     requires waits_sized { length waits.old ≡ C.node_count costs.now + 1 }

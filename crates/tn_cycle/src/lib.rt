@@ -1,12 +1,16 @@
 //! Searches of any graph by the costs of its arcs: least cycles, numbers that keep the arcs, least walks.
 //! Costs may be negative.
 //!
-//! One search serves all (Bellman 1958, Ford 1956): it finds, from every node, the walk to a given node of least cost
-//! and, of those, one with the fewest arcs. It goes by rounds, and each takes one arc more: after k rounds a node knows
+//! Two searches find, from every node, the walk to a given node of least cost and, of those, one with the fewest arcs.
+//! One knows nothing of the graph (Bellman 1958, Ford 1956). It goes by rounds, and each takes one arc more: after k rounds a node knows
 //! the least cost over the walks with at most k nodes inside, the round in which it found that cost, and the node that
 //! comes next. A round goes over those nodes alone that the round before has changed, and the search ends with the
 //! first round that changes none. The nodes that come next are then a least walk, and its length is the round that
 //! stands at its first node.
+//!
+//! The other one goes by labels that keep the arcs (Dijkstra 1959): of the nodes that wait, it settles the one for which
+//! the cost of its walk and its label, and then the number of arcs, come first, and ends once no waiting node can lead to a
+//! better cycle. Where labels are kept from search to search, one node more takes little work or none.
 //!
 //! A cycle through a node is a walk from it to itself. Labels are found by the walks to a sink, a node that all others
 //! have an arc of cost 0 to. Walks from a node are walks to it in the graph turned round.

@@ -48,6 +48,7 @@ fn finds_the_ring(rt: HostRuntime) -> Result<(), Fail> {
         gains: true,
     };
     let mut finder = Finder::new(rt.alloc(), 4)?;
+    finder.label_all();
     let path = finder.through(&ring, 0, &admitted);
     assert_eq!(rt;
         path,
@@ -60,6 +61,26 @@ fn finds_the_ring(rt: HostRuntime) -> Result<(), Fail> {
         [finder.at(0), finder.at(1), finder.at(2), finder.at(3)],
         [0, 1, 2, 3]
     );
+    Ok(())
+}
+
+/// A ring that doesn't gain is a least cycle all the same, and labels of 0 keep its arcs.
+#[test]
+fn finds_the_least_ring(rt: HostRuntime) -> Result<(), Fail> {
+    let mut admitted = TradeSet::<1>::empty();
+    admitted.toggle(1);
+    admitted.toggle(2);
+    let ring = Ring {
+        nodes: 4,
+        gains: false,
+    };
+    let mut finder = Finder::new(rt.alloc(), 4)?;
+    finder.label_all();
+    let path = finder.least_through(&ring, 0, &admitted);
+    assert_eq!(rt; path, Path::Cycle { cost: 7, length: 4 });
+    finder.label_all();
+    finder.relabel(&ring);
+    assert_eq!(rt; [finder.label(0), finder.label(3)], [0, 0]);
     Ok(())
 }
 

@@ -30,10 +30,10 @@ find_kept-requires-clause-keeps g c =
     let looked = arcs_among (is_looked_at among.null node among.admitted.now) arc in
     let places : node < length labels = omega (arith, c.requires.trade, c.requires.labels_sized) in
     let own : (v : ℕ) (cost : ℤ) → v ≢ node → looked node v ≡ Some cost → label_in labels v ≤ℤ (base +ℤ cost) = λ v cost off is.
-        let inside = (between-arcs_among (is_looked_at among.null node among.admitted.now) (g.C.Costs.node_count among.costs.now) arc (g.met.C.Costs.between_nodes among.costs.now) node v cost is).1 in
-        let had = c.least_label.ensures.keeps v cost inside off is in
-        let same : base ≡ had.0 = c.unwrap_or.ensures ∙ ap (λ (o : Option ℤ). unwrap_or o (pos 0)) had.1 in
-        omega (arith, ints, same, had.2) in
+    let inside = (between-arcs_among (is_looked_at among.null node among.admitted.now) (g.C.Costs.node_count among.costs.now) arc (g.met.C.Costs.between_nodes among.costs.now) node v cost is).1 in
+    let had = c.least_label.ensures.keeps v cost inside off is in
+    let same : base ≡ had.0 = c.unwrap_or.ensures ∙ ap (λ (o : Option ℤ). unwrap_or o (pos 0)) had.1 in
+    omega (arith, ints, same, had.2) in
     simp to_z-of_z (looked_keep among.null node among.admitted.now arc labels base places c.requires.keeps own)
 
 pub returns-clause-near : goal.returns-clause-near
