@@ -1,5 +1,5 @@
 -- Least cycles over kept labels, and the labels after them.
-use Rattle.std.proofs.Common.{◌≡◌, ◌≢◌, ℕ, ◌+◌, ◌*◌, ◌<◌, ◌≤◌, refl, sym, ap, ◌∙◌, subst, arith, inl, inr, ◌⊎◌, List, [], ◌∷◌, length, set, ℤ, pos, ◌+ℤ◌, ◌-ℤ◌, ◌≤ℤ◌, ◌<ℤ◌, Option, Some, None, Bool, true, false, ◌&&◌, ◌||◌, ◌==◌, if◌then◌else◌, nat_lt}
+use Rattle.std.proofs.Common.{◌≡◌, ◌≢◌, ℕ, ◌+◌, ◌*◌, ◌<◌, ◌≤◌, refl, sym, ap, ◌∙◌, subst, arith, inl, inr, ◌⊎◌, List, [], ◌∷◌, length, set, ℤ, pos, ◌+ℤ◌, ◌-ℤ◌, ◌≤ℤ◌, ◌<ℤ◌, Option, Some, None, Bool, true, ◌&&◌, ◌||◌, ◌==◌, if◌then◌else◌, nat_lt}
 use Rattle.std.specs.Prelude.{unwrap_or}
 use Rattle.std.specs.Option.{ForSome}
 use Rattle.std.proofs.lemmas.Int.{ints}
@@ -18,8 +18,8 @@ use Rattle.tn_cycle.specs.Cells.{HasRoom, trail}
 use Rattle.tn_cycle.specs.Graphs.{with_sink}
 use Rattle.tn_cycle.specs.GraphLemmas.{between-with_sink, some_if}
 use Rattle.tn_cycle.specs.Searched.{IsSettled}
-use Rattle.tn_cycle.specs.Kept.{AreRaised, IsCapped, IsCounted, IsCycleRead, IsLifted, IsLiftedBy, IsRaised, IsStopped, KeepsArcsOff}
-use Rattle.tn_cycle.specs.Widths.{most_graph_nodes, most_walk_cost}
+use Rattle.tn_cycle.specs.Kept.{AreRaised, IsCycleRead, IsLifted, IsLiftedBy, IsRaised, IsStopped, KeepsArcsOff}
+use Rattle.tn_cycle.specs.Widths.{most_graph_nodes}
 use Rattle.tn_cycle.proofs.KeyLemmas.{same_cost}
 use Rattle.tn_cycle.proofs.ReadLemmas.{length-trail}
 use Rattle.tn_cycle.proofs.StoppedLemmas.{kept_cycle, kept_none, kept_settled, kept_small, kept_unreached}

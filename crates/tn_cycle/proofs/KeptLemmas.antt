@@ -1,16 +1,16 @@
 -- The search over kept labels: how it begins, and what one settled node more does.
-use Rattle.std.proofs.Common.{◌≡◌, ◌≢◌, ℕ, zero, suc, ◌+◌, ◌<◌, ◌≤◌, refl, sym, ap, ◌∙◌, subst, arith, inl, inr, ◌⊎◌, List, [], ◌∷◌, ℤ, ◌+ℤ◌, ◌≤ℤ◌, Option, Some, None, Bool, true, false}
+use Rattle.std.proofs.Common.{◌≡◌, ◌≢◌, ℕ, zero, suc, ◌+◌, ◌<◌, ◌≤◌, refl, sym, ap, ◌∙◌, subst, arith, inl, inr, ◌⊎◌, List, ◌∷◌, ℤ, ◌+ℤ◌, ◌≤ℤ◌, Option, Some, Bool, true, false}
 use Rattle.std.specs.Prelude.{All}
 use Rattle.std.proofs.lemmas.Int.{ints}
 use Rattle.std.proofs.lemmas.Bool.{cases_eq, cases_Bool, false≢true}
-use Rattle.std.proofs.lemmas.Option.{none-some, same_Some}
+use Rattle.std.proofs.lemmas.Option.{none-some}
 use Rattle.std.proofs.lemmas.List.Elements.{All-nil, All-cons, All-head, All-tail, All-weaker}
 use Rattle.tn_base.specs.Arcs.{AreBetweenNodes}
 use Rattle.tn_base.specs.Options.{both}
 use Rattle.tn_base.specs.Walks.{walk_cost}
 use Rattle.tn_cycle.specs.declared.cell.Cell.{Cell}
 use Rattle.tn_cycle.specs.Cells.{trail}
-use Rattle.tn_cycle.specs.Kept.{AfterOffer, ComesFirst, GoesOver, HasBy, IsNotAfter, IsOffered, IsUnderWay, KeepsArcsOff}
+use Rattle.tn_cycle.specs.Kept.{AfterOffer, ComesFirst, GoesOver, HasBy, IsNotAfter, IsUnderWay, KeepsArcsOff}
 use Rattle.tn_cycle.proofs.OrderLemmas.{parts}
 use Rattle.tn_cycle.proofs.KeyLemmas.{has_by-more, has_by_own, not_after_itself, not_after-trans, same_cost}
 

@@ -1,19 +1,17 @@
 -- What a search over kept labels has found when it stops, and the labels after it.
-use Rattle.std.proofs.Common.{◌≡◌, ◌≢◌, ℕ, zero, suc, ◌+◌, ◌*◌, ◌<◌, ◌≤◌, refl, sym, ap, ◌∙◌, subst, arith, inl, inr, ◌⊎◌, List, [], ◌∷◌, length, ℤ, pos, ◌+ℤ◌, ◌-ℤ◌, ◌≤ℤ◌, ◌<ℤ◌, Option, Some, None, Bool, true, false}
+use Rattle.std.proofs.Common.{◌≡◌, ◌≢◌, ℕ, suc, ◌+◌, ◌*◌, ◌<◌, ◌≤◌, refl, sym, ap, ◌∙◌, subst, arith, inl, inr, ◌⊎◌, List, [], ◌∷◌, length, ℤ, ◌+ℤ◌, ◌-ℤ◌, ◌≤ℤ◌, ◌<ℤ◌, Option, Some, None, Bool, true, false}
 use Rattle.std.proofs.lemmas.Int.{ints, by_lt_z}
 use Rattle.std.proofs.Math.Nat.{mul-le-mul_right}
 use Rattle.std.proofs.lemmas.Bool.{cases_eq, cases_Bool}
-use Rattle.std.proofs.lemmas.Option.{none-some, same_Some}
-use Rattle.std.proofs.lemmas.List.Elements.{All-nil, All-weaker}
+use Rattle.std.proofs.lemmas.Option.{none-some}
+use Rattle.std.proofs.lemmas.List.Elements.{All-weaker}
 use Rattle.tn_base.specs.Arcs.{AreBetweenNodes, AreSmall, IsAtMost}
-use Rattle.tn_base.specs.Options.{both}
 use Rattle.tn_base.specs.Walks.{walk_cost, Avoids, AreDifferent, CyclesCostAtLeast, IsLeastCycle, IsUnreached, KeepsArcsEntering}
-use Rattle.tn_base.specs.Widths.{most_cost}
 use Rattle.tn_cycle.specs.declared.cell.Cell.{Cell}
 use Rattle.tn_cycle.specs.Order.{IsUpTo, IsBelow}
 use Rattle.tn_cycle.specs.Cells.{trail}
 use Rattle.tn_cycle.specs.Searched.{HasNoNegativeCycleOff, IsSettled}
-use Rattle.tn_cycle.specs.Kept.{AreRaised, HasBy, IsCapped, IsCounted, IsNotAfter, IsPast, IsRaised, IsStopped, KeepsArcsOff}
+use Rattle.tn_cycle.specs.Kept.{AreRaised, HasBy, IsCapped, IsCounted, IsNotAfter, IsPast, IsStopped, KeepsArcsOff}
 use Rattle.tn_cycle.proofs.OrderLemmas.{parts, up_to_none}
 use Rattle.tn_cycle.proofs.ReadLemmas.{length-trail}
 use Rattle.tn_cycle.proofs.RoundLemmas.{walk_small}

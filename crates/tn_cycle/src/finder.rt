@@ -20,9 +20,10 @@ use tn_base::{Costs, OutOfMemory, TradeSet};
 /// `through` and `least_through` find a least cycle through a trade over labels, and leave labels that keep the arcs with
 /// it; `label_all` is where these begin, and `relabel` gives the labels that `labels` would give. `labels` finds labels
 /// of a graph of which nothing is known, or a negative cycle, and `least_to` and `least_from` find least walks. Then `at`
-/// reads the nodes of a cycle; `label` reads labels; `distance` reads the least cost for a node, and `walk` lists the nodes
-/// of its walk, which `at` reads. A search forgets what the one before it found, but for the labels that it goes by. A graph that is searched has as many nodes as the finder was made for. No
-/// search and no reader takes memory or refuses.
+/// reads the nodes of a cycle; `label` reads labels; `distance` reads the least cost for a node, and `walk` lists the
+/// nodes of its walk, which `at` reads. A search forgets what the one before it found, but for the labels that it goes
+/// by. A graph that is searched has as many nodes as the finder was made for. No search and no reader takes memory or
+/// refuses.
 ///
 /// Contracts see what may be read: the nodes that `at` reads, the labels, the distances and their walks.
 #[derive(Drop)]

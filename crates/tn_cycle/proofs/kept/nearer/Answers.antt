@@ -1,9 +1,9 @@
-use Rattle.std.proofs.Common.{◌≡◌, ℤ, subst, sym, ◌∙◌, rules, Option}
+use Rattle.std.proofs.Common.{ℤ, subst, rules}
 use Rattle.std.proofs.lemmas.Int.{to_z-of_z}
 use mir.Syntax.{w128}
 use mir.Val.{SFits}
 use Rattle.tn_cycle.specs.declared.kept.Near.{Near}
-use Rattle.tn_cycle.specs.Kept.{IsNearer, IsNotAfter}
+use Rattle.tn_cycle.specs.Kept.{IsNotAfter}
 use Rattle.tn_cycle.proofs.KeyLemmas.{nearer_kept, nearer_taken, same_near}
 use Rattle.tn_cycle.proofs.kept.nearer.Goals as goal
 

@@ -1,8 +1,8 @@
-use Rattle.std.proofs.Common.{◌≡◌, ◌≢◌, ◌+◌, ◌<◌, ◌∙◌, ℕ, ap, sym, subst, arith, Bool, true, false, length}
+use Rattle.std.proofs.Common.{◌≡◌, ◌≢◌, ◌+◌, ◌<◌, ◌∙◌, ℕ, sym, subst, arith, true, false, length}
 use Rattle.std.proofs.lemmas.Bool.{false≢true}
 use Rattle.std.proofs.lemmas.List.{get_or-set_same, get_or-set_other}
 use Rattle.tn_cycle.specs.Answers.{label_in}
-use Rattle.tn_cycle.specs.Cells.{cell_at, HasRoom}
+use Rattle.tn_cycle.specs.Cells.{cell_at}
 use Rattle.tn_cycle.specs.Kept.{ComesFirst, flag_at}
 use Rattle.tn_cycle.proofs.RoundLemmas.{led_room}
 use Rattle.tn_cycle.proofs.KeptLemmas.{begun, known_next, waiting, waiting_fewer, waiting_less}

@@ -1,11 +1,8 @@
-use Rattle.std.proofs.Common.{◌≡◌, ◌+◌, ◌*◌, ◌<◌, ◌≤◌, ◌∙◌, ℕ, ℤ, ◌+ℤ◌, List, length, sym, ap, subst, arith, rules}
+use Rattle.std.proofs.Common.{◌≡◌, ◌∙◌, ℕ, ℤ, ◌+ℤ◌, length, sym, ap, subst, arith, rules}
 use Rattle.std.specs.Prelude.{take}
 use Rattle.std.proofs.lemmas.Int.{ints, to_z-of_z}
 use mir.Syntax.{w128}
 use mir.Val.{SFits}
-use Rattle.tn_base.specs.Arcs.{IsAtMost}
-use Rattle.tn_base.specs.Walks.{KeepsArcsEntering}
-use Rattle.tn_base.specs.Widths.{most_cost}
 use Rattle.tn_cycle.specs.Answers.{arc_count, cost_of, label_in}
 use Rattle.tn_cycle.specs.declared.cell.Cell.{Cell}
 use Rattle.tn_cycle.specs.Cells.{HasRoom, cell_at}
