@@ -1,14 +1,15 @@
 -- Walks in graphs that are made from a graph.
 use Rattle.std.proofs.Common.{◌≡◌, ◌≢◌, ℕ, ◌+◌, ◌<◌, ◌≤◌, refl, sym, ap, ◌∙◌, arith, inl, inr, List, [], ◌∷◌, ℤ, pos, Option, Some, None, Bool, true, ◌&&◌, ◌||◌, ◌==◌, if◌then◌else◌, nat_lt}
-use Rattle.std.specs.Prelude.{All, nat_le}
-use Rattle.std.proofs.lemmas.Bool.{ne_eqb, eq-eqb, lt-ltb, le-ltb, lt-leb, le-leb, and_parts, ltb-true, leb-true, cases_lt, cond_both}
-use Rattle.std.proofs.lemmas.List.Elements.{All-nil, All-cons, All-head}
+use Rattle.std.specs.Prelude.{All}
+use Rattle.std.proofs.lemmas.Bool.{ne_eqb, eq-eqb, lt-ltb, le-ltb, le-leb, and_parts, cases_lt, cond_both}
+use Rattle.std.proofs.lemmas.List.Elements.{All-nil, All-cons}
 use Rattle.tn_base.specs.Arcs.{AreBetweenNodes}
 use Rattle.tn_base.specs.Options.{both}
-use Rattle.tn_base.specs.Walks.{is_admitted, is_looked_at, walk_cost, arcs_among, HasNoNegativeCycle}
+use Rattle.tn_base.specs.Walks.{is_admitted, is_looked_at, walk_cost, arcs_among, HasNoNegativeCycle, KeepsArcs}
 use Rattle.tn_cycle.specs.Graphs.{is_between, with_sink}
 use Rattle.tn_cycle.specs.GraphLemmas.{some_if}
 use Rattle.tn_cycle.specs.Searched.{HasNoNegativeCycleOff}
+use Rattle.tn_cycle.specs.Kept.{KeepsArcsAvoiding}
 use Rattle.tn_cycle.proofs.OrderLemmas.{parts}
 use Rattle.tn_cycle.proofs.WalkLemmas.{walk_cost-same_off}
 
@@ -17,14 +18,17 @@ pub none_off : (arc other : ℕ → ℕ → Option ℤ) (t : ℕ) → ((a b : �
 none_off arc other t same none u vs cost passes avoids walk =
     none u vs cost (sym (walk_cost-same_off arc other t same u vs u passes avoids passes) ∙ walk)
 
+-- labels that keep the arcs of the one keep those of the other that avoid t
+pub keeps_avoiding : (arc other : ℕ → ℕ → Option ℤ) (t : ℕ) (label : ℕ → ℤ) → ((a b : ℕ) → a ≢ t → b ≢ t → arc a b ≡ other a b) → KeepsArcs other label
+    → KeepsArcsAvoiding arc t label
+keeps_avoiding arc other t label same keeps u v cost p q is = keeps u v cost (sym (same u v p q) ∙ is)
+
 -- the looked-at graph off its node is the admitted one
-pub none_off_node : (null node admitted : ℕ) (arc : ℕ → ℕ → Option ℤ) → HasNoNegativeCycle (arcs_among (is_admitted null admitted) arc)
-    → HasNoNegativeCycleOff (arcs_among (is_looked_at null node admitted) arc) node
-none_off_node null node admitted arc =
-    none_off (arcs_among (is_looked_at null node admitted) arc) (arcs_among (is_admitted null admitted) arc) node
-    (λ a b p q.
+pub off_node : (null node admitted : ℕ) (arc : ℕ → ℕ → Option ℤ) (a b : ℕ) → a ≢ node → b ≢ node
+    → arcs_among (is_looked_at null node admitted) arc a b ≡ arcs_among (is_admitted null admitted) arc a b
+off_node null node admitted arc a b p q =
     ap (λ (s : Bool). if (s || is_admitted null admitted a) && is_looked_at null node admitted b then arc a b else None) (ne_eqb a node p)
-    ∙ ap (λ (s : Bool). if is_admitted null admitted a && (s || is_admitted null admitted b) then arc a b else None) (ne_eqb b node q))
+    ∙ ap (λ (s : Bool). if is_admitted null admitted a && (s || is_admitted null admitted b) then arc a b else None) (ne_eqb b node q)
 
 -- an arc to the sink
 pub to_sink : (nodes : ℕ) (arc : ℕ → ℕ → Option ℤ) (v : ℕ) → v < nodes → with_sink nodes arc v nodes ≡ Some (pos 0)
@@ -61,10 +65,6 @@ walk_among test arc u (v ∷ vs) w cost walk =
     ∙ ap (λ (z : Option ℤ). both (Some two.first) z) (walk_among test arc v vs w two.second two.second_is)
     ∙ ap (λ (z : ℤ). Some z) two.sum_is
 
--- where no cycle is negative, none among some nodes is
-pub none_negative-arcs_among : (test : ℕ → Bool) (arc : ℕ → ℕ → Option ℤ) → HasNoNegativeCycle arc → HasNoNegativeCycle (arcs_among test arc)
-none_negative-arcs_among test arc none u vs cost walk = none u vs cost (walk_among test arc u vs u cost walk)
-
 -- such a walk's nodes are among them
 pub walk_passes : (test : ℕ → Bool) (arc : ℕ → ℕ → Option ℤ) (u : ℕ) (vs : List ℕ) (w : ℕ) (cost : ℤ)
     → walk_cost (arcs_among test arc) u vs w ≡ Some cost → All (λ v. test v ≡ true) (u ∷ vs)
@@ -76,46 +76,20 @@ walk_passes test arc u (v ∷ vs) w cost walk =
     (and_parts (test u) (test v) (some_if (test u && test v) (arc u v) two.first two.first_is).0).0
     (walk_passes test arc v vs w two.second two.second_is)
 
--- no trade stands from the null node on
-pub none_past : (null : ℕ) (arc : ℕ → ℕ → Option ℤ) → HasNoNegativeCycle (arcs_among (is_between null null) arc)
-none_past null arc u vs cost walk =
-    let passes : is_between null null u ≡ true = All-head (λ v. is_between null null v ≡ true) u vs (walk_passes (is_between null null) arc u vs u cost walk) in
-    let two = and_parts (nat_le null u) (nat_lt u null) passes in
-    absurd (omega (arith, leb-true null u two.0, ltb-true u null two.1))
-
--- the trades from the first on, off the first, are those from the next on
-same_between : (null first v : ℕ) → v ≢ first → is_between first null v ≡ is_between (first + 1) null v
-same_between null first v other = elim (cases_lt v first) [
-  | inl below ↦
-      ap (λ (s : Bool). s && nat_lt v null) (lt-leb first v below)
-      ∙ sym (ap (λ (s : Bool). s && nat_lt v null) (lt-leb (first + 1) v (omega (arith, below))))
-  | inr above ↦
-      ap (λ (s : Bool). s && nat_lt v null) (le-leb first v above)
-      ∙ sym (ap (λ (s : Bool). s && nat_lt v null) (le-leb (first + 1) v (omega (arith, above, other))))
-]
-
-pub none_off_first : (null first : ℕ) (arc : ℕ → ℕ → Option ℤ) → HasNoNegativeCycle (arcs_among (is_between (first + 1) null) arc)
-    → HasNoNegativeCycleOff (arcs_among (is_between first null) arc) first
-none_off_first null first arc =
-    none_off (arcs_among (is_between first null) arc) (arcs_among (is_between (first + 1) null) arc) first
-    (λ a b p q.
-    ap (λ (s : Bool). if s && is_between first null b then arc a b else None) (same_between null first a p)
-    ∙ ap (λ (s : Bool). if is_between (first + 1) null a && s then arc a b else None) (same_between null first b q))
-
 -- all trades are the graph off the null node
-pub none_off_null : (null : ℕ) (arc : ℕ → ℕ → Option ℤ) → AreBetweenNodes (null + 1) arc → HasNoNegativeCycle (arcs_among (is_between 0 null) arc)
-    → HasNoNegativeCycleOff arc null
-none_off_null null arc between = none_off arc (arcs_among (is_between 0 null) arc) null (λ a b p q. by a b (arc a b) refl p q)
+pub off_null : (null : ℕ) (arc : ℕ → ℕ → Option ℤ) → AreBetweenNodes (null + 1) arc → (a b : ℕ) → a ≢ null → b ≢ null
+    → arc a b ≡ arcs_among (is_between 0 null) arc a b
+off_null null arc between a b p q = by (arc a b) refl
   where
     inside : (v : ℕ) → v < null + 1 → v ≢ null → is_between 0 null v ≡ true
     inside v h other =
         ap (λ (s : Bool). s && nat_lt v null) (le-leb 0 v (omega arith)) ∙ lt-ltb v null (omega (arith, h, other))
 
-    kept : (a b : ℕ) → a < null + 1 → b < null + 1 → a ≢ null → b ≢ null → arcs_among (is_between 0 null) arc a b ≡ arc a b
-    kept a b h k p q =
+    kept : a < null + 1 → b < null + 1 → arcs_among (is_between 0 null) arc a b ≡ arc a b
+    kept h k =
         ap (λ (s : Bool). if s && is_between 0 null b then arc a b else None) (inside a h p)
         ∙ ap (λ (s : Bool). if s then arc a b else None) (inside b k q)
 
-    by : (a b : ℕ) (o : Option ℤ) → arc a b ≡ o → a ≢ null → b ≢ null → arc a b ≡ arcs_among (is_between 0 null) arc a b
-    by a b (Some cost) e p q = let two = between a b cost e in sym (kept a b two.0 two.1 p q)
-    by a b None e p q = e ∙ sym (cond_both (is_between 0 null a && is_between 0 null b) (arc a b) None (λ z. z ≡ None) (λ _. e) (λ _. refl))
+    by : (o : Option ℤ) → arc a b ≡ o → arc a b ≡ arcs_among (is_between 0 null) arc a b
+    by (Some cost) e = let two = between a b cost e in sym (kept two.0 two.1)
+    by None e = e ∙ sym (cond_both (is_between 0 null a && is_between 0 null b) (arc a b) None (λ z. z ≡ None) (λ _. e) (λ _. refl))

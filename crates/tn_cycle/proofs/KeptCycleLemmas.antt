@@ -18,8 +18,9 @@ use Rattle.tn_cycle.specs.Cells.{HasRoom, trail}
 use Rattle.tn_cycle.specs.Graphs.{with_sink}
 use Rattle.tn_cycle.specs.GraphLemmas.{between-with_sink, some_if}
 use Rattle.tn_cycle.specs.Searched.{IsSettled}
-use Rattle.tn_cycle.specs.Kept.{AreRaised, IsCycleRead, IsLifted, IsLiftedBy, IsRaised, IsStopped, KeepsArcsOff}
+use Rattle.tn_cycle.specs.Kept.{AreRaised, IsCycleRead, IsLifted, IsLiftedBy, IsRaised, IsStopped, KeepsArcsAvoiding, KeepsArcsOff}
 use Rattle.tn_cycle.specs.Widths.{most_graph_nodes}
+use Rattle.tn_cycle.proofs.GraphLemmas.{keeps_avoiding, off_node}
 use Rattle.tn_cycle.proofs.KeyLemmas.{same_cost}
 use Rattle.tn_cycle.proofs.ReadLemmas.{length-trail}
 use Rattle.tn_cycle.proofs.StoppedLemmas.{kept_cycle, kept_none, kept_settled, kept_small, kept_unreached}
@@ -181,29 +182,27 @@ set_near reach labels node base near small v within = elim (cases_eq v node) [
       record { low = omega (arith, ints, here, own.low); high = omega (arith, ints, here, own.high) }
 ]
 
--- a looked-at arc off the node is an admitted one
-pub looked_off : (null node allowed : ℕ) (arc : ℕ → ℕ → Option ℤ) (u v : ℕ) → u ≢ node → v ≢ node
-    → arcs_among (is_looked_at null node allowed) arc u v ≡ arcs_among (is_admitted null allowed) arc u v
-looked_off null node allowed arc u v p q =
-    ap (λ (s : Bool). if (s || is_admitted null allowed u) && is_looked_at null node allowed v then arc u v else None) (ne_eqb u node p)
-    ∙ ap (λ (s : Bool). if is_admitted null allowed u && (s || is_admitted null allowed v) then arc u v else None) (ne_eqb v node q)
-
--- a label that keeps the node's own arcs keeps all but those that end at it
-pub looked_keep : (null node allowed : ℕ) (arc : ℕ → ℕ → Option ℤ) (labels : List ℤ) (base : ℤ) → node < length labels → KeepsArcs (arcs_among (is_admitted null allowed) arc) (label_in labels)
-    → ((v : ℕ) (cost : ℤ) → v ≢ node → arcs_among (is_looked_at null node allowed) arc node v ≡ Some cost → label_in labels v ≤ℤ (base +ℤ cost))
-    → KeepsArcsOff (arcs_among (is_looked_at null node allowed) arc) node (label_in (set labels node base))
-looked_keep null node allowed arc labels base places keeps own u v cost off is = elim (cases_eq u node) [
+-- labels that keep the arcs among the other nodes, and a label that keeps the node's own arcs, keep all but those that end at it
+pub set_keep : (arc : ℕ → ℕ → Option ℤ) (labels : List ℤ) (node : ℕ) (base : ℤ) → node < length labels → KeepsArcsAvoiding arc node (label_in labels)
+    → ((v : ℕ) (cost : ℤ) → v ≢ node → arc node v ≡ Some cost → label_in labels v ≤ℤ (base +ℤ cost)) → KeepsArcsOff arc node (label_in (set labels node base))
+set_keep arc labels node base places keeps own u v cost off is = elim (cases_eq u node) [
   | inl same ↦
       let here : label_in (set labels node base) u ≡ base = ap (label_in (set labels node base)) same ∙ get_or-set_same labels node base (pos 0) places in
       let there : label_in (set labels node base) v ≡ label_in labels v = get_or-set_other labels node v base (pos 0) off in
-      let kept : label_in labels v ≤ℤ (base +ℤ cost) = own v cost off (subst (λ (z : ℕ). arcs_among (is_looked_at null node allowed) arc z v ≡ Some cost) same is) in
+      let kept : label_in labels v ≤ℤ (base +ℤ cost) = own v cost off (subst (λ (z : ℕ). arc z v ≡ Some cost) same is) in
       omega (arith, ints, here, there, kept)
   | inr other ↦
       let here : label_in (set labels node base) u ≡ label_in labels u = get_or-set_other labels node u base (pos 0) other in
       let there : label_in (set labels node base) v ≡ label_in labels v = get_or-set_other labels node v base (pos 0) off in
-      let kept : label_in labels v ≤ℤ (label_in labels u +ℤ cost) = keeps u v cost (sym (looked_off null node allowed arc u v other off) ∙ is) in
+      let kept : label_in labels v ≤ℤ (label_in labels u +ℤ cost) = keeps u v cost other off is in
       omega (arith, ints, here, there, kept)
 ]
+
+-- labels that keep the admitted arcs keep those of the looked-at graph that avoid its node
+pub looked_keep : (null node allowed : ℕ) (arc : ℕ → ℕ → Option ℤ) (label : ℕ → ℤ) → KeepsArcs (arcs_among (is_admitted null allowed) arc) label
+    → KeepsArcsAvoiding (arcs_among (is_looked_at null node allowed) arc) node label
+looked_keep null node allowed arc label =
+    keeps_avoiding (arcs_among (is_looked_at null node allowed) arc) (arcs_among (is_admitted null allowed) arc) node label (off_node null node allowed arc)
 
 -- an arc of the looked-at graph begins at the node or at an admitted one
 pub looked_begins : (null node allowed : ℕ) (arc : ℕ → ℕ → Option ℤ) (u v : ℕ) (cost : ℤ) → u ≢ node → arcs_among (is_looked_at null node allowed) arc u v ≡ Some cost

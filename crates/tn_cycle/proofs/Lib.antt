@@ -2,7 +2,6 @@ pub mod CellLemmas
 pub mod ReadLemmas
 pub mod SettledLemmas
 pub mod GraphLemmas
-pub mod NegativeLemmas
 pub mod TurnLemmas
 pub mod ViewLemmas
 pub mod LabelLemmas
@@ -16,3 +15,4 @@ pub mod KeptLemmas
 pub mod StoppedLemmas
 pub mod KeptCycleLemmas
 pub mod RingLemmas
+pub mod GrownLemmas

@@ -1,16 +1,16 @@
 -- What the cells of a search say once it has settled.
-use Rattle.std.proofs.Common.{◌≡◌, ◌≢◌, ℕ, ◌<◌, ◌≤◌, refl, sym, ◌∙◌, subst, arith, inl, inr, List, [], ◌∷◌, length, ℤ, pos, ◌≤ℤ◌, Option, Some, None, Bool, true, false}
+use Rattle.std.proofs.Common.{◌≡◌, ◌≢◌, ℕ, ◌<◌, refl, ◌∙◌, subst, arith, inl, inr, [], length, ℤ, Option, Some, None, Bool, true, false}
 use Rattle.std.specs.Prelude.{All}
 use Rattle.std.proofs.lemmas.Int.{ints}
-use Rattle.std.proofs.lemmas.Bool.{cases_lt, cases_eq}
+use Rattle.std.proofs.lemmas.Bool.{cases_lt}
 use Rattle.std.proofs.lemmas.List.Elements.{All-nil}
 use Rattle.tn_base.specs.Arcs.{AreBetweenNodes}
-use Rattle.tn_base.specs.Walks.{walk_cost, Avoids, AreDifferent, CyclesCostAtLeast, IsLeastCycle}
+use Rattle.tn_base.specs.Walks.{walk_cost, Avoids}
 use Rattle.tn_cycle.specs.declared.cell.Cell.{Cell}
-use Rattle.tn_cycle.specs.Order.{IsUpTo, IsBelow}
+use Rattle.tn_cycle.specs.Order.{IsBelow}
 use Rattle.tn_cycle.specs.Cells.{trail}
 use Rattle.tn_cycle.specs.Searched.{HasNoNegativeCycleOff, IsSettled}
-use Rattle.tn_cycle.proofs.WalkLemmas.{AreApart, found_or_not, IsShortened, cut, apart_or_shortened, different_from_apart, walk_inside}
+use Rattle.tn_cycle.proofs.WalkLemmas.{AreApart, found_or_not, IsShortened, cut, apart_or_shortened, walk_inside}
 use Rattle.tn_cycle.proofs.ReadLemmas.{length-trail}
 
 module _ (nodes : ℕ) (arc : ℕ → ℕ → Option ℤ) (end : ℕ) (cell : ℕ → Cell) (between : AreBetweenNodes nodes arc)
@@ -50,44 +50,6 @@ module _ (nodes : ℕ) (arc : ℕ → ℕ → Option ℤ) (end : ℕ) (cell : �
             let e : 0 ≡ (cell v).round = omega (arith, first) in
             subst (λ (k : ℕ). All (λ u. u < nodes) (trail cell k v)) e (All-nil (λ u. u < nodes))
       ]
-
-  pub led_different : (v : ℕ) (cost : ℤ) → v < nodes → (cell v).cost ≡ Some cost → AreDifferent (v ∷ trail cell (cell v).round v)
-  unfolding AreApart
-  led_different v cost inside is = different_from_apart (v ∷ trail cell (cell v).round v) (once, led_apart v cost inside is)
-    where
-      once : Avoids v (trail cell (cell v).round v)
-      once = elim (cases_eq v end) [
-        | inl same ↦ subst (λ (t : ℕ). Avoids t (trail cell (cell v).round v)) (sym same) (found.avoids v inside)
-        | inr other ↦ led_once v cost inside other is
-      ]
-
-  pub least_cycle : (cost : ℤ) → end < nodes → (cell end).cost ≡ Some cost → IsLeastCycle arc end (trail cell (cell end).round end) cost
-  least_cycle cost inside is = record {
-    cycle = record { walk = led_walk end cost inside is; different = led_different end cost inside is };
-    least = λ vs other avoids walk.
-        let known : IsUpTo (Some cost) (Some other) =
-        subst (IsUpTo (Some cost)) walk (subst (λ (z : Option ℤ). IsUpTo z (walk_cost arc end vs end)) is (found.least end vs inside avoids)) in
-        known;
-    shortest = shortest;
-  }
-    where
-      shortest : (ws : List ℕ) → Avoids end ws → walk_cost arc end ws end ≡ Some cost → length (trail cell (cell end).round end) ≤ length ws
-      shortest ws avoids walk = elim (cases_lt (length ws) (cell end).round) [
-        | inr enough ↦ omega (arith, enough, length-trail cell (cell end).round end)
-        | inl fewer ↦
-            let known : IsBelow (Some cost) (Some cost) =
-            subst (IsBelow (Some cost)) walk (subst (λ (z : Option ℤ). IsBelow z (walk_cost arc end ws end)) is (found.fewest end ws inside avoids fewer)) in
-            absurd (omega (arith, ints, known))
-      ]
-
-  -- no closed walk through the end is negative where its cell isn't
-  pub none_through : end < nodes → ((cost : ℤ) → (cell end).cost ≡ Some cost → pos 0 ≤ℤ cost) → CyclesCostAtLeast arc end (pos 0)
-  none_through inside least vs cost avoids walk =
-      by (cell end).cost refl (subst (IsUpTo (cell end).cost) walk (found.least end vs inside avoids))
-    where
-      by : (o : Option ℤ) → (cell end).cost ≡ o → IsUpTo o (Some cost) → pos 0 ≤ℤ cost
-      by None is up = absurd up
-      by (Some low) is up = let from_zero : pos 0 ≤ℤ low = least low is in omega (arith, ints, up, from_zero)
 
 -- a search settles where no closed walk off its end is negative
 pub settles : {S N : Type 0} (result : Bool) → (result ≡ true → S) → (result ≡ false → N → ⊥) → N → S

@@ -10,7 +10,7 @@ use Rattle.std.proofs.lemmas.List.Elements.{All-nil, All-cons, All-head, All-tai
 use Rattle.std.proofs.lemmas.Map.Steps.{length-le_from_distinct_below}
 use Rattle.tn_base.specs.Arcs.{AreBetweenNodes}
 use Rattle.tn_base.specs.Options.{both}
-use Rattle.tn_base.specs.Walks.{walk_cost, Avoids, AreDifferent, HasNoNegativeCycle, CyclesCostAtLeast}
+use Rattle.tn_base.specs.Walks.{walk_cost, Avoids, AreDifferent}
 use Rattle.tn_cycle.specs.Searched.{HasNoNegativeCycleOff}
 use Rattle.tn_cycle.proofs.OrderLemmas.{Parts, parts, both-assoc}
 
@@ -21,13 +21,6 @@ walk_cost-through arc u [] v ys w = refl
 walk_cost-through arc u (x ∷ xs) v ys w =
     ap (λ (rest : Option ℤ). both (arc u x) rest) (walk_cost-through arc x xs v ys w)
     ∙ sym (both-assoc (arc u x) (walk_cost arc x xs v) (walk_cost arc v ys w))
-
--- the costs of two walks that meet add up
-pub walk_cost-joined : (arc : ℕ → ℕ → Option ℤ) (u : ℕ) (xs : List ℕ) (v : ℕ) (ys : List ℕ) (w : ℕ) (a b : ℤ)
-    → walk_cost arc u xs v ≡ Some a → walk_cost arc v ys w ≡ Some b → walk_cost arc u (xs ++ v ∷ ys) w ≡ Some (a +ℤ b)
-walk_cost-joined arc u xs v ys w a b first second =
-    walk_cost-through arc u xs v ys w
-    ∙ ap (λ (z : Option ℤ). both z (walk_cost arc v ys w)) first ∙ ap (λ (z : Option ℤ). both (Some a) z) second
 
 -- the parts of a walk through v
 pub walk_parts : (arc : ℕ → ℕ → Option ℤ) (u : ℕ) (vs xs : List ℕ) (v : ℕ) (ys : List ℕ) (w : ℕ) (cost : ℤ)
@@ -204,36 +197,6 @@ cut_apart arc t none (suc fuel) v us cost short avoids walk = elim (apart_or_sho
   | inr shorter ↦
       let rest = cut_apart arc t none fuel v shorter.nodes shorter.less (omega (arith, short, shorter.fewer)) shorter.avoids shorter.walk in
       record { nodes = rest.nodes; less = rest.less; walk = rest.walk; avoids = rest.avoids; apart = rest.apart; no_more = omega (arith, ints, rest.no_more, shorter.no_more) }
-]
-
--- closed walks at t cost at least 0 where those do that meet t at their ends alone
-closed_at : (arc : ℕ → ℕ → Option ℤ) (t : ℕ) → CyclesCostAtLeast arc t (pos 0) → (fuel : ℕ) (vs : List ℕ) (cost : ℤ) → length vs < fuel
-    → walk_cost arc t vs t ≡ Some cost → pos 0 ≤ℤ cost
-closed_at arc t through zero vs cost short walk = absurd (omega (arith, short))
-closed_at arc t through (suc fuel) vs cost short walk = elim (found_or_not t vs) [
-  | inr avoids ↦ through vs cost avoids walk
-  | inl found ↦
-      let two = walk_parts arc t vs found.before t found.after t cost found.split walk in
-      let first : pos 0 ≤ℤ two.first = through found.before two.first found.avoids two.first_is in
-      let fewer : length found.after < length vs = found-shorter t vs found.before found.after found.split in
-      let second : pos 0 ≤ℤ two.second = closed_at arc t through fuel found.after two.second (omega (arith, short, fewer)) two.second_is in
-      omega (arith, ints, first, second, two.sum_is)
-]
-
--- no cycle is negative where none through t is and none off t
-pub none_negative : (arc : ℕ → ℕ → Option ℤ) (t : ℕ) → HasNoNegativeCycleOff arc t → CyclesCostAtLeast arc t (pos 0) → HasNoNegativeCycle arc
-none_negative arc t off through u vs cost walk = elim (cases_eq u t) [
-  | inl same ↦ closed_at arc t through (suc (length vs)) vs cost (omega arith) (subst (λ (z : ℕ). walk_cost arc z vs z ≡ Some cost) same walk)
-  | inr other ↦ elim (found_or_not t vs) [
-    | inr avoids ↦ off u vs cost other avoids walk
-    | inl found ↦
-        let two = walk_parts arc u vs found.before t found.after u cost found.split walk in
-        let turned : walk_cost arc t (found.after ++ u ∷ found.before) t ≡ Some (two.second +ℤ two.first) =
-        walk_cost-joined arc t found.after u found.before t two.second two.first two.second_is two.first_is in
-        let closed : pos 0 ≤ℤ (two.second +ℤ two.first) =
-        closed_at arc t through (suc (length (found.after ++ u ∷ found.before))) (found.after ++ u ∷ found.before) (two.second +ℤ two.first) (omega arith) turned in
-        omega (arith, ints, closed, two.sum_is)
-  ]
 ]
 
 -- two graphs that agree off t have the same walks there

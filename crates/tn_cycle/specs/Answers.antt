@@ -9,6 +9,7 @@ use Rattle.tn_cycle.specs.declared.answer.Labels.{Labels}
 use Rattle.tn_cycle.specs.declared.answer.Labels.TheVariants.{Feasible, Negative}
 use Rattle.tn_cycle.specs.Graphs.{turned}
 use Rattle.tn_cycle.specs.Reading.{Reading}
+use Rattle.tn_cycle.specs.Widths.{most_label}
 
 -- the listed nodes are a least cycle from the node, of negative cost
 pub record IsFound (arc : ℕ → ℕ → Option ℤ) (node : ℕ) (listed : List ℕ) (cost : ℤ) (count : ℕ) : Type 0 where
@@ -110,7 +111,7 @@ distance_in reading v = slice_index_or reading.distances v None
 abbrev pub walk_in : Reading → ℕ → List ℕ
 walk_in reading v = slice_index_or reading.walks v []
 
--- there is an answer, and the listed nodes are a cycle of negative cost
-abbrev pub AnswersNegative : ℕ → (ℕ → ℕ → Option ℤ) → List ℕ → Path → Type 0
-AnswersNegative nodes arc listed path.None = ⊥
-AnswersNegative nodes arc listed (path.Cycle cost count) = IsNegative nodes arc listed cost count
+-- labels near 0 that keep the arcs, where no cycle is answered, and otherwise the listed nodes are a negative cycle
+abbrev pub AnswersGrown : ℕ → (ℕ → ℕ → Option ℤ) → List ℕ → List ℤ → Path → Type 0
+AnswersGrown nodes arc listed labels path.None = KeepsArcs arc (label_in labels) × AreNear most_label labels
+AnswersGrown nodes arc listed labels (path.Cycle cost count) = IsNegative nodes arc listed cost count

@@ -16,6 +16,10 @@ flag_at flags v = slice_index_or flags v false
 abbrev pub KeepsArcsOff : (ℕ → ℕ → Option ℤ) → ℕ → (ℕ → ℤ) → Type 0
 KeepsArcsOff arc t label = (u v : ℕ) (cost : ℤ) → v ≢ t → arc u v ≡ Some cost → label v ≤ℤ (label u +ℤ cost)
 
+-- labels keep the arcs that neither begin nor end at t
+abbrev pub KeepsArcsAvoiding : (ℕ → ℕ → Option ℤ) → ℕ → (ℕ → ℤ) → Type 0
+KeepsArcsAvoiding arc t label = (u v : ℕ) (cost : ℤ) → u ≢ t → v ≢ t → arc u v ≡ Some cost → label v ≤ℤ (label u +ℤ cost)
+
 -- the first costs at most what the second does, and where both cost the same, it has no more nodes
 abbrev pub IsNotAfter : ℤ → ℕ → ℤ → ℕ → Type 0
 IsNotAfter a m b n = (a ≤ℤ b) × (b ≤ℤ a → m ≤ n)

@@ -4,10 +4,9 @@ ghost use Rattle.tn_cycle.specs.Widths.{label_step, most_graph_nodes, most_label
 
 use crate::answer::{Labels, Path};
 use crate::cell::Cell;
-use crate::cycles::negative_cycle;
 use crate::graphs::{Admitted, Looked, Turned};
+use crate::grown::grow_labels;
 use crate::kept_cycles::{least_kept, negative_kept, relabel_kept};
-use crate::labels::find_labels;
 use crate::read::list_walk;
 use crate::search::search;
 use std::alloc::Global;
@@ -225,23 +224,24 @@ impl Finder {
         ensures rest { ListsNoWalks self.old.nodes self.new }
     {
         self.reached = 0;
-        self.labelled = 0;
-        self.count = 0;
-        if find_labels(
+        let found = grow_labels(
             costs,
-            &mut self.row,
-            &mut self.after,
-            &mut self.path,
             &mut self.labels,
-        ) {
-            self.labelled = self.nodes;
-            return Labels::Feasible;
-        }
-        let found = negative_cycle(costs, &mut self.row, &mut self.after, &mut self.path);
+            &mut self.waits,
+            &mut self.row,
+            &mut self.path,
+        );
         self.count = found.arcs();
         match found {
-            Path::Cycle { cost, length } => Labels::Negative { cost, length },
-            Path::None => unreachable!(),
+            Path::None => {
+                self.labelled = self.nodes;
+                self.relabel(costs);
+                Labels::Feasible
+            }
+            Path::Cycle { cost, length } => {
+                self.labelled = 0;
+                Labels::Negative { cost, length }
+            }
         }
     }
 

@@ -5,7 +5,7 @@ ghost use Rattle.tn_base.specs.Walks.{KeepsArcs, KeepsArcsEntering, arcs_among, 
 ghost use Rattle.tn_base.specs.Widths.{most_cost};
 ghost use Rattle.tn_cycle.specs.Answers.{AnswersCycle, AnswersLeast, AreLabels, AreNear, arc_count, cost_of, label_in};
 ghost use Rattle.tn_cycle.specs.Cells.{HasRoom, cell_at};
-ghost use Rattle.tn_cycle.specs.Kept.{AreRaised, IsCycleRead, IsLifted, IsLiftedBy, IsRaised, KeepsArcsOff, flag_at};
+ghost use Rattle.tn_cycle.specs.Kept.{AreRaised, IsCycleRead, IsLifted, IsLiftedBy, IsRaised, KeepsArcsAvoiding, KeepsArcsOff, flag_at};
 ghost use Rattle.tn_cycle.specs.Reading.{IsListable};
 ghost use Rattle.tn_cycle.specs.Widths.{label_step, most_graph_nodes, most_label, most_walk_cost};
 
@@ -165,6 +165,36 @@ fn least_label<C: Costs>(costs: &C, node: u32, labels: &[i128]) -> Option<i128>
     least
 }
 
+/// A least cycle through a node whose label isn't known yet, where one is negative, over labels that keep the arcs among
+/// the other nodes. The node gets the least label that keeps the arcs that begin at it, and then all labels are raised.
+pub(crate) fn find_added<C: Costs>(
+    costs: &C,
+    node: u32,
+    labels: &mut [i128],
+    waits: &mut [bool],
+    row: &mut [Cell],
+    path: &mut [u32],
+) -> Path
+    requires sized { C.node_count costs.now ≤ length row.old }
+    requires waits_sized { C.node_count costs.now ≤ length waits.old }
+    requires path_sized { C.node_count costs.now + 1 ≤ length path.old }
+    requires labels_sized { length labels.old ≡ C.node_count costs.now }
+    requires short { length path.old ≤ 2 ^ 31 }
+    requires few { C.node_count costs.now ≤ most_graph_nodes }
+    requires inside { node < C.node_count costs.now }
+    requires near { AreNear most_label labels.old }
+    requires shut { flag_at waits.old node ≡ false }
+    requires covers { (v u : ℕ) (cost : ℤ) → v ≢ node → C.arc costs.now v u ≡ Some cost → flag_at waits.old v ≡ true }
+    requires keeps { KeepsArcsAvoiding (C.arc costs.now) node (label_in labels.old) }
+    ensures answer { AnswersCycle (C.arc costs.now) node (take (arc_count result) path.new) result }
+    ensures few_arcs { arc_count result ≤ C.node_count costs.now }
+    ensures keeps { KeepsArcsEntering (C.arc costs.now) node (label_in labels.new node +ℤ cost_of result) (label_in labels.new) }
+    ensures near { (reach : ℕ) → AreNear reach labels.old → AreNear (reach + label_step (C.node_count costs.now)) labels.new }
+{
+    labels[node as usize] = least_label(costs, node, labels).unwrap_or(0);
+    find_kept(costs, node, Some(0), labels, waits, row, path)
+}
+
 /// Finds a least cycle through a node whose label isn't known yet, where one is negative. Its nodes then stand at the
 /// front of `path`.
 pub(crate) fn negative_kept<C: Costs, const W: usize>(
@@ -188,10 +218,8 @@ pub(crate) fn negative_kept<C: Costs, const W: usize>(
     ensures keeps { KeepsArcsEntering (arcs_among (is_looked_at looked.now.among.null looked.now.node looked.now.among.admitted.now) (C.arc looked.now.among.costs.now)) looked.now.node (label_in labels.new looked.now.node +ℤ cost_of result) (label_in labels.new) }
     ensures near { (reach : ℕ) → AreNear reach labels.old → AreNear (reach + label_step (length labels.old)) labels.new }
 {
-    let node = looked.node;
     looked.mark_others(waits);
-    labels[node as usize] = least_label(looked, node, labels).unwrap_or(0);
-    find_kept(looked, node, Some(0), labels, waits, row, path)
+    find_added(looked, looked.node, labels, waits, row, path)
 }
 
 /// Finds a least cycle through a node whose label is kept too. Its nodes then stand at the front of `path`.

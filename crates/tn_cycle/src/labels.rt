@@ -1,14 +1,10 @@
-ghost use Rattle.std.specs.Prelude.{◌≡◌, ℕ, ◌+◌, ◌<◌, ◌≤◌, ◌^◌, ℤ, pos, ◌≤ℤ◌, ◌-ℤ◌, length, true, false, unwrap_or};
+ghost use Rattle.std.specs.Prelude.{◌≡◌, ℕ, ◌+◌, ◌<◌, ◌≤◌, ◌^◌, ℤ, pos, ◌≤ℤ◌, ◌-ℤ◌, length, unwrap_or};
 ghost use Rattle.tn_base.specs.Arcs.{IsAtMost};
-ghost use Rattle.tn_base.specs.Walks.{HasNoNegativeCycle};
 ghost use Rattle.tn_cycle.specs.Cells.{HasRoom, cell_at};
-ghost use Rattle.tn_cycle.specs.Answers.{AreLabels, IsLowest, label_in};
-ghost use Rattle.tn_cycle.specs.Widths.{most_graph_nodes, most_walk_cost};
+ghost use Rattle.tn_cycle.specs.Answers.{IsLowest, label_in};
+ghost use Rattle.tn_cycle.specs.Widths.{most_walk_cost};
 
 use crate::cell::Cell;
-use crate::graphs::Sunk;
-use crate::search::search;
-use tn_base::Costs;
 
 /// The lesser of two costs.
 fn lesser(first: i128, second: i128) -> i128
@@ -51,29 +47,4 @@ pub(crate) fn write_labels(row: &[Cell], lowest: i128, labels: &mut [i128])
     for v in 0..labels.len() {
         labels[v] = label(lowest, row[v].cost.unwrap_or(0));
     }
-}
-
-/// Labels that keep the arcs, where no cycle is negative. A node's label is the lowest of the least costs of walks to
-/// the sink, less its own.
-pub(crate) fn find_labels<C: Costs>(
-    costs: &C,
-    row: &mut [Cell],
-    after: &mut [Cell],
-    active: &mut [u32],
-    labels: &mut [i128],
-) -> bool
-    requires sized { C.node_count costs.now + 1 ≤ length row.old }
-    requires after_sized { length after.old ≡ length row.old }
-    requires places { C.node_count costs.now + 1 ≤ length active.old }
-    requires labels_sized { length labels.old ≡ C.node_count costs.now }
-    requires few { C.node_count costs.now ≤ most_graph_nodes }
-    ensures found { result ≡ true → AreLabels (C.node_count costs.now) (C.arc costs.now) labels.new }
-    ensures none { result ≡ false → HasNoNegativeCycle (C.arc costs.now) → ⊥ }
-{
-    let sink = costs.nodes();
-    let settled = search(&Sunk { costs, sink }, sink, row, after, active);
-    if settled {
-        write_labels(row, lowest_cost(row, sink), labels);
-    }
-    settled
 }
