@@ -5,7 +5,7 @@ use Rattle.std.proofs.lemmas.Bool.{cases_eq, cases_Bool, eq-eqb, and_parts, true
 use Rattle.std.proofs.lemmas.List.Elements.{All-cons}
 use Rattle.tn_base.specs.Sets.{has, toggle, minus, sum_over}
 use Rattle.tn_base.specs.Firm.{Firm, MayAbstain, among, plus_sum, payments, IsBest}
-use Rattle.tn_base.specs.Walks.{walk_cost, arcs_among, is_admitted, is_looked_at, Avoids, IsLeastCycle, HasNoNegativeCycle}
+use Rattle.tn_base.specs.Walks.{walk_cost, arcs_among, is_admitted, is_looked_at, Avoids, IsLeastCycle, HasNoNegativeCycle, KeepsArcs, KeepsArcsEntering}
 use Rattle.tn_base.proofs.SetLemmas.{has-zero, has-toggle_other, has_below, has_from_minus-zero, minus-zero_from, set_of_within}
 use Rattle.tn_base.proofs.SumLemmas.{sum_over-same_terms}
 use Rattle.tn_base.proofs.WalkLemmas.{walk-same, least_cycle-same}
@@ -17,16 +17,16 @@ use Rattle.tn_market.specs.Equilibrium.{prices_at, HasBest, IsEquilibrium}
 use Rattle.tn_market.specs.Admitted.{admitted}
 use Rattle.tn_market.specs.Graph.{exchange_arc}
 use Rattle.tn_market.proofs.GraphLemmas.{has-part}
-use Rattle.tn_network.specs.Laws.{MeetExchange, price_of_node}
+use Rattle.tn_network.specs.Laws.{MeetExchange}
 use Rattle.tn_network.specs.Along.{along}
 use Rattle.tn_network.specs.Kept.{IsKept}
 use Rattle.tn_network.specs.Rounds.{arcs_with}
 use Rattle.tn_network.specs.Barred.{OneCycleBarsATrade}
-use Rattle.tn_network.proofs.SupportLemmas.{arcs_from_supports}
-use Rattle.tn_network.proofs.AdmittedLemmas.{admitted_is, admitted_from_firm, admitted_network, admitted_meet, admitted_possible, possible_from_admitted, arcs_admitted, among_inside, among_parts, part_inside}
+use Rattle.tn_network.proofs.AdmittedLemmas.{admitted_is, admitted_from_firm, admitted_network, admitted_meet, admitted_possible, arcs_admitted, among_inside, among_parts, part_inside}
+use Rattle.tn_network.proofs.SplitLemmas.{TwoNumbers}
 use Rattle.tn_network.proofs.LegLemmas.{Setting, place_price}
-use Rattle.tn_network.proofs.RoundLemmas.{HasNumbers, IsRound, IsTurned, setting, turned, best_turned, new_price, place_price-other, cycle_avoids, has-along-t, equilibrium_possible}
-use Rattle.tn_network.proofs.KeptLemmas.{no_cycle_from, walk_among, looked_is_admitted, arcs_are, numbers_kept, along_inside}
+use Rattle.tn_network.proofs.RoundLemmas.{HasNumbers, IsRound, IsTurned, two_from_off, setting, turned, best_turned, new_price, place_price-other, cycle_avoids, has-along-t, equilibrium_possible, numbers_keep}
+use Rattle.tn_network.proofs.KeptLemmas.{no_cycle_from, walk_among, looked_is_admitted, arcs_are, entering-same, two_given, numbers_kept, kept_with, along_inside}
 use Rattle.tn_network.proofs.WithoutLemmas.{some_walk}
 
 -- ---- what is admitted with one trade more
@@ -131,28 +131,22 @@ along_without firms trades allowed on t vs inside below out member cost cycle =
         (sym (looked_is_admitted (length trades) allowed t out t) ∙ ap (λ (b : Bool). b || (t == length trades || has allowed t)) (eq-eqb t t refl))
         (λ k d h. sym (looked_is_admitted (length trades) allowed t out _) ∙ walk_among (is_looked_at (length trades) t allowed) (exchange_arc firms trades on) t vs t cost cycle.cycle.walk k d h)
 
-barred : (firms : List Firm) (trades : List Ends) (allowed on t : ℕ) → IsNetwork firms trades → MeetExchange firms → IsKept firms trades (toggle allowed t) on
+-- at two given numbers for the trade: what the cycle comes to is kept, and the numbers keep its arcs
+barred_with : (firms : List Firm) (trades : List Ends) (allowed on t : ℕ) → IsNetwork firms trades → MeetExchange firms → IsKept firms trades (toggle allowed t) on
     → t < length trades → has allowed t ≡ false → has on t ≡ true → (vs : List ℕ) (cost : ℤ) → IsLeastCycle (arcs_with firms trades allowed on t) t vs cost
+    → (two : TwoNumbers t (neg_ℤ cost) (exchange_arc (admitted trades (toggle allowed t) firms) trades on))
     → IsKept firms trades allowed (along (length trades) on (t ∷ vs))
-barred firms trades allowed on t network meet kept below out member vs cost cycle = record {
-  inside = inside;
-  possible = possible_from_admitted firms trades allowed z (equilibrium_possible (admitted trades allowed firms) trades z (new_price s) equilibrium);
-  no_cycle = λ u ws c walk. no_cycle_from (exchange_arc (admitted trades allowed firms) trades z)
-      (price_of_node (length trades) (new_price s), arcs_from_supports (admitted trades allowed firms) trades z (new_price s) (admitted_network firms trades allowed network) equilibrium) u ws c
-      (walk-same _ _ (arcs_admitted firms trades network allowed z inside) u ws u ∙ walk);
-}
+    × KeepsArcs (arcs_among (is_admitted (length trades) allowed) (exchange_arc firms trades (along (length trades) on (t ∷ vs)))) two.number
+unfolding setting
+barred_with firms trades allowed on t network meet kept below out member vs cost cycle two =
+    kept_with firms trades allowed z network inside (equilibrium_possible (admitted trades allowed firms) trades z (new_price s) equilibrium)
+    two.number (numbers_keep (admitted trades allowed firms) trades (admitted_network firms trades allowed network) z two.number equilibrium)
   where
-    all : ℕ
-    all = toggle allowed t
-
     z : ℕ
     z = along (length trades) on (t ∷ vs)
 
     inside : IsSubset (along (length trades) on (t ∷ vs)) allowed
     inside = along_without firms trades allowed on t vs kept.inside below out member cost cycle
-
-    numbers : HasNumbers (exchange_arc (admitted trades (toggle allowed t) firms) trades on)
-    numbers = numbers_with firms trades (toggle allowed t) on network kept
 
     round : IsRound (admitted trades (toggle allowed t) firms) trades on t vs cost
     round = record {
@@ -160,8 +154,7 @@ barred firms trades allowed on t network meet kept below out member vs cost cycl
       meet = admitted_meet firms trades (toggle allowed t) meet;
       possible = admitted_possible firms trades (toggle allowed t) on kept.inside kept.possible;
       inside = below;
-      numbers = numbers.0;
-      keeps = λ u v c _ _ is. numbers.1 u v c is;
+      two = two;
       cycle = least_cycle-same _ _ (arcs_are firms trades allowed on t network out kept.inside) t vs cost cycle;
     }
 
@@ -192,5 +185,28 @@ barred firms trades allowed on t network meet kept below out member vs cost cycl
         let there = admitted_from_firm trades allowed firms f other is in
         subst (λ (w : Firm). HasBest trades (pos 1) (along (length trades) on (t ∷ vs)) (new_price s) f w) (sym there.2) (best_at f there.0 there.1)
 
+barred : (firms : List Firm) (trades : List Ends) (allowed on t : ℕ) → IsNetwork firms trades → MeetExchange firms → IsKept firms trades (toggle allowed t) on
+    → t < length trades → has allowed t ≡ false → has on t ≡ true → (vs : List ℕ) (cost : ℤ) → IsLeastCycle (arcs_with firms trades allowed on t) t vs cost
+    → IsKept firms trades allowed (along (length trades) on (t ∷ vs))
+barred firms trades allowed on t network meet kept below out member vs cost cycle =
+    let numbers = numbers_with firms trades (toggle allowed t) on network kept in
+    (barred_with firms trades allowed on t network meet kept below out member vs cost cycle
+    (two_from_off (admitted trades (toggle allowed t) firms) trades on t vs cost below numbers.0 (λ u v c _ _ is. numbers.1 u v c is)
+    (least_cycle-same _ _ (arcs_are firms trades allowed on t network out kept.inside) t vs cost cycle))).0
+
+barred_labels : (firms : List Firm) (trades : List Ends) (allowed on t : ℕ) → IsNetwork firms trades → MeetExchange firms → IsKept firms trades (toggle allowed t) on
+    → t < length trades → has allowed t ≡ false → has on t ≡ true → (vs : List ℕ) (cost : ℤ) (label : ℕ → ℤ)
+    → IsLeastCycle (arcs_with firms trades allowed on t) t vs cost → KeepsArcsEntering (arcs_with firms trades allowed on t) t (label t +ℤ cost) label
+    → KeepsArcs (arcs_among (is_admitted (length trades) allowed) (exchange_arc firms trades (along (length trades) on (t ∷ vs)))) label
+barred_labels firms trades allowed on t network meet kept below out member vs cost label cycle keeps =
+    (barred_with firms trades allowed on t network meet kept below out member vs cost cycle
+    (two_given _ t cost label (entering-same _ _ (arcs_are firms trades allowed on t network out kept.inside) t (label t +ℤ cost) label keeps))).1
+
 pub one_cycle_bars_a_trade : OneCycleBarsATrade
-one_cycle_bars_a_trade = record { still = still; passed = passed; turned = barred }
+one_cycle_bars_a_trade = record {
+  still = still;
+  off_labels = λ firms trades allowed on t out label keeps u v c is. keeps u v c (more_arcs firms trades allowed on t out u v c is);
+  passed = passed;
+  turned = barred;
+  turned_labels = barred_labels;
+}

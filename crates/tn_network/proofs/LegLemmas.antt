@@ -49,11 +49,11 @@ pub keeps_arc : (firms : List Firm) (trades : List Ends) (on t : ℕ) (s : Setti
     → exchange_arc firms trades on u v ≡ Some c → number_in s v ≤ℤ (s.two.number u +ℤ c)
 keeps_arc firms trades on t s u v c is = elim (cases_eq v t) [
   | inl e ↦
-      let kept = s.two.enters u c (ap (exchange_arc firms trades on u) (sym e) ∙ is) in
+      let kept = s.two.keeps.enters u c (ap (exchange_arc firms trades on u) (sym e) ∙ is) in
       let number = number_in-t firms trades on t s v e in
       omega (arith, ints, kept, number)
   | inr other ↦
-      let kept = s.two.keeps u v c other is in
+      let kept = s.two.keeps.others u v c other is in
       let number = number_in-other firms trades on t s v other in
       omega (arith, ints, kept, number)
 ]
@@ -362,10 +362,10 @@ first_return firms trades on t s u (leg ∷ legs) path some =
 -- a walk to t costs at least the difference of the numbers
 pub walk_low : (firms : List Firm) (trades : List Ends) (on t : ℕ) (s : Setting firms trades on t) (u : ℕ) (vs : List ℕ) (c : ℤ) → Avoids t vs
     → walk_cost (exchange_arc firms trades on) u vs t ≡ Some c → s.two.entering ≤ℤ (s.two.number u +ℤ c)
-walk_low firms trades on t s u [] c avoids is = s.two.enters u c is
+walk_low firms trades on t s u [] c avoids is = s.two.keeps.enters u c is
 walk_low firms trades on t s u (v ∷ vs) c avoids is =
     let parts = walk_parts (exchange_arc firms trades on) u v vs t c is in
-    let first = s.two.keeps u v parts.first (All-head (λ x. x ≢ t) v vs avoids) parts.first_is in
+    let first = s.two.keeps.others u v parts.first (All-head (λ x. x ≢ t) v vs avoids) parts.first_is in
     let rest = walk_low firms trades on t s v vs parts.second (All-tail (λ x. x ≢ t) v vs avoids) parts.second_is in
     let sum = parts.sum_is in
     omega (arith, ints, first, rest, sum)
@@ -381,7 +381,7 @@ walk_legs firms trades on t s u (v ∷ vs) c avoids is equal =
     let parts = walk_parts (exchange_arc firms trades on) u v vs t c is in
     let other = All-head (λ x. x ≢ t) v vs avoids in
     let later = All-tail (λ x. x ≢ t) v vs avoids in
-    let first = s.two.keeps u v parts.first other parts.first_is in
+    let first = s.two.keeps.others u v parts.first other parts.first_is in
     let low = walk_low firms trades on t s v vs parts.second later parts.second_is in
     let sum = parts.sum_is in
     let leg = arc_leg firms trades on t s u v parts.first parts.first_is

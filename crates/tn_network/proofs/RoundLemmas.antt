@@ -19,10 +19,10 @@ use Rattle.tn_plain_data.specs.Network.{own, part, IsNetwork}
 use Rattle.tn_market.specs.Equilibrium.{prices_at, IsEquilibrium}
 use Rattle.tn_market.specs.Graph.{exchange_arc, ArePossible}
 use Rattle.tn_market.proofs.GraphLemmas.{arc_within, has-part}
-use Rattle.tn_network.specs.Laws.{MeetExchange, price_of_node}
+use Rattle.tn_network.specs.Laws.{MeetExchange}
 use Rattle.tn_network.specs.Along.{along}
-use Rattle.tn_network.proofs.SupportLemmas.{arcs_from_supports}
-use Rattle.tn_network.proofs.SplitLemmas.{TwoNumbers, two_numbers}
+use Rattle.tn_network.proofs.SupportLemmas.{arcs_from_supports, labels_keep}
+use Rattle.tn_network.proofs.SplitLemmas.{TwoNumbers, one_number, two_numbers}
 use Rattle.tn_network.proofs.LegLemmas.{Setting, number_in, number_in-t, number_in-other, place_price, priced, AtFirm, at_firm, Leg, IsTightPath, first_return, walk_low, walk_legs}
 use Rattle.tn_network.proofs.ShortcutLemmas.{IsShortest, shifts_at, best_after}
 use Rattle.tn_network.proofs.AlongLemmas.{turns, has-along, member_along}
@@ -42,43 +42,38 @@ arcs_between firms trades on u v c is = let ends = arc_within firms trades on u 
 
 pub no_cycle : (firms : List Firm) (trades : List Ends) (on t : ℕ) → t < length trades → (numbers : ℕ → ℤ) → KeepsArcsOff t (exchange_arc firms trades on) numbers
     → CyclesCostAtLeast (exchange_arc firms trades on) t (pos 0) → HasNumbers (exchange_arc firms trades on)
-no_cycle firms trades on t inside numbers keeps least = (two.number, kept)
+no_cycle firms trades on t inside numbers keeps least = (two.number, one_number (exchange_arc firms trades on) t two.entering two.number two.keeps (let gap = two.gap in omega (arith, ints, gap)))
   where
     two : TwoNumbers t (pos 0) (exchange_arc firms trades on)
     two = two_numbers (suc (length trades)) t (pos 0) (exchange_arc firms trades on) (arcs_between firms trades on) (omega (arith, inside)) numbers keeps
         (λ vs c avoids walk. let l = least vs c avoids walk in omega (arith, ints, l))
 
-    kept : KeepsArcs (exchange_arc firms trades on) two.number
-    kept u v c is = elim (cases_eq v t) [
-      | inl e ↦
-          let enters = two.enters u c (ap (exchange_arc firms trades on u) (sym e) ∙ is) in
-          let gap = two.gap in
-          let here = ap two.number e in
-          omega (arith, ints, enters, gap, here)
-      | inr other ↦ two.keeps u v c other is
-    ]
-
 -- ---- along a least cycle through t
 
--- a least cycle through t, whatever it costs, and numbers off t
+-- two numbers for t, from numbers off it: they differ by what a least cycle through it costs
+pub two_from_off : (firms : List Firm) (trades : List Ends) (on t : ℕ) (vs : List ℕ) (cost : ℤ) → t < length trades → (numbers : ℕ → ℤ) → KeepsArcsOff t (exchange_arc firms trades on) numbers
+    → IsLeastCycle (exchange_arc firms trades on) t vs cost → TwoNumbers t (neg_ℤ cost) (exchange_arc firms trades on)
+two_from_off firms trades on t vs cost inside numbers keeps cycle =
+    two_numbers (suc (length trades)) t (neg_ℤ cost) (exchange_arc firms trades on) (arcs_between firms trades on) (omega (arith, inside)) numbers keeps
+    (λ ws c avoids walk. let l = cycle.least ws c avoids walk in omega (arith, ints, l))
+
+-- a least cycle through t, whatever it costs, and two numbers for t
 pub record IsRound (firms : List Firm) (trades : List Ends) (on t : ℕ) (vs : List ℕ) (cost : ℤ) : Type 0 where
   pub network : IsNetwork firms trades
   pub meet : MeetExchange firms
   pub possible : ArePossible firms trades on
   pub inside : t < length trades
-  pub numbers : ℕ → ℤ
-  pub keeps : KeepsArcsOff t (exchange_arc firms trades on) numbers
+  pub two : TwoNumbers t (neg_ℤ cost) (exchange_arc firms trades on)
   pub cycle : IsLeastCycle (exchange_arc firms trades on) t vs cost
 
-pub setting : (firms : List Firm) (trades : List Ends) (on t : ℕ) (vs : List ℕ) (cost : ℤ) → IsRound firms trades on t vs cost → Setting firms trades on t
+unfoldable pub setting : (firms : List Firm) (trades : List Ends) (on t : ℕ) (vs : List ℕ) (cost : ℤ) → IsRound firms trades on t vs cost → Setting firms trades on t
 setting firms trades on t vs cost round = record {
   network = round.network;
   meet = round.meet;
   possible = round.possible;
   inside = round.inside;
   gain = neg_ℤ cost;
-  two = two_numbers (suc (length trades)) t (neg_ℤ cost) (exchange_arc firms trades on) (arcs_between firms trades on) (let h = round.inside in omega (arith, h)) round.numbers round.keeps
-      (λ ws c avoids walk. let l = round.cycle.least ws c avoids walk in omega (arith, ints, l));
+  two = round.two;
 }
 
 -- the inner nodes of a cycle avoid its first one
@@ -249,15 +244,12 @@ favours firms trades on t vs s turn joined avoids f firm is k inside =
 
 -- the set along the cycle is an equilibrium at the new prices
 pub round_equilibrium : (firms : List Firm) (trades : List Ends) (on t : ℕ) (vs : List ℕ) (cost : ℤ) (round : IsRound firms trades on t vs cost) → cost ≤ℤ pos 0
-    → (prices : ℕ → ℤ) × IsEquilibrium firms trades (pos 1) (along (length trades) on (t ∷ vs)) prices
-round_equilibrium firms trades on t vs cost round gains = (
-  new_price s,
-  λ f firm is.
-      let best = best_turned firms trades on t vs s (turned firms trades on t vs cost round) f firm is in
-      favoured_best (pos 1) firm (payments firm.buys (prices_at trades (new_price s) f)) (payments firm.buys (place_price s f firm))
-      (part trades f firm.count (along (length trades) on (t ∷ vs))) best.0 best.1
-      (favours firms trades on t vs s (turned firms trades on t vs cost round) joined (cycle_avoids t vs round.cycle.cycle.different) f firm is),
-)
+    → IsEquilibrium firms trades (pos 1) (along (length trades) on (t ∷ vs)) (new_price (setting firms trades on t vs cost round))
+round_equilibrium firms trades on t vs cost round gains f firm is =
+    let best = best_turned firms trades on t vs s (turned firms trades on t vs cost round) f firm is in
+    favoured_best (pos 1) firm (payments firm.buys (prices_at trades (new_price s) f)) (payments firm.buys (place_price s f firm))
+    (part trades f firm.count (along (length trades) on (t ∷ vs))) best.0 best.1
+    (favours firms trades on t vs s (turned firms trades on t vs cost round) joined (cycle_avoids t vs round.cycle.cycle.different) f firm is)
   where
     s : Setting firms trades on t
     s = setting firms trades on t vs cost round
@@ -276,11 +268,19 @@ equilibrium_possible firms trades on prices equilibrium f firm is =
     some (Some b) a e = refl
     some None a e = absurd (cc e)
 
--- one cycle keeps what the next round needs: possible bundles, and numbers that keep every arc
-pub one_cycle : (firms : List Firm) (trades : List Ends) (on t : ℕ) (vs : List ℕ) (cost : ℤ) → IsRound firms trades on t vs cost → cost ≤ℤ pos 0
-    → ArePossible firms trades (along (length trades) on (t ∷ vs)) × HasNumbers (exchange_arc firms trades (along (length trades) on (t ∷ vs)))
+-- the numbers less null's being prices of an equilibrium, they keep every arc at it
+pub numbers_keep : (firms : List Firm) (trades : List Ends) → IsNetwork firms trades → (on : ℕ) (number : ℕ → ℤ) → IsEquilibrium firms trades (pos 1) on (λ u. number u -ℤ number (length trades))
+    → KeepsArcs (exchange_arc firms trades on) number
+numbers_keep firms trades network on number equilibrium =
+    labels_keep firms trades network on number (arcs_from_supports firms trades on (λ u. number u -ℤ number (length trades)) network equilibrium)
+
+-- one cycle keeps what the next round needs: possible bundles, and the numbers, of which that of the trade's begin is its
+-- only one now
+pub one_cycle : (firms : List Firm) (trades : List Ends) (on t : ℕ) (vs : List ℕ) (cost : ℤ) (round : IsRound firms trades on t vs cost) → cost ≤ℤ pos 0
+    → ArePossible firms trades (along (length trades) on (t ∷ vs)) × KeepsArcs (exchange_arc firms trades (along (length trades) on (t ∷ vs))) round.two.number
+unfolding setting
 one_cycle firms trades on t vs cost round gains =
     let found = round_equilibrium firms trades on t vs cost round gains in (
-      equilibrium_possible firms trades (along (length trades) on (t ∷ vs)) found.0 found.1,
-      (price_of_node (length trades) found.0, arcs_from_supports firms trades (along (length trades) on (t ∷ vs)) found.0 round.network found.1),
+      equilibrium_possible firms trades (along (length trades) on (t ∷ vs)) (new_price (setting firms trades on t vs cost round)) found,
+      numbers_keep firms trades round.network (along (length trades) on (t ∷ vs)) round.two.number found,
     )

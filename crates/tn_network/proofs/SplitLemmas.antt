@@ -9,7 +9,7 @@ use Rattle.std.proofs.lemmas.Option.{same_Some}
 use Rattle.std.proofs.lemmas.Int.{ints}
 use Rattle.std.proofs.lemmas.List.Elements.{All-head, All-tail, All-cons, All-push}
 use Rattle.tn_base.specs.Arcs.{AreBetweenNodes}
-use Rattle.tn_base.specs.Walks.{walk_cost, Avoids, CyclesCostAtLeast}
+use Rattle.tn_base.specs.Walks.{walk_cost, Avoids, CyclesCostAtLeast, KeepsArcs, KeepsArcsEntering}
 use Rattle.tn_base.proofs.WalkLemmas.{walk_parts, walk-joined}
 use Rattle.tn_law.proofs.LabelLemmas.{labels_or_cycle}
 
@@ -209,9 +209,18 @@ closed n t d arc graph u vs c is = elim (cases_eq u t) [
 pub record TwoNumbers (t : ℕ) (d : ℤ) (arc : ℕ → ℕ → Option ℤ) : Type 0 where
   pub number : ℕ → ℤ
   pub entering : ℤ
-  pub keeps : (u v : ℕ) (c : ℤ) → v ≢ t → arc u v ≡ Some c → number v ≤ℤ (number u +ℤ c)
-  pub enters : (u : ℕ) (c : ℤ) → arc u t ≡ Some c → entering ≤ℤ (number u +ℤ c)
+  pub keeps : KeepsArcsEntering arc t entering number
   pub gap : number t ≤ℤ (entering +ℤ d)
+
+-- where what enters t has no lower number than what leaves it, one number for it keeps every arc
+pub one_number : (arc : ℕ → ℕ → Option ℤ) (t : ℕ) (entering : ℤ) (number : ℕ → ℤ) → KeepsArcsEntering arc t entering number → number t ≤ℤ entering → KeepsArcs arc number
+one_number arc t entering number keeps gap u v c is = elim (cases_eq v t) [
+  | inl e ↦
+      let enters = keeps.enters u c (ap (arc u) (sym e) ∙ is) in
+      let here = ap number e in
+      omega (arith, ints, enters, gap, here)
+  | inr other ↦ keeps.others u v c other is
+]
 
 -- where some numbers keep the arcs that don't touch t, and no cycle through t gains more than d
 pub two_numbers : (n t : ℕ) (d : ℤ) (arc : ℕ → ℕ → Option ℤ) → AreBetweenNodes n arc → t < n → (numbers : ℕ → ℤ)
@@ -220,9 +229,11 @@ two_numbers n t d arc nodes inside numbers keeps least = elim (labels_or_cycle (
   | inl found ↦ record {
     number = found.0;
     entering = found.0 n;
-    keeps = λ u v c other is. let ends = nodes u v c is in
-        found.1 u v c (split_old n t u v d arc (below u ends.0) (below v ends.1) other ∙ is);
-    enters = λ u c is. let ends = nodes u t c is in found.1 u n c (split_to_n n t u d arc (below u ends.0) ∙ is);
+    keeps = record {
+      others = λ u v c other is. let ends = nodes u v c is in
+          found.1 u v c (split_old n t u v d arc (below u ends.0) (below v ends.1) other ∙ is);
+      enters = λ u c is. let ends = nodes u t c is in found.1 u n c (split_to_n n t u d arc (below u ends.0) ∙ is);
+    };
     gap = found.1 n t d (split_gap n t d arc);
   }
   | inr cycle ↦ absurd (let none = closed n t d arc graph cycle.node cycle.inner cycle.cost cycle.walk in let negative = cycle.negative in omega (arith, ints, none, negative))

@@ -348,6 +348,16 @@ prices_keep firms trades network on label keeps =
     keeps_from_one (exchange_arc firms trades on) (price_of_node (length trades) (λ t. label t -ℤ label (length trades)))
     (prices_keep_at firms trades (pos 1) on label (keeps_at_one (exchange_arc firms trades on) label keeps))
 
+-- and where they do, so do the numbers
+pub labels_keep : (firms : List Firm) (trades : List Ends) → IsNetwork firms trades → (on : ℕ) (label : ℕ → ℤ)
+    → KeepsArcs (exchange_arc firms trades on) (price_of_node (length trades) (λ t. label t -ℤ label (length trades))) → KeepsArcs (exchange_arc firms trades on) label
+labels_keep firms trades network on label keeps u v cost is =
+    let inside = arc_within firms trades on u v cost is in
+    shift _ _ (label u) (label v) (label (length trades)) cost (less_null (length trades) label u inside.0) (less_null (length trades) label v inside.1) (keeps u v cost is)
+  where
+    shift : (pu pv lu lv ln cost : ℤ) → pu ≡ lu -ℤ ln → pv ≡ lv -ℤ ln → pv ≤ℤ (pu +ℤ cost) → lv ≤ℤ (lu +ℤ cost)
+    shift pu pv lu lv ln cost u v kept = omega (arith, ints, u, v, kept)
+
 pub labels_are_supports : (firms : List Firm) (trades : List Ends) (on : ℕ) (label : ℕ → ℤ) → IsNetwork firms trades → MeetExchange firms
     → ArePossible firms trades on → KeepsArcs (exchange_arc firms trades on) label
     → IsEquilibrium firms trades (pos 1) on (λ t. label t -ℤ label (length trades))
