@@ -1,28 +1,32 @@
 -- What a round of the solver keeps.
-use Rattle.std.proofs.Common.{◌≡◌, ◌≢◌, not, ◌&&◌, nat_lt, ap₂, inl, inr, ◌⊎◌, ℕ, suc, ◌+◌, ◌-◌, ◌*◌, ◌<◌, ◌≤◌, Bool, true, false, ◌==◌, ltb, refl, sym, ap, ◌∙◌, subst, arith, if◌then◌else◌, ℤ, pos, List, [], ◌∷◌, ◌++◌, length, map, take, slice_get, Some}
+use Rattle.std.proofs.Common.{◌≡◌, ◌≢◌, not, ◌&&◌, nat_lt, ap₂, inl, inr, ◌⊎◌, ℕ, suc, ◌+◌, ◌-◌, ◌*◌, ◌<◌, ◌≤◌, Bool, true, false, ◌==◌, ltb, refl, sym, ap, ◌∙◌, subst, arith, if◌then◌else◌, ℤ, pos, ◌+ℤ◌, ◌≤ℤ◌, List, [], ◌∷◌, ◌++◌, length, map, take, slice_get, Some}
 use Rattle.std.proofs.lemmas.Int.{ints}
 use Rattle.std.proofs.lemmas.Bool.{cases_eq, cases_lt, lt-ltb, le-ltb}
+use Rattle.std.proofs.lemmas.Nat.{mul-le}
 use Rattle.tn_base.proofs.SetLemmas.{has-zero, has-toggle_same, has-toggle_other, same_set}
 use Rattle.std.proofs.Math.Seq.{take-suc}
 use Rattle.std.proofs.lemmas.Option.{get_or_from_slice_get}
 use Rattle.tn_base.specs.Sets.{has, toggle}
 use Rattle.tn_base.specs.Firm.{Firm, MayAbstain}
-use Rattle.tn_base.specs.Walks.{walk_cost, arcs_among, is_admitted, is_looked_at, HasNoNegativeCycle}
-use Rattle.tn_base.proofs.WalkLemmas.{SameArcs, walk-same, least_cycle-same, cycles-same, none_negative-same, among-same}
+use Rattle.tn_base.specs.Walks.{arcs_among, is_admitted, is_looked_at, KeepsArcs, KeepsArcsEntering}
+use Rattle.tn_base.proofs.WalkLemmas.{SameArcs, least_cycle-same, cycles-same, among-same}
 use Rattle.tn_plain_data.specs.declared.ends.Ends.{Ends}
 use Rattle.tn_plain_data.specs.Network.{part, IsNetwork}
 use Rattle.tn_market.specs.Graph.{exchange_arc, graph_worths, ArePossible}
+use Rattle.tn_market.specs.Widths.{most_market_trades}
 use Rattle.tn_graph.specs.Matrix.{Matrix, arcs_of}
 use Rattle.tn_graph.specs.Reading.{changed_worths_from}
 use Rattle.tn_cycle.specs.Reading.{Reading}
-use Rattle.tn_cycle.specs.Answers.{AnswersCycle, AreLabels, IsNegative}
+use Rattle.tn_cycle.specs.Answers.{AnswersCycle, AreLabels, AreNear, cost_of, label_in}
+use Rattle.tn_cycle.specs.Widths.{label_step, most_label}
 use Rattle.tn_cycle.specs.declared.answer.Path.{Path}
 use Rattle.tn_cycle.specs.declared.answer.Path.TheVariants as path
 use Rattle.tn_network.specs.Laws.{MeetExchange}
 use Rattle.tn_network.specs.Kept.{IsKept}
 use Rattle.tn_network.specs.Rounds.{arcs_with}
-use Rattle.tn_network.proofs.KeptLemmas.{one_cycle_for_each_trade}
-use Rattle.tn_flow.specs.Underway.{AreUnderWay, IsNext, AreAdmittedBelow}
+use Rattle.tn_network.proofs.SplitLemmas.{one_number}
+use Rattle.tn_network.proofs.KeptLemmas.{keeps-same, entering-same, one_cycle_for_each_trade}
+use Rattle.tn_flow.specs.Underway.{AreKept, AreUnderWay, IsNext, AreAdmittedBelow}
 use Rattle.tn_network.specs.Along.{along}
 use Rattle.tn_network.proofs.AlongLemmas.{along-push}
 use Rattle.tn_cycle.proofs.DifferenceLemmas.{labels-same}
@@ -52,39 +56,65 @@ possible_at firms trades on kept none = subst (ArePossible firms trades) (sym no
 pub kept_at : (firms : List Firm) (trades : List Ends) (allowed on : ℕ) → IsKept firms trades 0 0 → allowed ≡ 0 → on ≡ 0 → IsKept firms trades allowed on
 kept_at firms trades allowed on kept first second = subst (λ (x : ℕ). IsKept firms trades x on) (sym first) (subst (IsKept firms trades 0) (sym second) kept)
 
+-- labels keep the arcs among no trade, of which there is none
+pub labels_at : (firms : List Firm) (trades : List Ends) (allowed on : ℕ) (labels : List ℤ) → IsNetwork firms trades → allowed ≡ 0 → on ≡ 0 → length labels ≡ length trades + 1
+    → AreKept firms trades allowed on labels
+labels_at firms trades allowed on labels network none none_on counted =
+    subst (λ (x : ℕ). AreKept firms trades x on labels) (sym none) (subst (λ (x : ℕ). AreKept firms trades 0 x labels) (sym none_on)
+    (record { one_each = counted; keeps = one_cycle_for_each_trade.start_labels firms trades network (label_in labels) }))
+
 -- ---- a search
 
+pub last_node : (nodes count : ℕ) → nodes ≡ count + 1 → nodes - 1 ≡ count
+last_node nodes count e = omega (arith, e)
+
 -- what the search asks for
-pub search_asks : (firms : List Firm) (trades : List Ends) (graph : Matrix) (finder : Reading) (allowed on : ℕ) → AreUnderWay firms trades graph finder allowed on
-    → HasNoNegativeCycle (arcs_among (is_admitted (finder.nodes - 1) allowed) (arcs_of graph))
-search_asks firms trades graph finder allowed on way =
-    subst (λ (n : ℕ). HasNoNegativeCycle (arcs_among (is_admitted n allowed) (arcs_of graph))) (sym (last finder.nodes way.sized))
-    (none_negative-same _ _ (among-same (is_admitted (length trades) allowed) (arcs_of graph) (exchange_arc firms trades on) way.arcs.arcs) way.kept.no_cycle)
-  where
-    last : (n : ℕ) → n ≡ length trades + 1 → n - 1 ≡ length trades
-    last n e = omega (arith, e)
+pub search_asks : (firms : List Firm) (trades : List Ends) (graph : Matrix) (finder : Reading) (allowed on null : ℕ) → AreUnderWay firms trades graph finder allowed on → null ≡ length trades
+    → KeepsArcs (arcs_among (is_admitted null allowed) (arcs_of graph)) (label_in finder.labels)
+search_asks firms trades graph finder allowed on null way same =
+    subst (λ (n : ℕ). KeepsArcs (arcs_among (is_admitted n allowed) (arcs_of graph)) (label_in finder.labels)) (sym same)
+    (keeps-same _ _ (among-same (is_admitted (length trades) allowed) (arcs_of graph) (exchange_arc firms trades on) way.arcs.arcs) (label_in finder.labels) way.labels.keeps)
 
--- what it answers
-pub search_answers : (firms : List Firm) (trades : List Ends) (graph : Matrix) (finder : Reading) (allowed on t : ℕ) (listed : List ℕ) (answer : Path) → IsNetwork firms trades → MeetExchange firms
+-- what it answers, with the labels that it leaves
+pub search_answers : (firms : List Firm) (trades : List Ends) (graph : Matrix) (finder : Reading) (allowed on t : ℕ) (after : Reading) (answer : Path) → IsNetwork firms trades → MeetExchange firms
     → AreUnderWay firms trades graph finder allowed on → t < length trades → has allowed t ≡ false
-    → AnswersCycle (arcs_among (is_looked_at (finder.nodes - 1) t allowed) (arcs_of graph)) t listed answer → IsNext firms trades allowed on t listed answer
-search_answers firms trades graph finder allowed on t listed answer network meet way below out found =
-    by answer (subst (λ (n : ℕ). AnswersCycle (arcs_among (is_looked_at n t allowed) (arcs_of graph)) t listed answer) (last finder.nodes way.sized) found)
+    → AnswersCycle (arcs_among (is_looked_at (finder.nodes - 1) t allowed) (arcs_of graph)) t after.listed answer → length after.labels ≡ finder.nodes
+    → KeepsArcsEntering (arcs_among (is_looked_at (finder.nodes - 1) t allowed) (arcs_of graph)) t (label_in after.labels t +ℤ cost_of answer) (label_in after.labels)
+    → IsNext firms trades allowed on t after answer
+search_answers firms trades graph finder allowed on t after answer network meet way below out found sized keeps =
+    by answer (subst (λ (n : ℕ). AnswersCycle (arcs_among (is_looked_at n t allowed) (arcs_of graph)) t after.listed answer) (last_node finder.nodes (length trades) way.sized) found)
+    (entering-same _ _ same t (label_in after.labels t +ℤ cost_of answer) (label_in after.labels)
+    (subst (λ (n : ℕ). KeepsArcsEntering (arcs_among (is_looked_at n t allowed) (arcs_of graph)) t (label_in after.labels t +ℤ cost_of answer) (label_in after.labels))
+    (last_node finder.nodes (length trades) way.sized) keeps))
   where
-    last : (n : ℕ) → n ≡ length trades + 1 → n - 1 ≡ length trades
-    last n e = omega (arith, e)
-
     same : SameArcs (arcs_with firms trades allowed on t) (arcs_among (is_looked_at (length trades) t allowed) (arcs_of graph))
     same u v = sym (among-same (is_looked_at (length trades) t allowed) (arcs_of graph) (exchange_arc firms trades on) way.arcs.arcs u v)
 
-    by : (a : Path) → AnswersCycle (arcs_among (is_looked_at (length trades) t allowed) (arcs_of graph)) t listed a → IsNext firms trades allowed on t listed a
-    by path.None none = one_cycle_for_each_trade.still firms trades allowed on t network meet way.kept below out (cycles-same _ _ same t (pos 0) none.0)
-    by (path.Cycle cost count) cycle = (
-      cycle.counted,
-      subst (λ (ls : List ℕ). IsKept firms trades (toggle allowed t) (along (length trades) on ls)) (sym cycle.nodes_are)
-          (one_cycle_for_each_trade.turned firms trades allowed on t network meet way.kept below out cycle.rest cost
-          (least_cycle-same _ _ same t cycle.rest cost cycle.least) (let n = cycle.negative in omega (arith, ints, n))),
+    one_each : length after.labels ≡ length trades + 1
+    one_each = sized ∙ way.sized
+
+    by : (a : Path) → AnswersCycle (arcs_among (is_looked_at (length trades) t allowed) (arcs_of graph)) t after.listed a
+        → KeepsArcsEntering (arcs_with firms trades allowed on t) t (label_in after.labels t +ℤ cost_of a) (label_in after.labels) → IsNext firms trades allowed on t after a
+    by path.None none kept = (
+      one_cycle_for_each_trade.still firms trades allowed on t network meet way.kept below out (cycles-same _ _ same t (pos 0) none.0),
+      record {
+        one_each = one_each;
+        keeps = one_cycle_for_each_trade.kept firms trades allowed on t out (label_in after.labels)
+            (one_number (arcs_with firms trades allowed on t) t (label_in after.labels t +ℤ pos 0) (label_in after.labels) kept (omega (arith, ints)));
+      },
     )
+    by (path.Cycle cost count) cycle kept =
+        let least = least_cycle-same _ _ same t cycle.rest cost cycle.least in
+        let gains : cost ≤ℤ pos 0 = let n = cycle.negative in omega (arith, ints, n) in
+        let next = subst (λ (ls : List ℕ). IsKept firms trades (toggle allowed t) (along (length trades) on ls) × AreKept firms trades (toggle allowed t) (along (length trades) on ls) after.labels)
+        (sym cycle.nodes_are) (
+          one_cycle_for_each_trade.turned firms trades allowed on t network meet way.kept below out cycle.rest cost least gains,
+          record {
+            one_each = one_each;
+            keeps = one_cycle_for_each_trade.turned_labels firms trades allowed on t network meet way.kept below out cycle.rest cost (label_in after.labels) least gains kept;
+          },
+        ) in
+        (cycle.counted, next.0, next.1)
 
 -- at most as many worths are asked anew as in all
 pub changed_le : (trades : List Ends) (before on f : ℕ) (firms : List Firm) → changed_worths_from trades before on f firms ≤ graph_worths firms
@@ -113,17 +143,23 @@ settled_labels firms trades graph finder allowed on count labels way counted are
     (subst (λ (n : ℕ). AreLabels n (arcs_among (is_admitted (length trades) allowed) (arcs_of graph)) labels) way.sized
     (subst (λ (m : ℕ). AreLabels finder.nodes (arcs_among (is_admitted m allowed) (arcs_of graph)) labels) counted are))
 
--- and none of them is on a negative cycle
-pub none_negative : (firms : List Firm) (trades : List Ends) (graph : Matrix) (finder : Reading) (allowed on count : ℕ) (listed : List ℕ) (cost : ℤ) (arcs : ℕ) → AreUnderWay firms trades graph finder allowed on
-    → count ≡ length trades → IsNegative finder.nodes (arcs_among (is_admitted count allowed) (arcs_of graph)) listed cost arcs → ⊥
-none_negative firms trades graph finder allowed on count listed cost arcs way counted negative =
-    let walk = negative.cycle.walk in
-    let same = admitted_same firms trades graph finder allowed on way in
-    let least = way.kept.no_cycle negative.first negative.rest cost
-    (walk-same _ _ same negative.first negative.rest negative.first
-    ∙ ap (λ (m : ℕ). walk_cost (arcs_among (is_admitted m allowed) (arcs_of graph)) negative.first negative.rest negative.first) (sym counted) ∙ walk) in
-    let below = negative.negative in
-    omega (arith, ints, least, below)
+-- ---- how far labels go
+
+pub near-wider : (reach more : ℕ) (labels : List ℤ) → reach ≤ more → AreNear reach labels → AreNear more labels
+near-wider reach more labels within near v below =
+    let one = near v below in
+    let low = one.low in
+    let high = one.high in
+    record { low = omega (arith, ints, within, low); high = omega (arith, ints, within, high) }
+
+-- after a round for each of some trades they are far from the limits of their type
+pub rounds_near : (t count : ℕ) (labels : List ℤ) → t ≤ count → count ≤ most_market_trades → AreNear (t * label_step (count + 1)) labels → AreNear most_label labels
+rounds_near t count labels within few = near-wider (t * label_step (count + 1)) most_label labels
+    (let first : t * label_step (count + 1) ≤ most_market_trades * label_step (count + 1) = mul-le t (label_step (count + 1)) most_market_trades (label_step (count + 1)) (omega (arith, within, few)) (omega arith) in
+    omega (arith, first, few))
+
+pub near-next : (t step : ℕ) (labels : List ℤ) → AreNear (t * step + step) labels → AreNear ((t + 1) * step) labels
+near-next t step labels near = subst (λ (n : ℕ). AreNear n labels) (let e : t * step + step ≡ (t + 1) * step = grind arith in e) near
 
 -- ---- one trade after another
 

@@ -1,11 +1,14 @@
 -- Where the rounds of a solver stand.
-use Rattle.std.specs.Prelude.{◌≡◌, ℕ, ◌+◌, nat_lt, ◌&&◌, List, length}
+use Rattle.std.specs.Prelude.{◌≡◌, ℕ, ◌+◌, nat_lt, ◌&&◌, ℤ, List, length}
 use Rattle.tn_base.specs.Firm.{Firm}
 use Rattle.tn_base.specs.Sets.{has, toggle}
+use Rattle.tn_base.specs.Walks.{arcs_among, is_admitted, KeepsArcs}
 use Rattle.tn_plain_data.specs.declared.ends.Ends.{Ends}
+use Rattle.tn_market.specs.Graph.{exchange_arc}
 use Rattle.tn_graph.specs.Matrix.{Matrix}
 use Rattle.tn_graph.specs.Reading.{IsExchangeGraph}
 use Rattle.tn_cycle.specs.Reading.{Reading}
+use Rattle.tn_cycle.specs.Answers.{label_in}
 use Rattle.tn_cycle.specs.declared.answer.Path.{Path}
 use Rattle.tn_cycle.specs.declared.answer.Path.TheVariants as path
 use Rattle.tn_network.specs.Along.{along}
@@ -16,16 +19,26 @@ pub record HaveRoom (count : ℕ) (graph : Matrix) (finder : Reading) : Type 0 w
   pub graph_sized : graph.nodes ≡ count + 1
   pub finder_sized : finder.nodes ≡ count + 1
 
--- the graph is the exchange graph at the set that is on, and the set is what a round leaves with the admitted trades
+-- a label for each trade and null, which keep the arcs among the admitted trades and null
+pub record AreKept (firms : List Firm) (trades : List Ends) (allowed on : ℕ) (labels : List ℤ) : Type 0 where
+  pub one_each : length labels ≡ length trades + 1
+  pub keeps : KeepsArcs (arcs_among (is_admitted (length trades) allowed) (exchange_arc firms trades on)) (label_in labels)
+
+-- the graph is the exchange graph at the set that is on, the set is what a round leaves with the admitted trades, and so
+-- are the labels
 pub record AreUnderWay (firms : List Firm) (trades : List Ends) (graph : Matrix) (finder : Reading) (allowed on : ℕ) : Type 0 where
   pub arcs : IsExchangeGraph firms trades on graph
   pub sized : finder.nodes ≡ length trades + 1
   pub kept : IsKept firms trades allowed on
+  pub labels : AreKept firms trades allowed on finder.labels
 
--- what follows from the answer of a search: the set with the trade admitted, as it is or along the listed cycle
-abbrev pub IsNext : List Firm → List Ends → ℕ → ℕ → ℕ → List ℕ → Path → Type 0
-IsNext firms trades allowed on t listed path.None = IsKept firms trades (toggle allowed t) on
-IsNext firms trades allowed on t listed (path.Cycle cost count) = (count ≡ length listed) × IsKept firms trades (toggle allowed t) (along (length trades) on listed)
+-- what follows from the answer of a search: the set with the trade admitted, as it is or along the listed cycle, and the
+-- labels that the search leaves
+abbrev pub IsNext : List Firm → List Ends → ℕ → ℕ → ℕ → Reading → Path → Type 0
+IsNext firms trades allowed on t finder path.None = IsKept firms trades (toggle allowed t) on × AreKept firms trades (toggle allowed t) on finder.labels
+IsNext firms trades allowed on t finder (path.Cycle cost count) =
+    (count ≡ length finder.listed) × IsKept firms trades (toggle allowed t) (along (length trades) on finder.listed)
+    × AreKept firms trades (toggle allowed t) (along (length trades) on finder.listed) finder.labels
 
 -- the admitted trades are those of a set that are below t
 abbrev pub AreAdmittedBelow : ℕ → ℕ → ℕ → Type 0

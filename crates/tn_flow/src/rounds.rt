@@ -1,10 +1,14 @@
 //! The rounds of a solver: trades are admitted one after another, and after each the set that is on is an equilibrium's.
+//!
+//! Labels are kept beside the set: numbers of the admitted trades and null that keep the arcs among them. They say most
+//! new trades' prices at once, and where they don't, the search for a cycle goes by them.
 
 ghost use Rattle.std.specs.Prelude.{◌≡◌, ℕ, ◌+◌, ◌*◌, ◌≤◌, ◌<◌, ltb, true, false, if◌then◌else◌, length, map, slice_get, IfOk};
 ghost use Rattle.tn_base.specs.Sets.{has, toggle};
 ghost use Rattle.tn_base.specs.Walks.{arcs_among, is_admitted};
 ghost use Rattle.tn_base.specs.Widths.{most_cost, most_limbs};
-ghost use Rattle.tn_cycle.specs.Answers.{AreLabels};
+ghost use Rattle.tn_cycle.specs.Answers.{AreLabels, AreNear};
+ghost use Rattle.tn_cycle.specs.Widths.{label_step, most_label};
 ghost use Rattle.tn_market.specs.Graph.{exchange_arc, graph_worths, ArePossible};
 ghost use Rattle.tn_market.specs.Widths.{most_market_trades};
 ghost use Rattle.tn_network.specs.Along.{along};
@@ -16,7 +20,7 @@ ghost use Rattle.tn_market.specs.NetworkOf.{network_of};
 
 use std::alloc::Global;
 use tn_base::{OutOfMemory, Steps, TradeSet};
-use tn_cycle::{Admitted, Finder, Labels, Path};
+use tn_cycle::{Admitted, Finder, Path};
 use tn_graph::Graph;
 use tn_market::{Market, Valuation};
 
@@ -25,7 +29,7 @@ use tn_market::{Market, Valuation};
 pub struct Rounds<const W: usize> {
     /// The exchange graph at the trades that are on.
     pub graph: Graph,
-    /// What searches it.
+    /// What searches it, with a label for each trade and null.
     pub finder: Finder,
     /// The trades that are admitted so far.
     pub allowed: TradeSet<W>,
@@ -70,7 +74,7 @@ impl<const W: usize> Rounds<W> {
         })
     }
 
-    /// Begins anew on a market: no trade is admitted, and none is on. It asks for at most a worth for each two places of
+    /// Begins anew on a market: no trade is admitted, none is on, and each label is 0. It asks for at most a worth for each two places of
     /// each firm. The market has at most `64 * W` trades, as many as the rounds were made for, and twice the bound of
     /// each firm is at most 10^18.
     pub fn begin<V: Valuation>(&mut self, market: &Market<V>, steps: &mut Steps<V::Mark>)
@@ -81,11 +85,13 @@ impl<const W: usize> Rounds<W> {
         ensures under_way { network_of V.firm market.now AreUnderWay self.new.graph self.new.finder self.new.allowed self.new.on }
         ensures none_admitted { self.new.allowed ≡ 0 }
         ensures none_on { self.new.on ≡ 0 }
+        ensures near { AreNear 0 self.new.finder.labels }
         ensures asked { steps.new ≤ steps.old + graph_worths (map V.firm market.now.firms) }
     {
         know(market);
         self.allowed = TradeSet::empty();
         self.on = TradeSet::empty();
+        self.finder.label_all();
         self.graph.fill(market, &self.on, steps);
     }
 
@@ -101,31 +107,36 @@ impl<const W: usize> Rounds<W> {
         }
     }
 
-    /// Looks for a cycle through a trade that is negative, over it, the admitted trades and null.
+    /// Looks for a cycle through a trade that is negative, over it, the admitted trades and null. The labels that it
+    /// leaves keep the arcs once the trade is admitted.
     fn find<V: Valuation>(&mut self, market: &Market<V>, t: u32) -> Path
         requires wide { length market.now.trades ≤ 64 * W }
         requires under_way { network_of V.firm market.now AreUnderWay self.old.graph self.old.finder self.old.allowed self.old.on }
         requires trade { t < length market.now.trades }
         requires out { has self.old.allowed t ≡ false }
+        requires near { AreNear most_label self.old.finder.labels }
         ensures rest { self.new ≡ record self.old { finder = self.new.finder } }
         ensures sized { self.new.finder.nodes ≡ self.old.finder.nodes }
-        ensures next { network_of V.firm market.now IsNext self.old.allowed self.old.on t self.new.finder.listed result }
+        ensures next { network_of V.firm market.now IsNext self.old.allowed self.old.on t self.new.finder result }
+        ensures near { (reach : ℕ) → AreNear reach self.old.finder.labels → AreNear (reach + label_step (length market.now.trades + 1)) self.new.finder.labels }
     {
         know(market);
         self.finder.through(&self.graph, t, &self.allowed)
     }
 
     /// Admits a trade: one round of the solver. Where a cycle of the exchange graph through it is negative, the trades are
-    /// toggled along one of least cost and then of least arcs. It asks for at most a worth for each two places of each
-    /// firm, and takes no memory. The rounds are under way on this market, and the trade is one of it that isn't
-    /// admitted.
+    /// toggled along one of least cost and then of least arcs; where none is, only labels change, and no worth is asked
+    /// for. It asks for at most a worth for each two places of each firm, and takes no memory. The rounds are under way on
+    /// this market, the trade is one of it that isn't admitted, and the labels are at most 10^26 in size.
     pub fn admit<V: Valuation>(&mut self, market: &Market<V>, t: u32, steps: &mut Steps<V::Mark>)
         requires wide { length market.now.trades ≤ 64 * W }
         requires small { (f : ℕ) (v : V) → slice_get market.now.firms f ≡ Some v → 2 * V.limit v ≤ most_cost }
         requires under_way { network_of V.firm market.now AreUnderWay self.old.graph self.old.finder self.old.allowed self.old.on }
         requires trade { t < length market.now.trades }
         requires out { has self.old.allowed t ≡ false }
+        requires near { AreNear most_label self.old.finder.labels }
         ensures under_way { network_of V.firm market.now AreUnderWay self.new.graph self.new.finder self.new.allowed self.new.on }
+        ensures near { (reach : ℕ) → AreNear reach self.old.finder.labels → AreNear (reach + label_step (length market.now.trades + 1)) self.new.finder.labels }
         ensures admitted { self.new.allowed ≡ toggle self.old.allowed t }
         ensures asked { steps.new ≤ steps.old + graph_worths (map V.firm market.now.firms) }
     {
@@ -151,7 +162,9 @@ impl<const W: usize> Rounds<W> {
         requires under_way { network_of V.firm market.now AreUnderWay self.old.graph self.old.finder self.old.allowed self.old.on }
         requires trade { t < length market.now.trades }
         requires out { has self.old.allowed t ≡ false }
+        requires near { AreNear most_label self.old.finder.labels }
         ensures under_way { network_of V.firm market.now AreUnderWay self.new.graph self.new.finder self.new.allowed self.new.on }
+        ensures near { (reach : ℕ) → AreNear reach self.old.finder.labels → AreNear (reach + label_step (length market.now.trades + 1)) self.new.finder.labels }
         ensures admitted { self.new.allowed ≡ (if wanted then toggle self.old.allowed t else self.old.allowed) }
         ensures asked { steps.new ≤ steps.old + graph_worths (map V.firm market.now.firms) }
     {
@@ -175,6 +188,7 @@ impl<const W: usize> Rounds<W> {
         requires small { (f : ℕ) (v : V) → slice_get market.now.firms f ≡ Some v → 2 * V.limit v ≤ most_cost }
         requires inside { (t : ℕ) → has admitted.now t ≡ true → t < length market.now.trades }
         ensures under_way { network_of V.firm market.now AreUnderWay self.new.graph self.new.finder self.new.allowed self.new.on }
+        ensures near { AreNear most_label self.new.finder.labels }
         ensures admitted { self.new.allowed ≡ admitted.now }
         ensures asked { steps.new ≤ steps.old + (length market.now.trades + 1) * graph_worths (map V.firm market.now.firms) }
     {
@@ -184,12 +198,13 @@ impl<const W: usize> Rounds<W> {
         }
     }
 
-    /// Numbers the admitted trades and null so that every arc among them is kept. The numbers less null's are prices at
-    /// which what is on is an equilibrium of the market that the admitted trades make. The rounds are under way on this
-    /// market.
+    /// Makes the labels what a search from nothing would find: no more than 0, and no further below it than a path may
+    /// cost. The labels less null's are prices at which what is on is an equilibrium of the market that the admitted
+    /// trades make. The rounds are under way on this market, and the labels are at most 10^26 in size.
     pub fn settle<V: Valuation>(&mut self, market: &Market<V>)
         requires wide { length market.now.trades ≤ 64 * W }
         requires under_way { network_of V.firm market.now AreUnderWay self.old.graph self.old.finder self.old.allowed self.old.on }
+        requires near { AreNear most_label self.old.finder.labels }
         ensures under_way { network_of V.firm market.now AreUnderWay self.new.graph self.new.finder self.new.allowed self.new.on }
         ensures admitted { self.new.allowed ≡ self.old.allowed }
         ensures on { self.new.on ≡ self.old.on }
@@ -201,9 +216,6 @@ impl<const W: usize> Rounds<W> {
             null: market.trades(),
             admitted: &self.allowed,
         };
-        match self.finder.labels(&admitted) {
-            Labels::Feasible => {}
-            Labels::Negative { .. } => unreachable!(),
-        }
+        self.finder.relabel(&admitted);
     }
 }
