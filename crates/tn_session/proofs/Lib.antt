@@ -1,3 +1,2 @@
 pub mod StandingLemmas
-pub mod LoweredLemmas
 pub mod LeavingLemmas

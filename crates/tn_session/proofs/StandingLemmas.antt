@@ -8,7 +8,7 @@ use Rattle.std.proofs.lemmas.List.FromFn.{get_or-map-range_with_len, length-map-
 use Rattle.tn_base.specs.Sets.{has, toggle}
 use Rattle.tn_base.proofs.SetLemmas.{has-toggle_same, has-toggle_other, toggle-toggle}
 use Rattle.tn_base.specs.Arcs.{IsAtMost}
-use Rattle.tn_base.specs.Firm.{Firm, HasOwnBundles, MayAbstain}
+use Rattle.tn_base.specs.Firm.{Firm, MayAbstain}
 use Rattle.tn_market.specs.Traded.{Traded}
 use Rattle.tn_plain_data.specs.Network.{IsNetwork}
 use Rattle.tn_market.specs.Lawful.{IsLawful}
@@ -16,20 +16,22 @@ use Rattle.tn_market.specs.Valued.{IsWorthAtMost}
 use Rattle.tn_plain_data.specs.Prices.{price_at}
 use Rattle.tn_graph.specs.Matrix.{Matrix}
 use Rattle.tn_cycle.specs.Reading.{Reading}
-use Rattle.tn_cycle.specs.Answers.{AreLabels, label_in}
+use Rattle.tn_cycle.specs.Answers.{AreLabels, AreNear, label_in}
 use Rattle.tn_base.specs.Walks.{arcs_among, is_admitted}
 use Rattle.tn_market.specs.Graph.{exchange_arc}
+use Rattle.tn_market.specs.Widths.{most_market_trades}
 use Rattle.tn_network.specs.Laws.{MeetExchange}
-use Rattle.tn_flow.specs.Underway.{AreUnderWay}
+use Rattle.tn_flow.specs.Underway.{AreKept, AreUnderWay}
 use Rattle.tn_network.proofs.EachLemmas.{each_firm, each_within, meet_all}
 use Rattle.tn_network.proofs.SupportLemmas.{arcs_small}
-use Rattle.tn_network.proofs.BarLemmas.{more_arcs, one_cycle_bars_a_trade}
+use Rattle.tn_network.proofs.BarLemmas.{one_cycle_bars_a_trade}
 use Rattle.tn_network.specs.Kept.{IsKept}
 use Rattle.tn_cycle.specs.GraphLemmas.{small-arcs_among}
+use Rattle.tn_flow.proofs.RoundLemmas.{near-wider}
 use Rattle.tn_flow.proofs.SolverLemmas.{small_bound, solution_from}
 use Rattle.tn_session.specs.Standing.{standing_of, differences, HoldsEquilibrium, HasSmallPrices, AreFirmsSmall, AreSettled, IsBound, IsSession}
 use Rattle.tn_session.specs.Widths.{most_path}
-use Rattle.tn_cycle.specs.Widths.{most_read}
+use Rattle.tn_cycle.specs.Widths.{label_step, most_label, most_read}
 use Rattle.tn_base.specs.Widths.{most_cost}
 
 -- ---- the firms of a market
@@ -85,29 +87,34 @@ one_each count labels = length-map-range_with_len (λ t. label_in labels t -ℤ 
 pub price-is : (count : ℕ) (labels : List ℤ) (t : ℕ) → t < count → price_at (differences count labels) t ≡ label_in labels t -ℤ label_in labels count
 price-is count labels t below = get_or-map-range_with_len (λ t. label_in labels t -ℤ label_in labels count) 0 count t t (pos 0) below (omega arith)
 
--- the numbers that the prices are made of are far from the limits of their type
-pub numbers_small : {V : Type 0} (firm_of : V → Firm) (limit_of : V → ℕ) (market : Traded V) (allowed on : ℕ) (numbers : List ℤ) → AreFirmsSmall limit_of market
-    → AreSettled firm_of limit_of market allowed on numbers → (t : ℕ) → t < length numbers → IsAtMost (label_in numbers t) most_read
-numbers_small firm_of limit_of market allowed on numbers small settled t below =
+-- the numbers that the prices are made of go no further than a path may cost
+pub numbers_near : {V : Type 0} (limit_of : V → ℕ) (market : Traded V) (numbers : List ℤ) → AreFirmsSmall limit_of market
+    → length numbers ≡ length market.trades + 1 → AreSettled limit_of market numbers → AreNear most_path numbers
+numbers_near limit_of market numbers small counted settled t below =
     let bound = small_bound_of limit_of market small in
-    let inside : t < length market.trades + 1 = subst (λ (n : ℕ). t < n) settled.one_each below in
+    let inside : t < length market.trades + 1 = subst (λ (n : ℕ). t < n) counted below in
     within bound.0 (length market.trades) bound.2 (settled.high t inside) (settled.low bound.0 t bound.1 inside)
   where
-    within : (bound count : ℕ) → 2 * bound * (count + 1) ≤ most_path → label_in numbers t ≤ℤ pos 0 → neg_ℤ (pos (2 * bound * count)) ≤ℤ label_in numbers t → IsAtMost (label_in numbers t) most_read
+    within : (bound count : ℕ) → 2 * bound * (count + 1) ≤ most_path → label_in numbers t ≤ℤ pos 0 → neg_ℤ (pos (2 * bound * count)) ≤ℤ label_in numbers t → IsAtMost (label_in numbers t) most_path
     within bound count most high low =
         let e : 2 * bound * (count + 1) ≡ 2 * bound * count + 2 * bound = grind arith in
         record { low = omega (arith, ints, most, e, low); high = omega (arith, ints, high) }
 
+pub numbers_small : {V : Type 0} (limit_of : V → ℕ) (market : Traded V) (numbers : List ℤ) → AreFirmsSmall limit_of market
+    → length numbers ≡ length market.trades + 1 → AreSettled limit_of market numbers → (t : ℕ) → t < length numbers → IsAtMost (label_in numbers t) most_read
+numbers_small limit_of market numbers small counted settled = near-wider most_path most_read numbers (omega arith) (numbers_near limit_of market numbers small counted settled)
+
+-- one round goes no further than labels may
+pub round_near : (count : ℕ) (labels : List ℤ) → count ≤ most_market_trades → AreNear (most_path + label_step (count + 1)) labels → AreNear most_label labels
+round_near count labels few = near-wider (most_path + label_step (count + 1)) most_label labels (omega (arith, few))
+
 -- ---- the equilibrium
 
--- labels that a search has found
-pub settled : {V : Type 0} (firm_of : V → Firm) (limit_of : V → ℕ) (market : Traded V) (allowed on allowed_before on_before : ℕ) (labels : List ℤ) → HasLaws firm_of limit_of market
-    → allowed ≡ allowed_before → on ≡ on_before
-    → AreLabels (length market.trades + 1) (arcs_among (is_admitted (length market.trades) allowed_before) (exchange_arc (map firm_of market.firms) market.trades on_before)) labels
-    → AreSettled firm_of limit_of market allowed on labels
-settled firm_of limit_of market allowed on allowed_before on_before labels laws same_allowed same_on found = record {
-  one_each = are.one_each;
-  keeps = are.keeps;
+-- labels that are found anew are small
+pub settled : {V : Type 0} (firm_of : V → Firm) (limit_of : V → ℕ) (market : Traded V) (allowed on : ℕ) (labels : List ℤ) → HasLaws firm_of limit_of market
+    → AreLabels (length market.trades + 1) (arcs_among (is_admitted (length market.trades) allowed) (exchange_arc (map firm_of market.firms) market.trades on)) labels
+    → AreSettled limit_of market labels
+settled firm_of limit_of market allowed on labels laws are = record {
   high = are.high;
   low = λ bound v bounded below.
       let e : (length market.trades + 1 - 1) * (2 * bound) ≡ 2 * bound * length market.trades = grind arith in
@@ -115,30 +122,16 @@ settled firm_of limit_of market allowed on allowed_before on_before labels laws 
       (are.low (2 * bound) v (small-arcs_among (is_admitted (length market.trades) allowed) (2 * bound) (exchange_arc (map firm_of market.firms) market.trades on)
       (arcs_small (map firm_of market.firms) market.trades laws.network bound on (each_within firm_of limit_of market.firms laws.within bound bounded))) below);
 }
-  where
-    are : AreLabels (length market.trades + 1) (arcs_among (is_admitted (length market.trades) allowed) (exchange_arc (map firm_of market.firms) market.trades on)) labels
-    are = subst (λ (x : ℕ). AreLabels (length market.trades + 1) (arcs_among (is_admitted (length market.trades) x) (exchange_arc (map firm_of market.firms) market.trades on)) labels) (sym same_allowed)
-        (subst (λ (x : ℕ). AreLabels (length market.trades + 1) (arcs_among (is_admitted (length market.trades) allowed_before) (exchange_arc (map firm_of market.firms) market.trades x)) labels) (sym same_on) found)
-
--- they are as good where a trade less is admitted
-pub settled_without : {V : Type 0} (firm_of : V → Firm) (limit_of : V → ℕ) (market : Traded V) (allowed on t : ℕ) (labels : List ℤ) → has allowed t ≡ false
-    → AreSettled firm_of limit_of market (toggle allowed t) on labels → AreSettled firm_of limit_of market allowed on labels
-settled_without firm_of limit_of market allowed on t labels out are = record {
-  one_each = are.one_each;
-  keeps = λ u v c is. are.keeps u v c (more_arcs (map firm_of market.firms) market.trades allowed on t out u v c is);
-  high = are.high;
-  low = are.low;
-}
 
 pub holds : {V : Type 0} (firm_of : V → Firm) (limit_of : V → ℕ) (market : Traded V) (graph : Matrix) (finder : Reading) (allowed on : ℕ) → HasLaws firm_of limit_of market
-    → AreUnderWay (map firm_of market.firms) market.trades graph finder allowed on → AreSettled firm_of limit_of market allowed on finder.labels → HoldsEquilibrium firm_of (standing_of market allowed on finder.labels)
-holds firm_of limit_of market graph finder allowed on laws way are =
-    solution_from (map firm_of market.firms) market.trades graph finder allowed allowed on finder.labels (differences (length market.trades) finder.labels) laws.network laws.meet way refl are.keeps
+    → AreUnderWay (map firm_of market.firms) market.trades graph finder allowed on → HoldsEquilibrium firm_of (standing_of market allowed on finder.labels)
+holds firm_of limit_of market graph finder allowed on laws way =
+    solution_from (map firm_of market.firms) market.trades graph finder allowed allowed on finder.labels (differences (length market.trades) finder.labels) laws.network laws.meet way refl way.labels.keeps
     (one_each (length market.trades) finder.labels) (price-is (length market.trades) finder.labels)
 
-pub small_prices : {V : Type 0} (firm_of : V → Firm) (limit_of : V → ℕ) (market : Traded V) (allowed on : ℕ) (numbers : List ℤ)
-    → AreSettled firm_of limit_of market allowed on numbers → HasSmallPrices limit_of (standing_of market allowed on numbers)
-small_prices firm_of limit_of market allowed on numbers are bound bounded k d below =
+pub small_prices : {V : Type 0} (limit_of : V → ℕ) (market : Traded V) (allowed on : ℕ) (numbers : List ℤ)
+    → AreSettled limit_of market numbers → HasSmallPrices limit_of (standing_of market allowed on numbers)
+small_prices limit_of market allowed on numbers are bound bounded k d below =
     let inside : k < length market.trades = subst (λ (n : ℕ). k < n) (one_each (length market.trades) numbers) below in
     subst (λ (z : ℤ). IsAtMost z (2 * bound * length market.trades))
     (sym (get_or_default (differences (length market.trades) numbers) k d (pos 0) below ∙ price-is (length market.trades) numbers k inside))
@@ -184,9 +177,13 @@ barred_off firm_of limit_of width market graph finder allowed on t after session
     arcs = session.under_way.arcs;
     sized = session.under_way.sized;
     kept = one_cycle_bars_a_trade.still (map firm_of market.firms) market.trades after on t (with_trade allowed t after e (IsKept (map firm_of market.firms) market.trades) on session.under_way.kept) out off;
+    labels = record {
+      one_each = session.under_way.labels.one_each;
+      keeps = one_cycle_bars_a_trade.off_labels (map firm_of market.firms) market.trades after on t out (label_in finder.labels)
+          (with_trade allowed t after e (λ x y. AreKept (map firm_of market.firms) market.trades x y finder.labels) on session.under_way.labels).keeps;
+    };
   };
-  settled = settled_without firm_of limit_of market after on t finder.labels out
-      (with_trade allowed t after e (λ x y. AreSettled firm_of limit_of market x y finder.labels) on session.settled);
+  settled = session.settled;
 }
   where
     out : has after t ≡ false

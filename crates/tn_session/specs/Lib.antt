@@ -1,4 +1,2 @@
 pub mod Widths
-pub mod Lowered
-pub mod LoweredLemmas
 pub mod Standing

@@ -4,10 +4,9 @@ use Rattle.std.specs.List.{range_with_len}
 use Rattle.tn_base.specs.Sets.{has, toggle}
 use Rattle.tn_base.specs.Firm.{Firm}
 use Rattle.tn_base.specs.Widths.{most_cost}
-use Rattle.tn_base.specs.Walks.{arcs_among, is_admitted, KeepsArcs}
 use Rattle.tn_market.specs.Traded.{Traded}
+use Rattle.tn_plain_data.specs.declared.ends.Ends.{Ends}
 use Rattle.tn_plain_data.specs.Network.{IsNetwork}
-use Rattle.tn_market.specs.Graph.{exchange_arc}
 use Rattle.tn_graph.specs.Matrix.{Matrix}
 use Rattle.tn_cycle.specs.Reading.{Reading}
 use Rattle.tn_cycle.specs.Answers.{label_in}
@@ -49,14 +48,12 @@ HasSmallPrices limit_of standing = (bound : ℕ) → IsBound limit_of standing.m
 abbrev pub AreFirmsSmall : {V : Type 0} → (V → ℕ) → Traded V → Type 0
 AreFirmsSmall {V} limit_of market = (f : ℕ) (v : V) → slice_get market.firms f ≡ Some v → 2 * limit_of v * (length market.trades + 1) ≤ most_path
 
--- numbers of the nodes that keep the arcs among the admitted trades and null, and are small
-pub record AreSettled {V : Type 0} (firm_of : V → Firm) (limit_of : V → ℕ) (market : Traded V) (allowed on : ℕ) (numbers : List ℤ) : Type 0 where
-  pub one_each : length numbers ≡ length market.trades + 1
-  pub keeps : KeepsArcs (arcs_among (is_admitted (length market.trades) allowed) (exchange_arc (map firm_of market.firms) market.trades on)) (label_in numbers)
+-- labels that are no more than 0, and no further below it than a path may cost
+pub record AreSettled {V : Type 0} (limit_of : V → ℕ) (market : Traded V) (numbers : List ℤ) : Type 0 where
   pub high : (v : ℕ) → v < length market.trades + 1 → label_in numbers v ≤ℤ pos 0
   pub low : (bound v : ℕ) → IsBound limit_of market bound → v < length market.trades + 1 → neg_ℤ (pos (2 * bound * length market.trades)) ≤ℤ label_in numbers v
 
--- what a session keeps: rounds that are under way, and such numbers
+-- what a session keeps: rounds that are under way, with such labels
 pub record IsSession {V : Type 0} (firm_of : V → Firm) (limit_of : V → ℕ) (width : ℕ) (market : Traded V) (graph : Matrix) (finder : Reading) (allowed on : ℕ) : Type 0 where
   pub network : IsNetwork (map firm_of market.firms) market.trades
   pub wide : length market.trades ≤ 64 * width
@@ -64,12 +61,11 @@ pub record IsSession {V : Type 0} (firm_of : V → Firm) (limit_of : V → ℕ) 
   -- so no arc costs more than a graph may hold
   pub fits_graph : (f : ℕ) (v : V) → slice_get market.firms f ≡ Some v → 2 * limit_of v ≤ most_cost
   pub under_way : AreUnderWay (map firm_of market.firms) market.trades graph finder allowed on
-  pub settled : AreSettled firm_of limit_of market allowed on finder.labels
+  pub settled : AreSettled limit_of market finder.labels
 
 -- rounds that are under way with a trade that is on, beside the admitted ones
-pub record IsLeaving {V : Type 0} (firm_of : V → Firm) (limit_of : V → ℕ) (market : Traded V) (graph : Matrix) (finder : Reading) (allowed on t : ℕ) : Type 0 where
-  pub small : AreFirmsSmall limit_of market
-  pub under_way : AreUnderWay (map firm_of market.firms) market.trades graph finder (toggle allowed t) on
-  pub trade : t < length market.trades
+pub record IsLeaving (firms : List Firm) (trades : List Ends) (graph : Matrix) (finder : Reading) (allowed on t : ℕ) : Type 0 where
+  pub under_way : AreUnderWay firms trades graph finder (toggle allowed t) on
+  pub trade : t < length trades
   pub out : has allowed t ≡ false
   pub member : has on t ≡ true

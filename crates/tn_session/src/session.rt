@@ -2,9 +2,12 @@ ghost use Rattle.std.specs.Prelude.{◌≡◌, ℕ, ◌+◌, ◌*◌, ◌≤◌,
 ghost use Rattle.tn_base.specs.Sets.{has};
 ghost use Rattle.tn_base.specs.Widths.{most_limbs};
 ghost use Rattle.tn_plain_data.specs.Prices.{price_at};
+ghost use Rattle.tn_cycle.specs.Answers.{AreNear};
+ghost use Rattle.tn_cycle.specs.Widths.{label_step};
 ghost use Rattle.tn_market.specs.Graph.{graph_worths};
 ghost use Rattle.tn_flow.specs.Underway.{AreUnderWay};
 ghost use Rattle.tn_session.specs.Standing.{AreFirmsSmall, HasSmallPrices, HoldsEquilibrium, IsSession, standing_of};
+ghost use Rattle.tn_session.specs.Widths.{most_path};
 ghost use Rattle.tn_market.specs.NetworkOf.{network_of};
 
 use crate::barring::switch_off;
@@ -37,11 +40,12 @@ impl<'a, V: Valuation, const W: usize> Model for Session<'a, V, W> {
     ghost invariant = { λ session. IsSession V.firm V.limit W session.market.now session.rounds.graph session.rounds.finder session.rounds.allowed session.rounds.on };
 }
 
-/// Settles rounds that are under way: then a session may hold them.
+/// Settles rounds that are under way, at most one round since they were settled last: then a session may hold them.
 fn settle<V: Valuation, const W: usize>(rounds: &mut Rounds<W>, market: &Market<V>)
     requires wide { length market.now.trades ≤ 64 * W }
     requires small { AreFirmsSmall V.limit market.now }
     requires under_way { network_of V.firm market.now AreUnderWay rounds.old.graph rounds.old.finder rounds.old.allowed rounds.old.on }
+    requires near { AreNear (most_path + label_step (length market.now.trades + 1)) rounds.old.finder.labels }
     ensures settled { IsSession V.firm V.limit W market.now rounds.new.graph rounds.new.finder rounds.new.allowed rounds.new.on }
     ensures equilibrium { HoldsEquilibrium V.firm (standing_of market.now rounds.new.allowed rounds.new.on rounds.new.finder.labels) }
     ensures prices { HasSmallPrices V.limit (standing_of market.now rounds.new.allowed rounds.new.on rounds.new.finder.labels) }

@@ -9,14 +9,16 @@ find_cycle-count-requires g c = (
   search rules,
   (
     c.requires.wide,
-    record {
-      small = c.requires.small;
-      under_way = with_trade c.args.rounds.now.allowed c.args.t c.toggle.new.self c.toggle.ensures.toggled
-          (AreUnderWay (map g.V.Valuation.firm c.args.market.now.firms) c.args.market.now.trades c.args.rounds.now.graph c.args.rounds.now.finder) c.args.rounds.now.on c.requires.under_way;
-      trade = c.requires.trade;
-      out = without c.args.rounds.now.allowed c.args.t c.toggle.new.self c.toggle.ensures.toggled c.requires.admitted;
-      member = c.requires.on;
-    },
+    (
+      record {
+        under_way = with_trade c.args.rounds.now.allowed c.args.t c.toggle.new.self c.toggle.ensures.toggled
+            (AreUnderWay (map g.V.Valuation.firm c.args.market.now.firms) c.args.market.now.trades c.args.rounds.now.graph c.args.rounds.now.finder) c.args.rounds.now.on c.requires.under_way;
+        trade = c.requires.trade;
+        out = without c.args.rounds.now.allowed c.args.t c.toggle.new.self c.toggle.ensures.toggled c.requires.admitted;
+        member = c.requires.on;
+      },
+      c.requires.near,
+    ),
   ),
 )
 
