@@ -4,3 +4,4 @@ pub mod AscentLemmas
 pub mod BonusLemmas
 pub mod AskLemmas
 pub mod LevyLemmas
+pub mod RowLemmas

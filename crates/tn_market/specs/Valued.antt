@@ -1,6 +1,6 @@
 -- What is known of a firm that code may ask.
-use Rattle.std.specs.Prelude.{◌≡◌, ℕ, ℤ, ◌+ℤ◌, ◌<ℤ◌, true, if◌then◌else◌, Some}
-use Rattle.tn_base.specs.Sets.{has}
+use Rattle.std.specs.Prelude.{◌≡◌, ℕ, ℤ, ◌+ℤ◌, ◌<ℤ◌, true, if◌then◌else◌, List, get_or, Option, Some, None}
+use Rattle.tn_base.specs.Sets.{has, toggle}
 use Rattle.tn_base.specs.Arcs.{IsAtMost}
 use Rattle.tn_base.specs.Firm.{Firm, net, up}
 use Rattle.tn_base.specs.Exchange.{Exchanges, SwapsDown, MeetsExchange}
@@ -29,3 +29,7 @@ meets_exchange firm one net_count = record { one = one; net_count = net_count }
 -- no worth is above this size
 abbrev pub IsWorthAtMost : ℕ → Firm → Type 0
 IsWorthAtMost limit firm = (x : ℕ) (a : ℤ) → firm.worth x ≡ Some a → IsAtMost a limit
+
+-- at the place of each wanted position stands the worth of the bundle with this position toggled
+abbrev pub HasToggledWorths : (ℕ → Option ℤ) → ℕ → ℕ → List (Option ℤ) → Type 0
+HasToggledWorths worth x wanted worths = (k : ℕ) → has wanted k ≡ true → get_or worths k None ≡ worth (toggle x k)

@@ -1,7 +1,8 @@
-ghost use Rattle.std.specs.Prelude.{◌≡◌, ℕ, ◌+◌, ◌^◌, ◌<◌, ◌≤◌, pos};
+ghost use Rattle.std.specs.Prelude.{◌≡◌, ℕ, ◌+◌, ◌^◌, ◌<◌, ◌≤◌, pos, length};
 ghost use Rattle.tn_base.specs.Firm.{Firm};
+ghost use Rattle.tn_base.specs.Sets.{size};
 ghost use Rattle.tn_market.specs.Lawful.{IsLawful};
-ghost use Rattle.tn_market.specs.Valued.{side_at};
+ghost use Rattle.tn_market.specs.Valued.{side_at, HasToggledWorths};
 ghost use Rattle.tn_market.specs.Widths.{most_limit};
 
 use tn_base::{Bundle, Side, Steps};
@@ -42,6 +43,23 @@ pub trait Valuation {
         requires { x < 2 ^ (firm self.now).count }
         ensures worth { result ≡ (firm self.now).worth x }
         ensures asked { steps.new ≡ steps.old + 1 };
+
+    /// Writes a row of worths: for each wanted position the worth of the bundle with this position toggled, at its place
+    /// of the slice, None where it is impossible. It counts as one step for each wanted position and takes no memory; the
+    /// other places are scratch. The bundle and the wanted positions are own, and there is a place for each own position.
+    fn row(&self, x: Bundle, wanted: Bundle, worths: &mut [Option<i128>], steps: &mut Steps<Self::Mark>)
+        requires own { x < 2 ^ (firm self.now).count }
+        requires own_wanted { wanted < 2 ^ (firm self.now).count }
+        requires room { (firm self.now).count ≤ length worths.old }
+        ensures worths { HasToggledWorths (firm self.now).worth x wanted worths.new }
+        ensures asked { steps.new ≡ steps.old + size wanted }
+    {
+        for k in 0..self.trades() {
+            if wanted.has(k) {
+                worths[k as usize] = self.value(x.toggle(k), steps);
+            }
+        }
+    }
 
     /// It has at most 64 own trades and buys none but these, only bundles of these are possible, the empty one among
     /// them, it meets exchange, and no worth is above the limit in size, which is at most 10^18.
