@@ -1,11 +1,14 @@
 -- How a graph comes to be the exchange graph, cost by cost and firm by firm.
-use Rattle.std.proofs.Common.{◌≡◌, ◌≢◌, ℕ, zero, suc, ◌+◌, ◌*◌, ◌<◌, ◌≤◌, Bool, true, false, not, ◌==◌, ◌&&◌, ◌||◌, if◌then◌else◌, List, [], ◌∷◌, length, take, slice_get, Some, None, Option, option_map, refl, sym, ap, ap₂, ◌∙◌, subst, arith, inl, inr, ◌⊎◌, ℤ}
+use Rattle.std.proofs.Common.{◌≡◌, ◌≢◌, ℕ, zero, suc, ◌+◌, ◌*◌, ◌^◌, get_or, ◌<◌, ◌≤◌, Bool, true, false, not, ◌==◌, ◌&&◌, ◌||◌, if◌then◌else◌, List, [], ◌∷◌, length, take, slice_get, Some, None, Option, option_map, refl, sym, ap, ap₂, ◌∙◌, subst, arith, inl, inr, ◌⊎◌, ℤ}
 use Rattle.std.specs.Prelude.{nat_lt, nat_le}
 use Rattle.std.proofs.lemmas.Bool.{cases_Bool, cases_eq, cases_lt, eqb-true, eq-eqb, ne_eqb, lt-ltb, le-ltb, or_cases, or_parts}
 use Rattle.std.proofs.lemmas.Option.{same_Some, slice_get_within, slice_get_past, slice_get_cases}
-use Rattle.tn_base.specs.Sets.{has}
+use Rattle.tn_base.specs.Sets.{has, toggle, size}
+use Rattle.tn_base.proofs.SetLemmas.{has-set_of, set_of_within, toggle_within}
+use Rattle.tn_base.proofs.SizeLemmas.{size_le, size-toggle_in}
 use Rattle.tn_base.specs.Firm.{Firm}
-use Rattle.tn_law.specs.Places.{level, move, CanRise, CanFall}
+use Rattle.tn_law.specs.Places.{trade_level, level, toggle_at, move, CanRise, CanFall}
+use Rattle.tn_law.proofs.PlaceLemmas.{level-trade, toggle_at-trade, toggle_at-null}
 use Rattle.tn_plain_data.specs.declared.ends.Ends.{Ends}
 use Rattle.tn_plain_data.specs.Network.{own, part, IsNetwork}
 use Rattle.tn_market.specs.Graph.{raised, lowered, raised_by, lowered_by, loss, exchange_arc, graph_worths}
@@ -13,7 +16,8 @@ use Rattle.tn_market.specs.ArcPlaces.{node_at, AreArcPlaces, common_firm, arc_fi
 use Rattle.tn_market.proofs.GraphLemmas.{node_at-trade, node_at-null, has-part, arc_at, move_of_arc, no_arc, same_firm}
 use Rattle.tn_graph.specs.Matrix.{Matrix, arcs_of}
 use Rattle.tn_graph.specs.MatrixLemmas.{arcs_of-between}
-use Rattle.tn_graph.specs.Reading.{IsWithoutArcs, IsWritten, IsExchangeGraph, Improves, IsStand, HasRow, HasArcsOf, is_toggled, AreForgotten, IsRightFor, IsUnchanged, changed_worths_from}
+use Rattle.tn_market.specs.Valued.{HasToggledWorths}
+use Rattle.tn_graph.specs.Reading.{IsRowRead, falling, IsWithoutArcs, IsWritten, IsExchangeGraph, Improves, IsStand, HasRow, HasArcsOf, is_toggled, AreForgotten, IsRightFor, IsUnchanged, changed_worths_from}
 
 -- ---- improvements
 
@@ -76,55 +80,106 @@ arc_places firms trades on f n firm limit x worth stand i j i_within j_within ap
       falls = subst (λ (k : ℕ). CanFall k (level k firm.buys x) j) counted falls;
     }
 
--- the arcs of a row before column j, and how many worths they took: none for the place of the row itself
-pub record IsRowRead (firms : List Firm) (trades : List Ends) (on f n : ℕ) (firm : Firm) (x i : ℕ) (before : Matrix) (asked_before j : ℕ) (graph : Matrix) (asked : ℕ) : Type 0 where
-  pub improved : Improves (exchange_arc firms trades on) before graph
-  pub row : (k : ℕ) → k < j → AreArcPlaces firm x i k
-      → arcs_of graph (node_at trades f n i) (node_at trades f n k) ≡ exchange_arc firms trades on (node_at trades f n i) (node_at trades f n k)
-  pub asked_most : asked ≤ asked_before + j
-  pub one_less : i < j → asked + 1 ≤ asked_before + j
+-- what the positions that can be lowered are
+falls_at : (buys x n falls j : ℕ) → falls ≡ falling buys x n → j < n → has falls j ≡ (trade_level buys x j == 1)
+falls_at buys x n falls j is below =
+    ap (λ (z : ℕ). has z j) is ∙ has-set_of (λ k. trade_level buys x k == 1) n j ∙ ap (λ (b : Bool). b && (trade_level buys x j == 1)) (lt-ltb j n below)
 
-pub row_start : (firms : List Firm) (trades : List Ends) (on f n : ℕ) (firm : Firm) (x i : ℕ) (graph : Matrix) (asked : ℕ)
-    → IsRowRead firms trades on f n firm x i graph asked 0 graph asked
-row_start firms trades on f n firm x i graph asked = record {
+-- a position that can be lowered, beside a place that can be raised
+pub fall_is_place : (firms : List Firm) (trades : List Ends) (on f n : ℕ) (firm : Firm) (limit x : ℕ) (worth : ℤ) → IsStand firms trades on f n firm limit x worth
+    → (i j falls : ℕ) → i ≤ n → CanRise n (level n firm.buys x) i → falls ≡ falling firm.buys x n → j < n → has falls j ≡ true → AreArcPlaces firm x i j
+fall_is_place firms trades on f n firm limit x worth stand i j falls i_within rises is below member =
+    let high : trade_level firm.buys x j ≡ 1 = eqb-true (trade_level firm.buys x j) 1 (sym (falls_at firm.buys x n falls j is below) ∙ member) in
+    let at : level n firm.buys x j ≡ 1 = level-trade n firm.buys x j below ∙ high in
+    let apart : j ≢ i = λ e. apart_at e at in
+    arc_places firms trades on f n firm limit x worth stand i j i_within (omega (arith, below)) apart rises (λ _. at)
+  where
+    apart_at : j ≡ i → level n firm.buys x j ≡ 1 → ⊥
+    apart_at e at =
+        let low : level n firm.buys x i ≡ 0 = rises (subst (λ (k : ℕ). k < n) e below) in
+        let same : level n firm.buys x j ≡ level n firm.buys x i = ap (level n firm.buys x) e in
+        absurd (omega (arith, low, at, same))
+
+-- no other position can be lowered
+pub no_fall_no_place : (firms : List Firm) (trades : List Ends) (on f n : ℕ) (firm : Firm) (limit x : ℕ) (worth : ℤ) → IsStand firms trades on f n firm limit x worth
+    → (i j falls : ℕ) → falls ≡ falling firm.buys x n → j < n → has falls j ≡ false → AreArcPlaces firm x i j → ⊥
+no_fall_no_place firms trades on f n firm limit x worth stand i j falls is below absent places =
+    let counted : n ≡ firm.count = stand.counted in
+    let at : level n firm.buys x j ≡ 1 = subst (λ (k : ℕ). CanFall k (level k firm.buys x) j) (sym counted) places.falls below in
+    let high : trade_level firm.buys x j ≡ 1 = sym (level-trade n firm.buys x j below) ∙ at in
+    absurd (let member : has falls j ≡ true = falls_at firm.buys x n falls j is below ∙ eq-eqb (trade_level firm.buys x j) 1 high in cc (member, absent))
+
+-- a worth of the row is that of the bundle moved at the two places
+pub row_worth : (n x i j falls : ℕ) (worth_of : ℕ → Option ℤ) (worths : List (Option ℤ)) → HasToggledWorths worth_of (toggle_at n x i) falls worths
+    → j < n → has falls j ≡ true → get_or worths j None ≡ worth_of (move n x i j)
+unfolding move
+row_worth n x i j falls worth_of worths row below member = row j member ∙ ap worth_of (sym (toggle_at-trade n (toggle_at n x i) j below))
+
+-- so is the worth of the raised bundle, for null
+pub null_worth : (n x i raised : ℕ) → raised ≡ toggle_at n x i → raised ≡ move n x i n
+unfolding move
+null_worth n x i raised is = is ∙ sym (toggle_at-null n (toggle_at n x i) n (omega arith))
+
+pub row_start : (firms : List Firm) (trades : List Ends) (on f n : ℕ) (firm : Firm) (x i : ℕ) (graph : Matrix)
+    → IsRowRead firms trades on f n firm x i graph 0 graph
+row_start firms trades on f n firm x i graph = record {
   improved = improves-none (exchange_arc firms trades on) graph;
   row = λ k h. absurd (omega (arith, h));
-  asked_most = omega arith;
-  one_less = λ h. absurd (omega (arith, h));
 }
 
-pub row_read : (firms : List Firm) (trades : List Ends) (on f n : ℕ) (firm : Firm) (x i : ℕ) (before : Matrix) (asked_before j : ℕ) (graph : Matrix) (asked : ℕ)
-    → IsRowRead firms trades on f n firm x i before asked_before j graph asked → (after : Matrix) (asked_after : ℕ)
-    → j ≢ i → Improves (exchange_arc firms trades on) graph after
+pub row_read : (firms : List Firm) (trades : List Ends) (on f n : ℕ) (firm : Firm) (x i : ℕ) (before : Matrix) (j : ℕ) (graph : Matrix)
+    → IsRowRead firms trades on f n firm x i before j graph → (after : Matrix) → Improves (exchange_arc firms trades on) graph after
     → arcs_of after (node_at trades f n i) (node_at trades f n j) ≡ exchange_arc firms trades on (node_at trades f n i) (node_at trades f n j)
-    → asked_after ≡ asked + 1 → IsRowRead firms trades on f n firm x i before asked_before (j + 1) after asked_after
-row_read firms trades on f n firm x i before asked_before j graph asked read after asked_after apart improved right counted =
-    let most = read.asked_most in
-    let less = read.one_less in
-    record {
-      improved = improves-trans (exchange_arc firms trades on) before graph after read.improved improved;
-      row = λ k h places. elim (cases_eq k j) [
-        | inl e ↦ subst (λ (m : ℕ). arcs_of after (node_at trades f n i) (node_at trades f n m) ≡ exchange_arc firms trades on (node_at trades f n i) (node_at trades f n m)) (sym e) right
-        | inr d ↦ stays_right (exchange_arc firms trades on) graph after improved _ _ (read.row k (omega (arith, h, d)) places)
-      ];
-      asked_most = omega (arith, most, counted);
-      one_less = λ h. let earlier : asked + 1 ≤ asked_before + j = less (omega (arith, h, apart)) in omega (arith, earlier, counted);
-    }
+    → IsRowRead firms trades on f n firm x i before (j + 1) after
+row_read firms trades on f n firm x i before j graph read after improved right = record {
+  improved = improves-trans (exchange_arc firms trades on) before graph after read.improved improved;
+  row = λ k h places. elim (cases_eq k j) [
+    | inl e ↦ subst (λ (m : ℕ). arcs_of after (node_at trades f n i) (node_at trades f n m) ≡ exchange_arc firms trades on (node_at trades f n i) (node_at trades f n m)) (sym e) right
+    | inr d ↦ stays_right (exchange_arc firms trades on) graph after improved _ _ (read.row k (omega (arith, h, d)) places)
+  ];
+}
 
-pub row_skipped : (firms : List Firm) (trades : List Ends) (on f n : ℕ) (firm : Firm) (x i : ℕ) (before : Matrix) (asked_before j : ℕ) (graph : Matrix) (asked : ℕ)
-    → IsRowRead firms trades on f n firm x i before asked_before j graph asked → (AreArcPlaces firm x i j → ⊥)
-    → IsRowRead firms trades on f n firm x i before asked_before (j + 1) graph asked
-row_skipped firms trades on f n firm x i before asked_before j graph asked read none =
-    let most = read.asked_most in
-    record {
-      improved = read.improved;
-      row = λ k h places. elim (cases_eq k j) [
-        | inl e ↦ absurd (none (subst (AreArcPlaces firm x i) e places))
-        | inr d ↦ read.row k (omega (arith, h, d)) places
-      ];
-      asked_most = omega (arith, most);
-      one_less = λ h. omega (arith, most);
-    }
+pub row_skipped : (firms : List Firm) (trades : List Ends) (on f n : ℕ) (firm : Firm) (x i : ℕ) (before : Matrix) (j : ℕ) (graph : Matrix)
+    → IsRowRead firms trades on f n firm x i before j graph → (AreArcPlaces firm x i j → ⊥) → IsRowRead firms trades on f n firm x i before (j + 1) graph
+row_skipped firms trades on f n firm x i before j graph read none = record {
+  improved = read.improved;
+  row = λ k h places. elim (cases_eq k j) [
+    | inl e ↦ absurd (none (subst (AreArcPlaces firm x i) e places))
+    | inr d ↦ read.row k (omega (arith, h, d)) places
+  ];
+}
+
+-- the places of a row are the positions and null
+pub whole_row : (firms : List Firm) (trades : List Ends) (on f n : ℕ) (firm : Firm) (limit x : ℕ) (worth : ℤ) → IsStand firms trades on f n firm limit x worth
+    → (i : ℕ) (before graph : Matrix) → IsRowRead firms trades on f n firm x i before (n + 1) graph → HasRow firms trades on f n firm x i graph
+whole_row firms trades on f n firm limit x worth stand i before graph read j places =
+    let within = places.to_within in
+    let counted : n ≡ firm.count = stand.counted in
+    read.row j (omega (arith, within, counted)) places
+
+-- null is beside each position, and not beside itself
+pub null_is_place : (firms : List Firm) (trades : List Ends) (on f n : ℕ) (firm : Firm) (limit x : ℕ) (worth : ℤ) → IsStand firms trades on f n firm limit x worth
+    → (i : ℕ) → i < n → CanRise n (level n firm.buys x) i → AreArcPlaces firm x i n
+null_is_place firms trades on f n firm limit x worth stand i below rises =
+    arc_places firms trades on f n firm limit x worth stand i n (omega (arith, below)) (omega arith) (λ e. absurd (omega (arith, below, e))) rises (λ h. absurd (omega (arith, h)))
+
+pub null_no_place : (firm : Firm) (x i n : ℕ) → i ≤ n → n ≤ i → AreArcPlaces firm x i n → ⊥
+null_no_place firm x i n within past places = places.apart (omega (arith, within, past))
+
+-- a row has at most as many positions as there are, and a position that can be raised isn't among them
+pub falls_own : (buys x n falls : ℕ) → falls ≡ falling buys x n → falls < 2 ^ n
+falls_own buys x n falls is = subst (λ (z : ℕ). z < 2 ^ n) (sym is) (set_of_within (λ k. trade_level buys x k == 1) n)
+
+pub falls_few : (buys x n falls : ℕ) → falls ≡ falling buys x n → size falls ≤ n
+falls_few buys x n falls is = size_le n falls (falls_own buys x n falls is)
+
+pub falls_fewer : (buys x n falls i : ℕ) → falls ≡ falling buys x n → i < n → CanRise n (level n buys x) i → size falls + 1 ≤ n
+falls_fewer buys x n falls i is below rises =
+    let low : trade_level buys x i ≡ 0 = sym (level-trade n buys x i below) ∙ rises below in
+    let absent : has falls i ≡ false = falls_at buys x n falls i is below ∙ ne_eqb (trade_level buys x i) 1 (omega (arith, low)) in
+    let more : size (toggle falls i) ≡ size falls + 1 = size-toggle_in falls i absent in
+    let most : size (toggle falls i) ≤ n = size_le n (toggle falls i) (toggle_within falls i n (falls_own buys x n falls is) below) in
+    omega (arith, more, most)
 
 -- the arcs of the rows before row i
 pub record AreRowsRead (firms : List Firm) (trades : List Ends) (on f n : ℕ) (firm : Firm) (x : ℕ) (before : Matrix) (asked_before i : ℕ) (graph : Matrix) (asked : ℕ) : Type 0 where

@@ -1,30 +1,24 @@
 -- A firm at a set of trades: which places can be raised and lowered, and what a move costs.
-use Rattle.std.proofs.Common.{◌≡◌, ℕ, ◌*◌, ◌^◌, ◌<◌, ◌≤◌, Bool, true, false, not, ◌==◌, Some, None, Option, option_map, sym, ap, ap₂, ◌∙◌, subst, arith, inl, inr, ◌↔◌, IsTrue, List, ℤ, neg_ℤ, ◌+ℤ◌, ◌-ℤ◌}
+use Rattle.std.specs.Prelude.{IfSome}
+use Rattle.std.proofs.Common.{◌≡◌, refl, ℕ, suc, ◌+◌, ◌*◌, ◌^◌, ◌<◌, ◌≤◌, Bool, true, false, not, ◌==◌, Some, None, Option, option_map, sym, ap, ap₂, ◌∙◌, subst, arith, inl, inr, ◌↔◌, IsTrue, List, ℤ, neg_ℤ, ◌+ℤ◌, ◌-ℤ◌}
 use Rattle.std.proofs.lemmas.Int.{ints}
-use Rattle.std.proofs.lemmas.Bool.{cases_Bool, cases_lt, eqb-true, eq-eqb, ne_eqb}
+use Rattle.std.proofs.lemmas.Bool.{cases_Bool, cases_lt, eq-eqb, ne_eqb}
 use mir.Syntax.{w128}
 use mir.Val.{SFits}
 use Rattle.tn_base.specs.Options.{both}
-use Rattle.tn_base.specs.Sets.{has}
+use Rattle.tn_base.specs.Sets.{has, toggle, set_of}
 use Rattle.tn_base.specs.Arcs.{IsAtMost}
 use Rattle.tn_base.specs.Firm.{Firm}
 use Rattle.tn_base.specs.Widths.{most_cost}
 use Rattle.tn_base.proofs.SetLemmas.{toggle_within, set_of_within}
-use Rattle.tn_law.specs.Places.{trade_level, level, toggle_at, move, CanRise, CanFall}
+use Rattle.tn_law.specs.Places.{trade_level, level, toggle_at, CanRise}
 use Rattle.tn_law.proofs.PlaceLemmas.{level-trade, toggle_at-trade, toggle_at-null, trade_level-le}
 use Rattle.tn_plain_data.specs.declared.ends.Ends.{Ends}
 use Rattle.tn_plain_data.specs.Network.{own}
 use Rattle.tn_market.specs.Graph.{loss}
-use Rattle.tn_graph.specs.Reading.{IsStand}
+use Rattle.tn_graph.specs.Reading.{IsStand, falling}
 
 -- ---- places
-
-pub falls_where_high : (n buys x k : ℕ) (high : Bool) → k < n → high ≡ (trade_level buys x k == 1) → IsTrue high ↔ CanFall n (level n buys x) k
-falls_where_high n buys x k high below is =
-    let at = level-trade n buys x k below in (
-      (λ yes inside. at ∙ eqb-true (trade_level buys x k) 1 (sym is ∙ yes)),
-      (λ falls. is ∙ eq-eqb (trade_level buys x k) 1 (sym at ∙ falls below)),
-    )
 
 pub rises_where_low : (n buys x k : ℕ) (high : Bool) → k < n → high ≡ (trade_level buys x k == 1) → IsTrue (not high) ↔ CanRise n (level n buys x) k
 rises_where_low n buys x k high below is =
@@ -41,6 +35,25 @@ rises_where_low n buys x k high below is =
           ap not (is ∙ ne_eqb (trade_level buys x k) 1 (omega (arith, low)))),
     )
 
+-- no position is below 0
+pub falling_none : (buys x : ℕ) → 0 ≡ falling buys x 0
+unfolding set_of
+falling_none buys x = refl
+
+-- a position of level 1 is put in
+pub falling_more : (buys x k falls : ℕ) → falls ≡ falling buys x k → (trade_level buys x k == 1) ≡ true → toggle falls k ≡ falling buys x (k + 1)
+unfolding set_of
+falling_more buys x k falls is high =
+    let next : k + 1 ≡ suc k = omega arith in
+    rw (next, high) (ap (λ (z : ℕ). toggle z k) is)
+
+-- another one isn't
+pub falling_same : (buys x k falls : ℕ) → falls ≡ falling buys x k → (trade_level buys x k == 1) ≡ false → falls ≡ falling buys x (k + 1)
+unfolding set_of
+falling_same buys x k falls is low =
+    let next : k + 1 ≡ suc k = omega arith in
+    rw (next, low) is
+
 -- ---- moves
 
 toggle_at_within : (n x k : ℕ) → x < 2 ^ n → toggle_at n x k < 2 ^ n
@@ -49,20 +62,12 @@ toggle_at_within n x k below = elim (cases_lt k n) [
   | inr p ↦ subst (λ (y : ℕ). y < 2 ^ n) (sym (toggle_at-null n x k p)) below
 ]
 
-pub moved_is : (n x i j raised moved : ℕ) → raised ≡ toggle_at n x i → moved ≡ toggle_at n raised j → moved ≡ move n x i j
-unfolding move
-moved_is n x i j raised moved first second = second ∙ ap (λ (y : ℕ). toggle_at n y j) first
-
-pub move_within : (n x i j : ℕ) → x < 2 ^ n → move n x i j < 2 ^ n
-unfolding move
-move_within n x i j below = toggle_at_within n (toggle_at n x i) j (toggle_at_within n x i below)
-
--- a bundle of a stand has own positions alone, also once it is moved
-pub move_own : (firms : List Firm) (trades : List Ends) (on f n : ℕ) (firm : Firm) (limit x : ℕ) (worth : ℤ) → IsStand firms trades on f n firm limit x worth
-    → (i j moved : ℕ) → moved ≡ move n x i j → moved < 2 ^ firm.count
-move_own firms trades on f n firm limit x worth stand i j moved is =
+-- a bundle of a stand has own positions alone, also once it is raised
+pub raised_own : (firms : List Firm) (trades : List Ends) (on f n : ℕ) (firm : Firm) (limit x : ℕ) (worth : ℤ) → IsStand firms trades on f n firm limit x worth
+    → (i raised : ℕ) → raised ≡ toggle_at n x i → raised < 2 ^ firm.count
+raised_own firms trades on f n firm limit x worth stand i raised is =
     let below : x < 2 ^ n = subst (λ (y : ℕ). y < 2 ^ n) (sym stand.bundle_is) (set_of_within (λ k. has on (own trades f k)) n) in
-    subst (λ (y : ℕ). y < 2 ^ firm.count) (sym is) (subst (λ (m : ℕ). move n x i j < 2 ^ m) stand.counted (move_within n x i j below))
+    subst (λ (y : ℕ). y < 2 ^ firm.count) (sym is) (subst (λ (m : ℕ). toggle_at n x i < 2 ^ m) stand.counted (toggle_at_within n x i below))
 
 -- ---- losses
 
@@ -77,15 +82,21 @@ loss_is firm x y a b x_is y_is =
     minus a b = omega (arith, ints)
 
 pub loss_small : (firms : List Firm) (trades : List Ends) (on f n : ℕ) (firm : Firm) (limit x : ℕ) (worth : ℤ) → IsStand firms trades on f n firm limit x worth
-    → (y : ℕ) (b : ℤ) → firm.worth y ≡ Some b → IsAtMost (worth -ℤ b) most_cost
-loss_small firms trades on f n firm limit x worth stand y b y_is =
-    apart (stand.within x worth stand.worth_is) (stand.within y b y_is) stand.small
+    → (b : ℤ) → IsAtMost b limit → IsAtMost (worth -ℤ b) most_cost
+loss_small firms trades on f n firm limit x worth stand b within =
+    apart (stand.within x worth stand.worth_is) within stand.small
   where
     apart : IsAtMost worth limit → IsAtMost b limit → 2 * limit ≤ most_cost → IsAtMost (worth -ℤ b) most_cost
     apart first second small = record {
       low = omega (arith, ints, first.low, second.high, small);
       high = omega (arith, ints, first.high, second.low, small);
     }
+
+-- a worth of the firm is small, if it is there
+pub worth_small : (firms : List Firm) (trades : List Ends) (on f n : ℕ) (firm : Firm) (limit x : ℕ) (worth : ℤ) → IsStand firms trades on f n firm limit x worth
+    → (y : ℕ) (o : Option ℤ) → o ≡ firm.worth y → IfSome o (λ a. IsAtMost a limit)
+worth_small firms trades on f n firm limit x worth stand y None is = tt
+worth_small firms trades on f n firm limit x worth stand y (Some a) is = stand.within y a (sym is)
 
 -- such a number is in the range of the code's
 pub cost_fits : (z : ℤ) → IsAtMost z most_cost → SFits w128 z

@@ -1,8 +1,9 @@
 -- How a graph becomes the exchange graph: cost by cost, and firm by firm.
-use Rattle.std.specs.Prelude.{◌≡◌, ℕ, ◌+◌, ◌*◌, ◌≤◌, ℤ, ◌⊎◌, List, [], ◌∷◌, length, slice_get, Bool, true, false, not, ◌==◌, ◌&&◌, ◌||◌, nat_lt, if◌then◌else◌, Option, Some, None}
-use Rattle.tn_base.specs.Sets.{has}
+use Rattle.std.specs.Prelude.{◌≡◌, ℕ, ◌+◌, ◌*◌, ◌<◌, ◌≤◌, ℤ, ◌⊎◌, List, [], ◌∷◌, length, slice_get, Bool, true, false, not, ◌==◌, ◌&&◌, ◌||◌, nat_lt, if◌then◌else◌, Option, Some, None}
+use Rattle.tn_base.specs.Sets.{has, set_of}
 use Rattle.tn_base.specs.Firm.{Firm}
 use Rattle.tn_base.specs.Widths.{most_cost}
+use Rattle.tn_law.specs.Places.{trade_level}
 use Rattle.tn_plain_data.specs.declared.ends.Ends.{Ends}
 use Rattle.tn_plain_data.specs.Network.{part, IsNetwork}
 use Rattle.tn_market.specs.Graph.{exchange_arc}
@@ -41,6 +42,16 @@ pub record IsStand (firms : List Firm) (trades : List Ends) (on f n : ℕ) (firm
   pub worth_is : firm.worth x ≡ Some worth
   pub within : IsWorthAtMost limit firm
   pub small : 2 * limit ≤ most_cost
+
+-- the positions below n that can be lowered
+abbrev pub falling : ℕ → ℕ → ℕ → ℕ
+falling buys x n = set_of (λ k. trade_level buys x k == 1) n
+
+-- the arcs from place i of a firm to its places before j are read, and no other cost is worse for it
+pub record IsRowRead (firms : List Firm) (trades : List Ends) (on f n : ℕ) (firm : Firm) (x i : ℕ) (before : Matrix) (j : ℕ) (graph : Matrix) : Type 0 where
+  pub improved : Improves (exchange_arc firms trades on) before graph
+  pub row : (k : ℕ) → k < j → AreArcPlaces firm x i k
+      → arcs_of graph (node_at trades f n i) (node_at trades f n k) ≡ exchange_arc firms trades on (node_at trades f n i) (node_at trades f n k)
 
 -- the costs of the arcs from place i of a firm are right
 abbrev pub HasRow : List Firm → List Ends → ℕ → ℕ → ℕ → Firm → ℕ → ℕ → Matrix → Type 0

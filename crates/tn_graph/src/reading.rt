@@ -2,52 +2,86 @@
 
 ghost use Rattle.std.specs.Prelude.{◌≡◌, ℕ, ◌+◌, ◌*◌, ◌≤◌, ◌<◌, ◌==◌, Some, length, map, slice_get};
 ghost use Rattle.tn_base.specs.Widths.{most_cost};
-ghost use Rattle.tn_law.specs.Places.{level, CanRise};
+ghost use Rattle.tn_law.specs.Places.{level, toggle_at, move, CanRise};
 ghost use Rattle.tn_plain_data.specs.Network.{IsNetwork};
 ghost use Rattle.tn_market.specs.ArcPlaces.{node_at, AreArcPlaces};
 ghost use Rattle.tn_market.specs.Graph.{exchange_arc, graph_worths, ArePossible};
 ghost use Rattle.tn_market.specs.NetworkOf.{network_of};
 ghost use Rattle.tn_graph.specs.Matrix.{arcs_of};
-ghost use Rattle.tn_graph.specs.Reading.{AreForgotten, HasArcsOf, HasRow, Improves, IsExchangeGraph, IsStand, changed_worths, is_toggled};
+ghost use Rattle.tn_market.specs.Valued.{HasToggledWorths};
+ghost use Rattle.tn_graph.specs.Reading.{AreForgotten, HasArcsOf, HasRow, Improves, IsExchangeGraph, IsRowRead, IsStand, changed_worths, falling, is_toggled};
 
 use crate::graph::Graph;
 use crate::stand::Stand;
-use tn_base::{Steps, TradeSet};
+use tn_base::{Bundle, Steps, TradeSet};
 use tn_market::{Market, Valuation};
 
+/// A firm has at most so many own trades.
+const MOST_TRADES: usize = 64;
+
 impl<V: Valuation, const W: usize> Stand<'_, V, W> {
-    /// Writes what the arc from place `i` to place `j` costs.
-    fn read_arc(&self, graph: &mut Graph, i: u32, j: u32, steps: &mut Steps<V::Mark>)
+    /// Writes what the arc from place `i` to place `j` costs, by the worth of the bundle moved at them.
+    fn write_arc(&self, graph: &mut Graph, i: u32, j: u32, worth: Option<i128>)
         requires stand { network_of V.firm self.now.market.now IsStand self.now.on.now self.now.f self.now.count
             (V.firm self.now.firm.now) (V.limit self.now.firm.now) self.now.bundle self.now.worth }
         requires sized { graph.old.nodes ≡ length self.now.market.now.trades + 1 }
         requires places { AreArcPlaces (V.firm self.now.firm.now) self.now.bundle i j }
+        requires worth { worth ≡ (V.firm self.now.firm.now).worth (move self.now.count self.now.bundle i j) }
         ensures improved { Improves (network_of V.firm self.now.market.now exchange_arc self.now.on.now) graph.old graph.new }
         ensures arc { arcs_of graph.new (node_at self.now.market.now.trades self.now.f self.now.count i) (node_at self.now.market.now.trades self.now.f self.now.count j)
             ≡ network_of V.firm self.now.market.now exchange_arc self.now.on.now
             (node_at self.now.market.now.trades self.now.f self.now.count i) (node_at self.now.market.now.trades self.now.f self.now.count j) }
-        ensures asked { steps.new ≡ steps.old + 1 }
     {
-        let cost = self.loss(i, j, steps);
-        graph.set(self.node(i), self.node(j), cost);
+        graph.set(self.node(i), self.node(j), self.loss(worth));
     }
 
-    /// Writes what the arcs from place `i` cost.
-    fn read_row(&self, graph: &mut Graph, i: u32, steps: &mut Steps<V::Mark>)
+    /// Writes what the arcs from place `i` to the positions that can be lowered cost, by a row of worths.
+    fn write_row(&self, graph: &mut Graph, i: u32, falls: Bundle, worths: &[Option<i128>])
         requires stand { network_of V.firm self.now.market.now IsStand self.now.on.now self.now.f self.now.count
             (V.firm self.now.firm.now) (V.limit self.now.firm.now) self.now.bundle self.now.worth }
         requires sized { graph.old.nodes ≡ length self.now.market.now.trades + 1 }
         requires place { i ≤ self.now.count }
         requires rises { CanRise self.now.count (level self.now.count (V.firm self.now.firm.now).buys self.now.bundle) i }
+        requires falls { falls ≡ falling (V.firm self.now.firm.now).buys self.now.bundle self.now.count }
+        requires room { self.now.count ≤ length worths.now }
+        requires worths { HasToggledWorths (V.firm self.now.firm.now).worth (toggle_at self.now.count self.now.bundle i) falls worths.now }
+        ensures { network_of V.firm self.now.market.now IsRowRead self.now.on.now self.now.f self.now.count
+            (V.firm self.now.firm.now) self.now.bundle i graph.old self.now.count graph.new }
+    {
+        for j in 0..self.count {
+            if falls.has(j) {
+                self.write_arc(graph, i, j, worths[j as usize]);
+            }
+        }
+    }
+
+    /// Writes what the arcs from place `i` cost: those to positions by one row of worths, for which the slice has room.
+    fn read_row(
+        &self,
+        graph: &mut Graph,
+        i: u32,
+        falls: Bundle,
+        worths: &mut [Option<i128>],
+        steps: &mut Steps<V::Mark>,
+    )
+        requires stand { network_of V.firm self.now.market.now IsStand self.now.on.now self.now.f self.now.count
+            (V.firm self.now.firm.now) (V.limit self.now.firm.now) self.now.bundle self.now.worth }
+        requires sized { graph.old.nodes ≡ length self.now.market.now.trades + 1 }
+        requires place { i ≤ self.now.count }
+        requires rises { CanRise self.now.count (level self.now.count (V.firm self.now.firm.now).buys self.now.bundle) i }
+        requires falls { falls ≡ falling (V.firm self.now.firm.now).buys self.now.bundle self.now.count }
+        requires room { self.now.count ≤ length worths.old }
         ensures improved { Improves (network_of V.firm self.now.market.now exchange_arc self.now.on.now) graph.old graph.new }
         ensures row { network_of V.firm self.now.market.now HasRow self.now.on.now self.now.f self.now.count
             (V.firm self.now.firm.now) self.now.bundle i graph.new }
         ensures asked { steps.new ≤ steps.old + self.now.count }
     {
-        for j in 0..self.count + 1 {
-            if j != i && self.can_fall(j) {
-                self.read_arc(graph, i, j, steps);
-            }
+        let raised = self.raised(i);
+        self.firm.row(raised, falls, worths, steps);
+        self.write_row(graph, i, falls, worths);
+        if i < self.count {
+            let worth = self.firm.value(raised, steps);
+            self.write_arc(graph, i, self.count, worth);
         }
     }
 
@@ -60,9 +94,11 @@ impl<V: Valuation, const W: usize> Stand<'_, V, W> {
         ensures arcs { network_of V.firm self.now.market.now HasArcsOf self.now.on.now self.now.f graph.new }
         ensures asked { steps.new ≤ steps.old + (self.now.count + 1) * self.now.count }
     {
+        let falls = self.falls();
+        let mut worths = [None; MOST_TRADES];
         for i in 0..self.count + 1 {
             if self.can_rise(i) {
-                self.read_row(graph, i, steps);
+                self.read_row(graph, i, falls, &mut worths, steps);
             }
         }
     }

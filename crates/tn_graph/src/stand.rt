@@ -1,15 +1,15 @@
 //! How a firm stands at a set of trades, and what its arcs cost.
 
-ghost use Rattle.std.specs.Prelude.{◌≡◌, ◌+◌, ◌≤◌, ◌<◌, ◌==◌, ◌↔◌, IsTrue, IfSome, map};
+ghost use Rattle.std.specs.Prelude.{◌≡◌, ℕ, ◌^◌, ◌≤◌, ◌<◌, ◌==◌, ◌↔◌, IsTrue, IfSome, map};
 ghost use Rattle.tn_base.specs.Arcs.{IsAtMost};
 ghost use Rattle.tn_base.specs.Widths.{most_cost};
-ghost use Rattle.tn_law.specs.Places.{trade_level, level, toggle_at, move, CanRise, CanFall};
+ghost use Rattle.tn_law.specs.Places.{trade_level, level, toggle_at, CanRise};
 ghost use Rattle.tn_market.specs.ArcPlaces.{node_at};
 ghost use Rattle.tn_market.specs.Graph.{loss};
 ghost use Rattle.tn_market.specs.NetworkOf.{network_of};
-ghost use Rattle.tn_graph.specs.Reading.{IsStand};
+ghost use Rattle.tn_graph.specs.Reading.{IsStand, falling};
 
-use tn_base::{Bundle, Side, Steps, TradeSet};
+use tn_base::{Bundle, Side, TradeSet};
 use tn_market::{Market, Valuation};
 
 /// A firm with its bundle of a set of trades, and what that is worth. The firm's places are its positions and, after
@@ -73,26 +73,40 @@ impl<V: Valuation, const W: usize> Stand<'_, V, W> {
         k >= self.count || !self.is_high(k)
     }
 
-    /// Whether a place can be lowered.
-    pub fn can_fall(&self, k: u32) -> bool
+    /// The positions that can be lowered.
+    pub fn falls(&self) -> Bundle
         requires stand { network_of V.firm self.now.market.now IsStand self.now.on.now self.now.f self.now.count
             (V.firm self.now.firm.now) (V.limit self.now.firm.now) self.now.bundle self.now.worth }
-        ensures { IsTrue result ↔ CanFall self.now.count (level self.now.count (V.firm self.now.firm.now).buys self.now.bundle) k }
+        ensures { result ≡ falling (V.firm self.now.firm.now).buys self.now.bundle self.now.count }
     {
-        k >= self.count || self.is_high(k)
+        let mut falls = Bundle::empty();
+        for k in 0..self.count {
+            if self.is_high(k) {
+                falls = falls.toggle(k);
+            }
+        }
+        falls
     }
 
-    /// What the firm loses by a move at two places, None where it makes its bundle impossible. It asks for one worth.
-    pub fn loss(&self, i: u32, j: u32, steps: &mut Steps<V::Mark>) -> Option<i128>
+    /// The bundle with a place raised.
+    pub fn raised(&self, i: u32) -> Bundle
         requires stand { network_of V.firm self.now.market.now IsStand self.now.on.now self.now.f self.now.count
             (V.firm self.now.firm.now) (V.limit self.now.firm.now) self.now.bundle self.now.worth }
-        ensures loss { result ≡ loss (V.firm self.now.firm.now) self.now.bundle (move self.now.count self.now.bundle i j) }
-        ensures small { IfSome result (λ c. IsAtMost c most_cost) }
-        ensures asked { steps.new ≡ steps.old + 1 }
+        ensures raised { result ≡ toggle_at self.now.count self.now.bundle i }
+        ensures own { result < 2 ^ (V.firm self.now.firm.now).count }
     {
-        let raised = toggled(self.bundle, self.count, i);
-        let moved = toggled(raised, self.count, j);
-        let worth = self.firm.value(moved, steps)?;
+        toggled(self.bundle, self.count, i)
+    }
+
+    /// What the firm loses by a bundle of this worth, None where it is impossible.
+    pub fn loss(&self, worth: Option<i128>) -> Option<i128>
+        requires stand { network_of V.firm self.now.market.now IsStand self.now.on.now self.now.f self.now.count
+            (V.firm self.now.firm.now) (V.limit self.now.firm.now) self.now.bundle self.now.worth }
+        requires small { IfSome worth (λ a. IsAtMost a (V.limit self.now.firm.now)) }
+        ensures loss { (y : ℕ) → worth ≡ (V.firm self.now.firm.now).worth y → result ≡ loss (V.firm self.now.firm.now) self.now.bundle y }
+        ensures small { IfSome result (λ c. IsAtMost c most_cost) }
+    {
+        let worth = worth?;
         Some(self.worth - worth)
     }
 }

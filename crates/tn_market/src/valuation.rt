@@ -47,7 +47,13 @@ pub trait Valuation {
     /// Writes a row of worths: for each wanted position the worth of the bundle with this position toggled, at its place
     /// of the slice, None where it is impossible. It counts as one step for each wanted position and takes no memory; the
     /// other places are scratch. The bundle and the wanted positions are own, and there is a place for each own position.
-    fn row(&self, x: Bundle, wanted: Bundle, worths: &mut [Option<i128>], steps: &mut Steps<Self::Mark>)
+    fn row(
+        &self,
+        x: Bundle,
+        wanted: Bundle,
+        worths: &mut [Option<i128>],
+        steps: &mut Steps<Self::Mark>,
+    )
         requires own { x < 2 ^ (firm self.now).count }
         requires own_wanted { wanted < 2 ^ (firm self.now).count }
         requires room { (firm self.now).count ≤ length worths.old }

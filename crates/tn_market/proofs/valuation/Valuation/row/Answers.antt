@@ -20,10 +20,10 @@ loop-k-preserved g c = elim c.if-has.branch [
       let worth_of = (g.Self.Valuation.firm c.args.self.now).worth in
       let inside : c.loop-k.k < length c.loop-k.worths =
       (let count = c.trades-k-end.ensures.count in
-          let room = c.requires.room in
-          let below = c.loop-k-test.true in
-          let long = c.loop-k.auto.worths in
-          omega (arith, count, room, below, long)) in
+      let room = c.requires.room in
+      let below = c.loop-k-test.true in
+      let long = c.loop-k.auto.worths in
+      omega (arith, count, room, below, long)) in
       let is = w.value.ensures.worth ∙ ap worth_of w.toggle.ensures in
       subst (λ (steps : ℕ). IsRowBelow worth_of c.args.x c.args.wanted c.args.steps.now (c.loop-k.k + 1) c.if-has.worths steps) (sym w.steps-is)
       (subst (λ (worths : List (Option ℤ)). IsRowBelow worth_of c.args.x c.args.wanted c.args.steps.now (c.loop-k.k + 1) worths w.value.new.steps) (sym w.worths-is)
