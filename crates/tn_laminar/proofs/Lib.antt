@@ -1,3 +1,4 @@
 pub mod ValueLemmas
 pub mod MaskLemmas
 pub mod FaultLemmas
+pub mod RowLemmas

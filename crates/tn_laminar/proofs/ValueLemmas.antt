@@ -104,17 +104,23 @@ pub sum_over-next : (c : ℕ → ℤ) (k x : ℕ) → sum_over c (k + 1) x ≡ s
 unfolding sum_over
 sum_over-next c k x = rw add-one refl
 
--- the number at the net count that the masks give
-pub number_by_masks : (buys : ℕ) (sets : List LaminarSet) (masks : List Masks) (x k : ℕ) (set : LaminarSet) (mask : Masks)
+-- the net count that the masks give
+pub net_by_masks : (buys : ℕ) (sets : List LaminarSet) (masks : List Masks) (x k : ℕ) (set : LaminarSet) (mask : Masks)
     → masks ≡ map (λ set. masks_of buys set.members) sets → slice_get sets k ≡ Some set → slice_get masks k ≡ Some mask
-    → listed_from set.low set.numbers (net_within mask x) ≡ number_of buys x (slice_get sets k)
-number_by_masks buys sets masks x k set mask masked set_is mask_is =
+    → net_within mask x ≡ net buys (meet x set.members)
+net_by_masks buys sets masks x k set mask masked set_is mask_is =
     let mask_of : mask ≡ masks_of buys set.members =
     same_Some mask (masks_of buys set.members)
     (sym mask_is ∙ ap (λ (l : List Masks). slice_get l k) masked ∙ slice_get-map (λ set. masks_of buys set.members) sets k
     ∙ ap (option_map (λ set. masks_of buys set.members)) set_is) in
-    ap (λ (m : Masks). listed_from set.low set.numbers (net_within m x)) mask_of
-    ∙ ap (listed_from set.low set.numbers) (net_within_is buys set.members x)
+    ap (λ (m : Masks). net_within m x) mask_of ∙ net_within_is buys set.members x
+
+-- the number at this net count
+pub number_by_masks : (buys : ℕ) (sets : List LaminarSet) (masks : List Masks) (x k : ℕ) (set : LaminarSet) (mask : Masks)
+    → masks ≡ map (λ set. masks_of buys set.members) sets → slice_get sets k ≡ Some set → slice_get masks k ≡ Some mask
+    → listed_from set.low set.numbers (net_within mask x) ≡ number_of buys x (slice_get sets k)
+number_by_masks buys sets masks x k set mask masked set_is mask_is =
+    ap (listed_from set.low set.numbers) (net_by_masks buys sets masks x k set mask masked set_is mask_is)
     ∙ ap (number_of buys x) (sym set_is)
 
 -- a listed number is small

@@ -3,3 +3,4 @@ pub mod Faults
 pub mod Sum
 pub mod Firms
 pub mod LawLemmas
+pub mod Rows

@@ -36,6 +36,29 @@ impl Valuation for Laminar {
         Some(self.amount(x) + numbers)
     }
 
+    fn row(
+        &self,
+        x: Bundle,
+        wanted: Bundle,
+        worths: &mut [Option<i128>],
+        steps: &mut Steps<Asked>,
+    ) {
+        let amount = self.amount(x);
+        let numbers = self.counted_numbers(x);
+        let changes = self.changes(x);
+        for k in 0..self.trades {
+            if wanted.has(k) {
+                steps.tick();
+                worths[k as usize] = self.toggled_worth(
+                    x,
+                    k,
+                    amount,
+                    numbers + changes[k as usize],
+                );
+            }
+        }
+    }
+
     ghost lawful = { laminar_laws };
 }
 

@@ -22,9 +22,9 @@ use tn_base::{Bundle, Side, purchases};
 pub struct Laminar {
     pub(crate) trades: u32,
     pub(crate) buys: Bundle,
-    amounts: Vec<i128>,
-    sets: Vec<LaminarSet>,
-    masks: Vec<Masks>,
+    pub(crate) amounts: Vec<i128>,
+    pub(crate) sets: Vec<LaminarSet>,
+    pub(crate) masks: Vec<Masks>,
     ghost laminar: { IsLaminar trades buys amounts.items sets.items masks.items },
 }
 
@@ -95,7 +95,7 @@ impl Laminar {
     }
 
     /// The number of the set at place `k` at the net count of a bundle within it, None where it isn't listed.
-    fn number(&self, x: Bundle, k: usize) -> Option<i128>
+    pub(crate) fn number(&self, x: Bundle, k: usize) -> Option<i128>
         requires { k < length self.now.sets.items }
         ensures number { result ≡ number_of self.now.buys x (slice_get self.now.sets.items k) }
         ensures small { IfSome result (λ number. IsAtMost number most_amount) }

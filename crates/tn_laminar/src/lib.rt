@@ -8,6 +8,7 @@ mod faults;
 mod laminar;
 mod masks;
 mod refusal;
+mod row;
 mod set;
 #[cfg(test)]
 mod tests;

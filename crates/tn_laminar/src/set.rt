@@ -22,7 +22,7 @@ impl LaminarSet {
     /// The number at a net count, None where it isn't listed.
     pub(crate) fn number_at(&self, count: i32) -> Option<i128>
         requires low { IsAtMost self.now.low most_from }
-        requires count { IsAtMost count 64 }
+        requires count { IsAtMost count 65 }
         ensures { result ≡ listed_from self.now.low self.now.numbers count }
     {
         let place = count - self.low;
