@@ -65,6 +65,21 @@ impl Valuation for FirmValue {
         }
     }
 
+    fn row(
+        &self,
+        x: Bundle,
+        wanted: Bundle,
+        worths: &mut [Option<i128>],
+        steps: &mut Steps<Asked>,
+    ) {
+        match self {
+            FirmValue::Table(firm) => firm.row(x, wanted, worths, steps),
+            FirmValue::Laminar(firm) => firm.row(x, wanted, worths, steps),
+            FirmValue::Middle(firm) => firm.row(x, wanted, worths, steps),
+            FirmValue::Dealer(firm) => firm.row(x, wanted, worths, steps),
+        }
+    }
+
     ghost lawful = { firm_laws };
 }
 
