@@ -27,9 +27,9 @@ pub(crate) struct Certificate {
 }
 
 /// The matching so far, with a number for each position (a potential).
-#[derive(Drop)]
-struct Matching {
-    costs: [i64; POSITIONS * POSITIONS],
+#[derive(Clone, Copy)]
+struct Matching<'a> {
+    costs: &'a [i64; POSITIONS * POSITIONS],
     numbers: [i64; POSITIONS],
     mates: [usize; POSITIONS],
     sold_as: [usize; POSITIONS],
@@ -44,6 +44,16 @@ struct Reach {
     from: [usize; POSITIONS],
 }
 
+/// A matching of a bundle that has one purchase more than sales: all sales are matched, and one purchase is left. With one
+/// trade toggled it is a short search away from a least matching.
+#[derive(Drop)]
+pub(crate) struct Spare<'a> {
+    bundle: Bundle,
+    buys: Bundle,
+    matching: Matching<'a>,
+    left: usize,
+}
+
 /// A certificate for the bundle `x` of a firm that buys `buys`.
 pub(crate) fn search(pairs: &[Pair], x: Bundle, buys: Bundle) -> Certificate {
     let purchases = x.meet(buys);
@@ -51,12 +61,8 @@ pub(crate) fn search(pairs: &[Pair], x: Bundle, buys: Bundle) -> Certificate {
     if purchases.count() != sales.count() {
         return uneven(purchases, sales);
     }
-    let mut matching = Matching {
-        costs: costs_of(pairs),
-        numbers: [0; POSITIONS],
-        mates: [NONE; POSITIONS],
-        sold_as: [NONE; POSITIONS],
-    };
+    let costs = costs_of(pairs);
+    let mut matching = Matching::new(&costs);
     for b in 0..POSITIONS {
         if purchases.has(b as u32) {
             if let Some(reach) = matching.extend(b, sales) {
@@ -64,11 +70,7 @@ pub(crate) fn search(pairs: &[Pair], x: Bundle, buys: Bundle) -> Certificate {
             }
         }
     }
-    Certificate {
-        matched: true,
-        numbers: matching.numbers,
-        mates: matching.mates,
-    }
+    matching.certificate()
 }
 
 /// More trades of one side than of the other.
@@ -81,7 +83,7 @@ fn uneven(purchases: Bundle, sales: Bundle) -> Certificate {
 }
 
 /// The costs by purchase, then by sale.
-fn costs_of(pairs: &[Pair]) -> [i64; POSITIONS * POSITIONS] {
+pub(crate) fn costs_of(pairs: &[Pair]) -> [i64; POSITIONS * POSITIONS] {
     let mut costs = [FAR; POSITIONS * POSITIONS];
     for pair in pairs {
         let place = (pair.buy as usize % POSITIONS) * POSITIONS + pair.sell as usize % POSITIONS;
@@ -137,7 +139,51 @@ impl Reach {
     }
 }
 
-impl Matching {
+impl<'a> Matching<'a> {
+    /// Nothing is matched.
+    fn new(costs: &'a [i64; POSITIONS * POSITIONS]) -> Matching<'a> {
+        Matching {
+            costs,
+            numbers: [0; POSITIONS],
+            mates: [NONE; POSITIONS],
+            sold_as: [NONE; POSITIONS],
+        }
+    }
+
+    /// The certificate of a bundle whose trades are all matched.
+    fn certificate(&self) -> Certificate {
+        Certificate {
+            matched: true,
+            numbers: self.numbers,
+            mates: self.mates,
+        }
+    }
+
+    /// Takes a purchase out, so that its sale has no mate.
+    fn release(&mut self, purchase: usize)
+        requires { purchase < most_own }
+    {
+        let sale = self.sold_as[purchase];
+        if sale < POSITIONS {
+            self.mates[sale] = NONE;
+        }
+        self.sold_as[purchase] = NONE;
+    }
+
+    /// Takes a sale in, with the highest number that exceeds no cost with these purchases.
+    fn admit(&mut self, sale: usize, purchases: Bundle)
+        requires { sale < most_own }
+    {
+        let mut number = FAR;
+        for b in 0..POSITIONS {
+            let cost = self.costs[b * POSITIONS + sale];
+            if cost < FAR && purchases.has(b as u32) {
+                number = number.min(cost.wrapping_sub(self.numbers[b]));
+            }
+        }
+        self.numbers[sale] = if number < FAR { number } else { 0 };
+    }
+
     /// Matches one purchase more, with one sale more. Where that can't be, it hands back what is reached.
     fn extend(&mut self, first: usize, sales: Bundle) -> Option<Reach>
         requires { first < most_own }
@@ -204,5 +250,62 @@ impl Matching {
                 s = before;
             }
         }
+    }
+}
+
+impl<'a> Spare<'a> {
+    /// The matching of the bundle `x` of a firm that buys `buys`, None where no such matching is found.
+    pub(crate) fn of(
+        costs: &'a [i64; POSITIONS * POSITIONS],
+        x: Bundle,
+        buys: Bundle,
+    ) -> Option<Spare<'a>> {
+        let purchases = x.meet(buys);
+        let sales = x.minus(buys);
+        if purchases.count() != sales.count() + 1 {
+            return None;
+        }
+        let mut matching = Matching::new(costs);
+        let mut left = NONE;
+        for b in 0..POSITIONS {
+            if purchases.has(b as u32) {
+                if let Some(_reach) = matching.extend(b, sales) {
+                    if left < POSITIONS {
+                        return None;
+                    }
+                    left = b;
+                }
+            }
+        }
+        Some(Spare {
+            bundle: x,
+            buys,
+            matching,
+            left,
+        })
+    }
+
+    /// A certificate for the bundle with position `k` toggled.
+    pub(crate) fn toggled(&self, k: usize) -> Certificate
+        requires { k < most_own }
+    {
+        let toggled = self.bundle.toggle(k as u32);
+        let purchases = toggled.meet(self.buys);
+        let sales = toggled.minus(self.buys);
+        if purchases.count() != sales.count() {
+            return uneven(purchases, sales);
+        }
+        let mut matching = self.matching;
+        if self.buys.has(k as u32) {
+            matching.release(k);
+        } else {
+            matching.admit(k, purchases);
+        }
+        if k != self.left {
+            if let Some(reach) = matching.extend(self.left % POSITIONS, sales) {
+                return unmatched(reach.purchases, reach.sales);
+            }
+        }
+        matching.certificate()
     }
 }

@@ -3,7 +3,7 @@
 
 ghost use Rattle.std.specs.Prelude.{◌≡◌, ◌+◌, ◌*◌, ◌^◌, ◌<◌, ◌≤◌, ◌<ℤ◌, ◌+ℤ◌, ◌-ℤ◌, ◌↔◌, IsTrue, true, false, pos, neg_ℤ, if◌then◌else◌, length, drop, option_map, IfSome};
 ghost use Rattle.tn_base.specs.Arcs.{IsAtMost};
-ghost use Rattle.tn_base.specs.Sets.{has, sum_over};
+ghost use Rattle.tn_base.specs.Sets.{has, sum_over, toggle};
 ghost use Rattle.tn_market.specs.Reduced.{greater};
 ghost use Rattle.tn_dealer.specs.Pairs.{matched_worth, IsNear};
 ghost use Rattle.tn_dealer.specs.Certificates.{number_at, KeepsPair, KeepsPairs, MayTakeIn, bound_of};
@@ -13,7 +13,7 @@ ghost use Rattle.tn_market.specs.Widths.{most_worth, most_own};
 
 use crate::dealer::Dealer;
 use crate::pair::Pair;
-use crate::search::{Certificate, POSITIONS, search};
+use crate::search::{Certificate, POSITIONS, Spare, search};
 use tn_base::Bundle;
 
 impl Dealer {
@@ -25,6 +25,20 @@ impl Dealer {
             Some(worth) => worth,
             None => self.worth_from(0, x),
         }
+    }
+
+    /// What a bundle with position `k` toggled is worth, from a matching of the bundle where there is one.
+    pub(crate) fn toggled_worth(&self, x: Bundle, k: u32, spare: &Option<Spare>) -> Option<i128>
+        requires { k < most_own }
+        ensures { result ≡ matched_worth self.now.pairs.items (toggle x k) }
+    {
+        let toggled = x.toggle(k);
+        if let Some(spare) = spare {
+            if let Some(worth) = self.shown(toggled, &spare.toggled(k as usize)) {
+                return worth;
+            }
+        }
+        self.worth(toggled)
     }
 
     /// The worth that what was found shows, None where it shows nothing.

@@ -1,0 +1,6 @@
+use Rattle.tn_market.proofs.RowLemmas.{IsRowBelow}
+use Rattle.tn_dealer.specs.Firms.{firm_of}
+use Rattle.tn_dealer.proofs.asked.DealerValuation.row.Given as goal
+
+abbrev pub invariant-loop-k : goal.invariant-loop-k
+invariant-loop-k l = IsRowBelow (firm_of l.self).worth l.x l.wanted l.initial.steps l.k l.worths l.steps
