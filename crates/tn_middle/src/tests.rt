@@ -38,3 +38,26 @@ fn a_purchase_is_kept(rt: HostRuntime) -> Result<(), Fail> {
     assert_eq!(rt; middle.value(Bundle::from_bits(0b10), &mut steps), None);
     Ok(())
 }
+
+// Three bundles are best at these prices. The search stays at the one at hand, and begins at none where that is impossible.
+#[test]
+fn a_best_bundle_is_not_left(rt: HostRuntime) -> Result<(), Fail> {
+    let alloc = rt.alloc();
+    let sides = vec![in alloc; Side::Buy, Side::Sell]?;
+    let middle = Middle::new(sides, vec![in alloc; 2, 3]?, Some(8));
+    let mut room = Room::new(alloc)?;
+    let all = Bundle::from_bits(0b11);
+    let kept = Bundle::from_bits(0b01);
+    assert_eq!(rt;
+        middle.best_from(kept, all, 1, &[6, 5], &mut room),
+        (kept, 0)
+    );
+    assert_eq!(rt; middle.best_from(all, all, 1, &[6, 5], &mut room), (all, 0));
+    let sold = Bundle::from_bits(0b10);
+    let none = Bundle::empty();
+    assert_eq!(rt;
+        middle.best_from(sold, all, 1, &[6, 5], &mut room),
+        (none, 0)
+    );
+    Ok(())
+}
