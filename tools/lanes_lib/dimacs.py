@@ -1,0 +1,133 @@
+"""A flow of least cost in the format of DIMACS as a document.
+
+What a firm with a supply sends, and one with a demand takes, is limited by that; all others pass on as much as they get. A lot
+that is taken is worth more than all arcs together cost, so that as many are taken as can be. Where all of them are, the least
+cost of the flow is the demand times this worth less the surplus.
+"""
+from __future__ import annotations
+
+from dataclasses import dataclass
+from fractions import Fraction
+from typing import Optional
+
+from .document import LARGEST, MOST_FIRMS, MOST_OF_VERSION_1, MOST_OWN_TRADES, MOST_TRADES, common_part
+from .tables import Trouble
+
+
+@dataclass(frozen=True)
+class Arc:
+    source: int
+    target: int
+    capacity: int
+    cost: int
+    place: str
+
+
+@dataclass(frozen=True)
+class Flow:
+    """The problem of a file: of each firm what it has to send, less what it has to take; and the arcs between them."""
+    size: int
+    supplies: dict[int, int]
+    arcs: list[Arc]
+
+    @property
+    def demand(self) -> int:
+        return sum(-supply for supply in self.supplies.values() if supply < 0)
+
+
+def read_flow(path: str) -> Flow:
+    with open(path, encoding="ascii", errors="replace") as file:
+        lines = [(f"{path}, line {k}", line.split()) for k, line in enumerate(file, 1)]
+    size, supplies, arcs = None, {}, []
+    for place, words in lines:
+        kind, numbers = words[0] if words else "c", whole_numbers(place, words)
+        if kind == "c":
+            continue
+        if kind == "p" and words[1:2] == ["min"] and size is None and len(numbers) == 2:
+            size = numbers[0]
+        elif kind == "n" and len(numbers) == 2 and is_firm(numbers[0], size):
+            supplies[numbers[0]] = numbers[1]
+        elif kind == "a" and len(numbers) == 5 and is_firm(numbers[0], size) and is_firm(numbers[1], size):
+            arcs.append(arc_of(place, *numbers))
+        else:
+            raise Trouble(f"{place}: {' '.join(words)} is no line of a flow of least cost")
+    if size is None:
+        raise Trouble(f"{path}: there is no line p min")
+    if sum(supplies.values()) != 0:
+        raise Trouble(f"{path}: what is supplied is not what is demanded, so there is no flow")
+    return Flow(size, supplies, arcs)
+
+
+def whole_numbers(place: str, words: list[str]) -> list[int]:
+    if not words or words[0] == "c":
+        return []
+    try:
+        return [int(word) for word in words[2 if words[0] == "p" else 1:]]
+    except ValueError:
+        raise Trouble(f"{place}: {' '.join(words)} has something else than whole numbers") from None
+
+
+def is_firm(number: int, size: Optional[int]) -> bool:
+    return size is not None and 1 <= number <= size
+
+
+def arc_of(place: str, source: int, target: int, least: int, most: int, cost: int) -> Arc:
+    if least != 0:
+        raise Trouble(f"{place}: a flow of at least {least} can't be said")
+    if source == target:
+        raise Trouble(f"{place}: this arc goes from {source} to itself")
+    return Arc(source, target, max(most, 0), cost, place)
+
+
+def flow_document(flow: Flow, lot: Optional[int] = None) -> dict:
+    """The document of a flow, in lots of which its supplies and capacities are whole numbers."""
+    amounts = [Fraction(abs(amount)) for amount in (*flow.supplies.values(), *(arc.capacity for arc in flow.arcs)) if amount]
+    lot = lot or int(common_part(amounts)) if amounts else 1
+    for arc in flow.arcs:
+        if arc.capacity % lot:
+            raise Trouble(f"{arc.place}: {arc.capacity} is no whole number of lots of {lot}")
+    if any(supply % lot for supply in flow.supplies.values()):
+        raise Trouble(f"a supply is no whole number of lots of {lot}")
+    worth = 1 + sum(abs(arc.cost) for arc in flow.arcs) * lot
+    trades = trades_of(flow, lot)
+    if worth * (flow.demand // lot) > LARGEST:
+        raise Trouble(f"the demand is worth {worth * (flow.demand // lot)}, and {LARGEST} is the most")
+    return {
+        "version": 1 if max(flow.size, len(trades)) <= MOST_OF_VERSION_1 else 2,
+        "note": {"lot": lot, "worth": worth, "demand": flow.demand // lot},
+        "firms": [firm_of(number, flow.supplies.get(number, 0) // lot, worth, trades) for number in range(1, flow.size + 1)],
+        "trades": [{"name": name, "seller": str(arc.source), "buyer": str(arc.target)} for name, arc, _ in trades],
+    }
+
+
+def trades_of(flow: Flow, lot: int) -> list[tuple[str, Arc, int]]:
+    """A trade for each lot of each arc: its name, the arc, and what it costs. Where no arc has a cost below 0, no more lots
+    than are demanded go by one."""
+    if flow.size > MOST_FIRMS:
+        raise Trouble(f"there are {flow.size} firms, and a document has at most {MOST_FIRMS}")
+    demand = flow.demand // lot if all(arc.cost >= 0 for arc in flow.arcs) else MOST_TRADES
+    trades: list[tuple[str, Arc, int]] = []
+    own: dict[int, int] = {}
+    for k, arc in enumerate(flow.arcs, 1):
+        lots = min(arc.capacity // lot, demand)
+        trades += [(f"a{k}.{n}", arc, arc.cost * lot) for n in range(1, lots + 1)]
+        for number in (arc.source, arc.target):
+            own[number] = own.get(number, 0) + lots
+            if own[number] > MOST_OWN_TRADES:
+                raise Trouble(f"{arc.place}: with this arc {number} has more than {MOST_OWN_TRADES} lots that may come or go, "
+                              "which is the most")
+        if len(trades) > MOST_TRADES:
+            raise Trouble(f"{arc.place}: with this arc there are more than {MOST_TRADES} lots, which is the most")
+    return trades
+
+
+def firm_of(number: int, supply: int, worth: int, trades: list[tuple[str, Arc, int]]) -> dict:
+    own = [name for name, arc, _ in trades if number in (arc.source, arc.target)]
+    amounts = [[name, -cost] for name, arc, cost in trades if arc.source == number and cost]
+    supply = max(-len(own), min(supply, len(own)))
+    if supply >= 0:
+        values, begin = [0] * (supply + 1), -supply
+    else:
+        values, begin = [worth * lots for lots in range(1 - supply)], 0
+    sets = [{"trades": own, "from": begin, "values": values}] if own else []
+    return {"name": str(number), "kind": "laminar", "amounts": amounts, "sets": sets}

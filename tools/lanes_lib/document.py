@@ -1,0 +1,208 @@
+"""The document that firms and lanes make: every quantity in lots, every amount in whole units of money.
+
+A lane is as many trades between its ends as lots may go by it, and whoever sends a lot pays what the lane costs. Every firm is
+a laminar one: what sells or buys has one set over its trades; what makes or passes on has a set over all of them, in which
+as much goes out as comes in, and within it a set over its purchases. So nothing but whole lots and units is rounded: where all
+capacities and steps are whole lots, no split of a lot would bring more.
+"""
+from __future__ import annotations
+
+import math
+import re
+import unicodedata
+from dataclasses import dataclass
+from fractions import Fraction
+from itertools import accumulate
+from typing import Iterable, Iterator, Optional
+
+from .network import BUYS, SELLS, Firm, Lane, Network, Schedule
+from .tables import Measure, Trouble, digits
+
+MOST_FIRMS = MOST_TRADES = 128
+MOST_OF_VERSION_1 = 64
+MOST_OWN_TRADES = 32
+LARGEST = 1_000_000_000
+LONGEST_NAME = 32
+# letters that have no accent to take away
+PLAIN_LETTERS = str.maketrans({"ł": "l", "Ł": "L", "ø": "o", "Ø": "O", "đ": "d", "Đ": "D", "ß": "ss", "æ": "ae", "Æ": "AE",
+                               "œ": "oe", "Œ": "OE", "þ": "th", "Þ": "Th", "ð": "d", "Ð": "D", "ı": "i"})
+
+
+@dataclass(frozen=True)
+class Sizes:
+    """How much a lot is, and a unit of money; where `is_rounded`, what a lot costs is rounded to whole units."""
+    lot: Fraction
+    unit: Fraction
+    is_rounded: bool = False
+
+    def lots(self, quantity: Measure) -> int:
+        lots = quantity.value / self.lot
+        if lots.denominator != 1:
+            raise Trouble(f"{quantity.place}: {digits(quantity.value)} is no whole number of lots of {digits(self.lot)}")
+        return int(lots)
+
+    def amount(self, rate: Measure) -> int:
+        """What a lot costs, or is worth, in units."""
+        amount = rate.value * self.lot / self.unit
+        if self.is_rounded:
+            return math.floor(amount + Fraction(1, 2))  # (a greater amount is never rounded to a lesser one)
+        if amount.denominator != 1:
+            raise Trouble(f"{rate.place}: {digits(rate.value)} for each of {digits(self.lot)} is {digits(amount * self.unit)}, "
+                          f"no whole number of {digits(self.unit)}: take a smaller --unit, or --round")
+        return int(amount)
+
+    def note(self) -> dict:
+        return {"lot": digits(self.lot), "unit": digits(self.unit), "rounded": self.is_rounded}
+
+
+@dataclass(frozen=True)
+class LotSchedule:
+    """A schedule in lots and units: `steps` has the lots of each step, none for the last, and what one of them costs."""
+    capacity: Optional[int]
+    steps: tuple[tuple[Optional[int], int], ...]
+
+    def amounts(self, count: int) -> list[int]:
+        """What each of the first lots costs."""
+        listed: list[int] = []
+        for lots, amount in self.steps:
+            left = count - len(listed)
+            listed += [amount] * (left if lots is None else min(lots, left))
+        return listed
+
+
+@dataclass(frozen=True)
+class Lot:
+    """A lot that may go by a lane: a trade of the document."""
+    code: str
+    lane: Lane
+    cost: int
+
+
+@dataclass(frozen=True)
+class Built:
+    """A document and what its codes stand for."""
+    document: dict
+    lots: list[Lot]
+    codes: dict[str, str]
+    sizes: Sizes
+
+
+def sizes_of(networks: Iterable[Network], lot: Optional[Fraction], unit: Optional[Fraction], is_rounded: bool) -> Sizes:
+    """The sizes that are given; otherwise the largest lot of which all quantities are whole, and the largest of 1, 0.1, 0.01
+    and so on that makes what each lot costs whole."""
+    schedules = [schedule for network in networks for schedule in network.schedules()]
+    quantities = [measure.value for schedule in schedules
+                  for measure in (schedule.capacity, *(step.quantity for step in schedule.steps)) if measure and measure.value]
+    lot = lot or common_part(quantities) or Fraction(1)
+    if unit is None:
+        amounts = [step.rate.value * lot for schedule in schedules for step in schedule.steps]
+        places = next((k for k in range(10) if all((amount * 10 ** k).denominator == 1 for amount in amounts)), 2)
+        unit = Fraction(1, 10 ** places)
+    return Sizes(lot, unit, is_rounded)
+
+
+def common_part(values: list[Fraction]) -> Fraction:
+    """The greatest number of which all these are whole multiples."""
+    scale = math.lcm(*(value.denominator for value in values))
+    return Fraction(math.gcd(*(int(value * scale) for value in values)), scale)
+
+
+def in_lots(schedule: Schedule, sizes: Sizes, is_value: bool) -> LotSchedule:
+    """A schedule in lots; a cost that falls from step to step, and a value that rises, can't be said."""
+    capacity = None if schedule.capacity is None else sizes.lots(schedule.capacity)
+    steps = [(None if step.quantity is None else sizes.lots(step.quantity), sizes.amount(step.rate)) for step in schedule.steps]
+    for (_, before), (_, after), step in zip(steps, steps[1:], schedule.steps[1:]):
+        if after > before if is_value else after < before:
+            what = "what a unit is worth rises" if is_value else "the cost of a unit falls"
+            raise Trouble(f"{step.rate.place}: {what} from the step before, which can't be said")
+    return LotSchedule(capacity, tuple(steps))
+
+
+def build(network: Network, sizes: Sizes) -> Built:
+    """The document of a network, within the limits of documents."""
+    if len(network.firms) > MOST_FIRMS:
+        raise Trouble(f"{network.firms[MOST_FIRMS].place}: a document has at most {MOST_FIRMS} firms")
+    schedules = {firm.name: in_lots(firm.schedule, sizes, firm.role == BUYS) for firm in network.firms}
+    codes = codes_of(network.firms)
+    lots = [lot for lane in network.lanes for lot in lots_of(lane, sizes, schedules)]
+    check_limits(lots)
+    document = {
+        "version": 1 if max(len(network.firms), len(lots)) <= MOST_OF_VERSION_1 else 2,
+        "note": sizes.note(),
+        "firms": [laminar(firm, codes[firm.name], schedules[firm.name], lots) for firm in network.firms],
+        "trades": [{"name": lot.code, "seller": codes[lot.lane.source], "buyer": codes[lot.lane.target], "note": str(lot.lane)}
+                   for lot in lots],
+    }
+    return Built(document, lots, codes, sizes)
+
+
+def lots_of(lane: Lane, sizes: Sizes, schedules: dict[str, LotSchedule]) -> Iterator[Lot]:
+    """As many lots as may go by the lane: no more than either of its firms could send or take."""
+    schedule = in_lots(lane.schedule, sizes, False)
+    capacities = [part.capacity for part in (schedule, schedules[lane.source], schedules[lane.target]) if part.capacity is not None]
+    if not capacities:
+        raise Trouble(f"{lane.place}: neither this lane nor a firm at its ends has a capacity")
+    if min(capacities) > MOST_OWN_TRADES:
+        raise Trouble(f"{lane.place}: {min(capacities)} lots may go by this lane, and a firm has at most {MOST_OWN_TRADES}: "
+                      "take a larger --lot, or a smaller capacity")
+    for k, cost in enumerate(schedule.amounts(min(capacities)), 1):
+        yield Lot(f"L{lane.row}.{k}", lane, small(cost, lane.place))
+
+
+def small(amount: int, place: str) -> int:
+    if abs(amount) > LARGEST:
+        raise Trouble(f"{place}: this comes to {amount} units of money, and {LARGEST} is the most: take a larger --unit")
+    return amount
+
+
+def check_limits(lots: list[Lot]) -> None:
+    own: dict[str, int] = {}
+    for k, lot in enumerate(lots, 1):
+        if k > MOST_TRADES:
+            raise Trouble(f"{lot.lane.place}: with this lane there are more than {MOST_TRADES} lots that may go by a lane, "
+                          "which is the most: take a larger --lot, or smaller capacities of lanes")
+        for firm in (lot.lane.source, lot.lane.target):
+            own[firm] = own.get(firm, 0) + 1
+            if own[firm] > MOST_OWN_TRADES:
+                raise Trouble(f"{lot.lane.place}: with this lane {firm} has more than {MOST_OWN_TRADES} lots that may come or go, "
+                              "which is the most of a firm: take a larger --lot, or smaller capacities of its lanes")
+
+
+def laminar(firm: Firm, code: str, schedule: LotSchedule, lots: list[Lot]) -> dict:
+    sales = [lot for lot in lots if lot.lane.source == firm.name]
+    purchases = [lot.code for lot in lots if lot.lane.target == firm.name]
+    sold = [lot.code for lot in sales]
+    counted = sold if firm.role == SELLS else purchases
+    most = len(counted) if schedule.capacity is None else min(schedule.capacity, len(counted))
+    sign = 1 if firm.role == BUYS else -1
+    values = [0, *(small(sum_, firm.place) for sum_ in accumulate(sign * amount for amount in schedule.amounts(most)))]
+    if firm.role == SELLS:
+        sets = [{"trades": sold, "from": -most, "values": values[::-1]}]
+    elif firm.role == BUYS:
+        sets = [{"trades": purchases, "from": 0, "values": values}]
+    else:
+        sets = [{"trades": purchases + sold, "from": 0, "values": [0]}, {"trades": purchases, "from": 0, "values": values}]
+    return {"name": code, "kind": "laminar", "note": firm.name,
+            "amounts": [[lot.code, -lot.cost] for lot in sales if lot.cost], "sets": [part for part in sets if part["trades"]]}
+
+
+def codes_of(firms: list[Firm]) -> dict[str, str]:
+    """A name of the document for each firm: its own without accents, where that leaves something."""
+    codes: dict[str, str] = {}
+    for firm in firms:
+        letters = unicodedata.normalize("NFKD", firm.name.translate(PLAIN_LETTERS)).encode("ascii", "ignore").decode()
+        code = re.sub(r"[^A-Za-z0-9_.]+", "-", letters).strip("-")[:LONGEST_NAME] or f"firm{firm.row}"
+        begin, more = code[:LONGEST_NAME - 9], firm.row
+        while code in codes.values():
+            code, more = f"{begin}.{more}", more + 1
+        codes[firm.name] = code
+    return codes
+
+
+def table_of_codes(built: Built) -> Iterator[tuple]:
+    """What each code of the document stands for."""
+    yield "code", "firm", "from", "to", "good", "by", "cost of a lot"
+    for name, code in built.codes.items():
+        yield code, name, None, None, None, None, None
+    for lot in built.lots:
+        yield lot.code, None, *lot.lane.name, lot.cost * built.sizes.unit

@@ -1,0 +1,206 @@
+"""Firms and lanes as two tables have them, in their own quantities and money."""
+from __future__ import annotations
+
+import re
+from dataclasses import dataclass, field, replace
+from fractions import Fraction
+from typing import Callable, Iterator, Optional
+
+from .tables import Cell, Measure, Row, Table, Trouble, digits
+
+SELLS, MAKES, PASSES_ON, BUYS = ROLES = ("sells", "makes", "passes on", "buys")
+STEPS = r"(quantity|at) [1-9]\d?"
+FIRM_COLUMNS = re.compile(rf"firm|role|capacity|{STEPS}|inputs|outputs|note")
+LANE_COLUMNS = re.compile(rf"from|to|good|by|capacity|{STEPS}|note")
+TROUBLES = 20  # as many are told at once
+
+
+@dataclass(frozen=True)
+class Step:
+    """What a unit costs, or is worth, for as much as `quantity`; the last step has none and goes on."""
+    quantity: Optional[Measure]
+    rate: Measure
+
+
+@dataclass(frozen=True)
+class Schedule:
+    """How much there may be at most, where that is said, and what a unit costs or is worth, step by step."""
+    capacity: Optional[Measure]
+    steps: tuple[Step, ...]
+
+
+@dataclass(frozen=True)
+class Firm:
+    name: str
+    role: str
+    schedule: Schedule
+    row: int
+    place: str
+    inputs: frozenset[str] = frozenset()
+    outputs: frozenset[str] = frozenset()
+
+
+@dataclass(frozen=True)
+class Lane:
+    """A way from a firm to another; `good` and `by` tell lanes between the same two apart."""
+    source: str
+    target: str
+    good: str
+    by: str
+    schedule: Schedule
+    row: int
+    place: str
+
+    @property
+    def name(self) -> tuple[str, str, str, str]:
+        return self.source, self.target, self.good, self.by
+
+    def __str__(self) -> str:
+        more = ", ".join(filter(None, (self.good, self.by)))
+        return f"{self.source} to {self.target}" + (f" ({more})" if more else "")
+
+
+@dataclass(frozen=True)
+class Network:
+    firms: list[Firm]
+    lanes: list[Lane]
+    by_name: dict[str, Firm] = field(default_factory=dict)
+
+    def __post_init__(self) -> None:
+        self.by_name.update((firm.name, firm) for firm in self.firms)
+
+    def schedules(self) -> Iterator[Schedule]:
+        for part in (*self.firms, *self.lanes):
+            yield part.schedule
+
+
+def network_of(firms: Table, lanes: Table) -> Network:
+    """Reads both tables; the first troubles of them are told together."""
+    troubles: list[str] = []
+    read_firms = each(firms, firm_of, troubles)
+    read_lanes = each(lanes, lane_of, troubles)
+    same_names(read_firms, lambda firm: firm.name, troubles)
+    same_names(read_lanes, lambda lane: lane.name, troubles)
+    network = Network(read_firms, read_lanes)
+    if not troubles:  # (a firm that couldn't be read would be missed at each of its lanes)
+        for lane in read_lanes:
+            troubles.extend(lane_troubles(network, lane))
+        troubles.extend(good_troubles(network))
+    if troubles:
+        more = f"\n.. and {len(troubles) - TROUBLES} more" if len(troubles) > TROUBLES else ""
+        raise Trouble("\n".join(troubles[:TROUBLES]) + more)
+    return network
+
+
+def each(table: Table, read: Callable[[Row], object], troubles: list[str]) -> list:
+    parts = []
+    for row in table.rows:
+        try:
+            parts.append(read(row))
+        except Trouble as trouble:
+            troubles.append(str(trouble))
+    return parts
+
+
+def same_names(parts: list, name_of: Callable[[object], object], troubles: list[str]) -> None:
+    seen: dict[object, int] = {}
+    for part in parts:
+        name = name_of(part)
+        if name in seen:
+            troubles.append(f"{part.place}: this is named in row {seen[name]} already")
+        seen.setdefault(name, part.row)
+
+
+def firm_of(row: Row) -> Firm:
+    name, role = wanted(row["firm"], "a firm needs a name"), row["role"].text.lower()
+    if name == "*":
+        raise row["firm"].trouble("* stands for all firms, and is no name")
+    if role not in ROLES:
+        raise row["role"].trouble(f"{row['role'].text or 'nothing'} is none of {', '.join(ROLES)}")
+    schedule = schedule_of(row)
+    if role == BUYS and not row["at 1"].text:
+        raise row["at 1"].trouble("it isn't said what a unit is worth to it")
+    return Firm(name, role, schedule, row.number, row.place, goods_of(row["inputs"]), goods_of(row["outputs"]))
+
+
+def lane_of(row: Row) -> Lane:
+    ends = [wanted(row[column], "a lane goes from a firm to a firm") for column in ("from", "to")]
+    schedule = schedule_of(row)
+    return Lane(*ends, row["good"].text, row["by"].text, schedule, row.number, row.place)
+
+
+def wanted(cell: Cell, what: str) -> str:
+    if not cell.text:
+        raise cell.trouble(f"nothing stands here; {what}")
+    return cell.text
+
+
+def goods_of(cell: Cell) -> frozenset[str]:
+    """Goods that are listed with | between them: any of them will do."""
+    goods = [good.strip() for good in cell.text.split("|") if good.strip()]
+    for good in goods:
+        if good[0].isdigit():
+            raise cell.trouble(f"{good}: one lot is made of one lot, so a good has no number")
+    return frozenset(goods)
+
+
+def schedule_of(row: Row) -> Schedule:
+    """The capacity and the steps of a firm or of a lane. Where no capacity is said, the quantities of the steps make it,
+    if all have one."""
+    capacity, steps = not_negative(row["capacity"]), []
+    count = max([int(name.split()[1]) for name in row.cells if name[:2] in ("qu", "at") and row[name].text], default=0)
+    for k in range(1, count + 1):
+        quantity, rate = not_negative(row[f"quantity {k}"]), row[f"at {k}"].number()
+        if rate is None:
+            if quantity is not None or k > 1:
+                raise row[f"at {k}"].trouble(f"step {k} has no amount for a unit")
+            rate = Measure(Fraction(0), row[f"at {k}"].place)
+        if quantity is None and k < count:
+            raise row[f"quantity {k}"].trouble(f"nothing stands here, and step {k + 1} comes after it")
+        steps.append(Step(quantity, rate))
+    return bounded(capacity, steps or [Step(None, Measure(Fraction(0), row.place))])
+
+
+def bounded(capacity: Optional[Measure], steps: list[Step]) -> Schedule:
+    last = steps[-1]
+    if last.quantity is not None:
+        total = sum(step.quantity.value for step in steps)
+        if capacity is None:
+            capacity = last.quantity.with_value(total)
+        elif capacity.value > total:
+            raise Trouble(f"{capacity.place}: the steps end at {digits(total)}, before {digits(capacity.value)}; "
+                          "the last step goes on where its quantity is left empty")
+    return Schedule(capacity, (*steps[:-1], replace(last, quantity=None)))
+
+
+def not_negative(cell: Cell) -> Optional[Measure]:
+    number = cell.number()
+    if number is not None and number.value < 0:
+        raise cell.trouble(f"{cell.text} is below 0")
+    return number
+
+
+def lane_troubles(network: Network, lane: Lane) -> Iterator[str]:
+    for end, column, role in ((lane.source, "from", BUYS), (lane.target, "to", SELLS)):
+        firm = network.by_name.get(end)
+        if firm is None:
+            yield f"{lane.place} ({column}): {end} is no firm of the other table"
+        elif firm.role == role:
+            yield f"{lane.place} ({column}): {end} only {role}"
+    if lane.source == lane.target:
+        yield f"{lane.place}: this lane goes from {lane.source} to itself"
+
+
+def good_troubles(network: Network) -> Iterator[str]:
+    """Lanes with goods that their firms don't take or give; a firm that passes on has one good."""
+    passed: dict[str, Lane] = {}
+    for lane in network.lanes:
+        ends = network.by_name.get(lane.source), network.by_name.get(lane.target)
+        for firm, goods, verb in ((ends[0], "outputs", "give"), (ends[1], "inputs", "take")):
+            if firm is None:
+                continue
+            if getattr(firm, goods) and lane.good not in getattr(firm, goods):
+                yield f"{lane.place} (good): {firm.name} doesn't {verb} {lane.good or 'a good without a name'}"
+            if firm.role == PASSES_ON and passed.setdefault(firm.name, lane).good != lane.good:
+                yield (f"{lane.place} (good): {firm.name} passes on {passed[firm.name].good or 'a good without a name'} "
+                       f"(row {passed[firm.name].row}); write it as a firm for each good")

@@ -1,0 +1,176 @@
+"""What answers say of firms and lanes, as tables in the quantities and the money of their tables.
+
+Prices, surpluses and what firms keep are those of the program's answers. Here they are looked up, put in units and added.
+"""
+from __future__ import annotations
+
+from dataclasses import dataclass, replace
+from fractions import Fraction
+from typing import Iterable, Iterator, Optional
+
+from .document import Built, Lot, Sizes, build
+from .network import SELLS, Firm, Lane, Network, Schedule
+from .program import Program
+from .tables import Trouble
+
+LANE_HEAD = ("from", "to", "good", "by", "capacity", "flow", "price from", "price to", "lowest", "highest", "freight", "paid")
+FIRM_HEAD = ("firm", "role", "capacity", "bought", "sold", "worth", "paid", "received", "kept", "paid at lowest",
+             "received at lowest", "kept at lowest", "paid at highest", "received at highest", "kept at highest")
+CAPACITY_HEAD = ("firm", "from", "to", "good", "by", "capacity", "used", "one more lot brings", "remark")
+
+
+@dataclass(frozen=True)
+class Prices:
+    """A price for each trade, in units for a lot; none where there is no bound."""
+    of: dict[str, Optional[int]]
+
+    def are_all_there(self) -> bool:
+        return None not in self.of.values()
+
+
+@dataclass(frozen=True)
+class Standing:
+    """An equilibrium of a document: which lots go, what all bring together, and the prices; what may come of `range` too."""
+    built: Built
+    on: frozenset[str]
+    surplus: int
+    prices: Prices
+    lowest: Optional[Prices] = None
+    highest: Optional[Prices] = None
+
+    def money(self, units: int) -> Fraction:
+        return units * self.built.sizes.unit
+
+    def quantity(self, lots: int) -> Fraction:
+        return lots * self.built.sizes.lot
+
+    def flow(self, lots: Iterable[Lot]) -> list[Lot]:
+        return [lot for lot in lots if lot.code in self.on]
+
+    def lots_of(self, lane: Lane) -> list[Lot]:
+        return [lot for lot in self.built.lots if lot.lane.name == lane.name]
+
+    def sides(self, firm: Firm) -> tuple[list[Lot], list[Lot]]:
+        """The lots that the firm buys, and those that it sells."""
+        going = self.flow(self.built.lots)
+        return ([lot for lot in going if lot.lane.target == firm.name], [lot for lot in going if lot.lane.source == firm.name])
+
+
+def sizes_in(document: dict) -> Sizes:
+    """The sizes of a document that `build` made, which its note keeps."""
+    note = document.get("note")
+    try:
+        return Sizes(Fraction(note["lot"]), Fraction(note["unit"]), note["rounded"])
+    except (TypeError, KeyError, ValueError):
+        raise Trouble("the document has no note of its lot and its unit: it isn't one of tools/lanes") from None
+
+
+def built_again(network: Network, document: dict) -> Built:
+    """What the codes of a document stand for, which has to be that of the tables."""
+    built = build(network, sizes_in(document))
+    if any(built.document[part] != document.get(part) for part in ("firms", "trades")):
+        raise Trouble("the document is not that of these tables: make it again")
+    return built
+
+
+def solved(built: Built, answer: dict) -> Standing:
+    """An answer of `solve`, which has to be one to the document."""
+    codes, prices = {lot.code for lot in built.lots}, dict(answer["prices"])
+    if set(prices) != codes or not codes.issuperset(answer["on"]):
+        raise Trouble("the answer of solve is one to another document")
+    return Standing(built, frozenset(answer["on"]), answer["surplus"], Prices(prices))
+
+
+def with_ranges(standing: Standing, answer: dict) -> Standing:
+    lowest, highest = ({bounds["trade"]: bounds[side] for bounds in answer["ranges"]} for side in ("low", "high"))
+    if set(lowest) != set(standing.prices.of):
+        raise Trouble("the answer of range is one to another document")
+    return replace(standing, lowest=Prices(lowest), highest=Prices(highest))
+
+
+def lane_table(standing: Standing, lanes: Iterable[Lane]) -> Iterator[tuple]:
+    """What goes by each lane, and the price for a unit, from that of the cheapest lot to that of the dearest."""
+    yield LANE_HEAD
+    for lane in lanes:
+        capacity = lane.schedule.capacity and lane.schedule.capacity.value
+        yield (*lane.name, capacity, *lane_cells(standing, lane))
+
+
+def lane_cells(standing: Standing, lane: Lane) -> tuple:
+    lots = standing.lots_of(lane)
+    going = standing.flow(lots)
+    of_unit = standing.built.sizes.unit / standing.built.sizes.lot
+    prices = bounds_of(standing.prices, going or lots)
+    ranges = bounds_of(standing.lowest, going or lots)[0], bounds_of(standing.highest, going or lots)[1]
+    return (standing.quantity(len(going)), *(price if price is None else price * of_unit for price in (*prices, *ranges)),
+            standing.money(sum(lot.cost for lot in going)), standing.money(sum(standing.prices.of[lot.code] for lot in going)))
+
+
+def bounds_of(prices: Optional[Prices], lots: list[Lot]) -> tuple[Optional[int], Optional[int]]:
+    listed = [prices.of[lot.code] for lot in lots] if prices else []
+    return (min(listed), max(listed)) if listed and None not in listed else (None, None)
+
+
+def firm_table(standing: Standing, firms: list[Firm], program: Program) -> Iterator[tuple]:
+    """What each firm buys, sells and keeps at the answer's prices, at all lowest and at all highest ones."""
+    yield FIRM_HEAD
+    lists = (standing.prices, standing.lowest, standing.highest)
+    told = [told_of_firms(standing, prices, program) if prices and prices.are_all_there() else None for prices in lists]
+    for k, firm in enumerate(firms):
+        bought, sold = standing.sides(firm)
+        capacity = firm.schedule.capacity and firm.schedule.capacity.value
+        cells = [cell for prices, rows in zip(lists, told) for cell in money_cells(standing, prices, rows and rows[k], bought, sold)]
+        yield (firm.name, firm.role, capacity, standing.quantity(len(bought)), standing.quantity(len(sold)),
+               standing.money(told[0][k]["worth"]), *cells)
+
+
+def told_of_firms(standing: Standing, prices: Prices, program: Program) -> list[dict]:
+    """What `firms` says of each firm at these prices, at which all have to be content."""
+    on = [lot.code for lot in standing.flow(standing.built.lots)]
+    answer = program.run("firms", {**standing.built.document, "arrangement": {"on": on, "prices": list(prices.of.items())}})
+    unhappy = [firm["firm"] for firm in answer["firms"] if firm["gain"] != 0]
+    if unhappy:
+        raise Trouble(f"the answer is no equilibrium of this document: {unhappy[0]} would do better")
+    return answer["firms"]
+
+
+def money_cells(standing: Standing, prices: Prices, told: Optional[dict], bought: list[Lot], sold: list[Lot]) -> tuple:
+    if told is None:
+        return None, None, None
+    paid, received = (sum(prices.of[lot.code] for lot in lots) for lots in (bought, sold))
+    return standing.money(paid), standing.money(received), standing.money(told["utility"])
+
+
+def capacity_table(standing: Standing, network: Network, program: Program) -> Iterator[tuple]:
+    """What one more lot of each capacity would bring to all together, as `solve` says of the document with it."""
+    yield CAPACITY_HEAD
+    lot = standing.built.sizes.lot
+    for firm in network.firms:
+        if firm.schedule.capacity:
+            bought, sold = standing.sides(firm)
+            wider = replace(firm, schedule=with_more(firm.schedule, lot))
+            changed = Network([wider if each is firm else each for each in network.firms], network.lanes)
+            used = standing.quantity(len(sold if firm.role == SELLS else bought))
+            yield (firm.name, None, None, None, None, firm.schedule.capacity.value, used, *brings(standing, changed, program))
+    for lane in network.lanes:
+        if lane.schedule.capacity:
+            wider = replace(lane, schedule=with_more(lane.schedule, lot))
+            changed = Network(network.firms, [wider if each is lane else each for each in network.lanes])
+            used = standing.quantity(len(standing.flow(standing.lots_of(lane))))
+            yield (None, *lane.name, lane.schedule.capacity.value, used, *brings(standing, changed, program))
+
+
+def with_more(schedule: Schedule, lot: Fraction) -> Schedule:
+    """A schedule with one more lot, which costs as much as the last one."""
+    return replace(schedule, capacity=schedule.capacity.with_value(schedule.capacity.value + lot))
+
+
+def brings(standing: Standing, changed: Network, program: Program) -> tuple[Optional[Fraction], Optional[str]]:
+    """By how much the surplus of a changed network is greater; where a document can't have it, why."""
+    try:
+        built = build(changed, standing.built.sizes)
+    except Trouble as trouble:
+        return None, str(trouble)
+    if built.document == standing.built.document:  # (something else limits it)
+        return Fraction(0), None
+    return standing.money(program.run("solve", built.document)["surplus"] - standing.surplus), None
