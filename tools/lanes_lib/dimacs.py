@@ -1,16 +1,16 @@
 """A flow of least cost in the format of DIMACS as a document.
 
-What a firm with a supply sends, and one with a demand takes, is limited by that; all others pass on as much as they get. A lot
-that is taken is worth more than all arcs together cost, so that as many are taken as can be. Where all of them are, the least
-cost of the flow is the demand times this worth less the surplus.
+What a firm with a supply sends, and one with a demand takes, is limited by that; all others pass on as much as they
+get. A lot that is taken is worth more than all arcs together cost, so that as many are taken as can be. Where all that
+is demanded is taken, the least cost of the flow is the demand times this worth less the surplus.
 """
 from __future__ import annotations
 
+import math
 from dataclasses import dataclass
-from fractions import Fraction
 from typing import Optional
 
-from .document import LARGEST, MOST_FIRMS, MOST_OF_VERSION_1, MOST_OWN_TRADES, MOST_TRADES, common_part
+from .document import LARGEST, MOST_FIRMS, MOST_OF_VERSION_1, MOST_OWN_TRADES, MOST_TRADES
 from .tables import Trouble
 
 
@@ -81,8 +81,8 @@ def arc_of(place: str, source: int, target: int, least: int, most: int, cost: in
 
 def flow_document(flow: Flow, lot: Optional[int] = None) -> dict:
     """The document of a flow, in lots of which its supplies and capacities are whole numbers."""
-    amounts = [Fraction(abs(amount)) for amount in (*flow.supplies.values(), *(arc.capacity for arc in flow.arcs)) if amount]
-    lot = lot or int(common_part(amounts)) if amounts else 1
+    amounts = [*flow.supplies.values(), *(arc.capacity for arc in flow.arcs)]
+    lot = lot or math.gcd(*amounts) or 1
     for arc in flow.arcs:
         if arc.capacity % lot:
             raise Trouble(f"{arc.place}: {arc.capacity} is no whole number of lots of {lot}")
@@ -95,14 +95,15 @@ def flow_document(flow: Flow, lot: Optional[int] = None) -> dict:
     return {
         "version": 1 if max(flow.size, len(trades)) <= MOST_OF_VERSION_1 else 2,
         "note": {"lot": lot, "worth": worth, "demand": flow.demand // lot},
-        "firms": [firm_of(number, flow.supplies.get(number, 0) // lot, worth, trades) for number in range(1, flow.size + 1)],
+        "firms": [firm_of(number, flow.supplies.get(number, 0) // lot, worth, trades)
+                  for number in range(1, flow.size + 1)],
         "trades": [{"name": name, "seller": str(arc.source), "buyer": str(arc.target)} for name, arc, _ in trades],
     }
 
 
 def trades_of(flow: Flow, lot: int) -> list[tuple[str, Arc, int]]:
-    """A trade for each lot of each arc: its name, the arc, and what it costs. Where no arc has a cost below 0, no more lots
-    than are demanded go by one."""
+    """A trade for each lot of each arc: its name, the arc, and what it costs. Where no arc has a cost below 0, no more
+    lots than are demanded go by one."""
     if flow.size > MOST_FIRMS:
         raise Trouble(f"there are {flow.size} firms, and a document has at most {MOST_FIRMS}")
     demand = flow.demand // lot if all(arc.cost >= 0 for arc in flow.arcs) else MOST_TRADES
@@ -114,8 +115,8 @@ def trades_of(flow: Flow, lot: int) -> list[tuple[str, Arc, int]]:
         for number in (arc.source, arc.target):
             own[number] = own.get(number, 0) + lots
             if own[number] > MOST_OWN_TRADES:
-                raise Trouble(f"{arc.place}: with this arc {number} has more than {MOST_OWN_TRADES} lots that may come or go, "
-                              "which is the most")
+                raise Trouble(f"{arc.place}: with this arc {number} has more than {MOST_OWN_TRADES} lots that may come "
+                              "or go, which is the most")
         if len(trades) > MOST_TRADES:
             raise Trouble(f"{arc.place}: with this arc there are more than {MOST_TRADES} lots, which is the most")
     return trades

@@ -1,9 +1,9 @@
 """The document that firms and lanes make: every quantity in lots, every amount in whole units of money.
 
-A lane is as many trades between its ends as lots may go by it, and whoever sends a lot pays what the lane costs. Every firm is
-a laminar one: what sells or buys has one set over its trades; what makes or passes on has a set over all of them, in which
-as much goes out as comes in, and within it a set over its purchases. So nothing but whole lots and units is rounded: where all
-capacities and steps are whole lots, no split of a lot would bring more.
+A lane is as many trades between its ends as lots may go by it, and whoever sends a lot pays what the lane costs. Every
+firm is a laminar one: what sells or buys has one set over its trades; what makes or passes on has a set over all of
+them, in which as much goes out as comes in, and within it a set over its purchases. What a lot costs is a whole number
+of units before anything is added to it, so that costs that rise from step to step still do.
 """
 from __future__ import annotations
 
@@ -24,8 +24,9 @@ MOST_OWN_TRADES = 32
 LARGEST = 1_000_000_000
 LONGEST_NAME = 32
 # letters that have no accent to take away
-PLAIN_LETTERS = str.maketrans({"ł": "l", "Ł": "L", "ø": "o", "Ø": "O", "đ": "d", "Đ": "D", "ß": "ss", "æ": "ae", "Æ": "AE",
-                               "œ": "oe", "Œ": "OE", "þ": "th", "Þ": "Th", "ð": "d", "Ð": "D", "ı": "i"})
+PLAIN_LETTERS = str.maketrans({
+    "ł": "l", "Ł": "L", "ø": "o", "Ø": "O", "đ": "d", "Đ": "D", "ß": "ss", "æ": "ae", "Æ": "AE", "œ": "oe", "Œ": "OE",
+    "þ": "th", "Þ": "Th", "ð": "d", "Ð": "D", "ı": "i"})
 
 
 @dataclass(frozen=True)
@@ -38,7 +39,8 @@ class Sizes:
     def lots(self, quantity: Measure) -> int:
         lots = quantity.value / self.lot
         if lots.denominator != 1:
-            raise Trouble(f"{quantity.place}: {digits(quantity.value)} is no whole number of lots of {digits(self.lot)}")
+            raise Trouble(f"{quantity.place}: {digits(quantity.value)} is no whole number of lots of "
+                          f"{digits(self.lot)}")
         return int(lots)
 
     def amount(self, rate: Measure) -> int:
@@ -47,17 +49,18 @@ class Sizes:
         if self.is_rounded:
             return math.floor(amount + Fraction(1, 2))  # (a greater amount is never rounded to a lesser one)
         if amount.denominator != 1:
-            raise Trouble(f"{rate.place}: {digits(rate.value)} for each of {digits(self.lot)} is {digits(amount * self.unit)}, "
-                          f"no whole number of {digits(self.unit)}: take a smaller --unit, or --round")
+            raise Trouble(f"{rate.place}: {digits(rate.value)} for each of {digits(self.lot)} is "
+                          f"{digits(amount * self.unit)}, no whole number of {digits(self.unit)}: "
+                          "take a smaller --unit, or --round")
         return int(amount)
 
     def note(self) -> dict:
-        return {"lot": digits(self.lot), "unit": digits(self.unit), "rounded": self.is_rounded}
+        return {"lot": digits(self.lot, 12), "unit": digits(self.unit, 12), "rounded": self.is_rounded}
 
 
 @dataclass(frozen=True)
 class LotSchedule:
-    """A schedule in lots and units: `steps` has the lots of each step, none for the last, and what one of them costs."""
+    """A schedule in lots and units: `steps` has the lots of each step, none for the last, and what one lot costs."""
     capacity: Optional[int]
     steps: tuple[tuple[Optional[int], int], ...]
 
@@ -88,11 +91,12 @@ class Built:
 
 
 def sizes_of(networks: Iterable[Network], lot: Optional[Fraction], unit: Optional[Fraction], is_rounded: bool) -> Sizes:
-    """The sizes that are given; otherwise the largest lot of which all quantities are whole, and the largest of 1, 0.1, 0.01
-    and so on that makes what each lot costs whole."""
+    """The sizes that are given; otherwise the largest lot of which all quantities are whole numbers, and the largest of
+    1, 0.1, 0.01 and so on of which all that a lot costs is."""
     schedules = [schedule for network in networks for schedule in network.schedules()]
-    quantities = [measure.value for schedule in schedules
-                  for measure in (schedule.capacity, *(step.quantity for step in schedule.steps)) if measure and measure.value]
+    measures = [measure for schedule in schedules
+                for measure in (schedule.capacity, *(step.quantity for step in schedule.steps))]
+    quantities = [measure.value for measure in measures if measure and measure.value]
     lot = lot or common_part(quantities) or Fraction(1)
     if unit is None:
         amounts = [step.rate.value * lot for schedule in schedules for step in schedule.steps]
@@ -110,7 +114,8 @@ def common_part(values: list[Fraction]) -> Fraction:
 def in_lots(schedule: Schedule, sizes: Sizes, is_value: bool) -> LotSchedule:
     """A schedule in lots; a cost that falls from step to step, and a value that rises, can't be said."""
     capacity = None if schedule.capacity is None else sizes.lots(schedule.capacity)
-    steps = [(None if step.quantity is None else sizes.lots(step.quantity), sizes.amount(step.rate)) for step in schedule.steps]
+    steps = [(None if step.quantity is None else sizes.lots(step.quantity), sizes.amount(step.rate))
+             for step in schedule.steps]
     for (_, before), (_, after), step in zip(steps, steps[1:], schedule.steps[1:]):
         if after > before if is_value else after < before:
             what = "what a unit is worth rises" if is_value else "the cost of a unit falls"
@@ -130,8 +135,8 @@ def build(network: Network, sizes: Sizes) -> Built:
         "version": 1 if max(len(network.firms), len(lots)) <= MOST_OF_VERSION_1 else 2,
         "note": sizes.note(),
         "firms": [laminar(firm, codes[firm.name], schedules[firm.name], lots) for firm in network.firms],
-        "trades": [{"name": lot.code, "seller": codes[lot.lane.source], "buyer": codes[lot.lane.target], "note": str(lot.lane)}
-                   for lot in lots],
+        "trades": [{"name": lot.code, "seller": codes[lot.lane.source], "buyer": codes[lot.lane.target],
+                    "note": str(lot.lane)} for lot in lots],
     }
     return Built(document, lots, codes, sizes)
 
@@ -139,19 +144,21 @@ def build(network: Network, sizes: Sizes) -> Built:
 def lots_of(lane: Lane, sizes: Sizes, schedules: dict[str, LotSchedule]) -> Iterator[Lot]:
     """As many lots as may go by the lane: no more than either of its firms could send or take."""
     schedule = in_lots(lane.schedule, sizes, False)
-    capacities = [part.capacity for part in (schedule, schedules[lane.source], schedules[lane.target]) if part.capacity is not None]
+    parts = schedule, schedules[lane.source], schedules[lane.target]
+    capacities = [part.capacity for part in parts if part.capacity is not None]
     if not capacities:
         raise Trouble(f"{lane.place}: neither this lane nor a firm at its ends has a capacity")
     if min(capacities) > MOST_OWN_TRADES:
-        raise Trouble(f"{lane.place}: {min(capacities)} lots may go by this lane, and a firm has at most {MOST_OWN_TRADES}: "
-                      "take a larger --lot, or a smaller capacity")
+        raise Trouble(f"{lane.place}: {min(capacities)} lots may go by this lane, and a firm has at most "
+                      f"{MOST_OWN_TRADES}: take a larger --lot, or a smaller capacity")
     for k, cost in enumerate(schedule.amounts(min(capacities)), 1):
         yield Lot(f"L{lane.row}.{k}", lane, small(cost, lane.place))
 
 
 def small(amount: int, place: str) -> int:
     if abs(amount) > LARGEST:
-        raise Trouble(f"{place}: this comes to {amount} units of money, and {LARGEST} is the most: take a larger --unit")
+        raise Trouble(f"{place}: this comes to {amount} units of money, and {LARGEST} is the most: "
+                      "take a larger --unit")
     return amount
 
 
@@ -159,13 +166,14 @@ def check_limits(lots: list[Lot]) -> None:
     own: dict[str, int] = {}
     for k, lot in enumerate(lots, 1):
         if k > MOST_TRADES:
-            raise Trouble(f"{lot.lane.place}: with this lane there are more than {MOST_TRADES} lots that may go by a lane, "
-                          "which is the most: take a larger --lot, or smaller capacities of lanes")
+            raise Trouble(f"{lot.lane.place}: with this lane there are more than {MOST_TRADES} lots that may go by a "
+                          "lane, which is the most: take a larger --lot, or smaller capacities of lanes")
         for firm in (lot.lane.source, lot.lane.target):
             own[firm] = own.get(firm, 0) + 1
             if own[firm] > MOST_OWN_TRADES:
-                raise Trouble(f"{lot.lane.place}: with this lane {firm} has more than {MOST_OWN_TRADES} lots that may come or go, "
-                              "which is the most of a firm: take a larger --lot, or smaller capacities of its lanes")
+                raise Trouble(f"{lot.lane.place}: with this lane {firm} has more than {MOST_OWN_TRADES} lots that may "
+                              "come or go, which is the most of a firm: take a larger --lot, or smaller capacities of "
+                              "its lanes")
 
 
 def laminar(firm: Firm, code: str, schedule: LotSchedule, lots: list[Lot]) -> dict:
@@ -181,9 +189,11 @@ def laminar(firm: Firm, code: str, schedule: LotSchedule, lots: list[Lot]) -> di
     elif firm.role == BUYS:
         sets = [{"trades": purchases, "from": 0, "values": values}]
     else:
-        sets = [{"trades": purchases + sold, "from": 0, "values": [0]}, {"trades": purchases, "from": 0, "values": values}]
+        sets = [{"trades": purchases + sold, "from": 0, "values": [0]},
+                {"trades": purchases, "from": 0, "values": values}]
     return {"name": code, "kind": "laminar", "note": firm.name,
-            "amounts": [[lot.code, -lot.cost] for lot in sales if lot.cost], "sets": [part for part in sets if part["trades"]]}
+            "amounts": [[lot.code, -lot.cost] for lot in sales if lot.cost],
+            "sets": [part for part in sets if part["trades"]]}
 
 
 def codes_of(firms: list[Firm]) -> dict[str, str]:

@@ -145,8 +145,8 @@ def goods_of(cell: Cell) -> frozenset[str]:
 
 
 def schedule_of(row: Row) -> Schedule:
-    """The capacity and the steps of a firm or of a lane. Where no capacity is said, the quantities of the steps make it,
-    if all have one."""
+    """The capacity and the steps of a firm or of a lane. Where no capacity is said, the quantities of the steps make
+    it, if all have one."""
     capacity, steps = not_negative(row["capacity"]), []
     count = max([int(name.split()[1]) for name in row.cells if name[:2] in ("qu", "at") and row[name].text], default=0)
     for k in range(1, count + 1):
@@ -202,5 +202,6 @@ def good_troubles(network: Network) -> Iterator[str]:
             if getattr(firm, goods) and lane.good not in getattr(firm, goods):
                 yield f"{lane.place} (good): {firm.name} doesn't {verb} {lane.good or 'a good without a name'}"
             if firm.role == PASSES_ON and passed.setdefault(firm.name, lane).good != lane.good:
-                yield (f"{lane.place} (good): {firm.name} passes on {passed[firm.name].good or 'a good without a name'} "
-                       f"(row {passed[firm.name].row}); write it as a firm for each good")
+                first = passed[firm.name]
+                yield (f"{lane.place} (good): {firm.name} passes on {first.good or 'a good without a name'} "
+                       f"(row {first.row}); write it as a firm for each good")

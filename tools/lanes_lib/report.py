@@ -1,6 +1,7 @@
 """What answers say of firms and lanes, as tables in the quantities and the money of their tables.
 
-Prices, surpluses and what firms keep are those of the program's answers. Here they are looked up, put in units and added.
+Prices, surpluses and what firms keep are those of the program's answers. Here they are looked up, put in other units
+and added.
 """
 from __future__ import annotations
 
@@ -13,7 +14,8 @@ from .network import SELLS, Firm, Lane, Network, Schedule
 from .program import Program
 from .tables import Trouble
 
-LANE_HEAD = ("from", "to", "good", "by", "capacity", "flow", "price from", "price to", "lowest", "highest", "freight", "paid")
+LANE_HEAD = ("from", "to", "good", "by", "capacity", "flow", "price from", "price to", "lowest", "highest", "freight",
+             "paid")
 FIRM_HEAD = ("firm", "role", "capacity", "bought", "sold", "worth", "paid", "received", "kept", "paid at lowest",
              "received at lowest", "kept at lowest", "paid at highest", "received at highest", "kept at highest")
 CAPACITY_HEAD = ("firm", "from", "to", "good", "by", "capacity", "used", "one more lot brings", "remark")
@@ -30,7 +32,8 @@ class Prices:
 
 @dataclass(frozen=True)
 class Standing:
-    """An equilibrium of a document: which lots go, what all bring together, and the prices; what may come of `range` too."""
+    """An equilibrium of a document: which lots go, what all bring together, and the prices; and, where `range` was
+    asked, the lowest and the highest ones."""
     built: Built
     on: frozenset[str]
     surplus: int
@@ -53,13 +56,14 @@ class Standing:
     def sides(self, firm: Firm) -> tuple[list[Lot], list[Lot]]:
         """The lots that the firm buys, and those that it sells."""
         going = self.flow(self.built.lots)
-        return ([lot for lot in going if lot.lane.target == firm.name], [lot for lot in going if lot.lane.source == firm.name])
+        bought = [lot for lot in going if lot.lane.target == firm.name]
+        return bought, [lot for lot in going if lot.lane.source == firm.name]
 
 
 def sizes_in(document: dict) -> Sizes:
     """The sizes of a document that `build` made, which its note keeps."""
-    note = document.get("note")
     try:
+        note = document["note"]
         return Sizes(Fraction(note["lot"]), Fraction(note["unit"]), note["rounded"])
     except (TypeError, KeyError, ValueError):
         raise Trouble("the document has no note of its lot and its unit: it isn't one of tools/lanes") from None
@@ -75,10 +79,14 @@ def built_again(network: Network, document: dict) -> Built:
 
 def solved(built: Built, answer: dict) -> Standing:
     """An answer of `solve`, which has to be one to the document."""
-    codes, prices = {lot.code for lot in built.lots}, dict(answer["prices"])
-    if set(prices) != codes or not codes.issuperset(answer["on"]):
+    codes = {lot.code for lot in built.lots}
+    try:
+        on, prices, surplus = frozenset(answer["on"]), dict(answer["prices"]), answer["surplus"]
+    except (TypeError, KeyError, ValueError):
+        raise Trouble("this is no answer of solve") from None
+    if set(prices) != codes or not codes.issuperset(on):
         raise Trouble("the answer of solve is one to another document")
-    return Standing(built, frozenset(answer["on"]), answer["surplus"], Prices(prices))
+    return Standing(built, on, surplus, Prices(prices))
 
 
 def with_ranges(standing: Standing, answer: dict) -> Standing:
@@ -102,8 +110,9 @@ def lane_cells(standing: Standing, lane: Lane) -> tuple:
     of_unit = standing.built.sizes.unit / standing.built.sizes.lot
     prices = bounds_of(standing.prices, going or lots)
     ranges = bounds_of(standing.lowest, going or lots)[0], bounds_of(standing.highest, going or lots)[1]
-    return (standing.quantity(len(going)), *(price if price is None else price * of_unit for price in (*prices, *ranges)),
-            standing.money(sum(lot.cost for lot in going)), standing.money(sum(standing.prices.of[lot.code] for lot in going)))
+    freight, paid = sum(lot.cost for lot in going), sum(standing.prices.of[lot.code] for lot in going)
+    for_unit = [price if price is None else price * of_unit for price in (*prices, *ranges)]
+    return standing.quantity(len(going)), *for_unit, standing.money(freight), standing.money(paid)
 
 
 def bounds_of(prices: Optional[Prices], lots: list[Lot]) -> tuple[Optional[int], Optional[int]]:
@@ -119,7 +128,8 @@ def firm_table(standing: Standing, firms: list[Firm], program: Program) -> Itera
     for k, firm in enumerate(firms):
         bought, sold = standing.sides(firm)
         capacity = firm.schedule.capacity and firm.schedule.capacity.value
-        cells = [cell for prices, rows in zip(lists, told) for cell in money_cells(standing, prices, rows and rows[k], bought, sold)]
+        cells = [cell for prices, rows in zip(lists, told)
+                 for cell in money_cells(standing, prices, rows and rows[k], bought, sold)]
         yield (firm.name, firm.role, capacity, standing.quantity(len(bought)), standing.quantity(len(sold)),
                standing.money(told[0][k]["worth"]), *cells)
 
@@ -127,7 +137,8 @@ def firm_table(standing: Standing, firms: list[Firm], program: Program) -> Itera
 def told_of_firms(standing: Standing, prices: Prices, program: Program) -> list[dict]:
     """What `firms` says of each firm at these prices, at which all have to be content."""
     on = [lot.code for lot in standing.flow(standing.built.lots)]
-    answer = program.run("firms", {**standing.built.document, "arrangement": {"on": on, "prices": list(prices.of.items())}})
+    arrangement = {"on": on, "prices": list(prices.of.items())}
+    answer = program.run("firms", {**standing.built.document, "arrangement": arrangement})
     unhappy = [firm["firm"] for firm in answer["firms"] if firm["gain"] != 0]
     if unhappy:
         raise Trouble(f"the answer is no equilibrium of this document: {unhappy[0]} would do better")
@@ -151,7 +162,8 @@ def capacity_table(standing: Standing, network: Network, program: Program) -> It
             wider = replace(firm, schedule=with_more(firm.schedule, lot))
             changed = Network([wider if each is firm else each for each in network.firms], network.lanes)
             used = standing.quantity(len(sold if firm.role == SELLS else bought))
-            yield (firm.name, None, None, None, None, firm.schedule.capacity.value, used, *brings(standing, changed, program))
+            yield (firm.name, None, None, None, None, firm.schedule.capacity.value, used,
+                   *brings(standing, changed, program))
     for lane in network.lanes:
         if lane.schedule.capacity:
             wider = replace(lane, schedule=with_more(lane.schedule, lot))

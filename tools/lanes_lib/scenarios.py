@@ -63,7 +63,8 @@ def changed(firms: Table, lanes: Table, row: Row) -> tuple[Table, Table]:
         found = [firm for firm in firms.rows if matches(row, firm, "firm")]
         if row["change"].text == OUT:
             gone = {firm["firm"].text for firm in found}
-            lanes = replace(lanes, rows=[lane for lane in lanes.rows if gone.isdisjoint((lane["from"].text, lane["to"].text))])
+            lanes = replace(lanes, rows=[lane for lane in lanes.rows
+                                         if gone.isdisjoint((lane["from"].text, lane["to"].text))])
         return with_change(firms, found, row, FIRM_COLUMNS), lanes
     if row["from"].text and row["to"].text and not row["firm"].text:
         found = [lane for lane in lanes.rows if matches(row, lane, "from", "to", "good", "by")]
@@ -141,7 +142,8 @@ def summary_table(base: Standing, results: list[Result]) -> Iterator[tuple]:
         moves = [name for name in dict.fromkeys((*before, *after)) if before.get(name, 0) != after.get(name, 0)]
         listed = "; ".join(f"{lane_text(name)}: {digits(base.quantity(before.get(name, 0)))} > "
                            f"{digits(base.quantity(after.get(name, 0)))}" for name in moves)
-        yield (result.name, base.money(result.standing.surplus), base.money(result.standing.surplus - base.surplus), listed, None)
+        surplus = result.standing.surplus
+        yield result.name, base.money(surplus), base.money(surplus - base.surplus), listed, None
 
 
 def lane_text(name: tuple) -> str:
@@ -156,7 +158,8 @@ def lane_table(base: Standing, results: list[Result], network: Network) -> Itera
     for result in results:
         after = flows(result.standing) if result.standing else {}
         for lane in network.lanes if result.standing else ():
-            yield (result.name, *lane.name, base.quantity(after.get(lane.name, 0)), base.quantity(before.get(lane.name, 0)))
+            yield (result.name, *lane.name, base.quantity(after.get(lane.name, 0)),
+                   base.quantity(before.get(lane.name, 0)))
 
 
 def firm_table(base: Standing, results: list[Result], scenarios: list[Scenario], network: Network,

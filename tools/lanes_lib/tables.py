@@ -22,7 +22,8 @@ class Trouble(Exception):
 
 @dataclass(frozen=True)
 class Form:
-    """How a file is written: what parts its cells, its decimal sign, its line ends, and whether it has a byte order mark."""
+    """How a file is written: what parts its cells, its decimal sign, its line ends, and whether it has a byte order
+    mark."""
     separator: str = ","
     decimal: str = "."
     line_end: str = "\n"
@@ -166,8 +167,8 @@ def guarded(text: str) -> str:
 
 
 def written(form: Form, *tables: Iterable[Iterable[object]]) -> str:
-    """Tables as text in a form, with an empty line between them; a number is a Fraction, or a whole one, and None is an empty
-    cell."""
+    """Tables as text in a form, with an empty line between them; a number is a Fraction, or a whole one, and None is an
+    empty cell."""
     out = io.StringIO(newline="")
     writer = csv.writer(out, delimiter=form.separator, lineterminator=form.line_end)
     for k, table in enumerate(tables):
