@@ -8,7 +8,7 @@ from __future__ import annotations
 
 import math
 from dataclasses import dataclass
-from typing import Optional
+from typing import Iterator, Optional
 
 from .document import LARGEST, MOST_FIRMS, MOST_OF_VERSION_1, MOST_OWN_TRADES, MOST_TRADES
 from .tables import Trouble
@@ -132,3 +132,20 @@ def firm_of(number: int, supply: int, worth: int, trades: list[tuple[str, Arc, i
         values, begin = [worth * lots for lots in range(1 - supply)], 0
     sets = [{"trades": own, "from": begin, "values": values}] if own else []
     return {"name": str(number), "kind": "laminar", "amounts": amounts, "sets": sets}
+
+
+def flow_lines(flow: Flow, document: dict, answer: dict) -> Iterator[str]:
+    """The flow of an answer of `solve` to the document of a flow, in the format of DIMACS."""
+    note, on = document["note"], set(answer["on"])
+    lots: dict[int, int] = {}
+    taken = 0
+    for name, k in ((trade["name"], int(trade["name"][1:].split(".")[0])) for trade in document["trades"]):
+        if name in on:
+            arc = flow.arcs[k - 1]
+            lots[k] = lots.get(k, 0) + 1
+            taken += (flow.supplies.get(arc.target, 0) < 0) - (flow.supplies.get(arc.source, 0) < 0)
+    if taken < note["demand"]:
+        raise Trouble(f"there is no flow: of {note['demand']} lots that are demanded {taken} get there at most")
+    yield f"s {note['worth'] * note['demand'] - answer['surplus']}"
+    for k, count in sorted(lots.items()):
+        yield f"f {flow.arcs[k - 1].source} {flow.arcs[k - 1].target} {count * note['lot']}"
