@@ -142,16 +142,20 @@ def build(network: Network, sizes: Sizes) -> Built:
 
 
 def lots_of(lane: Lane, sizes: Sizes, schedules: dict[str, LotSchedule]) -> Iterator[Lot]:
-    """As many lots as may go by the lane: no more than either of its firms could send or take."""
+    """As many lots as may go by the lane, but no more than one above what either of its firms could send or take.
+
+    That one stays off, and at its price nobody wants a further lot; those after it would hold no other price.
+    """
     schedule = in_lots(lane.schedule, sizes, False)
-    parts = schedule, schedules[lane.source], schedules[lane.target]
-    capacities = [part.capacity for part in parts if part.capacity is not None]
-    if not capacities:
+    ends = (schedules[lane.source].capacity, schedules[lane.target].capacity)
+    bounds = [schedule.capacity, *(None if capacity is None else capacity + 1 for capacity in ends)]
+    count = min((bound for bound in bounds if bound is not None), default=None)
+    if count is None:
         raise Trouble(f"{lane.place}: neither this lane nor a firm at its ends has a capacity")
-    if min(capacities) > MOST_OWN_TRADES:
-        raise Trouble(f"{lane.place}: {min(capacities)} lots may go by this lane, and a firm has at most "
-                      f"{MOST_OWN_TRADES}: take a larger --lot, or a smaller capacity")
-    for k, cost in enumerate(schedule.amounts(min(capacities)), 1):
+    if count > MOST_OWN_TRADES:
+        raise Trouble(f"{lane.place}: {count} lots may go by this lane, and a firm has at most {MOST_OWN_TRADES}: "
+                      "take a larger --lot, or a smaller capacity")
+    for k, cost in enumerate(schedule.amounts(count), 1):
         yield Lot(f"L{lane.row}.{k}", lane, small(cost, lane.place))
 
 
