@@ -15,8 +15,8 @@ from fractions import Fraction
 from itertools import accumulate
 from typing import Iterable, Iterator, Optional
 
-from .network import BUYS, SELLS, Firm, Lane, Network, Schedule
-from .tables import Measure, Trouble, digits
+from .network import BUYS, SELLS, Firm, Lane, Network, Schedule, each
+from .tables import Measure, Trouble, digits, raise_all
 
 MOST_FIRMS = MOST_TRADES = 128
 MOST_OF_VERSION_1 = 64
@@ -127,9 +127,13 @@ def build(network: Network, sizes: Sizes) -> Built:
     """The document of a network, within the limits of documents."""
     if len(network.firms) > MOST_FIRMS:
         raise Trouble(f"{network.firms[MOST_FIRMS].place}: a document has at most {MOST_FIRMS} firms")
-    schedules = {firm.name: in_lots(firm.schedule, sizes, firm.role == BUYS) for firm in network.firms}
+    troubles: list[str] = []
+    firm_schedules = each(network.firms, lambda firm: in_lots(firm.schedule, sizes, firm.role == BUYS), troubles)
+    lane_schedules = each(network.lanes, lambda lane: in_lots(lane.schedule, sizes, False), troubles)
+    raise_all(troubles)
+    schedules = {firm.name: schedule for firm, schedule in zip(network.firms, firm_schedules)}
     codes = codes_of(network.firms)
-    lots = [lot for lane in network.lanes for lot in lots_of(lane, sizes, schedules)]
+    lots = [lot for lane, schedule in zip(network.lanes, lane_schedules) for lot in lots_of(lane, schedule, schedules)]
     check_limits(lots)
     document = {
         "version": 1 if max(len(network.firms), len(lots)) <= MOST_OF_VERSION_1 else 2,
@@ -141,12 +145,11 @@ def build(network: Network, sizes: Sizes) -> Built:
     return Built(document, lots, codes, sizes)
 
 
-def lots_of(lane: Lane, sizes: Sizes, schedules: dict[str, LotSchedule]) -> Iterator[Lot]:
+def lots_of(lane: Lane, schedule: LotSchedule, schedules: dict[str, LotSchedule]) -> Iterator[Lot]:
     """As many lots as may go by the lane, but no more than one above what either of its firms could send or take.
 
     That one stays off, and at its price nobody wants a further lot; those after it would hold no other price.
     """
-    schedule = in_lots(lane.schedule, sizes, False)
     ends = (schedules[lane.source].capacity, schedules[lane.target].capacity)
     bounds = [schedule.capacity, *(None if capacity is None else capacity + 1 for capacity in ends)]
     count = min((bound for bound in bounds if bound is not None), default=None)

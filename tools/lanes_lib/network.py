@@ -4,15 +4,14 @@ from __future__ import annotations
 import re
 from dataclasses import dataclass, field, replace
 from fractions import Fraction
-from typing import Callable, Iterator, Optional
+from typing import Callable, Iterable, Iterator, Optional
 
-from .tables import Cell, Measure, Row, Table, Trouble, digits
+from .tables import Cell, Measure, Row, Table, Trouble, digits, raise_all
 
 SELLS, MAKES, PASSES_ON, BUYS = ROLES = ("sells", "makes", "passes on", "buys")
 STEPS = r"(quantity|at) [1-9]\d?"
 FIRM_COLUMNS = re.compile(rf"firm|role|capacity|{STEPS}|inputs|outputs|note")
 LANE_COLUMNS = re.compile(rf"from|to|good|by|capacity|{STEPS}|note")
-TROUBLES = 20  # as many are told at once
 
 
 @dataclass(frozen=True)
@@ -77,8 +76,8 @@ class Network:
 def network_of(firms: Table, lanes: Table) -> Network:
     """Reads both tables; the first troubles of them are told together."""
     troubles: list[str] = []
-    read_firms = each(firms, firm_of, troubles)
-    read_lanes = each(lanes, lane_of, troubles)
+    read_firms = each(firms.rows, firm_of, troubles)
+    read_lanes = each(lanes.rows, lane_of, troubles)
     same_names(read_firms, lambda firm: firm.name, troubles)
     same_names(read_lanes, lambda lane: lane.name, troubles)
     network = Network(read_firms, read_lanes)
@@ -86,20 +85,19 @@ def network_of(firms: Table, lanes: Table) -> Network:
         for lane in read_lanes:
             troubles.extend(lane_troubles(network, lane))
         troubles.extend(good_troubles(network))
-    if troubles:
-        more = f"\n.. and {len(troubles) - TROUBLES} more" if len(troubles) > TROUBLES else ""
-        raise Trouble("\n".join(troubles[:TROUBLES]) + more)
+    raise_all(troubles)
     return network
 
 
-def each(table: Table, read: Callable[[Row], object], troubles: list[str]) -> list:
-    parts = []
-    for row in table.rows:
+def each(parts: Iterable, read: Callable[[object], object], troubles: list[str]) -> list:
+    """What is read of each part, where nothing is wrong with it."""
+    found = []
+    for part in parts:
         try:
-            parts.append(read(row))
+            found.append(read(part))
         except Trouble as trouble:
             troubles.append(str(trouble))
-    return parts
+    return found
 
 
 def same_names(parts: list, name_of: Callable[[object], object], troubles: list[str]) -> None:

@@ -16,8 +16,18 @@ NUMERIC = re.compile(r"capacity|value|(quantity|at) [1-9]\d?")
 MARK = "\ufeff"
 
 
+TROUBLES = 20  # as many are told at once
+
+
 class Trouble(Exception):
     """What is wrong in a table, with its place."""
+
+
+def raise_all(troubles: list[str]) -> None:
+    """Raises the troubles, if there are any, as one."""
+    if troubles:
+        more = f"\n.. and {len(troubles) - TROUBLES} more" if len(troubles) > TROUBLES else ""
+        raise Trouble("\n".join(troubles[:TROUBLES]) + more)
 
 
 @dataclass(frozen=True)
