@@ -13,7 +13,7 @@ import unicodedata
 from dataclasses import dataclass
 from fractions import Fraction
 from itertools import accumulate
-from typing import Iterable, Iterator, Optional
+from typing import Iterable, Iterator, Optional, Union
 
 from .network import BUYS, SELLS, Firm, Lane, Network, Schedule, each
 from .tables import Measure, Trouble, digits, raise_all
@@ -143,6 +143,14 @@ def build(network: Network, sizes: Sizes) -> Built:
                     "note": str(lot.lane)} for lot in lots],
     }
     return Built(document, lots, codes, sizes)
+
+
+def built_or_why(network: Network, sizes: Sizes) -> Union[Built, str]:
+    """The document of a network, or why there is none."""
+    try:
+        return build(network, sizes)
+    except Trouble as trouble:
+        return str(trouble)
 
 
 def lots_of(lane: Lane, schedule: LotSchedule, schedules: dict[str, LotSchedule]) -> Iterator[Lot]:

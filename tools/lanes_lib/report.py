@@ -9,7 +9,7 @@ from dataclasses import dataclass, replace
 from fractions import Fraction
 from typing import Iterable, Iterator, Optional
 
-from .document import Built, Lot, Sizes, build
+from .document import Built, Lot, Sizes, build, built_or_why
 from .network import SELLS, Firm, Lane, Network, Schedule
 from .program import Program
 from .tables import Trouble
@@ -124,7 +124,9 @@ def firm_table(standing: Standing, firms: list[Firm], program: Program) -> Itera
     """What each firm buys, sells and keeps at the answer's prices, at all lowest and at all highest ones."""
     yield FIRM_HEAD
     lists = (standing.prices, standing.lowest, standing.highest)
-    told = [told_of_firms(standing, prices, program) if prices and prices.are_all_there() else None for prices in lists]
+    whole = [prices for prices in lists if prices and prices.are_all_there()]
+    answers = program.ask_each("firms", (with_arrangement(standing, prices) for prices in whole))
+    told = [content_firms(next(answers)) if prices in whole else None for prices in lists]
     for k, firm in enumerate(firms):
         bought, sold = standing.sides(firm)
         capacity = firm.schedule.capacity and firm.schedule.capacity.value
@@ -134,11 +136,14 @@ def firm_table(standing: Standing, firms: list[Firm], program: Program) -> Itera
                standing.money(told[0][k]["worth"]), *cells)
 
 
-def told_of_firms(standing: Standing, prices: Prices, program: Program) -> list[dict]:
-    """What `firms` says of each firm at these prices, at which all have to be content."""
+def with_arrangement(standing: Standing, prices: Prices) -> dict:
+    """The document with the trades that are on, at these prices."""
     on = [lot.code for lot in standing.flow(standing.built.lots)]
-    arrangement = {"on": on, "prices": list(prices.of.items())}
-    answer = program.run("firms", {**standing.built.document, "arrangement": arrangement})
+    return {**standing.built.document, "arrangement": {"on": on, "prices": list(prices.of.items())}}
+
+
+def content_firms(answer: dict) -> list[dict]:
+    """What an answer of `firms` says of each; all have to be content."""
     unhappy = [firm["firm"] for firm in answer["firms"] if firm["gain"] != 0]
     if unhappy:
         raise Trouble(f"the answer is no equilibrium of this document: {unhappy[0]} would do better")
@@ -155,34 +160,36 @@ def money_cells(standing: Standing, prices: Prices, told: Optional[dict], bought
 def capacity_table(standing: Standing, network: Network, program: Program) -> Iterator[tuple]:
     """What one more lot of each capacity would bring to all together, as `solve` says of the document with it."""
     yield CAPACITY_HEAD
+    rows = [(cells, built_or_why(wider, standing.built.sizes)) for cells, wider in wider_networks(standing, network)]
+    same = standing.built.document  # (where something else limits it)
+    answers = program.ask_each("solve", (built.document for _, built in rows
+                                         if isinstance(built, Built) and built.document != same))
+    for cells, built in rows:
+        if isinstance(built, str):
+            yield (*cells, None, built)
+        else:
+            surplus = standing.surplus if built.document == same else next(answers)["surplus"]
+            yield (*cells, standing.money(surplus - standing.surplus), None)
+
+
+def wider_networks(standing: Standing, network: Network) -> Iterator[tuple[tuple, Network]]:
+    """For each capacity the cells of its row, and the network with one more lot of it."""
     lot = standing.built.sizes.lot
     for firm in network.firms:
         if firm.schedule.capacity:
             bought, sold = standing.sides(firm)
-            wider = replace(firm, schedule=with_more(firm.schedule, lot))
-            changed = Network([wider if each is firm else each for each in network.firms], network.lanes)
             used = standing.quantity(len(sold if firm.role == SELLS else bought))
-            yield (firm.name, None, None, None, None, firm.schedule.capacity.value, used,
-                   *brings(standing, changed, program))
+            wider = replace(firm, schedule=with_more(firm.schedule, lot))
+            yield ((firm.name, None, None, None, None, firm.schedule.capacity.value, used),
+                   Network([wider if each is firm else each for each in network.firms], network.lanes))
     for lane in network.lanes:
         if lane.schedule.capacity:
-            wider = replace(lane, schedule=with_more(lane.schedule, lot))
-            changed = Network(network.firms, [wider if each is lane else each for each in network.lanes])
             used = standing.quantity(len(standing.flow(standing.lots_of(lane))))
-            yield (None, *lane.name, lane.schedule.capacity.value, used, *brings(standing, changed, program))
+            wider = replace(lane, schedule=with_more(lane.schedule, lot))
+            yield ((None, *lane.name, lane.schedule.capacity.value, used),
+                   Network(network.firms, [wider if each is lane else each for each in network.lanes]))
 
 
 def with_more(schedule: Schedule, lot: Fraction) -> Schedule:
     """A schedule with one more lot, which costs as much as the last one."""
     return replace(schedule, capacity=schedule.capacity.with_value(schedule.capacity.value + lot))
-
-
-def brings(standing: Standing, changed: Network, program: Program) -> tuple[Optional[Fraction], Optional[str]]:
-    """By how much the surplus of a changed network is greater; where a document can't have it, why."""
-    try:
-        built = build(changed, standing.built.sizes)
-    except Trouble as trouble:
-        return None, str(trouble)
-    if built.document == standing.built.document:  # (something else limits it)
-        return Fraction(0), None
-    return standing.money(program.run("solve", built.document)["surplus"] - standing.surplus), None

@@ -5,10 +5,10 @@ import re
 from dataclasses import dataclass, replace
 from typing import Iterator, Optional, Union
 
-from .document import Built, Sizes, build
+from .document import Built, Sizes, built_or_why
 from .network import FIRM_COLUMNS, LANE_COLUMNS, Network, network_of
 from .program import Program
-from .report import Standing, solved, told_of_firms
+from .report import Standing, content_firms, solved, with_arrangement
 from .tables import NUMERIC, Cell, Row, Table, Trouble, digits
 
 COLUMNS = re.compile(r"scenario|firm|from|to|good|by|change|value|note")
@@ -108,10 +108,7 @@ def new_cell(old: Cell, value: Cell) -> Cell:
 def built_each(scenarios: list[Scenario], sizes: Sizes) -> Iterator[tuple[Scenario, Union[Built, str]]]:
     """Each scenario with its document, or with what is wrong with it."""
     for scenario in scenarios:
-        try:
-            yield scenario, scenario.trouble or build(scenario.network, sizes)
-        except Trouble as trouble:
-            yield scenario, str(trouble)
+        yield scenario, scenario.trouble or built_or_why(scenario.network, sizes)
 
 
 def results_of(scenarios: list[Scenario], sizes: Sizes, program: Program) -> list[Result]:
@@ -166,15 +163,16 @@ def firm_table(base: Standing, results: list[Result], scenarios: list[Scenario],
                program: Program) -> Iterator[tuple]:
     """For each scenario a line for each of its firms: what it buys, sells and keeps, as `firms` says."""
     yield FIRM_HEAD
-    kept = kept_by(base, network, program)
-    for result, scenario in zip(results, scenarios):
-        if result.standing:
-            now = kept_by(result.standing, scenario.network, program)
-            for firm in scenario.network.firms:
-                bought, sold = (base.quantity(len(lots)) for lots in result.standing.sides(firm))
-                yield result.name, firm.name, bought, sold, now[firm.name], kept[firm.name]
+    solved_ones = [(result, scenario.network) for result, scenario in zip(results, scenarios) if result.standing]
+    standings = [base, *(result.standing for result, _ in solved_ones)]
+    answers = program.ask_each("firms", (with_arrangement(each, each.prices) for each in standings))
+    before = kept_by(base, network, next(answers))
+    for (result, changed_network), answer in zip(solved_ones, answers):
+        kept = kept_by(result.standing, changed_network, answer)
+        for firm in changed_network.firms:
+            bought, sold = (base.quantity(len(lots)) for lots in result.standing.sides(firm))
+            yield result.name, firm.name, bought, sold, kept[firm.name], before[firm.name]
 
 
-def kept_by(standing: Standing, network: Network, program: Program) -> dict:
-    told = told_of_firms(standing, standing.prices, program)
-    return {firm.name: standing.money(each["utility"]) for firm, each in zip(network.firms, told)}
+def kept_by(standing: Standing, network: Network, answer: dict) -> dict:
+    return {firm.name: standing.money(each["utility"]) for firm, each in zip(network.firms, content_firms(answer))}
