@@ -1,4 +1,5 @@
 // What a user does with buttons, fields, keys and files, as actions.
+import {claimedAs, claimOf} from "./claims.js";
 import {COMMANDS} from "./commands.js";
 import {arranged} from "./edits.js";
 import {goTo, refreshEditor} from "./editor.js";
@@ -10,16 +11,21 @@ import {fragmentOf, MOST_LETTERS} from "./link.js";
 import {part} from "./page.js";
 import {zoomIn, zoomOut} from "./scene.js";
 import {isOld, networkOf} from "./state.js";
+import {stepOf, toldOf} from "./story.js";
+import {countOver, signGuess} from "./terms.js";
 
 /** The actions that change the document. */
 const CHANGES = ["opened", "typed", "edited", "undone", "redone"];
 
-/** Binds everything. `documents` are the examples in groups; `run` asks and ends the command. */
+/** Binds everything. `documents` are the examples in groups; `run` asks and ends the command, and asks for reasons. */
 export function bind(store, documents, run) {
     bindDocument(store, documents);
     bindHistory(store);
     bindScene(store);
     bindGuess(store, run);
+    bindStory(store, run);
+    bindSigning(store);
+    bindClaims(store);
     bindTabs(store);
     bindCommand(store, run);
     bindLink(store);
@@ -97,12 +103,13 @@ function stepObjectors(store) {
     store.act("selected", {kind: "firm", name: list[(now + 1) % list.length]});
 }
 
-function bindGuess(store, {ask}) {
-    on("solve", () => {
+function bindGuess(store, {ask, wonder}) {
+    on("solve", async () => {
         store.act("chosen", ["solve"]);
         part("command").value = "solve";
         part("words").hidden = true;
-        ask();
+        await ask();
+        if (store.value.answer?.said?.fault === 16n && !isOld(store.value, store.value.answer)) wonder("test");
     });
     on("ranges", () => store.act("looked", {hasRanges: !store.value.view.hasRanges}));
     on("buyers-best", () => take(store, "low"));
@@ -114,6 +121,55 @@ function bindGuess(store, {ask}) {
     on("over-leave", () => store.act("looked", {isOver: false}));
     on("firms-csv", () => saveFirms(store.value));
     on("ranges-csv", () => saveRanges(store.value));
+}
+
+/** The story of a reason, which is stepped through above the network or gone to in its list. */
+function bindStory(store, {wonder}) {
+    const go = (step) => {
+        if (store.value.selection !== null) store.act("selected", null);
+        store.act("looked", {step});
+    };
+    on("wonder", () => wonder());
+    on("story-back", () => go(stepOf(store.value).place - 1));
+    on("story-next", () => go(stepOf(store.value).place + 1));
+    part("reason-lines").addEventListener("click", ({target}) => {
+        const step = target.closest("[data-step]")?.dataset.step;
+        if (step !== undefined) go(Number(step));
+    });
+    on("reason-close", () => store.act("reasoned", null));
+    on("reason-take", () => {
+        const {said} = toldOf(store.value);
+        arrange(store, [...networkOf(store.value.document).arrangement.on], said.prices);
+    });
+}
+
+const NOT_WHOLE = "With this denominator a price isn't whole.", BOUNDS = "A denominator is a whole number from 1 to 100.";
+
+function bindSigning(store) {
+    on("sign-guess", () => signGuess(store));
+    part("denominator").addEventListener("change", () => {
+        const text = part("denominator").value.trim(), isOne = /^([1-9]\d?|100)$/.test(text);
+        const isCounted = isOne && countOver(store, BigInt(text));
+        part("denominator").setAttribute("aria-invalid", `${!isCounted}`);
+        part("denominator-says").textContent = isCounted ? "" : isOne ? NOT_WHOLE : BOUNDS;
+    });
+}
+
+/** Puts an answer into the document as its claim, where it is one to the present document, and shows what is decided. */
+function claim(store, told) {
+    if (!told?.said || isOld(store.value, told)) return;
+    store.act("edited", claimedAs(networkOf(store.value.document), told.said));
+    store.act("went", "claim");
+}
+
+function bindClaims(store) {
+    on("reason-claim", () => claim(store, toldOf(store.value)));
+    for (const id of ["over-claim", "answer-claim"]) on(id, () => claim(store, store.value.answer));
+    on("claim-go", () => {
+        store.act("went", "document");
+        refreshEditor();
+        goTo(claimOf(networkOf(store.value.document)));
+    });
 }
 
 /** Takes all lowest or all highest prices as the guess. */
@@ -130,7 +186,7 @@ function arrange(store, names, prices) {
 function bindTabs(store) {
     const tabs = [...part("tabs").children], nameOf = (tab) => tab.id.slice("tab-".length);
     const go = (tab) => {
-        store.act("looked", {panel: nameOf(tab)});
+        store.act("went", nameOf(tab));
         if (nameOf(tab) === "document") refreshEditor();
     };
     for (const tab of tabs) tab.addEventListener("click", () => go(tab));
@@ -158,7 +214,7 @@ function bindCommand(store, {ask, end}) {
     });
     part("form").addEventListener("submit", (event) => {
         event.preventDefault();
-        store.act("looked", {panel: "answer"});
+        store.act("went", "answer");
         ask();
     });
     part("end").addEventListener("click", () => {

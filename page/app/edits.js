@@ -68,7 +68,8 @@ function arrangementOf(network) {
     return network.root.kind === "object" ? memberOf(network.root, "arrangement", "object") : null;
 }
 
-function memberOf(object, name, kind) {
+/** A member of an object that is of a kind, or null. */
+export function memberOf(object, name, kind) {
     const member = object.value.get(name);
     return member?.kind === kind ? member : null;
 }
@@ -84,19 +85,19 @@ function entriesText(network, prices) {
 }
 
 /** A member at the end of an object; of equal members the last one counts. */
-function withMember({value, end}, name, text) {
+export function withMember({value, end}, name, text) {
     return {start: end - 1, end: end - 1, text: `${value.size > 0 ? "," : ""}${JSON.stringify(name)}:${text}`};
 }
 
 /** Another item behind the last one of a list. */
-function added({value, end}, text) {
+export function added({value, end}, text) {
     if (value.length === 0) return {start: end - 1, end: end - 1, text};
     const last = value[value.length - 1].end;
     return {start: last, end: last, text: `,${text}`};
 }
 
 /** A list without some of its items, and without the commas that set them apart. */
-function without({value}, isGone) {
+export function without({value}, isGone) {
     const kept = value.filter((item) => !isGone(item));
     if (kept.length === value.length) return [];
     if (kept.length === 0) return [{start: value[0].start, end: value[value.length - 1].end, text: ""}];

@@ -3,7 +3,7 @@ import {networkPicture} from "../draw/network.js";
 import {cellsOf, linesOf} from "./firms.js";
 import {offer} from "./page.js";
 import {neighbourhood} from "./scene.js";
-import {networkOf} from "./state.js";
+import {isOld, networkOf} from "./state.js";
 
 /** The name of a file without its ending. */
 function stem(name) {
@@ -16,8 +16,9 @@ export function saveDocument({document: {name, bytes}}) {
 
 /** The picture of the network with what is answered of the guess, as page/draw draws it. */
 export function savePicture(value) {
-    const {document, guess, answer, view} = value, network = networkOf(document);
-    const said = view.isOver ? answer.said : guess?.said?.answer === "firms" ? guess.said : {};
+    const {document, guess, judged, answer, view} = value, network = networkOf(document);
+    const signed = judged !== null && !isOld(value, judged) && judged.said !== null ? judged.said : {};
+    const said = view.isOver ? answer.said : view.mode === "sign" ? signed : guess?.said?.answer === "firms" ? guess.said : {};
     offer(`${stem(document.name)}.svg`, networkPicture(network, said, {firm: neighbourhood(value)}), "image/svg+xml");
 }
 

@@ -1,5 +1,5 @@
 // The table of firms: what each has, what that is worth to it, and what it would rather have.
-import {keepingFocus, made, part, write} from "./page.js";
+import {keepingFocus, made, part} from "./page.js";
 import {isOld, networkOf} from "./state.js";
 import {moodOf} from "./stage.js";
 
@@ -9,9 +9,8 @@ const MOODS = {content: "content", objects: "objects", impossible: "objects: wha
 
 let shownOf = null;
 
-/** Shows the table, and what is said of the guess above the network. */
+/** Shows the table. */
 export function showFirms(value) {
-    showVerdict(value);
     const {guess, document, selection} = value, table = part("firms");
     table.classList.toggle("old", isOld(value, guess));
     if (shownOf !== null && shownOf.guess === guess && shownOf.document === document && shownOf.selection === selection) return;
@@ -59,30 +58,4 @@ function namesOf(names) {
 /** The firms that aren't content. */
 export function objectors({guess}) {
     return [...linesOf(guess).values()].filter((line) => moodOf(line) !== "content").map(({firm}) => firm);
-}
-
-function showVerdict(value) {
-    const {guess, document, selection} = value, verdict = verdictOf(value), list = objectors(value);
-    write("verdict", verdict.says);
-    part("verdict").className = isOld(value, guess) ? `${verdict.mood} old` : verdict.mood;
-    part("objects").disabled = list.length === 0 || isOld(value, guess);
-    document.isWhole && write("told", selection?.kind === "firm" ? toldOf(value, selection.name) : "");
-}
-
-/** The sentence of one firm. */
-function toldOf({guess, document}, name) {
-    const place = networkOf(document).firms.findIndex((firm) => firm.name === name);
-    return guess?.said?.answer === "firms" && place >= 0 ? guess.sentences[place + 1] ?? "" : "";
-}
-
-function verdictOf({document, guess}) {
-    if (!document.isWhole) return {mood: "unknown", says: "The document is too long to guess at. The commands can be asked."};
-    if (guess === null) return {mood: "unknown", says: "The program is asked."};
-    if (guess.trouble) return {mood: "fault", says: guess.trouble};
-    if (guess.isNone) return {mood: "unknown", says: "No guess yet: click a trade, or press Solve."};
-    if (guess.said.answer !== "firms") return {mood: "fault", says: guess.sentences.join(" ")};
-    const {firms, content, surplus} = guess.said;
-    return content === BigInt(firms.length)
-        ? {mood: "content", says: `\u2713 An equilibrium: every firm is content, and the worths sum to ${surplus}.`}
-        : {mood: "objects", says: `\u2717 No equilibrium: ${content} of ${firms.length} firms are content.`};
 }

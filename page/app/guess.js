@@ -1,8 +1,13 @@
-// What is answered to a guess: `firms` of the newest text, and `range` where ranges are looked at, without being asked for.
+// What is answered without being asked for: `firms` of the newest text, and where these are looked at `range`, `judge` and `replay`.
 import {NoAnswer, readAnswer} from "../read/answer.js";
+import {haves} from "../read/firms.js";
 import {explain} from "../say/explain.js";
 import {markOf} from "./answer.js";
-import {Ended, NoAnswerCame} from "./ask.js";
+import {storyOf} from "../say/story.js";
+import {whyPicture} from "../draw/why.js";
+import {Ended, inText, NoAnswerCame} from "./ask.js";
+import {claimOf} from "./claims.js";
+import {hasOutcome} from "./contracts.js";
 import {hasArrangement} from "./edits.js";
 import {isOld, networkOf} from "./state.js";
 
@@ -20,10 +25,12 @@ export class Guesses {
 
     /** What is to be asked next: words and how their answer is taken in; null where all is answered. */
     next() {
-        const {value} = this.store, {document, guess, ranges, view} = value;
-        if (!document.isWhole) return null;
-        if (guess === null || isOld(value, guess)) return ["firms", "guessed"];
-        return view.hasRanges && (ranges === null || isOld(value, ranges)) ? ["range", "ranged"] : null;
+        const {value} = this.store, {view} = value, isWanted = (said) => said === null || isOld(value, said);
+        if (!value.document.isWhole) return null;
+        if (view.mode === "sign" && isWanted(value.judged)) return ["judge", "judged"];
+        if (isWanted(value.guess)) return ["firms", "guessed"];
+        if (view.panel === "claim" && isWanted(value.decided)) return ["replay", "decided"];
+        return view.hasRanges && isWanted(value.ranges) ? ["range", "ranged"] : null;
     }
 
     look() {
@@ -42,7 +49,7 @@ export class Guesses {
         let said = null;
         try {
             const ask = this.program.turn();
-            said = await understood(document, await ask([words], document.bytes));
+            said = await understood(document, words, await ask([words], document.bytes), inText(ask));
         } catch (error) {
             if (error instanceof NoAnswerCame) said = {document, said: null, trouble: error.message};
             else if (!(error instanceof Ended)) throw error;
@@ -54,8 +61,11 @@ export class Guesses {
     }
 }
 
-/** An answer to a guess, as `{document, said, sentences, mark, isNone}`; `isNone` where the document has no arrangement to judge. */
-async function understood(document, {bytes}) {
+/**
+ * An answer to a document, as `{document, said, sentences, mark, isNone, story, svg, has}`. `isNone` says that the document hasn't the
+ * part that is asked about; the last three are of an answer of `judge`: why it is so, and what each firm has.
+ */
+async function understood(document, words, {bytes}, ask) {
     const network = networkOf(document);
     let said = null;
     try {
@@ -64,7 +74,26 @@ async function understood(document, {bytes}) {
         if (!(error instanceof NoAnswer)) throw error;
         return {document, said: null, trouble: "The program's answer could not be read."};
     }
-    const isFault = said.answer === "fault";
-    const isNone = isFault && said.place[0] === "arrangement" && said.place.length === 1 && !network.problem && !hasArrangement(network);
-    return {document, said, isNone, sentences: await explain(network, said, null), mark: isFault && !isNone ? markOf(network, said) : null};
+    const isFault = said.answer === "fault", isNone = isFault && !network.problem && lacks(network, words, said.place);
+    const told = {document, said, isNone, sentences: await explain(network, said, ASKING.includes(words) ? ask : null), mark: isFault && !isNone ? markOf(network, said) : null};
+    return words === "judge" && !isFault ? {...told, ...await reasonOf(network, said, ask), has: await haves(ask, network)} : told;
+}
+
+/** Whether a place is that of the part that a command asks about, or of the prices of a guess, and a document hasn't that. */
+function lacks(network, words, [part, member, ...more]) {
+    if (member === "prices" && more.length === 0) return words === "firms" && network.arrangement.prices === undefined;
+    const [name, hasIt] = PARTS[words] ?? [];
+    return part === name && member === undefined && !hasIt(network);
+}
+
+/** The part of a document that a command asks about, and whether a document has it. */
+const PARTS = {firms: ["arrangement", hasArrangement], judge: ["outcome", hasOutcome], replay: ["claim", (network) => claimOf(network) !== null]};
+
+/** The commands whose sentences ask the program for more. */
+const ASKING = ["judge", "replay"];
+
+/** Why an answer is so, as `{story, svg}`, each null where there is none. */
+export async function reasonOf(network, said, ask) {
+    const isDrawn = ["cycle", "blocks", "exchange_fails"].includes(said.answer);
+    return {story: await storyOf(network, said, ask), svg: isDrawn ? await whyPicture(network, said, ask) : null};
 }

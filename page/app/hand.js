@@ -1,8 +1,7 @@
 // Pointer and keys on the network: a click turns a trade on or off, a drag gives it a price, and elsewhere moves the picture.
-import {priced, turned} from "./edits.js";
 import {part} from "./page.js";
 import {lookedBy, panned, zoomIn, zoomOut} from "./scene.js";
-import {networkOf} from "./state.js";
+import {priceOf, setPrice, turn} from "./terms.js";
 
 /** How far a pointer goes before it drags, and for how many pixels a price changes by a step. */
 const LEAST_DRAG = 5, PER_STEP = 8;
@@ -54,7 +53,7 @@ function grip(store, key) {
     const trade = onlyTrade(key);
     if (trade === null) return {trade: null};
     drags += 1;
-    return {trade, price: priceOf(store, trade), mark: `drag ${drags}`};
+    return {trade, price: priceOf(store.value, trade), mark: `drag ${drags}`};
 }
 
 /** The trades of the lane of a key. */
@@ -68,13 +67,6 @@ function onlyTrade(key) {
     return trades.length === 1 ? trades[0] : null;
 }
 
-/** The price of a trade in the document as a whole number; 0 where it has none. */
-function priceOf(store, trade) {
-    const {arrangement} = networkOf(store.value.document), entries = Array.isArray(arrangement.prices) ? arrangement.prices : [];
-    const found = entries.findLast?.((entry) => Array.isArray(entry) && entry[0] === trade)?.[1];
-    return typeof found === "bigint" ? found : 0n;
-}
-
 /** A step of a price by its size: 1 below a hundred, 10 below ten thousand, and so on. */
 function stepOf(price, isFine) {
     const digits = String(price < 0n ? -price : price).length;
@@ -84,17 +76,6 @@ function stepOf(price, isFine) {
 function dragPrice(store, {trade, price, mark, key}, steps, isFine) {
     if (store.value.selection?.key !== key) store.act("selected", {kind: "lane", key});
     setPrice(store, trade, price + BigInt(steps) * stepOf(price, isFine), mark);
-}
-
-/** Gives a trade a price by a change of the text. */
-export function setPrice(store, trade, price, mark = null) {
-    store.act("edited", priced(networkOf(store.value.document), new Map([[trade, String(price)]])), mark);
-}
-
-/** Turns a trade on or off by a change of the text. */
-export function turn(store, trade, isOn = null) {
-    const network = networkOf(store.value.document), on = Array.isArray(network.arrangement.on) ? network.arrangement.on : [];
-    store.act("edited", turned(network, trade, isOn ?? !on.includes(trade)));
 }
 
 /** Chooses a lane or firm; a lane of one trade is turned on or off too. */
@@ -124,6 +105,6 @@ function pressed(store, event, type) {
     const steps = {ArrowUp: 1n, ArrowDown: -1n}[event.key];
     if (steps === undefined) return false;
     choose(store, key, false);
-    const price = priceOf(store, trade);
+    const price = priceOf(store.value, trade);
     return setPrice(store, trade, price + steps * stepOf(price, event.shiftKey)), true;
 }

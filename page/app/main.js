@@ -1,6 +1,7 @@
 // The page: a network to look at and guess with, its document, and what the program answers.
 import {shownOf} from "./answer.js";
 import {Ended, inText, NoAnswerCame, Program} from "./ask.js";
+import {readyClaim, showClaim} from "./claim.js";
 import {bind} from "./controls.js";
 import {readyEditor, showEditor} from "./editor.js";
 import {showFirms} from "./firms.js";
@@ -10,10 +11,13 @@ import {bytesIn, isDocument} from "./link.js";
 import {part} from "./page.js";
 import {compiled, partOf} from "./parts.js";
 import {showPath, trace} from "./path.js";
+import {wonder} from "./reason.js";
 import {showScene} from "./scene.js";
 import {showShell} from "./shell.js";
 import {Store} from "./state.js";
+import {showStory} from "./story.js";
 import {readyTrades, showTrades, typePrice} from "./trades.js";
+import {showVerdict} from "./verdict.js";
 import {showAnswers} from "./view.js";
 
 const store = new Store();
@@ -49,24 +53,28 @@ async function openAddress() {
 
 function show(value) {
     showShell(value);
+    showVerdict(value);
+    showStory(value);
     showScene(value);
     showFirms(value);
     showTrades(value);
     showPath(value);
     showEditor(value);
     showAnswers(value);
+    showClaim(value);
 }
 
 async function start() {
     document.addEventListener("securitypolicyviolation", ({violatedDirective, blockedURI}) => {
         document.documentElement.dataset.violation = `${violatedDirective} ${blockedURI}`;
     });
-    const module = await compiled(), [program, guesser, tracer] = [1, 2, 3].map(() => new Program(module, partOf("worker")));
+    const module = await compiled(), [program, guesser, tracer, teller] = [1, 2, 3, 4].map(() => new Program(module, partOf("worker")));
     const documents = JSON.parse(partOf("documents"));
     readyEditor(store);
     readyTrades(store);
+    readyClaim(store);
     handle(store, typePrice);
-    bind(store, documents, {ask: () => askNow(program), end: () => program.end()});
+    bind(store, documents, {ask: () => askNow(program), end: () => program.end(), wonder: (first) => wonder(store, teller, first)});
     part("version").textContent = await inText(program.turn())(["--version"], "");
     globalThis.market = Object.freeze({
         /** For the console, and for tests: `market.ask(["solve"], bytes)` is a promise of `{status, bytes, ms}`. */

@@ -1,10 +1,12 @@
 // The network in the page: what it shows of the value, and its window, which is moved and made smaller.
-import {BOTH, FIRST, SECOND} from "../draw/svg.js";
+import {BOTH, COME, FIRST, GONE, SECOND} from "../draw/svg.js";
+import {fraction} from "../read/network.js";
 import {standing} from "../read/standing.js";
 import {drawing, keepingFocus, part, write} from "./page.js";
 import {isTable} from "./plan.js";
-import {stageOf} from "./stage.js";
+import {moodOf, stageOf} from "./stage.js";
 import {isOld, networkOf} from "./state.js";
+import {stepOf} from "./story.js";
 
 /** By how many pixels an arrow key moves the picture, and how much a step zooms. */
 const STEP = 60, ZOOM = 1.25, MOST_ZOOM = 12;
@@ -17,13 +19,17 @@ function shapeNow() {
     return across > 1150 ? "wide" : across < 520 ? "narrow" : "usual";
 }
 
+/** What else of a value the picture is made of. */
+const SHOWN = ["document", "guess", "judged", "reason"];
+
 /** Draws what a value has to show. */
 export function showScene(value) {
     const scene = sceneOf(value), key = JSON.stringify([scene.key, shapeNow(), value.view.firm, value.selection, [...scene.marks]]);
-    const isNew = drawnOf === null || drawnOf.key !== key || drawnOf.document !== value.document || drawnOf.guess !== value.guess;
+    const isNew = drawnOf === null || drawnOf.key !== key || SHOWN.some((name) => drawnOf[name] !== value[name]);
     if (isNew) draw(scene, value);
-    drawnOf = {key, document: value.document, guess: value.guess};
-    part("stage").classList.toggle("old", isOld(value, value.guess) && !scene.isOver);
+    drawnOf = {key, ...Object.fromEntries(SHOWN.map((name) => [name, value[name]]))};
+    const said = value.view.mode === "sign" ? value.judged : value.guess;
+    part("stage").classList.toggle("old", isOld(value, said) && !scene.isOver);
     look(value.view.window);
 }
 
@@ -44,23 +50,62 @@ export function neighbourhood({document, view, selection}) {
     return (network.firms.find(isIts) ?? network.firms[0])?.name ?? null;
 }
 
-const SIGNS = "Thick: takes place. Thin: doesn't. \u2713 content. \u2717 objects.";
+const SIGNS = "Thick: takes place. Thin: doesn't. \u2713 content. \u2717 objects.", SIGNED = "Thick: is signed. Thin: isn't.";
 
-function legendOf(network, firm, {marks}) {
-    const said = [...new Set([...marks.values()].map(({says}) => says))];
-    const coloured = said.length === 0 ? SIGNS : `${SIGNS} In colour: ${said.join("; ")}.`;
+function legendOf(network, firm, {marks, stands}) {
+    const said = [...new Set([...marks.values()].map(({says}) => says))], signs = stands.isSigned ? SIGNED : SIGNS;
+    const coloured = said.length === 0 ? signs : `${signs} In colour: ${said.join("; ")}.`;
     return firm === null ? coloured : `Only ${firm} and its trades are drawn. ${coloured}`;
 }
 
-/** What is drawn: the guess with what `firms` says of it, or an answer with trades and prices. */
+/** What is drawn: the guess with what `firms` says of it, what is signed, or an answer with trades and prices; and a step of a story. */
 function sceneOf(value) {
-    const {document, guess, answer, view} = value, network = networkOf(document);
+    const {document, guess, answer, view} = value, network = networkOf(document), shown = stepOf(value);
     const isOver = view.isOver && answer?.said?.answer === "solved" && !isOld(value, answer);
-    const said = isOver ? answer.said : {};
     const told = !isOver && guess?.said?.answer === "firms" ? guess.said.firms : [];
-    const lines = new Map(told.map((line) => [line.firm, line]));
-    return {stands: standing(network, said), lines, marks: marksOf(value, lines), isOver, key: [isOver, isOver ? answer.text : null]};
+    const lines = view.mode === "sign" ? signedLines(value) : new Map(told.map((line) => [line.firm, line]));
+    const marks = shown === null ? marksOf(value, lines) : new Map([...shown.step.trades].map(([name, role]) => [name, ROLES[role]]));
+    for (const [firm, below] of shown?.step.below ?? []) lines.set(firm, {firm, below, mood: moodNow(view, lines.get(firm)), says: below.join(", ")});
+    const stands = view.mode === "sign" ? signedStands(value, shown) : standing(network, isOver ? answer.said : {});
+    return {stands, lines, marks, focus: new Set(shown?.step.firms ?? []), isOver, key: [view.mode, shown?.place, isOver, isOver ? answer.text : null]};
 }
+
+/** Who is told to have something better objects to what is signed; in a guess the prices say who objects. */
+function moodNow({mode}, line) {
+    return mode === "sign" ? "objects" : line ? moodOf(line) : "unknown";
+}
+
+/** What is signed at which prices, with those that complete it, or those of the contracts of a chain that are told so far. */
+function signedStands({document, judged}, shown) {
+    const network = networkOf(document), said = judged?.document === document && judged.said !== null ? judged.said : {};
+    const stands = standing(network, ["completes", "blocks"].includes(said.answer) ? said : {answer: "drops"});
+    if (said.answer !== "blocks") return stands;
+    const told = new Map([...stands.prices].filter(([name]) => stands.on.includes(name) || shown?.step.trades.has(name)));
+    return {...stands, prices: told};
+}
+
+/** What each firm has by what is signed. */
+function signedLines({judged}) {
+    const isLasting = judged?.said?.answer === "completes";
+    if (!judged?.has) return new Map();
+    const {over} = networkOf(judged.document).outcome;
+    return new Map([...judged.has].map(([firm, has]) => {
+        const number = has === null ? "impossible" : fraction(has, over);
+        return [firm, {firm, mood: isLasting ? "content" : "unknown", below: [isLasting ? `\u2713 ${number}` : `has ${number}`],
+            says: has === null ? "what it has signed is impossible" : `its utility is ${number} by what is signed`}];
+    }));
+}
+
+/** How the trades of a step are drawn, by the part that they play in it. */
+const ROLES = {
+    change: {ink: FIRST, says: "what this step changes", width: 5}, changed: {ink: BOTH, says: "what the steps before it changed"},
+    round: {ink: FIRST, says: "what the round changes"},
+    impossible: {ink: GONE, says: "what it has"}, x: {ink: FIRST, says: "in x", width: 4}, y: {ink: SECOND, says: "in y", width: 4},
+    "x and y": {ink: BOTH, says: "in x and in y", width: 4}, toggled: {ink: GONE, says: "toggled in both", width: 4},
+    keeps: {ink: COME, says: "what it would keep"}, drops: {ink: GONE, says: "what it would drop"},
+    contract: {ink: FIRST, says: "the contract of this step", width: 5}, "signed before": {ink: BOTH, says: "the contracts of the steps before it", width: 3},
+    chain: {ink: FIRST, says: "the contracts of the chain", width: 3}, left: {ink: GONE, says: "what would be left"},
+};
 
 /** The trades in colour: those that a chosen firm would rather have, or those of the path that holds a chosen bound. */
 function marksOf({selection, ranges}, lines) {

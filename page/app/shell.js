@@ -1,10 +1,12 @@
 // What stands around the network and the tables: buttons, tabs, notices, and the states that the page names.
+import {outcomeOf} from "./contracts.js";
 import {isOneLine} from "./lines.js";
 import {part, write} from "./page.js";
 import {isTable} from "./plan.js";
 import {isOld, networkOf} from "./state.js";
 
-const PANELS = ["guess", "document", "answer"];
+/** The views of the panel, each with the part of the page that it has: a guess and what is signed share the table of trades. */
+const PANELS = {guess: "panel-guess", sign: "panel-guess", claim: "panel-claim", document: "panel-document", answer: "panel-answer"};
 
 /** From how many lanes the network takes the whole width by itself. */
 const MANY = 24;
@@ -14,7 +16,10 @@ let shownPanel = null, shownText = "";
 /** Shows all that. */
 export function showShell(value) {
     const {document: shown, past, future, view, guess} = value, page = document.documentElement;
-    page.dataset.guess = guessState(value);
+    page.dataset.guess = saidState(value, value.guess);
+    page.dataset.judged = view.mode === "sign" ? saidState(value, value.judged) : "none";
+    page.dataset.decided = view.panel === "claim" ? saidState(value, value.decided) : "none";
+    page.dataset.reason = reasonState(value);
     page.dataset.ranges = rangesState(value);
     page.dataset.path = pathState(value);
     page.dataset.wide = `${isWide(value)}`;
@@ -22,17 +27,22 @@ export function showShell(value) {
     able("undo", past.length > 0);
     able("redo", future.length > 0);
     showPanel(view.panel);
+    showMode(value);
     showText(shown, guess);
     showOver(value);
     showRanges(value);
 }
 
-function guessState(value) {
-    const {document: shown, guess} = value;
-    if (!shown.isWhole) return "none";
-    if (guess === null || isOld(value, guess)) return "asking";
-    if (guess.trouble) return "trouble";
-    return guess.isNone ? "none" : guess.said.answer === "firms" ? "answered" : "fault";
+/** How far the program is with what it is asked without being asked for. */
+function saidState(value, said) {
+    if (!value.document.isWhole) return "none";
+    if (said === null || isOld(value, said)) return "asking";
+    if (said.trouble) return "trouble";
+    return said.isNone ? "none" : said.said.answer === "fault" ? "fault" : "answered";
+}
+
+function reasonState({reason}) {
+    return reason === null ? "none" : reason.said === null && !reason.trouble ? "asking" : "answered";
 }
 
 function rangesState(value) {
@@ -58,13 +68,23 @@ function isWide({document: shown, view}) {
 
 function showPanel(panel) {
     if (panel === shownPanel) return;
-    for (const name of PANELS) {
+    for (const name of Object.keys(PANELS)) {
         const tab = part(`tab-${name}`), isChosen = name === panel;
         tab.setAttribute("aria-selected", `${isChosen}`);
         tab.tabIndex = isChosen ? 0 : -1;
-        part(`panel-${name}`).hidden = !isChosen;
     }
+    for (const id of new Set(Object.values(PANELS))) part(id).hidden = id !== PANELS[panel];
+    part(PANELS[panel]).setAttribute("aria-labelledby", `tab-${panel}`);
     shownPanel = panel;
+}
+
+/** Shows what is only of a guess, or only of what is signed. */
+function showMode(value) {
+    const isSigned = value.view.mode === "sign", {over} = outcomeOf(networkOf(value.document));
+    for (const id of ["guess-tools", "firms-part"]) part(id).hidden = isSigned;
+    part("sign-tools").hidden = !isSigned;
+    const field = part("denominator");
+    if (field !== document.activeElement) field.value = String(over);
 }
 
 /** The plain field has the beginning of a document that is too long for the editor. */

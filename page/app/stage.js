@@ -1,30 +1,37 @@
 // The network as it is guessed, or as an answer has it, drawn so that its firms and lanes can be clicked and reached by keys.
+import {spanOf} from "../draw/lanes.js";
 import {arrow, escaped, INK, NORMAL, smooth, tag, text, widthOf} from "../draw/svg.js";
 import {BELOW, labelPlaces, NAME, planOf, PRICE} from "./plan.js";
 
 /** How far lines in a box stand from each other. */
 const HIGH = 16;
 
-const OFF = "#64748b", GOOD = "#166534", BAD = "#9a3412";
+const OFF = "#64748b", GOOD = "#166534", BAD = "#9a3412", INKS = {content: GOOD, unknown: INK};
+
+/** How many more letters than a number words below a name have where room is kept for them. */
+const BESIDE = 3;
 
 /** How long the numbers of a guess are at most, rounded so that they rarely change it. */
 function digitsOf(stands, lines) {
-    const utilities = lines.flatMap(({utility, best_utility: most}) => [utility ?? 0n, most]);
-    return Math.max(3, ...[...stands.prices.values(), ...utilities].map((number) => String(number).length));
+    const utilities = lines.flatMap(({utility, best_utility: most}) => [utility ?? 0n, most ?? 0n]);
+    const words = lines.flatMap(({below = []}) => below.map((says) => says.slice(BESIDE)));
+    return Math.max(stands.isSigned ? 6 : 3, ...[...stands.prices.values(), ...utilities, ...words].map((number) => String(number).length));
 }
 
 /**
  * The picture as SVG, with its size: `{svg, width, height, plan}`. `stands` has the trades that are on and the prices, `lines` those of
- * `firms`, by name, `marks` the colours of trades with what they say, and `selection` what is chosen.
+ * `firms`, by name, or `{mood, below, says}` with what is to be said of a firm, `marks` the colours of trades with what they say,
+ * `focus` the names of the firms that are spoken of, and `selection` what is chosen.
  */
-export function stageOf({network, firm, shape, stands, lines, marks, selection}) {
+export function stageOf({network, firm, shape, stands, lines, marks, focus, selection}) {
     const digits = digitsOf(stands, [...lines.values()]);
     const plan = planOf(network, firm, digits, shape), on = new Set(stands.on ?? []);
     const lanes = plan.lanes.map((lane) => laneAt(lane, on, stands, marks, selection));
     const named = new Set(plan.lanes.filter((_, k) => lanes[k].isNamed)), labels = labelPlaces(plan, digits, (lane) => named.has(lane));
     const drawn = lanes.map((lane, k) => ({lane, svg: laneSvg(lane, plan.places.arrows[k].points, labels[k], plan.isClose)}));
     drawn.sort((one, other) => one.lane.rank - other.lane.rank);
-    const boxes = plan.boxes.map((box) => firmSvg(box, plan.places.centers.get(box.id), lines.get(box.name), selection, plan.isClose));
+    const isChosen = ({name}) => focus.has(name) || (selection?.kind === "firm" && selection.name === name);
+    const boxes = plan.boxes.map((box) => firmSvg(box, plan.places.centers.get(box.id), lines.get(box.name), isChosen(box), plan.isClose));
     const width = plan.places.width + 24, height = plan.places.height + 24;
     const whole = tag("g", {transform: "translate(12 12)"}, drawn.map(({svg}) => svg.line), boxes, drawn.map(({svg}) => svg.label));
     return {width, height, plan, svg: `<svg xmlns="http://www.w3.org/2000/svg" viewBox="0 0 ${width} ${height}">${whole}</svg>`};
@@ -39,23 +46,24 @@ function laneAt(lane, on, stands, marks, selection) {
     const taking = lane.trades.filter((name) => on.has(name)), isOn = taking.length > 0;
     const mark = lane.trades.map((name) => marks.get(name)).find(Boolean) ?? null;
     const isChosen = selection?.kind === "lane" && selection.key === laneKey(lane);
-    const price = spanOf(isOn ? taking : lane.trades, stands.prices);
+    const price = spanOf(isOn ? taking : lane.trades, shownPrices(stands));
     const name = lane.trades.length === 1 ? lane.trades[0] : `${taking.length} of ${lane.trades.length} on`;
     const isNamed = isOn || mark !== null || isChosen, rank = (isChosen ? 4 : 0) + (isOn ? 2 : 0) + (mark ? 1 : 0);
-    return {...lane, key: laneKey(lane), name, price, isOn, mark, isChosen, isNamed, rank};
+    return {...lane, key: laneKey(lane), name, price, isOn, mark, isChosen, isNamed, rank, isSigned: stands.isSigned ?? false};
 }
 
-/** The one price of some trades, or their least and greatest; null where there is none, or one is no number. */
-function spanOf(names, prices) {
-    const found = names.map((name) => prices.get(name)).filter((price) => price !== undefined && /^-?\d+$/.test(price));
-    if (found.length === 0) return null;
-    const sorted = found.map(BigInt).sort((one, other) => (one < other ? -1 : one > other ? 1 : 0));
-    return sorted[0] === sorted[sorted.length - 1] ? `${sorted[0]}` : `${sorted[0]} to ${sorted[sorted.length - 1]}`;
+const numbers = new WeakMap();
+
+/** The prices that are numbers; a document that is being typed may have others. */
+function shownPrices(stands) {
+    if (!numbers.has(stands)) numbers.set(stands, new Map([...stands.prices].filter(([, price]) => /^-?\d+(\/\d+)?$/.test(price))));
+    return numbers.get(stands);
 }
 
 function laneSvg(lane, points, at, isClose) {
     const ink = lane.mark?.ink ?? (lane.isOn ? INK : OFF);
-    const drawn = arrow(points, {ink, width: lane.isOn ? 4 : lane.mark ? 2 : 1.2, dashes: !lane.isOn && lane.mark ? "7 4" : null});
+    const width = lane.mark?.width ?? (lane.isOn ? 4 : lane.mark ? 2 : 1.2);
+    const drawn = arrow(points, {ink, width, dashes: !lane.isOn && lane.mark ? "7 4" : null});
     const says = laneSays(lane), chosen = lane.isChosen ? " chosen" : "";
     const attributes = {class: `lane${lane.isOn ? " on" : ""}${chosen}`, "data-key": lane.key, "data-trades": lane.trades.join(" ")};
     const words = isClose ? lineLabel : twoLines;
@@ -66,9 +74,9 @@ function laneSvg(lane, points, at, isClose) {
 }
 
 /** A lane in words, for those who hear it. */
-function laneSays({trades, seller, buyer, name, price, isOn, mark}) {
-    const priced = price === null ? "without a price" : `at ${price}`;
-    const state = mark === null ? (isOn ? "on" : "off") : isOn ? `on, ${mark.says}` : `off, ${mark.says}`;
+function laneSays({trades, seller, buyer, name, price, isOn, mark, isSigned}) {
+    const priced = price === null ? "without a price" : `at ${price}`, [on, off] = isSigned ? ["signed", "not signed"] : ["on", "off"];
+    const state = [isOn ? on : off, ...(mark === null ? [] : [mark.says])].join(", ");
     return trades.length === 1 ? `Trade ${name}, from ${seller} to ${buyer}, ${priced}: ${state}`
         : `${trades.length} trades from ${seller} to ${buyer}, ${name}, ${priced}: ${trades.join(", ")}`;
 }
@@ -84,11 +92,11 @@ function lineLabel({name, price, isOn}, {x, y}, ink) {
     return [tag("rect", {x: x - width / 2, y: y - 8, width, height: 16, rx: 3}), text(x, y + 4, says, {ink, weight: isOn ? "bold" : null})];
 }
 
-function firmSvg({name, width, height}, {x, y}, line, selection, isClose) {
-    const mood = moodOf(line), isChosen = selection?.kind === "firm" && selection.name === name;
+function firmSvg({name, width, height}, {x, y}, line, isChosen, isClose) {
+    const mood = moodOf(line);
     const box = {x: x - width / 2, y: y - height / 2, width, height, rx: 6};
     const attributes = {class: `firm ${mood}${isChosen ? " chosen" : ""}`, "data-key": `firm:${name}`, "data-firm": name};
-    const isContent = mood === "content", style = {size: BELOW, ink: isContent ? GOOD : BAD, weight: isContent ? null : "bold"};
+    const style = {size: BELOW, ink: INKS[mood] ?? BAD, weight: INKS[mood] ? null : "bold"};
     const lines = line ? belowOf(line, isClose) : [], top = y + 4 - lines.length * HIGH / 2;
     return tag("g", {...attributes, role: "button", tabindex: 0, "aria-label": firmSays(name, line)}, tag("rect", box),
         text(x, top, name, {size: NAME, weight: "bold"}), lines.map((says, k) => text(x, top + 1 + (k + 1) * HIGH, says, style)));
@@ -96,12 +104,13 @@ function firmSvg({name, width, height}, {x, y}, line, selection, isClose) {
 
 /** Whether a firm is content, objects, or has what is impossible, as a class; "unknown" where nothing is answered of it. */
 export function moodOf(line) {
-    if (!line) return "unknown";
+    if (!line || line.mood) return line?.mood ?? "unknown";
     return line.worth === null ? "impossible" : line.gain === 0n ? "content" : "objects";
 }
 
 /** What stands below the name of a firm: a sign and its utility, and the best that it could have where there is room. */
 function belowOf(line, isClose) {
+    if (line.below) return isClose ? line.below.slice(-1) : line.below;
     const mood = moodOf(line);
     if (mood === "content") return [`\u2713 ${line.utility}`];
     if (mood === "impossible") return isClose ? ["\u2717 none"] : ["\u2717", "impossible"];
@@ -111,6 +120,7 @@ function belowOf(line, isClose) {
 /** A firm in words. */
 function firmSays(name, line) {
     const mood = moodOf(line);
+    if (line?.says) return `Firm ${name}: ${line.says}`;
     if (mood === "unknown") return `Firm ${name}`;
     if (mood === "content") return `Firm ${name}, content with a utility of ${line.utility}`;
     if (mood === "impossible") return `Firm ${name} objects: what it has is impossible for it`;

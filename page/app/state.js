@@ -1,5 +1,5 @@
 // All that the page shows, as one value that named actions change.
-import {NotJson, readable, textOf} from "../read/json.js";
+import {NotJson, readable, textOf, written} from "../read/json.js";
 import {Network} from "../read/network.js";
 import {applied} from "./edits.js";
 
@@ -13,14 +13,15 @@ const MOST_UNDONE = 400;
 
 /**
  * The value. `document` is what is looked at, with `past` and `future` of it, and `mark`, which says what made the last change: changes
- * with one mark are taken back together. `selection` is null or `{kind, ..}`: lane, firm or bound. `guess` and `ranges` are what
- * `firms` and `range` answered, and `answer` is that of the command in `words`, each with the `document` that it was asked of; where
- * that isn't the present one it is old. `run` is how far the command is, `view` how all this is looked at.
+ * with one mark are taken back together. `selection` is null or `{kind, ..}`: lane, firm or bound. `guess`, `ranges`, `judged` and
+ * `decided` are what `firms`, `range`, `judge` and `replay` answered, `reason` what `support` or `test` did, and `answer` is that of the
+ * command in `words`, each with the `document` that it was asked of; where that isn't the present one it is old. `run` is how far the
+ * command is, `view` how all this is looked at: `mode` is "guess" or "sign", and `step` the place in a story that is told.
  */
 export const START = {
     document: {name: "", bytes: new Uint8Array(0), text: "", isWhole: true}, past: [], future: [], mark: null, selection: null,
-    guess: null, ranges: null, path: null, words: ["solve"], run: {state: "none"}, answer: null,
-    view: {panel: "guess", isOver: false, hasRanges: false, window: null, isWide: null, filter: "", firm: null,
+    guess: null, ranges: null, path: null, judged: null, decided: null, reason: null, words: ["solve"], run: {state: "none"}, answer: null,
+    view: {panel: "guess", mode: "guess", step: 0, isOver: false, hasRanges: false, window: null, isWide: null, filter: "", firm: null,
         sort: {by: null, isDown: false}},
 };
 
@@ -29,8 +30,8 @@ export const ACTIONS = {
     /** A document was opened: it is asked about as the bytes of its file, until it is edited. */
     opened: (value, name, bytes) => {
         const next = changed(value, documentOf(name, bytes), null);
-        return {...next, selection: null, guess: null, ranges: null, path: null, answer: null,
-            view: {...value.view, isOver: false, window: null, isWide: null, filter: "", firm: null}};
+        return {...next, selection: null, guess: null, ranges: null, path: null, judged: null, decided: null, reason: null, answer: null,
+            view: {...value.view, ...panelFor(next.document, value.view), isOver: false, window: null, isWide: null, filter: "", firm: null}};
     },
     /** The text of the document was edited. */
     typed: (value, text, mark = null) => text === value.document.text ? value : changed(value, withText(value.document, text), mark),
@@ -41,9 +42,19 @@ export const ACTIONS = {
     /** A lane, a firm or a bound was chosen, or nothing. */
     selected: (value, selection) => ({...value, selection, mark: null}),
     looked: (value, view) => ({...value, view: {...value.view, ...view}}),
+    /** A view of the panel was chosen; two of them say what the network shows. */
+    went: (value, panel) => {
+        const {mode, isOver} = value.view, next = MODES.includes(panel) ? panel : mode;
+        return {...value, view: {...value.view, panel, mode: next, isOver: isOver && next === "guess", step: next === mode ? value.view.step : 0}};
+    },
     guessed: (value, guess) => ({...value, guess}),
     ranged: (value, ranges) => ({...value, ranges}),
     traced: (value, path) => ({...value, path}),
+    /** What is signed was judged; a story that is told again goes on at its step. */
+    judged: (value, judged) => ({...value, judged, view: {...value.view, step: isSame(value.judged, judged) ? value.view.step : 0}}),
+    decided: (value, decided) => ({...value, decided}),
+    /** Why there are no prices was asked, or isn't to be shown any more. */
+    reasoned: (value, reason) => ({...value, reason, view: {...value.view, step: 0}}),
     /** Another command was chosen. */
     chosen: (value, words) => ({...value, words, run: {state: "none"}}),
     asked: (value) => ({...value, run: {state: "asking"}}),
@@ -51,6 +62,17 @@ export const ACTIONS = {
     broke: (value, message) => ({...value, run: {state: "trouble", message}, answer: null}),
     ended: (value) => ({...value, run: {state: "ended"}}),
 };
+
+/** The views of the panel in which the network is changed. */
+const MODES = ["guess", "sign"];
+
+/** The view with which a document is opened: of its claim, of what is signed where there is no guess or that was looked at, or of the guess. */
+function panelFor(document, {panel, mode: before}) {
+    if (!document.isWhole) return {};
+    const {data} = networkOf(document), isSigned = data.outcome !== undefined && (data.arrangement === undefined || before === "sign");
+    const mode = isSigned ? "sign" : "guess";
+    return {mode, panel: ["document", "answer"].includes(panel) ? panel : data.claim !== undefined ? "claim" : mode};
+}
 
 /** Of another text no command has been asked, and no answer lies over its network. */
 const LAID_DOWN = ({view}) => ({run: {state: "none"}, view: {...view, isOver: false}});
@@ -76,6 +98,11 @@ function documentOf(name, bytes) {
 
 function withText(document, text) {
     return {...document, text, bytes: new TextEncoder().encode(text), isWhole: true};
+}
+
+/** Whether two answers say the same. */
+function isSame(before, now) {
+    return Boolean(before?.said && now.said) && written(before.said) === written(now.said);
 }
 
 /** Whether what was asked of a document isn't so of the present one any more. */

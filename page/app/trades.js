@@ -1,10 +1,11 @@
-// The table of trades: each can be turned on or off, and be given a price, with the bounds of its price beside it. Of very many only
-// the rows in sight are there.
+// The table of trades: each can be turned on or off, or signed, and be given a price, with the bounds of its price beside it. Of very
+// many only the rows in sight are there.
 import {made, part} from "./page.js";
-import {setPrice, turn} from "./hand.js";
 import {boundsAt, isWithin, scaleOf} from "./bounds.js";
+import {outcomeOf} from "./contracts.js";
 import {laneKey} from "./stage.js";
 import {isOld, networkOf} from "./state.js";
+import {setPrice, termsOf, turn} from "./terms.js";
 
 const HEADS = [["Trade", "name"], ["From", "seller"], ["To", "buyer"], ["On", "on"], ["Price", "price"], ["Bounds", null]];
 
@@ -50,14 +51,21 @@ export function showTrades(value) {
     const isMoved = shownOf?.selection !== selection && selection !== null;
     shownOf = {document, view, ranges, selection};
     const network = networkOf(document);
-    rows = sorted(rowsOf(network, view), view.sort);
-    for (const cell of part("trades").tHead.rows[0].cells) cell.setAttribute("aria-sort", orderOf(cell.dataset.by, view.sort));
+    rows = sorted(rowsOf(network, value), view.sort);
+    showHeads(network, value);
     part("trades").setAttribute("aria-rowcount", rows.length + 1);
-    part("trades").tHead.rows[0].cells[5].hidden = ranges?.said?.answer !== "ranges";
     fillFirms(network, view);
     if (part("filter").value.trim() !== view.filter) part("filter").value = view.filter;
     fill(value);
     if (isMoved) bringIn(value);
+}
+
+function showHeads(network, {view, ranges}) {
+    const {cells} = part("trades").tHead.rows[0], isSigned = view.mode === "sign", {over} = outcomeOf(network);
+    for (const cell of cells) cell.setAttribute("aria-sort", orderOf(cell.dataset.by, view.sort));
+    cells[3].firstElementChild.textContent = isSigned ? "Signed" : "On";
+    cells[4].firstElementChild.textContent = isSigned && over !== 1n ? `Price, in 1/${over}` : "Price";
+    cells[5].hidden = isSigned || ranges?.said?.answer !== "ranges";
 }
 
 function orderOf(column, {by, isDown}) {
@@ -65,10 +73,9 @@ function orderOf(column, {by, isDown}) {
     return isDown ? "descending" : "ascending";
 }
 
-function rowsOf(network, {filter, firm}) {
-    const {on, prices} = network.arrangement, isOn = new Set(Array.isArray(on) ? on : []);
-    const priceOf = new Map((Array.isArray(prices) ? prices : []).filter(Array.isArray).map(([name, price]) => [name, price]));
-    const all = network.trades.map((trade, place) => ({...trade, place, on: isOn.has(trade.name), price: priceOf.get(trade.name)}));
+function rowsOf(network, value) {
+    const {on, prices} = termsOf(value), {filter, firm} = value.view;
+    const all = network.trades.map((trade, place) => ({...trade, place, on: on.has(trade.name), price: prices.get(trade.name)}));
     return all.filter(({name, seller, buyer}) => (firm === null || seller === firm || buyer === firm)
         && (filter === "" || `${name} ${seller} ${buyer}`.toLowerCase().includes(filter.toLowerCase())));
 }
@@ -96,7 +103,8 @@ function fill(value) {
     const isAll = rows.length <= MOST_ROWS, many = Math.ceil((scroll.clientHeight || 600) / HIGH) + 2 * AROUND;
     const first = isAll ? 0 : Math.max(0, Math.min(rows.length - many, Math.floor(scroll.scrollTop / HIGH) - AROUND));
     const seen = isAll ? rows : rows.slice(first, first + many);
-    const scale = scaleOf(value), bounds = new Map((value.ranges?.said?.ranges ?? []).map((range) => [range.trade, range]));
+    const scale = scaleOf(value), ranges = value.view.mode === "guess" ? value.ranges?.said?.ranges ?? [] : [];
+    const bounds = new Map(ranges.map((range) => [range.trade, range]));
     const isOldRange = isOld(value, value.ranges);
     const next = new Map(seen.map((row) => [row.name, present.get(row.name) ?? rowFor(row.name)]));
     seen.forEach((row, k) => update(next.get(row.name), row, first + k, value, {scale, range: bounds.get(row.name), isOldRange}));
@@ -178,6 +186,7 @@ function update(element, row, place, value, {scale, range, isOldRange}) {
     if (to.textContent !== row.buyer) to.textContent = row.buyer;
     if (head.textContent !== row.name) head.textContent = row.name;
     box.checked = row.on;
+    box.setAttribute("aria-label", `${row.name} is ${value.view.mode === "sign" ? "signed" : "on"}`);
     const shown = row.price === undefined ? "" : String(row.price);
     field.dataset.price = shown;
     const isTyped = field === document.activeElement && field.value.trim() === shown;

@@ -1,5 +1,6 @@
 // The value of the page, shown.
 import {lineAndColumn} from "../read/json.js";
+import {canBeClaimed} from "./claims.js";
 import {verdictOf} from "./commands.js";
 import {lineOf} from "./exports.js";
 import {drawing, made, part, write} from "./page.js";
@@ -19,6 +20,8 @@ export function showAnswers(value) {
     const old = answer !== null && (isOld(value, answer) || run.state === "asking");
     part("shown").classList.toggle("old", old);
     part("shown").dataset.old = `${old}`;
+    part("answer-claim").hidden = !canBeClaimed(answer?.said);
+    part("answer-claim").setAttribute("aria-disabled", `${old}`);
     write("status", statusOf(run, words, answer) || (old ? "This was answered to an earlier text of the document." : ""));
     if (answer !== null && answer !== last) showAnswer(answer);
     last = answer;

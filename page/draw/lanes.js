@@ -31,7 +31,7 @@ export function wordsOf(lane, {on, prices}, before = null) {
 }
 
 /** The one price of some trades, or their least and greatest; other words of prices as they are where all are alike. */
-function spanOf(names, prices) {
+export function spanOf(names, prices) {
     const texts = [...new Set(names.map((name) => prices.get(name)).filter((price) => price !== undefined))];
     if (texts.length === 0) return null;
     if (texts.length === 1) return texts[0];

@@ -44,7 +44,8 @@ export function belongs(network, said) {
     return undefined;
 }
 
-const CLAIMS = ["equilibrium", "better", "impossible", "accepted", "exchange_fails", "prices", "cycle", "solved", "drops", "completes", "blocks"];
+/** The answers that can be claims. */
+export const CLAIMS = ["equilibrium", "better", "impossible", "accepted", "exchange_fails", "prices", "cycle", "solved", "drops", "completes", "blocks"];
 
 /**
  * Throws NoAnswer where an answer that can be a claim isn't so in the document, as `replay` says: then it is one to another document

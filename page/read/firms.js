@@ -53,6 +53,22 @@ function apart(network, changes) {
     return groups;
 }
 
+/** The utility of each firm by what is signed, as a Map to numerators over the outcome's denominator; null where that is impossible. */
+export async function haves(ask, network) {
+    const {over, contracts} = network.outcome, signed = new Map(contracts);
+    const lines = await linesAt(ask, network, [...signed.keys()]);
+    return new Map([...lines ?? []].map(([firm, {has, worth}]) => [firm, worth === null ? null : worth * over + paid(network, firm, has, signed)]));
+}
+
+/**
+ * What a firm that would drop contracts could have by those that it keeps, as a numerator over the outcome's denominator; null where
+ * nobody can be asked.
+ */
+export async function keeping(ask, network, {firm, keeps}) {
+    const {over, contracts} = network.outcome, [worth] = await worths(ask, network, firm, [keeps]);
+    return worth === null ? null : worth * over + paid(network, firm, keeps, new Map(contracts));
+}
+
 /**
  * What the firms of contracts that block have by what is signed, and could have with the new ones, as a Map from each to
  * `{now, then, keeps}`: utilities as numerators over `said.over`, and the signed trades that go on. It asks for a best bundle at
@@ -65,15 +81,18 @@ export async function gains(ask, network, said) {
     const firms = new Set(said.contracts.flatMap(([name]) => [network.trade(name).seller, network.trade(name).buyer]));
     const found = new Map();
     for (const firm of firms) {
-        const line = (await linesAt(ask, network, [...signed.keys()], whole(network, firm, all, said.over)))?.get(firm);
+        const asked = whole(network, firm, all, said.over), line = (await linesAt(ask, network, [...signed.keys()], asked))?.get(firm);
         if (!line || line.worth === null) continue;
-        const paid = (names, prices) => names.reduce((sum, name) => sum + signOf(network, firm, name) * prices(name), 0n);
-        const asked = whole(network, firm, all, said.over);
-        const now = line.worth * said.over + paid(line.has, (name) => signed.get(name));
-        const then = (line.best_utility - paid(line.best, (name) => asked.get(name))) * said.over + paid(line.best, (name) => all.get(name));
+        const now = line.worth * said.over + paid(network, firm, line.has, signed);
+        const then = (line.best_utility - paid(network, firm, line.best, asked)) * said.over + paid(network, firm, line.best, all);
         if (then > now) found.set(firm, {now, then, keeps: line.best.filter((name) => signed.has(name))});
     }
     return found;
+}
+
+/** What a firm gets less what it pays by some trades. */
+function paid(network, firm, names, prices) {
+    return names.reduce((sum, name) => sum + signOf(network, firm, name) * prices.get(name), 0n);
 }
 
 function signOf(network, firm, name) {

@@ -1,13 +1,11 @@
 // An answer to a document in sentences. They hold no numbers but those of the document, of the answer, and of what `firms` answers.
-import {changesAlong} from "../read/changes.js";
-import {costs} from "../read/firms.js";
-import {fraction, itemsOf} from "../read/network.js";
+import {fraction} from "../read/network.js";
 import {claimed, failed} from "./claims.js";
-import {changeWith} from "./changes.js";
 import {failingLines} from "./exchange.js";
 import {faultLines} from "./faults.js";
 import {rangeLines} from "./ranges.js";
 import {sessionLines} from "./session.js";
+import {contractOf, SIGNS_OTHERS, storyOf} from "./story.js";
 import {Deals, listed} from "./words.js";
 
 /** The sentences, one a line. `ask` runs the program, or is null. */
@@ -44,11 +42,9 @@ const ANSWERS = {
         `The worths of the firms sum to ${said.surplus}, and no other set of trades has more.`],
     prices: (said, network) => ["There are prices for these trades: at those below each firm has a bundle that is best for it, and nobody would rather do something else.",
         ...trading(network, said), "No other set of trades has a greater sum of worths."],
-    cycle: async ({nodes, cost}, network, ask) => {
-        const on = itemsOf(network.arrangement.on), changes = changesAlong(network, on, [...nodes, nodes[0]]);
-        const known = await costs(ask, network, on, changes);
-        return ["No prices go with these trades. The reason is a round of changes, each by one firm:", ...changes.map((change, k) => `${changeWith(change, known[k])}.`),
-            `What these firms would lose in worth sums to ${cost}, so in sum they would gain, and in the round each price is paid once and got once. So at any prices at least one of them would rather make its change.`];
+    cycle: async (said, network, ask) => {
+        const {head, steps} = await storyOf(network, said, ask);
+        return [head, ...steps.map(({says}) => says)];
     },
     better: (said, network) => {
         const deals = new Deals(network, said), {firm, bundle, gain} = said;
@@ -85,8 +81,7 @@ const ANSWERS = {
         return ["This outcome can stand: each firm would keep all its contracts, and there are prices for all trades at which nobody would rather do something else.", signed(deals), ...keepingOff(deals)];
     },
     blocks: (said, network) => ["This outcome is blocked: each firm would keep all its contracts, but some would rather sign others.", signed(new Deals(network, said)), "They would sign:",
-        ...said.contracts.map(([name, price]) => `${network.trade(name).seller} sells ${name} to ${network.trade(name).buyer} at ${fraction(price, said.over)}.`),
-        "Each firm named there, whatever it keeps of what it has signed, would rather have all of these that are its own. So no prices go with what is signed."],
+        ...said.contracts.map((contract) => contractOf(network, contract, said.over)), SIGNS_OTHERS],
     drill: ({firms, size, start, surplus}) => [`The network of ${firms} firms and ${size} trades that is drawn from ${start}: the worths of its firms sum to ${surplus} for some set of trades, and to no more for any.`],
     valid: (said, network) => [`The claim is valid. It says ${claimed(network)}, and so it is.`],
     invalid: async (said, network, ask) => [`The claim isn't valid. It says ${claimed(network)}.`, ...await failed(network, said, ask)],

@@ -1,0 +1,70 @@
+// Changes of the text in its claim: an answer is put in as one, and each name and number of it can be changed.
+import {CLAIMS} from "../read/answer.js";
+import {written} from "../read/json.js";
+import {added, memberOf, withMember, without} from "./edits.js";
+
+/** Whether an answer can be a claim. */
+export function canBeClaimed(said) {
+    return CLAIMS.includes(said?.answer);
+}
+
+/** The edits that put an answer in as the claim, in place of any other. */
+export function claimedAs(network, said) {
+    if (network.root.kind !== "object") return [];
+    const before = network.root.value.get("claim"), text = written(said);
+    return before ? [{start: before.start, end: before.end, text}] : [withMember(network.root, "claim", text)];
+}
+
+/** The claim of a document as a node, or null. */
+export function claimOf(network) {
+    return network.root.kind === "object" ? memberOf(network.root, "claim", "object") : null;
+}
+
+/**
+ * What can be changed of a claim, in its order: `{key, says, kind, node, ..}`. A `number` has its text, a `choice` what may stand
+ * there as `options` of `{value, says}`, where a value is JSON, and a `set` its trades as `{name, isIn}`. An entry of contracts can be left out.
+ */
+export function fieldsOf(network) {
+    const claim = claimOf(network);
+    if (claim === null) return [];
+    return [...claim.value].filter(([name]) => name !== "answer").flatMap(([name, node]) => fieldsAt(network, claim, name, node));
+}
+
+function fieldsAt(network, claim, name, node) {
+    const all = network.trades.map((trade) => trade.name), none = {value: "null", says: "no trade"};
+    const options = (names) => names.map((each) => ({value: JSON.stringify(each), says: each}));
+    if (node.kind === "number") return [{key: name, says: name, kind: "number", node}];
+    if (name === "firm") return [{key: name, says: name, kind: "choice", node, options: options(network.firms.map((firm) => firm.name))}];
+    if (name === "at") return [{key: name, says: name, kind: "choice", node, options: [none, ...options(all)]}];
+    if (node.kind !== "list") return [];
+    if (name === "nodes") {
+        return node.value.map((each, k) => ({key: `${name} ${k}`, says: `node ${k + 1}`, kind: "choice", node: each, options: [none, ...options(all)]}));
+    }
+    if (name === "prices" || name === "contracts") return entryFields(name, node);
+    const firm = claim.value.get("firm")?.value, own = typeof firm === "string" ? network.own(firm, all) : all;
+    const now = node.value.map(({value}) => value);
+    return [{key: name, says: name, kind: "set", node, trades: [...new Set([...own, ...now.map(String)])].map((each) => ({name: each, isIn: now.includes(each)}))}];
+}
+
+function entryFields(name, list) {
+    const entries = list.value.filter(({kind, value}) => kind === "list" && value[0]?.kind === "text" && value[1]?.kind === "number");
+    return entries.map((entry) => {
+        const [trade, number] = entry.value;
+        return {key: `${name} ${trade.value}`, says: `price of ${trade.value}`, kind: "number", node: number, out: name === "contracts" ? {list, entry, trade: trade.value} : null};
+    });
+}
+
+/** The edits that put another name or number in the place of a field. */
+export function spoilt({node}, text) {
+    return [{start: node.start, end: node.end, text}];
+}
+
+/** The edits that put a trade into a set of the claim, or take it out. */
+export function toggledIn({node}, name, isIn) {
+    return isIn ? [added(node, JSON.stringify(name))] : without(node, ({value}) => value === name);
+}
+
+/** The edits that leave a contract out of the claim. */
+export function leftOut({out: {list, entry}}) {
+    return without(list, (each) => each === entry);
+}

@@ -1,0 +1,65 @@
+// Why an answer is so, in the page: step by step above the network, and as a list with its picture beside it.
+import {drawing, keepingFocus, made, part, write} from "./page.js";
+import {canBeClaimed} from "./claims.js";
+import {isOld} from "./state.js";
+
+/** What is told: the answer of `judge` to what is signed, or the reason that was asked for; null where there is none. */
+export function toldOf({view, judged, reason}) {
+    return view.mode === "sign" ? judged : reason;
+}
+
+/** The step of a story that is shown, as `{step, place, count}`, or null. What is signed is judged anew after each change, so its story stays until then. */
+export function stepOf(value) {
+    const told = toldOf(value), isAnew = value.view.mode === "sign";
+    if (!told?.story || (!isAnew && isOld(value, told)) || value.view.isOver) return null;
+    const {steps} = told.story, place = Math.min(value.view.step, steps.length - 1);
+    return {step: steps[place], place, count: steps.length};
+}
+
+let shown = null;
+
+/** Shows all that of a value. */
+export function showStory(value) {
+    showStep(value);
+    const told = toldOf(value), isThere = told !== null && told.sentences?.length > 0 && !told.isNone && (value.view.mode === "guess" || told.said !== null);
+    part("reason").hidden = !isThere || value.view.isOver;
+    part("reason").classList.toggle("old", isThere && isOld(value, told));
+    part("reason-close").hidden = value.view.mode === "sign";
+    part("reason-take").hidden = told?.said?.answer !== "prices";
+    for (const id of ["reason-take", "reason-claim"]) part(id).setAttribute("aria-disabled", `${isThere && isOld(value, told)}`);
+    part("reason-claim").hidden = !canBeClaimed(told?.said);
+    const now = isThere ? {told, step: stepOf(value)?.place ?? null} : null;
+    if (now === null || (shown?.told === told && shown.step === now.step)) return;
+    if (shown?.told !== told) fill(told);
+    [...part("reason-lines").querySelectorAll("button")].forEach((button, k) => button.setAttribute("aria-pressed", `${k === now.step}`));
+    shown = now;
+}
+
+function showStep(value) {
+    const shownStep = stepOf(value);
+    part("story").hidden = shownStep === null;
+    if (shownStep === null) return;
+    const {place, count} = shownStep;
+    write("story-place", `Step ${place + 1} of ${count}`);
+    part("story-back").setAttribute("aria-disabled", `${place === 0}`);
+    part("story-next").setAttribute("aria-disabled", `${place === count - 1}`);
+}
+
+/** The list of the steps, each a button that goes to it, and the picture; of an answer without a story its sentences. */
+function fill({story, sentences, svg}) {
+    const lines = story === null ? sentences.map((line) => made("p", line)) : [made("p", story.head), listOf(story.steps)];
+    keepingFocus(part("reason-lines"), () => part("reason-lines").replaceChildren(...lines));
+    const figure = made("figure");
+    if (svg) figure.append(drawing(svg));
+    part("reason-picture").replaceChildren(...(svg ? [figure] : []));
+}
+
+function listOf(steps) {
+    const list = made("ol");
+    list.append(...steps.map(({says}, k) => {
+        const item = made("li");
+        item.append(made("button", says, {type: "button", class: "step", "data-step": k, "data-key": `step:${k}`}));
+        return item;
+    }));
+    return list;
+}

@@ -1,0 +1,61 @@
+// What is said above the network: the verdict on a guess or on what is signed, and the sentence of a chosen firm or of a step.
+import {fraction} from "../read/network.js";
+import {Deals} from "../say/words.js";
+import {hasArrangement} from "./edits.js";
+import {linesOf, objectors} from "./firms.js";
+import {part, write} from "./page.js";
+import {isOld, networkOf} from "./state.js";
+import {stepOf} from "./story.js";
+
+/** Shows both. */
+export function showVerdict(value) {
+    const {document, view} = value, isSigned = view.mode === "sign", said = isSigned ? value.judged : value.guess;
+    const verdict = verdictOf(value, said), list = isSigned ? [] : objectors(value);
+    write("verdict", verdict.says);
+    part("verdict").className = isOld(value, said) ? `${verdict.mood} old` : verdict.mood;
+    part("objects").hidden = isSigned;
+    part("objects").disabled = list.length === 0 || isOld(value, said);
+    document.isWhole && write("told", toldOf(value));
+}
+
+/** The sentence of a chosen firm, or that of the step. */
+function toldOf(value) {
+    const {selection, view} = value;
+    if (selection?.kind !== "firm") return stepOf(value)?.step.says ?? "";
+    return view.mode === "sign" ? signedLine(value, selection.name) : guessLine(value, selection.name);
+}
+
+function guessLine({guess, document}, name) {
+    const place = networkOf(document).firms.findIndex((firm) => firm.name === name);
+    return linesOf(guess).size > 0 && place >= 0 ? guess.sentences[place + 1] ?? "" : "";
+}
+
+/** What a firm does by what is signed, and what it has by that. */
+function signedLine({judged, document}, name) {
+    const network = networkOf(document), deals = new Deals(network, {answer: "drops"}), does = `${name} ${deals.does(name, network.own(name, deals.on))}`;
+    const has = judged?.has?.get(name);
+    if (has === undefined) return `${does}.`;
+    return has === null ? `${does}, which is impossible for it.` : `${does}: its utility is ${fraction(has, networkOf(judged.document).outcome.over)}.`;
+}
+
+const NOT_SIGNED = "Nothing is signed yet: click a trade to sign it.", NO_GUESS = "No guess yet: click a trade, or press Solve.";
+
+const NO_PRICES = "The trades have no prices yet: type some, or ask whether there are any.";
+
+function verdictOf({document, view}, said) {
+    if (!document.isWhole) return {mood: "unknown", says: "The document is too long to guess at. The commands can be asked."};
+    if (said === null) return {mood: "unknown", says: "The program is asked."};
+    if (said.trouble) return {mood: "fault", says: said.trouble};
+    if (said.isNone) return {mood: "unknown", says: view.mode === "sign" ? NOT_SIGNED : hasArrangement(networkOf(document)) ? NO_PRICES : NO_GUESS};
+    return VERDICTS[said.said.answer]?.(said.said) ?? {mood: "fault", says: said.sentences.join(" ")};
+}
+
+const VERDICTS = {
+    firms: ({firms, content, surplus}) => content === BigInt(firms.length)
+        ? {mood: "content", says: `\u2713 An equilibrium: every firm is content, and the worths sum to ${surplus}.`}
+        : {mood: "objects", says: `\u2717 No equilibrium: ${content} of ${firms.length} firms are content.`},
+    completes: () => ({mood: "content", says: "\u2713 It lasts: nobody would drop a contract, and prices complete what is signed."}),
+    drops: ({firm, keeps}) => ({mood: "objects", says: `\u2717 It isn't kept: ${firm} would rather drop ${keeps.length === 0 ? "its contracts" : "some of its contracts"}.`}),
+    blocks: ({contracts}) => ({mood: "objects",
+        says: contracts.length === 1 ? "\u2717 It doesn't last: one other contract blocks it." : `\u2717 It doesn't last: a chain of ${contracts.length} other contracts blocks it.`}),
+};
