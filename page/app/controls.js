@@ -10,7 +10,7 @@ import {laidOut} from "./lines.js";
 import {fragmentOf, MOST_LETTERS} from "./link.js";
 import {part} from "./page.js";
 import {zoomIn, zoomOut} from "./scene.js";
-import {isOld, networkOf} from "./state.js";
+import {faulty, isOld, networkOf} from "./state.js";
 import {stepOf, toldOf} from "./story.js";
 import {countOver, signGuess} from "./terms.js";
 
@@ -66,7 +66,7 @@ function bindDocument(store, documents) {
     });
     on("save", () => saveDocument(store.value));
     on("lay-out", () => store.act("typed", laidOut(store.value.document.text)));
-    on("fault-go", () => store.value.guess?.mark && goTo(store.value.guess.mark));
+    on("fault-go", () => goTo(faulty(store.value).mark));
 }
 
 /** One history, also while somebody types in a field of a price. */

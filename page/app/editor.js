@@ -1,6 +1,7 @@
 // The document's text in CodeMirror. Its history is the page's own; changes from elsewhere are put in at their offsets.
 import "../vendor/codemirror-5.65.0/codemirror.min.js";
 import {made, part} from "./page.js";
+import {faulty} from "./state.js";
 
 const {CodeMirror} = globalThis;
 
@@ -53,12 +54,12 @@ function markFor(last, changes) {
 }
 
 /** Shows the text of a document, and a place in it as a fault, or none. */
-export function showEditor({document, guess}) {
-    const text = document.isWhole ? document.text : "";
+export function showEditor(value) {
+    const {document} = value, text = document.isWhole ? document.text : "";
     part("editor").hidden = !document.isWhole;
     if (shown !== text) set(text);
     shown = text;
-    const mark = guess !== null && guess.document.text === document.text ? guess.mark ?? null : null;
+    const mark = faulty(value)?.mark ?? null;
     if (mark === marked?.of) return;
     marked?.range.clear();
     marked = mark === null ? null : {of: mark, range: marking(mark)};

@@ -101,7 +101,7 @@ const ROLES = {
     change: {ink: FIRST, says: "what this step changes", width: 5}, changed: {ink: BOTH, says: "what the steps before it changed"},
     round: {ink: FIRST, says: "what the round changes"},
     impossible: {ink: GONE, says: "what it has"}, x: {ink: FIRST, says: "in x", width: 4}, y: {ink: SECOND, says: "in y", width: 4},
-    "x and y": {ink: BOTH, says: "in x and in y", width: 4}, toggled: {ink: GONE, says: "toggled in both", width: 4},
+    "x and y": {ink: BOTH, says: "in x and in y", width: 4}, moved: {ink: GONE, says: "what goes from one to the other", width: 4},
     keeps: {ink: COME, says: "what it would keep"}, drops: {ink: GONE, says: "what it would drop"},
     contract: {ink: FIRST, says: "the contract of this step", width: 5}, "signed before": {ink: BOTH, says: "the contracts of the steps before it", width: 3},
     chain: {ink: FIRST, says: "the contracts of the chain", width: 3}, left: {ink: GONE, says: "what would be left"},

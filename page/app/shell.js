@@ -3,7 +3,7 @@ import {outcomeOf} from "./contracts.js";
 import {isOneLine} from "./lines.js";
 import {part, write} from "./page.js";
 import {isTable} from "./plan.js";
-import {isOld, networkOf} from "./state.js";
+import {faulty, isOld, networkOf} from "./state.js";
 
 /** The views of the panel, each with the part of the page that it has: a guess and what is signed share the table of trades. */
 const PANELS = {guess: "panel-guess", sign: "panel-guess", claim: "panel-claim", document: "panel-document", answer: "panel-answer"};
@@ -15,7 +15,7 @@ let shownPanel = null, shownText = "";
 
 /** Shows all that. */
 export function showShell(value) {
-    const {document: shown, past, future, view, guess} = value, page = document.documentElement;
+    const {past, future, view} = value, page = document.documentElement;
     page.dataset.guess = saidState(value, value.guess);
     page.dataset.judged = view.mode === "sign" ? saidState(value, value.judged) : "none";
     page.dataset.decided = view.panel === "claim" ? saidState(value, value.decided) : "none";
@@ -28,7 +28,7 @@ export function showShell(value) {
     able("redo", future.length > 0);
     showPanel(view.panel);
     showMode(value);
-    showText(shown, guess);
+    showText(value);
     showOver(value);
     showRanges(value);
 }
@@ -88,16 +88,16 @@ function showMode(value) {
 }
 
 /** The plain field has the beginning of a document that is too long for the editor. */
-function showText({text, isWhole}, guess) {
+function showText(value) {
+    const {document: {text, isWhole}} = value, fault = isWhole ? faulty(value) : null;
     if (shownText !== text) part("text").value = text;
     shownText = text;
     part("text").readOnly = !isWhole;
     part("text").hidden = isWhole;
     part("one-line").hidden = !isWhole || !isOneLine(text);
-    const isFault = isWhole && guess !== null && guess.said?.answer === "fault" && !guess.isNone && guess.document.text === text;
-    part("faulty").hidden = !isFault;
-    part("fault-go").hidden = !isFault || guess.mark === null;
-    write("document-fault", isFault ? guess.sentences.join(" ") : "");
+    part("faulty").hidden = fault === null;
+    part("fault-go").hidden = fault === null || fault.mark === null;
+    write("document-fault", fault === null ? "" : fault.sentences.join(" "));
 }
 
 function showOver(value) {

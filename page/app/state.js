@@ -112,6 +112,12 @@ export function isOld(value, said) {
     return !one.isWhole || !other.isWhole || one.text !== other.text || one.bytes.length !== other.bytes.length;
 }
 
+/** The answer that tells a fault of the present text, or null; a part that isn't there is no fault of it. */
+export function faulty(value) {
+    const {guess, judged, decided, document} = value, isIts = (said) => said !== null && said.document.text === document.text;
+    return [guess, judged, decided].find((said) => isIts(said) && said.said?.answer === "fault" && !said.isNone) ?? null;
+}
+
 /** The one value of the page. Whoever watches is told of each new one, after all of it is there. */
 export class Store {
     constructor() {

@@ -37,7 +37,7 @@ export function showStory(value) {
 
 function showStep(value) {
     const shownStep = stepOf(value);
-    part("story").hidden = shownStep === null;
+    part("story").hidden = shownStep === null || shownStep.count === 1;
     if (shownStep === null) return;
     const {place, count} = shownStep;
     write("story-place", `Step ${place + 1} of ${count}`);

@@ -1,4 +1,5 @@
-"""What is tried of the workbench, by pointer and keys: guesses, who objects, ranges, undo, links, and documents that mean it ill."""
+"""What is tried of the workbench, by pointer and keys: guesses, who objects, ranges, reasons, contracts, claims, undo, links, and
+documents that mean it ill."""
 import json
 import re
 import subprocess
@@ -132,8 +133,8 @@ def label(trade_ends: str) -> str:
 
 def tries(page: Bench, program: str | None):
     """Each as a name, and whether it is so."""
-    for part in (tries_to_guess, tries_of_undo, tries_to_solve, tries_of_ranges, tries_of_complements, tries_of_the_text, tries_of_files, tries_of_size,
-                 tries_of_ill_will):
+    for part in (tries_to_guess, tries_of_undo, tries_to_solve, tries_of_ranges, tries_of_complements, tries_of_reasons, tries_to_sign, tries_of_claims,
+                 tries_of_the_text, tries_of_files, tries_of_size, tries_of_ill_will):
         yield from part(page, program)
 
 
@@ -247,6 +248,183 @@ def tries_of_complements(page: Bench, program: str | None):
     page.click("#solve")
     page.wait_for("state", "answered")
     yield "solve says of them what fails", "doesn't meet the exchange property" in page.says("sentences") or "exchange property" in page.says("sentences")
+
+
+# The steps of a story as they are listed, and as they are stepped through above the network.
+STEPS = "return [...document.querySelectorAll('#reason .step')].map(({textContent}) => textContent);"
+
+
+def stepped(page: Bench) -> list[str]:
+    """What is told, step by step, as somebody reads it who presses Next until there is no more."""
+    told = [page.says("told")]
+    while page.value("!document.getElementById('story').hidden && document.getElementById('story-next').getAttribute('aria-disabled') !== 'true'"):
+        page.click("#story-next")
+        told.append(page.says("told"))
+    return told
+
+
+def with_arrangement(text: str, on: list[str]) -> str:
+    """A document with other trades on, at prices of 0."""
+    whole = json.loads(text)
+    return json.dumps({**whole, "arrangement": {"on": on, "prices": [[trade["name"], 0] for trade in whole["trades"]]}})
+
+
+def worth(page: Bench, program: str | None, text: str, firm: str, on: list[str]) -> int:
+    """What a bundle is worth to a firm, as the program says."""
+    return next(line["worth"] for line in asked(page, program, ["firms"], with_arrangement(text, on))["firms"] if line["firm"] == firm)
+
+
+def tries_of_reasons(page: Bench, program: str | None):
+    page.open("used-cars-outbid.json", look.example("used-cars-outbid.json"))
+    yield "a guess without prices is none yet", page.guess().startswith("The trades have no prices yet")
+    page.click("#wonder")
+    page.wait_for("reason", "answered")
+    said, steps = asked(page, program, ["support"], page.text()), page.browser.run(STEPS)
+    yield "a set without prices has a story of changes, one for each arrow of the cycle", len(steps) == len(said["nodes"]) + 1
+    on = json.loads(page.text())["arrangement"]["on"]
+    cost = worth(page, program, page.text(), "B3", ["db3"]) - worth(page, program, page.text(), "B3", [])
+    yield "each with what it costs its firm, as the program says", steps[0] == f"B3 would give up db3 at a cost of {cost} in worth." and "db3" in on
+    yield "and with their sum", f"sums to {said['cost']}," in steps[-1]
+    yield "they are stepped through", stepped(page) == steps
+    page.click('#reason [data-step="1"]')
+    drawn = page.drawn()
+    yield "a click in the list goes to a step", page.says("told") == steps[1] and page.says("story-place") == "Step 2 of 4"
+    yield "its trades are marked in the network", [name for name, lane in drawn["lanes"].items() if "what this step changes" in lane["says"]] == ["db1", "db3"]
+    yield "and its firms have what it costs them", "no cost" in drawn["firms"]["D"]["shown"] and f"costs {cost}" in drawn["firms"]["B3"]["shown"]
+    page.browser.run("document.getElementById('story-next').focus()")
+    page.press("Enter")
+    yield "Enter on Next goes on", page.says("told") == steps[2]
+    page.click("#reason-close")
+    yield "it is closed", page.value("document.getElementById('reason').hidden && document.getElementById('story').hidden")
+    page.type(with_arrangement(example("used-cars.json"), ["o1d", "db1", "o2b2"]))
+    yield "prices of 0 keep nobody content", not page.guess().startswith("\u2713")
+    page.click("#wonder")
+    page.wait_for("reason", "answered")
+    yield "a set with prices is told these", "There are prices for these trades" in page.says("reason-lines")
+    page.click("#reason-take")
+    yield "which are taken as the guess", page.guess().endswith("the worths sum to 10.")
+    page.open("complements.json", look.example("complements.json"))
+    page.click("#solve")
+    page.wait_for("reason", "answered")
+    both, none = (worth(page, program, page.text(), "B", bundle) for bundle in (["a", "b"], []))
+    steps = stepped(page)
+    yield "a table that fails shows its two bundles with their worths", f"x = {{a, b}}, worth {both} to B." in steps[0] and f"y = {{}}, worth {none}." in steps[1]
+    yield "and what is left where a trade goes from one to the other", steps[2] == "To take a out of x and into y leaves {b}, worth 0, and {a}, worth 0."
+    yield "and it is drawn", page.value("document.querySelectorAll('#reason-picture svg').length") == 1
+    page.click("#reason-claim")
+    page.wait_for("decided", "answered", "fault")
+    yield "it is claimed by a click, and valid", page.says("decided").startswith("\u2713 The claim is valid.") and json.loads(page.text())["claim"]["firm"] == "B"
+    page.click("#tab-guess")
+
+
+def judged(page: Bench) -> str:
+    """Waits for the answer to what is signed, and answers what is said of it."""
+    page.wait_for("judged", "answered", "fault", "none", "trouble")
+    return page.says("verdict")
+
+
+def tries_to_sign(page: Bench, program: str | None):
+    page.open("used-cars.json", look.example("used-cars.json"))
+    page.click("#tab-sign")
+    yield "nothing is signed at first", judged(page).startswith("Nothing is signed yet")
+    page.click("#sign-guess")
+    yield "the guess is signed by a click, and lasts", judged(page).startswith("\u2713 It lasts")
+    outcome = json.loads(page.text())["outcome"]
+    yield "its contracts stand in the text", outcome == {"over": 1, "contracts": [["o1d", 8], ["db1", 11], ["o2b2", 8]]}
+    prices = asked(page, program, ["judge"], page.text())["prices"]
+    lanes = page.drawn()["lanes"]
+    yield "the prices that complete it are drawn", all(f" at {price}: " in lanes[name]["says"] for name, price in prices)
+    page.focus("lane:D B1")
+    page.press("ArrowUp", "ArrowUp")
+    yield "the first firm that drops a contract is told", judged(page).endswith("It isn't kept: B1 would rather drop its contracts.")
+    yield "with what it has and would have", "has -1" in page.drawn()["firms"]["B1"]["shown"] and "then 0" in page.drawn()["firms"]["B1"]["shown"]
+    page.press("1", "0")
+    yield "a price is typed, and a chain blocks what is signed", judged(page).endswith("one other contract blocks it.") and page.focused() == "price:db1"
+    yield "the firms of the chain have what they would have", page.drawn()["firms"]["D"]["shown"] == "Dhas 1then 16/15" and page.drawn()["firms"]["B3"]["shown"] == "B3has 0then 14/15"
+    before = page.text()
+    page.drag("#denominator", 0)
+    page.press("Control+a", "2", "Tab")
+    yield "prices are counted over another denominator", judged(page) != "" and json.loads(page.text())["outcome"] == {"over": 2, "contracts": [["o1d", 16], ["db1", 20], ["o2b2", 16]]}
+    page.focus("lane:D B1")
+    page.press("ArrowUp")
+    page.drag("#denominator", 0)
+    page.press("Control+a", "1", "Tab")
+    yield "a denominator at which a price isn't whole is refused", "isn't whole" in page.says("denominator-says") and json.loads(page.text())["outcome"]["over"] == 2
+    page.click("#undo")
+    page.click("#undo")
+    yield "all that is taken back", page.text() == before and judged(page).endswith("one other contract blocks it.")
+    page.open("used-cars-bypassed.json", look.example("used-cars-bypassed.json"))
+    yield "a document with contracts alone is opened to sign", judged(page).endswith("a chain of 2 other contracts blocks it.")
+    said = asked(page, program, ["judge"], page.text())
+    contracts = [f"{name} to {to} at {price}/{said['over']}." for (name, price), to in zip(said["contracts"], ("D", "B3"))]
+    marked = []
+    for _ in range(2):
+        marked.append({name: lane["says"] for name, lane in page.drawn()["lanes"].items() if " steps before it" in lane["says"] or " of this step" in lane["says"]})
+        page.click("#story-next")
+    yield "the chain is drawn one contract after another", set(marked[0]) == {"o1d"} and set(marked[1]) == {"o1d", "db3"} and "of this step" in marked[1]["db3"]
+    steps = page.browser.run(STEPS)
+    yield "and told so, at the program's prices", all(contract in step for contract, step in zip(contracts, steps))
+    yield "with what each has and would have", "O1 has a utility of 3; with its contracts of the chain it would have 52/17, and leave o1b1." in steps[0]
+    yield "and who isn't asked", page.says("told").endswith("B1 loses o1b1, and isn't asked.")
+    page.click(label("O1 B1"))
+    yield "a click takes a contract away", judged(page) != "" and json.loads(page.text())["outcome"]["contracts"] == [["o2b2", 8]]
+    page.press("Control+z")
+    page.drag(label("O1 B1"), -16)
+    yield "a drag gives it another price", judged(page) != "" and json.loads(page.text())["outcome"]["contracts"] == [["o1b1", 9], ["o2b2", 8]]
+    page.press("Control+z")
+    yield "the text is as it was", page.text() == example("used-cars-bypassed.json")
+
+
+def decided(page: Bench) -> str:
+    """Waits for the answer to the claim, and answers what is said of it."""
+    page.wait_for("decided", "answered", "fault", "none", "trouble")
+    return page.says("decided")
+
+
+def tries_of_claims(page: Bench, program: str | None):
+    page.open("used-cars-bypassed.json", look.example("used-cars-bypassed.json"))
+    judged(page)
+    first = page.text()
+    page.click("#reason-claim")
+    yield "an answer goes into the document as its claim", decided(page).startswith("\u2713 The claim is valid.")
+    yield "as the program said it", json.loads(page.text())["claim"] == asked(page, program, ["judge"], first)
+    yield "and all else is as it was", page.text().startswith(first[:first.rindex("}")])
+    valid = page.text()
+    page.focus("claim contracts o1d")
+    page.press(*["ArrowDown"] * 2)
+    yield "a number of it is spoilt by keys", '["o1d",118]' in page.text() and page.focused() == "claim contracts o1d"
+    reason = asked(page, program, ["replay"], page.text())
+    yield "and the reason is told", decided(page).startswith("\u2717 The claim isn't valid.") and decided(page).endswith(f"{reason['firm']} does as well as it can without {reason['trade']}.")
+    page.press("Control+z", "Control+z")
+    yield "taken back it is valid again", page.text() == valid and decided(page).startswith("\u2713")
+    page.click('#claim-fields [aria-label="Leave the contract on db3 out of the claim"]')
+    yield "a contract is left out", len(json.loads(page.text())["claim"]["contracts"]) == 1 and "does as well as it can without o1d" in decided(page)
+    page.press("Control+z")
+    page.focus("claim over")
+    page.press("Control+a", "0")
+    yield "a claim with a fault has it told", page.value("document.documentElement.dataset.decided") == "fault" or "fault 19" in decided(page)
+    page.click("#claim-go")
+    marked = page.value("[...document.querySelectorAll('.CodeMirror .faulty')].map(({textContent}) => textContent).join('')")
+    yield "and marked in the text", marked == "0"
+    page.open("used-cars.json", look.example("used-cars.json"))
+    page.click("#tab-guess")
+    page.click("#solve")
+    page.wait_for("state", "answered")
+    page.click("#over-claim")
+    yield "what solve found is claimed", decided(page).startswith("\u2713 The claim is valid. It says that its trades and prices are an equilibrium of the surplus 10")
+    page.click('#claim-fields [data-key="claim on o2b2"]')
+    reason = asked(page, program, ["replay"], page.text())
+    yield "a trade of it is taken out", "o2b2" not in json.loads(page.text())["claim"]["on"] and f"{reason['firm']} would rather" in decided(page)
+    page.open("used-cars-dear-car.json", look.example("used-cars-dear-car.json"))
+    page.ask("check")
+    page.click("#answer-claim")
+    yield "an answer to a command is claimed", decided(page).startswith("\u2713 The claim is valid. It says that D would gain 1 with {o2d, db1}")
+    page.browser.run("const gain = document.getElementById('claim gain'); gain.focus(); gain.select()")
+    page.press("2")
+    yield "and spoilt", decided(page).endswith("It would gain 1.") and json.loads(page.text())["claim"]["gain"] == 2
+    page.ask("firms")
+    yield "an answer that is no claim has no button", page.value("document.getElementById('answer-claim').hidden")
+    page.click("#tab-guess")
 
 
 ONE_TRADE = ('{"version":1,"firms":[{"name":"S","kind":"table","rows":[[["a"],-1]]},{"name":"B","kind":"table","rows":[[["a"],4]]}],'

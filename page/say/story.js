@@ -61,18 +61,22 @@ async function impossibleStory(network, {firm}) {
 }
 
 async function failingStory(network, said, ask) {
-    const {firm, x, y, at} = said, toggled = [x, y].map((bundle) => network.own(firm, bundle.includes(at) ? bundle.filter((name) => name !== at) : [...bundle, at]));
-    const [ofX, ofY, thenX, thenY] = await worths(ask, network, firm, [x, y, ...toggled]);
+    const {firm, x, y, at} = said, moved = [x, y].map((bundle) => network.own(firm, bundle.includes(at) ? bundle.filter((name) => name !== at) : [...bundle, at]));
+    const [ofX, ofY, thenX, thenY] = await worths(ask, network, firm, [x, y, ...moved]);
     const both = new Map([...x.map((name) => [name, "x"]), ...y.map((name) => [name, x.includes(name) ? "x and y" : "y"])]);
     const below = new Map([[firm, [`x: ${ofX}`, `y: ${ofY}`]]]), step = (says, trades, lines) => ({says, firms: [firm], trades, below: new Map([[firm, lines]])});
     const worth = (bundle, number) => number === null ? `${set(bundle)}, which is impossible` : `${set(bundle)}, worth ${number}`;
     const steps = [step(`The first of two bundles is x = ${worth(x, ofX)} to ${firm}.`, new Map(x.map((name) => [name, "x"])), [`x: ${ofX}`]),
         step(`The other one is y = ${worth(y, ofY)}.`, new Map(y.map((name) => [name, "y"])), [`x: ${ofX}`, `y: ${ofY}`])];
-    const without = at === null ? [] : [{says: `With ${at} toggled in both they are ${worth(toggled[0], thenX)}, and ${worth(toggled[1], thenY)}.`, firms: [firm],
-        trades: new Map([...both, [at, "toggled"]]), below: new Map([[firm, [`x: ${thenX ?? "none"}`, `y: ${thenY ?? "none"}`]]])}];
+    const without = at === null ? [] : [{says: `${movedFrom(at, x)} leaves ${worth(moved[0], thenX)}, and ${worth(moved[1], thenY)}.`, firms: [firm],
+        trades: new Map([...both, [at, "moved"]]), below: new Map([[firm, [`x: ${thenX ?? "none"}`, `y: ${thenY ?? "none"}`]]])}];
     const [, fails] = await failingLines(network, said, ask);
     return {head: `${firm} doesn't meet the exchange property, on which the theory of equilibrium rests.`,
         steps: [...steps, ...without, {says: fails, firms: [firm], trades: both, below}]};
+}
+
+function movedFrom(at, x) {
+    return x.includes(at) ? `To take ${at} out of x and into y` : `To take ${at} out of y and into x`;
 }
 
 async function dropsStory(network, said, ask) {
@@ -80,8 +84,8 @@ async function dropsStory(network, said, ask) {
     const [has, could] = [(await haves(ask, network)).get(firm), await keeping(ask, network, said)];
     const lines = [gain === null ? "impossible" : `has ${numberOf(has, over)}`, `then ${numberOf(could, over)}`];
     const trades = new Map(own.map((name) => [name, keeps.includes(name) ? "keeps" : "drops"]));
-    const says = gain === null ? `It can't do all that. Of what it may keep, it is best to keep ${listed(keeps)}: its utility is then ${numberOf(could, over)}.`
-        : `Its utility is ${numberOf(has, over)}. It would rather keep ${listed(keeps)}, and have ${numberOf(could, over)}, which is ${fraction(gain, over)} more.`;
+    const says = gain === null ? `${firm} can't do all that. Of what it may keep, it is best to keep ${listed(keeps)}: its utility is then ${numberOf(could, over)}.`
+        : `${firm} has a utility of ${numberOf(has, over)}. It would rather keep ${listed(keeps)}, and have ${numberOf(could, over)}, which is ${fraction(gain, over)} more.`;
     return {head: `By what is signed ${firm} ${deals.does(firm, own)}.`, steps: [{says, firms: [firm], trades, below: new Map([[firm, lines]])}]};
 }
 
