@@ -40,9 +40,9 @@ function showFields(network) {
 
 function verdictOf({document, decided}) {
     if (!document.isWhole) return {mood: "unknown", says: "The document is too long to be looked at here. The commands can be asked."};
-    if (decided === null) return {mood: "unknown", says: "The program is asked."};
+    if (claimOf(networkOf(document)) === null) return {mood: "unknown", says: "The document has no claim."};
+    if (decided === null || decided.isNone) return {mood: "unknown", says: "The program is asked."};
     if (decided.trouble) return {mood: "fault", says: decided.trouble};
-    if (decided.isNone) return {mood: "unknown", says: "The document has no claim."};
     const mood = {valid: "content", invalid: "objects"}[decided.said.answer] ?? "fault", sign = {content: "\u2713 ", objects: "\u2717 "}[mood] ?? "";
     return {mood, says: `${sign}${decided.sentences.join(" ")}`};
 }

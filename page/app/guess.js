@@ -4,6 +4,7 @@ import {haves} from "../read/firms.js";
 import {explain} from "../say/explain.js";
 import {markOf} from "./answer.js";
 import {storyOf} from "../say/story.js";
+import {failingOf} from "../draw/triple.js";
 import {whyPicture} from "../draw/why.js";
 import {Ended, inText, NoAnswerCame} from "./ask.js";
 import {claimOf} from "./claims.js";
@@ -76,7 +77,8 @@ async function understood(document, words, {bytes}, ask) {
     }
     const isFault = said.answer === "fault", isNone = isFault && !network.problem && lacks(network, words, said.place);
     const told = {document, said, isNone, sentences: await explain(network, said, ASKING.includes(words) ? ask : null), mark: isFault && !isNone ? markOf(network, said) : null};
-    return words === "judge" && !isFault ? {...told, ...await reasonOf(network, said, ask), has: await haves(ask, network)} : told;
+    if (words !== "judge") return told;
+    return {...told, ...await reasonOf(network, said, ask), has: isFault ? new Map() : await haves(ask, network)};
 }
 
 /** Whether a place is that of the part that a command asks about, or of the prices of a guess, and a document hasn't that. */
@@ -92,8 +94,11 @@ const PARTS = {firms: ["arrangement", hasArrangement], judge: ["outcome", hasOut
 /** The commands whose sentences ask the program for more. */
 const ASKING = ["judge", "replay"];
 
-/** Why an answer is so, as `{story, svg}`, each null where there is none. */
+/** Why an answer is so, as `{story, svg}`, each null where there is none. Of a fault, which a table that fails may be, that is told. */
 export async function reasonOf(network, said, ask) {
-    const isDrawn = ["cycle", "blocks", "exchange_fails"].includes(said.answer);
-    return {story: await storyOf(network, said, ask), svg: isDrawn ? await whyPicture(network, said, ask) : null};
+    const failing = said.answer === "fault" ? failingOf(network, said) : null;
+    const told = failing === null ? said : {answer: "exchange_fails", ...failing}, isDrawn = DRAWN.includes(told.answer);
+    return {story: await storyOf(network, told, ask), svg: isDrawn ? await whyPicture(network, told, ask) : null};
 }
+
+const DRAWN = ["cycle", "blocks", "exchange_fails"];

@@ -1,5 +1,6 @@
 // What stands around the network and the tables: buttons, tabs, notices, and the states that the page names.
 import {outcomeOf} from "./contracts.js";
+import {hasArrangement} from "./edits.js";
 import {isOneLine} from "./lines.js";
 import {part, write} from "./page.js";
 import {isTable} from "./plan.js";
@@ -83,6 +84,7 @@ function showMode(value) {
     const isSigned = value.view.mode === "sign", {over} = outcomeOf(networkOf(value.document));
     for (const id of ["guess-tools", "firms-part"]) part(id).hidden = isSigned;
     part("sign-tools").hidden = !isSigned;
+    for (const id of ["wonder", "sign-guess"]) able(id, hasArrangement(networkOf(value.document)));
     const field = part("denominator");
     if (field !== document.activeElement) field.value = String(over);
 }

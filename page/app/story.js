@@ -21,7 +21,7 @@ let shown = null;
 /** Shows all that of a value. */
 export function showStory(value) {
     showStep(value);
-    const told = toldOf(value), isThere = told !== null && told.sentences?.length > 0 && !told.isNone && (value.view.mode === "guess" || told.said !== null);
+    const told = toldOf(value), isThere = told !== null && told.sentences?.length > 0 && !told.isNone && isTold(value, told);
     part("reason").hidden = !isThere || value.view.isOver;
     part("reason").classList.toggle("old", isThere && isOld(value, told));
     part("reason-close").hidden = value.view.mode === "sign";
@@ -33,6 +33,11 @@ export function showStory(value) {
     if (shown?.told !== told) fill(told);
     [...part("reason-lines").querySelectorAll("button")].forEach((button, k) => button.setAttribute("aria-pressed", `${k === now.step}`));
     shown = now;
+}
+
+/** Whether an answer is told beside the network; a fault of what is signed without a story stands above it already. */
+function isTold({view}, {said, story}) {
+    return view.mode === "guess" || (said !== null && (said.answer !== "fault" || story !== null));
 }
 
 function showStep(value) {

@@ -47,7 +47,7 @@ function verdictOf({document, view}, said) {
     if (said === null) return {mood: "unknown", says: "The program is asked."};
     if (said.trouble) return {mood: "fault", says: said.trouble};
     if (said.isNone) return {mood: "unknown", says: view.mode === "sign" ? NOT_SIGNED : hasArrangement(networkOf(document)) ? NO_PRICES : NO_GUESS};
-    return VERDICTS[said.said.answer]?.(said.said) ?? {mood: "fault", says: said.sentences.join(" ")};
+    return VERDICTS[said.said.answer]?.(said.said) ?? {mood: "fault", says: said.story ? said.sentences[0] : said.sentences.join(" ")};
 }
 
 const VERDICTS = {

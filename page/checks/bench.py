@@ -594,21 +594,44 @@ def tries_of_ill_will(page: Bench, program: str | None):
     yield "and after them the page answers", page.guess().endswith("the worths sum to 10.")
 
 
+def tree_of(page: Bench) -> list[dict]:
+    """Chromium's accessibility tree, without what nobody is told of."""
+    nodes = page.browser.driver.execute_cdp_cmd("Accessibility.getFullAXTree", {})["nodes"]
+    return [node for node in nodes if not node.get("ignored")]
+
+
+def names_in(nodes: list[dict]) -> list[str]:
+    return [node.get("name", {}).get("value", "") for node in nodes]
+
+
+def unnamed(nodes: list[dict]) -> list[str]:
+    """The roles of what is pressed or filled in, and has no name."""
+    roles = ("button", "textbox", "combobox", "checkbox", "tab", "searchbox")
+    return [node["role"]["value"] for node in nodes if node.get("role", {}).get("value") in roles and not node.get("name", {}).get("value")]
+
+
 def tries_of_access(page: Bench):
     """Chromium's accessibility tree, and what the style table says of colours and motion."""
     page.open("used-cars-dear-car.json", look.example("used-cars-dear-car.json"))
     page.click("#tab-guess")
-    nodes = page.browser.driver.execute_cdp_cmd("Accessibility.getFullAXTree", {})["nodes"]
-    names = [node.get("name", {}).get("value", "") for node in nodes if not node.get("ignored")]
+    nodes = tree_of(page)
+    names = names_in(nodes)
     firms = {name.split(" ")[1].rstrip(",") for name in names if name.startswith("Firm ")}
     yield "firms are in the accessibility tree", firms >= {"O1", "O2", "D", "B1", "B2", "B3"}
     trades = {name.split(" ")[1].rstrip(",") for name in names if name.startswith("Trade ") and " at " in name}
     yield "trades with prices are", trades == {trade["name"] for trade in json.loads(page.text())["trades"]}
     yield "the verdict is", any("No equilibrium: 5 of 6 firms are content." in name for name in names)
-    roles = ("button", "textbox", "combobox", "checkbox", "tab", "searchbox")
-    unnamed = [node["role"]["value"] for node in nodes
-               if not node.get("ignored") and node.get("role", {}).get("value") in roles and not node.get("name", {}).get("value")]
-    yield f"all that is pressed or filled in has a name {unnamed}", unnamed == []
+    yield f"all that is pressed or filled in has a name {unnamed(nodes)}", unnamed(nodes) == []
+    page.open("used-cars-bypassed.json", look.example("used-cars-bypassed.json"))
+    judged(page)
+    nodes = tree_of(page)
+    names = names_in(nodes)
+    yield "and so has what is signed", unnamed(nodes) == [] and "o1b1 is signed" in names and "Trade o1b1, from O1 to B1, at 7: signed" in names
+    yield "what a firm has and would have is told", "Firm O1: has 3, then 52/17" in names
+    page.click("#reason-claim")
+    decided(page)
+    nodes = tree_of(page)
+    yield "and all of a claim has a name", unnamed(nodes) == [] and {"price of o1d", "over"} <= set(names_in(nodes))
     style = (HERE.parent / "style.css").read_text()
     colours = dict(re.findall(r"--([\w-]+): (#[0-9a-f]{6})", style))
     pairs = [(text, ground) for text in ("ink", "quiet", "good", "bad") for ground in ("paper", "ground")]

@@ -1,7 +1,10 @@
-// Whether the workbench changes of a text what it says and nothing else, takes changes back, and brings documents back from links.
+// Whether the workbench changes of a text what it says and nothing else, its guess, contracts and claim, takes changes back, and brings
+// documents back from links.
 import assert from "node:assert/strict";
 import {deflateRawSync} from "node:zlib";
 import {test} from "node:test";
+import {claimedAs, fieldsOf, leftOut, spoilt, toggledIn} from "../../../page/app/claims.js";
+import {countedOver, outcomeOf, signed, signedAs, unsigned} from "../../../page/app/contracts.js";
 import {applied, arranged, priced, turned} from "../../../page/app/edits.js";
 import {isOneLine, laidOut} from "../../../page/app/lines.js";
 import {bytesIn, fragmentOf} from "../../../page/app/link.js";
@@ -115,4 +118,91 @@ test("an answer is old as soon as the text is another, and isn't any more when i
     store.act("undone");
     assert.equal(isOld(store.value, store.value.answer), false);
     assert.equal(networkOf(store.value.document).trades.length, 0);
+});
+
+/** What stands around a member of a text, which is put at its end where there is none. */
+function rest(text, name) {
+    const node = parse(text).value.get(name);
+    return node ? [text.slice(0, node.start), text.slice(node.end)] : [text.slice(0, text.lastIndexOf("}"))];
+}
+
+/** Whether all but one member of an edited text is as it was. */
+function leaves(before, after, name) {
+    const [head, tail] = rest(before, name);
+    assert.ok(after.startsWith(head) && (tail === undefined || after.endsWith(tail)));
+}
+
+test("a trade is signed, and its contract taken away, by a change of the text that leaves all else", () => {
+    const draw = draws(52);
+    for (const text of texts()) {
+        const network = new Network(text), {name} = network.trades[draw(network.trades.length)], price = String(draw(2000) - 1000);
+        const made = applied(text, signed(network, new Map([[name, price]])));
+        leaves(text, made, "outcome");
+        assert.equal(new Map(plain(parse(made)).outcome.contracts).get(name), BigInt(price));
+        const gone = applied(made, unsigned(new Network(made), name));
+        leaves(made, gone, "outcome");
+        const others = [...outcomeOf(network).contracts].filter(([other]) => other !== name);
+        assert.deepEqual(plain(parse(gone)).outcome.contracts, others);
+        assert.deepEqual(unsigned(new Network(gone), name), []);
+    }
+});
+
+test("contracts are taken together, and counted over another denominator where they are whole then", () => {
+    for (const text of texts()) {
+        const network = new Network(text), names = network.trades.map(({name}) => name), prices = new Map(names.map((name, k) => [name, String(6 * k)]));
+        const made = applied(text, signedAs(network, 6n, prices));
+        leaves(text, made, "outcome");
+        assert.deepEqual(outcomeOf(new Network(made)), {over: 6n, contracts: new Map(names.map((name, k) => [name, BigInt(6 * k)]))});
+        assert.deepEqual(signedAs(new Network(made), 6n, prices), []);
+        const whole = applied(made, countedOver(new Network(made), 1n));
+        leaves(made, whole, "outcome");
+        assert.deepEqual(outcomeOf(new Network(whole)), {over: 1n, contracts: new Map(names.map((name, k) => [name, BigInt(k)]))});
+        const half = applied(made, signed(new Network(made), new Map([[names[0], "3"]])));
+        assert.equal(countedOver(new Network(half), 1n), null);
+        assert.equal(outcomeOf(new Network(applied(half, countedOver(new Network(half), 12n)))).contracts.get(names[0]), 6n);
+    }
+    assert.deepEqual(signed(new Network("[1]"), new Map([["a", "1"]])), []);
+});
+
+test("an answer is put in as the claim, and each name and number of it changed at its place", () => {
+    const said = {answer: "blocks", contracts: [["a", 9n], ["b", 8n]], over: 3n};
+    for (const text of texts()) {
+        const network = new Network(text), made = applied(text, claimedAs(network, said));
+        leaves(text, made, "claim");
+        assert.equal(written(plain(parse(made)).claim), written(said));
+        const first = applied(made, spoilt(fieldsOf(new Network(made))[0], "7"));
+        assert.equal(written(plain(parse(first)).claim), written({...said, contracts: [["a", 7n], ["b", 8n]]}));
+        const out = applied(made, leftOut(fieldsOf(new Network(made))[0]));
+        assert.equal(written(plain(parse(out)).claim), written({...said, contracts: [["b", 8n]]}));
+        leaves(made, out, "claim");
+    }
+});
+
+test("of every claim of the examples each field stands at its place, and a trade goes into a set and out of it", () => {
+    for (const text of texts()) {
+        const network = new Network(text);
+        for (const field of fieldsOf(network)) {
+            if (field.kind !== "set") {
+                assert.equal(applied(text, spoilt(field, text.slice(field.node.start, field.node.end))), text);
+                continue;
+            }
+            for (const {name, isIn} of field.trades) {
+                const turned = applied(text, toggledIn(field, name, !isIn)), again = fieldsOf(new Network(turned)).find(({key}) => key === field.key);
+                assert.equal(again.trades.find((trade) => trade.name === name)?.isIn ?? false, !isIn);
+                leaves(text, turned, "claim");
+            }
+        }
+    }
+});
+
+test("a document is opened to sign where it has contracts and no guess, and at its claim where it has one", () => {
+    const store = new Store(), open = (name) => store.act("opened", name, examples().find((each) => each.name === name).bytes);
+    for (const [name, panel, mode] of [["used-cars.json", "guess", "guess"], ["used-cars-bypassed.json", "sign", "sign"], ["claim-choice.json", "claim", "sign"],
+        ["claim-gain.json", "claim", "guess"], ["used-cars.json", "guess", "guess"]]) {
+        open(name);
+        assert.deepEqual([store.value.view.panel, store.value.view.mode], [panel, mode]);
+    }
+    store.act("went", "document");
+    open("used-cars-bypassed.json");
+    assert.deepEqual([store.value.view.panel, store.value.view.mode], ["document", "sign"]);
 });
