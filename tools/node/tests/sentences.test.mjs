@@ -5,6 +5,7 @@ import {belongs, isSo, NoAnswer, readAnswer} from "../../../page/read/answer.js"
 import {costs, gains, worths} from "../../../page/read/firms.js";
 import {Network} from "../../../page/read/network.js";
 import {explain} from "../../../page/say/explain.js";
+import {storyOf} from "../../../page/say/story.js";
 import {askOf} from "../ask.mjs";
 import {examples, has} from "./support.mjs";
 
@@ -66,4 +67,37 @@ test("an answer to another document is told", () => {
         '{"answer":"fault","fault":1,"name":"NotJson","place":[]}', '{"answer":"fault","fault":8,"name":"UnknownTrade","place":["edits",3,0]}'];
     for (const text of others) assert.throws(() => belongs(network, readAnswer(text)), NoAnswer, text);
     for (const text of ["", "[]", "{}", "trade,on,price", '{"answer":"solved"}']) assert.throws(() => readAnswer(text), NoAnswer);
+});
+
+test("every reason of an example is told step by step, with trades and firms of its own", {skip}, async (context) => {
+    if (!await has(ask, "firms")) return context.skip("the program has no firms");
+    for (const {name, bytes} of examples()) {
+        const network = new Network(bytes.toString()), firms = new Set(network.firms.map((firm) => firm.name));
+        for (const command of ["support", "judge", "test"]) {
+            const said = readAnswer(await ask([command], bytes)), story = await storyOf(network, said, ask);
+            assert.equal(story !== null, ["cycle", "impossible", "exchange_fails", "drops", "blocks"].includes(said.answer), `${name} ${command}`);
+            for (const {says, firms: named, trades, below} of story?.steps ?? []) {
+                assert.match(says, /^\S.*\.$/, `${name} ${command}`);
+                assert.doesNotMatch(`${says} ${[...below.values()]}`, /undefined|\[object|NaN|unknown|null/, `${name} ${command}`);
+                assert.ok([...named, ...below.keys()].every((firm) => firms.has(firm)), `${name} ${command}`);
+                assert.ok([...trades.keys()].every((trade) => network.byName.has(trade)), `${name} ${command}`);
+            }
+        }
+    }
+});
+
+/** The story of an answer to an example. */
+async function storyIn(name, command) {
+    const {bytes} = examples().find((each) => each.name === name);
+    return storyOf(new Network(bytes.toString()), readAnswer(await ask([command], bytes)), ask);
+}
+
+test("what firms of a chain and of contracts that are dropped have and would have is what the pages say by hand", {skip}, async (context) => {
+    if (!await has(ask, "firms")) return context.skip("the program has no firms");
+    const below = async (name) => Object.fromEntries((await storyIn(name, "judge")).steps.at(-1).below);
+    assert.deepEqual(await below("used-cars-bypassed.json"), {O1: ["has 3", "then 52/17"], D: ["has 0", "then 2/17"], B3: ["has 0", "then 48/17"]});
+    assert.deepEqual(await below("two-middlemen.json"),
+        {S: ["has 0", "then 1/7"], M1: ["has 0", "then 2/7"], M2: ["has 0", "then 2/7"], B: ["has 0", "then 37/7"]});
+    assert.deepEqual(await below("signed-too-low.json"), {S: ["has -1", "then 0"]});
+    assert.deepEqual(await below("signed-undeliverable.json"), {S: ["impossible", "then 0"]});
 });
