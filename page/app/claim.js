@@ -31,20 +31,25 @@ export function showClaim(value) {
 
 /** Shows what can be changed; a form stays as long as there is the same to be changed, so that it keeps the focus. */
 function showFields(network) {
-    const list = fieldsOf(network), next = JSON.stringify(list.map(({key, says, options, trades}) => [key, says, options, trades?.map(({name}) => name)]));
+    const list = fieldsOf(network);
+    const next = JSON.stringify(list.map(({key, says, options, trades}) => [key, says, options, trades?.map(({name}) => name)]));
     fields = new Map(list.map((field) => [field.key, field]));
     if (next !== structure) keepingFocus(part("claim-fields"), () => part("claim-fields").replaceChildren(...list.map(rowOf)));
     structure = next;
     list.forEach((field, k) => SHOW[field.kind](part("claim-fields").children[k], field));
 }
 
+const SIGNS = {content: "\u2713 ", objects: "\u2717 "};
+
+const TOO_LONG = "The document is too long to be looked at here. The commands can be asked.";
+
 function verdictOf({document, decided}) {
-    if (!document.isWhole) return {mood: "unknown", says: "The document is too long to be looked at here. The commands can be asked."};
+    if (!document.isWhole) return {mood: "unknown", says: TOO_LONG};
     if (claimOf(networkOf(document)) === null) return {mood: "unknown", says: "The document has no claim."};
     if (decided === null || decided.isNone) return {mood: "unknown", says: "The program is asked."};
     if (decided.trouble) return {mood: "fault", says: decided.trouble};
-    const mood = {valid: "content", invalid: "objects"}[decided.said.answer] ?? "fault", sign = {content: "\u2713 ", objects: "\u2717 "}[mood] ?? "";
-    return {mood, says: `${sign}${decided.sentences.join(" ")}`};
+    const mood = {valid: "content", invalid: "objects"}[decided.said.answer] ?? "fault";
+    return {mood, says: `${SIGNS[mood] ?? ""}${decided.sentences.join(" ")}`};
 }
 
 function edit(edits, mark = null) {
@@ -75,8 +80,10 @@ function shownNumber(input, text) {
     input.setAttribute("aria-invalid", "false");
 }
 
+const NUMBER = {type: "text", inputmode: "numeric", size: 14, autocomplete: "off"};
+
 function numberForm({key, says, out}) {
-    const id = `claim ${key}`, input = made("input", "", {type: "text", inputmode: "numeric", size: 14, id, "data-key": id, autocomplete: "off"});
+    const id = `claim ${key}`, input = made("input", "", {...NUMBER, id, "data-key": id});
     const put = (text, mark) => edit(spoilt(fields.get(key), text), mark);
     input.addEventListener("input", () => {
         const isWhole = WHOLE.test(input.value.trim());
@@ -111,7 +118,8 @@ function choiceForm({key, says, node, options}) {
 function setForm({key, says, trades}) {
     const group = made("fieldset");
     group.append(made("legend", says), ...trades.map(({name}) => {
-        const label = made("label", "", {class: "box"}), box = made("input", "", {type: "checkbox", "data-key": `claim ${key} ${name}`});
+        const label = made("label", "", {class: "box"});
+        const box = made("input", "", {type: "checkbox", "data-key": `claim ${key} ${name}`});
         box.addEventListener("change", () => edit(toggledIn(fields.get(key), name, box.checked)));
         label.append(box, name);
         return label;

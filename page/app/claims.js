@@ -22,7 +22,7 @@ export function claimOf(network) {
 
 /**
  * What can be changed of a claim, in its order: `{key, says, kind, node, ..}`. A `number` has its text, a `choice` what may stand
- * there as `options` of `{value, says}`, where a value is JSON, and a `set` its trades as `{name, isIn}`. An entry of contracts can be left out.
+ * there as `options` of `{value, says}`, where a value is JSON, and a `set` its trades as `{name, isIn}`. A contract can be left out.
  */
 export function fieldsOf(network) {
     const claim = claimOf(network);
@@ -31,26 +31,39 @@ export function fieldsOf(network) {
 }
 
 function fieldsAt(network, claim, name, node) {
-    const all = network.trades.map((trade) => trade.name), none = {value: "null", says: "no trade"};
-    const options = (names) => names.map((each) => ({value: JSON.stringify(each), says: each}));
-    if (node.kind === "number") return [{key: name, says: name, kind: "number", node}];
-    if (name === "firm") return [{key: name, says: name, kind: "choice", node, options: options(network.firms.map((firm) => firm.name))}];
-    if (name === "at") return [{key: name, says: name, kind: "choice", node, options: [none, ...options(all)]}];
+    const all = network.trades.map((trade) => trade.name), field = {key: name, says: name, node};
+    if (node.kind === "number") return [{...field, kind: "number"}];
+    if (name === "firm") return [{...field, kind: "choice", options: optionsOf(network.firms.map((firm) => firm.name))}];
+    if (name === "at") return [{...field, kind: "choice", options: [NONE, ...optionsOf(all)]}];
     if (node.kind !== "list") return [];
-    if (name === "nodes") {
-        return node.value.map((each, k) => ({key: `${name} ${k}`, says: `node ${k + 1}`, kind: "choice", node: each, options: [none, ...options(all)]}));
-    }
-    if (name === "prices" || name === "contracts") return entryFields(name, node);
+    if (name === "nodes") return node.value.map((each, k) => nodeField(each, k, all));
+    return name === "prices" || name === "contracts" ? entryFields(name, node) : [{...field, kind: "set", trades: setOf(network, claim, node, all)}];
+}
+
+const NONE = {value: "null", says: "no trade"};
+
+function optionsOf(names) {
+    return names.map((name) => ({value: JSON.stringify(name), says: name}));
+}
+
+function nodeField(node, k, all) {
+    return {key: `nodes ${k}`, says: `node ${k + 1}`, kind: "choice", node, options: [NONE, ...optionsOf(all)]};
+}
+
+/** The trades that may stand in a set: those of the claim's firm, where it has one, and what stands there. */
+function setOf(network, claim, {value}, all) {
     const firm = claim.value.get("firm")?.value, own = typeof firm === "string" ? network.own(firm, all) : all;
-    const now = node.value.map(({value}) => value);
-    return [{key: name, says: name, kind: "set", node, trades: [...new Set([...own, ...now.map(String)])].map((each) => ({name: each, isIn: now.includes(each)}))}];
+    const now = value.map((item) => String(item.value));
+    return [...new Set([...own, ...now])].map((name) => ({name, isIn: now.includes(name)}));
 }
 
 function entryFields(name, list) {
-    const entries = list.value.filter(({kind, value}) => kind === "list" && value[0]?.kind === "text" && value[1]?.kind === "number");
+    const isEntry = ({kind, value}) => kind === "list" && value[0]?.kind === "text" && value[1]?.kind === "number";
+    const entries = list.value.filter(isEntry);
     return entries.map((entry) => {
         const [trade, number] = entry.value;
-        return {key: `${name} ${trade.value}`, says: `price of ${trade.value}`, kind: "number", node: number, out: name === "contracts" ? {list, entry, trade: trade.value} : null};
+        const out = name === "contracts" ? {list, entry, trade: trade.value} : null;
+        return {key: `${name} ${trade.value}`, says: `price of ${trade.value}`, kind: "number", node: number, out};
     });
 }
 

@@ -11,7 +11,7 @@ import {fragmentOf, MOST_LETTERS} from "./link.js";
 import {part} from "./page.js";
 import {zoomIn, zoomOut} from "./scene.js";
 import {faulty, isOld, networkOf} from "./state.js";
-import {stepOf, toldOf} from "./story.js";
+import {stepOf, reasonOf} from "./story.js";
 import {countOver, signGuess} from "./terms.js";
 
 /** The actions that change the document. */
@@ -138,7 +138,7 @@ function bindStory(store, {wonder}) {
     });
     on("reason-close", () => store.act("reasoned", null));
     on("reason-take", () => {
-        const {said} = toldOf(store.value);
+        const {said} = reasonOf(store.value);
         arrange(store, [...networkOf(store.value.document).arrangement.on], said.prices);
     });
 }
@@ -163,7 +163,7 @@ function claim(store, told) {
 }
 
 function bindClaims(store) {
-    on("reason-claim", () => claim(store, toldOf(store.value)));
+    on("reason-claim", () => claim(store, reasonOf(store.value)));
     for (const id of ["over-claim", "answer-claim"]) on(id, () => claim(store, store.value.answer));
     on("claim-go", () => {
         store.act("went", "document");

@@ -1,11 +1,11 @@
 // What is answered without being asked for: `firms` of the newest text, and where these are looked at `range`, `judge` and `replay`.
+import {failingOf} from "../draw/triple.js";
+import {whyPicture} from "../draw/why.js";
 import {NoAnswer, readAnswer} from "../read/answer.js";
 import {haves} from "../read/firms.js";
 import {explain} from "../say/explain.js";
-import {markOf} from "./answer.js";
 import {storyOf} from "../say/story.js";
-import {failingOf} from "../draw/triple.js";
-import {whyPicture} from "../draw/why.js";
+import {markOf} from "./answer.js";
 import {Ended, inText, NoAnswerCame} from "./ask.js";
 import {claimOf} from "./claims.js";
 import {hasOutcome} from "./contracts.js";
@@ -76,9 +76,10 @@ async function understood(document, words, {bytes}, ask) {
         return {document, said: null, trouble: "The program's answer could not be read."};
     }
     const isFault = said.answer === "fault", isNone = isFault && !network.problem && lacks(network, words, said.place);
-    const told = {document, said, isNone, sentences: await explain(network, said, ASKING.includes(words) ? ask : null), mark: isFault && !isNone ? markOf(network, said) : null};
+    const sentences = await explain(network, said, ASKING.includes(words) ? ask : null);
+    const told = {document, said, isNone, sentences, mark: isFault && !isNone ? markOf(network, said) : null};
     if (words !== "judge") return told;
-    return {...told, ...await reasonOf(network, said, ask), has: isFault ? new Map() : await haves(ask, network)};
+    return {...told, ...await tellingOf(network, said, ask), has: isFault ? new Map() : await haves(ask, network)};
 }
 
 /** Whether a place is that of the part that a command asks about, or of the prices of a guess, and a document hasn't that. */
@@ -89,13 +90,15 @@ function lacks(network, words, [part, member, ...more]) {
 }
 
 /** The part of a document that a command asks about, and whether a document has it. */
-const PARTS = {firms: ["arrangement", hasArrangement], judge: ["outcome", hasOutcome], replay: ["claim", (network) => claimOf(network) !== null]};
+const PARTS = {
+    firms: ["arrangement", hasArrangement], judge: ["outcome", hasOutcome], replay: ["claim", (network) => claimOf(network) !== null],
+};
 
 /** The commands whose sentences ask the program for more. */
 const ASKING = ["judge", "replay"];
 
 /** Why an answer is so, as `{story, svg}`, each null where there is none. Of a fault, which a table that fails may be, that is told. */
-export async function reasonOf(network, said, ask) {
+export async function tellingOf(network, said, ask) {
     const failing = said.answer === "fault" ? failingOf(network, said) : null;
     const told = failing === null ? said : {answer: "exchange_fails", ...failing}, isDrawn = DRAWN.includes(told.answer);
     return {story: await storyOf(network, told, ask), svg: isDrawn ? await whyPicture(network, told, ask) : null};

@@ -2,7 +2,7 @@
 import {NoAnswer, readAnswer} from "../read/answer.js";
 import {explain} from "../say/explain.js";
 import {Ended, inText, NoAnswerCame} from "./ask.js";
-import {reasonOf} from "./guess.js";
+import {tellingOf} from "./guess.js";
 import {networkOf} from "./state.js";
 
 /** Asks for prices for the trades that take place, and keeps the answer; where a table fails the exchange property, that is asked about. */
@@ -13,7 +13,7 @@ export async function wonder(store, program, first = "support") {
         let said = await answered(ask, first, document);
         if (said.answer === "fault" && said.fault === 16n) said = await answered(ask, "test", document);
         const network = networkOf(document), asked = inText(ask);
-        const reason = {document, said, sentences: await explain(network, said, asked), ...await reasonOf(network, said, asked)};
+        const reason = {document, said, sentences: await explain(network, said, asked), ...await tellingOf(network, said, asked)};
         if (store.value.document === document) store.act("reasoned", reason);
     } catch (error) {
         if (error instanceof NoAnswerCame || error instanceof NoAnswer) {

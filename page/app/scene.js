@@ -64,10 +64,14 @@ function sceneOf(value) {
     const isOver = view.isOver && answer?.said?.answer === "solved" && !isOld(value, answer);
     const told = !isOver && guess?.said?.answer === "firms" ? guess.said.firms : [];
     const lines = view.mode === "sign" ? signedLines(value) : new Map(told.map((line) => [line.firm, line]));
-    const marks = shown === null ? marksOf(value, lines) : new Map([...shown.step.trades].map(([name, role]) => [name, ROLES[role]]));
-    for (const [firm, below] of shown?.step.below ?? []) lines.set(firm, {firm, below, mood: moodNow(view, lines.get(firm)), says: below.join(", ")});
+    const isStory = shown !== null && (view.mode === "sign" || !["firm", "bound"].includes(value.selection?.kind));
+    const marks = isStory ? new Map([...shown.step.trades].map(([name, role]) => [name, ROLES[role]])) : marksOf(value, lines);
+    for (const [firm, below] of shown?.step.below ?? []) {
+        lines.set(firm, {firm, below, mood: moodNow(view, lines.get(firm)), says: below.join(", ")});
+    }
     const stands = view.mode === "sign" ? signedStands(value, shown) : standing(network, isOver ? answer.said : {});
-    return {stands, lines, marks, focus: new Set(shown?.step.firms ?? []), isOver, key: [view.mode, shown?.place, isOver, isOver ? answer.text : null]};
+    const focus = new Set(shown?.step.firms ?? []);
+    return {stands, lines, marks, focus, isOver, key: [view.mode, shown?.place, isOver, isOver ? answer.text : null]};
 }
 
 /** Who is told to have something better objects to what is signed; in a guess the prices say who objects. */
@@ -103,7 +107,8 @@ const ROLES = {
     impossible: {ink: GONE, says: "what it has"}, x: {ink: FIRST, says: "in x", width: 4}, y: {ink: SECOND, says: "in y", width: 4},
     "x and y": {ink: BOTH, says: "in x and in y", width: 4}, moved: {ink: GONE, says: "what goes from one to the other", width: 4},
     keeps: {ink: COME, says: "what it would keep"}, drops: {ink: GONE, says: "what it would drop"},
-    contract: {ink: FIRST, says: "the contract of this step", width: 5}, "signed before": {ink: BOTH, says: "the contracts of the steps before it", width: 3},
+    contract: {ink: FIRST, says: "the contract of this step", width: 5},
+    "signed before": {ink: BOTH, says: "the contracts of the steps before it", width: 3},
     chain: {ink: FIRST, says: "the contracts of the chain", width: 3}, left: {ink: GONE, says: "what would be left"},
 };
 
@@ -111,7 +116,7 @@ const ROLES = {
 function marksOf({selection, ranges}, lines) {
     const line = selection?.kind === "firm" ? lines.get(selection.name) : null;
     const rather = {ink: FIRST, says: `what ${line?.firm} would rather have`};
-    if (line && line.gain !== 0n) return new Map(line.best.map((name) => [name, rather]));
+    if (line?.best && line.gain !== 0n) return new Map(line.best.map((name) => [name, rather]));
     const range = selection?.kind === "bound" && ranges?.said?.ranges?.find(({trade}) => trade === selection.trade);
     return range ? marksOfPath(range, selection.side === "high") : new Map();
 }

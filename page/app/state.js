@@ -25,13 +25,18 @@ export const START = {
         sort: {by: null, isDown: false}},
 };
 
+/** The value, looked at in another way. */
+function looked(value, view) {
+    return {...value, view: {...value.view, ...view}};
+}
+
 /** What may happen. Each takes a value, and answers the next one. */
 export const ACTIONS = {
     /** A document was opened: it is asked about as the bytes of its file, until it is edited. */
     opened: (value, name, bytes) => {
         const next = changed(value, documentOf(name, bytes), null);
-        return {...next, selection: null, guess: null, ranges: null, path: null, judged: null, decided: null, reason: null, answer: null,
-            view: {...value.view, ...panelFor(next.document, value.view), isOver: false, window: null, isWide: null, filter: "", firm: null}};
+        const view = {...value.view, ...panelFor(next.document, value.view), isOver: false, window: null, isWide: null, filter: "", firm: null};
+        return {...next, ...NOTHING_SAID, selection: null, view};
     },
     /** The text of the document was edited. */
     typed: (value, text, mark = null) => text === value.document.text ? value : changed(value, withText(value.document, text), mark),
@@ -41,20 +46,20 @@ export const ACTIONS = {
     redone: (value) => value.future.length === 0 ? value : moved(value, value.future, value.past, (future, past) => ({past, future})),
     /** A lane, a firm or a bound was chosen, or nothing. */
     selected: (value, selection) => ({...value, selection, mark: null}),
-    looked: (value, view) => ({...value, view: {...value.view, ...view}}),
+    looked,
     /** A view of the panel was chosen; two of them say what the network shows. */
     went: (value, panel) => {
         const {mode, isOver} = value.view, next = MODES.includes(panel) ? panel : mode;
-        return {...value, view: {...value.view, panel, mode: next, isOver: isOver && next === "guess", step: next === mode ? value.view.step : 0}};
+        return looked(value, {panel, mode: next, isOver: isOver && next === "guess", step: next === mode ? value.view.step : 0});
     },
     guessed: (value, guess) => ({...value, guess}),
     ranged: (value, ranges) => ({...value, ranges}),
     traced: (value, path) => ({...value, path}),
     /** What is signed was judged; a story that is told again goes on at its step. */
-    judged: (value, judged) => ({...value, judged, view: {...value.view, step: isSame(value.judged, judged) ? value.view.step : 0}}),
+    judged: (value, judged) => looked({...value, judged}, {step: isSame(value.judged, judged) ? value.view.step : 0}),
     decided: (value, decided) => ({...value, decided}),
     /** Why there are no prices was asked, or isn't to be shown any more. */
-    reasoned: (value, reason) => ({...value, reason, view: {...value.view, step: 0}}),
+    reasoned: (value, reason) => looked({...value, reason}, {step: 0, isOver: value.view.isOver && reason === null}),
     /** Another command was chosen. */
     chosen: (value, words) => ({...value, words, run: {state: "none"}}),
     asked: (value) => ({...value, run: {state: "asking"}}),
@@ -63,10 +68,15 @@ export const ACTIONS = {
     ended: (value) => ({...value, run: {state: "ended"}}),
 };
 
+const NOTHING_SAID = {guess: null, ranges: null, path: null, judged: null, decided: null, reason: null, answer: null};
+
 /** The views of the panel in which the network is changed. */
 const MODES = ["guess", "sign"];
 
-/** The view with which a document is opened: of its claim, of what is signed where there is no guess or that was looked at, or of the guess. */
+/**
+ * The view with which a document is opened: of its claim, of what is signed where there is no guess or that was looked at, or of the
+ * guess.
+ */
 function panelFor(document, {panel, mode: before}) {
     if (!document.isWhole) return {};
     const {data} = networkOf(document), isSigned = data.outcome !== undefined && (data.arrangement === undefined || before === "sign");

@@ -1,16 +1,19 @@
 // Why an answer is so, in the page: step by step above the network, and as a list with its picture beside it.
-import {drawing, keepingFocus, made, part, write} from "./page.js";
 import {canBeClaimed} from "./claims.js";
+import {drawing, keepingFocus, made, part, write} from "./page.js";
 import {isOld} from "./state.js";
 
 /** What is told: the answer of `judge` to what is signed, or the reason that was asked for; null where there is none. */
-export function toldOf({view, judged, reason}) {
+export function reasonOf({view, judged, reason}) {
     return view.mode === "sign" ? judged : reason;
 }
 
-/** The step of a story that is shown, as `{step, place, count}`, or null. What is signed is judged anew after each change, so its story stays until then. */
+/**
+ * The step of a story that is shown, as `{step, place, count}`, or null. What is signed is judged anew after each change, so its story
+ * stays until then.
+ */
 export function stepOf(value) {
-    const told = toldOf(value), isAnew = value.view.mode === "sign";
+    const told = reasonOf(value), isAnew = value.view.mode === "sign";
     if (!told?.story || (!isAnew && isOld(value, told)) || value.view.isOver) return null;
     const {steps} = told.story, place = Math.min(value.view.step, steps.length - 1);
     return {step: steps[place], place, count: steps.length};
@@ -21,18 +24,23 @@ let shown = null;
 /** Shows all that of a value. */
 export function showStory(value) {
     showStep(value);
-    const told = toldOf(value), isThere = told !== null && told.sentences?.length > 0 && !told.isNone && isTold(value, told);
+    const told = reasonOf(value), isThere = told !== null && told.sentences?.length > 0 && !told.isNone && isTold(value, told);
     part("reason").hidden = !isThere || value.view.isOver;
-    part("reason").classList.toggle("old", isThere && isOld(value, told));
-    part("reason-close").hidden = value.view.mode === "sign";
-    part("reason-take").hidden = told?.said?.answer !== "prices";
-    for (const id of ["reason-take", "reason-claim"]) part(id).setAttribute("aria-disabled", `${isThere && isOld(value, told)}`);
-    part("reason-claim").hidden = !canBeClaimed(told?.said);
+    if (isThere) showButtons(value, told);
     const now = isThere ? {told, step: stepOf(value)?.place ?? null} : null;
     if (now === null || (shown?.told === told && shown.step === now.step)) return;
     if (shown?.told !== told) fill(told);
     [...part("reason-lines").querySelectorAll("button")].forEach((button, k) => button.setAttribute("aria-pressed", `${k === now.step}`));
     shown = now;
+}
+
+function showButtons(value, told) {
+    const old = isOld(value, told);
+    part("reason").classList.toggle("old", old);
+    part("reason-close").hidden = value.view.mode === "sign";
+    part("reason-take").hidden = told.said?.answer !== "prices";
+    part("reason-claim").hidden = !canBeClaimed(told.said);
+    for (const id of ["reason-take", "reason-claim"]) part(id).setAttribute("aria-disabled", `${old}`);
 }
 
 /** Whether an answer is told beside the network; a fault of what is signed without a story stands above it already. */

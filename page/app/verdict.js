@@ -32,10 +32,11 @@ function guessLine({guess, document}, name) {
 
 /** What a firm does by what is signed, and what it has by that. */
 function signedLine({judged, document}, name) {
-    const network = networkOf(document), deals = new Deals(network, {answer: "drops"}), does = `${name} ${deals.does(name, network.own(name, deals.on))}`;
-    const has = judged?.has?.get(name);
+    const network = networkOf(document), deals = new Deals(network, {answer: "drops"});
+    const does = `${name} ${deals.does(name, network.own(name, deals.on))}`, has = judged?.has?.get(name);
     if (has === undefined) return `${does}.`;
-    return has === null ? `${does}, which is impossible for it.` : `${does}: its utility is ${fraction(has, networkOf(judged.document).outcome.over)}.`;
+    if (has === null) return `${does}, which is impossible for it.`;
+    return `${does}: its utility is ${fraction(has, networkOf(judged.document).outcome.over)}.`;
 }
 
 const NOT_SIGNED = "Nothing is signed yet: click a trade to sign it.", NO_GUESS = "No guess yet: click a trade, or press Solve.";
@@ -46,8 +47,14 @@ function verdictOf({document, view}, said) {
     if (!document.isWhole) return {mood: "unknown", says: "The document is too long to guess at. The commands can be asked."};
     if (said === null) return {mood: "unknown", says: "The program is asked."};
     if (said.trouble) return {mood: "fault", says: said.trouble};
-    if (said.isNone) return {mood: "unknown", says: view.mode === "sign" ? NOT_SIGNED : hasArrangement(networkOf(document)) ? NO_PRICES : NO_GUESS};
-    return VERDICTS[said.said.answer]?.(said.said) ?? {mood: "fault", says: said.story ? said.sentences[0] : said.sentences.join(" ")};
+    if (said.isNone) return {mood: "unknown", says: view.mode === "sign" ? NOT_SIGNED : lacking(document)};
+    const says = VERDICTS[said.said.answer];
+    return says ? says(said.said) : {mood: "fault", says: said.story ? said.sentences[0] : said.sentences.join(" ")};
+}
+
+/** What there isn't of a guess: all of it, or its prices. */
+function lacking(document) {
+    return hasArrangement(networkOf(document)) ? NO_PRICES : NO_GUESS;
 }
 
 const VERDICTS = {
@@ -55,7 +62,12 @@ const VERDICTS = {
         ? {mood: "content", says: `\u2713 An equilibrium: every firm is content, and the worths sum to ${surplus}.`}
         : {mood: "objects", says: `\u2717 No equilibrium: ${content} of ${firms.length} firms are content.`},
     completes: () => ({mood: "content", says: "\u2713 It lasts: nobody would drop a contract, and prices complete what is signed."}),
-    drops: ({firm, keeps}) => ({mood: "objects", says: `\u2717 It isn't kept: ${firm} would rather drop ${keeps.length === 0 ? "its contracts" : "some of its contracts"}.`}),
-    blocks: ({contracts}) => ({mood: "objects",
-        says: contracts.length === 1 ? "\u2717 It doesn't last: one other contract blocks it." : `\u2717 It doesn't last: a chain of ${contracts.length} other contracts blocks it.`}),
+    drops: ({firm, keeps}) => {
+        const what = keeps.length === 0 ? "its contracts" : "some of its contracts";
+        return {mood: "objects", says: `\u2717 It isn't kept: ${firm} would rather drop ${what}.`};
+    },
+    blocks: ({contracts}) => {
+        const what = contracts.length === 1 ? "one other contract" : `a chain of ${contracts.length} other contracts`;
+        return {mood: "objects", says: `\u2717 It doesn't last: ${what} blocks it.`};
+    },
 };

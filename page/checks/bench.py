@@ -334,6 +334,9 @@ def tries_to_sign(page: Bench, program: str | None):
     prices = asked(page, program, ["judge"], page.text())["prices"]
     lanes = page.drawn()["lanes"]
     yield "the prices that complete it are drawn", all(f" at {price}: " in lanes[name]["says"] for name, price in prices)
+    page.focus("firm:B1")
+    page.press("Enter")
+    yield "a firm says what it has by what is signed", page.says("told") == "B1 buys db1 from D at 11: its utility is 1."
     page.focus("lane:D B1")
     page.press("ArrowUp", "ArrowUp")
     yield "the first firm that drops a contract is told", judged(page).endswith("It isn't kept: B1 would rather drop its contracts.")

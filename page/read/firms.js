@@ -57,7 +57,8 @@ function apart(network, changes) {
 export async function haves(ask, network) {
     const {over, contracts} = network.outcome, signed = new Map(contracts);
     const lines = await linesAt(ask, network, [...signed.keys()]);
-    return new Map([...lines ?? []].map(([firm, {has, worth}]) => [firm, worth === null ? null : worth * over + paid(network, firm, has, signed)]));
+    const utility = (firm, {has, worth}) => (worth === null ? null : worth * over + paid(network, firm, has, signed));
+    return new Map([...lines ?? []].map(([firm, line]) => [firm, utility(firm, line)]));
 }
 
 /**
@@ -81,7 +82,8 @@ export async function gains(ask, network, said) {
     const firms = new Set(said.contracts.flatMap(([name]) => [network.trade(name).seller, network.trade(name).buyer]));
     const found = new Map();
     for (const firm of firms) {
-        const asked = whole(network, firm, all, said.over), line = (await linesAt(ask, network, [...signed.keys()], asked))?.get(firm);
+        const asked = whole(network, firm, all, said.over);
+        const line = (await linesAt(ask, network, [...signed.keys()], asked))?.get(firm);
         if (!line || line.worth === null) continue;
         const now = line.worth * said.over + paid(network, firm, line.has, signed);
         const then = (line.best_utility - paid(network, firm, line.best, asked)) * said.over + paid(network, firm, line.best, all);

@@ -1,4 +1,5 @@
-// Why an answer is so, told one step after another: the changes of a cycle, the contracts of a chain, the bundles of a table that fails.
+// Why an answer is so, told one step after another: the changes of a cycle, the contracts of a chain, the bundles of a table that
+// fails.
 import {changesAlong} from "../read/changes.js";
 import {costs, gains, haves, keeping, worths} from "../read/firms.js";
 import {entriesOf, fraction, itemsOf} from "../read/network.js";
@@ -9,12 +10,13 @@ import {Deals, listed, set} from "./words.js";
 
 const NO_PRICES = "No prices go with these trades. The reason is a round of changes, each by one firm:";
 
-export const SIGNS_OTHERS = "Each firm named there, whatever it keeps of what it has signed, would rather have all of these that are its own. So no prices go with what is signed.";
+export const SIGNS_OTHERS = "Each firm named there, whatever it keeps of what it has signed, would rather have all of these that are its own. "
+    + "So no prices go with what is signed.";
 
 /** What comes of the costs around a cycle. */
 function roundOf(cost) {
-    return `What these firms would lose in worth sums to ${cost}, so in sum they would gain, and in the round each price is paid once and got once. `
-        + "So at any prices at least one of them would rather make its change.";
+    return `What these firms would lose in worth sums to ${cost}, so in sum they would gain, and in the round each price is paid `
+        + "once and got once. So at any prices at least one of them would rather make its change.";
 }
 
 /** A contract as a sentence. */
@@ -44,7 +46,8 @@ async function cycleStory(network, {nodes, cost}, ask) {
         return {says: `${changeWith(change, known[k])}.`, firms: [change.firm], trades, below: new Map(below)};
     });
     const all = new Map([...before.keys()].map((name) => [name, "round"]));
-    return {head: NO_PRICES, steps: [...steps, {says: roundOf(cost), firms: changes.map(({firm}) => firm), trades: all, below}]};
+    const end = {says: roundOf(cost), firms: changes.map(({firm}) => firm), trades: all, below};
+    return {head: NO_PRICES, steps: [...steps, end]};
 }
 
 /** A cost in a word or two. */
@@ -61,18 +64,29 @@ async function impossibleStory(network, {firm}) {
 }
 
 async function failingStory(network, said, ask) {
-    const {firm, x, y, at} = said, moved = [x, y].map((bundle) => network.own(firm, bundle.includes(at) ? bundle.filter((name) => name !== at) : [...bundle, at]));
+    const {firm, x, y, at} = said, moved = [x, y].map((bundle) => toggled(network, firm, bundle, at));
     const [ofX, ofY, thenX, thenY] = await worths(ask, network, firm, [x, y, ...moved]);
-    const both = new Map([...x.map((name) => [name, "x"]), ...y.map((name) => [name, x.includes(name) ? "x and y" : "y"])]);
-    const below = new Map([[firm, [`x: ${ofX}`, `y: ${ofY}`]]]), step = (says, trades, lines) => ({says, firms: [firm], trades, below: new Map([[firm, lines]])});
-    const worth = (bundle, number) => number === null ? `${set(bundle)}, which is impossible` : `${set(bundle)}, worth ${number}`;
-    const steps = [step(`The first of two bundles is x = ${worth(x, ofX)} to ${firm}.`, new Map(x.map((name) => [name, "x"])), [`x: ${ofX}`]),
-        step(`The other one is y = ${worth(y, ofY)}.`, new Map(y.map((name) => [name, "y"])), [`x: ${ofX}`, `y: ${ofY}`])];
-    const without = at === null ? [] : [{says: `${movedFrom(at, x)} leaves ${worth(moved[0], thenX)}, and ${worth(moved[1], thenY)}.`, firms: [firm],
-        trades: new Map([...both, [at, "moved"]]), below: new Map([[firm, [`x: ${thenX ?? "none"}`, `y: ${thenY ?? "none"}`]]])}];
+    const step = (says, trades, worth, other = null) => {
+        const lines = [`x: ${worth ?? "none"}`, ...(other === null ? [] : [`y: ${other.worth ?? "none"}`])];
+        return {says, firms: [firm], trades: new Map(trades), below: new Map([[firm, lines]])};
+    };
+    const both = [...x.map((name) => [name, "x"]), ...y.map((name) => [name, x.includes(name) ? "x and y" : "y"])];
+    const goes = `${movedFrom(at, x)} leaves ${worthOf(moved[0], thenX)}, and ${worthOf(moved[1], thenY)}.`;
     const [, fails] = await failingLines(network, said, ask);
-    return {head: `${firm} doesn't meet the exchange property, on which the theory of equilibrium rests.`,
-        steps: [...steps, ...without, {says: fails, firms: [firm], trades: both, below}]};
+    return {head: `${firm} doesn't meet the exchange property, on which the theory of equilibrium rests.`, steps: [
+        step(`The first of two bundles is x = ${worthOf(x, ofX)} to ${firm}.`, x.map((name) => [name, "x"]), ofX),
+        step(`The other one is y = ${worthOf(y, ofY)}.`, y.map((name) => [name, "y"]), ofX, {worth: ofY}),
+        ...(at === null ? [] : [step(goes, [...both, [at, "moved"]], thenX, {worth: thenY})]),
+        step(fails, both, ofX, {worth: ofY})]};
+}
+
+/** A bundle of a firm with a trade put into it, or taken out. */
+function toggled(network, firm, bundle, at) {
+    return network.own(firm, bundle.includes(at) ? bundle.filter((name) => name !== at) : [...bundle, at]);
+}
+
+function worthOf(bundle, worth) {
+    return worth === null ? `${set(bundle)}, which is impossible` : `${set(bundle)}, worth ${worth}`;
 }
 
 function movedFrom(at, x) {
@@ -81,12 +95,13 @@ function movedFrom(at, x) {
 
 async function dropsStory(network, said, ask) {
     const {firm, keeps, gain, over} = said, deals = new Deals(network, said), own = network.own(firm, deals.on);
-    const [has, could] = [(await haves(ask, network)).get(firm), await keeping(ask, network, said)];
-    const lines = [gain === null ? "impossible" : `has ${numberOf(has, over)}`, `then ${numberOf(could, over)}`];
+    const has = numberOf((await haves(ask, network)).get(firm), over), could = numberOf(await keeping(ask, network, said), over);
     const trades = new Map(own.map((name) => [name, keeps.includes(name) ? "keeps" : "drops"]));
-    const says = gain === null ? `${firm} can't do all that. Of what it may keep, it is best to keep ${listed(keeps)}: its utility is then ${numberOf(could, over)}.`
-        : `${firm} has a utility of ${numberOf(has, over)}. It would rather keep ${listed(keeps)}, and have ${numberOf(could, over)}, which is ${fraction(gain, over)} more.`;
-    return {head: `By what is signed ${firm} ${deals.does(firm, own)}.`, steps: [{says, firms: [firm], trades, below: new Map([[firm, lines]])}]};
+    const below = new Map([[firm, [gain === null ? "impossible" : `has ${has}`, `then ${could}`]]]);
+    const cannot = `${firm} can't do all that. Of what it may keep, it is best to keep ${listed(keeps)}: its utility is then ${could}.`;
+    const says = gain === null ? cannot
+        : `${firm} has a utility of ${has}. It would rather keep ${listed(keeps)}, and have ${could}, which is ${fraction(gain, over)} more.`;
+    return {head: `By what is signed ${firm} ${deals.does(firm, own)}.`, steps: [{says, firms: [firm], trades, below}]};
 }
 
 function numberOf(numerator, over) {
@@ -97,12 +112,13 @@ async function chainStory(network, said, ask) {
     const {contracts, over} = said, found = await gains(ask, network, said), left = leftBy(network, found);
     const below = new Map(), before = new Map();
     const steps = contracts.map((contract) => {
-        const [name] = contract, {seller, buyer} = network.trade(name), met = [seller, buyer].filter((firm) => found.has(firm) && !below.has(firm));
-        for (const firm of met) below.set(firm, [`has ${fraction(found.get(firm).now, over)}`, `then ${fraction(found.get(firm).then, over)}`]);
+        const [name] = contract, {seller, buyer} = network.trade(name);
+        const met = [seller, buyer].filter((firm) => found.has(firm) && !below.has(firm));
+        for (const firm of met) below.set(firm, hasThen(found.get(firm), over));
         const trades = new Map([...before, [name, "contract"]]);
         before.set(name, "signed before");
-        return {says: [contractOf(network, contract, over), ...met.map((firm) => gainOf(firm, found.get(firm), over, left))].join(" "),
-            firms: [seller, buyer], trades, below: new Map(below)};
+        const says = [contractOf(network, contract, over), ...met.map((firm) => gainOf(firm, found.get(firm), over, left))];
+        return {says: says.join(" "), firms: [seller, buyer], trades, below: new Map(below)};
     });
     const trades = new Map([...contracts.map(([name]) => [name, "chain"]), ...left.map(({name}) => [name, "left"])]);
     const lost = left.filter(({partner}) => partner !== null).map(({name, partner}) => `${partner} loses ${name}, and isn't asked.`);
@@ -110,17 +126,23 @@ async function chainStory(network, said, ask) {
         steps: [...steps, {says: [SIGNS_OTHERS, ...lost].join(" "), firms: [...found.keys()], trades, below}]};
 }
 
+function hasThen({now, then}, over) {
+    return [`has ${fraction(now, over)}`, `then ${fraction(then, over)}`];
+}
+
 function gainOf(firm, {now, then}, over, left) {
     const leaves = left.filter(({by}) => by.includes(firm)).map(({name}) => name);
     const away = leaves.length === 0 ? "" : `, and leave ${listed(leaves)}`;
-    return `By what is signed ${firm} has a utility of ${fraction(now, over)}; with its contracts of the chain it would have ${fraction(then, over)}${away}.`;
+    const could = `with its contracts of the chain it would have ${fraction(then, over)}${away}`;
+    return `By what is signed ${firm} has a utility of ${fraction(now, over)}; ${could}.`;
 }
 
 /** The signed trades that firms of a chain would leave, as `{name, by, partner}`; `partner` is null where both would. */
 function leftBy(network, found) {
     const signed = [...entriesOf(itemsOf(network.outcome.contracts)).keys()];
     return signed.map((name) => {
-        const {seller, buyer} = network.trade(name), by = [seller, buyer].filter((firm) => found.has(firm) && !found.get(firm).keeps.includes(name));
-        return {name, by, partner: by.length === 1 ? [seller, buyer].find((firm) => firm !== by[0]) : null};
+        const {seller, buyer} = network.trade(name), ends = [seller, buyer];
+        const by = ends.filter((firm) => found.has(firm) && !found.get(firm).keeps.includes(name));
+        return {name, by, partner: by.length === 1 ? ends.find((firm) => firm !== by[0]) : null};
     }).filter(({by}) => by.length > 0);
 }
