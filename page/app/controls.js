@@ -11,8 +11,8 @@ import {fragmentOf, MOST_LETTERS} from "./link.js";
 import {part} from "./page.js";
 import {zoomIn, zoomOut} from "./scene.js";
 import {faulty, isOld, networkOf} from "./state.js";
-import {stepOf, reasonOf} from "./story.js";
-import {countOver, signGuess} from "./terms.js";
+import {reasonOf, stepOf} from "./story.js";
+import {countOver, signGuess, termsOf} from "./terms.js";
 
 /** The actions that change the document. */
 const CHANGES = ["opened", "typed", "edited", "undone", "redone"];
@@ -138,8 +138,8 @@ function bindStory(store, {wonder}) {
     });
     on("reason-close", () => store.act("reasoned", null));
     on("reason-take", () => {
-        const {said} = reasonOf(store.value);
-        arrange(store, [...networkOf(store.value.document).arrangement.on], said.prices);
+        arrange(store, [...termsOf(store.value).on], reasonOf(store.value).said.prices);
+        store.act("went", "guess");
     });
 }
 

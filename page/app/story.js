@@ -38,9 +38,14 @@ function showButtons(value, told) {
     const old = isOld(value, told);
     part("reason").classList.toggle("old", old);
     part("reason-close").hidden = value.view.mode === "sign";
-    part("reason-take").hidden = told.said?.answer !== "prices";
+    part("reason-take").hidden = !canBeTaken(told.said);
     part("reason-claim").hidden = !canBeClaimed(told.said);
     for (const id of ["reason-take", "reason-claim"]) part(id).setAttribute("aria-disabled", `${old}`);
+}
+
+/** Whether an answer has whole prices for all trades, which a guess can have. */
+export function canBeTaken(said) {
+    return said?.answer === "prices" || (said?.answer === "completes" && said.over === 1n);
 }
 
 /** Whether an answer is told beside the network; a fault of what is signed without a story stands above it already. */

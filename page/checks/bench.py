@@ -334,6 +334,12 @@ def tries_to_sign(page: Bench, program: str | None):
     prices = asked(page, program, ["judge"], page.text())["prices"]
     lanes = page.drawn()["lanes"]
     yield "the prices that complete it are drawn", all(f" at {price}: " in lanes[name]["says"] for name, price in prices)
+    page.click("#reason-take")
+    yield "they are taken as the guess, which is an equilibrium", page.guess().endswith("the worths sum to 10.")
+    yield "with these prices", json.loads(page.text())["arrangement"] == {"on": ["o1d", "db1", "o2b2"], "prices": prices}
+    page.press("Control+z")
+    page.click("#tab-sign")
+    judged(page)
     page.focus("firm:B1")
     page.press("Enter")
     yield "a firm says what it has by what is signed", page.says("told") == "B1 buys db1 from D at 11: its utility is 1."
@@ -378,6 +384,13 @@ def tries_to_sign(page: Bench, program: str | None):
     yield "the text is as it was", page.text() == example("used-cars-bypassed.json")
 
 
+# Chooses of a list what has a value.
+CHOSEN = """
+const select = document.getElementById(arguments[0]);
+select.value = arguments[1];
+select.dispatchEvent(new Event("change", {bubbles: true}));"""
+
+
 def decided(page: Bench) -> str:
     """Waits for the answer to the claim, and answers what is said of it."""
     page.wait_for("decided", "answered", "fault", "none", "trouble")
@@ -409,6 +422,14 @@ def tries_of_claims(page: Bench, program: str | None):
     page.click("#claim-go")
     marked = page.value("[...document.querySelectorAll('.CodeMirror .faulty')].map(({textContent}) => textContent).join('')")
     yield "and marked in the text", marked == "0"
+    page.open("used-cars-outbid.json", look.example("used-cars-outbid.json"))
+    page.click("#tab-guess")
+    page.click("#wonder")
+    page.wait_for("reason", "answered")
+    page.click("#reason-claim")
+    yield "a cycle is claimed", decided(page).startswith("\u2713 The claim is valid. It says that null, db3 and db1 are a cycle of the cost -1")
+    page.browser.run(CHOSEN, "claim nodes 1", '"db2"')
+    yield "and where another trade stands in it, it has no arc", decided(page).endswith("There is no arc from null to db2.")
     page.open("used-cars.json", look.example("used-cars.json"))
     page.click("#tab-guess")
     page.click("#solve")
@@ -584,6 +605,13 @@ def tries_of_links(page: Bench, address: str):
     yield "and forgotten", page.value("document.getElementById('kept').hidden")
 
 
+def contracts_of(name: str) -> bytes:
+    """A document with one name for all, in what is signed and in a claim that has all that one may have, and more."""
+    claim = {"answer": name, "contracts": [[name, 1], name, None], "over": name, "firm": name, "keeps": [name], "nodes": [name, None], "at": name, name: 1}
+    return json.dumps({"version": 1, "firms": [{"name": name, "kind": "table", "rows": []}], "trades": [{"name": name, "seller": name, "buyer": name}],
+                       "outcome": {"over": 1, "contracts": [[name, 1], [name]]}, "claim": claim}).encode()
+
+
 def tries_of_ill_will(page: Bench, program: str | None):
     deep = b'{"version":1,"note":' + b"[" * 120 + b"]" * 120 + b',"firms":[],"trades":[]}'
     names = ["</script><script>document.title='bad'</script>", "<img src=x onerror=document.title='bad'>", "__proto__", "constructor", "a\u202eb", "\ud83d\ude97"]
@@ -592,6 +620,11 @@ def tries_of_ill_will(page: Bench, program: str | None):
                                "trades": [{"name": name, "seller": name, "buyer": "B"}], "arrangement": {"on": [name], "prices": [[name, 1]]}}).encode() for name in names)):
         page.open("ill.json", data)
         page.ask("firms")
+    for name in names:
+        page.open("ill.json", contracts_of(name))
+        for tab in ("#tab-sign", "#tab-claim", "#tab-guess"):
+            page.browser.run("document.querySelector(arguments[0]).click()", tab)
+            page.wait_for("decided" if tab == "#tab-claim" else "judged", "answered", "fault", "none")
     yield "no document makes elements of the page", page.value("document.images.length + document.scripts.length") == 4 and page.value("document.title").startswith("market:")
     page.open("used-cars.json", look.example("used-cars.json"))
     yield "and after them the page answers", page.guess().endswith("the worths sum to 10.")
