@@ -17,13 +17,13 @@ import {countOver, signGuess, termsOf} from "./terms.js";
 /** The actions that change the document. */
 const CHANGES = ["opened", "typed", "edited", "undone", "redone"];
 
-/** Binds everything. `documents` are the examples in groups; `run` asks and ends the command, and asks for reasons. */
+/** Binds everything. `documents` are the examples in groups; `run` asks and ends the command. */
 export function bind(store, documents, run) {
     bindDocument(store, documents);
     bindHistory(store);
     bindScene(store);
     bindGuess(store, run);
-    bindStory(store, run);
+    bindStory(store);
     bindSigning(store);
     bindClaims(store);
     bindTabs(store);
@@ -103,13 +103,14 @@ function stepObjectors(store) {
     store.act("selected", {kind: "firm", name: list[(now + 1) % list.length]});
 }
 
-function bindGuess(store, {ask, wonder}) {
+function bindGuess(store, {ask}) {
     on("solve", async () => {
         store.act("chosen", ["solve"]);
         part("command").value = "solve";
         part("words").hidden = true;
         await ask();
-        if (store.value.answer?.said?.fault === 16n && !isOld(store.value, store.value.answer)) wonder("test");
+        const {answer} = store.value;
+        if (answer?.said?.fault === 16n && !isOld(store.value, answer)) store.act("looked", {hasReason: true, step: 0});
     });
     on("ranges", () => store.act("looked", {hasRanges: !store.value.view.hasRanges}));
     on("buyers-best", () => take(store, "low"));
@@ -123,20 +124,20 @@ function bindGuess(store, {ask, wonder}) {
     on("ranges-csv", () => saveRanges(store.value));
 }
 
-/** The story of a reason, which is stepped through above the network or gone to in its list. */
-function bindStory(store, {wonder}) {
+/** A reason is looked at or not, as ranges are; its story is stepped through above the network or gone to in its list. */
+function bindStory(store) {
     const go = (step) => {
         if (store.value.selection !== null) store.act("selected", null);
         store.act("looked", {step});
     };
-    on("wonder", () => wonder());
+    on("wonder", () => store.act("looked", {hasReason: !store.value.view.hasReason, isOver: false, step: 0}));
     on("story-back", () => go(stepOf(store.value).place - 1));
     on("story-next", () => go(stepOf(store.value).place + 1));
     part("reason-lines").addEventListener("click", ({target}) => {
         const step = target.closest("[data-step]")?.dataset.step;
         if (step !== undefined) go(Number(step));
     });
-    on("reason-close", () => store.act("reasoned", null));
+    on("reason-close", () => store.act("looked", {hasReason: false}));
     on("reason-take", () => {
         arrange(store, [...termsOf(store.value).on], reasonOf(store.value).said.prices);
         store.act("went", "guess");

@@ -1,4 +1,5 @@
-// What is answered without being asked for: `firms` of the newest text, and where these are looked at `range`, `judge` and `replay`.
+// What is answered without being asked for: `firms` of the newest text, and where these are looked at `support`, `range`, `judge` and
+// `replay`.
 import {failingOf} from "../draw/triple.js";
 import {whyPicture} from "../draw/why.js";
 import {NoAnswer, readAnswer} from "../read/answer.js";
@@ -31,6 +32,7 @@ export class Guesses {
         if (view.mode === "sign" && isWanted(value.judged)) return ["judge", "judged"];
         if (isWanted(value.guess)) return ["firms", "guessed"];
         if (view.panel === "claim" && isWanted(value.decided)) return ["replay", "decided"];
+        if (view.hasReason && view.mode === "guess" && isWanted(value.reason)) return ["support", "reasoned"];
         return view.hasRanges && isWanted(value.ranges) ? ["range", "ranged"] : null;
     }
 
@@ -52,7 +54,7 @@ export class Guesses {
             const ask = this.program.turn();
             said = await understood(document, words, await ask([words], document.bytes), inText(ask));
         } catch (error) {
-            if (error instanceof NoAnswerCame) said = {document, said: null, trouble: error.message};
+            if (error instanceof NoAnswerCame) said = troubled(document, error.message);
             else if (!(error instanceof Ended)) throw error;
         } finally {
             this.begun = null;
@@ -62,24 +64,35 @@ export class Guesses {
     }
 }
 
+/** What there is in the place of an answer that didn't come. */
+function troubled(document, trouble) {
+    return {document, said: null, trouble, sentences: [trouble], story: null, svg: null};
+}
+
+/** An answer as plain data; where a table fails the exchange property, what `test` says of it comes in the place of `support`'s fault. */
+async function readHere(words, bytes, document, ask) {
+    const said = readAnswer(new TextDecoder().decode(bytes)), isFailing = said.answer === "fault" && said.fault === 16n;
+    return words === "support" && isFailing ? readAnswer(await ask(["test"], document.text)) : said;
+}
+
 /**
  * An answer to a document, as `{document, said, sentences, mark, isNone, story, svg, has}`. `isNone` says that the document hasn't the
- * part that is asked about; the last three are of an answer of `judge`: why it is so, and what each firm has.
+ * part that is asked about; the last three are of an answer of `judge`, or `support`: why it is so, and what each firm has by contracts.
  */
 async function understood(document, words, {bytes}, ask) {
     const network = networkOf(document);
     let said = null;
     try {
-        said = readAnswer(new TextDecoder().decode(bytes));
+        said = await readHere(words, bytes, document, ask);
     } catch (error) {
         if (!(error instanceof NoAnswer)) throw error;
-        return {document, said: null, trouble: "The program's answer could not be read."};
+        return troubled(document, "The program's answer could not be read.");
     }
     const isFault = said.answer === "fault", isNone = isFault && !network.problem && lacks(network, words, said.place);
     const sentences = await explain(network, said, ASKING.includes(words) ? ask : null);
     const told = {document, said, isNone, sentences, mark: isFault && !isNone ? markOf(network, said) : null};
-    if (words !== "judge") return told;
-    return {...told, ...await tellingOf(network, said, ask), has: isFault ? new Map() : await haves(ask, network)};
+    if (!["judge", "support"].includes(words)) return told;
+    return {...told, ...await tellingOf(network, said, ask), has: isFault || words === "support" ? new Map() : await haves(ask, network)};
 }
 
 /** Whether a place is that of the part that a command asks about, or of the prices of a guess, and a document hasn't that. */
@@ -91,14 +104,15 @@ function lacks(network, words, [part, member, ...more]) {
 
 /** The part of a document that a command asks about, and whether a document has it. */
 const PARTS = {
-    firms: ["arrangement", hasArrangement], judge: ["outcome", hasOutcome], replay: ["claim", (network) => claimOf(network) !== null],
+    firms: ["arrangement", hasArrangement], support: ["arrangement", hasArrangement], judge: ["outcome", hasOutcome],
+    replay: ["claim", (network) => claimOf(network) !== null],
 };
 
 /** The commands whose sentences ask the program for more. */
-const ASKING = ["judge", "replay"];
+const ASKING = ["judge", "replay", "support"];
 
 /** Why an answer is so, as `{story, svg}`, each null where there is none. Of a fault, which a table that fails may be, that is told. */
-export async function tellingOf(network, said, ask) {
+async function tellingOf(network, said, ask) {
     const failing = said.answer === "fault" ? failingOf(network, said) : null;
     const told = failing === null ? said : {answer: "exchange_fails", ...failing}, isDrawn = DRAWN.includes(told.answer);
     return {story: await storyOf(network, told, ask), svg: isDrawn ? await whyPicture(network, told, ask) : null};

@@ -11,7 +11,6 @@ import {bytesIn, isDocument} from "./link.js";
 import {part} from "./page.js";
 import {compiled, partOf} from "./parts.js";
 import {showPath, trace} from "./path.js";
-import {wonder} from "./reason.js";
 import {showScene} from "./scene.js";
 import {showShell} from "./shell.js";
 import {Store} from "./state.js";
@@ -68,13 +67,13 @@ async function start() {
     document.addEventListener("securitypolicyviolation", ({violatedDirective, blockedURI}) => {
         document.documentElement.dataset.violation = `${violatedDirective} ${blockedURI}`;
     });
-    const module = await compiled(), [program, guesser, tracer, teller] = [1, 2, 3, 4].map(() => new Program(module, partOf("worker")));
+    const module = await compiled(), [program, guesser, tracer] = [1, 2, 3].map(() => new Program(module, partOf("worker")));
     const documents = JSON.parse(partOf("documents"));
     readyEditor(store);
     readyTrades(store);
     readyClaim(store);
     handle(store, typePrice);
-    bind(store, documents, {ask: () => askNow(program), end: () => program.end(), wonder: (first) => wonder(store, teller, first)});
+    bind(store, documents, {ask: () => askNow(program), end: () => program.end()});
     part("version").textContent = await inText(program.turn())(["--version"], "");
     globalThis.market = Object.freeze({
         /** For the console, and for tests: `market.ask(["solve"], bytes)` is a promise of `{status, bytes, ms}`. */

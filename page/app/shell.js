@@ -20,7 +20,7 @@ export function showShell(value) {
     page.dataset.guess = saidState(value, value.guess);
     page.dataset.judged = view.mode === "sign" ? saidState(value, value.judged) : "none";
     page.dataset.decided = view.panel === "claim" ? saidState(value, value.decided) : "none";
-    page.dataset.reason = reasonState(value);
+    page.dataset.reason = view.hasReason && view.mode === "guess" ? saidState(value, value.reason) : "none";
     page.dataset.ranges = rangesState(value);
     page.dataset.path = pathState(value);
     page.dataset.wide = `${isWide(value)}`;
@@ -40,10 +40,6 @@ function saidState(value, said) {
     if (said === null || isOld(value, said)) return "asking";
     if (said.trouble) return "trouble";
     return said.isNone ? "none" : said.said.answer === "fault" ? "fault" : "answered";
-}
-
-function reasonState({reason}) {
-    return reason === null ? "none" : reason.said === null && !reason.trouble ? "asking" : "answered";
 }
 
 function rangesState(value) {
@@ -84,6 +80,7 @@ function showMode(value) {
     const isSigned = value.view.mode === "sign", {over} = outcomeOf(networkOf(value.document));
     for (const id of ["guess-tools", "firms-part"]) part(id).hidden = isSigned;
     part("sign-tools").hidden = !isSigned;
+    part("wonder").setAttribute("aria-pressed", `${value.view.hasReason}`);
     for (const id of ["wonder", "sign-guess"]) able(id, hasArrangement(networkOf(value.document)));
     const field = part("denominator");
     if (field !== document.activeElement) field.value = String(over);

@@ -21,8 +21,8 @@ const MOST_UNDONE = 400;
 export const START = {
     document: {name: "", bytes: new Uint8Array(0), text: "", isWhole: true}, past: [], future: [], mark: null, selection: null,
     guess: null, ranges: null, path: null, judged: null, decided: null, reason: null, words: ["solve"], run: {state: "none"}, answer: null,
-    view: {panel: "guess", mode: "guess", step: 0, isOver: false, hasRanges: false, window: null, isWide: null, filter: "", firm: null,
-        sort: {by: null, isDown: false}},
+    view: {panel: "guess", mode: "guess", step: 0, isOver: false, hasRanges: false, hasReason: false, window: null, isWide: null, filter: "",
+        firm: null, sort: {by: null, isDown: false}},
 };
 
 /** The value, looked at in another way. */
@@ -35,8 +35,8 @@ export const ACTIONS = {
     /** A document was opened: it is asked about as the bytes of its file, until it is edited. */
     opened: (value, name, bytes) => {
         const next = changed(value, documentOf(name, bytes), null);
-        const view = {...value.view, ...panelFor(next.document, value.view), isOver: false, window: null, isWide: null, filter: "", firm: null};
-        return {...next, ...NOTHING_SAID, selection: null, view};
+        const view = {...panelFor(next.document, value.view), isOver: false, hasReason: false, window: null, isWide: null, filter: "", firm: null};
+        return looked({...next, ...NOTHING_SAID, selection: null}, view);
     },
     /** The text of the document was edited. */
     typed: (value, text, mark = null) => text === value.document.text ? value : changed(value, withText(value.document, text), mark),
@@ -55,11 +55,10 @@ export const ACTIONS = {
     guessed: (value, guess) => ({...value, guess}),
     ranged: (value, ranges) => ({...value, ranges}),
     traced: (value, path) => ({...value, path}),
-    /** What is signed was judged; a story that is told again goes on at its step. */
+    /** What is signed was judged, or a reason was found; a story that is told again goes on at its step. */
     judged: (value, judged) => looked({...value, judged}, {step: isSame(value.judged, judged) ? value.view.step : 0}),
+    reasoned: (value, reason) => looked({...value, reason}, {step: isSame(value.reason, reason) ? value.view.step : 0}),
     decided: (value, decided) => ({...value, decided}),
-    /** Why there are no prices was asked, or isn't to be shown any more. */
-    reasoned: (value, reason) => looked({...value, reason}, {step: 0, isOver: value.view.isOver && reason === null}),
     /** Another command was chosen. */
     chosen: (value, words) => ({...value, words, run: {state: "none"}}),
     asked: (value) => ({...value, run: {state: "asking"}}),

@@ -3,18 +3,16 @@ import {canBeClaimed} from "./claims.js";
 import {drawing, keepingFocus, made, part, write} from "./page.js";
 import {isOld} from "./state.js";
 
-/** What is told: the answer of `judge` to what is signed, or the reason that was asked for; null where there is none. */
+/** What is told: the answer of `judge` to what is signed, or where it is looked at why a guess has no prices; null where there is none. */
 export function reasonOf({view, judged, reason}) {
-    return view.mode === "sign" ? judged : reason;
+    if (view.mode === "sign") return judged;
+    return view.hasReason ? reason : null;
 }
 
-/**
- * The step of a story that is shown, as `{step, place, count}`, or null. What is signed is judged anew after each change, so its story
- * stays until then.
- */
+/** The step of a story that is shown, as `{step, place, count}`, or null. It stays until the program has answered to a change. */
 export function stepOf(value) {
-    const told = reasonOf(value), isAnew = value.view.mode === "sign";
-    if (!told?.story || (!isAnew && isOld(value, told)) || value.view.isOver) return null;
+    const told = reasonOf(value);
+    if (!told?.story || value.view.isOver) return null;
     const {steps} = told.story, place = Math.min(value.view.step, steps.length - 1);
     return {step: steps[place], place, count: steps.length};
 }

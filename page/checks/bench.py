@@ -294,6 +294,12 @@ def tries_of_reasons(page: Bench, program: str | None):
     page.browser.run("document.getElementById('story-next').focus()")
     page.press("Enter")
     yield "Enter on Next goes on", page.says("told") == steps[2]
+    page.click(label("D B1"))
+    page.wait_for("reason", "answered")
+    yield "it is told anew of other trades", page.browser.run(STEPS) != steps
+    page.press("Control+z")
+    page.wait_for("reason", "answered")
+    yield "and taken back as it was", page.browser.run(STEPS) == steps
     page.click("#reason-close")
     yield "it is closed", page.value("document.getElementById('reason').hidden && document.getElementById('story').hidden")
     page.type(with_arrangement(example("used-cars.json"), ["o1d", "db1", "o2b2"]))
@@ -428,6 +434,10 @@ def tries_of_claims(page: Bench, program: str | None):
     page.wait_for("reason", "answered")
     page.click("#reason-claim")
     yield "a cycle is claimed", decided(page).startswith("\u2713 The claim is valid. It says that null, db3 and db1 are a cycle of the cost -1")
+    page.click("#tab-guess")
+    page.wait_for("reason", "answered")
+    yield "and its story is still told", len(page.browser.run(STEPS)) == 4 and page.says("told") == page.browser.run(STEPS)[0]
+    page.click("#tab-claim")
     page.browser.run(CHOSEN, "claim nodes 1", '"db2"')
     yield "and where another trade stands in it, it has no arc", decided(page).endswith("There is no arc from null to db2.")
     page.open("used-cars.json", look.example("used-cars.json"))
