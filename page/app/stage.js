@@ -44,12 +44,18 @@ export function laneKey({seller, buyer}) {
 
 function laneAt(lane, on, stands, marks, selection) {
     const taking = lane.trades.filter((name) => on.has(name)), isOn = taking.length > 0;
-    const mark = lane.trades.map((name) => marks.get(name)).find(Boolean) ?? null;
+    const mark = markOf(lane.trades.map((name) => marks.get(name)).filter(Boolean));
     const isChosen = selection?.kind === "lane" && selection.key === laneKey(lane);
     const price = spanOf(isOn ? taking : lane.trades, shownPrices(stands));
-    const name = lane.trades.length === 1 ? lane.trades[0] : `${taking.length} of ${lane.trades.length} on`;
+    const isSigned = stands.isSigned ?? false, state = isSigned ? "signed" : "on";
+    const name = lane.trades.length === 1 ? lane.trades[0] : `${taking.length} of ${lane.trades.length} ${state}`;
     const isNamed = isOn || mark !== null || isChosen, rank = (isChosen ? 4 : 0) + (isOn ? 2 : 0) + (mark ? 1 : 0);
-    return {...lane, key: laneKey(lane), name, price, isOn, mark, isChosen, isNamed, rank, isSigned: stands.isSigned ?? false};
+    return {...lane, key: laneKey(lane), name, price, isOn, mark, isChosen, isNamed, rank, isSigned};
+}
+
+/** The mark of a lane: of several that which is drawn widest, as what a step is about is. */
+function markOf(found) {
+    return found.reduce((widest, mark) => (widest === null || (mark.width ?? 0) > (widest.width ?? 0) ? mark : widest), null);
 }
 
 const numbers = new WeakMap();
@@ -78,7 +84,7 @@ function laneSays({trades, seller, buyer, name, price, isOn, mark, isSigned}) {
     const priced = price === null ? "without a price" : `at ${price}`, [on, off] = isSigned ? ["signed", "not signed"] : ["on", "off"];
     const state = [isOn ? on : off, ...(mark === null ? [] : [mark.says])].join(", ");
     return trades.length === 1 ? `Trade ${name}, from ${seller} to ${buyer}, ${priced}: ${state}`
-        : `${trades.length} trades from ${seller} to ${buyer}, ${name}, ${priced}: ${trades.join(", ")}`;
+        : `${trades.length} trades from ${seller} to ${buyer}, ${name}, ${priced}: ${trades.join(", ")}${mark === null ? "" : `; ${mark.says}`}`;
 }
 
 function twoLines({name, price, isOn}, {x, y}, ink) {
