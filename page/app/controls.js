@@ -1,18 +1,16 @@
 // What a user does with buttons, fields, keys and files, as actions.
-import {claimedAs, claimOf} from "./claims.js";
 import {COMMANDS} from "./commands.js";
-import {arranged} from "./edits.js";
 import {goTo, refreshEditor} from "./editor.js";
 import {saveAnswer, saveDocument, saveFirms, savePicture, saveRanges} from "./exports.js";
 import {objectors} from "./firms.js";
 import {forget, keep, kept} from "./keep.js";
 import {laidOut} from "./lines.js";
 import {fragmentOf, MOST_LETTERS} from "./link.js";
-import {part} from "./page.js";
+import {on, part} from "./page.js";
+import {bindReasons, claim} from "./reasons.js";
 import {zoomIn, zoomOut} from "./scene.js";
-import {faulty, isOld, networkOf} from "./state.js";
-import {reasonOf, stepOf} from "./story.js";
-import {countOver, signGuess, termsOf} from "./terms.js";
+import {faulty, isOld} from "./state.js";
+import {arrange} from "./terms.js";
 
 /** The actions that change the document. */
 const CHANGES = ["opened", "typed", "edited", "undone", "redone"];
@@ -23,18 +21,11 @@ export function bind(store, documents, run) {
     bindHistory(store);
     bindScene(store);
     bindGuess(store, run);
-    bindStory(store);
-    bindSigning(store);
-    bindClaims(store);
+    bindReasons(store);
     bindTabs(store);
     bindCommand(store, run);
     bindLink(store);
     bindKept(store);
-}
-
-/** A click on a button that isn't marked as one that does nothing now. */
-function on(id, act) {
-    part(id).addEventListener("click", () => part(id).getAttribute("aria-disabled") === "true" || act());
 }
 
 async function open(store, file) {
@@ -119,69 +110,16 @@ function bindGuess(store, {ask}) {
         const {on: names, prices} = store.value.answer.said;
         arrange(store, names, prices);
     });
+    on("over-claim", () => claim(store, store.value.answer));
     on("over-leave", () => store.act("looked", {isOver: false}));
     on("firms-csv", () => saveFirms(store.value));
     on("ranges-csv", () => saveRanges(store.value));
-}
-
-/** A reason is looked at or not, as ranges are; its story is stepped through above the network or gone to in its list. */
-function bindStory(store) {
-    const go = (step) => {
-        if (store.value.selection !== null) store.act("selected", null);
-        store.act("looked", {step});
-    };
-    on("wonder", () => store.act("looked", {hasReason: !store.value.view.hasReason, isOver: false, step: 0}));
-    on("story-back", () => go(stepOf(store.value).place - 1));
-    on("story-next", () => go(stepOf(store.value).place + 1));
-    part("reason-lines").addEventListener("click", ({target}) => {
-        const step = target.closest("[data-step]")?.dataset.step;
-        if (step !== undefined) go(Number(step));
-    });
-    on("reason-close", () => store.act("looked", {hasReason: false}));
-    on("reason-take", () => {
-        arrange(store, [...termsOf(store.value).on], reasonOf(store.value).said.prices);
-        store.act("went", "guess");
-    });
-}
-
-const NOT_WHOLE = "With this denominator a price isn't whole.", BOUNDS = "A denominator is a whole number from 1 to 100.";
-
-function bindSigning(store) {
-    on("sign-guess", () => signGuess(store));
-    part("denominator").addEventListener("change", () => {
-        const text = part("denominator").value.trim(), isOne = /^([1-9]\d?|100)$/.test(text);
-        const isCounted = isOne && countOver(store, BigInt(text));
-        part("denominator").setAttribute("aria-invalid", `${!isCounted}`);
-        part("denominator-says").textContent = isCounted ? "" : isOne ? NOT_WHOLE : BOUNDS;
-    });
-}
-
-/** Puts an answer into the document as its claim, where it is one to the present document, and shows what is decided. */
-function claim(store, told) {
-    if (!told?.said || isOld(store.value, told)) return;
-    store.act("edited", claimedAs(networkOf(store.value.document), told.said));
-    store.act("went", "claim");
-}
-
-function bindClaims(store) {
-    on("reason-claim", () => claim(store, reasonOf(store.value)));
-    for (const id of ["over-claim", "answer-claim"]) on(id, () => claim(store, store.value.answer));
-    on("claim-go", () => {
-        store.act("went", "document");
-        refreshEditor();
-        goTo(claimOf(networkOf(store.value.document)));
-    });
 }
 
 /** Takes all lowest or all highest prices as the guess. */
 function take(store, side) {
     const {ranges} = store.value;
     if (!isOld(store.value, ranges)) arrange(store, ranges.said.on, ranges.said.ranges.map((range) => [range.trade, range[side]]));
-}
-
-function arrange(store, names, prices) {
-    const inLetters = new Map(prices.map(([name, price]) => [name, String(price)]));
-    store.act("edited", arranged(networkOf(store.value.document), names, inLetters));
 }
 
 function bindTabs(store) {
@@ -224,6 +162,7 @@ function bindCommand(store, {ask, end}) {
     });
     store.watch(({run}, name) => run.state === "none" && CHANGES.includes(name) && end());
     on("answer-save", () => saveAnswer(store.value));
+    on("answer-claim", () => claim(store, store.value.answer));
 }
 
 const TOO_LONG = "The document is too long for a link: save it, and hand on the file.";

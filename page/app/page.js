@@ -5,6 +5,11 @@ export function part(id) {
     return document.getElementById(id);
 }
 
+/** A click on a button that isn't marked as one that does nothing now. */
+export function on(id, act) {
+    part(id).addEventListener("click", () => part(id).getAttribute("aria-disabled") === "true" || act());
+}
+
 /** A new element with a text. What a document holds comes into the page as text alone. */
 export function made(name, content = "", attributes = {}) {
     const element = document.createElement(name);

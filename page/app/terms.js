@@ -1,7 +1,7 @@
 // What takes place and at which prices, as a guess or as what is signed: read from the text, and changed in it.
 import {entriesOf, itemsOf} from "../read/network.js";
 import {countedOver, outcomeOf, signed, signedAs, unsigned} from "./contracts.js";
-import {priced, turned} from "./edits.js";
+import {arranged, priced, turned} from "./edits.js";
 import {networkOf} from "./state.js";
 
 /** The names of the trades that take place, or are signed, and the price of each, of what is signed its numerator. */
@@ -36,6 +36,12 @@ export function turn(store, trade, isOn = !termsOf(store.value).on.has(trade)) {
     const network = networkOf(store.value.document);
     if (store.value.view.mode === "guess") return store.act("edited", turned(network, trade, isOn));
     return store.act("edited", isOn ? signed(network, new Map([[trade, String(priceOf(store.value, trade))]])) : unsigned(network, trade));
+}
+
+/** Makes a guess of some trades and prices. */
+export function arrange(store, names, prices) {
+    const inLetters = new Map(prices.map(([name, price]) => [name, String(price)]));
+    store.act("edited", arranged(networkOf(store.value.document), names, inLetters));
 }
 
 /** Signs what takes place in the guess, at its prices, over the denominator that is there. */
