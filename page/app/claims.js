@@ -37,7 +37,9 @@ function fieldsAt(network, claim, name, node) {
     if (name === "at") return [{...field, kind: "choice", options: [NONE, ...optionsOf(all)]}];
     if (node.kind !== "list") return [];
     if (name === "nodes") return node.value.map((each, k) => nodeField(each, k, all));
-    return name === "prices" || name === "contracts" ? entryFields(name, node) : [{...field, kind: "set", trades: setOf(network, claim, node, all)}];
+    return name === "prices" || name === "contracts"
+        ? entryFields(name, node)
+        : [{...field, kind: "set", trades: setOf(network, claim, node, all)}];
 }
 
 const NONE = {value: "null", says: "no trade"};

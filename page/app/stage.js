@@ -84,7 +84,8 @@ function laneSays({trades, seller, buyer, name, price, isOn, mark, isSigned}) {
     const priced = price === null ? "without a price" : `at ${price}`, [on, off] = isSigned ? ["signed", "not signed"] : ["on", "off"];
     const state = [isOn ? on : off, ...(mark === null ? [] : [mark.says])].join(", ");
     return trades.length === 1 ? `Trade ${name}, from ${seller} to ${buyer}, ${priced}: ${state}`
-        : `${trades.length} trades from ${seller} to ${buyer}, ${name}, ${priced}: ${trades.join(", ")}${mark === null ? "" : `; ${mark.says}`}`;
+        : `${trades.length} trades from ${seller} to ${buyer}, ${name}, ${priced}: ${trades.join(", ")}` +
+            (mark === null ? "" : `; ${mark.says}`);
 }
 
 function twoLines({name, price, isOn}, {x, y}, ink) {

@@ -35,7 +35,8 @@ export const ACTIONS = {
     /** A document was opened: it is asked about as the bytes of its file, until it is edited. */
     opened: (value, name, bytes) => {
         const next = changed(value, documentOf(name, bytes), null);
-        const view = {...panelFor(next.document, value.view), isOver: false, hasReason: false, window: null, isWide: null, filter: "", firm: null};
+        const fresh = {isOver: false, hasReason: false, window: null, isWide: null, filter: "", firm: null};
+        const view = {...panelFor(next.document, value.view), ...fresh};
         return looked({...next, ...NOTHING_SAID, selection: null}, view);
     },
     /** The text of the document was edited. */
