@@ -18,17 +18,17 @@ pub none_off : (arc other : ℕ → ℕ → Option ℤ) (t : ℕ) → ((a b : �
 none_off arc other t same none u vs cost passes avoids walk =
     none u vs cost (sym (walk_cost-same_off arc other t same u vs u passes avoids passes) ∙ walk)
 
+-- a looked-at arc off the node is an admitted one
+pub looked_off : (null node allowed : ℕ) (arc : ℕ → ℕ → Option ℤ) (u v : ℕ) → u ≢ node → v ≢ node
+    → arcs_among (is_looked_at null node allowed) arc u v ≡ arcs_among (is_admitted null allowed) arc u v
+looked_off null node allowed arc u v p q =
+    ap (λ (s : Bool). if (s || is_admitted null allowed u) && is_looked_at null node allowed v then arc u v else None) (ne_eqb u node p)
+    ∙ ap (λ (s : Bool). if is_admitted null allowed u && (s || is_admitted null allowed v) then arc u v else None) (ne_eqb v node q)
+
 -- labels that keep the arcs of the one keep those of the other that avoid t
 pub keeps_avoiding : (arc other : ℕ → ℕ → Option ℤ) (t : ℕ) (label : ℕ → ℤ) → ((a b : ℕ) → a ≢ t → b ≢ t → arc a b ≡ other a b) → KeepsArcs other label
     → KeepsArcsAvoiding arc t label
 keeps_avoiding arc other t label same keeps u v cost p q is = keeps u v cost (sym (same u v p q) ∙ is)
-
--- the looked-at graph off its node is the admitted one
-pub off_node : (null node admitted : ℕ) (arc : ℕ → ℕ → Option ℤ) (a b : ℕ) → a ≢ node → b ≢ node
-    → arcs_among (is_looked_at null node admitted) arc a b ≡ arcs_among (is_admitted null admitted) arc a b
-off_node null node admitted arc a b p q =
-    ap (λ (s : Bool). if (s || is_admitted null admitted a) && is_looked_at null node admitted b then arc a b else None) (ne_eqb a node p)
-    ∙ ap (λ (s : Bool). if is_admitted null admitted a && (s || is_admitted null admitted b) then arc a b else None) (ne_eqb b node q)
 
 -- an arc to the sink
 pub to_sink : (nodes : ℕ) (arc : ℕ → ℕ → Option ℤ) (v : ℕ) → v < nodes → with_sink nodes arc v nodes ≡ Some (pos 0)

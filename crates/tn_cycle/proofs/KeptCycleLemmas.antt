@@ -1,5 +1,5 @@
 -- Least cycles over kept labels, and the labels after them.
-use Rattle.std.proofs.Common.{◌≡◌, ◌≢◌, ℕ, ◌+◌, ◌*◌, ◌<◌, ◌≤◌, refl, sym, ap, ◌∙◌, subst, arith, inl, inr, ◌⊎◌, List, [], ◌∷◌, length, set, ℤ, pos, ◌+ℤ◌, ◌-ℤ◌, ◌≤ℤ◌, ◌<ℤ◌, Option, Some, None, Bool, true, ◌&&◌, ◌||◌, ◌==◌, if◌then◌else◌, nat_lt}
+use Rattle.std.proofs.Common.{◌≡◌, ◌≢◌, ℕ, ◌+◌, ◌*◌, ◌<◌, ◌≤◌, refl, sym, ap, ◌∙◌, subst, arith, inl, inr, ◌⊎◌, List, [], ◌∷◌, length, set, ℤ, pos, ◌+ℤ◌, ◌-ℤ◌, ◌≤ℤ◌, ◌<ℤ◌, Option, Some, None, Bool, true, false, ◌&&◌, ◌||◌, ◌==◌, if◌then◌else◌, nat_lt}
 use Rattle.std.specs.Prelude.{unwrap_or}
 use Rattle.std.specs.Option.{ForSome}
 use Rattle.std.proofs.lemmas.Int.{ints}
@@ -18,9 +18,9 @@ use Rattle.tn_cycle.specs.Cells.{HasRoom, trail}
 use Rattle.tn_cycle.specs.Graphs.{with_sink}
 use Rattle.tn_cycle.specs.GraphLemmas.{between-with_sink, some_if}
 use Rattle.tn_cycle.specs.Searched.{IsSettled}
-use Rattle.tn_cycle.specs.Kept.{AreRaised, IsCycleRead, IsLifted, IsLiftedBy, IsRaised, IsStopped, KeepsArcsAvoiding, KeepsArcsOff}
+use Rattle.tn_cycle.specs.Kept.{AreRaised, IsCycleRead, IsLifted, IsLiftedBy, IsRaised, IsStopped, KeepsArcsAvoiding, KeepsArcsOff, signed}
 use Rattle.tn_cycle.specs.Widths.{most_graph_nodes}
-use Rattle.tn_cycle.proofs.GraphLemmas.{keeps_avoiding, off_node}
+use Rattle.tn_cycle.proofs.GraphLemmas.{keeps_avoiding, looked_off}
 use Rattle.tn_cycle.proofs.KeyLemmas.{same_cost}
 use Rattle.tn_cycle.proofs.ReadLemmas.{length-trail}
 use Rattle.tn_cycle.proofs.StoppedLemmas.{kept_cycle, kept_none, kept_settled, kept_small, kept_unreached}
@@ -202,7 +202,7 @@ set_keep arc labels node base places keeps own u v cost off is = elim (cases_eq 
 pub looked_keep : (null node allowed : ℕ) (arc : ℕ → ℕ → Option ℤ) (label : ℕ → ℤ) → KeepsArcs (arcs_among (is_admitted null allowed) arc) label
     → KeepsArcsAvoiding (arcs_among (is_looked_at null node allowed) arc) node label
 looked_keep null node allowed arc label =
-    keeps_avoiding (arcs_among (is_looked_at null node allowed) arc) (arcs_among (is_admitted null allowed) arc) node label (off_node null node allowed arc)
+    keeps_avoiding (arcs_among (is_looked_at null node allowed) arc) (arcs_among (is_admitted null allowed) arc) node label (looked_off null node allowed arc)
 
 -- an arc of the looked-at graph begins at the node or at an admitted one
 pub looked_begins : (null node allowed : ℕ) (arc : ℕ → ℕ → Option ℤ) (u v : ℕ) (cost : ℤ) → u ≢ node → arcs_among (is_looked_at null node allowed) arc u v ≡ Some cost
@@ -214,6 +214,10 @@ looked_begins null node allowed arc u v cost off is =
 pub unwrap_near : (o : Option ℤ) (limit : ℕ) → ForSome o (λ p. IsAtMost p limit) → IsAtMost (unwrap_or o (pos 0)) limit
 unwrap_near None limit near = record { low = omega (arith, ints); high = omega (arith, ints) }
 unwrap_near (Some p) limit near = near p refl
+
+pub signed_near : (negates : Bool) (z : ℤ) (limit : ℕ) → IsAtMost z limit → IsAtMost (signed negates z) limit
+signed_near true z limit near = record { low = omega (arith, ints, near.high); high = omega (arith, ints, near.low) }
+signed_near false z limit near = near
 
 -- labels that keep the arcs keep those of the graph with a sink that don't end there
 sunk_keeps : (nodes sink : ℕ) (arc : ℕ → ℕ → Option ℤ) (label : ℕ → ℤ) → sink ≡ nodes → KeepsArcs arc label → KeepsArcsOff (with_sink nodes arc) sink label

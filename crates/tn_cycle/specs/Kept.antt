@@ -1,5 +1,5 @@
 -- What a search over kept labels goes by, and what it knows of each node.
-use Rattle.std.specs.Prelude.{◌≡◌, ◌≢◌, ℕ, ◌+◌, ◌<◌, ◌≤◌, ◌⊎◌, ℤ, ◌+ℤ◌, ◌-ℤ◌, ◌≤ℤ◌, ◌<ℤ◌, List, [], ◌∷◌, All, Option, Some, None, Bool, true, false, slice_index_or}
+use Rattle.std.specs.Prelude.{◌≡◌, ◌≢◌, ℕ, ◌+◌, ◌<◌, ◌≤◌, ◌⊎◌, ℤ, neg_ℤ, ◌+ℤ◌, ◌-ℤ◌, ◌≤ℤ◌, ◌<ℤ◌, List, [], ◌∷◌, All, Option, Some, None, Bool, true, false, slice_index_or}
 use Rattle.tn_base.specs.Options.{both}
 use Rattle.tn_base.specs.Walks.{is_admitted, walk_cost}
 use Rattle.tn_cycle.specs.declared.cell.Cell.{Cell}
@@ -146,3 +146,8 @@ IsLifted count arc t label found = (v : ℕ) (cost : ℤ) → v < count → v �
 -- a mark is that of an admitted trade or the null node, and the given node has none
 abbrev pub IsOther : ℕ → ℕ → ℕ → ℕ → Bool → Type 0
 IsOther null node allowed v mark = (v ≡ node → mark ≡ false) × (v ≢ node → mark ≡ is_admitted null allowed v)
+
+-- a number or its negative
+abbrev pub signed : Bool → ℤ → ℤ
+signed true z = neg_ℤ z
+signed false z = z

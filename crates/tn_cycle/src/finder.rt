@@ -16,13 +16,13 @@ use tn_base::{Costs, OutOfMemory, TradeSet};
 /// Searches graphs of a fixed number of nodes, and keeps what the last search found. The last node of a graph is its
 /// null node, the others are trades.
 ///
-/// `through` and `least_through` find a least cycle through a trade over labels, and leave labels that keep the arcs with
-/// it; `label_all` is where these begin, and `relabel` gives the labels that `labels` would give. `labels` finds labels
-/// of a graph of which nothing is known, or a negative cycle, and `least_to` and `least_from` find least walks. Then `at`
-/// reads the nodes of a cycle; `label` reads labels; `distance` reads the least cost for a node, and `walk` lists the
-/// nodes of its walk, which `at` reads. A search forgets what the one before it found, but for the labels that it goes
-/// by. A graph that is searched has as many nodes as the finder was made for. No search and no reader takes memory or
-/// refuses.
+/// `through` and `least_through` find a least cycle through a trade over labels, and leave labels that keep the arcs
+/// with it; `label_all` is where these begin, and `relabel` gives the labels that `labels` would give. `labels` finds
+/// labels of a graph of which nothing is known, or a negative cycle, and `least_to` and `least_from` find least walks.
+/// Then `at` reads the nodes of a cycle; `label` reads labels; `distance` reads the least cost for a node, and `walk`
+/// lists the nodes of its walk, which `at` reads. A search forgets what the one before it found, but for the labels
+/// that it goes by. A graph that is searched has as many nodes as the finder was made for. No search and no reader
+/// takes memory or refuses.
 ///
 /// Contracts see what may be read: the nodes that `at` reads, the labels, the distances and their walks.
 #[derive(Drop)]
@@ -116,13 +116,13 @@ impl Finder {
         self.labelled = self.nodes;
     }
 
-    /// Looks for a negative cycle through a trade that isn't admitted yet, on the admitted trades, the null node and that
-    /// trade, over labels that keep the arcs among the admitted trades and the null node. A cycle that it answers is of
-    /// least cost among the closed walks that meet the trade at their ends alone, has the fewest arcs among those of that
-    /// cost, and has no node twice. There are at most `64 * W` trades.
+    /// Looks for a negative cycle through a trade that isn't admitted yet, on the admitted trades, the null node and
+    /// that trade, over labels that keep the arcs among the admitted trades and the null node. A cycle that it answers
+    /// is of least cost among the closed walks that meet the trade at their ends alone, has the fewest arcs among those
+    /// of that cost, and has no node twice. There are at most `64 * W` trades.
     ///
-    /// The new labels keep the arcs with the trade, whose own label is for the arcs that begin at it: those that end at it
-    /// find that label and the cost of the cycle.
+    /// The new labels keep the arcs with the trade, whose own label is for the arcs that begin at it: those that end at
+    /// it find that label and the cost of the cycle.
     pub fn through<C: Costs, const W: usize>(
         &mut self,
         costs: &C,
@@ -160,8 +160,8 @@ impl Finder {
     }
 
     /// Finds a least cycle through a node, whatever it costs, on the admitted trades, the null node and that node, over
-    /// labels that keep the arcs among all of these; None where no closed walk leads through the node. The cycle and the
-    /// new labels are as `through` answers them.
+    /// labels that keep the arcs among all of these; None where no closed walk leads through the node. The cycle and
+    /// the new labels are as `through` answers them.
     pub fn least_through<C: Costs, const W: usize>(
         &mut self,
         costs: &C,
@@ -198,8 +198,8 @@ impl Finder {
         found
     }
 
-    /// Gives each node the label that `labels` would give: at most 0, and at least minus the largest size of a cost times
-    /// one less than the number of nodes. The labels at hand keep the arcs, so that no cycle is negative.
+    /// Gives each node the label that `labels` would give: at most 0, and at least minus the largest size of a cost
+    /// times one less than the number of nodes. The labels at hand keep the arcs, so that no cycle is negative.
     pub fn relabel<C: Costs>(&mut self, costs: &C)
         requires sized { C.node_count costs.now ≡ self.old.nodes }
         requires labelled { length self.old.labels ≡ self.old.nodes }
@@ -269,8 +269,8 @@ impl Finder {
         self.end = node;
     }
 
-    /// Finds, from each node, a walk to the given one of least cost, in which no node stands twice but for the two ends,
-    /// where they are one: a walk from the node to itself has at least one arc too. No cycle may be negative.
+    /// Finds, from each node, a walk to the given one of least cost, in which no node stands twice but for the two
+    /// ends, where they are one: a walk from the node to itself has at least one arc too. No cycle may be negative.
     pub fn least_to<C: Costs>(&mut self, costs: &C, node: u32)
         requires sized { C.node_count costs.now ≡ self.old.nodes }
         requires inside { node < self.old.nodes }
@@ -281,8 +281,8 @@ impl Finder {
         self.least_walks(costs, node, false);
     }
 
-    /// Finds, to each node, a walk from the given one of least cost, in which no node stands twice but for the two ends,
-    /// where they are one: a walk from the node to itself has at least one arc too. No cycle may be negative.
+    /// Finds, to each node, a walk from the given one of least cost, in which no node stands twice but for the two
+    /// ends, where they are one: a walk from the node to itself has at least one arc too. No cycle may be negative.
     pub fn least_from<C: Costs>(&mut self, costs: &C, node: u32)
         requires sized { C.node_count costs.now ≡ self.old.nodes }
         requires inside { node < self.old.nodes }
@@ -293,8 +293,8 @@ impl Finder {
         self.least_walks(&Turned { costs }, node, true);
     }
 
-    /// The least cost of a walk between the node and the one asked for, None where there is no walk. The last search was
-    /// for least walks.
+    /// The least cost of a walk between the node and the one asked for, None where there is no walk. The last search
+    /// was for least walks.
     pub fn distance(&self, v: u32) -> Option<i128>
         requires { v < length self.now.distances }
         ensures { result ≡ distance_in self.now v }

@@ -207,10 +207,10 @@ fn offer<C: Costs>(costs: &C, end: u32, u: u32, waits: &[bool], row: &mut [Cell]
     }
 }
 
-/// Finds, from each node, the walk to `end` of least cost, of these one with the fewest arcs, and of these that over the
-/// lowest nodes (Dijkstra 1959): a node's key is the cost of its walk and its label. Labels keep the arcs, so that a key
-/// is never below that of the node it goes on over, and nodes are settled in the order of their keys. The search stops
-/// once no waiting node can lead to a better walk from the end to itself, or to one that costs less than the cap.
+/// Finds, from each node, the walk to `end` of least cost, of these one with the fewest arcs, and of these that over
+/// the lowest nodes (Dijkstra 1959): a node's key is the cost of its walk and its label. Labels keep the arcs, so that
+/// a key is never below that of the node it goes on over, and nodes are settled in the order of their keys. The search
+/// stops once no waiting node can lead to a better walk from the end to itself, or to one that costs less than the cap.
 pub(crate) fn search_kept<C: Costs>(
     costs: &C,
     end: u32,

@@ -5,13 +5,13 @@ ghost use Rattle.tn_base.specs.Walks.{KeepsArcs, KeepsArcsEntering, arcs_among, 
 ghost use Rattle.tn_base.specs.Widths.{most_cost};
 ghost use Rattle.tn_cycle.specs.Answers.{AnswersCycle, AnswersLeast, AreLabels, AreNear, arc_count, cost_of, label_in};
 ghost use Rattle.tn_cycle.specs.Cells.{HasRoom, cell_at};
-ghost use Rattle.tn_cycle.specs.Kept.{AreRaised, IsCycleRead, IsLifted, IsLiftedBy, IsRaised, KeepsArcsAvoiding, KeepsArcsOff, flag_at};
+ghost use Rattle.tn_cycle.specs.Kept.{AreRaised, IsCycleRead, IsLifted, IsLiftedBy, IsRaised, KeepsArcsAvoiding, KeepsArcsOff, flag_at, signed};
 ghost use Rattle.tn_cycle.specs.Reading.{IsListable};
 ghost use Rattle.tn_cycle.specs.Widths.{label_step, most_graph_nodes, most_label, most_walk_cost};
 
 use crate::answer::Path;
 use crate::cell::Cell;
-use crate::graphs::{Looked, Sunk};
+use crate::graphs::{Looked, Sunk, Turned};
 use crate::kept::{is_capped, search_kept};
 use crate::labels::{lowest_cost, write_labels};
 use crate::read::list_way;
@@ -150,23 +150,51 @@ fn lifted(least: Option<i128>, v: u32, node: u32, label: i128, cost: Option<i128
     }
 }
 
-/// The least number that keeps the arcs that begin at a node, None where none does.
-fn least_label<C: Costs>(costs: &C, node: u32, labels: &[i128]) -> Option<i128>
+/// A label, or its negative.
+fn signed(label: i128, negates: bool) -> i128
+    requires { IsAtMost label (3 * most_label) }
+    ensures { result ≡ signed negates label }
+{
+    if negates { -label } else { label }
+}
+
+/// The least number that keeps the arcs that begin at a node, by the labels of the others or their negatives. None
+/// where none does.
+fn least_number<C: Costs>(costs: &C, node: u32, labels: &[i128], negates: bool) -> Option<i128>
     requires labels_sized { length labels.now ≡ C.node_count costs.now }
     requires inside { node < C.node_count costs.now }
     requires near { AreNear most_label labels.now }
-    ensures keeps { IsLifted (C.node_count costs.now) (C.arc costs.now) node (label_in labels.now) result }
+    ensures keeps { IsLifted (C.node_count costs.now) (C.arc costs.now) node (λ v. signed negates (label_in labels.now v)) result }
     ensures near { (reach : ℕ) → AreNear reach labels.now → ForSome result (λ p. IsAtMost p (reach + most_cost)) }
 {
     let mut least = None;
     for v in 0..costs.nodes() {
-        least = lifted(least, v, node, labels[v as usize], costs.cost(node, v));
+        let label = signed(labels[v as usize], negates);
+        least = lifted(least, v, node, label, costs.cost(node, v));
     }
     least
 }
 
+/// A label for a node that keeps the arcs that begin at it: the least one, or where none begins, the greatest that
+/// keeps those that end at it, so that no other label need be raised.
+fn node_label<C: Costs>(costs: &C, node: u32, labels: &[i128]) -> i128
+    requires labels_sized { length labels.now ≡ C.node_count costs.now }
+    requires inside { node < C.node_count costs.now }
+    requires near { AreNear most_label labels.now }
+    ensures keeps { (v : ℕ) (cost : ℤ) → v ≢ node → C.arc costs.now node v ≡ Some cost → label_in labels.now v ≤ℤ (result +ℤ cost) }
+    ensures near { (reach : ℕ) → AreNear reach labels.now → IsAtMost result (reach + most_cost) }
+{
+    match least_number(costs, node, labels, false) {
+        Some(label) => label,
+        None => signed(
+            least_number(&Turned { costs }, node, labels, true).unwrap_or(0),
+            true,
+        ),
+    }
+}
+
 /// A least cycle through a node whose label isn't known yet, where one is negative, over labels that keep the arcs among
-/// the other nodes. The node gets the least label that keeps the arcs that begin at it, and then all labels are raised.
+/// the other nodes. The node gets a label that keeps the arcs that begin at it, and then all labels are raised.
 pub(crate) fn find_added<C: Costs>(
     costs: &C,
     node: u32,
@@ -191,7 +219,7 @@ pub(crate) fn find_added<C: Costs>(
     ensures keeps { KeepsArcsEntering (C.arc costs.now) node (label_in labels.new node +ℤ cost_of result) (label_in labels.new) }
     ensures near { (reach : ℕ) → AreNear reach labels.old → AreNear (reach + label_step (C.node_count costs.now)) labels.new }
 {
-    labels[node as usize] = least_label(costs, node, labels).unwrap_or(0);
+    labels[node as usize] = node_label(costs, node, labels);
     find_kept(costs, node, Some(0), labels, waits, row, path)
 }
 

@@ -47,7 +47,7 @@ pub record IsStand (firms : List Firm) (trades : List Ends) (on f n : ℕ) (firm
 abbrev pub falling : ℕ → ℕ → ℕ → ℕ
 falling buys x n = set_of (λ k. trade_level buys x k == 1) n
 
--- the arcs from place i of a firm to its places before j are read, and no other cost is worse for it
+-- the arcs from place i of a firm to its places before j are read, and each other cost is as it was or right
 pub record IsRowRead (firms : List Firm) (trades : List Ends) (on f n : ℕ) (firm : Firm) (x i : ℕ) (before : Matrix) (j : ℕ) (graph : Matrix) : Type 0 where
   pub improved : Improves (exchange_arc firms trades on) before graph
   pub row : (k : ℕ) → k < j → AreArcPlaces firm x i k
