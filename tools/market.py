@@ -216,7 +216,8 @@ def _axes(axes, names):
 
 
 def _whole_ticks(axes, label):
-    axes.xaxis.get_major_locator().set_params(integer=True)
+    ticker = _needed("matplotlib.ticker", "rows() and frame() don't need it")
+    axes.xaxis.set_major_locator(ticker.MaxNLocator(integer=True))
     axes.set_xlabel(label)
     return axes
 
