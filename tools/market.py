@@ -559,12 +559,11 @@ def _member(name: str, value: Any, over: Optional[int]) -> Any:
     if name == "gain":
         return _over(value, over)
     if name == "ranges":
-        return {each["trade"]: Range(**_tuples(each)) for each in value}
+        return {each["trade"]: _part(Range, each) for each in value}
     if name == "firms":
-        return {each["firm"]: Firm(**{part.name: _tuples(each)[part.name] for part in dataclasses.fields(Firm)})
-                for each in value}
+        return {each["firm"]: _part(Firm, each) for each in value}
     if name == "edits":
-        return tuple(State(tuple(each["on"]), dict(each["prices"]), each["surplus"]) for each in value)
+        return tuple(_part(State, each) for each in value)
     return tuple(value) if isinstance(value, list) else value
 
 
@@ -572,8 +571,8 @@ def _over(number: Optional[int], over: Optional[int]) -> Union[int, Fraction, No
     return number if over is None or number is None else Fraction(number, over)
 
 
-def _tuples(members: dict) -> dict:
-    return {name: tuple(value) if isinstance(value, list) else value for name, value in members.items()}
+def _part(kind, members: dict):
+    return kind(*(_member(each.name, members[each.name], None) for each in dataclasses.fields(kind)))
 
 
 # Questions
