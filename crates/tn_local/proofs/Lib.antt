@@ -4,3 +4,4 @@ pub mod VerdictLemmas
 pub mod FirstLemmas
 mod FullLemmas
 mod QuadLemmas
+mod TradeLemmas

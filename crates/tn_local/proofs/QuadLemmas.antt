@@ -1,62 +1,62 @@
--- Four free places in any order, from those in rising order, and the loops over them.
+-- Four free places in any order, from those in rising order, and the loops over trades at level 0.
 use Rattle.std.proofs.Common.{◌≡◌, ◌≢◌, ℕ, ◌+◌, ◌<◌, ◌≤◌, Bool, true, false, not, ◌&&◌, ◌||◌, refl, sym, ap, ◌∙◌, subst, arith, ◌⊎◌, inl, inr, if◌then◌else◌, pos}
 use Rattle.std.specs.Prelude.{◌↔◌, ◌≤ℤ◌, ℤ, Some, None}
 use Rattle.std.proofs.lemmas.Bool.{cases_eq, cases_lt, false≢true}
 use Rattle.std.proofs.lemmas.Int.{ints}
-use Rattle.tn_base.specs.Sets.{has, toggle, union, minus}
+use Rattle.tn_base.specs.Sets.{has, union, minus}
 use Rattle.tn_base.specs.Firm.{Firm}
-use Rattle.tn_base.proofs.SetLemmas.{has-zero, has-union, has-minus, has-toggle_same, has-toggle_other}
+use Rattle.tn_base.proofs.SetLemmas.{has-union, has-minus}
 use Rattle.tn_law.specs.Places.{trade_level, move}
 use Rattle.tn_law.specs.Quads.{number, value, IsFree, AreFourFree, parted, QuadsExchangeAt}
 use Rattle.tn_law.proofs.PlaceLemmas.{places}
-use Rattle.tn_local.specs.Quads.{StandsTwice, FourExchange, OneExchanges, AreFreePlaces}
+use Rattle.tn_local.specs.Quads.{StandsTwice, IsLow, AreLowTrades}
 
 -- what a bundle is worth, by what a table says
-pub value_some : (firm : Firm) (x y : ℕ) (a : ℤ) → x ≡ y → firm.worth x ≡ Some a → a ≡ value firm y
+pub value_some : (firm : Firm) (x : ℕ) (a : ℤ) → firm.worth x ≡ Some a → a ≡ value firm x
 unfolding value
-value_some firm x y a e is = sym (ap number is) ∙ ap (λ (w : ℕ). number (firm.worth w)) e
+value_some firm x a is = sym (ap number is)
 
-pub value_none : (firm : Firm) (x y : ℕ) → x ≡ y → firm.worth x ≡ None → pos 0 ≡ value firm y
+pub value_none : (firm : Firm) (x : ℕ) → firm.worth x ≡ None → pos 0 ≡ value firm x
 unfolding value
-value_none firm x y e is = sym (ap number is) ∙ ap (λ (w : ℕ). number (firm.worth w)) e
+value_none firm x is = sym (ap number is)
 
--- the free places from a number on and below another pass
-abbrev pub AllFreeFrom : Firm → ℕ → ℕ → ℕ → (ℕ → Type 0) → Type 0
-AllFreeFrom firm z low high P = (low ≤ high) × ((k : ℕ) → low ≤ k → k < high → IsFree firm.count firm.buys z k → P k)
+-- the trades at level 0 from a number on and below another pass
+abbrev pub AllLowFrom : Firm → ℕ → ℕ → ℕ → (ℕ → Type 0) → Type 0
+AllLowFrom firm z low high P = (low ≤ high) × ((k : ℕ) → low ≤ k → k < high → IsLow firm.count firm.buys z k → P k)
 
-pub none_between : (firm : Firm) (z low : ℕ) (P : ℕ → Type 0) → AllFreeFrom firm z low low P
-none_between firm z low P = (omega arith, λ k from below free. absurd (omega (arith, from, below)))
+pub none_between : (firm : Firm) (z low : ℕ) (P : ℕ → Type 0) → AllLowFrom firm z low low P
+none_between firm z low P = (omega arith, λ k from below is_low. absurd (omega (arith, from, below)))
 
--- one more, which passes or isn't free
-pub one_passes : (firm : Firm) (z low high : ℕ) (P : ℕ → Type 0) → AllFreeFrom firm z low high P → P high → AllFreeFrom firm z low (high + 1) P
+-- one more, which passes or isn't at level 0
+pub one_passes : (firm : Firm) (z low high : ℕ) (P : ℕ → Type 0) → AllLowFrom firm z low high P → P high → AllLowFrom firm z low (high + 1) P
 one_passes firm z low high P all here = (
   (let p = all.0 in omega (arith, p)),
-  λ k from below free. elim (cases_eq k high) [
+  λ k from below is_low. elim (cases_eq k high) [
     | inl e ↦ subst P (sym e) here
-    | inr d ↦ all.1 k from (omega (arith, below, d)) free
+    | inr d ↦ all.1 k from (omega (arith, below, d)) is_low
   ],
 )
 
-pub one_is_taken : (firm : Firm) (z set low high : ℕ) (P : ℕ → Type 0) → AreFreePlaces firm.count firm.buys z set → high ≤ firm.count + 1
-    → has set high ≡ false → AllFreeFrom firm z low high P → AllFreeFrom firm z low (high + 1) P
-one_is_taken firm z set low high P are place taken all = (
+pub one_is_high : (firm : Firm) (z set low high : ℕ) (P : ℕ → Type 0) → AreLowTrades firm.count firm.buys z set → high < firm.count
+    → has set high ≡ false → AllLowFrom firm z low high P → AllLowFrom firm z low (high + 1) P
+one_is_high firm z set low high P are place is_high all = (
   (let p = all.0 in omega (arith, p)),
-  λ k from below free. elim (cases_eq k high) [
+  λ k from below is_low. elim (cases_eq k high) [
     | inl e ↦
-        let here : IsFree firm.count firm.buys z high = subst (λ (i : ℕ). IsFree firm.count firm.buys z i) e free in
-        absurd (false≢true (sym taken ∙ (are high place).1 here))
-    | inr d ↦ all.1 k from (omega (arith, below, d)) free
+        let here : IsLow firm.count firm.buys z high = subst (λ (i : ℕ). IsLow firm.count firm.buys z i) e is_low in
+        absurd (false≢true (sym is_high ∙ (are high place).1 here))
+    | inr d ↦ all.1 k from (omega (arith, below, d)) is_low
   ],
 )
 
 -- all of them
-pub all_pass : (firm : Firm) (z low high : ℕ) (P : ℕ → Type 0) → firm.count + 2 ≤ high → AllFreeFrom firm z (low + 1) high P
-    → (k : ℕ) → low < k → IsFree firm.count firm.buys z k → P k
-all_pass firm z low high P most all k above free = let place = free.0 in all.1 k (omega (arith, above)) (omega (arith, place, most)) free
+pub all_pass : (firm : Firm) (z low high : ℕ) (P : ℕ → Type 0) → firm.count ≤ high → AllLowFrom firm z (low + 1) high P
+    → (k : ℕ) → low < k → IsLow firm.count firm.buys z k → P k
+all_pass firm z low high P most all k above is_low = let place = is_low.0 in all.1 k (omega (arith, above)) (omega (arith, place, most)) is_low
 
-pub each_passes : (firm : Firm) (z high : ℕ) (P : ℕ → Type 0) → firm.count + 2 ≤ high → AllFreeFrom firm z 0 high P
-    → (k : ℕ) → IsFree firm.count firm.buys z k → P k
-each_passes firm z high P most all k free = let place = free.0 in all.1 k (omega arith) (omega (arith, place, most)) free
+pub each_passes : (firm : Firm) (z high : ℕ) (P : ℕ → Type 0) → firm.count ≤ high → AllLowFrom firm z 0 high P
+    → (k : ℕ) → IsLow firm.count firm.buys z k → P k
+each_passes firm z high P most all k is_low = let place = is_low.0 in all.1 k (omega arith) (omega (arith, place, most)) is_low
 
 -- the sums by other names
 pub same_sums : (T : Type 0) (a b c a' b' c' : ℤ) → a ≡ a' → b ≡ b' → c ≡ c' → (T ↔ StandsTwice a b c) → T ↔ StandsTwice a' b' c'
@@ -67,49 +67,30 @@ same_sums T a b c a' b' c' p q r is =
 abbrev level_by : Bool → Bool → ℕ
 level_by bought there = if bought then (if there then 1 else 0) else (if there then 0 else 1)
 
--- the set of the free places
-pub free_set : (n buys z : ℕ) → AreFreePlaces n buys z (union (union (minus buys z) (minus z buys)) (toggle (toggle 0 n) (n + 1)))
+-- the set of the trades at level 0
+pub low_set : (n buys z : ℕ) → AreLowTrades n buys z (union (minus buys z) (minus z buys))
 unfolding trade_level
-free_set n buys z k place = elim (cases_lt k n) [
-  | inl trade ↦
-      let no_null : has (toggle (toggle 0 n) (n + 1)) k ≡ false =
-      has-toggle_other (toggle 0 n) (n + 1) k (λ e. omega (arith, e, trade)) ∙ has-toggle_other 0 n k (λ e. omega (arith, e, trade)) ∙ has-zero k in
-      let digits : has (union (union (minus buys z) (minus z buys)) (toggle (toggle 0 n) (n + 1))) k
-      ≡ (((has buys k && not (has z k)) || (has z k && not (has buys k))) || false) =
-      has-union (union (minus buys z) (minus z buys)) (toggle (toggle 0 n) (n + 1)) k
-      ∙ ap (λ b. has (union (minus buys z) (minus z buys)) k || b) no_null
-      ∙ ap (λ b. b || false) (has-union (minus buys z) (minus z buys) k
-      ∙ ap (λ b. b || has (minus z buys) k) (has-minus buys z k)
-      ∙ ap (λ b. (has buys k && not (has z k)) || b) (has-minus z buys k)) in
-      let is = by (has buys k) (has z k) in
-      ((λ member. (place, λ t. is.0 (sym digits ∙ member))), λ free. digits ∙ is.1 (free.1 trade))
-  | inr null ↦
-      let member : has (toggle (toggle 0 n) (n + 1)) k ≡ true = twice k place null in (
-        (λ m. (place, λ t. absurd (omega (arith, t, null)))),
-        λ free. has-union (union (minus buys z) (minus z buys)) (toggle (toggle 0 n) (n + 1)) k
-            ∙ ap (λ b. has (union (minus buys z) (minus z buys)) k || b) member ∙ or_true (has (union (minus buys z) (minus z buys)) k),
-      )
-]
+low_set n buys z k place =
+    let digits : has (union (minus buys z) (minus z buys)) k ≡ ((has buys k && not (has z k)) || (has z k && not (has buys k))) =
+    has-union (minus buys z) (minus z buys) k
+    ∙ ap (λ b. b || has (minus z buys) k) (has-minus buys z k)
+    ∙ ap (λ b. (has buys k && not (has z k)) || b) (has-minus z buys k) in
+    let is = by (has buys k) (has z k) in
+    ((λ member. (place, is.0 (sym digits ∙ member))), λ is_low. digits ∙ is.1 is_low.1)
   where
-    by : (b h : Bool) → ((((b && not h) || (h && not b)) || false) ≡ true) ↔ (level_by b h ≡ 0)
+    by : (b h : Bool) → (((b && not h) || (h && not b)) ≡ true) ↔ (level_by b h ≡ 0)
     by true true = ((λ e. absurd (false≢true e)), λ e. absurd (omega (arith, e)))
     by true false = ((λ e. refl), λ e. refl)
     by false true = ((λ e. refl), λ e. refl)
     by false false = ((λ e. absurd (false≢true e)), λ e. absurd (omega (arith, e)))
 
-    or_true : (b : Bool) → (b || true) ≡ true
-    or_true true = refl
-    or_true false = refl
+-- four free places in rising order exchange
+abbrev pub FourExchange : Firm → ℕ → ℕ → ℕ → ℕ → ℕ → Type 0
+FourExchange firm z a b c d = StandsTwice (parted firm z a b c d) (parted firm z a c b d) (parted firm z a d b c)
 
-    twice : (j : ℕ) → j ≤ n + 1 → n ≤ j → has (toggle (toggle 0 n) (n + 1)) j ≡ true
-    twice j most null = elim (cases_eq j n) [
-      | inl e ↦ subst (λ (i : ℕ). has (toggle (toggle 0 n) (n + 1)) i ≡ true) (sym e)
-          (has-toggle_other (toggle 0 n) (n + 1) n (λ f. omega (arith, f)) ∙ has-toggle_same 0 n ∙ ap not (has-zero n))
-      | inr d ↦
-          let e : j ≡ n + 1 = omega (arith, most, null, d) in
-          subst (λ (i : ℕ). has (toggle (toggle 0 n) (n + 1)) i ≡ true) (sym e)
-          (has-toggle_same (toggle 0 n) (n + 1) ∙ ap not (has-toggle_other 0 n (n + 1) (λ f. omega (arith, f)) ∙ has-zero (n + 1)))
-    ]
+abbrev pub OrderedExchange : Firm → ℕ → Type 0
+OrderedExchange firm z = (a : ℕ) → IsFree firm.count firm.buys z a → (b : ℕ) → a < b → IsFree firm.count firm.buys z b
+    → (c : ℕ) → b < c → IsFree firm.count firm.buys z c → (d : ℕ) → c < d → IsFree firm.count firm.buys z d → FourExchange firm z a b c d
 
 -- the two places of a pair may be taken in either order
 pair_turned : (firm : Firm) (z p q : ℕ) → value firm (move firm.count z p q) ≡ value firm (move firm.count z q p)
@@ -132,7 +113,7 @@ pairs_turned : (firm : Firm) (z p q r s : ℕ) → IsNotAbove firm z r s p q →
 pairs_turned firm z p q r s (inl most) = inl (let a = pair_turned firm z r p in let b = pair_turned firm z s q in omega (arith, ints, most, a, b))
 pairs_turned firm z p q r s (inr most) = inr (let a = pair_turned firm z r q in let b = pair_turned firm z s p in omega (arith, ints, most, a, b))
 
-module _ (firm : Firm) (z : ℕ) (all : (a : ℕ) → IsFree firm.count firm.buys z a → OneExchanges firm z a) where
+module _ (firm : Firm) (z : ℕ) (all : OrderedExchange firm z) where
   -- in rising order but for the pairs
   by_pairs : (p q r s : ℕ) → AreFourFree firm.count firm.buys z p q r s → p < q → r < s → p < r → IsNotAbove firm z p q r s
   by_pairs p q r s four first last pairs = elim (cases_lt q r) [
@@ -192,7 +173,7 @@ module _ (firm : Firm) (z : ℕ) (all : (a : ℕ) → IsFree firm.count firm.buy
   ]
 
 -- and the other way round
-pub ordered_from_quads : (firm : Firm) (z : ℕ) → QuadsExchangeAt firm z → (a : ℕ) → IsFree firm.count firm.buys z a → OneExchanges firm z a
+pub ordered_from_quads : (firm : Firm) (z : ℕ) → QuadsExchangeAt firm z → OrderedExchange firm z
 ordered_from_quads firm z quads a a_free b a_b b_free c b_c c_free d c_d d_free =
     let second = quads a c b d (record {
       free = (a_free, c_free, b_free, d_free);

@@ -195,7 +195,7 @@ fn pairs_are_enough(table: &RawTable, x: Bundle, total: i128, sides: Sides) -> b
 }
 
 /// The bundle toggled at two places.
-pub(crate) fn moved(x: Bundle, i: u32, j: u32, null: u32) -> Bundle
+fn moved(x: Bundle, i: u32, j: u32, null: u32) -> Bundle
     requires few { null ≤ 64 }
     ensures moved { result ≡ move null x i j }
     ensures own { x < 2 ^ null → result < 2 ^ null }

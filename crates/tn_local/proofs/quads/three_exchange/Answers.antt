@@ -1,33 +1,34 @@
-use Rattle.std.proofs.Common.{◌+◌, ◌≤◌, refl, sym, ◌∙◌, arith, length}
-use Rattle.std.proofs.lemmas.Bool.{false≢true}
-use Rattle.tn_base.specs.Table.{buys_of}
-use Rattle.tn_law.specs.Quads.{IsFree}
+use Rattle.std.proofs.Common.{◌≡◌, ℕ, ap, ◌∙◌, rules, SFits, arith}
+use Rattle.std.specs.Int.{w128}
+use Rattle.std.proofs.lemmas.Int.{to_z-of_z, ints}
+use Rattle.tn_base.specs.Sets.{toggle}
+use Rattle.tn_law.specs.Quads.{value}
 use Rattle.tn_exchange.specs.Rows.{firm_of_table}
-use Rattle.tn_local.specs.Quads.{FourExchange}
-use Rattle.tn_local.proofs.QuadLemmas.{none_between, one_passes, one_is_taken, all_pass}
+use Rattle.tn_local.proofs.QuadLemmas.{same_sums}
 use Rattle.tn_local.proofs.quads.three_exchange.Goals as goal
-use Rattle.tn_local.proofs.quads.three_exchange.Goals.{else-has-via-then-has+else-not-four_exchange, else-has-via-else-has}
-
-pub loop-d-init : goal.loop-d-init
-loop-d-init c = none_between (firm_of_table c.args.table.now) c.args.z (c.args.c + 1) (FourExchange (firm_of_table c.args.table.now) c.args.z c.args.a c.args.b c.args.c)
-
-pub returns-then-not-four_exchange : goal.returns-then-not-four_exchange
-returns-then-not-four_exchange c =
-    let place : c.loop-d.d ≤ length c.args.table.now.sides + 1 = omega (arith, c.loop-d-test.true, c.trades-end.ensures.count) in
-    let free : IsFree (length c.args.table.now.sides) (buys_of c.args.table.now.sides) c.args.z c.loop-d.d = (c.requires.free c.loop-d.d place).0 (sym c.has.ensures ∙ c.if-has.true) in
-    let from = c.loop-d.invariant.0 in
-    ((λ t. absurd (false≢true t)), λ all. sym c.if-not-four_exchange.true ∙ c.four_exchange.ensures.1 (all c.loop-d.d (omega (arith, from)) free))
-
-pub loop-d-preserved : goal.loop-d-preserved
-loop-d-preserved c = elim c.else-has.branch [
-  | else-has-via-then-has+else-not-four_exchange w ↦
-      one_passes (firm_of_table c.args.table.now) c.args.z (c.args.c + 1) c.loop-d.d (FourExchange (firm_of_table c.args.table.now) c.args.z c.args.a c.args.b c.args.c) c.loop-d.invariant (w.four_exchange.ensures.0 w.if-not-four_exchange.false)
-  | else-has-via-else-has w ↦
-      one_is_taken (firm_of_table c.args.table.now) c.args.z c.args.free (c.args.c + 1) c.loop-d.d (FourExchange (firm_of_table c.args.table.now) c.args.z c.args.a c.args.b c.args.c) c.requires.free
-      (omega (arith, c.loop-d-test.true, c.trades-end.ensures.count)) (sym c.has.ensures ∙ w.if-has.false) c.loop-d.invariant
-]
 
 pub returns : goal.returns
 returns c =
-    let most : length c.args.table.now.sides + 2 ≤ c.loop-d.d = omega (arith, c.loop-d-test.false, c.trades-end.ensures.count) in
-    ((λ t. all_pass (firm_of_table c.args.table.now) c.args.z c.args.c c.loop-d.d (FourExchange (firm_of_table c.args.table.now) c.args.z c.args.a c.args.b c.args.c) most c.loop-d.invariant), λ all. refl)
+    let firm = firm_of_table c.args.table.now in
+    let both_fits : SFits w128 c.args.worths.both = search rules in
+    let first_fits : SFits w128 c.args.worths.first = search rules in
+    let second_fits : SFits w128 c.args.worths.second = search rules in
+    let third_fits : SFits w128 c.worth_of-third.result = search rules in
+    let with_first_fits : SFits w128 c.worth_of-with_first.result = search rules in
+    let with_second_fits : SFits w128 c.worth_of-with_second.result = search rules in
+    let one_fits : SFits w128 c.together.result = search rules in
+    let two_fits : SFits w128 c.together-2.result = search rules in
+    let three_fits : SFits w128 c.together-3.result = search rules in
+    let one = simp to_z-of_z at c.together.ensures in
+    let two = simp to_z-of_z at c.together-2.ensures in
+    let three = simp to_z-of_z at c.together-3.ensures in
+    let stands = simp to_z-of_z at c.stands_twice.ensures in
+    let both = c.requires.both in
+    let first = c.requires.first in
+    let second = c.requires.second in
+    let third : c.worth_of-third.result ≡ value firm (toggle c.args.z c.args.c) = c.worth_of-third.ensures.worth ∙ ap (value firm) c.toggled.ensures.toggled in
+    let with_first : c.worth_of-with_first.result ≡ value firm (toggle (toggle c.args.z c.args.a) c.args.c) =
+    c.worth_of-with_first.ensures.worth ∙ ap (value firm) (c.toggled-3.ensures.toggled ∙ ap (λ (x : ℕ). toggle x c.args.c) c.toggled-2.ensures.toggled) in
+    let with_second : c.worth_of-with_second.result ≡ value firm (toggle (toggle c.args.z c.args.b) c.args.c) =
+    c.worth_of-with_second.ensures.worth ∙ ap (value firm) (c.toggled-5.ensures.toggled ∙ ap (λ (x : ℕ). toggle x c.args.c) c.toggled-4.ensures.toggled) in
+    same_sums _ _ _ _ _ _ _ (omega (arith, ints, one, both, third)) (omega (arith, ints, two, with_first, second)) (omega (arith, ints, three, with_second, first)) stands
