@@ -1,36 +1,34 @@
-ghost use Rattle.std.specs.Prelude.{◌≡◌, IfOk, length};
+ghost use Rattle.std.specs.Prelude.{◌≡◌, length};
+ghost use Rattle.tn_market.specs.Widths.{most_own};
 
+use crate::oracle::MOST_OWN;
 use std::alloc::Global;
 use tn_base::{Bundle, OutOfMemory};
 
-/// How many cells a room has.
-const CELLS: usize = 8192;
+/// How many cells a room has: one for each own position that a firm may have.
+const CELLS: usize = MOST_OWN;
 
-/// Scratch for an oracle of one's own, the same for any firm within the limits. The search that stands here needs none,
-/// so a room takes no memory until cells are asked for.
+/// Scratch for an oracle of one's own, the same for any firm within the limits: a bundle with a number for each own
+/// position. The search that stands here needs none.
 #[derive(Drop)]
 pub struct Room {
-    alloc: Global,
     cells: Vec<Option<(Bundle, i128)>>,
+    ghost one_each: { length cells.items ≡ most_own },
 }
 
 impl Room {
-    /// A room without cells yet. It takes no memory.
+    /// A room of 32 cells. It fails only where memory runs out.
     pub fn new(alloc: Global) -> Result<Room, OutOfMemory> {
         Ok(Room {
-            alloc,
-            cells: Vec::new(alloc),
+            cells: vec![in alloc; None; CELLS]?,
         })
     }
 
-    /// The 8,192 cells, with any content, taken at the first call. They are scratch: whoever asks for them may write
-    /// what it likes. It fails only where memory runs out.
-    pub fn cells(&mut self) -> Result<&mut [Option<(Bundle, i128)>], OutOfMemory>
-        ensures { IfOk result (λ cells. length cells.now ≡ 8192) }
+    /// The 32 cells, with any content. They are scratch: whoever asks for them may write what it likes. It takes no
+    /// memory.
+    pub fn cells(&mut self) -> &mut [Option<(Bundle, i128)>]
+        ensures { length result.now ≡ most_own }
     {
-        if self.cells.len() != CELLS {
-            self.cells = vec![in self.alloc; None; CELLS]?;
-        }
-        Ok(&mut self.cells)
+        &mut self.cells
     }
 }

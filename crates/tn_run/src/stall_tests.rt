@@ -70,10 +70,10 @@ fn bundles_of_a_stall(rt: HostRuntime) {
 #[test]
 fn room_has_its_cells(rt: HostRuntime) {
     let mut room = Room::new(rt.alloc()).expect(&rt, "memory");
-    let cells = room.cells().expect(&rt, "memory");
-    assert_eq!(rt; cells.len(), 8192);
-    cells[8191] = Some((Bundle::empty(), 7));
-    let last = cells[8191];
+    let cells = room.cells();
+    assert_eq!(rt; cells.len(), 32);
+    cells[31] = Some((Bundle::empty(), 7));
+    let last = cells[31];
     assert!(rt; last == Some((Bundle::empty(), 7)));
 }
 
