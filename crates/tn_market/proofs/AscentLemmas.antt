@@ -1,22 +1,22 @@
 -- Steepest ascent: the values that it compares, how far a step has looked, and that what it stops at is best.
-use Rattle.std.proofs.Common.{◌≡◌, ◌≢◌, ℕ, ◌+◌, ◌*◌, ◌^◌, ◌<◌, ◌≤◌, Bool, true, false, not, ◌==◌, if◌then◌else◌, List, Option, Some, None, option_map, refl, sym, ap, ◌∙◌, subst, arith, inl, inr, ◌⊎◌, ℤ, pos, ◌+ℤ◌, ◌*ℤ◌, ◌≤ℤ◌, ◌<ℤ◌, add-one, IsSome}
+use Rattle.std.proofs.Common.{◌≡◌, ◌≢◌, ℕ, ◌+◌, ◌*◌, ◌^◌, ◌<◌, ◌≤◌, Bool, true, false, not, ◌==◌, ◌&&◌, if◌then◌else◌, List, Option, Some, None, option_map, refl, sym, ap, ◌∙◌, subst, arith, inl, inr, ◌⊎◌, ℤ, pos, ◌+ℤ◌, ◌*ℤ◌, ◌≤ℤ◌, ◌<ℤ◌, add-one, IsSome}
 use Rattle.std.proofs.lemmas.Int.{ints}
-use Rattle.std.proofs.lemmas.Bool.{cases_eq, eq-eqb, eqb-true, cases_lt}
-use Rattle.std.proofs.lemmas.Option.{same_Some}
+use Rattle.std.proofs.lemmas.Bool.{cases_eq, eq-eqb, eqb-true, cases_lt, and_parts, false≢true, lt-ltb}
+use Rattle.std.proofs.lemmas.Option.{same_Some, none-some}
 use lib.Signed.{le_z}
 use mir.Syntax.{w128}
 use mir.Val.{of_z, to_z}
-use Rattle.tn_base.specs.Sets.{has, toggle, minus, sum_over}
+use Rattle.tn_base.specs.Sets.{has, toggle, minus, sum_over, set_of}
 use Rattle.tn_base.specs.Arcs.{IsAtMost}
 use Rattle.tn_base.specs.Firm.{Firm, plus_sum, HasOwnBundles, MayAbstain, IsBest}
 use Rattle.tn_base.specs.Exchange.{MeetsExchange}
-use Rattle.tn_base.proofs.SetLemmas.{has_above, has_from_minus-zero, minus-zero_from, has-zero, within_from, toggle_comm}
+use Rattle.tn_base.proofs.SetLemmas.{has_above, has_from_minus-zero, minus-zero_from, has-zero, has-set_of, has-toggle_same, has-toggle_other, within_from, toggle_comm}
 use Rattle.tn_law.proofs.KeepLemmas.{meets-plus_sum, meets-among}
 use Rattle.tn_law.proofs.LocalLemmas.{local_to_global}
 use Rattle.tn_law.proofs.BoundLemmas.{times_small}
 use Rattle.tn_plain_data.specs.Prices.{price_at}
 use Rattle.tn_market.specs.declared.bundle_value.BundleValue.{BundleValue}
-use Rattle.tn_market.specs.Ascent.{aimed, IsBesideBest, IsNearbyBest, IsValued, StaysAt, IsNoWorse, TriesOne, TriesBeside, TriesNearby}
+use Rattle.tn_market.specs.Ascent.{aimed, IsBesideBest, IsNearbyBest, IsValued, StaysAt, IsNoWorse, TriesOne, TriesOthers, TriesBeside, TriesNearby}
 use Rattle.tn_market.specs.Widths.{most_limit, most_utility, most_worth, most_scale, most_own}
 
 -- ---- sizes
@@ -112,26 +112,115 @@ no_worse-trans value_of first second third one two = record {
   kept = omega (arith, ints, one.kept, two.kept);
 }
 
--- with one more pair tried
-pub one_tried : (value_of : ℕ → Option ℤ) (from i j : ℕ) (first second third : BundleValue) → TriesBeside value_of from i j first second
-    → TriesOne value_of (toggle (toggle from i) j) second third → TriesBeside value_of from i (j + 1) first third
-one_tried value_of from i j first second third before now = record {
-  no_worse = no_worse-trans value_of first second third before.no_worse now.no_worse;
-  tried = record {
-    single = λ other is. let h = before.tried.single other is in omega (arith, ints, h, now.no_worse.kept);
-    pair = λ k other below is. elim (cases_eq k j) [
-      | inl e ↦ now.tried other (ap (λ (n : ℕ). value_of (toggle (toggle from i) n)) (sym e) ∙ is)
-      | inr d ↦ let h = before.tried.pair k other (omega (arith, below, d)) is in omega (arith, ints, h, now.no_worse.kept)
-    ];
-  };
+-- no other position tried
+pub others_none : (value_of : ℕ → Option ℤ) (x others : ℕ) (found : BundleValue) → TriesOthers value_of x others 0 found found
+others_none value_of x others found = record {
+  no_worse = record { valued = λ h. h; kept = omega (arith, ints) };
+  tried = λ k other below. absurd (omega (arith, below));
 }
 
--- the single toggle tried
-pub single_tried : (value_of : ℕ → Option ℤ) (from i : ℕ) (first second : BundleValue) → TriesOne value_of (toggle from i) first second
-    → TriesBeside value_of from i 0 first second
-single_tried value_of from i first second now = record {
-  no_worse = now.no_worse;
-  tried = record { single = now.tried; pair = λ k other below is. absurd (omega (arith, below)) };
+-- with one more of them tried
+pub others_more : (value_of : ℕ → Option ℤ) (x others k : ℕ) (first second third : BundleValue) → TriesOthers value_of x others k first second
+    → TriesOne value_of (toggle x k) second third → TriesOthers value_of x others (k + 1) first third
+others_more value_of x others k first second third before now = record {
+  no_worse = no_worse-trans value_of first second third before.no_worse now.no_worse;
+  tried = λ j other below wanted is. elim (cases_eq j k) [
+    | inl e ↦ now.tried other (ap (λ (n : ℕ). value_of (toggle x n)) (sym e) ∙ is)
+    | inr d ↦ let h = before.tried j other (omega (arith, below, d)) wanted is in omega (arith, ints, h, now.no_worse.kept)
+  ];
+}
+
+pub others_same : (value_of : ℕ → Option ℤ) (x others k : ℕ) (first second : BundleValue) → TriesOthers value_of x others k first second
+    → has others k ≡ false → TriesOthers value_of x others (k + 1) first second
+others_same value_of x others k first second before absent = record {
+  no_worse = before.no_worse;
+  tried = λ j other below wanted is. elim (cases_eq j k) [
+    | inl e ↦ absurd (false≢true (sym absent ∙ ap (has others) (sym e) ∙ wanted))
+    | inr d ↦ before.tried j other (omega (arith, below, d)) wanted is
+  ];
+}
+
+-- what has a value is within the allowed positions
+pub valued_within : (allowed : ℕ) (scale : ℤ) (gains : List ℤ) (firm : Firm) (x : ℕ) (value : ℤ) → (aimed allowed scale gains firm).worth x ≡ Some value → minus x allowed ≡ 0
+valued_within allowed scale gains firm x value is = by_case (minus x allowed == 0) refl is
+  where
+    by_case : (b : Bool) → (minus x allowed == 0) ≡ b → (if b then (plus_sum scale (price_at gains) firm).worth x else None) ≡ Some value → minus x allowed ≡ 0
+    by_case true p q = eqb-true (minus x allowed) 0 p
+    by_case false p q = absurd (none-some value q)
+
+no_value_outside : (allowed : ℕ) (scale : ℤ) (gains : List ℤ) (firm : Firm) (x k : ℕ) (value : ℤ) → has allowed k ≡ false → has x k ≡ true
+    → (aimed allowed scale gains firm).worth x ≡ Some value → ⊥
+no_value_outside allowed scale gains firm x k value absent there is =
+    false≢true (sym absent ∙ has_from_minus-zero x allowed k (valued_within allowed scale gains firm x value is) there)
+
+-- a bundle within the allowed positions stays within them where one of these is toggled
+pub toggled_within : (x allowed k : ℕ) → minus x allowed ≡ 0 → has allowed k ≡ true → minus (toggle x k) allowed ≡ 0
+toggled_within x allowed k inside member = minus-zero_from (toggle x k) allowed (λ j there. elim (cases_eq j k) [
+  | inl e ↦ ap (has allowed) e ∙ member
+  | inr d ↦ has_from_minus-zero x allowed j inside (sym (has-toggle_other x k j d) ∙ there)
+])
+
+-- where another position is toggled, it doesn't
+not_there : (x allowed k : ℕ) → minus x allowed ≡ 0 → has allowed k ≡ false → has x k ≡ false
+not_there x allowed k inside absent = by_case (has x k) refl
+  where
+    by_case : (b : Bool) → has x k ≡ b → has x k ≡ false
+    by_case true e = absurd (false≢true (sym absent ∙ has_from_minus-zero x allowed k inside e))
+    by_case false e = e
+
+moved_in : (x allowed k : ℕ) → minus x allowed ≡ 0 → has allowed k ≡ false → has (toggle x k) k ≡ true
+moved_in x allowed k inside absent = has-toggle_same x k ∙ ap not (not_there x allowed k inside absent)
+
+-- the allowed positions below a number are allowed
+pub earlier_within : (allowed i earlier : ℕ) → earlier ≡ set_of (has allowed) i → minus earlier allowed ≡ 0
+earlier_within allowed i earlier is = minus-zero_from earlier allowed (λ k there.
+    (and_parts _ _ (sym (has-set_of (has allowed) i k) ∙ ap (λ (x : ℕ). has x k) (sym is) ∙ there)).1)
+
+pub earlier_more : (allowed i earlier : ℕ) → earlier ≡ set_of (has allowed) i → has allowed i ≡ true → toggle earlier i ≡ set_of (has allowed) (i + 1)
+unfolding set_of
+earlier_more allowed i earlier is member = rw (add-one, member) (ap (λ (x : ℕ). toggle x i) is)
+
+pub earlier_same : (allowed i earlier : ℕ) → earlier ≡ set_of (has allowed) i → has allowed i ≡ false → earlier ≡ set_of (has allowed) (i + 1)
+unfolding set_of
+earlier_same allowed i earlier is absent = rw (add-one, absent) is
+
+pub earlier_none : (allowed : ℕ) → 0 ≡ set_of (has allowed) 0
+unfolding set_of
+earlier_none allowed = refl
+
+-- with a position tried alone and with each earlier one that is allowed
+pub beside_tried : (allowed : ℕ) (scale : ℤ) (gains : List ℤ) (firm : Firm) (from i earlier n : ℕ) (first second third : BundleValue) → minus from allowed ≡ 0 → i < n
+    → earlier ≡ set_of (has allowed) i → TriesOne (aimed allowed scale gains firm).worth (toggle from i) first second
+    → TriesOthers (aimed allowed scale gains firm).worth (toggle from i) earlier n second third → TriesBeside (aimed allowed scale gains firm).worth from i i first third
+beside_tried allowed scale gains firm from i earlier n first second third inside below is single pairs = record {
+  no_worse = no_worse-trans (aimed allowed scale gains firm).worth first second third single.no_worse pairs.no_worse;
+  tried = record {
+    single = λ other there. let h = single.tried other there in omega (arith, ints, h, pairs.no_worse.kept);
+    pair = λ k other before there. by_case k other before there (has allowed k) refl;
+  };
+}
+  where
+    by_case : (k : ℕ) (other : ℤ) → k < i → (aimed allowed scale gains firm).worth (toggle (toggle from i) k) ≡ Some other → (b : Bool) → has allowed k ≡ b → other ≤ℤ third.value
+    by_case k other before there true member =
+        let listed : has earlier k ≡ true = ap (λ (x : ℕ). has x k) is ∙ has-set_of (has allowed) i k ∙ ap (λ (b : Bool). b && has allowed k) (lt-ltb k i before) ∙ member in
+        pairs.tried k other (omega (arith, before, below)) listed there
+    by_case k other before there false absent =
+        let apart : k ≢ i = λ e. (let p = e in absurd (omega (arith, before, p))) in
+        let out : has (toggle from i) k ≡ false = has-toggle_other from i k apart ∙ not_there from allowed k inside absent in
+        absurd (no_value_outside allowed scale gains firm (toggle (toggle from i) k) k other absent (has-toggle_same (toggle from i) k ∙ ap not out) there)
+
+-- a position that isn't allowed needs no trying
+pub beside_outside : (allowed : ℕ) (scale : ℤ) (gains : List ℤ) (firm : Firm) (from i : ℕ) (found : BundleValue) → minus from allowed ≡ 0 → has allowed i ≡ false
+    → TriesBeside (aimed allowed scale gains firm).worth from i i found found
+beside_outside allowed scale gains firm from i found inside absent = record {
+  no_worse = record { valued = λ h. h; kept = omega (arith, ints) };
+  tried = record {
+    single = λ other there. absurd (no_value_outside allowed scale gains firm (toggle from i) i other absent (moved_in from allowed i inside absent) there);
+    pair = λ k other before there.
+        let apart : i ≢ k = λ e. (let p = e in absurd (omega (arith, before, p))) in
+        absurd (no_value_outside allowed scale gains firm (toggle (toggle from i) k) i other absent
+        (has-toggle_other (toggle from i) k i apart ∙ moved_in from allowed i inside absent) there);
+  };
 }
 
 -- with one more position tried

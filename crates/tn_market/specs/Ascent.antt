@@ -1,5 +1,5 @@
 -- The search for a best bundle: what it compares, and how far it has looked.
-use Rattle.std.specs.Prelude.{◌≡◌, ℕ, ◌*◌, ◌^◌, ◌<◌, ◌≤◌, ℤ, pos, neg_ℤ, ◌+ℤ◌, ◌≤ℤ◌, List, length, All, Option, Some, if◌then◌else◌}
+use Rattle.std.specs.Prelude.{◌≡◌, ℕ, ◌*◌, ◌^◌, ◌<◌, ◌≤◌, ℤ, pos, neg_ℤ, ◌+ℤ◌, ◌≤ℤ◌, List, length, All, Option, Some, true, if◌then◌else◌}
 use Rattle.tn_base.specs.Sets.{has, toggle}
 use Rattle.tn_base.specs.Arcs.{IsAtMost}
 use Rattle.tn_base.specs.Firm.{Firm, plus_sum, among, payments, IsBest}
@@ -50,6 +50,11 @@ pub record IsNoWorse (value_of : ℕ → Option ℤ) (before after : BundleValue
 pub record TriesOne (value_of : ℕ → Option ℤ) (x : ℕ) (before after : BundleValue) : Type 0 where
   pub no_worse : IsNoWorse value_of before after
   pub tried : (other : ℤ) → value_of x ≡ Some other → other ≤ℤ after.value
+
+-- and none with one of the others below n toggled in x has more value
+pub record TriesOthers (value_of : ℕ → Option ℤ) (x others n : ℕ) (before after : BundleValue) : Type 0 where
+  pub no_worse : IsNoWorse value_of before after
+  pub tried : (k : ℕ) (other : ℤ) → k < n → has others k ≡ true → value_of (toggle x k) ≡ Some other → other ≤ℤ after.value
 
 -- and none with i toggled, or with i and one below j toggled, has more value
 pub record TriesBeside (value_of : ℕ → Option ℤ) (from i j : ℕ) (before after : BundleValue) : Type 0 where

@@ -2,15 +2,16 @@
 //! until none gains. For a firm that meets exchange it then stands at a best bundle, wherever it began (Murota, Discrete
 //! Convex Analysis, 2003, on the maximisation of M-natural concave functions).
 
-ghost use Rattle.std.specs.Prelude.{◌≡◌, ◌*◌, ◌<◌, ◌≤◌, ◌≤ℤ◌, ◌+ℤ◌, ◌*ℤ◌, pos, if◌then◌else◌, IfSome, Some};
+ghost use Rattle.std.specs.Prelude.{◌≡◌, ◌*◌, ◌<◌, ◌≤◌, ◌≤ℤ◌, ◌+ℤ◌, ◌*ℤ◌, pos, if◌then◌else◌, length, IfSome, Some};
 ghost use Rattle.tn_base.specs.Arcs.{IsAtMost};
-ghost use Rattle.tn_base.specs.Sets.{has, sum_over};
+ghost use Rattle.tn_base.specs.Sets.{has, minus, sum_over};
 ghost use Rattle.tn_base.specs.Firm.{IsBest};
-ghost use Rattle.tn_market.specs.Ascent.{aimed, IsAim, IsValued, StaysAt, TriesOne, TriesBeside, TriesNearby};
+ghost use Rattle.tn_market.specs.Ascent.{aimed, IsAim, IsValued, StaysAt, TriesOne, TriesOthers, TriesNearby};
 ghost use Rattle.tn_plain_data.specs.Prices.{price_at};
 ghost use Rattle.tn_market.specs.Widths.{most_worth, most_scale, most_own, most_utility, most_aimed};
 
 use crate::bundle_value::BundleValue;
+use crate::oracle::MOST_OWN;
 use crate::valuation::Valuation;
 use tn_base::{Bundle, Steps};
 
@@ -60,6 +61,19 @@ impl<V: Valuation> Aim<'_, V> {
         total
     }
 
+    /// The value of a bundle within the allowed positions by its worth, None where it is impossible.
+    fn value_by(&self, x: Bundle, worth: Option<i128>) -> Option<i128>
+        requires within { minus x self.now.allowed ≡ 0 }
+        requires worth { worth ≡ (V.firm self.now.firm.now).worth x }
+        ensures value { result ≡ (aimed self.now.allowed self.now.scale self.now.gains.now (V.firm self.now.firm.now)).worth x }
+        ensures small { IfSome result (λ value. IsAtMost value most_aimed) }
+    {
+        match worth {
+            Some(worth) => Some(valued(self.scale, worth, self.gain(x))),
+            None => None,
+        }
+    }
+
     /// The value of a bundle, None where it is impossible or not within the allowed positions. It asks for one worth at
     /// most.
     pub fn value(&self, x: Bundle, steps: &mut Steps<V::Mark>) -> Option<i128>
@@ -69,15 +83,17 @@ impl<V: Valuation> Aim<'_, V> {
         if x.minus(self.allowed) != Bundle::empty() {
             return None;
         }
-        let worth = self.firm.value(x, steps)?;
-        Some(valued(self.scale, worth, self.gain(x)))
+        self.value_by(x, self.firm.value(x, steps))
     }
 
-    /// The better of a bundle found so far and another one: the other only where it is possible and has more.
-    fn better(&self, best: BundleValue, other: Bundle, steps: &mut Steps<V::Mark>) -> BundleValue
+    /// The better of a bundle found so far and another one within the allowed positions, by its worth: the other only
+    /// where it is possible and has more.
+    fn better(&self, best: BundleValue, other: Bundle, worth: Option<i128>) -> BundleValue
+        requires within { minus other self.now.allowed ≡ 0 }
+        requires worth { worth ≡ (V.firm self.now.firm.now).worth other }
         ensures { TriesOne (aimed self.now.allowed self.now.scale self.now.gains.now (V.firm self.now.firm.now)).worth other best result }
     {
-        match self.value(other, steps) {
+        match self.value_by(other, worth) {
             Some(value) if value > best.value => BundleValue {
                 bundle: other,
                 value,
@@ -86,33 +102,53 @@ impl<V: Valuation> Aim<'_, V> {
         }
     }
 
-    /// The better of a bundle found so far and those with position `i` toggled, alone or with an earlier position.
-    fn best_beside(
+    /// The better of a bundle found so far and those that have one of the other positions toggled in the bundle `x`: by
+    /// one row of worths, for which the slice has room.
+    fn best_with(
         &self,
         best: BundleValue,
-        from: Bundle,
-        i: u32,
+        x: Bundle,
+        others: Bundle,
+        worths: &mut [Option<i128>],
         steps: &mut Steps<V::Mark>,
     ) -> BundleValue
-        requires { i < (V.firm self.now.firm.now).count }
-        ensures { TriesBeside (aimed self.now.allowed self.now.scale self.now.gains.now (V.firm self.now.firm.now)).worth from i i best result }
+        requires within { minus x self.now.allowed ≡ 0 }
+        requires others { minus others self.now.allowed ≡ 0 }
+        requires room { (V.firm self.now.firm.now).count ≤ length worths.old }
+        ensures tried { TriesOthers (aimed self.now.allowed self.now.scale self.now.gains.now (V.firm self.now.firm.now)).worth x others
+            (V.firm self.now.firm.now).count best result }
+        ensures room { length worths.new ≡ length worths.old }
     {
-        let toggled = from.toggle(i);
-        let mut best = self.better(best, toggled, steps);
-        for j in 0..i {
-            best = self.better(best, toggled.toggle(j), steps);
+        self.firm.row(x, others, worths, steps);
+        let mut best = best;
+        for k in 0..self.firm.trades() {
+            if others.has(k) {
+                best = self.better(best, x.toggle(k), worths[k as usize]);
+            }
         }
         best
     }
 
-    /// The best of a bundle and those with one or two of its positions toggled.
+    /// The best of a bundle and those with one or two of its positions toggled: by the row of the bundle, and by the row
+    /// of each bundle with one toggled.
     fn step(&self, from: &BundleValue, steps: &mut Steps<V::Mark>) -> BundleValue
+        requires within { minus from.now.bundle self.now.allowed ≡ 0 }
         ensures { TriesNearby (aimed self.now.allowed self.now.scale self.now.gains.now (V.firm self.now.firm.now)).worth
             from.now.bundle (V.firm self.now.firm.now).count from.now result }
     {
+        let mut singles = [None; MOST_OWN];
+        self.firm
+            .row(from.bundle, self.allowed, &mut singles, steps);
+        let mut pairs = [None; MOST_OWN];
         let mut best = *from;
+        let mut earlier = Bundle::empty();
         for i in 0..self.firm.trades() {
-            best = self.best_beside(best, from.bundle, i, steps);
+            if self.allowed.has(i) {
+                let toggled = from.bundle.toggle(i);
+                best = self.better(best, toggled, singles[i as usize]);
+                best = self.best_with(best, toggled, earlier, &mut pairs, steps);
+                earlier = earlier.toggle(i);
+            }
         }
         best
     }

@@ -1,4 +1,4 @@
-ghost use Rattle.std.specs.Prelude.{◌≡◌, ◌≤◌, pos, ◌≤ℤ◌, ◌-ℤ◌, ◌*ℤ◌};
+ghost use Rattle.std.specs.Prelude.{◌≡◌, ◌^◌, ◌<◌, ◌≤◌, pos, ◌≤ℤ◌, ◌-ℤ◌, ◌*ℤ◌};
 ghost use Rattle.tn_base.specs.Arcs.{IsAtMost};
 ghost use Rattle.tn_market.specs.Levied.{levied, levied_limit, IsLevy};
 ghost use Rattle.tn_market.specs.Widths.{most_limit};
@@ -35,6 +35,19 @@ impl<'a, V: Valuation> Levied<'a, V> {
             tax,
         }
     }
+
+    /// What an own bundle is worth under the levy, by what it is worth without.
+    fn levied_worth(&self, x: Bundle, worth: Option<i128>) -> Option<i128>
+        requires own { x < 2 ^ (V.firm self.now.inner.now).count }
+        requires worth { worth ≡ (V.firm self.now.inner.now).worth x }
+        ensures { result ≡ (levied self.now.scale self.now.taxed self.now.tax (V.firm self.now.inner.now)).worth x }
+    {
+        let taxed = x.meet(Bundle::from_bits(self.taxed));
+        match worth {
+            Some(worth) => Some(after_tax(self.scale, worth, self.tax, taxed.count())),
+            None => None,
+        }
+    }
 }
 
 /// A worth counted `scale` times, less the tax for each of `count` positions.
@@ -68,9 +81,22 @@ impl<V: Valuation> Valuation for Levied<'_, V> {
     }
 
     fn value(&self, x: Bundle, steps: &mut Steps<V::Mark>) -> Option<i128> {
-        let worth = self.inner.value(x, steps)?;
-        let taxed = x.meet(Bundle::from_bits(self.taxed));
-        Some(after_tax(self.scale, worth, self.tax, taxed.count()))
+        self.levied_worth(x, self.inner.value(x, steps))
+    }
+
+    fn row(
+        &self,
+        x: Bundle,
+        wanted: Bundle,
+        worths: &mut [Option<i128>],
+        steps: &mut Steps<V::Mark>,
+    ) {
+        self.inner.row(x, wanted, worths, steps);
+        for k in 0..self.inner.trades() {
+            if wanted.has(k) {
+                worths[k as usize] = self.levied_worth(x.toggle(k), worths[k as usize]);
+            }
+        }
     }
 
     ghost lawful = { λ v. levied_laws v.scale v.tax v.taxed (V.limit v.inner.now) (V.firm v.inner.now) v.levy (V.lawful v.inner.now) };

@@ -1,8 +1,8 @@
-ghost use Rattle.std.specs.Prelude.{◌≡◌, ◌<◌, pos, unsigned_abs};
+ghost use Rattle.std.specs.Prelude.{◌≡◌, ◌+◌, ◌<◌, ◌≤◌, length, pos, unsigned_abs};
 ghost use Rattle.tn_base.specs.Arcs.{IsAtMost};
-ghost use Rattle.tn_base.specs.Sets.{has};
+ghost use Rattle.tn_base.specs.Sets.{has, size};
 ghost use Rattle.tn_market.specs.Outside.{outside, outside_sum};
-ghost use Rattle.tn_market.specs.Valued.{side_at};
+ghost use Rattle.tn_market.specs.Valued.{side_at, HasToggledWorths};
 ghost use Rattle.tn_market.specs.Widths.{most_outside_price};
 
 use crate::levied::Levied;
@@ -55,6 +55,37 @@ impl Outside {
         let sold = if x.has(1) { self.price } else { 0 };
         bought - sold
     }
+
+    /// The worth of a bundle, which is always possible.
+    fn worth(&self, x: Bundle) -> Option<i128>
+        requires { x < 4 }
+        ensures { result ≡ (outside self.now.price).worth x }
+    {
+        Some(self.value(x))
+    }
+
+    /// Writes a row of worths.
+    fn row<L>(
+        &self,
+        x: Bundle,
+        wanted: Bundle,
+        worths: &mut [Option<i128>],
+        steps: &mut Steps<L>,
+    )
+        requires own { x < 4 }
+        requires own_wanted { wanted < 4 }
+        requires room { 2 ≤ length worths.old }
+        ensures worths { HasToggledWorths (outside self.now.price).worth x wanted worths.new }
+        ensures room { length worths.new ≡ length worths.old }
+        ensures asked { steps.new ≡ steps.old + size wanted }
+    {
+        for k in 0..2 {
+            if wanted.has(k) {
+                steps.tick();
+                worths[k as usize] = self.worth(x.toggle(k));
+            }
+        }
+    }
 }
 
 /// A firm of a residual market.
@@ -103,6 +134,19 @@ impl<V: Valuation> Valuation for Party<'_, V> {
                 steps.tick();
                 Some(outside.value(x))
             }
+        }
+    }
+
+    fn row(
+        &self,
+        x: Bundle,
+        wanted: Bundle,
+        worths: &mut [Option<i128>],
+        steps: &mut Steps<V::Mark>,
+    ) {
+        match self {
+            Party::Firm(firm) => firm.row(x, wanted, worths, steps),
+            Party::Outside(outside) => outside.row(x, wanted, worths, steps),
         }
     }
 

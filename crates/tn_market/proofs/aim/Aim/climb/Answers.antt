@@ -4,8 +4,15 @@ use mir.Syntax.{w128}
 use mir.Val.{SFits}
 use Rattle.tn_market.specs.Valued.{meets_exchange}
 use Rattle.tn_market.specs.Ascent.{aimed}
-use Rattle.tn_market.proofs.AscentLemmas.{aimed_exchanges, settled, le_from_test, lt_from_test, stays}
+use Rattle.tn_market.proofs.AscentLemmas.{aimed_exchanges, settled, le_from_test, lt_from_test, stays, valued_within}
 use Rattle.tn_market.proofs.aim.Aim.climb.Goals as goal
+
+pub step-next-requires : goal.step-next-requires
+step-next-requires g c =
+    let aim = c.args.self.now in
+    record {
+      within = valued_within aim.allowed aim.scale aim.gains.now (g.V.Valuation.firm aim.firm.now) c.loop-found.found.bundle c.loop-found.found.value c.loop-found.invariant.valued;
+    }
 
 pub loop-found-preserved : goal.loop-found-preserved
 loop-found-preserved g c =
