@@ -3,20 +3,21 @@ use Rattle.std.proofs.Common.{◌≡◌, ◌≢◌, ℕ, zero, suc, ◌+◌, ◌
 use Rattle.std.specs.Prelude.{◌≤ℤ◌, ◌<ℤ◌, slice_get, option_map, IfSome}
 use Rattle.std.proofs.lemmas.Int.{ints}
 use Rattle.std.proofs.lemmas.Bool.{cases_eq, false≢true}
-use Rattle.std.proofs.lemmas.Option.{same_Some, slice_get_within, get_or_from_slice_get}
+use Rattle.std.proofs.lemmas.Option.{none-some, same_Some, slice_get_within, get_or_from_slice_get}
 use mir.Syntax.{w128}
 use mir.Val.{SFits, of_z, to_z}
 use Rattle.tn_base.specs.Arcs.{IsAtMost}
-use Rattle.tn_base.specs.Sets.{has, toggle, sum_over}
-use Rattle.tn_base.proofs.SetLemmas.{has-toggle_same, has-toggle_other, toggle-toggle, toggle_comm}
+use Rattle.tn_base.specs.Sets.{has, toggle, meet, minus, sum_over}
+use Rattle.tn_base.proofs.SetLemmas.{has-meet, has-minus, has-toggle_same, has-toggle_other, toggle-toggle, toggle_comm}
 use Rattle.tn_base.proofs.SizeLemmas.{size_le}
 use Rattle.tn_base.proofs.SumLemmas.{sum_over-empty, sum_over-toggle_out}
 use Rattle.tn_market.specs.Reduced.{greater}
 use Rattle.tn_dealer.specs.declared.pair.Pair.{Pair}
 use Rattle.tn_dealer.specs.Pairs.{matched_worth, IsOwnPair}
-use Rattle.tn_dealer.specs.Certificates.{bound_of, KeepsPair, KeepsPairs, TakesIn, MayTakeIn}
+use Rattle.tn_dealer.specs.Certificates.{bound_of, KeepsPairs, KeepsAt, KeepsBeside, TakesAt, MayTake}
+use Rattle.tn_dealer.specs.Costs.{AreCosts, cost_at, far}
 use Rattle.tn_law.proofs.PairLemmas.{IsWorth}
-use Rattle.tn_dealer.specs.WorthLemmas.{AreOwnPairs, own_rest, matched_left, matched_right, matched_from, matched_none, matched_empty, matched_small}
+use Rattle.tn_dealer.specs.WorthLemmas.{AreOwnPairs, Paired, own_rest, matched_left, matched_right, matched_from, matched_none, matched_empty, matched_small}
 use Rattle.tn_market.specs.Widths.{most_own, most_worth}
 use Rattle.tn_base.specs.Widths.{most_amount}
 
@@ -29,10 +30,6 @@ sum_over-next c k x = rw add-one refl
 pub sum_over-none : (c : ℕ → ℤ) (x : ℕ) → pos 0 ≡ sum_over c 0 x
 unfolding sum_over
 sum_over-none c x = refl
-
-pub keeps_all : (priced : Bool) (number : ℕ → ℤ) (x n : ℕ) (pairs : List Pair) → length pairs ≤ n
-    → ((j : ℕ) (pair : Pair) → j < n → slice_get pairs j ≡ Some pair → KeepsPair priced number x pair) → KeepsPairs priced number x pairs
-keeps_all priced number x n pairs end keeps j pair is = let inside = slice_get_within pairs j pair is in keeps j pair (omega (arith, inside, end)) is
 
 -- ---- weak duality
 
@@ -115,7 +112,7 @@ shows_none count buys number pairs few own x more keeps = by (matched_worth pair
     by None e = sym e
     by (Some a) e = absurd (let most = weak_duality count buys false number pairs few own x a e keeps in omega (arith, ints, most, more))
 
--- ---- pairs that are taken in, from the last one to the first
+-- ---- pairs that are taken in
 
 pub no_pairs_taken : (pairs : List Pair) → IsWorth (matched_worth pairs) 0 (neg_ℤ (pos 0))
 no_pairs_taken pairs = record { value = pos 0; is = matched_empty pairs; enough = omega (arith, ints) }
@@ -128,7 +125,7 @@ taken_left pair pairs x a worth =
     record { value = found.value; is = found.is; enough = omega (arith, ints, p, q) }
 
 taken_in : (count buys : ℕ) (pair : Pair) (pairs : List Pair) (x : ℕ) (cost : ℤ) (next : ℕ) (next_cost : ℤ) → IsOwnPair count buys pair
-    → TakesIn pair x cost next next_cost → IsWorth (matched_worth pairs) x (neg_ℤ cost) → IsWorth (matched_worth (pair ∷ pairs)) next (neg_ℤ next_cost)
+    → TakesAt pair.cost pair.buy pair.sell x cost next next_cost → IsWorth (matched_worth pairs) x (neg_ℤ cost) → IsWorth (matched_worth (pair ∷ pairs)) next (neg_ℤ next_cost)
 taken_in count buys pair pairs x cost next next_cost own takes worth =
     let apart : pair.sell ≢ pair.buy = λ e. false≢true (sym own.sold ∙ ap (has buys) e ∙ own.bought) in
     let buy : has (toggle (toggle x pair.buy) pair.sell) pair.buy ≡ true =
@@ -149,18 +146,63 @@ drop_at pairs k pair inside is =
     let there : get_or pairs k pair ≡ pair = get_or_from_slice_get pairs k pair pair is in
     drop-cons pairs k pair inside ∙ ap (λ p. p ∷ drop (suc k) pairs) there ∙ ap (λ (j : ℕ). pair ∷ drop j pairs) (sym (add-one k))
 
--- one more pair taken in, or left out
-pub taken_next : (count buys : ℕ) (pairs : List Pair) (k : ℕ) (pair : Pair) → AreOwnPairs count buys pairs → k < length pairs → slice_get pairs k ≡ Some pair
-    → (x : ℕ) (cost : ℤ) (next : ℕ) (next_cost : ℤ) → MayTakeIn pair x cost next next_cost
-    → IsWorth (matched_worth (drop (k + 1) pairs)) x (neg_ℤ cost) → IsWorth (matched_worth (drop k pairs)) next (neg_ℤ next_cost)
-taken_next count buys pairs k pair own inside is x cost next next_cost either worth =
-    subst (λ ps. IsWorth (matched_worth ps) next (neg_ℤ next_cost)) (sym (drop_at pairs k pair inside is)) (by either)
+-- and beside the first pair of a list, which the bundle has matched
+taken_beside : (first pair : Pair) (pairs : List Pair) (x : ℕ) (cost : ℤ) (next : ℕ) (next_cost value : ℤ) → TakesAt pair.cost pair.buy pair.sell x cost next next_cost
+    → neg_ℤ cost ≤ℤ value → (q : Paired first (matched_worth pairs) x value)
+    → IsWorth (matched_worth pairs) (toggle (toggle (toggle (toggle x first.buy) first.sell) pair.buy) pair.sell) (neg_ℤ (neg_ℤ q.value +ℤ pair.cost))
+    → IsWorth (matched_worth (first ∷ pairs)) next (neg_ℤ next_cost)
+taken_beside first pair pairs x cost next next_cost value takes enough q rest =
+    let buy : has next first.buy ≡ true =
+    ap (λ (z : ℕ). has z first.buy) takes.bundle_is ∙ has-toggle_other (toggle x pair.buy) pair.sell first.buy (apart first.buy pair.sell q.has_buy takes.no_sell)
+    ∙ has-toggle_other x pair.buy first.buy (apart first.buy pair.buy q.has_buy takes.no_buy) ∙ q.has_buy in
+    let sell : has next first.sell ≡ true =
+    ap (λ (z : ℕ). has z first.sell) takes.bundle_is ∙ has-toggle_other (toggle x pair.buy) pair.sell first.sell (apart first.sell pair.sell q.has_sell takes.no_sell)
+    ∙ has-toggle_other x pair.buy first.sell (apart first.sell pair.buy q.has_sell takes.no_buy) ∙ q.has_sell in
+    let back : toggle (toggle next first.buy) first.sell ≡ toggle (toggle (toggle (toggle x first.buy) first.sell) pair.buy) pair.sell =
+    ap (λ (z : ℕ). toggle (toggle z first.buy) first.sell) takes.bundle_is
+    ∙ ap (λ (z : ℕ). toggle z first.sell) (toggle_comm (toggle x pair.buy) pair.sell first.buy)
+    ∙ ap (λ (z : ℕ). toggle (toggle z pair.sell) first.sell) (toggle_comm x pair.buy first.buy)
+    ∙ toggle_comm (toggle (toggle x first.buy) pair.buy) pair.sell first.sell
+    ∙ ap (λ (z : ℕ). toggle z pair.sell) (toggle_comm (toggle x first.buy) pair.buy first.sell) in
+    let found = matched_right first pairs next rest.value buy sell (ap (matched_worth pairs) back ∙ rest.is) in
+    let p = rest.enough in
+    let less = q.less in
+    let more = takes.cost_is in
+    let last = found.enough in
+    record { value = found.value; is = found.is; enough = omega (arith, ints, p, less, more, last, enough) }
   where
-    by : MayTakeIn pair x cost next next_cost → IsWorth (matched_worth (pair ∷ drop (k + 1) pairs)) next (neg_ℤ next_cost)
-    by (inl same) =
-        subst (λ (z : ℕ). IsWorth (matched_worth (pair ∷ drop (k + 1) pairs)) z (neg_ℤ next_cost)) (sym same.0)
-        (subst (λ (z : ℤ). IsWorth (matched_worth (pair ∷ drop (k + 1) pairs)) x (neg_ℤ z)) (sym same.1) (taken_left pair (drop (k + 1) pairs) x (neg_ℤ cost) worth))
-    by (inr takes) = taken_in count buys pair (drop (k + 1) pairs) x cost next next_cost (own k pair is) takes worth
+    apart : (t s : ℕ) → has x t ≡ true → has x s ≡ false → t ≢ s
+    apart t s there absent e = false≢true (sym absent ∙ ap (has x) (sym e) ∙ there)
+
+-- a listed pair taken in
+pub taken_listed : (count buys : ℕ) (pairs : List Pair) → AreOwnPairs count buys pairs → (k : ℕ) (pair : Pair) → slice_get pairs k ≡ Some pair
+    → (x : ℕ) (cost : ℤ) (next : ℕ) (next_cost : ℤ) → TakesAt pair.cost pair.buy pair.sell x cost next next_cost
+    → IsWorth (matched_worth pairs) x (neg_ℤ cost) → IsWorth (matched_worth pairs) next (neg_ℤ next_cost)
+taken_listed count buys [] own k pair is x cost next next_cost takes worth = absurd (none-some pair is)
+taken_listed count buys (first ∷ pairs) own zero pair is x cost next next_cost takes worth = elim (matched_from first pairs x worth.value worth.is) [
+  | inl p ↦ subst (λ q. IsWorth (matched_worth (q ∷ pairs)) next (neg_ℤ next_cost)) (sym (same_Some first pair is))
+      (taken_in count buys pair pairs x cost next next_cost (own 0 pair is) takes (record { value = worth.value; is = p; enough = worth.enough }))
+  | inr q ↦ absurd (false≢true (sym takes.no_buy ∙ ap (λ p. has x p.buy) (sym (same_Some first pair is)) ∙ q.has_buy))
+]
+taken_listed count buys (first ∷ pairs) own (suc k) pair is x cost next next_cost takes worth = elim (matched_from first pairs x worth.value worth.is) [
+  | inl p ↦ taken_left first pairs next (neg_ℤ next_cost)
+      (taken_listed count buys pairs (own_rest count buys first pairs own) k pair is x cost next next_cost takes (record { value = worth.value; is = p; enough = worth.enough }))
+  | inr q ↦
+      let out_buy : has (toggle (toggle x first.buy) first.sell) pair.buy ≡ false =
+      has-toggle_other (toggle x first.buy) first.sell pair.buy (apart pair.buy first.sell q.has_sell takes.no_buy)
+      ∙ has-toggle_other x first.buy pair.buy (apart pair.buy first.buy q.has_buy takes.no_buy) ∙ takes.no_buy in
+      let out_sell : has (toggle (toggle x first.buy) first.sell) pair.sell ≡ false =
+      has-toggle_other (toggle x first.buy) first.sell pair.sell (apart pair.sell first.sell q.has_sell takes.no_sell)
+      ∙ has-toggle_other x first.buy pair.sell (apart pair.sell first.buy q.has_buy takes.no_sell) ∙ takes.no_sell in
+      taken_beside first pair pairs x cost next next_cost worth.value takes worth.enough q
+      (taken_listed count buys pairs (own_rest count buys first pairs own) k pair is (toggle (toggle x first.buy) first.sell) (neg_ℤ q.value)
+      (toggle (toggle (toggle (toggle x first.buy) first.sell) pair.buy) pair.sell) (neg_ℤ q.value +ℤ pair.cost)
+      (record { near = takes.near; no_buy = out_buy; no_sell = out_sell; bundle_is = refl; cost_is = refl })
+      (record { value = q.value; is = q.is; enough = omega (arith, ints) }))
+]
+  where
+    apart : (t s : ℕ) → has x s ≡ true → has x t ≡ false → t ≢ s
+    apart t s there absent e = false≢true (sym absent ∙ ap (has x) e ∙ there)
 
 -- ---- the definition, pair by pair
 
@@ -202,41 +244,79 @@ small_on_the_way count buys k pairs own x a within is =
 
 -- ---- steps of the code
 
-pub keeps_more : (priced : Bool) (number : ℕ → ℤ) (x k : ℕ) (pairs : List Pair) (pair : Pair) → slice_get pairs k ≡ Some pair → KeepsPair priced number x pair
-    → ((j : ℕ) (next : Pair) → j < k → slice_get pairs j ≡ Some next → KeepsPair priced number x next)
-    → (j : ℕ) (next : Pair) → j < k + 1 → slice_get pairs j ≡ Some next → KeepsPair priced number x next
-keeps_more priced number x k pairs pair is here before j next below next_is = elim (cases_eq j k) [
-  | inl e ↦
-      let same : pair ≡ next = same_Some pair next (sym is ∙ ap (slice_get pairs) (sym e) ∙ next_is) in
-      subst (KeepsPair priced number x) same here
-  | inr other ↦ before j next (omega (arith, below, other)) next_is
-]
+-- what is taken in at a place is a listed pair
+takes_pair : (pair : Pair) (here : ℤ) (buy sell x : ℕ) (cost : ℤ) (next : ℕ) (next_cost : ℤ) → pair.buy ≡ buy → pair.sell ≡ sell → pair.cost ≡ here
+    → TakesAt here buy sell x cost next next_cost → TakesAt pair.cost pair.buy pair.sell x cost next next_cost
+takes_pair pair here buy sell x cost next next_cost same_buy same_sell same_cost takes = record {
+  near = subst (λ (z : ℤ). z <ℤ far) (sym same_cost) takes.near;
+  no_buy = ap (has x) same_buy ∙ takes.no_buy;
+  no_sell = ap (has x) same_sell ∙ takes.no_sell;
+  bundle_is = takes.bundle_is ∙ ap (λ (z : ℕ). toggle (toggle x z) sell) (sym same_buy) ∙ ap (λ (z : ℕ). toggle (toggle x pair.buy) z) (sym same_sell);
+  cost_is = takes.cost_is ∙ ap (λ (z : ℤ). cost +ℤ z) (sym same_cost);
+}
 
-pub taken_step : (count buys : ℕ) (pairs : List Pair) (done i : ℕ) (pair : Pair) → AreOwnPairs count buys pairs → done < length pairs → i ≡ length pairs - 1 - done
-    → slice_get pairs i ≡ Some pair → (x : ℕ) (cost : ℤ) (next : ℕ) (next_cost : ℤ) → MayTakeIn pair x cost next next_cost
-    → IsWorth (matched_worth (drop (length pairs - done) pairs)) x (neg_ℤ cost) → IsWorth (matched_worth (drop (length pairs - (done + 1)) pairs)) next (neg_ℤ next_cost)
-taken_step count buys pairs done i pair own below e is x cost next next_cost may worth =
-    let before : length pairs - done ≡ i + 1 = omega (arith, below, e) in
-    let after : i ≡ length pairs - (done + 1) = omega (arith, below, e) in
-    let inside : i < length pairs = omega (arith, below, e) in
-    subst (λ (k : ℕ). IsWorth (matched_worth (drop k pairs)) next (neg_ℤ next_cost)) after
-    (taken_next count buys pairs i pair own inside is x cost next next_cost may
-    (subst (λ (k : ℕ). IsWorth (matched_worth (drop k pairs)) x (neg_ℤ cost)) before worth))
+pub taken_more : (count buys : ℕ) (pairs : List Pair) (costs : List ℤ) → AreOwnPairs count buys pairs → AreCosts pairs costs
+    → (x : ℕ) (cost : ℤ) (next : ℕ) (next_cost : ℤ) → MayTake costs x cost next next_cost
+    → IsWorth (matched_worth pairs) x (neg_ℤ cost) → IsWorth (matched_worth pairs) next (neg_ℤ next_cost)
+taken_more count buys pairs costs own are x cost next next_cost (inl same) worth =
+    subst (λ (z : ℕ). IsWorth (matched_worth pairs) z (neg_ℤ next_cost)) (sym same.0)
+    (subst (λ (z : ℤ). IsWorth (matched_worth pairs) x (neg_ℤ z)) (sym same.1) worth)
+taken_more count buys pairs costs own are x cost next next_cost (inr some) worth =
+    let listed = are.only some.buy some.sell some.buy_near some.sell_near some.takes.near in
+    taken_listed count buys pairs own listed.at listed.pair listed.is x cost next next_cost
+    (takes_pair listed.pair (cost_at costs some.buy some.sell) some.buy some.sell x cost next next_cost listed.same_buy listed.same_sell listed.same_cost some.takes) worth
 
-pub taken_small : (pair : Pair) (x : ℕ) (cost : ℤ) (next : ℕ) (next_cost : ℤ) (done : ℕ) → IsAtMost pair.cost most_amount → IsAtMost cost (done * most_amount)
-    → MayTakeIn pair x cost next next_cost → IsAtMost next_cost ((done + 1) * most_amount)
-taken_small pair x cost next next_cost done small before (inl same) =
+pub taken_small : (count buys : ℕ) (pairs : List Pair) (costs : List ℤ) → AreOwnPairs count buys pairs → AreCosts pairs costs
+    → (x : ℕ) (cost : ℤ) (next : ℕ) (next_cost : ℤ) (done : ℕ) → IsAtMost cost (done * most_amount) → MayTake costs x cost next next_cost
+    → IsAtMost next_cost ((done + 1) * most_amount)
+taken_small count buys pairs costs own are x cost next next_cost done before (inl same) =
     let p = before.low in
     let q = before.high in
     let e = same.1 in
     record { low = omega (arith, ints, p, e); high = omega (arith, ints, q, e) }
-taken_small pair x cost next next_cost done small before (inr takes) =
+taken_small count buys pairs costs own are x cost next next_cost done before (inr some) =
+    let listed = are.only some.buy some.sell some.buy_near some.sell_near some.takes.near in
+    let small = (own listed.at listed.pair listed.is).small in
     let p = before.low in
     let q = before.high in
     let r = small.low in
     let s = small.high in
-    let e = takes.cost_is in
-    record { low = omega (arith, ints, p, r, e); high = omega (arith, ints, q, s, e) }
+    let is = listed.same_cost in
+    let e = some.takes.cost_is in
+    record { low = omega (arith, ints, p, r, e, is); high = omega (arith, ints, q, s, e, is) }
+
+pub beside_more : (priced : Bool) (costs : List ℤ) (number : ℕ → ℤ) (sales buy k : ℕ) → KeepsBeside priced costs number sales buy k → KeepsAt priced costs number sales buy k
+    → KeepsBeside priced costs number sales buy (k + 1)
+beside_more priced costs number sales buy k before here sell below = elim (cases_eq sell k) [
+  | inl e ↦ subst (λ (s : ℕ). KeepsAt priced costs number sales buy s) (sym e) here
+  | inr d ↦ before sell (omega (arith, below, d))
+]
+
+pub keeps_more : (priced : Bool) (costs : List ℤ) (number : ℕ → ℤ) (purchases sales k : ℕ)
+    → ((buy : ℕ) → buy < k → has purchases buy ≡ true → KeepsBeside priced costs number sales buy most_own)
+    → (has purchases k ≡ true → KeepsBeside priced costs number sales k most_own)
+    → (buy : ℕ) → buy < k + 1 → has purchases buy ≡ true → KeepsBeside priced costs number sales buy most_own
+keeps_more priced costs number purchases sales k before here buy below member = elim (cases_eq buy k) [
+  | inl e ↦ subst (λ (b : ℕ). KeepsBeside priced costs number sales b most_own) (sym e) (here (ap (has purchases) (sym e) ∙ member))
+  | inr d ↦ before buy (omega (arith, below, d)) member
+]
+
+pub both_there : (a b : Bool) → a ≡ true → b ≡ true → (a && b) ≡ true
+both_there a b p q = ap (λ (t : Bool). t && b) p ∙ q
+
+-- where each purchase of the bundle keeps beside its sales, so does each pair
+pub keeps_listed : (count buys : ℕ) (pairs : List Pair) (costs : List ℤ) (priced : Bool) (number : ℕ → ℤ) (x : ℕ) → count ≤ most_own → AreOwnPairs count buys pairs → AreCosts pairs costs
+    → ((buy : ℕ) → buy < most_own → has (meet x buys) buy ≡ true → KeepsBeside priced costs number (minus x buys) buy most_own) → KeepsPairs priced number x pairs
+keeps_listed count buys pairs costs priced number x few own are keeps k pair is buy sell =
+    let here = own k pair is in
+    let buy_own = here.purchase in
+    let sell_own = here.sale in
+    let small = here.small.high in
+    let cost = are.each k pair (slice_get_within pairs k pair is) is in
+    let bought : has (meet x buys) pair.buy ≡ true = has-meet x buys pair.buy ∙ both_there _ _ buy here.bought in
+    let sold : has (minus x buys) pair.sell ≡ true = has-minus x buys pair.sell ∙ both_there _ _ sell (ap not here.sold) in
+    subst (λ (z : ℤ). (number pair.buy +ℤ number pair.sell) ≤ℤ (if priced then z else pos 0)) cost
+    (keeps pair.buy (omega (arith, few, buy_own)) bought pair.sell (omega (arith, few, sell_own)) sold (omega (arith, ints, cost, small)))
 
 drop_all : (pairs : List Pair) → drop (length pairs) pairs ≡ []
 drop_all [] = refl
@@ -257,9 +337,6 @@ pub with_is : (cost : ℤ) (g w l r : Option ℤ) (w' r' goal : Option ℤ) → 
     → greater w' (option_map (λ a. a -ℤ cost) r') ≡ goal → g ≡ goal
 with_is cost g w l r w' r' goal g_is l_is w_is r_is is =
     g_is ∙ ap (greater w) (l_is ∙ ap (option_map (λ a. a -ℤ cost)) r_is) ∙ ap (λ o. greater o (option_map (λ a. a -ℤ cost) r')) w_is ∙ is
-
-pub both_there : (a b : Bool) → a ≡ true → b ≡ true → (a && b) ≡ true
-both_there a b p q = ap (λ (t : Bool). t && b) p ∙ q
 
 pub first_out : (a b : Bool) → a ≡ false → (a && b) ≡ false
 first_out a b p = ap (λ (t : Bool). t && b) p

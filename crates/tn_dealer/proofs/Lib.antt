@@ -1,4 +1,5 @@
 pub mod MatchingLemmas
 pub mod RepeatLemmas
 pub mod CertificateLemmas
+pub mod CostLemmas
 pub mod TestLemmas

@@ -5,3 +5,4 @@ pub mod Firms
 pub mod WorthLemmas
 pub mod LawLemmas
 pub mod Certificates
+pub mod Costs

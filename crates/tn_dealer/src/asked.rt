@@ -3,7 +3,7 @@ ghost use Rattle.tn_dealer.specs.Firms.{firm_of};
 ghost use Rattle.tn_dealer.specs.LawLemmas.{dealer_laws};
 
 use crate::dealer::Dealer;
-use crate::search::{Spare, costs_of};
+use crate::search::Spare;
 use tn_base::{Asked, Bundle, Side, Steps};
 use tn_market::{MOST_WORTH, Oracle, Valuation};
 
@@ -32,7 +32,7 @@ impl Valuation for Dealer {
 
     fn value(&self, x: Bundle, steps: &mut Steps<Asked>) -> Option<i128> {
         steps.tick();
-        self.worth(x)
+        self.worth(&self.costs(), x)
     }
 
     fn row(
@@ -42,12 +42,12 @@ impl Valuation for Dealer {
         worths: &mut [Option<i128>],
         steps: &mut Steps<Asked>,
     ) {
-        let costs = costs_of(&self.pairs);
-        let spare = Spare::of(&costs, x, self.buys);
+        let costs = self.costs();
+        let spare = Spare::of(&costs, x, self.buys, wanted);
         for k in 0..self.trades {
             if wanted.has(k) {
                 steps.tick();
-                worths[k as usize] = self.toggled_worth(x, k, &spare);
+                worths[k as usize] = self.toggled_worth(&costs, x, k, &spare);
             }
         }
     }

@@ -16,6 +16,7 @@ pub struct Dealer {
     pub(crate) buys: Bundle,
     pub(crate) pairs: Vec<Pair>,
     ghost dealer: { IsDealer trades buys pairs.items },
+    ghost different: { AreDifferent pairs.items },
 }
 
 impl Dealer {

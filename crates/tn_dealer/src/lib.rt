@@ -3,6 +3,7 @@
 #![tactic(auto)]
 
 mod asked;
+mod costs;
 mod dealer;
 mod laws;
 mod pair;

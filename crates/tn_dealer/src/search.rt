@@ -1,95 +1,88 @@
-//! The search for a least matching: purchases are matched one at a time, each along a path of least cost (the Hungarian
-//! method: Kuhn, 1955; Jonker and Volgenant, 1987). Nothing rests on it: what it finds is a certificate that is tested.
+//! The search for a least matching: trades of one side are matched one at a time, each along a path of least cost (the
+//! Hungarian method: Kuhn, 1955; Jonker and Volgenant, 1987). Nothing rests on it: what it finds is a certificate that is
+//! tested.
 
 ghost use Rattle.std.specs.Prelude.{◌<◌, IfSome};
 ghost use Rattle.tn_market.specs.Widths.{most_own};
 
-use crate::pair::Pair;
+use crate::costs::{CELLS, FAR, POSITIONS, place};
 use tn_base::Bundle;
-use tn_market::MOST_OWN;
 
-/// How many positions there are.
-pub(crate) const POSITIONS: usize = MOST_OWN;
-
-/// The cost where no pair is listed, and the mate of a trade that has none.
-const FAR: i64 = i64::MAX;
-
+/// The mate of a trade that has none.
 const NONE: usize = POSITIONS;
 
-/// What the search found. Where all trades are matched, `mates` has the purchase that goes with each sale, and two numbers
-/// sum to at most the cost of a pair. Otherwise two numbers sum to at most 0 where a pair is listed, and those of all
-/// trades to more.
+/// What the search found. Where all trades are matched, `mates` has a trade of the first side for each trade of the second
+/// side, and two numbers sum to at most the cost of a pair. Otherwise two numbers sum to at most 0 where a pair is listed,
+/// and those of all trades to more.
 #[derive(Drop)]
 pub(crate) struct Certificate {
     pub(crate) matched: bool,
     pub(crate) numbers: [i64; POSITIONS],
+    /// The first side are the purchases, or the sales.
+    pub(crate) by_sale: bool,
     pub(crate) mates: [usize; POSITIONS],
 }
 
 /// The matching so far, with a number for each position (a potential).
 #[derive(Clone, Copy)]
 struct Matching<'a> {
-    costs: &'a [i64; POSITIONS * POSITIONS],
+    costs: &'a [i64; CELLS],
+    /// The first side are the purchases, or the sales.
+    by_sale: bool,
     numbers: [i64; POSITIONS],
+    /// For each trade of the second side that of the first.
     mates: [usize; POSITIONS],
-    sold_as: [usize; POSITIONS],
+    /// For each trade of the first side that of the second.
+    mated: [usize; POSITIONS],
 }
 
-/// What can be reached from a purchase by listed pairs and back by matched ones.
+/// What can be reached from a trade of the first side by listed pairs and back by matched ones: how far each trade of the
+/// second side is, by what costs exceed numbers, and from which one of the first side.
 #[derive(Drop)]
 struct Reach {
-    purchases: Bundle,
-    sales: Bundle,
-    slacks: [i64; POSITIONS],
+    seconds: Bundle,
+    distances: [i64; POSITIONS],
     from: [usize; POSITIONS],
 }
 
-/// A matching of a bundle that has one purchase more than sales: all sales are matched, and one purchase is left. With one
-/// trade toggled it is a short search away from a least matching.
+/// A matching of a bundle that has one trade more of the first side: all of the second side are matched, one of the first
+/// is left, and how far the others are from it is known, so that each bundle with one trade toggled has a least matching
+/// along one path.
 #[derive(Drop)]
 pub(crate) struct Spare<'a> {
-    bundle: Bundle,
-    buys: Bundle,
-    matching: Matching<'a>,
+    firsts: Bundle,
     left: usize,
+    matching: Matching<'a>,
+    reach: Reach,
 }
 
 /// A certificate for the bundle `x` of a firm that buys `buys`.
-pub(crate) fn search(pairs: &[Pair], x: Bundle, buys: Bundle) -> Certificate {
+pub(crate) fn search(costs: &[i64; CELLS], x: Bundle, buys: Bundle) -> Certificate {
     let purchases = x.meet(buys);
     let sales = x.minus(buys);
     if purchases.count() != sales.count() {
-        return uneven(purchases, sales);
+        return uneven(x, buys);
     }
-    let costs = costs_of(pairs);
-    let mut matching = Matching::new(&costs);
+    let mut matching = Matching::new(costs, false);
     for b in 0..POSITIONS {
         if purchases.has(b as u32) {
             if let Some(reach) = matching.extend(b, sales) {
-                return unmatched(reach.purchases, reach.sales);
+                return matching.unmatched(b, &reach);
             }
         }
     }
     matching.certificate()
 }
 
-/// More trades of one side than of the other.
-fn uneven(purchases: Bundle, sales: Bundle) -> Certificate {
+/// A certificate for a bundle that has more trades of one side than of the other.
+pub(crate) fn uneven(x: Bundle, buys: Bundle) -> Certificate {
+    let purchases = x.meet(buys);
+    let sales = x.minus(buys);
     if purchases.count() < sales.count() {
         unmatched(sales, purchases)
     } else {
         unmatched(purchases, sales)
     }
-}
-
-/// The costs by purchase, then by sale.
-pub(crate) fn costs_of(pairs: &[Pair]) -> [i64; POSITIONS * POSITIONS] {
-    let mut costs = [FAR; POSITIONS * POSITIONS];
-    for pair in pairs {
-        let place = (pair.buy as usize % POSITIONS) * POSITIONS + pair.sell as usize % POSITIONS;
-        costs[place] = i64::try_from(pair.cost).unwrap_or(FAR);
-    }
-    costs
 }
 
 /// More trades of one side than those of the other that they can be matched with.
@@ -106,32 +99,44 @@ fn unmatched(more: Bundle, fewer: Bundle) -> Certificate {
     Certificate {
         matched: false,
         numbers,
+        by_sale: false,
         mates: [NONE; POSITIONS],
     }
 }
 
-impl Reach {
-    /// The purchase alone is reached.
-    fn new(first: usize) -> Reach
-        requires { first < most_own }
+impl Certificate {
+    /// The purchase and the sale of the pair that a position of the second side is matched in; where it has no mate, one
+    /// of them is no position.
+    pub(crate) fn pair_at(&self, k: usize) -> (usize, usize)
+        requires { k < most_own }
     {
+        if self.by_sale {
+            (k, self.mates[k])
+        } else {
+            (self.mates[k], k)
+        }
+    }
+}
+
+impl Reach {
+    /// Nothing is reached.
+    fn new() -> Reach {
         Reach {
-            purchases: Bundle::empty().toggle(first as u32),
-            sales: Bundle::empty(),
-            slacks: [FAR; POSITIONS],
+            seconds: Bundle::empty(),
+            distances: [FAR; POSITIONS],
             from: [NONE; POSITIONS],
         }
     }
 
-    /// The sale that is nearest to what is reached, and how far it is.
+    /// The trade that is nearest of those not taken yet, and how far it is.
     fn nearest(&self) -> Option<(usize, i64)>
         ensures { IfSome result (λ found. found.0 < most_own) }
     {
         let mut nearest = None;
         let mut least = FAR;
         for s in 0..POSITIONS {
-            if !self.sales.has(s as u32) && self.slacks[s] < least {
-                least = self.slacks[s];
+            if self.distances[s] < least && !self.seconds.has(s as u32) {
+                least = self.distances[s];
                 nearest = Some((s, least));
             }
         }
@@ -141,12 +146,25 @@ impl Reach {
 
 impl<'a> Matching<'a> {
     /// Nothing is matched.
-    fn new(costs: &'a [i64; POSITIONS * POSITIONS]) -> Matching<'a> {
+    fn new(costs: &'a [i64; CELLS], by_sale: bool) -> Matching<'a> {
         Matching {
             costs,
+            by_sale,
             numbers: [0; POSITIONS],
             mates: [NONE; POSITIONS],
-            sold_as: [NONE; POSITIONS],
+            mated: [NONE; POSITIONS],
+        }
+    }
+
+    /// The cost of a trade of the first side and one of the second.
+    fn cost(&self, first: usize, second: usize) -> i64
+        requires first { first < most_own }
+        requires second { second < most_own }
+    {
+        if self.by_sale {
+            self.costs[place(second, first)]
+        } else {
+            self.costs[place(first, second)]
         }
     }
 
@@ -155,98 +173,131 @@ impl<'a> Matching<'a> {
         Certificate {
             matched: true,
             numbers: self.numbers,
+            by_sale: self.by_sale,
             mates: self.mates,
         }
     }
 
-    /// Takes a purchase out, so that its sale has no mate.
-    fn release(&mut self, purchase: usize)
-        requires { purchase < most_own }
+    /// The certificate of a bundle that has more trades of the first side than those of the second that can be reached from
+    /// `left`.
+    fn unmatched(&self, left: usize, reach: &Reach) -> Certificate
+        requires { left < most_own }
     {
-        let sale = self.sold_as[purchase];
-        if sale < POSITIONS {
-            self.mates[sale] = NONE;
-        }
-        self.sold_as[purchase] = NONE;
-    }
-
-    /// Takes a sale in, with the highest number that exceeds no cost with these purchases.
-    fn admit(&mut self, sale: usize, purchases: Bundle)
-        requires { sale < most_own }
-    {
-        let mut number = FAR;
-        for b in 0..POSITIONS {
-            let cost = self.costs[b * POSITIONS + sale];
-            if cost < FAR && purchases.has(b as u32) {
-                number = number.min(cost.wrapping_sub(self.numbers[b]));
+        let mut more = Bundle::empty().toggle(left as u32);
+        for s in 0..POSITIONS {
+            let first = self.mates[s];
+            if reach.seconds.has(s as u32) && first < POSITIONS {
+                more = more.toggle(first as u32);
             }
         }
-        self.numbers[sale] = if number < FAR { number } else { 0 };
+        unmatched(more, reach.seconds)
     }
 
-    /// Matches one purchase more, with one sale more. Where that can't be, it hands back what is reached.
-    fn extend(&mut self, first: usize, sales: Bundle) -> Option<Reach>
-        requires { first < most_own }
+    /// Takes a trade of the second side in, with the highest number that exceeds no cost with these of the first.
+    fn admit(&mut self, second: usize, firsts: Bundle)
+        requires { second < most_own }
     {
-        let mut reach = Reach::new(first);
-        let mut b = first;
+        let mut number = FAR;
+        for first in 0..POSITIONS {
+            if firsts.has(first as u32) {
+                let cost = self.cost(first, second);
+                if cost < FAR {
+                    number = number.min(cost.wrapping_sub(self.numbers[first]));
+                }
+            }
+        }
+        self.numbers[second] = if number < FAR { number } else { 0 };
+    }
+
+    /// Matches one trade of the first side more, with one of the second side more. Where that can't be, it hands back what
+    /// is reached.
+    fn extend(&mut self, left: usize, seconds: Bundle) -> Option<Reach>
+        requires { left < most_own }
+    {
+        let mut reach = Reach::new();
+        let mut first = left;
+        let mut so_far = 0;
         for _ in 0..=POSITIONS {
-            self.look(&mut reach, b, sales);
-            let Some((s, by)) = reach.nearest() else {
+            self.look(&mut reach, first, so_far, seconds);
+            let Some((s, distance)) = reach.nearest() else {
                 return Some(reach);
             };
-            self.shift(&mut reach, by);
-            reach.sales = reach.sales.toggle(s as u32);
-            b = self.mates[s];
-            if b >= POSITIONS {
+            if self.mates[s] >= POSITIONS {
+                self.shift(&reach, left, distance);
                 self.rematch(&reach, s);
                 return None;
             }
-            reach.purchases = reach.purchases.toggle(b as u32);
+            reach.seconds = reach.seconds.toggle(s as u32);
+            first = self.mates[s];
+            so_far = distance;
         }
         Some(reach)
     }
 
-    /// Looks from a purchase at the sales.
-    fn look(&self, reach: &mut Reach, b: usize, sales: Bundle) {
-        let b = b % POSITIONS;
+    /// What is reached from a trade of the first side, as far as it goes.
+    fn reach(&self, left: usize, seconds: Bundle) -> Reach {
+        let mut reach = Reach::new();
+        let mut first = left;
+        let mut so_far = 0;
+        for _ in 0..=POSITIONS {
+            self.look(&mut reach, first, so_far, seconds);
+            let Some((s, distance)) = reach.nearest() else {
+                return reach;
+            };
+            reach.seconds = reach.seconds.toggle(s as u32);
+            first = self.mates[s];
+            so_far = distance;
+        }
+        reach
+    }
+
+    /// Looks from a trade of the first side, which is so far away, at those of the second.
+    fn look(&self, reach: &mut Reach, first: usize, so_far: i64, seconds: Bundle) {
+        if first >= POSITIONS {
+            return;
+        }
+        let rest = seconds.minus(reach.seconds);
+        let base = so_far.wrapping_sub(self.numbers[first]);
         for s in 0..POSITIONS {
-            let cost = self.costs[b * POSITIONS + s];
-            if cost < FAR && sales.has(s as u32) && !reach.sales.has(s as u32) {
-                let slack = cost
-                    .wrapping_sub(self.numbers[b])
-                    .wrapping_sub(self.numbers[s]);
-                if slack < reach.slacks[s] {
-                    reach.slacks[s] = slack;
-                    reach.from[s] = b;
+            if rest.has(s as u32) {
+                let cost = self.cost(first, s);
+                let distance = base.wrapping_add(cost).wrapping_sub(self.numbers[s]);
+                if cost < FAR && distance < reach.distances[s] {
+                    reach.distances[s] = distance;
+                    reach.from[s] = first;
                 }
             }
         }
     }
 
-    /// Raises the numbers of the reached purchases, and lowers those of the reached sales.
-    fn shift(&mut self, reach: &mut Reach, by: i64) {
-        for k in 0..POSITIONS {
-            if reach.purchases.has(k as u32) {
-                self.numbers[k] = self.numbers[k].wrapping_add(by);
-            }
-            if reach.sales.has(k as u32) {
-                self.numbers[k] = self.numbers[k].wrapping_sub(by);
-            } else if reach.slacks[k] < FAR {
-                reach.slacks[k] = reach.slacks[k].wrapping_sub(by);
+    /// Raises the numbers of what is reached of the first side within a distance, by what is left of it, and lowers those of
+    /// the second.
+    fn shift(&mut self, reach: &Reach, left: usize, within: i64)
+        requires { left < most_own }
+    {
+        self.numbers[left] = self.numbers[left].wrapping_add(within);
+        for s in 0..POSITIONS {
+            if reach.distances[s] < within {
+                let by = within.wrapping_sub(reach.distances[s]);
+                self.numbers[s] = self.numbers[s].wrapping_sub(by);
+                let first = self.mates[s];
+                if first < POSITIONS {
+                    self.numbers[first] = self.numbers[first].wrapping_add(by);
+                }
             }
         }
     }
 
-    /// Matches the sale with the purchase that it was reached from, that one's sale with the one before, and so on.
-    fn rematch(&mut self, reach: &Reach, sale: usize) {
-        let mut s = sale;
+    /// Matches the trade of the second side with that of the first that it was reached from, that one's mate with the one
+    /// before, and so on.
+    fn rematch(&mut self, reach: &Reach, second: usize) {
+        let mut s = second;
         for _ in 0..POSITIONS {
             if s < POSITIONS {
-                let b = reach.from[s] % POSITIONS;
-                let before = self.sold_as[b];
-                self.mates[s] = b;
-                self.sold_as[b] = s;
+                let first = reach.from[s] % POSITIONS;
+                let before = self.mated[first];
+                self.mates[s] = first;
+                self.mated[first] = s;
                 s = before;
             }
         }
@@ -254,58 +305,81 @@ impl<'a> Matching<'a> {
 }
 
 impl<'a> Spare<'a> {
-    /// The matching of the bundle `x` of a firm that buys `buys`, None where no such matching is found.
+    /// The matching of the bundle `x` of a firm that buys `buys`, and how far the others are, the wanted ones of the second
+    /// side among them; None where no such matching is found.
     pub(crate) fn of(
-        costs: &'a [i64; POSITIONS * POSITIONS],
+        costs: &'a [i64; CELLS],
         x: Bundle,
         buys: Bundle,
+        wanted: Bundle,
     ) -> Option<Spare<'a>> {
         let purchases = x.meet(buys);
         let sales = x.minus(buys);
-        if purchases.count() != sales.count() + 1 {
-            return None;
+        let others = wanted.minus(x);
+        if purchases.count() == sales.count() + 1 {
+            Spare::between(Matching::new(costs, false), purchases, sales, others.minus(buys))
+        } else if sales.count() == purchases.count() + 1 {
+            Spare::between(Matching::new(costs, true), sales, purchases, others.meet(buys))
+        } else {
+            None
         }
-        let mut matching = Matching::new(costs);
+    }
+
+    /// Matches all of the second side, and looks how far they and the others of this side are.
+    fn between(
+        empty: Matching<'a>,
+        firsts: Bundle,
+        seconds: Bundle,
+        others: Bundle,
+    ) -> Option<Spare<'a>> {
+        let mut matching = empty;
         let mut left = NONE;
-        for b in 0..POSITIONS {
-            if purchases.has(b as u32) {
-                if let Some(_reach) = matching.extend(b, sales) {
+        for first in 0..POSITIONS {
+            if firsts.has(first as u32) {
+                if let Some(_reach) = matching.extend(first, seconds) {
                     if left < POSITIONS {
                         return None;
                     }
-                    left = b;
+                    left = first;
                 }
             }
         }
+        for k in 0..POSITIONS {
+            if others.has(k as u32) {
+                matching.admit(k, firsts);
+            }
+        }
+        let reach = matching.reach(left, seconds.union(others));
         Some(Spare {
-            bundle: x,
-            buys,
-            matching,
+            firsts,
             left,
+            matching,
+            reach,
         })
     }
 
-    /// A certificate for the bundle with position `k` toggled.
+    /// A certificate for the bundle with position `k` toggled, which is one of the first side in the bundle, or one of the
+    /// second that was wanted.
     pub(crate) fn toggled(&self, k: usize) -> Certificate
         requires { k < most_own }
     {
-        let toggled = self.bundle.toggle(k as u32);
-        let purchases = toggled.meet(self.buys);
-        let sales = toggled.minus(self.buys);
-        if purchases.count() != sales.count() {
-            return uneven(purchases, sales);
+        if k == self.left {
+            return self.matching.certificate();
+        }
+        let end = if self.firsts.has(k as u32) {
+            self.matching.mated[k] % POSITIONS
+        } else {
+            k
+        };
+        let distance = self.reach.distances[end];
+        if distance == FAR {
+            return self
+                .matching
+                .unmatched(self.left % POSITIONS, &self.reach);
         }
         let mut matching = self.matching;
-        if self.buys.has(k as u32) {
-            matching.release(k);
-        } else {
-            matching.admit(k, purchases);
-        }
-        if k != self.left {
-            if let Some(reach) = matching.extend(self.left % POSITIONS, sales) {
-                return unmatched(reach.purchases, reach.sales);
-            }
-        }
+        matching.shift(&self.reach, self.left % POSITIONS, distance);
+        matching.rematch(&self.reach, end);
         matching.certificate()
     }
 }

@@ -1,60 +1,75 @@
 //! What a bundle is worth. The search hands over a certificate, which is tested; where it shows nothing, the definition is
 //! followed pair by pair (certifying algorithms: McConnell, Mehlhorn, Näher and Schweitzer, 2011).
 
-ghost use Rattle.std.specs.Prelude.{◌≡◌, ◌+◌, ◌*◌, ◌^◌, ◌<◌, ◌≤◌, ◌<ℤ◌, ◌+ℤ◌, ◌-ℤ◌, ◌↔◌, IsTrue, true, false, pos, neg_ℤ, if◌then◌else◌, length, drop, option_map, IfSome};
+ghost use Rattle.std.specs.Prelude.{◌≡◌, ◌+◌, ◌*◌, ◌^◌, ◌<◌, ◌≤◌, ◌<ℤ◌, ◌≤ℤ◌, ◌+ℤ◌, ◌-ℤ◌, ◌↔◌, IsTrue, true, false, pos, neg_ℤ, if◌then◌else◌, length, drop, option_map, IfSome};
 ghost use Rattle.tn_base.specs.Arcs.{IsAtMost};
 ghost use Rattle.tn_base.specs.Sets.{has, sum_over, toggle};
 ghost use Rattle.tn_market.specs.Reduced.{greater};
-ghost use Rattle.tn_dealer.specs.Pairs.{matched_worth, IsNear};
-ghost use Rattle.tn_dealer.specs.Certificates.{number_at, KeepsPair, KeepsPairs, MayTakeIn, bound_of};
+ghost use Rattle.tn_dealer.specs.Pairs.{matched_worth};
+ghost use Rattle.tn_dealer.specs.Certificates.{number_at, KeepsAt, KeepsBeside, KeepsPairs, MayTake};
+ghost use Rattle.tn_dealer.specs.Costs.{AreCosts, far};
 ghost use Rattle.tn_law.proofs.PairLemmas.{IsWorth};
 ghost use Rattle.tn_base.specs.Widths.{most_amount};
 ghost use Rattle.tn_market.specs.Widths.{most_worth, most_own};
 
+use crate::costs::{CELLS, FAR, POSITIONS, place};
 use crate::dealer::Dealer;
-use crate::pair::Pair;
-use crate::search::{Certificate, POSITIONS, Spare, search};
+use crate::search::{Certificate, Spare, search};
 use tn_base::Bundle;
 
 impl Dealer {
     /// What a bundle of own trades is worth, None where it is impossible.
-    pub(crate) fn worth(&self, x: Bundle) -> Option<i128>
+    pub(crate) fn worth(&self, costs: &[i64; CELLS], x: Bundle) -> Option<i128>
+        requires costs { AreCosts self.now.pairs.items costs.now }
         ensures { result ≡ matched_worth self.now.pairs.items x }
     {
-        match self.shown(x, &search(&self.pairs, x, self.buys)) {
+        match self.shown(costs, x, &search(costs, x, self.buys)) {
             Some(worth) => worth,
             None => self.worth_from(0, x),
         }
     }
 
     /// What a bundle with position `k` toggled is worth, from a matching of the bundle where there is one.
-    pub(crate) fn toggled_worth(&self, x: Bundle, k: u32, spare: &Option<Spare>) -> Option<i128>
-        requires { k < most_own }
+    pub(crate) fn toggled_worth(
+        &self,
+        costs: &[i64; CELLS],
+        x: Bundle,
+        k: u32,
+        spare: &Option<Spare>,
+    ) -> Option<i128>
+        requires costs { AreCosts self.now.pairs.items costs.now }
+        requires position { k < most_own }
         ensures { result ≡ matched_worth self.now.pairs.items (toggle x k) }
     {
         let toggled = x.toggle(k);
         if let Some(spare) = spare {
-            if let Some(worth) = self.shown(toggled, &spare.toggled(k as usize)) {
+            if let Some(worth) = self.shown(costs, toggled, &spare.toggled(k as usize)) {
                 return worth;
             }
         }
-        self.worth(toggled)
+        self.worth(costs, toggled)
     }
 
     /// The worth that what was found shows, None where it shows nothing.
-    fn shown(&self, x: Bundle, found: &Certificate) -> Option<Option<i128>>
+    fn shown(
+        &self,
+        costs: &[i64; CELLS],
+        x: Bundle,
+        found: &Certificate,
+    ) -> Option<Option<i128>>
+        requires costs { AreCosts self.now.pairs.items costs.now }
         ensures { IfSome result (λ worth. worth ≡ matched_worth self.now.pairs.items x) }
     {
         let sum = sum(x, &found.numbers);
         if !found.matched {
-            return if 0 < sum && self.keeps(x, &found.numbers, false) {
+            return if 0 < sum && self.keeps(costs, x, &found.numbers, false) {
                 Some(None)
             } else {
                 None
             };
         }
-        let (bundle, cost) = self.taken(&found.mates);
-        if bundle == x && cost == sum && self.keeps(x, &found.numbers, true) {
+        let (bundle, cost) = self.taken(costs, found);
+        if bundle == x && cost == sum && self.keeps(costs, x, &found.numbers, true) {
             Some(Some(-cost))
         } else {
             None
@@ -62,11 +77,20 @@ impl Dealer {
     }
 
     /// Whether the numbers of no pair within the bundle sum to more than its cost, or than 0 where costs don't count.
-    fn keeps(&self, x: Bundle, numbers: &[i64; POSITIONS], priced: bool) -> bool
+    fn keeps(
+        &self,
+        costs: &[i64; CELLS],
+        x: Bundle,
+        numbers: &[i64; POSITIONS],
+        priced: bool,
+    ) -> bool
+        requires costs { AreCosts self.now.pairs.items costs.now }
         ensures { result ≡ true → KeepsPairs priced (number_at numbers.now) x self.now.pairs.items }
     {
-        for k in 0..self.pairs.len() {
-            if breaks(&self.pairs[k], x, numbers, priced) {
+        let purchases = x.meet(self.buys);
+        let sales = x.minus(self.buys);
+        for buy in 0..POSITIONS {
+            if !keeps_beside(costs, buy, purchases, sales, numbers, priced) {
                 return false;
             }
         }
@@ -74,15 +98,15 @@ impl Dealer {
     }
 
     /// The bundle that the mates match by listed pairs, and what these cost together.
-    fn taken(&self, mates: &[usize; POSITIONS]) -> (Bundle, i128)
+    fn taken(&self, costs: &[i64; CELLS], found: &Certificate) -> (Bundle, i128)
+        requires costs { AreCosts self.now.pairs.items costs.now }
         ensures worth { IsWorth (matched_worth self.now.pairs.items) result.0 (neg_ℤ result.1) }
-        ensures small { IsAtMost result.1 (length self.now.pairs.items * most_amount) }
+        ensures small { IsAtMost result.1 (most_own * most_amount) }
     {
         let mut bundle = Bundle::empty();
         let mut cost = 0;
-        for done in 0..self.pairs.len() {
-            let pair = &self.pairs[self.pairs.len() - 1 - done];
-            (bundle, cost) = take_in(pair, mates, bundle, cost);
+        for k in 0..POSITIONS {
+            (bundle, cost) = take_in(costs, found.pair_at(k), bundle, cost);
         }
         (bundle, cost)
     }
@@ -132,14 +156,56 @@ fn number_in(x: Bundle, numbers: &[i64; POSITIONS], k: usize) -> i128
     }
 }
 
-/// Whether the numbers of a pair within the bundle sum to more than its cost, or than 0 where costs don't count.
-fn breaks(pair: &Pair, x: Bundle, numbers: &[i64; POSITIONS], priced: bool) -> bool
-    requires { IsNear pair.now }
-    ensures { result ≡ false → KeepsPair priced (number_at numbers.now) x pair.now }
+/// Whether the numbers of a purchase and of each of these sales sum to at most the cost of their pair, or to at most 0
+/// where costs don't count, if the purchase is one of these and the pair is listed.
+fn keeps_beside(
+    costs: &[i64; CELLS],
+    buy: usize,
+    purchases: Bundle,
+    sales: Bundle,
+    numbers: &[i64; POSITIONS],
+    priced: bool,
+) -> bool
+    requires { buy < most_own }
+    ensures { result ≡ true → has purchases buy ≡ true → KeepsBeside priced costs.now (number_at numbers.now) sales buy most_own }
 {
-    let first = numbers[pair.buy as usize];
-    let second = numbers[pair.sell as usize];
-    x.has(pair.buy) && x.has(pair.sell) && exceed(first, second, bound(pair, priced))
+    if !purchases.has(buy as u32) {
+        return true;
+    }
+    for sell in 0..POSITIONS {
+        if breaks(costs, buy, sell, sales, numbers, priced) {
+            return false;
+        }
+    }
+    true
+}
+
+/// Whether a purchase and a sale are a listed pair, the sale is one of these, and their numbers sum to more than its cost,
+/// or than 0 where costs don't count.
+fn breaks(
+    costs: &[i64; CELLS],
+    buy: usize,
+    sell: usize,
+    sales: Bundle,
+    numbers: &[i64; POSITIONS],
+    priced: bool,
+) -> bool
+    requires buy { buy < most_own }
+    requires sell { sell < most_own }
+    ensures { result ≡ false → KeepsAt priced costs.now (number_at numbers.now) sales buy sell }
+{
+    if !sales.has(sell as u32) {
+        return false;
+    }
+    let cost = costs[place(buy, sell)];
+    is_listed(cost) && exceed(numbers[buy], numbers[sell], bound(cost, priced))
+}
+
+/// Whether a cost is that of a listed pair.
+fn is_listed(cost: i64) -> bool
+    ensures { IsTrue result ↔ cost <ℤ far }
+{
+    cost < FAR
 }
 
 /// Whether two numbers sum to more.
@@ -149,26 +215,33 @@ fn exceed(first: i64, second: i64, most: i128) -> bool
     most < i128::from(first) + i128::from(second)
 }
 
-/// What the numbers of the pair's trades may sum to.
-fn bound(pair: &Pair, priced: bool) -> i128
-    ensures { result ≡ bound_of priced pair.now }
+/// What the numbers of a pair's trades may sum to.
+fn bound(cost: i64, priced: bool) -> i128
+    ensures { result ≡ (if priced then cost else pos 0) }
 {
-    if priced { pair.cost } else { 0 }
+    if priced { i128::from(cost) } else { 0 }
 }
 
-/// The bundle and the cost with the pair taken in, where it is matched and neither of its trades is there yet.
-fn take_in(pair: &Pair, mates: &[usize; POSITIONS], bundle: Bundle, cost: i128) -> (Bundle, i128)
-    requires near { IsNear pair.now }
-    requires small { IsAtMost pair.now.cost most_amount }
-    requires small_cost { IsAtMost cost (2 ^ 64 * most_amount) }
-    ensures { MayTakeIn pair.now bundle cost result.0 result.1 }
+/// The bundle and the cost with a pair taken in, where it is listed and neither of its trades is there yet.
+fn take_in(
+    costs: &[i64; CELLS],
+    pair: (usize, usize),
+    bundle: Bundle,
+    cost: i128,
+) -> (Bundle, i128)
+    requires { IsAtMost cost (most_own * most_amount) }
+    ensures { MayTake costs.now bundle cost result.0 result.1 }
 {
-    let matched = mates[pair.sell as usize] == pair.buy as usize;
-    if matched && !bundle.has(pair.buy) && !bundle.has(pair.sell) {
-        (bundle.toggle(pair.buy).toggle(pair.sell), cost + pair.cost)
-    } else {
-        (bundle, cost)
+    let (buy, sell) = pair;
+    if buy >= POSITIONS || sell >= POSITIONS {
+        return (bundle, cost);
     }
+    let more = costs[place(buy, sell)];
+    if is_listed(more) && !bundle.has(buy as u32) && !bundle.has(sell as u32) {
+        let bundle = bundle.toggle(buy as u32).toggle(sell as u32);
+        return (bundle, cost + i128::from(more));
+    }
+    (bundle, cost)
 }
 
 /// A worth less a cost.

@@ -1,15 +1,25 @@
-use Rattle.std.proofs.Common.{arith, refl, length}
-use Rattle.std.proofs.lemmas.Option.{slice_get_read}
-use Rattle.tn_dealer.specs.Certificates.{number_at}
-use Rattle.tn_dealer.proofs.CertificateLemmas.{keeps_all, keeps_more}
+use Rattle.std.proofs.Common.{◌≡◌, ◌<◌, ℕ, true, arith, ap, ◌∙◌, subst}
+use Rattle.tn_base.specs.Sets.{has, meet, minus}
+use Rattle.tn_dealer.specs.Certificates.{number_at, KeepsBeside}
+use Rattle.tn_dealer.specs.WorthLemmas.{own_pairs}
+use Rattle.tn_dealer.proofs.CertificateLemmas.{keeps_listed, keeps_more}
 use Rattle.tn_dealer.proofs.dealer.Dealer.keeps.Goals as goal
+use Rattle.tn_market.specs.Widths.{most_own}
 
-pub loop-k-preserved : goal.loop-k-preserved
-loop-k-preserved c =
-    let inside = c.loop-k-test.true in
-    let is = slice_get_read c.args.self.now.pairs.items (length c.args.self.now.pairs.items) c.loop-k.k c.index.result.now refl (omega (arith, inside)) c.index.ensures in
-    keeps_more c.args.priced (number_at c.args.numbers.now) c.args.x c.loop-k.k c.args.self.now.pairs.items c.index.result.now is
-    (c.breaks.ensures c.if-breaks.false) c.loop-k.invariant
+pub loop-buy-init : goal.loop-buy-init
+loop-buy-init c = λ buy below. absurd (omega (arith, below))
+
+pub loop-buy-preserved : goal.loop-buy-preserved
+loop-buy-preserved c =
+    let dealer = c.args.self.now in
+    let number = number_at c.args.numbers.now in
+    keeps_more c.args.priced c.args.costs.now number (meet c.args.x dealer.buys) (minus c.args.x dealer.buys) c.loop-buy.buy c.loop-buy.invariant
+    (λ member. subst (λ (sales : ℕ). KeepsBeside c.args.priced c.args.costs.now number sales c.loop-buy.buy most_own) c.minus-sales.ensures
+    (c.keeps_beside.ensures c.if-not-keeps_beside.false (ap (λ (z : ℕ). has z c.loop-buy.buy) c.meet-purchases.ensures ∙ member)))
 
 pub returns : goal.returns
-returns c = λ _. keeps_all c.args.priced (number_at c.args.numbers.now) c.args.x c.loop-k.k c.args.self.now.pairs.items (omega arith) c.loop-k.invariant
+returns c = λ _.
+    let dealer = c.args.self.now in
+    keeps_listed dealer.trades dealer.buys dealer.pairs.items c.args.costs.now c.args.priced (number_at c.args.numbers.now) c.args.x dealer.dealer.few
+    (own_pairs dealer.trades dealer.buys dealer.pairs.items dealer.dealer.own) c.requires.costs
+    (λ buy near member. c.loop-buy.invariant buy (let past = c.loop-buy-test.false in omega (arith, near, past)) member)

@@ -1,8 +1,9 @@
-use Rattle.std.proofs.Common.{◌≡◌, ℕ, ◌<◌}
-use Rattle.std.specs.Prelude.{slice_get, Some}
-use Rattle.tn_dealer.specs.declared.pair.Pair.{Pair}
-use Rattle.tn_dealer.specs.Certificates.{number_at, KeepsPair}
+use Rattle.std.proofs.Common.{◌≡◌, ℕ, ◌<◌, true}
+use Rattle.tn_base.specs.Sets.{has, meet, minus}
+use Rattle.tn_dealer.specs.Certificates.{number_at, KeepsBeside}
 use Rattle.tn_dealer.proofs.dealer.Dealer.keeps.Given as goal
+use Rattle.tn_market.specs.Widths.{most_own}
 
-abbrev pub invariant-loop-k : goal.invariant-loop-k
-invariant-loop-k l = (j : ℕ) (pair : Pair) → j < l.k → slice_get l.self.pairs.items j ≡ Some pair → KeepsPair l.priced (number_at l.numbers) l.x pair
+abbrev pub invariant-loop-buy : goal.invariant-loop-buy
+invariant-loop-buy l = (buy : ℕ) → buy < l.buy → has (meet l.fn.x l.self.buys) buy ≡ true
+    → KeepsBeside l.priced l.costs (number_at l.numbers) (minus l.fn.x l.self.buys) buy most_own

@@ -9,6 +9,7 @@ invariant_of-result c =
     let bought : c.purchases.result ≡ buys_of c.args.sides.items = search rules in
     record {
       dealer = rw (count, bought) (record { few = c.requires.few; bought = buys_of_within c.args.sides.items; own = c.requires.own });
+      different = rw c.deref.ensures.value at c.in_default.ensures;
     }
 
 pub returns-clause-different : goal.returns-clause-different

@@ -1,4 +1,4 @@
-use Rattle.std.proofs.Common.{◌-◌, ◌*◌, ◌≤◌, length, drop}
+use Rattle.std.proofs.Common.{◌*◌}
 use Rattle.std.specs.Prelude.{neg_ℤ}
 use Rattle.tn_base.specs.Arcs.{IsAtMost}
 use Rattle.tn_dealer.specs.Pairs.{matched_worth}
@@ -6,9 +6,8 @@ use Rattle.tn_law.proofs.PairLemmas.{IsWorth}
 use Rattle.tn_dealer.proofs.dealer.Dealer.taken.Given as goal
 use Rattle.tn_base.specs.Widths.{most_amount}
 
-abbrev pub invariant-loop-done : goal.invariant-loop-done
-invariant-loop-done l = record {
-  within : l.done ≤ length l.self.pairs.items;
-  worth : IsWorth (matched_worth (drop (length l.self.pairs.items - l.done) l.self.pairs.items)) l.bundle (neg_ℤ l.cost);
-  small : IsAtMost l.cost (l.done * most_amount);
+abbrev pub invariant-loop-k : goal.invariant-loop-k
+invariant-loop-k l = record {
+  worth : IsWorth (matched_worth l.self.pairs.items) l.bundle (neg_ℤ l.cost);
+  small : IsAtMost l.cost (l.k * most_amount);
 }

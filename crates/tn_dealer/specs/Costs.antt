@@ -1,0 +1,35 @@
+-- The costs of listed pairs, each at a place of its own.
+use Rattle.std.specs.Prelude.{◌≡◌, ℕ, ◌+◌, ◌*◌, ◌<◌, ℤ, pos, ◌<ℤ◌, List, length, get_or, slice_get, Some}
+use Rattle.tn_dealer.specs.declared.pair.Pair.{Pair}
+use Rattle.tn_market.specs.Widths.{most_own}
+
+-- where the cost of a purchase and a sale stands
+abbrev pub place_of : ℕ → ℕ → ℕ
+place_of buy sell = buy * most_own + sell
+
+-- what stands where no pair is listed
+abbrev pub far : ℤ
+far = pos 9223372036854775807
+
+-- the cost that stands at the place of a purchase and a sale
+abbrev pub cost_at : List ℤ → ℕ → ℕ → ℤ
+cost_at costs buy sell = get_or costs (place_of buy sell) (pos 0)
+
+-- one of the first n pairs has this purchase, this sale and this cost
+pub record IsListed (pairs : List Pair) (n buy sell : ℕ) (cost : ℤ) : Type 0 where
+  pub at : ℕ
+  pub before : at < n
+  pub pair : Pair
+  pub is : slice_get pairs at ≡ Some pair
+  pub same_buy : pair.buy ≡ buy
+  pub same_sell : pair.sell ≡ sell
+  pub same_cost : pair.cost ≡ cost
+
+-- the cost of each of the first n pairs stands at its place, and what stands at a place is far or the cost of such a pair
+pub record AreCostsBelow (pairs : List Pair) (n : ℕ) (costs : List ℤ) : Type 0 where
+  pub counted : length costs ≡ 1024
+  pub each : (k : ℕ) (pair : Pair) → k < n → slice_get pairs k ≡ Some pair → cost_at costs pair.buy pair.sell ≡ pair.cost
+  pub only : (buy sell : ℕ) → buy < most_own → sell < most_own → cost_at costs buy sell <ℤ far → IsListed pairs n buy sell (cost_at costs buy sell)
+
+abbrev pub AreCosts : List Pair → List ℤ → Type 0
+AreCosts pairs costs = AreCostsBelow pairs (length pairs) costs
