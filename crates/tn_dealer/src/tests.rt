@@ -45,6 +45,12 @@ fn a_dealer_in_two_items(rt: HostRuntime) -> Result<(), Fail> {
         Some(-2)
     );
     assert_eq!(rt; dealer.value(Bundle::from_bits(0b0111), &mut steps), None);
+    let all = Bundle::from_bits(0b1111);
+    let mut worths = [None; 4];
+    dealer.row(Bundle::from_bits(0b0111), all, &mut worths, &mut steps);
+    assert_eq!(rt; worths, [Some(-2), Some(-1), None, Some(-2)]);
+    dealer.row(Bundle::from_bits(0b1101), all, &mut worths, &mut steps);
+    assert_eq!(rt; worths, [None, Some(-2), Some(-3), Some(-1)]);
     let mut room = Room::new(alloc)?;
     let free = Bundle::from_bits(0b1111);
     let best = dealer.best(Bundle::empty(), free, 1, &[5, 7, 12, 9], &mut room);
