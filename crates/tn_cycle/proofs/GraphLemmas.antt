@@ -93,3 +93,12 @@ off_null null arc between a b p q = by (arc a b) refl
     by : (o : Option ℤ) → arc a b ≡ o → arc a b ≡ arcs_among (is_between 0 null) arc a b
     by (Some cost) e = let two = between a b cost e in sym (kept two.0 two.1)
     by None e = e ∙ sym (cond_both (is_between 0 null a && is_between 0 null b) (arc a b) None (λ z. z ≡ None) (λ _. e) (λ _. refl))
+
+-- arcs among admitted trades and the null node lead between marked nodes, where these are marked
+pub admitted_marked : (null allowed : ℕ) (arc : ℕ → ℕ → Option ℤ) (mark : ℕ → Bool) → AreBetweenNodes (null + 1) arc → ((v : ℕ) → v ≤ null → mark v ≡ is_admitted null allowed v)
+    → (u v : ℕ) (cost : ℤ) → arcs_among (is_admitted null allowed) arc u v ≡ Some cost → (mark u ≡ true) × (mark v ≡ true)
+admitted_marked null allowed arc mark between marks u v cost is =
+    let inside = some_if (is_admitted null allowed u && is_admitted null allowed v) (arc u v) cost is in
+    let passes = and_parts (is_admitted null allowed u) (is_admitted null allowed v) inside.0 in
+    let two = between u v cost inside.1 in
+    (marks u (omega (arith, two.0)) ∙ passes.0, marks v (omega (arith, two.1)) ∙ passes.1)

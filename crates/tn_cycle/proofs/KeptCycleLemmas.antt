@@ -18,7 +18,7 @@ use Rattle.tn_cycle.specs.Cells.{HasRoom, trail}
 use Rattle.tn_cycle.specs.Graphs.{with_sink}
 use Rattle.tn_cycle.specs.GraphLemmas.{between-with_sink, some_if}
 use Rattle.tn_cycle.specs.Searched.{IsSettled}
-use Rattle.tn_cycle.specs.Kept.{AreRaised, IsCycleRead, IsLifted, IsLiftedBy, IsRaised, IsStopped, KeepsArcsAvoiding, KeepsArcsOff, signed}
+use Rattle.tn_cycle.specs.Kept.{AreRaised, IsCycleRead, IsLifted, IsLiftedBy, IsRaised, IsStopped, KeepsArcsAvoiding, KeepsArcsOff, flag_at, signed}
 use Rattle.tn_cycle.specs.Widths.{most_graph_nodes}
 use Rattle.tn_cycle.proofs.GraphLemmas.{keeps_avoiding, looked_off}
 use Rattle.tn_cycle.proofs.KeyLemmas.{same_cost}
@@ -239,3 +239,17 @@ sunk_settled nodes sink arc label cell waits between same keeps stopped =
     kept_settled (nodes + 1) (with_sink nodes arc) sink None label cell waits (between-with_sink nodes arc between) (sunk_keeps nodes sink arc label same keeps) stopped refl
     (sym (stopped.known.leads sink (omega (arith, same))) ∙ subst (λ (s : ℕ). walk_cost (with_sink nodes arc) s (trail cell (cell sink).round sink) sink ≡ None) (sym same)
     (from_sink nodes arc (trail cell (cell sink).round sink) sink))
+
+-- an arc of the graph with a sink that doesn't end there leads between marked nodes, where all arcs of the graph do
+pub sunk_marked : (nodes sink : ℕ) (arc : ℕ → ℕ → Option ℤ) (marks : List Bool) → AreBetweenNodes nodes arc → sink ≡ nodes
+    → ((u v : ℕ) (cost : ℤ) → arc u v ≡ Some cost → (flag_at marks u ≡ true) × (flag_at marks v ≡ true))
+    → (u v : ℕ) (cost : ℤ) → v ≢ sink → with_sink nodes arc u v ≡ Some cost → (flag_at (set marks sink false) u ≡ true) × (flag_at (set marks sink false) v ≡ true)
+sunk_marked nodes sink arc marks between same marked u v cost off is =
+    let inside = some_if (nat_lt u nodes) (if v == nodes then Some (pos 0) else arc u v) cost is in
+    let plain : arc u v ≡ Some cost = sym (ap (λ (s : Bool). if s then Some (pos 0) else arc u v) (ne_eqb v nodes (λ e. off (e ∙ sym same)))) ∙ inside.1 in
+    let two = between u v cost plain in
+    let had = marked u v cost plain in
+    let start : u ≢ sink = λ e. omega (arith, e, same, two.0) in (
+      get_or-set_other marks sink u false false start ∙ had.0,
+      get_or-set_other marks sink v false false off ∙ had.1,
+    )

@@ -10,7 +10,7 @@ use Rattle.tn_base.specs.Options.{both}
 use Rattle.tn_base.specs.Walks.{walk_cost}
 use Rattle.tn_cycle.specs.declared.cell.Cell.{Cell}
 use Rattle.tn_cycle.specs.Cells.{trail}
-use Rattle.tn_cycle.specs.Kept.{AfterOffer, ComesFirst, GoesOver, HasBy, IsNotAfter, IsUnderWay, KeepsArcsOff}
+use Rattle.tn_cycle.specs.Kept.{AfterOffer, ComesFirst, GoesOver, HasBy, IsNotAfter, IsUnderWay, KeepsArcsOff, LeadsOff}
 use Rattle.tn_cycle.proofs.OrderLemmas.{parts}
 use Rattle.tn_cycle.proofs.KeyLemmas.{has_by-more, has_by_own, not_after_itself, not_after-trans, same_cost}
 
@@ -78,9 +78,10 @@ trail_same cell new (suc k) v here all =
 
 -- the cells of the arcs to the end
 pub begun : (nodes : ℕ) (arc : ℕ → ℕ → Option ℤ) (end : ℕ) (label : ℕ → ℤ) (cell : ℕ → Cell) (waits : ℕ → Bool) → AreBetweenNodes nodes arc → waits end ≡ false
-    → ((v u : ℕ) (cost : ℤ) → v ≢ end → arc v u ≡ Some cost → waits v ≡ true)
+    → ((v u : ℕ) (cost : ℤ) → v ≢ end → u ≢ end → arc v u ≡ Some cost → waits v ≡ true)
+    → ((v u : ℕ) (cost last : ℤ) → u ≢ end → arc v u ≡ Some cost → arc u end ≡ Some last → waits u ≡ true)
     → ((v : ℕ) → v < nodes → cell v ≡ record { cost = arc v end; round = 0; next = end }) → IsUnderWay nodes arc end label cell waits 0
-begun nodes arc end label cell waits between shut covers made = record {
+begun nodes arc end label cell waits between shut begins passes made = record {
   shut = shut;
   first = λ v cost inside is. record {
     least = cost;
@@ -88,9 +89,12 @@ begun nodes arc end label cell waits between shut covers made = record {
     before = (omega (arith, ints), λ back. omega (arith, round_is v inside));
   };
   over = λ v u cost w off u_shut is u_is.
-      absurd (false≢true (sym u_shut ∙ covers u end w off (sym (cost_is u (between v u cost is).1) ∙ u_is)));
-  order = λ v u w x inside node off v_shut u_waits v_is u_is. absurd (false≢true (sym v_shut ∙ covers v end w off (sym (cost_is v inside) ∙ v_is)));
-  reached = λ v u cost off v_shut is. absurd (false≢true (sym v_shut ∙ covers v u cost off is));
+      absurd (false≢true (sym u_shut ∙ passes v u cost w off is (sym (cost_is u (between v u cost is).1) ∙ u_is)));
+  order = λ v u w x inside node off leads v_shut u_waits v_is u_is. absurd (false≢true (sym v_shut ∙ begins v leads.0 leads.1 off leads.2 leads.3));
+  reached = λ v u cost off v_shut is. elim (cases_eq u end) [
+    | inl same ↦ (cost, cost_is v (between v u cost is).0 ∙ subst (λ (z : ℕ). arc v z ≡ Some cost) same is)
+    | inr other ↦ absurd (false≢true (sym v_shut ∙ begins v u cost off other is))
+  ];
   leads = λ v inside. subst (λ (k : ℕ). walk_cost arc v (trail cell k v) end ≡ (cell v).cost) (sym (round_is v inside)) (sym (cost_is v inside));
   passes = λ v inside. subst (λ (k : ℕ). All (λ x. (x < nodes) × (x ≢ end) × (waits x ≡ false)) (trail cell k v)) (sym (round_is v inside)) (All-nil (λ x. (x < nodes) × (x ≢ end) × (waits x ≡ false)));
   none = λ v inside _. round_is v inside;
@@ -154,13 +158,13 @@ module _ (nodes : ℕ) (arc : ℕ → ℕ → Option ℤ) (end : ℕ) (label : �
   ]
 
   -- no settled node is after u
-  before_own : (v : ℕ) (w : ℤ) → v < nodes → v ≢ end → now v ≡ false → (cell v).cost ≡ Some w → IsNotAfter (w +ℤ label v) (cell v).round (chosen.cost +ℤ label u) (cell u).round
-  before_own v w inside off shut is = elim (cases_eq v u) [
+  before_own : (v : ℕ) (w : ℤ) → v < nodes → v ≢ end → LeadsOff arc end v → now v ≡ false → (cell v).cost ≡ Some w → IsNotAfter (w +ℤ label v) (cell v).round (chosen.cost +ℤ label u) (cell u).round
+  before_own v w inside off leads shut is = elim (cases_eq v u) [
     | inl same ↦
         let e : w ≡ chosen.cost = same_cost (cell u).cost w chosen.cost (subst (λ (z : ℕ). (cell z).cost ≡ Some w) same is) chosen.cost_is in
         subst (λ (z : ℕ). IsNotAfter (w +ℤ label z) (cell z).round (chosen.cost +ℤ label u) (cell u).round) (sym same)
         (subst (λ (z : ℤ). IsNotAfter (w +ℤ label u) (cell u).round (z +ℤ label u) (cell u).round) e (not_after_itself (w +ℤ label u) (cell u).round))
-    | inr other ↦ known.order v u w chosen.cost inside chosen.inside off (sym (others v other) ∙ shut) chosen.waiting is chosen.cost_is
+    | inr other ↦ known.order v u w chosen.cost inside chosen.inside off leads (sym (others v other) ∙ shut) chosen.waiting is chosen.cost_is
   ]
 
   -- a settled node isn't after going on over u
@@ -188,7 +192,7 @@ module _ (nodes : ℕ) (arc : ℕ → ℕ → Option ℤ) (end : ℕ) (label : �
       settled_by : now v ≡ false → v ≢ end → HasBy (cell v) (cost +ℤ chosen.cost) ((cell u).round + 1)
       settled_by shut off =
           let own = has_cost shut off in
-          let ahead = before_own v own.0 inside off shut own.1 in
+          let ahead = before_own v own.0 inside off (u, cost, off_end, is) shut own.1 in
           let kept : label u ≤ℤ (label v +ℤ cost) = keeps v u cost off_end is in
           let ahead_cost : (own.0 +ℤ label v) ≤ℤ (chosen.cost +ℤ label u) = ahead.0 in
           record {
@@ -221,11 +225,11 @@ module _ (nodes : ℕ) (arc : ℕ → ℕ → Option ℤ) (end : ℕ) (label : �
     shut = still_shut end known.shut;
     first = λ v cost inside is. has_still v inside cost 0 (known.first v cost inside is);
     over = over;
-    order = λ v x w y inside node off v_shut x_waits v_is x_is.
+    order = λ v x w y inside node off leads v_shut x_waits v_is x_is.
         let same = unchanged v inside v_shut off in
         subst (λ (own : Cell). IsNotAfter (w +ℤ label v) own.round (y +ℤ label x) (new x).round) (sym same)
         (not_after-trans (w +ℤ label v) (cell v).round (chosen.cost +ℤ label u) (cell u).round (y +ℤ label x) (new x).round
-        (before_own v w inside off v_shut (ap (λ (own : Cell). own.cost) (sym same) ∙ v_is)) (before_new x y node x_waits x_is));
+        (before_own v w inside off leads v_shut (ap (λ (own : Cell). own.cost) (sym same) ∙ v_is)) (before_new x y node x_waits x_is));
     reached = reached;
     leads = λ v inside. (led v inside).0;
     passes = λ v inside. (led v inside).1;

@@ -1,7 +1,7 @@
 -- Keys of walks, and the waiting node whose key comes first.
-use Rattle.std.proofs.Common.{◌≡◌, ℕ, ◌+◌, ◌*◌, ◌<◌, ◌≤◌, refl, sym, ap, ◌∙◌, subst, arith, inl, inr, ℤ, ◌+ℤ◌, ◌-ℤ◌, Option, Some, None, Bool, true, false}
+use Rattle.std.proofs.Common.{◌≡◌, ℕ, ◌+◌, ◌*◌, ◌<◌, ◌≤◌, refl, sym, ap, ◌∙◌, subst, arith, inl, inr, ℤ, ◌+ℤ◌, ◌-ℤ◌, Option, Some, None, Bool, true}
 use Rattle.std.proofs.lemmas.Int.{ints}
-use Rattle.std.proofs.lemmas.Bool.{cases_eq, false≢true}
+use Rattle.std.proofs.lemmas.Bool.{cases_eq}
 use Rattle.std.proofs.lemmas.Option.{none-some, same_Some}
 use Rattle.tn_base.specs.Arcs.{IsAtMost}
 use Rattle.tn_cycle.specs.declared.cell.Cell.{Cell}
@@ -53,12 +53,12 @@ nearer_kept best node own label w near best_is is after = record {
 
 -- the other one does
 pub nearer_taken : (best : Option Near) (node : ℕ) (own : Cell) (label w key : ℤ) → own.cost ≡ Some w → key ≡ w +ℤ label
-    → ((near : Near) → best ≡ Some near → IsNotAfter key own.round near.key near.round) → IsNearer best node own label (Some (record { node = node; key = key; round = own.round }))
+    → ((near : Near) → best ≡ Some near → IsNotAfter key own.round near.key near.round) → IsNearer best node own label (Some (record { place = node; key = key; round = own.round }))
 nearer_taken best node own label w key is key_is before = record {
-  one = inr (w, is, ap (λ (z : ℤ). Some (record { node = node; key = z; round = own.round })) key_is);
-  before_best = λ near near_is. (record { node = node; key = key; round = own.round }, refl, before near near_is);
+  one = inr (w, is, ap (λ (z : ℤ). Some (record { place = node; key = z; round = own.round })) key_is);
+  before_best = λ near near_is. (record { place = node; key = key; round = own.round }, refl, before near near_is);
   before_own = λ x x_is. (
-    record { node = node; key = key; round = own.round },
+    record { place = node; key = key; round = own.round },
     refl,
     subst (λ (z : ℤ). IsNotAfter key own.round (z +ℤ label) own.round) (same_cost own.cost w x is x_is)
         (subst (λ (z : ℤ). IsNotAfter key own.round z own.round) key_is (not_after_itself key own.round)),
@@ -66,25 +66,6 @@ nearer_taken best node own label w key is key_is before = record {
 }
 
 module _ (label : ℕ → ℤ) (cell : ℕ → Cell) (waits : ℕ → Bool) (v : ℕ) where
-  -- a node that doesn't wait
-  pub nearest_skip : (best : Option Near) → IsNearest v label cell waits best → waits v ≡ false → IsNearest (v + 1) label cell waits best
-  nearest_skip None none shut = λ u inside waiting. elim (cases_eq u v) [
-    | inl same ↦ absurd (false≢true (sym shut ∙ subst (λ (z : ℕ). waits z ≡ true) same waiting))
-    | inr other ↦ none u (omega (arith, inside, other)) waiting
-  ]
-  nearest_skip (Some near) first shut = record {
-    inside = omega (arith, first.inside);
-    waiting = first.waiting;
-    cost = first.cost;
-    cost_is = first.cost_is;
-    key_is = first.key_is;
-    round_is = first.round_is;
-    first = λ u w inside waiting is. elim (cases_eq u v) [
-      | inl same ↦ absurd (false≢true (sym shut ∙ subst (λ (z : ℕ). waits z ≡ true) same waiting))
-      | inr other ↦ first.first u w (omega (arith, inside, other)) waiting is
-    ];
-  }
-
   -- a node that waits
   pub nearest_next : (best found : Option Near) → IsNearest v label cell waits best → waits v ≡ true → IsNearer best v (cell v) (label v) found
       → IsNearest (v + 1) label cell waits found
@@ -101,7 +82,7 @@ module _ (label : ℕ → ℤ) (cell : ℕ → Cell) (waits : ℕ → Bool) (v :
       unreached (Some w) e = absurd (none-some _ (nearer.before_own w e).1)
   nearest_next best (Some near) before waiting nearer = elim nearer.one [
     | inl kept ↦
-        let old : ComesFirst v label cell waits near.node near.key near.round = subst (IsNearest v label cell waits) (sym kept) before in
+        let old : ComesFirst v label cell waits near.place near.key near.round = subst (IsNearest v label cell waits) (sym kept) before in
         record {
           inside = omega (arith, old.inside);
           waiting = old.waiting;
@@ -112,8 +93,8 @@ module _ (label : ℕ → ℤ) (cell : ℕ → Cell) (waits : ℕ → Bool) (v :
           first = firsts;
         }
     | inr taken ↦
-        let same = same_Some near (record { node = v; key = taken.0 +ℤ label v; round = (cell v).round }) taken.2 in
-        let node_is : near.node ≡ v = ap (λ (n : Near). n.node) same in
+        let same = same_Some near (record { place = v; key = taken.0 +ℤ label v; round = (cell v).round }) taken.2 in
+        let node_is : near.place ≡ v = ap (λ (n : Near). n.place) same in
         record {
           inside = omega (arith, node_is);
           waiting = subst (λ (z : ℕ). waits z ≡ true) (sym node_is) waiting;
@@ -132,7 +113,7 @@ module _ (label : ℕ → ℤ) (cell : ℕ → Cell) (waits : ℕ → Bool) (v :
       earlier None e u w inside u_waits is =
           let none : NoneWaits v cell waits = subst (IsNearest v label cell waits) e before in absurd (none-some w (sym (none u inside u_waits) ∙ is))
       earlier (Some b) e u w inside u_waits is =
-          let old : ComesFirst v label cell waits b.node b.key b.round = subst (IsNearest v label cell waits) e before in
+          let old : ComesFirst v label cell waits b.place b.key b.round = subst (IsNearest v label cell waits) e before in
           let ahead = nearer.before_best b e in
           not_after-trans near.key near.round b.key b.round (w +ℤ label u) (cell u).round (found_is ahead.0 b.key b.round ahead.1 ahead.2) (old.first u w inside u_waits is)
 

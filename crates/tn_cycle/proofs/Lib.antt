@@ -12,6 +12,7 @@ pub mod RoundLemmas
 pub mod DifferenceLemmas
 pub mod KeyLemmas
 pub mod KeptLemmas
+pub mod ListLemmas
 pub mod StoppedLemmas
 pub mod KeptCycleLemmas
 pub mod RingLemmas

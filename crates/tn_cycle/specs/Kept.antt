@@ -12,6 +12,27 @@ use Rattle.tn_cycle.specs.Cells.{trail}
 abbrev pub flag_at : List Bool → ℕ → Bool
 flag_at flags v = slice_index_or flags v false
 
+-- every node
+abbrev pub every : ℕ → Bool
+every v = true
+
+-- the node at a place of a list
+abbrev pub node_at : List ℕ → ℕ → ℕ
+node_at list i = slice_index_or list i 0
+
+-- the labels and the cells of a list's nodes, by their places
+abbrev pub label_by : (ℕ → ℤ) → List ℕ → ℕ → ℤ
+label_by label list i = label (node_at list i)
+
+abbrev pub cell_by : (ℕ → Cell) → List ℕ → ℕ → Cell
+cell_by cell list i = cell (node_at list i)
+
+-- the first so many places of a list have the nodes that wait, each one once
+pub record AreWaiting (nodes : ℕ) (waits : ℕ → Bool) (list : List ℕ) (count : ℕ) : Type 0 where
+  pub each : (i : ℕ) → i < count → (node_at list i < nodes) × (waits (node_at list i) ≡ true)
+  pub all : (v : ℕ) → v < nodes → waits v ≡ true → (i : ℕ) × (i < count) × (node_at list i ≡ v)
+  pub once : (i k : ℕ) → i < count → k < count → node_at list i ≡ node_at list k → i ≡ k
+
 -- labels keep the arcs that don't end at t
 abbrev pub KeepsArcsOff : (ℕ → ℕ → Option ℤ) → ℕ → (ℕ → ℤ) → Type 0
 KeepsArcsOff arc t label = (u v : ℕ) (cost : ℤ) → v ≢ t → arc u v ≡ Some cost → label v ≤ℤ (label u +ℤ cost)
@@ -19,6 +40,10 @@ KeepsArcsOff arc t label = (u v : ℕ) (cost : ℤ) → v ≢ t → arc u v ≡ 
 -- labels keep the arcs that neither begin nor end at t
 abbrev pub KeepsArcsAvoiding : (ℕ → ℕ → Option ℤ) → ℕ → (ℕ → ℤ) → Type 0
 KeepsArcsAvoiding arc t label = (u v : ℕ) (cost : ℤ) → u ≢ t → v ≢ t → arc u v ≡ Some cost → label v ≤ℤ (label u +ℤ cost)
+
+-- an arc leads from v, and not to the end
+abbrev pub LeadsOff : (ℕ → ℕ → Option ℤ) → ℕ → ℕ → Type 0
+LeadsOff arc end v = (u : ℕ) × (cost : ℤ) × (u ≢ end) × (arc v u ≡ Some cost)
 
 -- the first costs at most what the second does, and where both cost the same, it has no more nodes
 abbrev pub IsNotAfter : ℤ → ℕ → ℤ → ℕ → Type 0
@@ -39,8 +64,8 @@ abbrev pub IsPast : Option ℤ → Cell → ℤ → ℕ → Type 0
 IsPast cap own cost inner = HasBy own cost inner ⊎ IsCapped cap cost
 
 -- which of the best node so far and another one's walk comes first
-pub record IsNearer (best : Option Near) (node : ℕ) (own : Cell) (label : ℤ) (found : Option Near) : Type 0 where
-  pub one : (found ≡ best) ⊎ ((w : ℤ) × (own.cost ≡ Some w) × (found ≡ Some (record { node = node; key = w +ℤ label; round = own.round })))
+pub record IsNearer (best : Option Near) (place : ℕ) (own : Cell) (label : ℤ) (found : Option Near) : Type 0 where
+  pub one : (found ≡ best) ⊎ ((w : ℤ) × (own.cost ≡ Some w) × (found ≡ Some (record { place = place; key = w +ℤ label; round = own.round })))
   pub before_best : (near : Near) → best ≡ Some near → (first : Near) × (found ≡ Some first) × IsNotAfter first.key first.round near.key near.round
   pub before_own : (w : ℤ) → own.cost ≡ Some w → (first : Near) × (found ≡ Some first) × IsNotAfter first.key first.round (w +ℤ label) own.round
 
@@ -60,7 +85,7 @@ NoneWaits nodes cell waits = (v : ℕ) → v < nodes → waits v ≡ true → (c
 
 abbrev pub IsNearest : ℕ → (ℕ → ℤ) → (ℕ → Cell) → (ℕ → Bool) → Option Near → Type 0
 IsNearest nodes label cell waits None = NoneWaits nodes cell waits
-IsNearest nodes label cell waits (Some near) = ComesFirst nodes label cell waits near.node near.key near.round
+IsNearest nodes label cell waits (Some near) = ComesFirst nodes label cell waits near.place near.key near.round
 
 -- no node that waits matters
 abbrev pub AllArePast : ℕ → ℤ → Option ℤ → (ℕ → ℤ) → (ℕ → Cell) → Cell → (ℕ → Bool) → Type 0
@@ -90,14 +115,20 @@ abbrev pub AfterOffer : (ℕ → ℕ → Option ℤ) → ℕ → ℕ → Cell �
 AfterOffer arc end u beyond waits v own new =
     (((waits ≡ true) ⊎ (v ≡ end)) → IsOffered own (arc v u) beyond u new) × (waits ≡ false → v ≢ end → new ≡ own)
 
+-- once u is settled: the nodes of a list and the end have the better one, and all other cells stay
+pub record AreOffered (arc : ℕ → ℕ → Option ℤ) (end u : ℕ) (list : List ℕ) (count : ℕ) (cell new : ℕ → Cell) : Type 0 where
+  pub listed : (i : ℕ) → i < count → IsOffered (cell (node_at list i)) (arc (node_at list i) u) (cell u) u (new (node_at list i))
+  pub last : IsOffered (cell end) (arc end u) (cell u) u (new end)
+  pub others : (v : ℕ) → v ≢ end → ((i : ℕ) → i < count → node_at list i ≢ v) → new v ≡ cell v
+
 -- what holds once so many nodes are settled, which are those with a walk that don't wait
 pub record IsUnderWay (nodes : ℕ) (arc : ℕ → ℕ → Option ℤ) (end : ℕ) (label : ℕ → ℤ) (cell : ℕ → Cell) (waits : ℕ → Bool) (settled : ℕ) : Type 0 where
   pub shut : waits end ≡ false
   -- no cell is after the arc to the end, nor after going on over a settled node
   pub first : (v : ℕ) (cost : ℤ) → v < nodes → arc v end ≡ Some cost → HasBy (cell v) cost 0
   pub over : (v u : ℕ) (cost w : ℤ) → u ≢ end → waits u ≡ false → arc v u ≡ Some cost → (cell u).cost ≡ Some w → HasBy (cell v) (cost +ℤ w) ((cell u).round + 1)
-  -- no settled node is after a waiting one
-  pub order : (v u : ℕ) (w x : ℤ) → v < nodes → u < nodes → v ≢ end → waits v ≡ false → waits u ≡ true → (cell v).cost ≡ Some w → (cell u).cost ≡ Some x
+  -- no settled node that an arc leads from, other than to the end, is after a waiting one
+  pub order : (v u : ℕ) (w x : ℤ) → v < nodes → u < nodes → v ≢ end → LeadsOff arc end v → waits v ≡ false → waits u ≡ true → (cell v).cost ≡ Some w → (cell u).cost ≡ Some x
       → IsNotAfter (w +ℤ label v) (cell v).round (x +ℤ label u) (cell u).round
   pub reached : (v u : ℕ) (cost : ℤ) → v ≢ end → waits v ≡ false → arc v u ≡ Some cost → (w : ℤ) × ((cell v).cost ≡ Some w)
   -- each cell leads along a walk of its cost over settled nodes

@@ -6,7 +6,7 @@ use crate::answer::{Labels, Path};
 use crate::cell::Cell;
 use crate::graphs::{Admitted, Looked, Turned};
 use crate::grown::grow_labels;
-use crate::kept_cycles::{least_kept, negative_kept, relabel_kept};
+use crate::kept_cycles::{least_kept, negative_kept, relabel_all, relabel_among};
 use crate::read::list_walk;
 use crate::search::search;
 use std::alloc::Global;
@@ -198,9 +198,37 @@ impl Finder {
         found
     }
 
-    /// Gives each node the label that `labels` would give: at most 0, and at least minus the largest size of a cost
-    /// times one less than the number of nodes. The labels at hand keep the arcs, so that no cycle is negative.
-    pub fn relabel<C: Costs>(&mut self, costs: &C)
+    /// Gives each node the label that `labels` would give on the admitted trades and the null node: at most 0, and at
+    /// least minus the largest size of a cost times one less than the number of nodes. The labels at hand keep the arcs
+    /// among these, so that no cycle is negative. There are at most `64 * W` trades.
+    pub fn relabel<C: Costs, const W: usize>(&mut self, costs: &C, admitted: &TradeSet<W>)
+        requires sized { C.node_count costs.now ≡ self.old.nodes }
+        requires wide { self.old.nodes ≤ 64 * W + 1 }
+        requires labelled { length self.old.labels ≡ self.old.nodes }
+        requires near { AreNear most_label self.old.labels }
+        requires keeps { KeepsArcs (arcs_among (is_admitted (self.old.nodes - 1) admitted.now) (C.arc costs.now)) (label_in self.old.labels) }
+        ensures labels { AreLabels self.old.nodes (arcs_among (is_admitted (self.old.nodes - 1) admitted.now) (C.arc costs.now)) self.new.labels }
+        ensures none_listed { self.new.listed ≡ [] }
+        ensures rest { ListsNoWalks self.old.nodes self.new }
+    {
+        self.count = 0;
+        self.reached = 0;
+        let null = self.nodes - 1;
+        relabel_among(
+            &Admitted {
+                costs,
+                null,
+                admitted,
+            },
+            &mut self.labels,
+            &mut self.waits,
+            &mut self.row,
+            &mut self.path,
+        );
+    }
+
+    /// The same on the whole graph.
+    fn settle<C: Costs>(&mut self, costs: &C)
         requires sized { C.node_count costs.now ≡ self.old.nodes }
         requires labelled { length self.old.labels ≡ self.old.nodes }
         requires near { AreNear most_label self.old.labels }
@@ -211,7 +239,13 @@ impl Finder {
     {
         self.count = 0;
         self.reached = 0;
-        relabel_kept(costs, &mut self.labels, &mut self.waits, &mut self.row);
+        relabel_all(
+            costs,
+            &mut self.labels,
+            &mut self.waits,
+            &mut self.row,
+            &mut self.path,
+        );
     }
 
     /// Looks for labels: a number for each node, such that no arc costs less than the label of its end less that of its
@@ -235,7 +269,7 @@ impl Finder {
         match found {
             Path::None => {
                 self.labelled = self.nodes;
-                self.relabel(costs);
+                self.settle(costs);
                 Labels::Feasible
             }
             Path::Cycle { cost, length } => {

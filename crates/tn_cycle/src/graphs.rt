@@ -31,6 +31,16 @@ impl<C: Costs, const W: usize> Admitted<'_, C, W> {
     {
         v == self.null || self.admitted.has(v)
     }
+
+    /// Marks the nodes that it has.
+    pub(crate) fn mark_nodes(&self, marks: &mut [bool])
+        requires { self.now.null < length marks.old }
+        ensures marked { (v : ℕ) → v ≤ self.now.null → flag_at marks.new v ≡ is_admitted self.now.null self.now.admitted.now v }
+    {
+        for v in 0..self.nodes() {
+            marks[v as usize] = self.admits(v);
+        }
+    }
 }
 
 impl<C: Costs, const W: usize> Costs for Admitted<'_, C, W> {

@@ -4,17 +4,18 @@ ghost use Rattle.tn_base.specs.Arcs.{IsAtMost};
 ghost use Rattle.tn_base.specs.Widths.{most_cost};
 ghost use Rattle.tn_cycle.specs.Answers.{AreNear, label_in};
 ghost use Rattle.tn_cycle.specs.Cells.{HasRoom, cell_at};
-ghost use Rattle.tn_cycle.specs.Kept.{AfterOffer, HasBy, IsCapped, IsCounted, IsNearer, IsNearest, IsNext, IsNotAfter, IsOffered, IsPast, IsStopped, KeepsArcsOff, flag_at};
+ghost use Rattle.tn_cycle.specs.Kept.{AreOffered, AreWaiting, HasBy, IsCapped, IsCounted, IsNearer, IsNearest, IsNext, IsNotAfter, IsOffered, IsPast, IsStopped, KeepsArcsOff, cell_by, every, flag_at, label_by, node_at};
 ghost use Rattle.tn_cycle.specs.Widths.{most_graph_nodes, most_label, most_walk_cost};
 
 use crate::cell::Cell;
 use crate::search::{begin, extended};
 use tn_base::Costs;
 
-/// A waiting node, its key, which is the cost of its walk and its label, and the number of nodes inside that walk.
+/// The place of a waiting node, its key, which is the cost of its walk and its label, and the number of nodes inside that
+/// walk.
 #[derive(Clone, Copy)]
 pub struct Near {
-    pub node: u32,
+    pub place: u32,
     pub key: i128,
     pub round: u32,
 }
@@ -37,14 +38,14 @@ fn is_not_after(first: i128, first_round: u32, second: i128, second_round: u32) 
 }
 
 /// The one that comes first, of the best so far and a waiting node.
-fn nearer(best: Option<Near>, node: u32, own: Cell, label: i128) -> Option<Near>
+fn nearer(best: Option<Near>, place: u32, own: Cell, label: i128) -> Option<Near>
     requires cost { ForSome own.cost (λ w. IsAtMost w most_walk_cost) }
     requires label { IsAtMost label (2 * most_label) }
-    ensures { IsNearer best node own label result }
+    ensures { IsNearer best place own label result }
 {
     let Some(cost) = own.cost else { return best };
     let here = Near {
-        node,
+        place,
         key: key(cost, label),
         round: own.round,
     };
@@ -54,20 +55,36 @@ fn nearer(best: Option<Near>, node: u32, own: Cell, label: i128) -> Option<Near>
     }
 }
 
-/// The waiting node whose key comes first, None where none has a walk.
-fn nearest(labels: &[i128], waits: &[bool], row: &[Cell], nodes: u32) -> Option<Near>
-    requires sized { nodes ≤ length row.now }
+/// Lists the nodes that wait, and gives their number.
+fn list_waiting(waits: &[bool], nodes: u32, list: &mut [u32]) -> u32
     requires waits_sized { nodes ≤ length waits.now }
-    requires room { HasRoom nodes (cell_at row.now) }
-    requires labelled { (v : ℕ) → v < nodes → flag_at waits.now v ≡ true → v < length labels.now }
-    requires near { AreNear (2 * most_label) labels.now }
-    ensures { IsNearest nodes (label_in labels.now) (cell_at row.now) (flag_at waits.now) result }
+    requires places { nodes ≤ length list.old }
+    ensures waiting { AreWaiting nodes (flag_at waits.now) list.new result }
+    ensures few { result ≤ nodes }
 {
-    let mut best = None;
+    let mut count = 0;
     for v in 0..nodes {
         if waits[v as usize] {
-            best = nearer(best, v, row[v as usize], labels[v as usize]);
+            list[count as usize] = v;
+            count += 1;
         }
+    }
+    count
+}
+
+/// The place of the waiting node whose key comes first, None where none has a walk.
+fn nearest(labels: &[i128], list: &[u32], count: u32, row: &[Cell]) -> Option<Near>
+    requires places { count ≤ length list.now }
+    requires inside { (i : ℕ) → i < count → node_at list.now i < length row.now }
+    requires labelled { (i : ℕ) → i < count → node_at list.now i < length labels.now }
+    requires room { HasRoom count (cell_by (cell_at row.now) list.now) }
+    requires near { AreNear (2 * most_label) labels.now }
+    ensures { IsNearest count (label_by (label_in labels.now) list.now) (cell_by (cell_at row.now) list.now) every result }
+{
+    let mut best = None;
+    for i in 0..count {
+        let v = list[i as usize] as usize;
+        best = nearer(best, i, row[v], labels[v]);
     }
     best
 }
@@ -109,31 +126,31 @@ fn is_past(cap: Option<i128>, own: Cell, cost: i128, round: u32) -> bool
     has_by(own, cost, round) || is_capped(cap, cost)
 }
 
-/// The node that is settled next: the waiting one whose key comes first. None where no waiting node matters: its key is
-/// past that of the end, or past the cap.
-fn next_node(
+/// The place of the node that is settled next: the waiting one whose key comes first. None where no waiting node matters:
+/// its key is past that of the end, or past the cap.
+fn next_place(
     end: u32,
     base: i128,
     cap: Option<i128>,
     labels: &[i128],
-    waits: &[bool],
+    list: &[u32],
+    count: u32,
     row: &[Cell],
-    nodes: u32,
 ) -> Option<u32>
-    requires sized { nodes ≤ length row.now }
-    requires waits_sized { nodes ≤ length waits.now }
-    requires room { HasRoom nodes (cell_at row.now) }
-    requires labelled { (v : ℕ) → v < nodes → flag_at waits.now v ≡ true → v < length labels.now }
+    requires places { count ≤ length list.now }
+    requires inside { (i : ℕ) → i < count → node_at list.now i < length row.now }
+    requires labelled { (i : ℕ) → i < count → node_at list.now i < length labels.now }
+    requires room { HasRoom count (cell_by (cell_at row.now) list.now) }
     requires near { AreNear (2 * most_label) labels.now }
-    requires inside { end < nodes }
+    requires last { end < length row.now }
     requires base { IsAtMost base (2 * most_label) }
-    ensures { IsNext nodes base cap (label_in labels.now) (cell_at row.now) (cell_at row.now end) (flag_at waits.now) result }
+    ensures { IsNext count base cap (label_by (label_in labels.now) list.now) (cell_by (cell_at row.now) list.now) (cell_at row.now end) every result }
 {
-    let near = nearest(labels, waits, row, nodes)?;
+    let near = nearest(labels, list, count, row)?;
     if is_past(cap, row[end as usize], over(near.key, base), near.round) {
         None
     } else {
-        Some(near.node)
+        Some(near.place)
     }
 }
 
@@ -168,49 +185,45 @@ fn offered(own: Cell, first: Option<i128>, beyond: Cell, u: u32) -> Cell
     }
 }
 
-/// The cell of a node after another one is settled: only a node that waits and the end go on over that one.
-fn after_offer<C: Costs>(
-    costs: &C,
-    end: u32,
-    u: u32,
-    beyond: Cell,
-    waits: bool,
-    v: u32,
-    own: Cell,
-) -> Cell
+/// The cell of node `v` once `u` is settled, whose own cell is the one beyond.
+fn after_offer<C: Costs>(costs: &C, u: u32, beyond: Cell, v: u32, own: Cell) -> Cell
     requires inside { v < C.node_count costs.now }
     requires settled { u < C.node_count costs.now }
     requires room { ForSome beyond.cost (λ w. IsAtMost w most_walk_cost) }
     requires counted { beyond.round < 2 ^ 31 }
-    ensures { AfterOffer (C.arc costs.now) end u beyond waits v own result }
+    ensures { IsOffered own (C.arc costs.now v u) beyond u result }
 {
-    if waits || v == end {
-        offered(own, costs.cost(v, u), beyond, u)
-    } else {
-        own
-    }
+    offered(own, costs.cost(v, u), beyond, u)
 }
 
 /// Goes on over a node that is settled, from each node that waits and from the end.
-fn offer<C: Costs>(costs: &C, end: u32, u: u32, waits: &[bool], row: &mut [Cell])
+fn offer<C: Costs>(costs: &C, end: u32, u: u32, list: &[u32], count: u32, row: &mut [Cell])
     requires sized { C.node_count costs.now ≤ length row.old }
-    requires waits_sized { C.node_count costs.now ≤ length waits.now }
+    requires places { count ≤ length list.now }
+    requires inside { (i : ℕ) → i < count → node_at list.now i < C.node_count costs.now }
+    requires once { (i k : ℕ) → i < count → k < count → node_at list.now i ≡ node_at list.now k → i ≡ k }
+    requires off { (i : ℕ) → i < count → node_at list.now i ≢ end }
+    requires last { end < C.node_count costs.now }
     requires settled { u < C.node_count costs.now }
-    requires room { HasRoom (C.node_count costs.now) (cell_at row.old) }
+    requires room { ForSome (cell_at row.old u).cost (λ w. IsAtMost w most_walk_cost) }
     requires counted { (cell_at row.old u).round < 2 ^ 31 }
-    ensures { (v : ℕ) → v < C.node_count costs.now → AfterOffer (C.arc costs.now) end u (cell_at row.old u) (flag_at waits.now v) v (cell_at row.old v) (cell_at row.new v) }
+    ensures { AreOffered (C.arc costs.now) end u list.now count (cell_at row.old) (cell_at row.new) }
 {
     let beyond = row[u as usize];
-    for v in 0..costs.nodes() {
+    for i in 0..count {
+        let v = list[i as usize];
         let own = row[v as usize];
-        row[v as usize] = after_offer(costs, end, u, beyond, waits[v as usize], v, own);
+        row[v as usize] = after_offer(costs, u, beyond, v, own);
     }
+    let own = row[end as usize];
+    row[end as usize] = after_offer(costs, u, beyond, end, own);
 }
 
 /// Finds, from each node, the walk to `end` of least cost, of these one with the fewest arcs, and of these that over
 /// the lowest nodes (Dijkstra 1959): a node's key is the cost of its walk and its label. Labels keep the arcs, so that
 /// a key is never below that of the node it goes on over, and nodes are settled in the order of their keys. The search
 /// stops once no waiting node can lead to a better walk from the end to itself, or to one that costs less than the cap.
+/// Only nodes that wait are gone over: they stand at the front of `list`.
 pub(crate) fn search_kept<C: Costs>(
     costs: &C,
     end: u32,
@@ -219,26 +232,33 @@ pub(crate) fn search_kept<C: Costs>(
     labels: &[i128],
     waits: &mut [bool],
     row: &mut [Cell],
+    list: &mut [u32],
 )
     requires sized { C.node_count costs.now ≤ length row.old }
     requires waits_sized { C.node_count costs.now ≤ length waits.old }
+    requires places { C.node_count costs.now ≤ length list.old }
     requires few { C.node_count costs.now ≤ most_graph_nodes + 1 }
     requires inside { end < C.node_count costs.now }
     requires based { base ≡ label_in labels.now end }
     requires labelled { (v : ℕ) → v < C.node_count costs.now → v ≢ end → v < length labels.now }
     requires near { AreNear (2 * most_label) labels.now }
     requires shut { flag_at waits.old end ≡ false }
-    requires covers { (v u : ℕ) (cost : ℤ) → v ≢ end → C.arc costs.now v u ≡ Some cost → flag_at waits.old v ≡ true }
+    requires begins { (v u : ℕ) (cost : ℤ) → v ≢ end → u ≢ end → C.arc costs.now v u ≡ Some cost → flag_at waits.old v ≡ true }
+    requires passes { (v u : ℕ) (cost last : ℤ) → u ≢ end → C.arc costs.now v u ≡ Some cost → C.arc costs.now u end ≡ Some last → flag_at waits.old u ≡ true }
     requires keeps { KeepsArcsOff (C.arc costs.now) end (label_in labels.now) }
     ensures { IsStopped (C.node_count costs.now) (C.arc costs.now) end cap (label_in labels.now) (cell_at row.new) (flag_at waits.new) }
 {
     let nodes = costs.nodes();
     begin(costs, end, row);
+    let mut count = list_waiting(waits, nodes, list);
     for settled in 0..nodes {
-        match next_node(end, base, cap, labels, waits, row, nodes) {
-            Some(u) => {
+        match next_place(end, base, cap, labels, list, count, row) {
+            Some(place) => {
+                let u = list[place as usize];
+                count -= 1;
+                list[place as usize] = list[count as usize];
                 waits[u as usize] = false;
-                offer(costs, end, u, waits, row);
+                offer(costs, end, u, list, count, row);
             }
             None => return,
         }

@@ -11,7 +11,7 @@ ghost use Rattle.tn_cycle.specs.Widths.{label_step, most_graph_nodes, most_label
 
 use crate::answer::Path;
 use crate::cell::Cell;
-use crate::graphs::{Looked, Sunk, Turned};
+use crate::graphs::{Admitted, Looked, Sunk, Turned};
 use crate::kept::{is_capped, search_kept};
 use crate::labels::{lowest_cost, write_labels};
 use crate::read::list_way;
@@ -131,7 +131,7 @@ fn find_kept<C: Costs>(
     ensures near { (reach : ℕ) → AreNear reach labels.old → AreNear (reach + 2 * (C.node_count costs.now * most_cost)) labels.new }
 {
     let base = labels[node as usize];
-    search_kept(costs, node, base, cap, labels, waits, row);
+    search_kept(costs, node, base, cap, labels, waits, row, path);
     let found = read_cycle(row, node, cap, path);
     raise(labels, row, node, gain(base, found.cost()));
     found
@@ -276,24 +276,78 @@ pub(crate) fn least_kept<C: Costs, const W: usize>(
     find_kept(looked, looked.node, None, labels, waits, row, path)
 }
 
-/// Labels at most 0 that keep the arcs, by labels that do.
+/// Labels at most 0 that keep the arcs, by labels that do. The nodes that arcs lead between are marked by `waits`: no
+/// other one is gone over.
 pub(crate) fn relabel_kept<C: Costs>(
     costs: &C,
     labels: &mut [i128],
     waits: &mut [bool],
     row: &mut [Cell],
+    path: &mut [u32],
 )
     requires labels_sized { length labels.old ≡ C.node_count costs.now }
     requires sized { C.node_count costs.now + 1 ≤ length row.old }
     requires waits_sized { length waits.old ≡ C.node_count costs.now + 1 }
+    requires path_sized { C.node_count costs.now + 1 ≤ length path.old }
+    requires marked { (u v : ℕ) (cost : ℤ) → C.arc costs.now u v ≡ Some cost → (flag_at waits.old u ≡ true) × (flag_at waits.old v ≡ true) }
     requires few { C.node_count costs.now ≤ most_graph_nodes }
     requires near { AreNear most_label labels.old }
     requires keeps { KeepsArcs (C.arc costs.now) (label_in labels.old) }
     ensures { AreLabels (C.node_count costs.now) (C.arc costs.now) labels.new }
 {
     let sink = costs.nodes();
-    waits.fill(true);
     waits[sink as usize] = false;
-    search_kept(&Sunk { costs, sink }, sink, 0, None, labels, waits, row);
+    search_kept(
+        &Sunk { costs, sink },
+        sink,
+        0,
+        None,
+        labels,
+        waits,
+        row,
+        path,
+    );
     write_labels(row, lowest_cost(row, sink), labels);
+}
+
+/// The same on a graph of which no part is known to have no arcs.
+pub(crate) fn relabel_all<C: Costs>(
+    costs: &C,
+    labels: &mut [i128],
+    waits: &mut [bool],
+    row: &mut [Cell],
+    path: &mut [u32],
+)
+    requires labels_sized { length labels.old ≡ C.node_count costs.now }
+    requires sized { C.node_count costs.now + 1 ≤ length row.old }
+    requires waits_sized { length waits.old ≡ C.node_count costs.now + 1 }
+    requires path_sized { C.node_count costs.now + 1 ≤ length path.old }
+    requires few { C.node_count costs.now ≤ most_graph_nodes }
+    requires near { AreNear most_label labels.old }
+    requires keeps { KeepsArcs (C.arc costs.now) (label_in labels.old) }
+    ensures { AreLabels (C.node_count costs.now) (C.arc costs.now) labels.new }
+{
+    waits.fill(true);
+    relabel_kept(costs, labels, waits, row, path);
+}
+
+/// The same on the admitted trades and the null node alone.
+pub(crate) fn relabel_among<C: Costs, const W: usize>(
+    among: &Admitted<'_, C, W>,
+    labels: &mut [i128],
+    waits: &mut [bool],
+    row: &mut [Cell],
+    path: &mut [u32],
+)
+    requires labels_sized { length labels.old ≡ among.now.null + 1 }
+    requires sized { length labels.old + 1 ≤ length row.old }
+    requires waits_sized { length waits.old ≡ length labels.old + 1 }
+    requires path_sized { length labels.old + 1 ≤ length path.old }
+    requires few { length labels.old ≤ most_graph_nodes }
+    requires near { AreNear most_label labels.old }
+    requires keeps { KeepsArcs (arcs_among (is_admitted among.now.null among.now.admitted.now) (C.arc among.now.costs.now)) (label_in labels.old) }
+    ensures { AreLabels (among.now.null + 1) (arcs_among (is_admitted among.now.null among.now.admitted.now) (C.arc among.now.costs.now)) labels.new }
+{
+    among.mark_nodes(waits);
+    relabel_kept(among, labels, waits, row, path);
 }

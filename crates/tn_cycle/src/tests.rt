@@ -79,7 +79,8 @@ fn finds_the_least_ring(rt: HostRuntime) -> Result<(), Fail> {
     let path = finder.least_through(&ring, 0, &admitted);
     assert_eq!(rt; path, Path::Cycle { cost: 7, length: 4 });
     finder.label_all();
-    finder.relabel(&ring);
+    admitted.toggle(0);
+    finder.relabel(&ring, &admitted);
     assert_eq!(rt; [finder.label(0), finder.label(3)], [0, 0]);
     Ok(())
 }

@@ -20,7 +20,7 @@ ghost use Rattle.tn_market.specs.NetworkOf.{network_of};
 
 use std::alloc::Global;
 use tn_base::{OutOfMemory, Steps, TradeSet};
-use tn_cycle::{Admitted, Finder, Path};
+use tn_cycle::{Finder, Path};
 use tn_graph::Graph;
 use tn_market::{Market, Valuation};
 
@@ -211,11 +211,6 @@ impl<const W: usize> Rounds<W> {
         ensures labels { AreLabels (length market.now.trades + 1) (arcs_among (is_admitted (length market.now.trades) self.old.allowed)
             (network_of V.firm market.now exchange_arc self.old.on)) self.new.finder.labels }
     {
-        let admitted = Admitted {
-            costs: &self.graph,
-            null: market.trades(),
-            admitted: &self.allowed,
-        };
-        self.finder.relabel(&admitted);
+        self.finder.relabel(&self.graph, &self.allowed);
     }
 }

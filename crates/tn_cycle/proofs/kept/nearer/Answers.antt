@@ -17,7 +17,7 @@ returns-in-Some-best c =
     let yes = c.is_not_after.ensures.yes c.if-is_not_after.true in
     let after = simp to_z-of_z at yes in
     let key_is = simp to_z-of_z at c.key.ensures in
-    nearer_kept c.args.best c.args.node c.args.own c.args.label c.in-Some.cost near c.in-Some-best.is c.in-Some.is
+    nearer_kept c.args.best c.args.place c.args.own c.args.label c.in-Some.cost near c.in-Some-best.is c.in-Some.is
     (subst (λ (z : ℤ). IsNotAfter near.key near.round z c.args.own.round) key_is after)
 
 pub returns-in_default-best : goal.returns-in_default-best
@@ -30,5 +30,5 @@ returns-in_default-best c =
     let no = c.is_not_after.ensures.no c.if-is_not_after.false in
     let before = simp to_z-of_z at no in
     let key_is = simp to_z-of_z at c.key.ensures in
-    simp to_z-of_z (nearer_taken c.args.best c.args.node c.args.own c.args.label c.in-Some.cost c.key.result c.in-Some.is key_is
+    simp to_z-of_z (nearer_taken c.args.best c.args.place c.args.own c.args.label c.in-Some.cost c.key.result c.in-Some.is key_is
     (λ other is. subst (λ (n : Near). IsNotAfter c.key.result c.args.own.round n.key n.round) (same_near c.args.best near other c.in-Some-best.is is) before))

@@ -1,10 +1,10 @@
-use Rattle.std.proofs.Common.{◌≡◌, ℕ, ◌<◌, ◌≤◌}
+use Rattle.std.proofs.Common.{◌≡◌, ◌≢◌, ℕ, ◌<◌}
 use Rattle.tn_cycle.specs.Cells.{cell_at}
-use Rattle.tn_cycle.specs.Kept.{AfterOffer, flag_at}
+use Rattle.tn_cycle.specs.Kept.{IsOffered, node_at}
 use Rattle.tn_cycle.proofs.kept.offer.Given as goal
 
-abbrev pub invariant-loop-v : goal.invariant-loop-v
-invariant-loop-v g l = record {
-  offered : (k : ℕ) → k < l.v → AfterOffer (g.C.Costs.arc l.costs) l.end l.u l.beyond (flag_at l.waits k) k (cell_at l.initial.row k) (cell_at l.row k);
-  left : (k : ℕ) → l.v ≤ k → cell_at l.row k ≡ cell_at l.initial.row k;
+abbrev pub invariant-loop-i : goal.invariant-loop-i
+invariant-loop-i g l = record {
+  offered : (k : ℕ) → k < l.i → IsOffered (cell_at l.initial.row (node_at l.list k)) (g.C.Costs.arc l.costs (node_at l.list k) l.u) l.beyond l.u (cell_at l.row (node_at l.list k));
+  left : (v : ℕ) → ((k : ℕ) → k < l.i → node_at l.list k ≢ v) → cell_at l.row v ≡ cell_at l.initial.row v;
 }

@@ -1,7 +1,7 @@
-use Rattle.std.proofs.Common.{◌+◌, ◌<◌}
+use Rattle.std.proofs.Common.{◌+◌, ◌<◌, ◌≤◌}
 use Rattle.tn_cycle.specs.Answers.{label_in}
 use Rattle.tn_cycle.specs.Cells.{cell_at}
-use Rattle.tn_cycle.specs.Kept.{IsUnderWay, flag_at}
+use Rattle.tn_cycle.specs.Kept.{AreWaiting, IsUnderWay, flag_at}
 use Rattle.tn_cycle.proofs.KeptLemmas.{waiting}
 use Rattle.tn_cycle.proofs.kept.search_kept.Given as goal
 
@@ -9,4 +9,6 @@ abbrev pub invariant-loop-settled : goal.invariant-loop-settled
 invariant-loop-settled g l = record {
   known : IsUnderWay (g.C.Costs.node_count l.costs) (g.C.Costs.arc l.costs) l.end (label_in l.labels) (cell_at l.row) (flag_at l.waits) l.settled;
   fewer : l.settled + waiting (g.C.Costs.node_count l.costs) (flag_at l.waits) < g.C.Costs.node_count l.costs;
+  listed : AreWaiting (g.C.Costs.node_count l.costs) (flag_at l.waits) l.list l.count;
+  few : l.count ≤ g.C.Costs.node_count l.costs;
 }

@@ -1,8 +1,8 @@
-use Rattle.std.proofs.Common.{◌≡◌, ◌-◌, ap, arith, ℕ, true, false, length}
-use Rattle.tn_base.specs.Walks.{arcs_among, is_looked_at}
+use Rattle.std.proofs.Common.{◌≡◌, ◌-◌, ap, arith, false, length}
+use Rattle.tn_base.specs.Walks.{arcs_among, is_admitted, is_looked_at}
 use Rattle.tn_cycle.specs.Reading.{Reading, nothing}
 use Rattle.tn_cycle.specs.Ring.{ring}
-use Rattle.tn_cycle.proofs.RingLemmas.{all_zero_keep, all_zero_near, zeros_keep_all, zeros_keep_among}
+use Rattle.tn_cycle.proofs.RingLemmas.{all_zero_keep, all_zero_near, zeros_keep_among}
 use Rattle.tn_cycle.proofs.tests.finds_the_least_ring.Goals as goal
 
 pub least_through-path-requires : goal.least_through-path-requires
@@ -40,9 +40,19 @@ relabel-requires g c =
     let first : c.label_all.new.self.nodes ≡ 4 = omega (arith, had, c.label_all.ensures.rest.same_nodes) in
     let second : c.least_through-path.new.self.nodes ≡ 4 = omega (arith, first, c.least_through-path.ensures.rest.same_nodes) in
     let nodes : labelled.nodes ≡ 4 = omega (arith, second, c.label_all-2.ensures.rest.same_nodes) in
-    record {
-      sized = omega (arith, nodes);
-      labelled = omega (arith, nodes, second, c.label_all-2.ensures.one_each);
-      near = all_zero_near labelled.labels c.label_all-2.ensures.zero;
-      keeps = all_zero_keep (ring 4 false) labelled.labels c.label_all-2.ensures.zero (zeros_keep_all 4);
-    }
+    let test = is_admitted (labelled.nodes - 1) c.toggle-3.new.self in (
+      omega arith,
+      (
+        omega (arith, nodes),
+        (
+          omega (arith, nodes),
+          (
+            omega (arith, nodes, second, c.label_all-2.ensures.one_each),
+            (
+              all_zero_near labelled.labels c.label_all-2.ensures.zero,
+              all_zero_keep (arcs_among test (ring 4 false)) labelled.labels c.label_all-2.ensures.zero (zeros_keep_among test 4),
+            ),
+          ),
+        ),
+      ),
+    )

@@ -13,10 +13,10 @@ use Rattle.tn_cycle.proofs.finder.Finder.labels.Goals as goal
 pub returns-in-None-clause-answer : goal.returns-in-None-clause-answer
 returns-in-None-clause-answer g c =
     let arc = g.C.Costs.arc c.args.costs.now in
-    let labels = c.relabel.new.self.labels in
+    let labels = c.settle.new.self.labels in
     let same : c.args.self.now.nodes ≡ c.self.inside.nodes = ap (λ (reading : Reading). reading.nodes) (sym c.self.view_is) in
-    let are : AreLabels c.args.self.now.nodes arc labels = subst (λ (n : ℕ). AreLabels n arc labels) (sym same) c.relabel.ensures.labels in
-    (none_negative_kept arc (label_in labels) are.keeps, are, c.relabel.ensures.none_listed)
+    let are : AreLabels c.args.self.now.nodes arc labels = subst (λ (n : ℕ). AreLabels n arc labels) (sym same) c.settle.ensures.labels in
+    (none_negative_kept arc (label_in labels) are.keeps, are, c.settle.ensures.none_listed)
 
 pub returns-in-Cycle-clause-answer : goal.returns-in-Cycle-clause-answer
 returns-in-Cycle-clause-answer g c =
