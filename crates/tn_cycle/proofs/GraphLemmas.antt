@@ -102,3 +102,7 @@ admitted_marked null allowed arc mark between marks u v cost is =
     let passes = and_parts (is_admitted null allowed u) (is_admitted null allowed v) inside.0 in
     let two = between u v cost inside.1 in
     (marks u (omega (arith, two.0)) ∙ passes.0, marks v (omega (arith, two.1)) ∙ passes.1)
+
+-- where there is no arc, there is none among some nodes
+pub among_none : (test : ℕ → Bool) (arc : ℕ → ℕ → Option ℤ) (a b : ℕ) → arc a b ≡ None → arcs_among test arc a b ≡ None
+among_none test arc a b none = cond_both (test a && test b) (arc a b) None (λ z. z ≡ None) (λ _. none) (λ _. refl)

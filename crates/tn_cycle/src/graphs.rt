@@ -8,7 +8,8 @@ ghost use Rattle.tn_cycle.specs.GraphLemmas.{between-arcs_among, between-turned,
 
 use tn_base::{Costs, TradeSet};
 
-/// A graph's admitted trades and its null node, with the arcs among them.
+/// A graph's admitted trades and its null node, with the arcs among them. Most two nodes have no arc, so that the graph is
+/// asked first, and then whether both are among these.
 #[derive(Drop)]
 pub struct Admitted<'a, C: Costs, const W: usize> {
     /// The graph.
@@ -53,8 +54,9 @@ impl<C: Costs, const W: usize> Costs for Admitted<'_, C, W> {
     }
 
     fn cost(&self, a: u32, b: u32) -> Option<i128> {
+        let cost = self.costs.cost(a, b)?;
         if self.admits(a) && self.admits(b) {
-            self.costs.cost(a, b)
+            Some(cost)
         } else {
             None
         }
@@ -110,8 +112,9 @@ impl<C: Costs, const W: usize> Costs for Looked<'_, C, W> {
     }
 
     fn cost(&self, a: u32, b: u32) -> Option<i128> {
+        let cost = self.among.costs.cost(a, b)?;
         if self.looks_at(a) && self.looks_at(b) {
-            self.among.costs.cost(a, b)
+            Some(cost)
         } else {
             None
         }
