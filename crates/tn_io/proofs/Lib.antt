@@ -2,3 +2,4 @@
 pub mod Taken
 pub mod Grown
 pub mod Moved
+pub mod LineLemmas

@@ -1,6 +1,7 @@
 //! Sources that are read and sinks that are written: in memory, in memory with failures, over std.
 #![tactic(auto)]
 
+mod lines;
 mod memory;
 mod reading;
 mod sink;
@@ -11,6 +12,7 @@ mod steady;
 mod tests;
 mod writing;
 
+pub use lines::{LineReader, LineStop};
 pub use memory::{MemorySink, MemorySource};
 pub use reading::{ReadStop, read_all};
 pub use sink::{Sink, WriteFailed};
