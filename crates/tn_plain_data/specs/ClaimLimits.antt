@@ -3,11 +3,12 @@ use Rattle.std.specs.Prelude.{◌≡◌, ℕ, ◌^◌, ◌<◌, ◌≤◌, ℤ, 
 use Rattle.tn_base.specs.Arcs.{IsAtMost}
 use Rattle.tn_base.specs.Firm.{Firm}
 use Rattle.tn_plain_data.specs.declared.claim.Claim.{Claim}
-use Rattle.tn_plain_data.specs.declared.claim.Claim.TheVariants.{Equilibrium, Better, Impossible, Accepted, ExchangeFails, Supported, Cycle, Solved, Drops, Completes, Blocks}
+use Rattle.tn_plain_data.specs.declared.claim.Claim.TheVariants.{Equilibrium, Better, Impossible, Accepted, ExchangeFails, Supported, Cycle, Solved, Drops, Completes, Blocks, NoPrices}
 use Rattle.tn_plain_data.specs.declared.contract.Contract.{Contract}
 use Rattle.tn_plain_data.specs.declared.ends.Ends.{Ends}
+use Rattle.tn_plain_data.specs.declared.part.Part.{Part}
 use Rattle.tn_plain_data.specs.Choices.{IsFeasible}
-use Rattle.tn_plain_data.specs.Limits.{most_price, most_number, most_claimed_over, least_nodes, most_nodes}
+use Rattle.tn_plain_data.specs.Limits.{most_price, most_number, most_claimed_over, most_planned_trades, least_nodes, most_nodes}
 use Rattle.tn_plain_data.specs.OutcomeLimits.{IsOutcomeWithin}
 
 -- a price of at most so much in size for each trade
@@ -38,6 +39,10 @@ pub record AreNodesWithin (trades : ℕ) (nodes : List (Option ℕ)) : Type 0 wh
 abbrev pub IsFirmWith : List Firm → ℕ → (Firm → Type 0) → Type 0
 IsFirmWith firms f holds = (firm : Firm) × (slice_get firms f ≡ Some firm) × holds firm
 
+-- a part of a plan is a bundle of a firm, with a weight
+abbrev pub IsPartWithin : List Firm → Part → Type 0
+IsPartWithin firms part = IsFirmWith firms part.firm (λ firm. part.bundle < 2 ^ firm.count) × IsOverWithin part.weight
+
 -- a claim on a network speaks of its firms, trades and positions, within the limits of numbers
 abbrev pub IsClaimWithin : List Firm → List Ends → Claim → Type 0
 IsClaimWithin firms trades (Equilibrium at surplus) = (at.on < 2 ^ length trades) × ArePricesWithin (length trades) most_price at.prices × IsNumberWithin surplus
@@ -51,3 +56,4 @@ IsClaimWithin firms trades (Solved at surplus) = (at.on < 2 ^ length trades) × 
 IsClaimWithin firms trades (Drops outcome f keeps gain over) = IsOutcomeWithin (length trades) outcome × IsFirmWith firms f (λ firm. keeps < 2 ^ firm.count) × IfSome gain IsNumberWithin × IsOverWithin over
 IsClaimWithin firms trades (Completes outcome prices over) = IsOutcomeWithin (length trades) outcome × ArePricesWithin (length trades) most_number prices × IsOverWithin over
 IsClaimWithin firms trades (Blocks outcome contracts over) = IsOutcomeWithin (length trades) outcome × AreOffersWithin trades contracts × IsOverWithin over
+IsClaimWithin firms trades (NoPrices plan over) = (length trades ≤ most_planned_trades) × All (IsPartWithin firms) plan × IsOverWithin over

@@ -44,6 +44,10 @@ least_nodes = 2
 abbrev pub most_nodes : ℕ
 most_nodes = 129
 
+-- the most trades of a document whose claim is a plan in parts: it is held against every set of them
+abbrev pub most_planned_trades : ℕ
+most_planned_trades = 20
+
 -- the most own trades of a table, and of a firm of another kind
 abbrev pub most_own_of_table : ℕ
 most_own_of_table = 14

@@ -1,10 +1,10 @@
 use crate::arrangement::Arrangement;
 use crate::contract::Outcome;
-use crate::lists::{Contracts, Nodes, Prices};
+use crate::lists::{Contracts, Nodes, Parts, Prices};
 use tn_base::{Bundle, TradeSet};
 
-/// What somebody claims of a network, with the part of the document that the claim speaks of. Each claim is an answer of
-/// the program. Bundles and positions are those of the claimed firm.
+/// What somebody claims of a network, with the part of the document that the claim speaks of. Each claim but the
+/// last is an answer of the program. Bundles and positions are those of the claimed firm.
 #[derive(Debug, Drop)]
 pub enum Claim {
     /// The arrangement is an equilibrium with this surplus.
@@ -96,6 +96,13 @@ pub enum Claim {
         outcome: Outcome,
         /// The contracts, in the claim's order.
         contracts: Contracts,
+        /// Their denominator.
+        over: i128,
+    },
+    /// The plan in parts is worth more than any set of trades, so that no prices make one an equilibrium.
+    NoPrices {
+        /// The parts, in the claim's order.
+        plan: Parts,
         /// Their denominator.
         over: i128,
     },

@@ -9,6 +9,7 @@ mod ends;
 mod holding;
 mod limits;
 mod lists;
+mod part;
 mod place;
 mod positions;
 mod range;
@@ -24,9 +25,10 @@ pub use ends::Ends;
 pub use holding::Holding;
 pub use limits::Limits;
 pub use lists::{
-    Amounts, Contracts, Edits, Holdings, Lent, Listed, Nodes, Numbers, Place, Prices, Ranges,
-    States, Trades,
+    Amounts, Contracts, Edits, Holdings, Lent, Listed, Nodes, Numbers, Parts, Place, Prices,
+    Ranges, States, Trades,
 };
+pub use part::Part;
 pub use place::{PlaceStep, Word};
 pub use positions::{own, trades_of};
 pub use range::Range;

@@ -2,6 +2,7 @@ ghost use Rattle.std.specs.Prelude.{◌≡◌, ◌<◌, Some, length, slice_get}
 
 use crate::contract::Contract;
 use crate::holding::Holding;
+use crate::part::Part;
 use crate::place::PlaceStep;
 use crate::range::Range;
 use crate::session::{Edit, State};
@@ -17,6 +18,8 @@ pub type Contracts = Listed<Contract>;
 pub type Nodes = Listed<Option<u32>>;
 /// The way from the top of a document to a value in it.
 pub type Place = Listed<PlaceStep>;
+/// The parts of a plan: weights over a denominator that is said beside them.
+pub type Parts = Listed<Part>;
 /// Numbers of cases.
 pub type Numbers = Listed<u32>;
 /// Whole numbers of worth.

@@ -85,4 +85,21 @@ pub enum Reason {
         /// The trade of its first such contract.
         trade: u32,
     },
+    /// The weights of a firm's parts exceed the denominator.
+    Shares {
+        /// The first such firm.
+        firm: u32,
+    },
+    /// A trade doesn't weigh the same at its seller and its buyer.
+    Balance {
+        /// The first such trade.
+        trade: u32,
+    },
+    /// A set of trades is worth as much as the plan, or more.
+    Whole {
+        /// The trades of such a set, ascending.
+        on: Trades,
+        /// Its surplus.
+        surplus: i128,
+    },
 }
