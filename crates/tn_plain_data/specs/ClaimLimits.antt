@@ -8,7 +8,7 @@ use Rattle.tn_plain_data.specs.declared.contract.Contract.{Contract}
 use Rattle.tn_plain_data.specs.declared.ends.Ends.{Ends}
 use Rattle.tn_plain_data.specs.declared.part.Part.{Part}
 use Rattle.tn_plain_data.specs.Choices.{IsFeasible}
-use Rattle.tn_plain_data.specs.Limits.{most_price, most_number, most_claimed_over, most_planned_trades, least_nodes, most_nodes}
+use Rattle.tn_plain_data.specs.Limits.{most_price, most_number, most_claimed_over, most_planned_trades, most_parts, least_nodes, most_nodes}
 use Rattle.tn_plain_data.specs.OutcomeLimits.{IsOutcomeWithin}
 
 -- a price of at most so much in size for each trade
@@ -56,4 +56,4 @@ IsClaimWithin firms trades (Solved at surplus) = (at.on < 2 ^ length trades) × 
 IsClaimWithin firms trades (Drops outcome f keeps gain over) = IsOutcomeWithin (length trades) outcome × IsFirmWith firms f (λ firm. keeps < 2 ^ firm.count) × IfSome gain IsNumberWithin × IsOverWithin over
 IsClaimWithin firms trades (Completes outcome prices over) = IsOutcomeWithin (length trades) outcome × ArePricesWithin (length trades) most_number prices × IsOverWithin over
 IsClaimWithin firms trades (Blocks outcome contracts over) = IsOutcomeWithin (length trades) outcome × AreOffersWithin trades contracts × IsOverWithin over
-IsClaimWithin firms trades (NoPrices plan over) = (length trades ≤ most_planned_trades) × All (IsPartWithin firms) plan × IsOverWithin over
+IsClaimWithin firms trades (NoPrices plan over) = (length trades ≤ most_planned_trades) × All (IsPartWithin firms) plan × IsOverWithin over × (length plan ≤ most_parts)

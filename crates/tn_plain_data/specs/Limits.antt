@@ -48,6 +48,10 @@ most_nodes = 129
 abbrev pub most_planned_trades : ℕ
 most_planned_trades = 20
 
+-- the most parts of a plan; a best one needs no more than there are firms and trades
+abbrev pub most_parts : ℕ
+most_parts = 1024
+
 -- the most own trades of a table, and of a firm of another kind
 abbrev pub most_own_of_table : ℕ
 most_own_of_table = 14

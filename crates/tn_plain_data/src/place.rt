@@ -37,6 +37,7 @@ pub enum Word {
     Nodes,
     Cost,
     Keeps,
+    Plan,
 }
 
 /// A step on the way from the top of a document to a value in it.
