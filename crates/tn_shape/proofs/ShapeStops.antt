@@ -8,7 +8,7 @@ use Rattle.tn_base.specs.declared.fault.FaultKind.TheVariants.{Shape, Limit, Amo
 use Rattle.tn_plain_data.specs.declared.place.PlaceStep.{PlaceStep}
 use Rattle.tn_shape.specs.declared.members.ObjectKind.{ObjectKind}
 use Rattle.tn_shape.specs.Reading.{wanted, holds}
-use Rattle.tn_shape.specs.Shapes.{text_at, list_at, optional_list_at, few_at, object_at, two_of, two_at, whole_at, number_in, object_of}
+use Rattle.tn_shape.specs.Shapes.{text_at, list_at, optional_list_at, few_at, object_at, three_of, three_at, two_of, two_at, whole_at, number_in, object_of}
 use Rattle.tn_shape.specs.Members.{allows_all}
 use Rattle.tn_shape.proofs.StopLemmas.{StopsPlainly, IsPlain, IsPlainPlace, stops_ok, stops_bind, plain_wanted, plain_holds}
 
@@ -41,6 +41,10 @@ module _ (place : List PlaceStep) (plain : IsPlainPlace place) where
   pub two_stops : (value : Data) → StopsPlainly (two_at place value)
   unfolding two_at
   two_stops value = stops_bind IsPlain (list_at place (Some value)) _ (list_stops (Some value)) (λ items. plain_wanted Shape place (two_of items) refl plain)
+
+  pub three_stops : (value : Data) → StopsPlainly (three_at place value)
+  unfolding three_at
+  three_stops value = stops_bind IsPlain (list_at place (Some value)) _ (list_stops (Some value)) (λ items. plain_wanted Shape place (three_of items) refl plain)
 
   pub whole_stops : (value : Option Data) → StopsPlainly (whole_at place value)
   whole_stops value = plain_wanted Shape place (option_and_then as_i64 (option_and_then as_number value)) refl plain

@@ -1,8 +1,8 @@
--- The kinds of claims: the word of each, which is that of the answer, and the members that it may have.
+-- The kinds of claims: the word of each, which is that of its answer, and the members that it may have.
 use Rattle.std.specs.Prelude.{ℕ, ◌||◌, List, codes, Bool, if◌then◌else◌, Option, Some, None}
 use Rattle.std.specs.Str.{bytes_eq}
 use Rattle.tn_shape.specs.declared.claims.ClaimKind.{ClaimKind}
-use Rattle.tn_shape.specs.declared.claims.ClaimKind.TheVariants.{Equilibrium, Better, Impossible, Accepted, ExchangeFails, Supported, Cycle, Solved, Drops, Completes, Blocks}
+use Rattle.tn_shape.specs.declared.claims.ClaimKind.TheVariants.{Equilibrium, Better, Impossible, Accepted, ExchangeFails, Supported, Cycle, Solved, Drops, Completes, Blocks, NoPrices}
 
 -- the kind of claim that a text names
 abbrev pub claim_named : List ℕ → Option ClaimKind
@@ -18,6 +18,7 @@ claim_named text =
     else if bytes_eq text (codes "drops") then Some Drops
     else if bytes_eq text (codes "completes") then Some Completes
     else if bytes_eq text (codes "blocks") then Some Blocks
+    else if bytes_eq text (codes "none") then Some NoPrices
     else None
 
 -- the members that a claim of a kind may have: those of the answer
@@ -33,3 +34,4 @@ allows_in_claim Solved k = bytes_eq k (codes "answer") || bytes_eq k (codes "on"
 allows_in_claim Drops k = bytes_eq k (codes "answer") || bytes_eq k (codes "firm") || bytes_eq k (codes "gain") || bytes_eq k (codes "keeps") || bytes_eq k (codes "over")
 allows_in_claim Completes k = bytes_eq k (codes "answer") || bytes_eq k (codes "over") || bytes_eq k (codes "prices")
 allows_in_claim Blocks k = bytes_eq k (codes "answer") || bytes_eq k (codes "contracts") || bytes_eq k (codes "over")
+allows_in_claim NoPrices k = bytes_eq k (codes "answer") || bytes_eq k (codes "over") || bytes_eq k (codes "plan")

@@ -41,6 +41,16 @@ two_at place value = do
   items ← list_at place (Some value)
   wanted Shape place (two_of items)
 
+abbrev pub three_of : Items → Option (Data × Data × Data)
+three_of (item d (item e (item f no_items))) = Some (d, e, f)
+three_of _ = None
+
+-- a list of three
+unfoldable pub three_at : List PlaceStep → Data → Result (Data × Data × Data) Fault
+three_at place value = do
+  items ← list_at place (Some value)
+  wanted Shape place (three_of items)
+
 -- a whole number is one that fits 64 bits with a sign
 abbrev pub whole_at : List PlaceStep → Option Data → Result ℤ Fault
 whole_at place value = wanted Shape place (option_and_then as_i64 (option_and_then as_number value))

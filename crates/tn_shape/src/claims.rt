@@ -5,7 +5,7 @@ ghost use Rattle.tn_shape.specs.Claims.{allows_in_claim, claim_named};
 
 use crate::words::{is_one_of, value_of_word};
 
-/// The kinds of claims, one for each answer that can be claimed.
+/// The kinds of claims: one for each answer that can be claimed, and one that no command answers.
 #[derive(Clone, Copy)]
 pub enum ClaimKind {
     /// An arrangement is an equilibrium.
@@ -30,6 +30,8 @@ pub enum ClaimKind {
     Completes,
     /// Contracts block an outcome.
     Blocks,
+    /// A plan in parts shows that no prices make any trades an equilibrium.
+    NoPrices,
 }
 
 /// The kind of claim that a text names.
@@ -50,6 +52,7 @@ pub fn claim_named(text: &str) -> Option<ClaimKind>
             ("drops", ClaimKind::Drops),
             ("completes", ClaimKind::Completes),
             ("blocks", ClaimKind::Blocks),
+            ("none", ClaimKind::NoPrices),
         ],
     )
 }
@@ -71,5 +74,6 @@ pub(crate) fn allows_in_claim(kind: ClaimKind, word: &str) -> bool
         ClaimKind::Drops => is_one_of(word, &["answer", "firm", "gain", "keeps", "over"]),
         ClaimKind::Completes => is_one_of(word, &["answer", "over", "prices"]),
         ClaimKind::Blocks => is_one_of(word, &["answer", "contracts", "over"]),
+        ClaimKind::NoPrices => is_one_of(word, &["answer", "over", "plan"]),
     }
 }

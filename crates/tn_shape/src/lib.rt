@@ -13,7 +13,7 @@ pub use claims::{ClaimKind, claim_named};
 pub use error::ReadError;
 pub use members::{FirmKind, ObjectKind};
 pub use shapes::{
-    fault, few, found, list, number, object, object_of, optional_list, present, require, text, two,
-    whole,
+    fault, few, found, list, number, object, object_of, optional_list, present, require, text,
+    three, two, whole,
 };
 pub use words::value_of_word;

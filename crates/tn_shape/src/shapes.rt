@@ -5,7 +5,7 @@ ghost use Rattle.serde_json.specs.View.{view, items_view};
 ghost use Rattle.tn_base.specs.Arcs.{IsAtMost};
 ghost use Rattle.tn_base.specs.declared.fault.FaultKind.TheVariants.{Shape};
 ghost use Rattle.tn_shape.specs.Reading.{Gives, fault, holds, wanted, IsFaultAt};
-ghost use Rattle.tn_shape.specs.Shapes.{few_at, list_at, number_in, object_at, object_of, optional_list_at, text_at, two_at, two_of, whole_at};
+ghost use Rattle.tn_shape.specs.Shapes.{few_at, list_at, number_in, object_at, object_of, optional_list_at, text_at, three_at, three_of, two_at, two_of, whole_at};
 
 use crate::error::ReadError;
 use crate::members::{ObjectKind, allows_all};
@@ -171,6 +171,35 @@ fn two_of(items: &[Value]) -> Option<(&Value, &Value)>
         [_] => None,
         [one, two] => Some((one, two)),
         [_, _, _, ..] => None,
+    }
+}
+
+/// The three items of a list of three; another value is a fault of shape.
+#[tactic(auto, unfolding(crate::specs::Shapes::three_at))]
+pub fn three<'a>(
+    alloc: Global,
+    value: &'a Value,
+    place: &[PlaceStep],
+) -> Result<(&'a Value, &'a Value, &'a Value), ReadError>
+    ensures { Gives (λ p. (view p.0.now, view p.1.now, view p.2.now)) result
+        (three_at place.now (view value.now)) }
+{
+    let items = list(alloc, Some(value), place)?;
+    match three_of(items) {
+        Some(three) => Ok(three),
+        None => Err(fault(alloc, FaultKind::Shape, place)),
+    }
+}
+
+fn three_of(items: &[Value]) -> Option<(&Value, &Value, &Value)>
+    ensures { option_map (λ p. (view p.0.now, view p.1.now, view p.2.now)) result ≡ three_of (items_view items.now) }
+{
+    match items {
+        [] => None,
+        [_] => None,
+        [_, _] => None,
+        [one, two, three] => Some((one, two, three)),
+        [_, _, _, _, ..] => None,
     }
 }
 

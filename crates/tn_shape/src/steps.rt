@@ -106,3 +106,6 @@ pub const COST: PlaceStep = PlaceStep::Word(Word::Cost);
 
 /// The member `keeps`.
 pub const KEEPS: PlaceStep = PlaceStep::Word(Word::Keeps);
+
+/// The member `plan`.
+pub const PLAN: PlaceStep = PlaceStep::Word(Word::Plan);
