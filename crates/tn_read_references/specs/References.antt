@@ -12,7 +12,7 @@ use Rattle.tn_plain_data.specs.declared.place.Word.TheVariants.{Firms}
 use Rattle.tn_plain_data.specs.declared.said.Fault.{Fault}
 use Rattle.tn_names.specs.Names.{number_of}
 use Rattle.tn_read_references.specs.declared.own_lists.PartAt.{PartAt}
-use Rattle.tn_read_references.specs.declared.own_lists.PartAt.TheVariants.{Item, Member}
+use Rattle.tn_read_references.specs.declared.own_lists.PartAt.TheVariants.{Item, Member, MemberItem}
 use Rattle.tn_shape.specs.Reading.{◌>>=◌, each, wanted, holds}
 use Rattle.tn_shape.specs.Shapes.{text_at, list_at}
 use Rattle.tn_read_references.specs.Ordered.{Listed}
@@ -69,6 +69,7 @@ own_reference listed f place bundle value = do
 abbrev pub part_place : ℕ → PartAt → List PlaceStep
 part_place f (Item list item part) = Word Firms ∷ Index f ∷ list ∷ Index item ∷ part ∷ []
 part_place f (Member part member) = part ∷ member ∷ []
+part_place f (MemberItem part member item index) = part ∷ member ∷ Index item ∷ Index index ∷ []
 
 -- the bundle of own trades that a list of references names
 unfoldable pub bundle_at : Listed → ℕ → List PlaceStep → Option Data → Result ℕ Fault

@@ -48,6 +48,17 @@ pub enum PartAt {
         /// The member.
         member: PlaceStep,
     },
+    /// A part of an item of such a member.
+    MemberItem {
+        /// The part of the document.
+        part: PlaceStep,
+        /// The member that is a list.
+        member: PlaceStep,
+        /// The item's index in the list.
+        item: u32,
+        /// The index of the references in the item.
+        index: u32,
+    },
 }
 
 /// The bundle of own trades that the references of a list name.
@@ -85,6 +96,12 @@ fn references_at<'a>(
             part,
         } => list(alloc, value, &[FIRMS, firm, items, Index(item), part]),
         PartAt::Member { part, member } => list(alloc, value, &[part, member]),
+        PartAt::MemberItem {
+            part,
+            member,
+            item,
+            index,
+        } => list(alloc, value, &[part, member, Index(item), Index(index)]),
     }
 }
 
@@ -149,6 +166,15 @@ fn next_position(
         }
         PartAt::Member { part, member } => {
             new_own(alloc, head, f, bundle, value, &[part, member, k])
+        }
+        PartAt::MemberItem {
+            part,
+            member,
+            item,
+            index,
+        } => {
+            let place = [part, member, Index(item), Index(index), k];
+            new_own(alloc, head, f, bundle, value, &place)
         }
     }
 }
