@@ -1,33 +1,36 @@
 -- What the claim is that reading gives: of the kind that its answer names, and within the limits of claims.
-use Rattle.std.proofs.Common.{◌≡◌, ℕ, ◌^◌, ◌<◌, List, length, Option, Some, sym, subst, arith}
-use Rattle.std.specs.Prelude.{codes, All, IfSome}
+use Rattle.std.proofs.Common.{◌≡◌, ℕ, ◌^◌, ◌<◌, List, length, get_or, true, Option, Some, sym, subst, arith}
+use Rattle.std.specs.Prelude.{codes, nat_le, All, IfSome}
 use Rattle.serde_json.specs.Data.{Data}
 use Rattle.serde_json.specs.Find.{get}
-use Rattle.tn_base.specs.declared.fault.FaultKind.TheVariants.{Shape}
+use Rattle.tn_base.specs.declared.fault.FaultKind.TheVariants.{Limit, Shape}
 use Rattle.tn_base.specs.Firm.{Firm}
 use Rattle.tn_plain_data.specs.declared.claim.Claim.{Claim}
-use Rattle.tn_plain_data.specs.declared.claim.Claim.TheVariants.{Equilibrium, Better, Impossible, Accepted, ExchangeFails, Supported, Cycle, Solved, Drops, Completes, Blocks}
+use Rattle.tn_plain_data.specs.declared.part.Part.{Part}
+use Rattle.tn_plain_data.specs.declared.claim.Claim.TheVariants.{Equilibrium, Better, Impossible, Accepted, ExchangeFails, Supported, Cycle, Solved, Drops, Completes, Blocks, NoPrices}
 use Rattle.tn_plain_data.specs.declared.place.Word.{Word as WordIs}
 use Rattle.tn_plain_data.specs.declared.place.Word.TheVariants.{At, Bundle, Cost, Firm as FirmWord, Gain, Keeps, Surplus, X, Y}
-use Rattle.tn_plain_data.specs.Limits.{most_number}
-use Rattle.tn_plain_data.specs.ClaimLimits.{ArePricesWithin, IsClaimWithin, IsFirmWith, IsNumberWithin, IsOverWithin}
+use Rattle.tn_plain_data.specs.Limits.{most_number, most_planned_trades}
+use Rattle.tn_plain_data.specs.ClaimLimits.{ArePricesWithin, IsClaimWithin, IsFirmWith, IsNumberWithin, IsOverWithin, IsPartWithin}
 use Rattle.tn_plain_data.specs.OutcomeLimits.{IsOutcomeWithin}
 use Rattle.tn_plain_data.specs.Network.{IsNetwork}
 use Rattle.tn_plain_data.proofs.InOrderNetworks.{there}
 use Rattle.tn_shape.specs.declared.claims.ClaimKind.{ClaimKind}
-use Rattle.tn_shape.specs.declared.claims.ClaimKind.TheVariants.{Equilibrium as EquilibriumKind, Better as BetterKind, Impossible as ImpossibleKind, Accepted as AcceptedKind, ExchangeFails as ExchangeFailsKind, Supported as SupportedKind, Cycle as CycleKind, Solved as SolvedKind, Drops as DropsKind, Completes as CompletesKind, Blocks as BlocksKind}
-use Rattle.tn_shape.specs.Reading.{wanted}
+use Rattle.tn_shape.specs.declared.claims.ClaimKind.TheVariants.{Equilibrium as EquilibriumKind, Better as BetterKind, Impossible as ImpossibleKind, Accepted as AcceptedKind, ExchangeFails as ExchangeFailsKind, Supported as SupportedKind, Cycle as CycleKind, Solved as SolvedKind, Drops as DropsKind, Completes as CompletesKind, Blocks as BlocksKind, NoPrices as NoPricesKind}
+use Rattle.tn_shape.specs.Reading.{holds, wanted}
 use Rattle.tn_shape.specs.Shapes.{object_at}
-use Rattle.tn_shape.proofs.LeadLemmas.{Leads, leads_after, leads_bind, leads_ok}
+use Rattle.tn_shape.proofs.LeadLemmas.{Leads, le_from_test, leads_after, leads_bind, leads_holds, leads_ok}
 use Rattle.tn_read_references.specs.Ordered.{AreInOrder, AreTrades, Listed, sides_of}
 use Rattle.tn_read_references.proofs.ReferenceLeads.{bundle_leads, firm_at_leads}
 use Rattle.tn_read_parts.specs.Arranged.{arrangement_of, trades_on_of, IsArrangement}
 use Rattle.tn_read_parts.specs.Signed.{outcome_of}
 use Rattle.tn_read_parts.proofs.ArrangementLeads.{arrangement_leads, trades_on_leads}
 use Rattle.tn_read_parts.proofs.OutcomeLeads.{outcome_leads}
-use Rattle.tn_read_claims.specs.Claimed.{accepted_of, better_of, blocks_of, claim_by, claim_of, completes_of, cycle_of, drops_of, equilibrium_of, failure_of, frame_of, impossible_of, kind_of, solved_of, supported_of}
+use Rattle.tn_read_claims.specs.Claimed.{accepted_of, better_of, blocks_of, claim_by, claim_of, completes_of, cycle_of, drops_of, equilibrium_of, failure_of, frame_of, impossible_of, kind_of, no_prices_of, solved_of, supported_of}
 use Rattle.tn_read_claims.specs.Laws.{ClaimsAreWithin}
 use Rattle.tn_read_claims.specs.Members.{claim_place, claimed_bundle, claimed_contracts, claimed_firm, claimed_nodes, claimed_number, claimed_on, claimed_over, claimed_prices, gain_or_null, member_place, own_or_null}
+use Rattle.tn_read_claims.specs.Planned.{claimed_plan}
+use Rattle.tn_read_claims.proofs.PlanLemmas.{ArePlanned, IsOwnPart, plan_leads}
 use Rattle.tn_read_claims.proofs.MemberLeads.{AreClaimedContracts, AreNodes, at_leads, claimed_contracts_lead, claimed_number_leads, claimed_prices_lead, gain_leads, nodes_lead, on_lead, over_lead}
 use Rattle.tn_read_claims.proofs.OwnCounts.{counts_own}
 
@@ -197,6 +200,24 @@ module _ (listed : Listed) (trades : AreTrades listed) (firms : List Firm) (name
         is_over,
       )))))
 
+  own_part : (part : Part) → IsOwnPart listed trades part → IsPartWithin firms part
+  own_part part is = (own_firm part.firm (λ m. part.bundle < 2 ^ m) is.known is.own, is.weight)
+
+  no_prices_leads : (claim : Data) → Leads IsWithin (no_prices_of listed claim)
+  unfolding no_prices_of
+  no_prices_leads claim =
+      let few_trades = nat_le n most_planned_trades in
+      leads_bind (λ _. few_trades ≡ true) IsWithin (holds Limit claim_place few_trades) _ (leads_holds Limit claim_place few_trades) (λ u few.
+      leads_after IsWithin (frame_of NoPricesKind claim) _ (λ frame.
+      leads_bind IsOverWithin IsWithin (claimed_over listed claim) _ (over_lead listed trades.limits claim) (λ over is_over.
+      leads_bind (ArePlanned listed trades) IsWithin (claimed_plan listed claim) _ (plan_leads listed trades claim) (λ plan are.
+      leads_ok IsWithin (NoPrices plan over) (
+        le_from_test n most_planned_trades few,
+        (λ k d below. own_part (get_or plan k d) (are.parts k d below)),
+        is_over,
+        are.few,
+      )))))
+
   by_kind : (kind : ClaimKind) (top claim : Data) → Leads IsWithin (claim_by listed kind top claim)
   by_kind EquilibriumKind top claim = equilibrium_leads top claim
   by_kind BetterKind top claim = better_leads top claim
@@ -209,6 +230,7 @@ module _ (listed : Listed) (trades : AreTrades listed) (firms : List Firm) (name
   by_kind DropsKind top claim = drops_leads top claim
   by_kind CompletesKind top claim = completes_leads top claim
   by_kind BlocksKind top claim = blocks_leads top claim
+  by_kind NoPricesKind top claim = no_prices_leads claim
 
   pub claim_leads : (top : Data) → Leads IsWithin (claim_of listed top)
   unfolding claim_of

@@ -1,22 +1,22 @@
 -- Wherever the reading of a claim stops, its fault speaks of named trades.
 use Rattle.std.proofs.Common.{ℕ, ◌<◌, ◌≤◌, length, Some, refl}
-use Rattle.std.specs.Prelude.{codes}
+use Rattle.std.specs.Prelude.{codes, nat_le}
 use Rattle.serde_json.specs.Data.{Data}
 use Rattle.serde_json.specs.Find.{get}
-use Rattle.tn_base.specs.declared.fault.FaultKind.TheVariants.{Shape}
-use Rattle.tn_plain_data.specs.Limits.{most_own_trades}
-use Rattle.tn_plain_data.specs.declared.claim.Claim.TheVariants.{Equilibrium, Better, Impossible, Accepted, ExchangeFails, Supported, Cycle, Solved, Drops, Completes, Blocks}
+use Rattle.tn_base.specs.declared.fault.FaultKind.TheVariants.{Limit, Shape}
+use Rattle.tn_plain_data.specs.Limits.{most_own_trades, most_planned_trades}
+use Rattle.tn_plain_data.specs.declared.claim.Claim.TheVariants.{Equilibrium, Better, Impossible, Accepted, ExchangeFails, Supported, Cycle, Solved, Drops, Completes, Blocks, NoPrices}
 use Rattle.tn_plain_data.specs.declared.place.Word.TheVariants.{Answer, At, Bundle, Cost, Firm as FirmWord, Gain, Keeps, Over, Surplus, X, Y}
 use Rattle.tn_plain_data.specs.declared.said.Fault.{Fault}
 use Rattle.tn_shape.specs.declared.claims.ClaimKind.{ClaimKind}
-use Rattle.tn_shape.specs.declared.claims.ClaimKind.TheVariants.{Equilibrium as EquilibriumKind, Better as BetterKind, Impossible as ImpossibleKind, Accepted as AcceptedKind, ExchangeFails as ExchangeFailsKind, Supported as SupportedKind, Cycle as CycleKind, Solved as SolvedKind, Drops as DropsKind, Completes as CompletesKind, Blocks as BlocksKind}
+use Rattle.tn_shape.specs.declared.claims.ClaimKind.TheVariants.{Equilibrium as EquilibriumKind, Better as BetterKind, Impossible as ImpossibleKind, Accepted as AcceptedKind, ExchangeFails as ExchangeFailsKind, Supported as SupportedKind, Cycle as CycleKind, Solved as SolvedKind, Drops as DropsKind, Completes as CompletesKind, Blocks as BlocksKind, NoPrices as NoPricesKind}
 use Rattle.tn_shape.specs.declared.members.ObjectKind.TheVariants.{Claim as ClaimObject}
 use Rattle.tn_shape.specs.Claims.{claim_named}
-use Rattle.tn_shape.specs.Reading.{wanted}
+use Rattle.tn_shape.specs.Reading.{holds, wanted}
 use Rattle.tn_shape.specs.Shapes.{object_at, text_at}
 use Rattle.tn_shape.proofs.LeadLemmas.{Leads}
 use Rattle.tn_shape.proofs.ShapeStops.{number_stops, object_at_stops, object_stops, text_stops}
-use Rattle.tn_shape.proofs.StopLemmas.{IsPlain, Stops, StopsPlainly, plain_wanted, stops_after, stops_bind, stops_ok}
+use Rattle.tn_shape.proofs.StopLemmas.{IsPlain, Stops, StopsPlainly, plain_holds, plain_wanted, stops_after, stops_bind, stops_ok}
 use Rattle.tn_read_references.specs.Ordered.{AreTrades, Listed, sides_of}
 use Rattle.tn_read_references.proofs.ReferenceLeads.{firm_at_leads}
 use Rattle.tn_read_references.proofs.ReferenceStops.{bundle_stops, firm_at_stops}
@@ -25,8 +25,10 @@ use Rattle.tn_read_parts.specs.Arranged.{arrangement_of, trades_on_of}
 use Rattle.tn_read_parts.specs.Signed.{outcome_of}
 use Rattle.tn_read_parts.proofs.ArrangementStops.{arrangement_stops, trades_on_stop}
 use Rattle.tn_read_parts.proofs.OutcomeStops.{outcome_stops, over_stops}
-use Rattle.tn_read_claims.specs.Claimed.{accepted_of, better_of, blocks_of, claim_by, claim_of, completes_of, cycle_of, drops_of, equilibrium_of, failure_of, frame_of, impossible_of, kind_of, solved_of, supported_of}
+use Rattle.tn_read_claims.specs.Claimed.{accepted_of, better_of, blocks_of, claim_by, claim_of, completes_of, cycle_of, drops_of, equilibrium_of, failure_of, frame_of, impossible_of, kind_of, no_prices_of, solved_of, supported_of}
 use Rattle.tn_read_claims.specs.Members.{claim_place, claimed_bundle, claimed_contracts, claimed_firm, claimed_nodes, claimed_number, claimed_on, claimed_over, claimed_prices, gain_or_null, member_place, own_or_null}
+use Rattle.tn_read_claims.specs.Planned.{claimed_plan}
+use Rattle.tn_read_claims.proofs.PlanLemmas.{plan_stops}
 use Rattle.tn_read_claims.proofs.MemberStops.{at_stops, claimed_contracts_stop, claimed_on_stops, claimed_prices_stop, gain_stops, nodes_stop}
 
 module _ (listed : Listed) (trades : AreTrades listed) (few : length listed.names.trades ≤ 16384) (few_own : (f : ℕ) → f < length listed.names.firms → length (sides_of listed.ends f) ≤ most_own_trades) where
@@ -133,6 +135,16 @@ module _ (listed : Listed) (trades : AreTrades listed) (few : length listed.name
       stops_bind Told (claimed_over listed claim) _ (told_from_plain listed.names.trades _ (over_stops listed.limits.claimed_over (member_place Over) (tt, (tt, tt)) (get (codes "over") claim))) (λ over.
       stops_ok Told (Blocks outcome contracts over)))))
 
+  no_prices_stops : (claim : Data) → Stops Told (no_prices_of listed claim)
+  unfolding no_prices_of
+  no_prices_stops claim =
+      let few_trades = nat_le (length listed.ends) most_planned_trades in
+      stops_bind Told (holds Limit claim_place few_trades) _ (told_from_plain listed.names.trades _ (plain_holds Limit claim_place few_trades refl (tt, tt))) (λ u.
+      stops_bind Told (frame_of NoPricesKind claim) _ (told_from_plain listed.names.trades _ (object_stops claim_place (tt, tt) (ClaimObject NoPricesKind) (Some claim))) (λ frame.
+      stops_bind Told (claimed_over listed claim) _ (told_from_plain listed.names.trades _ (over_stops listed.limits.claimed_over (member_place Over) (tt, (tt, tt)) (get (codes "over") claim))) (λ over.
+      stops_bind Told (claimed_plan listed claim) _ (told_from_plain listed.names.trades _ (plan_stops listed trades few_own claim)) (λ plan.
+      stops_ok Told (NoPrices plan over)))))
+
   by_kind : (kind : ClaimKind) (top claim : Data) → Stops Told (claim_by listed kind top claim)
   by_kind EquilibriumKind top claim = equilibrium_stops top claim
   by_kind BetterKind top claim = better_stops top claim
@@ -145,6 +157,7 @@ module _ (listed : Listed) (trades : AreTrades listed) (few : length listed.name
   by_kind DropsKind top claim = drops_stops top claim
   by_kind CompletesKind top claim = completes_stops top claim
   by_kind BlocksKind top claim = blocks_stops top claim
+  by_kind NoPricesKind top claim = no_prices_stops claim
 
   kind_stops : (claim : Data) → StopsPlainly (kind_of claim)
   unfolding kind_of

@@ -8,23 +8,24 @@ use Rattle.tn_base.specs.Sets.{has, size, toggle}
 use Rattle.tn_base.specs.declared.side.Side.{Side}
 use Rattle.tn_base.specs.declared.fault.FaultKind.{FaultKind}
 use Rattle.tn_base.specs.declared.fault.FaultKind.TheVariants.{Shape, UnknownFirm, UnknownTrade, Limit, AmountRange, NotOwnTrade, SameTrade, PriceMissing, BadOver}
-use Rattle.tn_plain_data.specs.Limits.{least_nodes}
+use Rattle.tn_plain_data.specs.Limits.{least_nodes, most_parts, most_planned_trades}
 use Rattle.tn_plain_data.specs.Prices.{price_at}
 use Rattle.tn_plain_data.specs.Choices.{contracts_of}
-use Rattle.tn_plain_data.specs.declared.claim.Claim.TheVariants.{Equilibrium, Better, Impossible, Accepted, ExchangeFails, Supported, Cycle, Solved, Drops, Completes, Blocks}
+use Rattle.tn_plain_data.specs.declared.claim.Claim.TheVariants.{Equilibrium, Better, Impossible, Accepted, ExchangeFails, Supported, Cycle, Solved, Drops, Completes, Blocks, NoPrices}
+use Rattle.tn_plain_data.specs.declared.part.Part.{Part}
 use Rattle.tn_plain_data.specs.declared.place.PlaceStep.{PlaceStep}
 use Rattle.tn_plain_data.specs.declared.place.PlaceStep.TheVariants.{Index, Trade, Word}
 use Rattle.tn_plain_data.specs.declared.place.Word.TheVariants.{Answer, Arrangement, At, Bundle, Contracts, Cost, Firm as FirmWord, Gain, Keeps, Nodes, On, Over, Prices, Surplus, X, Y}
 use Rattle.tn_plain_data.specs.declared.said.Fault.{Fault}
 use Rattle.tn_names.specs.Names.{number_of}
 use Rattle.tn_shape.specs.declared.claims.ClaimKind.{ClaimKind}
-use Rattle.tn_shape.specs.declared.claims.ClaimKind.TheVariants.{Equilibrium as EquilibriumKind, Better as BetterKind, Impossible as ImpossibleKind, Accepted as AcceptedKind, ExchangeFails as ExchangeFailsKind, Supported as SupportedKind, Cycle as CycleKind, Solved as SolvedKind, Drops as DropsKind, Completes as CompletesKind, Blocks as BlocksKind}
+use Rattle.tn_shape.specs.declared.claims.ClaimKind.TheVariants.{Equilibrium as EquilibriumKind, Better as BetterKind, Impossible as ImpossibleKind, Accepted as AcceptedKind, ExchangeFails as ExchangeFailsKind, Supported as SupportedKind, Cycle as CycleKind, Solved as SolvedKind, Drops as DropsKind, Completes as CompletesKind, Blocks as BlocksKind, NoPrices as NoPricesKind}
 use Rattle.tn_shape.specs.declared.members.ObjectKind.{ObjectKind}
 use Rattle.tn_shape.specs.declared.members.ObjectKind.TheVariants.{Arrangement as ArrangementObject, Outcome as OutcomeObject, Claim as ClaimObject}
 use Rattle.tn_shape.specs.Claims.{claim_named}
 use Rattle.tn_shape.specs.Members.{allows_all}
 use Rattle.tn_shape.specs.Reading.{◌>>=◌, each, fault, holds, wanted}
-use Rattle.tn_shape.specs.Shapes.{few_at, list_at, number_at, number_in, object_at, object_of, text_at, two_at, two_of, whole_at}
+use Rattle.tn_shape.specs.Shapes.{few_at, list_at, number_at, number_in, object_at, object_of, text_at, three_at, three_of, two_at, two_of, whole_at}
 use Rattle.tn_shape.proofs.StopLemmas.{Stops, stops_bind, stops_each, stops_err, stops_ok}
 use Rattle.tn_read_references.specs.Ordered.{Listed}
 use Rattle.tn_read_references.specs.Entries.{Numbered, entry_of, one_entry}
@@ -32,9 +33,10 @@ use Rattle.tn_read_references.specs.References.{bundle_at, firm_at, new_own, new
 use Rattle.tn_read_parts.specs.Arranged.{arrangement_of, on_of, on_place, prices_place, trades_on_of}
 use Rattle.tn_read_parts.specs.Lists.{contracts_at, first_without, named_prices, one_on, one_price, price_of, prices_of, unless_missing}
 use Rattle.tn_read_parts.specs.Signed.{contracts_place, outcome_of, outcome_place, over_at, over_place}
-use Rattle.tn_read_claims.specs.Claimed.{accepted_of, better_of, blocks_of, claim_by, claim_of, completes_of, cycle_of, drops_of, equilibrium_of, failure_of, frame_of, impossible_of, kind_of, solved_of, supported_of}
+use Rattle.tn_read_claims.specs.Claimed.{accepted_of, better_of, blocks_of, claim_by, claim_of, completes_of, cycle_of, drops_of, equilibrium_of, failure_of, frame_of, impossible_of, kind_of, no_prices_of, solved_of, supported_of}
 use Rattle.tn_read_claims.specs.Laws.{FaultsOfClaims, is_claim_fault}
 use Rattle.tn_read_claims.specs.Members.{Offered, claim_place, claimed_bundle, claimed_contracts, claimed_firm, claimed_nodes, claimed_number, claimed_on, claimed_over, claimed_prices, gain_or_null, member_place, no_offers, node_at, one_node, one_offer, own_or_null, unless_null}
+use Rattle.tn_read_claims.specs.Planned.{claimed_plan, in_part, one_part, part_at, part_of, plan_place, weight_at}
 
 abbrev Known : Fault → Type 0
 Known f = is_claim_fault f.kind ≡ true
@@ -86,6 +88,12 @@ unfolding two_at
 two_kinds place value =
     stops_bind Known (list_at place (Some value)) _ (list_kinds place (Some value)) (λ items.
     wanted_kinds Shape place (two_of items) refl)
+
+three_kinds : (place : List PlaceStep) (value : Data) → Stops Known (three_at place value)
+unfolding three_at
+three_kinds place value =
+    stops_bind Known (list_at place (Some value)) _ (list_kinds place (Some value)) (λ items.
+    wanted_kinds Shape place (three_of items) refl)
 
 over_kinds : (limit : ℕ) (place : List PlaceStep) (value : Option Data) → Stops Known (over_at limit place value)
 unfolding over_at
@@ -289,6 +297,35 @@ claimed_contracts_kinds listed claim =
     stops_bind Known (each (one_offer trades (member_place Contracts) limit) no_offers entries) _ (each_kinds (one_offer trades (member_place Contracts) limit) (one_offer_kinds trades (member_place Contracts) limit) no_offers entries) (λ offered.
     stops_ok Known (offered.contracts)))
 
+weight_kinds : (listed : Listed) (place : List PlaceStep) (value : Data) → Stops Known (weight_at listed place value)
+unfolding weight_at
+weight_kinds listed place value =
+    stops_bind Known (whole_at place (Some value)) _ (whole_kinds place (Some value)) (λ weight.
+    let test = int_le (pos 1) weight && int_le weight (pos listed.limits.claimed_over) in
+    stops_bind Known (holds AmountRange place test) _ (holds_kinds AmountRange place test refl) (λ within.
+    stops_ok Known (weight)))
+
+part_kinds : (listed : Listed) (k : ℕ) (entry : Data) → Stops Known (part_of listed k entry)
+unfolding part_of
+part_kinds listed k entry =
+    stops_bind Known (three_at (part_at k) entry) _ (three_kinds (part_at k) entry) (λ three.
+    stops_bind Known (firm_at listed.names.firms (in_part k 0) (Some three.0)) _ (firm_kinds listed.names.firms (in_part k 0) (Some three.0)) (λ f.
+    stops_bind Known (bundle_at listed f (in_part k 1) (Some three.1)) _ (bundle_kinds listed f (in_part k 1) (Some three.1)) (λ x.
+    stops_bind Known (weight_at listed (in_part k 2) three.2) _ (weight_kinds listed (in_part k 2) three.2) (λ weight.
+    stops_ok Known (record { firm = f; bundle = x; weight = weight })))))
+
+one_part_kinds : (listed : Listed) (parts : List Part) (entry : Data) → Stops Known (one_part listed parts entry)
+unfolding one_part
+one_part_kinds listed parts entry =
+    stops_bind Known (part_of listed (length parts) entry) _ (part_kinds listed (length parts) entry) (λ part.
+    stops_ok Known (parts ++ part ∷ []))
+
+plan_kinds : (listed : Listed) (claim : Data) → Stops Known (claimed_plan listed claim)
+unfolding claimed_plan
+plan_kinds listed claim =
+    stops_bind Known (few_at most_parts plan_place (get (codes "plan") claim)) _ (few_kinds most_parts plan_place (get (codes "plan") claim)) (λ entries.
+    each_kinds (one_part listed) (one_part_kinds listed) [] entries)
+
 -- ---- claims
 
 module _ (listed : Listed) (top claim : Data) where
@@ -389,6 +426,16 @@ module _ (listed : Listed) (top claim : Data) where
       stops_bind Known (claimed_over listed claim) _ (over_kinds listed.limits.claimed_over (member_place Over) (get (codes "over") claim)) (λ over.
       stops_ok Known (Blocks outcome contracts over)))))
 
+  no_prices_kinds : Stops Known (no_prices_of listed claim)
+  unfolding no_prices_of
+  no_prices_kinds =
+      let few_trades = nat_le (length listed.ends) most_planned_trades in
+      stops_bind Known (holds Limit claim_place few_trades) _ (holds_kinds Limit claim_place few_trades refl) (λ few.
+      stops_bind Known (frame_of NoPricesKind claim) _ (object_kinds (ClaimObject NoPricesKind) claim_place (Some claim)) (λ frame.
+      stops_bind Known (claimed_over listed claim) _ (over_kinds listed.limits.claimed_over (member_place Over) (get (codes "over") claim)) (λ over.
+      stops_bind Known (claimed_plan listed claim) _ (plan_kinds listed claim) (λ plan.
+      stops_ok Known (NoPrices plan over)))))
+
   by_kind : (kind : ClaimKind) → Stops Known (claim_by listed kind top claim)
   by_kind EquilibriumKind = equilibrium_kinds
   by_kind BetterKind = better_kinds
@@ -401,6 +448,7 @@ module _ (listed : Listed) (top claim : Data) where
   by_kind DropsKind = drops_kinds
   by_kind CompletesKind = completes_kinds
   by_kind BlocksKind = blocks_kinds
+  by_kind NoPricesKind = no_prices_kinds
 
 kind_kinds : (claim : Data) → Stops Known (kind_of claim)
 unfolding kind_of

@@ -1,24 +1,26 @@
 -- The kind of the claim that reading gives is the one that its answer names, and its nodes are few.
 use Rattle.std.proofs.Common.{◌≡◌, ℕ, ◌≤◌, false, List, [], length, Option, Some, refl, sym, ap, ◌∙◌, arith}
-use Rattle.std.specs.Prelude.{codes, option_and_then, option_map, unwrap_or}
+use Rattle.std.specs.Prelude.{codes, nat_le, option_and_then, option_map, unwrap_or}
 use Rattle.serde_json.specs.Data.{Data}
 use Rattle.serde_json.specs.Find.{get, as_str}
-use Rattle.tn_base.specs.declared.fault.FaultKind.TheVariants.{Shape}
+use Rattle.tn_base.specs.declared.fault.FaultKind.TheVariants.{Limit, Shape}
+use Rattle.tn_plain_data.specs.Limits.{most_planned_trades}
 use Rattle.tn_plain_data.specs.declared.claim.Claim.{Claim}
-use Rattle.tn_plain_data.specs.declared.claim.Claim.TheVariants.{Equilibrium, Better, Impossible, Accepted, ExchangeFails, Supported, Cycle, Solved, Drops, Completes, Blocks}
+use Rattle.tn_plain_data.specs.declared.claim.Claim.TheVariants.{Equilibrium, Better, Impossible, Accepted, ExchangeFails, Supported, Cycle, Solved, Drops, Completes, Blocks, NoPrices}
 use Rattle.tn_plain_data.specs.declared.place.Word.TheVariants.{Answer, At, Bundle, Cost, Gain, Keeps, Surplus, X, Y}
 use Rattle.tn_shape.specs.declared.claims.ClaimKind.{ClaimKind}
-use Rattle.tn_shape.specs.declared.claims.ClaimKind.TheVariants.{Equilibrium as EquilibriumKind, Better as BetterKind, Impossible as ImpossibleKind, Accepted as AcceptedKind, ExchangeFails as ExchangeFailsKind, Supported as SupportedKind, Cycle as CycleKind, Solved as SolvedKind, Drops as DropsKind, Completes as CompletesKind, Blocks as BlocksKind}
+use Rattle.tn_shape.specs.declared.claims.ClaimKind.TheVariants.{Equilibrium as EquilibriumKind, Better as BetterKind, Impossible as ImpossibleKind, Accepted as AcceptedKind, ExchangeFails as ExchangeFailsKind, Supported as SupportedKind, Cycle as CycleKind, Solved as SolvedKind, Drops as DropsKind, Completes as CompletesKind, Blocks as BlocksKind, NoPrices as NoPricesKind}
 use Rattle.tn_shape.specs.Claims.{claim_named}
-use Rattle.tn_shape.specs.Reading.{wanted}
+use Rattle.tn_shape.specs.Reading.{holds, wanted}
 use Rattle.tn_shape.specs.Shapes.{object_at, text_at}
 use Rattle.tn_shape.proofs.LeadLemmas.{Leads, leads_after, leads_as, leads_bind, leads_ok, leads_wanted}
 use Rattle.tn_read_references.specs.Ordered.{Listed}
 use Rattle.tn_read_parts.specs.Arranged.{arrangement_of, trades_on_of}
 use Rattle.tn_read_parts.specs.Signed.{outcome_of}
-use Rattle.tn_read_claims.specs.Claimed.{accepted_of, better_of, blocks_of, claim_by, claim_of, claims_raw, completes_of, cycle_of, drops_of, equilibrium_of, failure_of, frame_of, impossible_of, is_raw, kind_is, kind_of, names_raw, solved_of, supported_of}
+use Rattle.tn_read_claims.specs.Claimed.{accepted_of, better_of, blocks_of, claim_by, claim_of, claims_raw, completes_of, cycle_of, drops_of, equilibrium_of, failure_of, frame_of, impossible_of, is_raw, kind_is, kind_of, names_raw, no_prices_of, solved_of, supported_of}
 use Rattle.tn_read_claims.specs.Laws.{NodesAreFew, RawClaimsAreTold}
 use Rattle.tn_read_claims.specs.Members.{claim_place, claimed_bundle, claimed_contracts, claimed_firm, claimed_nodes, claimed_number, claimed_on, claimed_over, claimed_prices, gain_or_null, member_place, own_or_null}
+use Rattle.tn_read_claims.specs.Planned.{claimed_plan}
 use Rattle.tn_read_claims.proofs.MemberLeads.{AreNodes, nodes_lead}
 
 abbrev nodes_in : Claim → List (Option ℕ)
@@ -128,6 +130,15 @@ module _ (listed : Listed) (top claim : Data) where
       leads_after (IsOf BlocksKind listed.limits.nodes) (claimed_over listed claim) _ (λ over.
       leads_ok (IsOf BlocksKind listed.limits.nodes) (Blocks outcome contracts over) (record { is = refl; few = omega arith })))))
 
+  no_prices_is : Leads (IsOf NoPricesKind listed.limits.nodes) (no_prices_of listed claim)
+  unfolding no_prices_of
+  no_prices_is =
+      leads_after (IsOf NoPricesKind listed.limits.nodes) (holds Limit claim_place (nat_le (length listed.ends) most_planned_trades)) _ (λ u.
+      leads_after (IsOf NoPricesKind listed.limits.nodes) (frame_of NoPricesKind claim) _ (λ frame.
+      leads_after (IsOf NoPricesKind listed.limits.nodes) (claimed_over listed claim) _ (λ over.
+      leads_after (IsOf NoPricesKind listed.limits.nodes) (claimed_plan listed claim) _ (λ plan.
+      leads_ok (IsOf NoPricesKind listed.limits.nodes) (NoPrices plan over) (record { is = refl; few = omega arith })))))
+
   claim_is : (kind : ClaimKind) → Leads (IsOf kind listed.limits.nodes) (claim_by listed kind top claim)
   claim_is EquilibriumKind = equilibrium_is
   claim_is BetterKind = better_is
@@ -140,6 +151,7 @@ module _ (listed : Listed) (top claim : Data) where
   claim_is DropsKind = drops_is
   claim_is CompletesKind = completes_is
   claim_is BlocksKind = blocks_is
+  claim_is NoPricesKind = no_prices_is
 
 -- what is known of a claim before and after it is read
 record IsTold (listed : Listed) (top : Data) (claim : Claim) : Type 0 where

@@ -1,5 +1,6 @@
 pub mod MemberLeads
 pub mod OwnCounts
+pub mod PlanLemmas
 pub mod ClaimLeads
 pub mod KindLeads
 pub mod MemberStops

@@ -1,22 +1,24 @@
--- The claim of a document: an answer's object, which is read after the part of the document that it speaks of.
-use Rattle.std.specs.Prelude.{ℕ, List, codes, Bool, true, false, Some, option_and_then, option_map, unwrap_or, Result, Ok}
+-- The claim of a document: an object as answers are, which is read after the part of the document that it speaks of.
+use Rattle.std.specs.Prelude.{ℕ, nat_le, List, length, codes, Bool, true, false, Some, option_and_then, option_map, unwrap_or, Result, Ok}
 use Rattle.serde_json.specs.Data.{Data}
 use Rattle.serde_json.specs.Find.{get, as_str}
-use Rattle.tn_base.specs.declared.fault.FaultKind.TheVariants.{Shape}
+use Rattle.tn_base.specs.declared.fault.FaultKind.TheVariants.{Shape, Limit}
+use Rattle.tn_plain_data.specs.Limits.{most_planned_trades}
 use Rattle.tn_plain_data.specs.declared.claim.Claim.{Claim}
-use Rattle.tn_plain_data.specs.declared.claim.Claim.TheVariants.{Equilibrium, Better, Impossible, Accepted, ExchangeFails, Supported, Cycle, Solved, Drops, Completes, Blocks}
+use Rattle.tn_plain_data.specs.declared.claim.Claim.TheVariants.{Equilibrium, Better, Impossible, Accepted, ExchangeFails, Supported, Cycle, Solved, Drops, Completes, Blocks, NoPrices}
 use Rattle.tn_plain_data.specs.declared.place.Word.TheVariants.{Answer, At, Bundle, Cost, Gain, Keeps, Surplus, X, Y}
 use Rattle.tn_plain_data.specs.declared.said.Fault.{Fault}
 use Rattle.tn_shape.specs.declared.claims.ClaimKind.{ClaimKind}
-use Rattle.tn_shape.specs.declared.claims.ClaimKind.TheVariants.{Equilibrium as EquilibriumKind, Better as BetterKind, Impossible as ImpossibleKind, Accepted as AcceptedKind, ExchangeFails as ExchangeFailsKind, Supported as SupportedKind, Cycle as CycleKind, Solved as SolvedKind, Drops as DropsKind, Completes as CompletesKind, Blocks as BlocksKind}
+use Rattle.tn_shape.specs.declared.claims.ClaimKind.TheVariants.{Equilibrium as EquilibriumKind, Better as BetterKind, Impossible as ImpossibleKind, Accepted as AcceptedKind, ExchangeFails as ExchangeFailsKind, Supported as SupportedKind, Cycle as CycleKind, Solved as SolvedKind, Drops as DropsKind, Completes as CompletesKind, Blocks as BlocksKind, NoPrices as NoPricesKind}
 use Rattle.tn_shape.specs.declared.members.ObjectKind.TheVariants.{Claim as ClaimObject}
 use Rattle.tn_shape.specs.Claims.{claim_named}
-use Rattle.tn_shape.specs.Reading.{◌>>=◌, wanted}
+use Rattle.tn_shape.specs.Reading.{◌>>=◌, holds, wanted}
 use Rattle.tn_shape.specs.Shapes.{object_at, object_of, text_at}
 use Rattle.tn_read_references.specs.Ordered.{Listed}
 use Rattle.tn_read_parts.specs.Arranged.{arrangement_of, trades_on_of}
 use Rattle.tn_read_parts.specs.Signed.{outcome_of}
 use Rattle.tn_read_claims.specs.Members.{claim_place, member_place, claimed_number, gain_or_null, claimed_firm, claimed_bundle, own_or_null, claimed_over, claimed_on, claimed_prices, claimed_nodes, claimed_contracts}
+use Rattle.tn_read_claims.specs.Planned.{claimed_plan}
 
 -- a claim of a kind has the members of its answer alone
 abbrev pub frame_of : ClaimKind → Data → Result (Unit {0}) Fault
@@ -110,6 +112,16 @@ blocks_of listed top claim = do
   over ← claimed_over listed claim
   Ok (Blocks outcome contracts over)
 
+-- a plan is held against every set of trades: a document of more trades than that serves for is refused before the claim's
+-- members are read
+unfoldable pub no_prices_of : Listed → Data → Result Claim Fault
+no_prices_of listed claim = do
+  few ← holds Limit claim_place (nat_le (length listed.ends) most_planned_trades)
+  frame ← frame_of NoPricesKind claim
+  over ← claimed_over listed claim
+  plan ← claimed_plan listed claim
+  Ok (NoPrices plan over)
+
 abbrev pub claim_by : Listed → ClaimKind → Data → Data → Result Claim Fault
 claim_by listed EquilibriumKind top claim = equilibrium_of listed top claim
 claim_by listed BetterKind top claim = better_of listed top claim
@@ -122,6 +134,7 @@ claim_by listed SolvedKind top claim = solved_of listed claim
 claim_by listed DropsKind top claim = drops_of listed top claim
 claim_by listed CompletesKind top claim = completes_of listed top claim
 claim_by listed BlocksKind top claim = blocks_of listed top claim
+claim_by listed NoPricesKind top claim = no_prices_of listed claim
 
 -- the kind of a claim, by its answer
 unfoldable pub kind_of : Data → Result ClaimKind Fault
@@ -136,7 +149,8 @@ claim_of listed top = do
   kind ← kind_of claim
   claim_by listed kind top claim
 
--- claims on exchange are made of firms as they are listed, whether these meet exchange or not
+-- claims on exchange, and the one that there are no prices, are made of firms as they are listed, whether these meet
+-- exchange or not
 abbrev pub is_raw : ClaimKind → Bool
 is_raw EquilibriumKind = false
 is_raw BetterKind = false
@@ -149,6 +163,7 @@ is_raw SolvedKind = false
 is_raw DropsKind = false
 is_raw CompletesKind = false
 is_raw BlocksKind = false
+is_raw NoPricesKind = true
 
 abbrev pub names_raw : List ℕ → Bool
 names_raw text = unwrap_or (option_map is_raw (claim_named text)) false
@@ -170,3 +185,4 @@ kind_is (Solved at surplus) = SolvedKind
 kind_is (Drops outcome firm keeps gain over) = DropsKind
 kind_is (Completes outcome prices over) = CompletesKind
 kind_is (Blocks outcome contracts over) = BlocksKind
+kind_is (NoPrices plan over) = NoPricesKind

@@ -22,7 +22,7 @@ ClaimsAreWithin = (listed : Listed) (firms : List Firm) (top : Data) (claim : Cl
 abbrev pub NodesAreFew : Type 0
 NodesAreFew = (listed : Listed) (top : Data) (on : ℕ) (nodes : List (Option ℕ)) (cost : ℤ) → claim_of listed top ≡ Ok (Cycle on nodes cost) → length nodes ≤ listed.limits.nodes
 
--- whether it is a claim on exchange is told before it is read
+-- whether its network is read raw is told before it is read
 abbrev pub RawClaimsAreTold : Type 0
 RawClaimsAreTold = (listed : Listed) (top : Data) (claim : Claim) → claim_of listed top ≡ Ok claim → claims_raw top ≡ is_raw (kind_is claim)
 

@@ -1,3 +1,4 @@
 pub mod Members
+pub mod Planned
 pub mod Claimed
 pub mod Laws

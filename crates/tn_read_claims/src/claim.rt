@@ -6,8 +6,8 @@ ghost use Rattle.tn_read_references.specs.Ordered.{Listed, sides_of};
 ghost use Rattle.tn_read_claims.specs.Claimed.{claim_by, claim_of, kind_of};
 
 use crate::kinds::{
-    accepted, better, blocks, completes, cycle, drops, equilibrium, failure, impossible, solved,
-    supported,
+    accepted, better, blocks, completes, cycle, drops, equilibrium, failure, impossible, no_prices,
+    solved, supported,
 };
 use serde_json::Value;
 use std::alloc::Global;
@@ -64,5 +64,6 @@ fn claim_by(
         ClaimKind::Drops => drops(alloc, head, top, claim),
         ClaimKind::Completes => completes(alloc, head, top, claim),
         ClaimKind::Blocks => blocks(alloc, head, top, claim),
+        ClaimKind::NoPrices => no_prices(alloc, head, claim),
     }
 }

@@ -5,20 +5,25 @@ ghost use Rattle.serde_json.specs.View.{view};
 ghost use Rattle.tn_plain_data.specs.Limits.{most_own_trades};
 ghost use Rattle.tn_shape.specs.Reading.{Gives};
 ghost use Rattle.tn_read_references.specs.Ordered.{Listed, sides_of};
-ghost use Rattle.tn_read_claims.specs.Claimed.{accepted_of, better_of, blocks_of, completes_of, cycle_of, drops_of, equilibrium_of, failure_of, frame_of, impossible_of, solved_of, supported_of};
+ghost use Rattle.tn_read_claims.specs.Claimed.{accepted_of, better_of, blocks_of, completes_of, cycle_of, drops_of, equilibrium_of, failure_of, frame_of, impossible_of, no_prices_of, solved_of, supported_of};
 
 use crate::contracts::contracts_of;
 use crate::members::{
     bundle_of, firm_of, gain_or_null, number_of, on_of, over_of, own_or_null, prices_of,
 };
 use crate::nodes::nodes_of;
+use crate::plan::plan_of;
 use serde_json::Value;
 use std::alloc::Global;
+use tn_base::FaultKind;
 use tn_plain_data::{Arrangement, Claim, Word};
 use tn_read_parts::{read_arrangement, read_outcome, read_trades_on};
 use tn_read_references::Head;
 use tn_shape::steps::{AT, CLAIM};
-use tn_shape::{ClaimKind, ObjectKind, ReadError, object_of};
+use tn_shape::{ClaimKind, ObjectKind, ReadError, object_of, require};
+
+/// The most trades of a document whose claim is a plan: it is held against every set of them.
+const MOST_PLANNED_TRADES: usize = 20;
 
 /// Whether a claim of a kind has the members of its answer alone.
 fn check_frame(alloc: Global, kind: ClaimKind, claim: &Value) -> Result<(), ReadError>
@@ -218,4 +223,19 @@ pub(crate) fn blocks(
         contracts,
         over,
     })
+}
+
+/// The claim that no prices make any set of trades an equilibrium, by a plan in parts. A document of more than 20 trades is
+/// refused before the claim's members are read.
+#[tactic(auto, unfolding(crate::specs::Claimed::no_prices_of))]
+pub(crate) fn no_prices(alloc: Global, head: &Head, claim: &Value) -> Result<Claim, ReadError>
+    requires few { (f : ℕ) → f < length head.now.names.firms → length (sides_of head.now.ends f) ≤ most_own_trades }
+    ensures { Gives (λ c. c) result (no_prices_of head.now (view claim.now)) }
+{
+    let few = head.ends().len() <= MOST_PLANNED_TRADES;
+    require(alloc, few, FaultKind::Limit, &[CLAIM])?;
+    check_frame(alloc, ClaimKind::NoPrices, claim)?;
+    let over = over_of(alloc, head, claim)?;
+    let plan = plan_of(alloc, head, claim)?;
+    Ok(Claim::NoPrices { plan, over })
 }

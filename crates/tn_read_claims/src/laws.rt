@@ -11,7 +11,7 @@ pub fn nodes_are_few()
     ensures { NodesAreFew }
 {}
 
-/// Whether the claim that is read is one on exchange is told by the text of its answer.
+/// Whether the claim that is read is one that is made of firms as they are listed is told by the text of its answer.
 pub fn raw_claims_are_told()
     ensures { RawClaimsAreTold }
 {}

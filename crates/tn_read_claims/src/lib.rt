@@ -8,6 +8,7 @@ mod kinds;
 mod laws;
 mod members;
 mod nodes;
+mod plan;
 mod raw;
 
 pub use claim::read_claim;

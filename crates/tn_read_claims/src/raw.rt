@@ -8,7 +8,8 @@ ghost use Rattle.tn_read_claims.specs.Claimed.{claims_raw, is_raw, names_raw};
 use serde_json::Value;
 use tn_shape::{ClaimKind, claim_named};
 
-/// Whether a document's claim is one on exchange, by its answer: such a claim is made of firms as they are listed.
+/// Whether a document's claim is one on exchange, or that there are no prices, by its answer: such a claim is made of firms
+/// as they are listed.
 pub fn claims_raw(top: &Value) -> bool
     ensures { result ≡ claims_raw (view top.now) }
 {
@@ -27,7 +28,7 @@ fn answer_of(top: &Value) -> Option<&str>
     answer.as_str()
 }
 
-/// Whether a text names a claim on exchange.
+/// Whether a text names a claim that is made of firms as they are listed.
 fn names_raw(text: &str) -> bool
     ensures { result ≡ names_raw text.now }
 {
@@ -37,12 +38,12 @@ fn names_raw(text: &str) -> bool
     }
 }
 
-/// Whether claims of a kind are on exchange.
+/// Whether claims of a kind are made of firms as they are listed.
 fn is_raw(kind: ClaimKind) -> bool
     ensures { result ≡ is_raw kind }
 {
     match kind {
-        ClaimKind::Accepted | ClaimKind::ExchangeFails => true,
+        ClaimKind::Accepted | ClaimKind::ExchangeFails | ClaimKind::NoPrices => true,
         ClaimKind::Equilibrium
         | ClaimKind::Better
         | ClaimKind::Impossible
