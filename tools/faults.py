@@ -10,8 +10,8 @@ MEMBERS = dict(table="rows", laminar="amounts sets", middleman="costs gains keep
 CLAIM_MEMBERS = dict(  # in the order in which they are read
     equilibrium="surplus", better="firm bundle gain", impossible="firm", prices="prices", cycle="cost nodes",
     solved="on prices surplus", drops="firm gain keeps over", completes="over prices", blocks="contracts over", accepted="",
-    exchange_fails="firm at x y")
-RAW_CLAIMS = ("accepted", "exchange_fails")
+    exchange_fails="firm at x y", none="over plan")
+RAW_CLAIMS = ("accepted", "exchange_fails", "none")
 AMOUNTS, PRICES, CONTRACTS, CLAIMED = 10 ** 9, 10 ** 14, 10 ** 11, 10 ** 18
 STRING = re.compile(r'"(?:[^"\\]|\\.)*"')
 
@@ -281,14 +281,15 @@ class Reader:
             self.arrangement(answer in ("equilibrium", "better"))
         elif answer in ("drops", "completes", "blocks"):
             self.outcome()
+        elif answer == "none":
+            want(len(self.trades) <= 20, LIMIT, place)
         self.object(claim, place, "answer " + CLAIM_MEMBERS[answer])
         for name in CLAIM_MEMBERS[answer].split():
             self.claimed(claim, answer, name, *self.member(claim, place, name))
 
     def claimed(self, claim, answer, name, value, place):
         if name == "firm":
-            want(isinstance(value, str), SHAPE, place)
-            want(value in self.firms, UNKNOWN_FIRM, place)
+            self.claimed_firm(value, place)
         elif name in ("bundle", "keeps", "x", "y"):
             self.references(value, place, sum(self.own(claim["firm"]), []))
         elif name == "at":
@@ -306,7 +307,21 @@ class Reader:
             for node, at in nodes:
                 if node is not None:
                     self.reference(node, at)
+        elif name == "plan":
+            for part, at in self.list(value, place, 1024):
+                self.part(part, at)
         elif name == "over":
             self.over(value, place, 100_000)
         elif value is not None or (answer, name) != ("drops", "gain"):
             self.number(value, place, CLAIMED)
+
+    def claimed_firm(self, value, place):
+        want(isinstance(value, str), SHAPE, place)
+        want(value in self.firms, UNKNOWN_FIRM, place)
+
+    def part(self, part, place):
+        (firm, firm_at), (trades, trades_at), (weight, weight_at) = self.list(part, place, length=3)
+        self.claimed_firm(firm, firm_at)
+        self.references(trades, trades_at, sum(self.own(firm), []))
+        want(is_whole(weight), SHAPE, weight_at)
+        want(1 <= weight <= 100_000, AMOUNT_RANGE, weight_at)

@@ -636,8 +636,23 @@ def make(draw, examples):
             change(draw, document, small=True)
     if turn == 2:
         add_parts(draw, document, [], {})
-        document["claim"] = {"answer": draw.choice(CLAIMS), "firm": "S", draw.choice(["on", "prices", "over", "gain"]): []}
+        document["claim"] = {"answer": draw.choice((*CLAIMS, "none")), "firm": "S", draw.choice(["on", "prices", "over", "gain"]): []}
+        if draw.random() < 0.3:
+            document["claim"] = plan_of(draw, document)
     return document, turn == 2
+
+
+def plan_of(draw, document):
+    """A claim by a plan in parts, of own trades of firms for the most part."""
+    firms, trades = document.get("firms"), document.get("trades")
+    ends = [(trade.get("name"), trade.get("seller"), trade.get("buyer")) for trade in trades if isinstance(trade, dict)] if isinstance(trades, list) else []
+    names = [firm.get("name") for firm in firms if isinstance(firm, dict)] if isinstance(firms, list) else []
+    plan = []
+    for _ in range(draw.randint(0, 4)):
+        firm = draw.choice([*names, "nobody"])
+        own = [name for name, *its in ends if firm in its or draw.random() < 0.05]
+        plan.append([firm, draw.sample(own, draw.randint(0, len(own))), draw.choice([1, 2, 3, 100_000, 0, 100_001, -1, 1.5, "1"])])
+    return {"answer": "none", "over": draw.choice([1, 2, 100_000, 0, None]), "plan": plan}
 
 
 def keep(folder, seed, k, document, error):

@@ -3,8 +3,9 @@
 
     tools/fuzz_claims.py [PROGRAM] [--seed N] [--documents N] [--keep FOLDER]
 
-Of each claim the validity, or the first reason against it with the true value, has to be the same. A claim that isn't decided
-alike is kept in FOLDER with its document, and ends the run with status 1.
+Of each claim the validity, or the first reason against it with the true value, has to be the same. Plans in parts are claimed of
+networks of tables of their own, whether these meet the exchange property or not, and are held against all sets of trades. A claim
+that isn't decided alike is kept in FOLDER with its document, and ends the run with status 1.
 """
 import argparse
 import collections
@@ -201,6 +202,107 @@ def hold_claims(program, document, draw):
         want({**said, **decided} == said, "another decision", said, decided)
 
 
+# ---- plans in parts
+
+def draw_raw(draw):
+    """A network of tables that may fail the exchange property."""
+    firms = [f"F{k}" for k in range(draw.randint(2, 4))]
+    trades = []
+    for k in range(draw.randint(1, 6)):
+        seller, buyer = draw.sample(firms, 2)
+        trades.append({"name": f"t{k}", "seller": seller, "buyer": buyer})
+    listed = []
+    for firm in firms:
+        own = [trade["name"] for trade in trades if firm in (trade["seller"], trade["buyer"])]
+        bundles = [[name for k, name in enumerate(own) if x >> k & 1] for x in range(1 << len(own))]
+        rows = [[bundle, draw.randint(-6, 6) + 3 * len(bundle)] for bundle in bundles if draw.random() < 0.85]
+        listed.append({"name": firm, "kind": "table", "rows": rows})
+    return {"version": draw.choice([1, 2]), "firms": listed, "trades": trades}
+
+
+def draw_pairs(draw):
+    """A network of sellers with one item each, and of buyers who want several: mostly one without prices."""
+    items, buyers = range(3), range(draw.randint(2, 3))
+    trades = [{"name": f"t{i}{b}", "seller": f"S{i}", "buyer": f"B{b}"} for i in items for b in buyers if draw.random() < 0.75]
+    firms = [{"name": f"S{i}", "kind": "table", "rows": [[[t["name"]], -draw.randint(0, 1)] for t in trades if t["seller"] == f"S{i}"]} for i in items]
+    for b in buyers:
+        own = [trade["name"] for trade in trades if trade["buyer"] == f"B{b}"]
+        bundles = [[name for k, name in enumerate(own) if x >> k & 1] for x in range(1, 1 << len(own))]
+        firms.append({"name": f"B{b}", "kind": "table", "rows": [[x, [0, draw.randint(0, 3), draw.randint(4, 9), 10][len(x)]] for x in bundles]})
+    return {"version": 1, "firms": firms, "trades": trades}
+
+
+def best_slots(draw, network, k, counts, over):
+    """Bundles of firm k, one for each share of 1/over, in which each own trade stands as often as is wanted; the best of some."""
+    def some():
+        slots = [0] * over
+        for trade in network.listed(network.own[k]):
+            for slot in draw.sample(range(over), counts[trade]):
+                slots[slot] |= network.set_of([trade])
+        return slots
+
+    worths = network.worths[k]
+    return max((some() for _ in range(8)), key=lambda slots: sum(worths.get(x, -100) for x in slots))
+
+
+def draw_plan(draw, network):
+    """A plan in parts, mostly one in which each trade is sold as much as it is bought."""
+    over, times = draw.choice([1, 2, 2, 2, 3]), draw.choice([1, 1, 7, 30_000])
+
+    def some():
+        counts = {name: draw.randint(0, over) for name in network.names}
+        return [best_slots(draw, network, k, counts, over) for k in range(len(network.firms))]
+
+    def worth(slots):
+        return sum(worths.get(x, -100) for worths, bundles in zip(network.worths, slots) for x in bundles)
+
+    plan = [[firm["name"], network.listed(x), times] for firm, bundles in zip(network.firms, max((some() for _ in range(12)), key=worth))
+            for x in bundles if x or draw.random() < 0.5]
+    draw.shuffle(plan)
+    spoilt = draw.random()
+    if spoilt < 0.1 and plan:
+        draw.choice(plan)[2] += draw.choice([1, times])
+    elif spoilt < 0.2 and plan:
+        plan.pop()
+    elif spoilt < 0.3:
+        k = draw.randrange(len(network.firms))
+        own = network.listed(network.own[k])
+        plan.append([network.firms[k]["name"], draw.sample(own, draw.randint(0, len(own))), 1])
+    return {"answer": "none", "over": over * times, "plan": plan}
+
+
+def decide_plan(network, claim):
+    """The decision, and what the plan is worth, over the claim's denominator."""
+    over, weights, worth = claim["over"], collections.Counter(), 0
+    parts_of = [[(network.set_of(names), weight) for name, names, weight in claim["plan"] if name == firm["name"]] for firm in network.firms]
+    for firm, mine in zip(network.firms, parts_of):
+        if sum(weight for _, weight in mine) > over:
+            return invalid("shares", firm=firm["name"]), None
+    for firm, mine, worths in zip(network.firms, parts_of, network.worths):
+        if any(bundle not in worths for bundle, _ in mine):
+            return invalid("impossible", firm=firm["name"]), None
+        worth += sum(weight * worths[bundle] for bundle, weight in mine) + (over - sum(weight for _, weight in mine)) * worths[0]
+        for bundle, weight in mine:
+            weights.update({(firm["name"], name): weight for name in network.listed(bundle)})
+    for name in network.names:
+        if weights[network.ends[name]["seller"], name] != weights[network.ends[name]["buyer"], name]:
+            return invalid("balance", trade=name), None
+    return (invalid("whole") if over * network.greatest(network.all) >= worth else VALID), worth
+
+
+def hold_plan(program, document, draw):
+    network = Network(document)
+    for _ in range(3):
+        document["claim"] = claim = draw_plan(draw, network)
+        said, (decided, worth) = program.ask("replay", document), decide_plan(network, claim)
+        program.counts["none", decided.get("reason", "valid")] += 1
+        want({**said, **decided} == said, "another decision", said, decided)
+        if decided.get("reason") == "whole":
+            surplus = network.surplus(network.set_of(said["on"]))
+            want(surplus == said["surplus"] and claim["over"] * surplus >= worth, "a set that isn't worth as much", said, surplus, worth)
+            want(said["on"] == network.listed(network.set_of(said["on"])), "trades in another order", said)
+
+
 def main():
     parser = argparse.ArgumentParser(description=__doc__.splitlines()[0])
     parser.add_argument("program", nargs="?", default=HOME / "crates/market/out/market")
@@ -211,14 +313,16 @@ def main():
     program, failed = Program(options.program), 0
     for k in range(options.documents):
         draw = random.Random(f"claims-{options.seed}-{k}")
-        document = draw_document(draw)
+        document, raw = draw_document(draw), draw.choice([draw_raw, draw_pairs])(draw)
         try:
             hold_claims(program, document, draw)
+            document = raw
+            hold_plan(program, document, draw)
         except (Unconfirmed, LookupError, TypeError, ValueError) as error:
             failed += 1
             keep(options.keep, options.seed, k, document, error)
     for (claim, decision), count in sorted(program.counts.items()):
-        if claim in CLAIMS:
+        if claim in (*CLAIMS, "none"):
             print(f"{claim}\t{decision}\t{count}")
     print(f"seed {options.seed}: {options.documents} documents, {program.runs} runs, {failed} not confirmed")
     return failed != 0
