@@ -1,6 +1,7 @@
 // Changes of the text in its claim: an answer is put in as one, and each name and number of it can be changed.
 import {CLAIMS} from "../read/answer.js";
 import {written} from "../read/json.js";
+import {listed} from "../say/words.js";
 import {added, memberOf, withMember, without} from "./edits.js";
 
 /** Whether an answer can be a claim. */
@@ -36,6 +37,7 @@ function fieldsAt(network, claim, name, node) {
     if (name === "firm") return [{...field, kind: "choice", options: optionsOf(network.firms.map((firm) => firm.name))}];
     if (name === "at") return [{...field, kind: "choice", options: [NONE, ...optionsOf(all)]}];
     if (node.kind !== "list") return [];
+    if (name === "plan") return node.value.flatMap(partField);
     if (name === "nodes") return node.value.map((each, k) => nodeField(each, k, all));
     return name === "prices" || name === "contracts"
         ? entryFields(name, node)
@@ -50,6 +52,13 @@ function optionsOf(names) {
 
 function nodeField(node, k, all) {
     return {key: `nodes ${k}`, says: `node ${k + 1}`, kind: "choice", node, options: [NONE, ...optionsOf(all)]};
+}
+
+/** The weight of a part of a plan; nothing where it isn't one. */
+function partField({kind, value}, k) {
+    const [firm, trades, weight] = kind === "list" ? value : [];
+    if (firm?.kind !== "text" || trades?.kind !== "list" || weight?.kind !== "number") return [];
+    return [{key: `plan ${k}`, says: `${firm.value}: ${listed(trades.value.map((trade) => String(trade.value)))}`, kind: "number", node: weight}];
 }
 
 /** The trades that may stand in a set: those of the claim's firm, where it has one, and what stands there. */

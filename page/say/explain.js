@@ -1,6 +1,6 @@
 // An answer to a document in sentences. They hold no numbers but those of the document, of the answer, and of what `firms` answers.
 import {fraction} from "../read/network.js";
-import {claimed, failed} from "./claims.js";
+import {claimed, failed, implied} from "./claims.js";
 import {failingLines} from "./exchange.js";
 import {faultLines} from "./faults.js";
 import {rangeLines} from "./ranges.js";
@@ -83,7 +83,7 @@ const ANSWERS = {
     blocks: (said, network) => ["This outcome is blocked: each firm would keep all its contracts, but some would rather sign others.", signed(new Deals(network, said)), "They would sign:",
         ...said.contracts.map((contract) => contractOf(network, contract, said.over)), SIGNS_OTHERS],
     drill: ({firms, size, start, surplus}) => [`The network of ${firms} firms and ${size} trades that is drawn from ${start}: the worths of its firms sum to ${surplus} for some set of trades, and to no more for any.`],
-    valid: (said, network) => [`The claim is valid. It says ${claimed(network)}, and so it is.`],
+    valid: async (said, network, ask) => [`The claim is valid. It says ${claimed(network)}, and so it is.`, ...await implied(network, ask)],
     invalid: async (said, network, ask) => [`The claim isn't valid. It says ${claimed(network)}.`, ...await failed(network, said, ask)],
     usage: () => ["The words after the program's name are no command. Nothing was read."],
     read_fault: () => ["The document could not be read."],
