@@ -14,9 +14,9 @@ use Rattle.tn_base.specs.Faults.{fault_number}
 use Rattle.tn_plain_data.specs.declared.place.PlaceStep.{PlaceStep}
 use Rattle.tn_plain_data.specs.declared.place.PlaceStep.TheVariants.{Word as Member, Index, Trade}
 use Rattle.tn_plain_data.specs.declared.place.Word.{Word}
-use Rattle.tn_plain_data.specs.declared.place.Word.TheVariants.{Version, Firms, Trades, Arrangement, Outcome, Claim, Note, Edits, Name, Seller, Buyer, Kind, Rows, Amounts, Sets, From, Values, Costs, Gains, Keep, Pairs, On, Prices, Over, Contracts, Answer, Surplus as SurplusWord, Firm, Bundle, Gain, X, Y, At, Nodes, Cost, Keeps}
+use Rattle.tn_plain_data.specs.declared.place.Word.TheVariants.{Version, Firms, Trades, Arrangement, Outcome, Claim, Note, Edits, Name, Seller, Buyer, Kind, Rows, Amounts, Sets, From, Values, Costs, Gains, Keep, Pairs, On, Prices, Over, Contracts, Answer, Surplus as SurplusWord, Firm, Bundle, Gain, X, Y, At, Nodes, Cost, Keeps, Plan}
 use Rattle.tn_plain_data.specs.declared.reason.Reason.{Reason}
-use Rattle.tn_plain_data.specs.declared.reason.Reason.TheVariants.{Impossible as ImpossibleIs, Better as BetterIs, Possible, Surplus as SurplusIs, Gain as GainIs, Exchange, Holds, Arc, Cost as CostIs, Contract as ContractIs, Over as OverIs, Price, Empty, Signed, Choice}
+use Rattle.tn_plain_data.specs.declared.reason.Reason.TheVariants.{Impossible as ImpossibleIs, Better as BetterIs, Possible, Surplus as SurplusIs, Gain as GainIs, Exchange, Holds, Arc, Cost as CostIs, Contract as ContractIs, Over as OverIs, Price, Empty, Signed, Choice, Shares, Balance, Whole}
 use Rattle.tn_plain_data.specs.declared.said.Fault.{Fault}
 use Rattle.tn_plain_data.specs.declared.said.Shown.{Shown}
 use Rattle.tn_plain_data.specs.declared.contract.Contract.{Contract}
@@ -110,7 +110,7 @@ same_kind : (first second : FaultKind) → fault_number first ≡ fault_number s
 same_kind first second e = sym (kind_back first) ∙ ap (λ n. get_or kinds n NotJson) e ∙ kind_back second
 
 words : List Word
-words = Version ∷ Firms ∷ Trades ∷ Arrangement ∷ Outcome ∷ Claim ∷ Note ∷ Edits ∷ Name ∷ Seller ∷ Buyer ∷ Kind ∷ Rows ∷ Amounts ∷ Sets ∷ From ∷ Values ∷ Costs ∷ Gains ∷ Keep ∷ Pairs ∷ On ∷ Prices ∷ Over ∷ Contracts ∷ Answer ∷ SurplusWord ∷ Firm ∷ Bundle ∷ Gain ∷ X ∷ Y ∷ At ∷ Nodes ∷ Cost ∷ Keeps ∷ []
+words = Version ∷ Firms ∷ Trades ∷ Arrangement ∷ Outcome ∷ Claim ∷ Note ∷ Edits ∷ Name ∷ Seller ∷ Buyer ∷ Kind ∷ Rows ∷ Amounts ∷ Sets ∷ From ∷ Values ∷ Costs ∷ Gains ∷ Keep ∷ Pairs ∷ On ∷ Prices ∷ Over ∷ Contracts ∷ Answer ∷ SurplusWord ∷ Firm ∷ Bundle ∷ Gain ∷ X ∷ Y ∷ At ∷ Nodes ∷ Cost ∷ Keeps ∷ Plan ∷ []
 
 abbrev word_of : List ℕ → Option Word
 word_of text = find (λ word. bytes_eq text (word_text word)) words
@@ -356,6 +356,9 @@ reason_text (Price trade) = codes "price"
 reason_text Empty = codes "empty"
 reason_text (Signed trade) = codes "signed"
 reason_text (Choice firm trade) = codes "choice"
+reason_text (Shares firm) = codes "shares"
+reason_text (Balance trade) = codes "balance"
+reason_text (Whole on surplus) = codes "whole"
 
 reason_says : (names : NameLists) (reason : Reason) → text_in (part (codes "reason") (invalid names reason)) ≡ reason_text reason
 reason_says names Holds = refl
@@ -403,6 +406,12 @@ module _ (names : NameLists) (firms : IsNameList names.firms) (trades : IsNameLi
       let firm_is = same_firm firm other h.0 k.0 (Choice firm trade) (Choice other trade') e refl refl in
       let trade_is = same_trade trade trade' h.1 k.1 (Choice firm trade) (Choice other trade') e refl refl in
       λ i. Choice (firm_is i) (trade_is i)
+  same_reason (Shares firm) (Shares other) h k e = ap Shares (same_firm firm other h k (Shares firm) (Shares other) e refl refl)
+  same_reason (Balance trade) (Balance other) h k e = ap Balance (same_trade trade other h k (Balance trade) (Balance other) e refl refl)
+  same_reason (Whole on surplus) (Whole on' surplus') h k e =
+      let on_is = same_names names.trades trades on on' h k (ap (part (codes "on")) e) in
+      let surplus_is = same_integer surplus surplus' (ap (part (codes "surplus")) e) in
+      λ i. Whole (on_is i) (surplus_is i)
   same_reason first second h k e = absurd (clash (mark (reason_text first)) (mark (reason_text second)) refl (same_reason_mark first second e))
 
 -- what firms have

@@ -7,7 +7,7 @@ use Rattle.serde_json.specs.View.{items_of}
 use Rattle.tn_plain_data.specs.declared.place.PlaceStep.{PlaceStep}
 use Rattle.tn_plain_data.specs.declared.place.PlaceStep.TheVariants.{Word, Index, Trade}
 use Rattle.tn_plain_data.specs.declared.reason.Reason.{Reason}
-use Rattle.tn_plain_data.specs.declared.reason.Reason.TheVariants.{Better as BetterIs, Surplus, Gain, Exchange, Cost, Over}
+use Rattle.tn_plain_data.specs.declared.reason.Reason.TheVariants.{Better as BetterIs, Surplus, Gain, Exchange, Cost, Over, Whole}
 use Rattle.tn_plain_data.specs.declared.said.Fault.{Fault}
 use Rattle.tn_plain_data.specs.declared.said.Shown.{Shown}
 use Rattle.tn_plain_data.specs.declared.contract.Contract.{Contract}
@@ -91,6 +91,7 @@ reason_has_no_float names (Cost cost) = neither _ _ (integer_is_no_float cost) r
 reason_has_no_float names (Over over) = neither _ _ (integer_is_no_float over) refl
 reason_has_no_float names (BetterIs firm bundle) = neither _ _ (names_have_no_float names.trades bundle) refl
 reason_has_no_float names (Exchange firm x y at) = neither _ _ (option_has_no_float names.trades at) (neither _ _ (names_have_no_float names.trades x) (neither _ _ (names_have_no_float names.trades y) refl))
+reason_has_no_float names (Whole on surplus) = neither _ _ (names_have_no_float names.trades on) (neither _ _ (integer_is_no_float surplus) refl)
 reason_has_no_float names reason = refl
 
 holdings_have_no_float : (names : NameLists) (k : ℕ) (holdings : List Holding) → has_float (array (items_of (each_from (holding_data names) k holdings))) ≡ false

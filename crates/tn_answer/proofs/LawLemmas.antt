@@ -8,7 +8,7 @@ use Rattle.serde_json.specs.View.{items_of}
 use Rattle.tn_plain_data.specs.declared.place.PlaceStep.{PlaceStep}
 use Rattle.tn_plain_data.specs.declared.place.PlaceStep.TheVariants.{Word, Index, Trade}
 use Rattle.tn_plain_data.specs.declared.reason.Reason.{Reason}
-use Rattle.tn_plain_data.specs.declared.reason.Reason.TheVariants.{Impossible as ImpossibleIs, Better as BetterIs, Possible, Surplus, Gain, Exchange, Holds, Arc, Cost, Contract as ContractIs, Over, Price, Empty, Signed, Choice}
+use Rattle.tn_plain_data.specs.declared.reason.Reason.TheVariants.{Impossible as ImpossibleIs, Better as BetterIs, Possible, Surplus, Gain, Exchange, Holds, Arc, Cost, Contract as ContractIs, Over, Price, Empty, Signed, Choice, Shares, Balance, Whole}
 use Rattle.tn_plain_data.specs.declared.said.Fault.{Fault}
 use Rattle.tn_plain_data.specs.declared.said.Shown.{Shown}
 use Rattle.tn_plain_data.specs.declared.contract.Contract.{Contract}
@@ -184,6 +184,7 @@ reason_fits (Gain firm gain) within = gain_fits gain within
 reason_fits (Arc index) within = omega (arith, within)
 reason_fits (Cost cost) within = fits_from_within cost within
 reason_fits (Over over) within = fits_from_within over within
+reason_fits (Whole on surplus) within = fits_from_within surplus within
 reason_fits (ImpossibleIs firm) within = tt
 reason_fits (BetterIs firm bundle) within = tt
 reason_fits (Possible firm) within = tt
@@ -194,6 +195,8 @@ reason_fits (Price trade) within = tt
 reason_fits Empty within = tt
 reason_fits (Signed trade) within = tt
 reason_fits (Choice firm trade) within = tt
+reason_fits (Shares firm) within = tt
+reason_fits (Balance trade) within = tt
 
 pub within_sayable : (said : Said) → IsWithinClaims said → IsSayable said
 within_sayable Usage within = tt

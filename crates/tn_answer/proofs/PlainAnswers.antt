@@ -14,7 +14,7 @@ use Rattle.tn_plain_data.specs.declared.place.PlaceStep.TheVariants.{Word as Mem
 use Rattle.tn_plain_data.specs.declared.place.Word.{Word}
 use Rattle.tn_plain_data.specs.declared.place.Word.TheVariants.{Version}
 use Rattle.tn_plain_data.specs.declared.reason.Reason.{Reason}
-use Rattle.tn_plain_data.specs.declared.reason.Reason.TheVariants.{Impossible as ImpossibleIs, Better as BetterIs, Possible, Surplus, Gain, Exchange, Holds, Arc, Cost, Contract as ContractIs, Over, Price, Empty, Signed, Choice}
+use Rattle.tn_plain_data.specs.declared.reason.Reason.TheVariants.{Impossible as ImpossibleIs, Better as BetterIs, Possible, Surplus, Gain, Exchange, Holds, Arc, Cost, Contract as ContractIs, Over, Price, Empty, Signed, Choice, Shares, Balance, Whole}
 use Rattle.tn_plain_data.specs.declared.said.Fault.{Fault}
 use Rattle.tn_plain_data.specs.declared.said.Shown.{Shown}
 use Rattle.tn_plain_data.specs.declared.contract.Contract.{Contract}
@@ -153,6 +153,9 @@ module _ (names : NameLists) (firms : IsNameList names.firms) (trades : IsNameLi
   reason_is_plain Empty h = (refl, refl, (refl, refl, tt))
   reason_is_plain (Signed trade) h = (refl, refl, (refl, refl, (refl, name_is_plain names.trades trades trade, tt)))
   reason_is_plain (Choice firm trade) h = (refl, refl, (refl, firm_is_plain firm, (refl, refl, (refl, name_is_plain names.trades trades trade, tt))))
+  reason_is_plain (Shares firm) h = (refl, refl, (refl, firm_is_plain firm, (refl, refl, tt)))
+  reason_is_plain (Balance trade) h = (refl, refl, (refl, refl, (refl, name_is_plain names.trades trades trade, tt)))
+  reason_is_plain (Whole on surplus) h = (refl, refl, (refl, names_are_plain names.trades trades on, (refl, refl, (refl, integer_is_short surplus h, tt))))
 
 module _ (names : NameLists) (firms : IsNameList names.firms) (trades : IsNameList names.trades) where
   holding_is_plain : (k : ℕ) (holding : Holding) → IsShortHolding holding → IsPlain (holding_data names k holding)

@@ -6,7 +6,7 @@ use Rattle.serde_json.specs.Data.{number, string, unsigned, Members, no_members,
 use Rattle.tn_base.specs.Arcs.{IsAtMost}
 use Rattle.tn_plain_data.specs.Limits.{most_number}
 use Rattle.tn_plain_data.specs.declared.reason.Reason.{Reason}
-use Rattle.tn_plain_data.specs.declared.reason.Reason.TheVariants.{Impossible, Better, Possible, Surplus, Gain, Exchange, Holds, Arc, Cost, Contract, Over, Price, Empty, Signed, Choice}
+use Rattle.tn_plain_data.specs.declared.reason.Reason.TheVariants.{Impossible, Better, Possible, Surplus, Gain, Exchange, Holds, Arc, Cost, Contract, Over, Price, Empty, Signed, Choice, Shares, Balance, Whole}
 use Rattle.tn_names.specs.Names.{NameLists}
 use Rattle.tn_names.specs.Named.{IsNamed, IsNamedTriple, IsAscendingTriple}
 use Rattle.tn_answer.specs.Values.{name_data, names_data, option_data, integer_data, bound_data}
@@ -36,6 +36,9 @@ reason_members names (Price trade) = because (codes "price") (member (codes "tra
 reason_members names Empty = because (codes "empty") no_members
 reason_members names (Signed trade) = because (codes "signed") (member (codes "trade") (name_data names.trades trade) no_members)
 reason_members names (Choice firm trade) = firm_because names firm (codes "choice") (member (codes "trade") (name_data names.trades trade) no_members)
+reason_members names (Shares firm) = firm_because names firm (codes "shares") no_members
+reason_members names (Balance trade) = because (codes "balance") (member (codes "trade") (name_data names.trades trade) no_members)
+reason_members names (Whole on surplus) = member (codes "on") (names_data names.trades on) (because (codes "whole") (member (codes "surplus") (integer_data surplus) no_members))
 
 -- a number of a reason keeps a limit
 abbrev pub KeepsNumbers : (ℤ → Type 0) → ℕ → Reason → Type 0
@@ -44,6 +47,7 @@ KeepsNumbers keeps most (Gain firm gain) = IfSome gain keeps
 KeepsNumbers keeps most (Arc index) = index < 2 ^ most
 KeepsNumbers keeps most (Cost cost) = keeps cost
 KeepsNumbers keeps most (Over over) = keeps over
+KeepsNumbers keeps most (Whole on surplus) = keeps surplus
 KeepsNumbers keeps most (Impossible firm) = Unit {0}
 KeepsNumbers keeps most (Better firm bundle) = Unit {0}
 KeepsNumbers keeps most (Possible firm) = Unit {0}
@@ -54,6 +58,8 @@ KeepsNumbers keeps most (Price trade) = Unit {0}
 KeepsNumbers keeps most Empty = Unit {0}
 KeepsNumbers keeps most (Signed trade) = Unit {0}
 KeepsNumbers keeps most (Choice firm trade) = Unit {0}
+KeepsNumbers keeps most (Shares firm) = Unit {0}
+KeepsNumbers keeps most (Balance trade) = Unit {0}
 
 -- the numbers of a reason fit 64 bits, or are within the limits of claims
 abbrev pub IsShortReason : Reason → Type 0
@@ -79,6 +85,9 @@ IsNamedReason names (Price trade) = IsNamed names.trades trade
 IsNamedReason names Empty = Unit {0}
 IsNamedReason names (Signed trade) = IsNamed names.trades trade
 IsNamedReason names (Choice firm trade) = IsNamed names.firms firm × IsNamed names.trades trade
+IsNamedReason names (Shares firm) = IsNamed names.firms firm
+IsNamedReason names (Balance trade) = IsNamed names.trades trade
+IsNamedReason names (Whole on surplus) = All (IsNamed names.trades) on
 
 -- whether a reason names no firm and no trade
 abbrev pub reason_names_nothing : Reason → Bool
@@ -97,10 +106,14 @@ reason_names_nothing (Price trade) = false
 reason_names_nothing Empty = true
 reason_names_nothing (Signed trade) = false
 reason_names_nothing (Choice firm trade) = false
+reason_names_nothing (Shares firm) = false
+reason_names_nothing (Balance trade) = false
+reason_names_nothing (Whole on surplus) = false
 
 -- each list of trades in a reason ascends strictly
 abbrev pub HasAscendingBundles : Reason → Type 0
 HasAscendingBundles (Better firm bundle) = IsStrictlyIncreasing bundle
+HasAscendingBundles (Whole on surplus) = IsStrictlyIncreasing on
 HasAscendingBundles (Exchange firm x y at) = IsAscendingTriple (record { x = x; y = y; at = at })
 HasAscendingBundles (Impossible firm) = Unit {0}
 HasAscendingBundles (Possible firm) = Unit {0}
@@ -115,3 +128,5 @@ HasAscendingBundles (Price trade) = Unit {0}
 HasAscendingBundles Empty = Unit {0}
 HasAscendingBundles (Signed trade) = Unit {0}
 HasAscendingBundles (Choice firm trade) = Unit {0}
+HasAscendingBundles (Shares firm) = Unit {0}
+HasAscendingBundles (Balance trade) = Unit {0}

@@ -3,7 +3,7 @@ use Rattle.std.specs.Prelude.{ℕ, List, codes}
 use Rattle.tn_base.specs.declared.fault.FaultKind.{FaultKind}
 use Rattle.tn_base.specs.declared.fault.FaultKind.TheVariants.{NotJson, TooLong, Shape, BadName, SameName, UnknownFirm, SelfTrade, UnknownTrade, Limit, AmountRange, NotOwnTrade, SameBundle, NoEmpty, NotLaminar, NotConcave, ExchangeFails, SameTrade, PriceMissing, BadOver, SamePair}
 use Rattle.tn_plain_data.specs.declared.place.Word.{Word}
-use Rattle.tn_plain_data.specs.declared.place.Word.TheVariants.{Version, Firms, Trades, Arrangement, Outcome, Claim, Note, Edits, Name, Seller, Buyer, Kind, Rows, Amounts, Sets, From, Values, Costs, Gains, Keep, Pairs, On, Prices, Over, Contracts, Answer, Surplus, Firm, Bundle, Gain, X, Y, At, Nodes, Cost, Keeps}
+use Rattle.tn_plain_data.specs.declared.place.Word.TheVariants.{Version, Firms, Trades, Arrangement, Outcome, Claim, Note, Edits, Name, Seller, Buyer, Kind, Rows, Amounts, Sets, From, Values, Costs, Gains, Keep, Pairs, On, Prices, Over, Contracts, Answer, Surplus, Firm, Bundle, Gain, X, Y, At, Nodes, Cost, Keeps, Plan}
 
 -- the name of a kind of fault
 abbrev pub kind_name : FaultKind → List ℕ
@@ -66,3 +66,4 @@ word_text At = codes "at"
 word_text Nodes = codes "nodes"
 word_text Cost = codes "cost"
 word_text Keeps = codes "keeps"
+word_text Plan = codes "plan"

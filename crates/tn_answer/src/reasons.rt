@@ -38,6 +38,9 @@ pub(crate) fn invalid_value(
         Reason::Empty => plain_value(alloc, names, "empty"),
         Reason::Signed { trade } => trade_value(alloc, names, *trade, "signed"),
         Reason::Choice { firm, trade } => choice_value(alloc, names, *firm, *trade),
+        Reason::Shares { firm } => firm_value(alloc, names, *firm, "shares"),
+        Reason::Balance { trade } => trade_value(alloc, names, *trade, "balance"),
+        Reason::Whole { on, surplus } => whole_value(alloc, names, on, *surplus),
     }
 }
 
@@ -202,6 +205,25 @@ fn choice_value(alloc: Global, names: &Names, firm: u32, trade: u32) -> Result<V
         ("firm", Field::Firm(firm)),
         ("reason", Field::Word("choice")),
         ("trade", Field::Trade(trade)),
+    ];
+    object_of(alloc, names, &fields)
+}
+
+fn whole_value(
+    alloc: Global,
+    names: &Names,
+    on: &Trades,
+    surplus: i128,
+) -> Result<Value, AllocError>
+    requires { FitsSigned w64 surplus }
+    ensures { IfOk result
+        (λ value. view value ≡ answer (codes "invalid") (reason_members names.now (Reason.Whole on.now surplus))) }
+{
+    let fields = [
+        ("answer", Field::Word("invalid")),
+        ("on", Field::Trades(on)),
+        ("reason", Field::Word("whole")),
+        ("surplus", Field::Number(surplus)),
     ];
     object_of(alloc, names, &fields)
 }

@@ -73,5 +73,6 @@ pub(crate) fn word_text(word: Word) -> &'static str
         Word::Nodes => "nodes",
         Word::Cost => "cost",
         Word::Keeps => "keeps",
+        Word::Plan => "plan",
     }
 }
