@@ -81,13 +81,14 @@ impl<'a, V: Valuation, const W: usize> Session<'a, V, W> {
         Ok(Session { market, rounds })
     }
 
-    /// Admits a trade, and answers true, where it isn't admitted; otherwise it answers false and changes nothing. It asks
-    /// for at most a worth for each two places of each firm, and takes no memory. The trade is one of the market.
+    /// Admits a trade, and answers true, where it isn't admitted; otherwise it answers false, changes nothing and asks for
+    /// no worth. It asks for at most a worth for each two places of each firm, and takes no memory. The trade is one of the
+    /// market.
     pub fn admit(&mut self, t: u32, steps: &mut Steps<V::Mark>) -> bool
         requires trade { t < length self.old.market.trades }
         ensures answer { result ≡ not (has self.old.admitted t) }
         ensures admitted { (k : ℕ) → has self.new.admitted k ≡ (k == t || has self.old.admitted k) }
-        ensures unchanged { result ≡ false → self.new ≡ self.old }
+        ensures unchanged { result ≡ false → (self.new ≡ self.old) × (steps.new ≡ steps.old) }
         ensures market { self.new.market ≡ self.old.market }
         ensures equilibrium { HoldsEquilibrium V.firm self.new }
         ensures prices { HasSmallPrices V.limit self.new }
@@ -101,14 +102,14 @@ impl<'a, V: Valuation, const W: usize> Session<'a, V, W> {
         true
     }
 
-    /// Bars a trade, and answers true, where it is admitted; otherwise it answers false and changes nothing. Where the
-    /// trade is off, what is on and the prices stay; where it is on, trades are toggled along one cycle. It asks for at
-    /// most a worth for each two places of each firm, and takes no memory. The trade is one of the market.
+    /// Bars a trade, and answers true, where it is admitted; otherwise it answers false, changes nothing and asks for no
+    /// worth. Where the trade is off, what is on and the prices stay; where it is on, trades are toggled along one cycle.
+    /// It asks for at most a worth for each two places of each firm, and takes no memory. The trade is one of the market.
     pub fn bar(&mut self, t: u32, steps: &mut Steps<V::Mark>) -> bool
         requires trade { t < length self.old.market.trades }
         ensures answer { result ≡ has self.old.admitted t }
         ensures admitted { (k : ℕ) → has self.new.admitted k ≡ (not (k == t) && has self.old.admitted k) }
-        ensures unchanged { result ≡ false → self.new ≡ self.old }
+        ensures unchanged { result ≡ false → (self.new ≡ self.old) × (steps.new ≡ steps.old) }
         ensures unmoved { has self.old.solution.on t ≡ false → self.new.solution ≡ self.old.solution }
         ensures market { self.new.market ≡ self.old.market }
         ensures equilibrium { HoldsEquilibrium V.firm self.new }
