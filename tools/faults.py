@@ -119,6 +119,10 @@ class Reader:
         want(is_whole(value), SHAPE, place)
         want(abs(value) <= size, AMOUNT_RANGE, place)
 
+    def known_firm(self, value, place):
+        want(isinstance(value, str), SHAPE, place)
+        want(value in self.firms, UNKNOWN_FIRM, place)
+
     def reference(self, value, place, own=None, earlier=()):
         want(isinstance(value, str), SHAPE, place)
         want(value in self.trades, UNKNOWN_TRADE, place)
@@ -185,8 +189,7 @@ class Reader:
             name = self.name(trade, at, self.trades)
             for end in ("seller", "buyer"):
                 firm, place = self.member(trade, at, end)
-                want(isinstance(firm, str), SHAPE, place)
-                want(firm in self.firms, UNKNOWN_FIRM, place)
+                self.known_firm(firm, place)
             want(trade["seller"] != trade["buyer"], SELF_TRADE, at)
             self.trades[name] = trade
 
@@ -268,9 +271,12 @@ class Reader:
 
     def edits(self):
         for edit, at in self.list(*self.member(self.top, [], "edits"), 256):
-            (word, word_at), (trade, trade_at) = self.list(edit, at, length=2)
-            want(isinstance(word, str) and word in ("admit", "bar"), SHAPE, word_at)
-            self.reference(trade, trade_at)
+            (word, word_at), (name, name_at) = self.list(edit, at, length=2)
+            want(isinstance(word, str) and word in ("admit", "bar", "leave", "join"), SHAPE, word_at)
+            if word in ("leave", "join"):
+                self.known_firm(name, name_at)
+            elif name != "*":
+                self.reference(name, name_at)
 
     def claim(self):
         claim, place = self.member(self.top, [], "claim")
@@ -289,7 +295,7 @@ class Reader:
 
     def claimed(self, claim, answer, name, value, place):
         if name == "firm":
-            self.claimed_firm(value, place)
+            self.known_firm(value, place)
         elif name in ("bundle", "keeps", "x", "y"):
             self.references(value, place, sum(self.own(claim["firm"]), []))
         elif name == "at":
@@ -315,13 +321,9 @@ class Reader:
         elif value is not None or (answer, name) != ("drops", "gain"):
             self.number(value, place, CLAIMED)
 
-    def claimed_firm(self, value, place):
-        want(isinstance(value, str), SHAPE, place)
-        want(value in self.firms, UNKNOWN_FIRM, place)
-
     def part(self, part, place):
         (firm, firm_at), (trades, trades_at), (weight, weight_at) = self.list(part, place, length=3)
-        self.claimed_firm(firm, firm_at)
+        self.known_firm(firm, firm_at)
         self.references(trades, trades_at, sum(self.own(firm), []))
         want(is_whole(weight), SHAPE, weight_at)
         want(1 <= weight <= 100_000, AMOUNT_RANGE, weight_at)

@@ -325,8 +325,27 @@ def add_parts(draw, document, on, prices):
 
     document["arrangement"] = {"on": some(), "prices": [near(name, 1) for name in names]}
     document["outcome"] = {"over": over, "contracts": [near(name, over) for name in some()]}
-    edits = range(draw.randint(0, 12) if names else 0)
-    document["edits"] = [[draw.choice(["admit", "admit", "bar"]), draw.choice(names)] for _ in edits]
+    document["edits"] = [draw_edit(draw, names, document["firms"]) for _ in range(draw.randint(0, 12))]
+
+
+def draw_edit(draw, names, firms):
+    """An edit of one or all of the trades, or of a firm."""
+    word = draw.choice(["admit", "admit", "admit", "bar", "bar", "leave", "join"])
+    if word in ("leave", "join") and firms:
+        return [word, draw.choice(firms)["name"]]
+    return [draw.choice(["admit", "bar"]) if word in ("leave", "join") else word, draw.choice([*names, "*"])]
+
+
+def usable_after(document, edits):
+    """The names of the trades that are admitted after some edits, and of which both firms are there."""
+    ends = {trade["name"]: {trade["seller"], trade["buyer"]} for trade in document["trades"]}
+    admitted, away = set(), set()
+    for word, name in edits:
+        if word in ("admit", "bar"):
+            (admitted.update if word == "admit" else admitted.difference_update)(ends if name == "*" else [name])
+        else:
+            (away.add if word == "leave" else away.discard)(name)
+    return {name for name in admitted if not ends[name] & away}
 
 
 def places(value, place=()):
@@ -482,9 +501,8 @@ def hold_ends(ranges, wanted, draw, check):
 def hold_session(program, document, network):
     said = program.ask("session", document)
     want(len(said["edits"]) == len(document["edits"]), "the count of states", said)
-    allowed = set()
-    for (word, name), state in zip(document["edits"], said["edits"]):
-        (allowed.add if word == "admit" else allowed.discard)(name)
+    for k, state in enumerate(said["edits"]):
+        allowed = usable_after(document, document["edits"][:k + 1])
         names = [n for n in network.names if n in allowed]
         on, within = network.set_of(state["on"]), network.set_of(names)
         want([n for n, _ in state["prices"]] == names and not on & ~within, "the trades of a state", state)
@@ -563,14 +581,13 @@ def quick_check(program, document, on, prices):
 
 
 def hold_state(program, document, states, draw):
-    """One of the states is an equilibrium of the network with the trades that it admits alone."""
+    """One of the states is an equilibrium of the network with the trades alone that can be used then."""
     want(len(states) == len(document["edits"]), "the count of states", states)
     if states:
-        last, admitted = draw.randrange(len(states)), set()
-        for word, name in document["edits"][:last + 1]:
-            (admitted.add if word == "admit" else admitted.discard)(name)
+        last = draw.randrange(len(states))
+        usable = usable_after(document, document["edits"][:last + 1])
         state, prices = states[last], dict(states[last]["prices"])
-        said = quick_check(program, restricted(document, admitted), state["on"], prices)
+        said = quick_check(program, restricted(document, usable), state["on"], prices)
         want(said == {"answer": "equilibrium", "surplus": state["surplus"]}, "a state", state, said)
 
 

@@ -343,9 +343,9 @@ class Firms(Answer):
 
 @dataclass(frozen=True)
 class State:
-    """An equilibrium of the market that the admitted trades make, after an edit.
+    """An equilibrium of the market that the usable trades make, after an edit.
 
-    on: the trades that are on, a tuple of names. prices: a dictionary from every admitted trade to its price, int.
+    on: the trades that are on, a tuple of names. prices: a dictionary from every usable trade to its price, int.
     surplus: the sum of the firms' worths, int.
     """
     on: tuple[str, ...]
@@ -364,14 +364,14 @@ class Session(Answer):
     edits: tuple[State, ...]
 
     def rows(self) -> list[dict]:
-        """A row for each edit: `edit` (admit or bar), its `trade`, the trades that are then `on`, with blanks between
-        them, and the `surplus`."""
+        """A row for each edit: `edit` (admit, bar, leave or join), its `trade` (the firm of leave and join, `*` for all
+        trades), the trades that are then `on`, with blanks between them, and the `surplus`."""
         return [{"edit": edit, "trade": trade, "on": _joined(state.on), "surplus": state.surplus}
                 for (edit, trade), state in zip(self.document["edits"], self.edits)]
 
     def price_frame(self):
         """The prices after each edit as a pandas.DataFrame, with a row for each edit, a column (Int64) for each trade
-        of the document, with pandas.NA where that isn't admitted. Needs pandas."""
+        of the document, with pandas.NA where that can't be used. Needs pandas."""
         pandas = _needed("pandas", "the prices stand in edits")
         names = [trade["name"] for trade in self.document["trades"]]
         return pandas.DataFrame({name: pandas.array([state.prices.get(name) for state in self.edits], dtype="Int64")

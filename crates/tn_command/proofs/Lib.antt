@@ -5,5 +5,6 @@ pub mod SolveLemmas
 pub mod SupportedLemmas
 pub mod RangeLemmas
 pub mod EditLemmas
+pub mod AwayLemmas
 pub mod DrillLemmas
 pub mod ReasonLemmas

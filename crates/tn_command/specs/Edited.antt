@@ -1,5 +1,5 @@
--- The answer of `session`: an equilibrium of the admitted trades after each edit.
-use Rattle.std.specs.Prelude.{◌≡◌, ℕ, ◌+◌, ◌*◌, ℤ, pos, ◌≤ℤ◌, List, [], ◌∷◌, length, map, take, slice_get, Bool, false, not, ◌==◌, ◌&&◌, ◌||◌, Some}
+-- The answer of `session`: an equilibrium of the trades that can be used after each edit.
+use Rattle.std.specs.Prelude.{◌≡◌, ℕ, ◌+◌, ◌*◌, ℤ, pos, ◌≤ℤ◌, List, [], ◌∷◌, length, map, take, slice_get, Bool, true, false, not, ◌==◌, ◌&&◌, ◌||◌, Some}
 use Rattle.tn_base.specs.Firm.{Firm}
 use Rattle.tn_base.specs.Sets.{has}
 use Rattle.tn_firm.specs.declared.value.FirmValue.{FirmValue}
@@ -8,23 +8,53 @@ use Rattle.tn_flow.specs.Solved.{AreSmallPrices, IsSolution}
 use Rattle.tn_session.specs.Standing.{Standing}
 use Rattle.tn_plain_data.specs.declared.ends.Ends.{Ends}
 use Rattle.tn_plain_data.specs.declared.session.Edit.{Edit}
-use Rattle.tn_plain_data.specs.declared.session.Edit.TheVariants.{Admit, Bar}
+use Rattle.tn_plain_data.specs.declared.session.Edit.TheVariants.{Admit, AdmitAll, Bar, BarAll, Join, Leave}
 use Rattle.tn_plain_data.specs.declared.session.State.{State}
 use Rattle.tn_plain_data.specs.declared.said.Said.{Said}
 use Rattle.tn_plain_data.specs.declared.said.Said.TheVariants.{Session}
+use Rattle.tn_command.specs.declared.editing.Kept.{Kept}
 use Rattle.tn_market.specs.Admitted.{admitted}
 use Rattle.tn_plain_data.specs.Prices.{price_at}
 use Rattle.tn_market.specs.Best.{IsSubset}
 use Rattle.tn_market.specs.Widths.{most_worth}
 use Rattle.tn_plain_data.specs.Choices.{contracts_of}
 use Rattle.tn_market.specs.Equilibrium.{IsEquilibrium, surplus_of}
-use Rattle.tn_plain_data.specs.Network.{trades_on}
+use Rattle.tn_plain_data.specs.Network.{IsNetwork, part, trades_on}
 
--- whether trade t is admitted after some edits, by whether it was before them
-abbrev pub is_admitted_after : Bool → List Edit → ℕ → Bool
-is_admitted_after before [] t = before
-is_admitted_after before (Admit s ∷ edits) t = is_admitted_after (t == s || before) edits t
-is_admitted_after before (Bar s ∷ edits) t = is_admitted_after (not (t == s) && before) edits t
+-- whether trade t is admitted after an edit, by whether it was before it
+abbrev pub is_admitted_by : ℕ → Edit → Bool → Bool
+is_admitted_by t (Admit s) before = t == s || before
+is_admitted_by t (Bar s) before = not (t == s) && before
+is_admitted_by t AdmitAll before = true
+is_admitted_by t BarAll before = false
+is_admitted_by t (Leave f) before = before
+is_admitted_by t (Join f) before = before
+
+-- whether firm f is away after an edit, by whether it was before it
+abbrev pub is_away_by : ℕ → Edit → Bool → Bool
+is_away_by f (Leave g) before = f == g || before
+is_away_by f (Join g) before = not (f == g) && before
+is_away_by f (Admit t) before = before
+is_away_by f (Bar t) before = before
+is_away_by f AdmitAll before = before
+is_away_by f BarAll before = before
+
+-- what is so after some edits, one after the other, by what was so before them
+abbrev pub after : (Edit → Bool → Bool) → List Edit → Bool → Bool
+after by [] before = before
+after by (edit ∷ edits) before = after by edits (by edit before)
+
+-- at first no trade is admitted
+abbrev pub is_admitted_after : List Edit → ℕ → Bool
+is_admitted_after edits t = after (is_admitted_by t) edits false
+
+-- at first no firm is away
+abbrev pub is_away_after : List Edit → ℕ → Bool
+is_away_after edits f = after (is_away_by f) edits false
+
+-- a trade can be used where it is admitted and neither of its firms is away
+abbrev pub is_usable_after : List Edit → ℕ → Ends → Bool
+is_usable_after edits t trade = (is_admitted_after edits t && not (is_away_after edits trade.seller)) && not (is_away_after edits trade.buyer)
 
 -- the trades of a set of admitted trades, ascending, and the admitted trades at prices at which the set is an equilibrium
 -- of the market that they make, with its surplus, which no set of admitted trades exceeds
@@ -39,11 +69,16 @@ pub record IsStateOf (firms : List Firm) (trades : List Ends) (allowed : ℕ) (s
   pub surplus_is : surplus_of firms trades set ≡ Some state.surplus
   pub most : (other : ℕ) (surplus : ℤ) → IsSubset other allowed → surplus_of firms trades other ≡ Some surplus → surplus ≤ℤ state.surplus
 
--- a state of the trades that edits admit; at first no trade is admitted
+-- a state of the trades that can be used after edits
 pub record IsStateAfter (firms : List Firm) (trades : List Ends) (edits : List Edit) (state : State) : Type 0 where
   pub allowed : ℕ
-  pub allowed_is : (t : ℕ) → has allowed t ≡ is_admitted_after false edits t
+  pub allowed_is : (t : ℕ) (trade : Ends) → slice_get trades t ≡ Some trade → has allowed t ≡ is_usable_after edits t trade
   pub is : IsStateOf firms trades allowed state
+
+-- in a state each firm that is away has its empty bundle
+abbrev pub FirmsAwayHaveNothing : Type 0
+FirmsAwayHaveNothing = (firms : List Firm) (trades : List Ends) (edits : List Edit) (state : State) (at : IsStateAfter firms trades edits state) → IsNetwork firms trades
+    → (f : ℕ) (firm : Firm) → slice_get firms f ≡ Some firm → is_away_after edits f ≡ true → part trades f firm.count at.is.set ≡ 0
 
 -- one state for each edit, the k-th one after the first k edits
 pub record AreStates (firms : List Firm) (trades : List Ends) (edits : List Edit) (states : List State) : Type 0 where
@@ -54,9 +89,20 @@ abbrev pub TellsStates : List Firm → List Ends → List Edit → Said → Type
 TellsStates firms trades edits (Session states) = AreStates firms trades edits states
 TellsStates firms trades edits said = ⊥
 
--- a session on the market stands at an equilibrium of the trades that pass the test, which are admitted, at small prices
-pub record StandsWhere (firms : List FirmValue) (trades : List Ends) (test : ℕ → Bool) (session : Standing FirmValue) : Type 0 where
+-- a session on the market stands at an equilibrium of the trades that it admits, at small prices
+pub record StandsOn (firms : List FirmValue) (trades : List Ends) (session : Standing FirmValue) : Type 0 where
   pub market : session.market ≡ record { firms = firms; trades = trades }
-  pub admitted_are : (t : ℕ) → has session.admitted t ≡ test t
   pub equilibrium : IsSolution (map firm_of firms) trades session.admitted session.solution
   pub small : AreSmallPrices (2 * most_worth * length trades) session.solution.prices
+
+-- what is kept of trade t is what some edits say of it and of its firms, and a session admits it where it can be used
+pub record IsAfter (edits : List Edit) (t : ℕ) (trade : Ends) (kept : Kept) (used : ℕ) : Type 0 where
+  pub admitted : has kept.admitted t ≡ is_admitted_after edits t
+  pub seller : has kept.seller_away t ≡ is_away_after edits trade.seller
+  pub buyer : has kept.buyer_away t ≡ is_away_after edits trade.buyer
+  pub usable : has used t ≡ is_usable_after edits t trade
+
+-- all that is kept, and the session, are as after some edits
+pub record StandsAfter (firms : List FirmValue) (trades : List Ends) (edits : List Edit) (kept : Kept) (session : Standing FirmValue) : Type 0 where
+  pub stands : StandsOn firms trades session
+  pub each : (t : ℕ) (trade : Ends) → slice_get trades t ≡ Some trade → IsAfter edits t trade kept session.admitted

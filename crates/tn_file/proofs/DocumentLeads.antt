@@ -55,7 +55,9 @@ module _ (listed : Listed) (trades : AreTrades listed) (firms : List Firm) (name
   extra_leads RawArrangement top = leads_bind (IsArrangement (length listed.names.trades)) IsRead (arrangement_of listed top) _ (arrangement_leads listed trades.limits top) (λ part is. leads_ok IsRead (arrangement part) (counted (λ n. IsArrangement n part) is))
   extra_leads On top = leads_bind (λ on. on < 2 ^ length listed.names.trades) IsRead (trades_on_of listed.names.trades top) _ (trades_on_leads listed.names.trades top) (λ on below. leads_ok IsRead (on_alone on) (counted (λ n. on < 2 ^ n) below))
   extra_leads Outcome top = leads_bind (IsOutcomeWithin (length listed.names.trades)) IsRead (outcome_of listed top) _ (outcome_leads listed trades.limits top) (λ signed is. leads_ok IsRead (outcome signed) (counted (λ n. IsOutcomeWithin n signed) is))
-  extra_leads Edits top = leads_bind (AreEdits (length listed.names.trades)) IsRead (edits_of listed top) _ (edits_lead listed trades.limits top) (λ changes are. leads_ok IsRead (edits changes) (counted (λ n. AreEdits n changes) are))
+  extra_leads Edits top =
+      leads_bind (AreEdits (length listed.names.firms) (length listed.names.trades)) IsRead (edits_of listed top) _ (edits_lead listed trades.limits top) (λ changes are.
+      leads_ok IsRead (edits changes) (subst (λ n. AreEdits n (length listed.ends) changes) named (counted (λ n. AreEdits (length listed.names.firms) n changes) are)))
   extra_leads Claim top = leads_bind (IsClaimWithin firms listed.ends) IsRead (claim_of listed top) _ (claim_leads listed trades firms named network top) (λ read is. leads_ok IsRead (claim read) is)
 
 -- whether firms are tested is told before the claim is read

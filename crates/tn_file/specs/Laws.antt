@@ -21,7 +21,7 @@ IsExtra firms trades nothing = Unit {0}
 IsExtra firms trades (arrangement part) = IsArrangement (length trades) part
 IsExtra firms trades (on_alone on) = on < 2 ^ length trades
 IsExtra firms trades (outcome signed) = IsOutcomeWithin (length trades) signed
-IsExtra firms trades (edits listed) = AreEdits (length trades) listed
+IsExtra firms trades (edits listed) = AreEdits (length firms) (length trades) listed
 IsExtra firms trades (claim read) = IsClaimWithin firms trades read
 
 pub record IsDocument (need : Need) (doc : DocumentData) : Type 0 where

@@ -29,7 +29,7 @@ pub type Amounts = Listed<i128>;
 pub type Holdings = Lent<Holding>;
 /// What the prices of each trade may be, by trade number.
 pub type Ranges = Lent<Range>;
-/// Changes of the admitted trades, in the order in which they are made.
+/// Changes of the admitted trades and of the firms that are there, in the order in which they are made.
 pub type Edits = Lent<Edit>;
 /// An equilibrium after each of some changes, in order.
 pub type States = Lent<State>;

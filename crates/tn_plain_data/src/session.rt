@@ -1,20 +1,29 @@
 use crate::lists::{Contracts, Trades};
 
-/// A change of the trades that a market admits.
+/// A change of the trades that a market admits, or of the firms that are there. A trade may be on where it is admitted and
+/// both its firms are there.
 #[derive(Clone, Copy, Debug, PartialEq, Eq)]
 pub enum Edit {
-    /// The trade with this number may be on.
+    /// The trade with this number is admitted.
     Admit(u32),
-    /// The trade with this number may not be on.
+    /// The trade with this number isn't admitted any longer.
     Bar(u32),
+    /// Every trade is admitted.
+    AdmitAll,
+    /// No trade is admitted any longer.
+    BarAll,
+    /// The firm with this number goes away.
+    Leave(u32),
+    /// The firm with this number is there.
+    Join(u32),
 }
 
-/// An equilibrium of the market that the admitted trades make.
+/// An equilibrium of the market that the usable trades make.
 #[derive(Debug, Drop)]
 pub struct State {
     /// The trades that are on, ascending.
     pub on: Trades,
-    /// The admitted trades at their prices, ascending.
+    /// The usable trades at their prices, ascending.
     pub prices: Contracts,
     /// The sum of the firms' worths.
     pub surplus: i128,

@@ -22,7 +22,7 @@ use Rattle.tn_read_references.specs.Ordered.{Listed}
 use Rattle.tn_read_references.specs.References.{new_trade}
 use Rattle.tn_read_references.proofs.EntryLeads.{AreNumbers}
 use Rattle.tn_read_parts.specs.Arranged.{arrangement_of, on_of, on_place, prices_place}
-use Rattle.tn_read_parts.specs.Laws.{ArrangementsHaveTheirEntries, SaysArrangement, IsNamedIn, IsSaid, NamesTrade}
+use Rattle.tn_read_parts.specs.Laws.{ArrangementsHaveTheirEntries, SaysArrangement, IsNamedIn, IsSaid, IsNameOf}
 use Rattle.tn_read_parts.specs.Lists.{first_without, named_prices, one_on, prices_of, unless_missing}
 use Rattle.tn_read_parts.proofs.EntryLemmas.{IsNewTrade, IsPriced, named_said, new_trade_says, said_below}
 use Rattle.tn_read_parts.proofs.ListLeads.{named_lead}
@@ -30,7 +30,7 @@ use Rattle.tn_read_parts.proofs.ListLeads.{named_lead}
 -- ---- the trades that are on
 
 -- a reference names one trade alone
-named_once : (trades : List (List ℕ)) (reference : Data) (s t : ℕ) → NamesTrade trades reference s → NamesTrade trades reference t → s ≡ t
+named_once : (trades : List (List ℕ)) (reference : Data) (s t : ℕ) → IsNameOf trades reference s → IsNameOf trades reference t → s ≡ t
 named_once trades reference s t one other =
     let name : one.name ≡ other.name = same_Some one.name other.name (sym one.is ∙ other.is) in
     same_Some s t (sym one.known ∙ ap (number_of trades) name ∙ other.known)
@@ -41,18 +41,18 @@ OnBy trades on references end = (t : ℕ) → (has end t ≡ true) ↔ ((has on 
 none_named : (trades : List (List ℕ)) (t : ℕ) → IsNamedIn trades no_items t → ⊥
 none_named trades t named = none-some named.reference named.there
 
-named_cases : (trades : List (List ℕ)) (reference : Data) (references : Items) (t : ℕ) → IsNamedIn trades (item reference references) t → NamesTrade trades reference t ⊎ IsNamedIn trades references t
+named_cases : (trades : List (List ℕ)) (reference : Data) (references : Items) (t : ℕ) → IsNamedIn trades (item reference references) t → IsNameOf trades reference t ⊎ IsNamedIn trades references t
 named_cases trades reference references t named = by_index named.at named.there
   where
-    by_index : (at : ℕ) → get_item at (item reference references) ≡ Some named.reference → NamesTrade trades reference t ⊎ IsNamedIn trades references t
-    by_index zero there = inl (subst (λ d. NamesTrade trades d t) (sym (same_Some reference named.reference there)) named.names)
+    by_index : (at : ℕ) → get_item at (item reference references) ≡ Some named.reference → IsNameOf trades reference t ⊎ IsNamedIn trades references t
+    by_index zero there = inl (subst (λ d. IsNameOf trades d t) (sym (same_Some reference named.reference there)) named.names)
     by_index (suc at) there = inr (record { at = at; reference = named.reference; there = there; names = named.names })
 
 -- the set with the trade of one reference
-one_named : (trades : List (List ℕ)) (on s t : ℕ) (reference : Data) → NamesTrade trades reference s → has on s ≡ false → (has (toggle on s) t ≡ true) ↔ ((has on t ≡ true) ⊎ NamesTrade trades reference t)
+one_named : (trades : List (List ℕ)) (on s t : ℕ) (reference : Data) → IsNameOf trades reference s → has on s ≡ false → (has (toggle on s) t ≡ true) ↔ ((has on t ≡ true) ⊎ IsNameOf trades reference t)
 one_named trades on s t reference names new = (
   λ there. elim (cases_eq t s) [
-    | inl same ↦ inr (subst (NamesTrade trades reference) (sym same) names)
+    | inl same ↦ inr (subst (IsNameOf trades reference) (sym same) names)
     | inr other ↦ inl (sym (has-toggle_other on s t other) ∙ there)
   ],
   λ from. elim from [

@@ -23,7 +23,7 @@ use Rattle.tn_shape.specs.Shapes.{list_at, number_at, number_in, text_at, two_at
 use Rattle.tn_shape.proofs.LeadLemmas.{Leads, is_true_not, leads_after, leads_as, leads_bind, leads_holds, leads_ok, leads_wanted}
 use Rattle.tn_read_references.specs.References.{new_trade, trade_at}
 use Rattle.tn_read_references.specs.Entries.{Numbered, entry_of, one_entry}
-use Rattle.tn_read_parts.specs.Laws.{IsSaid, NamesTrade, SaysContract}
+use Rattle.tn_read_parts.specs.Laws.{IsSaid, IsNameOf, SaysContract}
 use Rattle.tn_read_parts.specs.Lists.{contracts_at, named_prices, one_price}
 
 -- ---- the shapes
@@ -55,11 +55,11 @@ number_says limit place value =
     leads_after (λ z. option_and_then as_i64 (as_number value) ≡ Some z) (holds AmountRange place (nat_le (unsigned_abs z) limit)) _ (λ small.
     leads_ok (λ z. option_and_then as_i64 (as_number value) ≡ Some z) z is))
 
-pub trade_says : (trades : List (List ℕ)) (place : List PlaceStep) (value : Data) → Leads (NamesTrade trades value) (trade_at trades place value)
+pub trade_says : (trades : List (List ℕ)) (place : List PlaceStep) (value : Data) → Leads (IsNameOf trades value) (trade_at trades place value)
 unfolding trade_at
 trade_says trades place value =
-    leads_bind (λ name. as_str value ≡ Some name) (NamesTrade trades value) (text_at place (Some value)) _ (leads_wanted Shape place (option_and_then as_str (Some value))) (λ name is.
-    leads_as (λ t. number_of trades name ≡ Some t) (NamesTrade trades value) (wanted UnknownTrade place (number_of trades name)) (λ t known. record { name = name; is = is; known = known }) (leads_wanted UnknownTrade place (number_of trades name)))
+    leads_bind (λ name. as_str value ≡ Some name) (IsNameOf trades value) (text_at place (Some value)) _ (leads_wanted Shape place (option_and_then as_str (Some value))) (λ name is.
+    leads_as (λ t. number_of trades name ≡ Some t) (IsNameOf trades value) (wanted UnknownTrade place (number_of trades name)) (λ t known. record { name = name; is = is; known = known }) (leads_wanted UnknownTrade place (number_of trades name)))
 
 -- ---- one entry
 
@@ -69,13 +69,13 @@ record IsNext (trades : List (List ℕ)) (named : ℕ) (entry : Data) (next : �
   new : has named next.0 ≡ false
 
 pub record IsNewTrade (trades : List (List ℕ)) (named : ℕ) (value : Data) (t : ℕ) : Type 0 where
-  pub names : NamesTrade trades value t
+  pub names : IsNameOf trades value t
   pub new : has named t ≡ false
 
 pub new_trade_says : (trades : List (List ℕ)) (place : List PlaceStep) (named : ℕ) (value : Data) → Leads (IsNewTrade trades named value) (new_trade trades place named value)
 unfolding new_trade
 new_trade_says trades place named value =
-    leads_bind (NamesTrade trades value) (IsNewTrade trades named value) (trade_at trades place value) _ (trade_says trades place value) (λ t names.
+    leads_bind (IsNameOf trades value) (IsNewTrade trades named value) (trade_at trades place value) _ (trade_says trades place value) (λ t names.
     leads_bind (λ _. not (has named t) ≡ true) (IsNewTrade trades named value) (holds SameTrade place (not (has named t))) _ (leads_holds SameTrade place (not (has named t))) (λ u new.
     leads_ok (IsNewTrade trades named value) t (record { names = names; new = is_true_not (has named t) new })))
 

@@ -7,26 +7,25 @@ use Rattle.tn_base.specs.Sets.{has}
 use Rattle.tn_plain_data.specs.declared.contract.Contract.{Contract}
 use Rattle.tn_plain_data.specs.declared.contract.Outcome.{Outcome}
 use Rattle.tn_plain_data.specs.declared.session.Edit.{Edit}
-use Rattle.tn_plain_data.specs.declared.session.Edit.TheVariants.{Admit, Bar}
-use Rattle.tn_names.specs.Names.{number_of}
+use Rattle.tn_plain_data.specs.declared.session.Edit.TheVariants.{Admit, AdmitAll, Bar, BarAll, Join, Leave}
+use Rattle.tn_names.specs.Names.{NameLists, number_of}
 use Rattle.tn_read_references.specs.Ordered.{Listed}
 use Rattle.tn_read_parts.specs.Arranged.{Arranged, arrangement_of}
-use Rattle.tn_read_parts.specs.Edited.{edits_of}
-use Rattle.tn_plain_data.specs.Edits.{edited}
+use Rattle.tn_read_parts.specs.Edited.{all_trades, edits_of}
 use Rattle.tn_read_parts.specs.Signed.{outcome_of}
 
--- a text that is the name of a trade
-pub record NamesTrade (trades : List (List ℕ)) (reference : Data) (t : ℕ) : Type 0 where
+-- a text that is one of the names, the one with this number
+pub record IsNameOf (names : List (List ℕ)) (reference : Data) (k : ℕ) : Type 0 where
   pub name : List ℕ
   pub is : as_str reference ≡ Some name
-  pub known : number_of trades name ≡ Some t
+  pub known : number_of names name ≡ Some k
 
 -- a list of a trade's name and a whole number: the contract on this trade at this numerator
 pub record SaysContract (trades : List (List ℕ)) (entry : Data) (contract : Contract) : Type 0 where
   pub reference : Data
   pub numerator : Data
   pub is : entry ≡ array (item reference (item numerator no_items))
-  pub trade : NamesTrade trades reference contract.trade
+  pub trade : IsNameOf trades reference contract.trade
   pub price : option_and_then as_i64 (as_number numerator) ≡ Some contract.price
 
 -- one of the entries says the contract
@@ -41,7 +40,7 @@ pub record IsNamedIn (trades : List (List ℕ)) (references : Items) (t : ℕ) :
   pub at : ℕ
   pub reference : Data
   pub there : get_item at references ≡ Some reference
-  pub names : NamesTrade trades reference t
+  pub names : IsNameOf trades reference t
 
 -- a document's arrangement has exactly the trades on that its references name, and exactly the prices that its entries say
 pub record SaysArrangement (trades : List (List ℕ)) (top : Data) (arranged : Arranged) : Type 0 where
@@ -72,28 +71,41 @@ OutcomesHaveTheirEntries = (listed : Listed) (top : Data) (outcome : Outcome) �
 -- the text of what an edit does
 abbrev pub edit_text : Edit → List ℕ
 edit_text (Admit t) = codes "admit"
+edit_text AdmitAll = codes "admit"
 edit_text (Bar t) = codes "bar"
+edit_text BarAll = codes "bar"
+edit_text (Leave f) = codes "leave"
+edit_text (Join f) = codes "join"
 
--- a list of such a text and a trade's name: the edit of this trade
-pub record SaysEdit (trades : List (List ℕ)) (entry : Data) (edit : Edit) : Type 0 where
+-- a text that is the name of the edit's trade, or of its firm, or the text for all trades
+abbrev pub NamesEdited : NameLists → Data → Edit → Type 0
+NamesEdited names reference (Admit t) = IsNameOf names.trades reference t
+NamesEdited names reference AdmitAll = as_str reference ≡ Some all_trades
+NamesEdited names reference (Bar t) = IsNameOf names.trades reference t
+NamesEdited names reference BarAll = as_str reference ≡ Some all_trades
+NamesEdited names reference (Leave f) = IsNameOf names.firms reference f
+NamesEdited names reference (Join f) = IsNameOf names.firms reference f
+
+-- a list of the text of what an edit does and of what it names
+pub record SaysEdit (names : NameLists) (entry : Data) (edit : Edit) : Type 0 where
   pub word : Data
   pub reference : Data
   pub is : entry ≡ array (item word (item reference no_items))
   pub text : as_str word ≡ Some (edit_text edit)
-  pub trade : NamesTrade trades reference (edited edit)
+  pub named : NamesEdited names reference edit
 
 -- the entry with this index says the edit
-pub record IsEditAt (trades : List (List ℕ)) (entries : Items) (k : ℕ) (edit : Edit) : Type 0 where
+pub record IsEditAt (names : NameLists) (entries : Items) (k : ℕ) (edit : Edit) : Type 0 where
   pub entry : Data
   pub there : get_item k entries ≡ Some entry
-  pub says : SaysEdit trades entry edit
+  pub says : SaysEdit names entry edit
 
 -- a document's edits are as many as its entries, and each is what the entry with its index says
-pub record SaysEdits (trades : List (List ℕ)) (top : Data) (edits : List Edit) : Type 0 where
+pub record SaysEdits (names : NameLists) (top : Data) (edits : List Edit) : Type 0 where
   pub entries : Items
   pub entries_are : option_and_then as_array (get (codes "edits") top) ≡ Some entries
   pub count : length edits ≡ items_len entries
-  pub each : (k : ℕ) (edit : Edit) → slice_get edits k ≡ Some edit → IsEditAt trades entries k edit
+  pub each : (k : ℕ) (edit : Edit) → slice_get edits k ≡ Some edit → IsEditAt names entries k edit
 
 abbrev pub EditsHaveTheirEntries : Type 0
-EditsHaveTheirEntries = (listed : Listed) (top : Data) (edits : List Edit) → edits_of listed top ≡ Ok edits → SaysEdits listed.names.trades top edits
+EditsHaveTheirEntries = (listed : Listed) (top : Data) (edits : List Edit) → edits_of listed top ≡ Ok edits → SaysEdits listed.names top edits

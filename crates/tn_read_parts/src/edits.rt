@@ -2,25 +2,32 @@ ghost use Rattle.std.specs.Prelude.{◌≡◌, ◌+◌, ◌<◌, ◌≤◌, [], 
 ghost use Rattle.serde_json.specs.View.{view, items_view};
 ghost use Rattle.tn_plain_data.specs.Limits.{most_edits};
 ghost use Rattle.tn_shape.specs.Reading.{Gives, each};
-ghost use Rattle.tn_read_parts.specs.Edited.{change_named, edit_at, edit_of, edits_of, one_edit};
+ghost use Rattle.tn_read_parts.specs.Edited.{admit_of, bar_of, change_named, edit_at, edit_of, edits_of, one_edit, trade_or_all};
 
 use serde_json::Value;
 use std::alloc::Global;
 use tn_base::FaultKind;
 use tn_plain_data::PlaceStep::Index;
-use tn_plain_data::{Edit, Edits};
-use tn_read_references::{Head, trade};
+use tn_plain_data::{Edit, Edits, PlaceStep};
+use tn_read_references::{Head, firm, trade};
 use tn_shape::steps::EDITS;
 use tn_shape::{ReadError, few, found, text, two, value_of_word};
 
-/// What an edit does with its trade.
+/// What an edit does with what it names.
 #[derive(Clone, Copy)]
 enum Change {
-    /// It admits the trade.
+    /// It admits a trade, or all.
     Admit,
-    /// It bars the trade.
+    /// It bars a trade, or all.
     Bar,
+    /// A firm leaves.
+    Leave,
+    /// A firm joins.
+    Join,
 }
+
+/// The text that stands for all trades. No name has this letter.
+const ALL_TRADES: &str = "*";
 
 /// The edits of a document, in their order.
 #[tactic(auto, unfolding(crate::specs::Edited::edits_of))]
@@ -36,7 +43,7 @@ pub fn read_edits(alloc: Global, head: &Head, top: &Value) -> Result<Edits, Read
 fn each_edit(alloc: Global, head: &Head, entries: &[Value]) -> Result<Vec<Edit>, ReadError>
     requires { length entries.now ≤ most_edits }
     ensures { Gives (λ edits. edits.items) result
-        (each (one_edit head.now.names.trades) [] (items_view entries.now)) }
+        (each (one_edit head.now.names) [] (items_view entries.now)) }
 {
     let mut edits = Vec::new(alloc);
     for entry in entries {
@@ -55,7 +62,7 @@ fn add_edit(
 ) -> Result<(), ReadError>
     requires { length edits.old.items < most_edits }
     ensures gives { Gives (λ _. edits.new.items) result
-        (one_edit head.now.names.trades edits.old.items (view entry.now)) }
+        (one_edit head.now.names edits.old.items (view entry.now)) }
     ensures count { OnOk result (length edits.new.items ≡ length edits.old.items + 1) }
 {
     let edit = edit_at(alloc, head, edits.len() as u32, entry)?;
@@ -66,29 +73,91 @@ fn add_edit(
 /// The edit with index `k`.
 #[tactic(auto, unfolding(crate::specs::Edited::edit_at))]
 fn edit_at(alloc: Global, head: &Head, k: u32, entry: &Value) -> Result<Edit, ReadError>
-    ensures { Gives (λ edit. edit) result (edit_at head.now.names.trades k (view entry.now)) }
+    ensures { Gives (λ edit. edit) result (edit_at head.now.names k (view entry.now)) }
 {
     let (word, reference) = two(alloc, entry, &[EDITS, Index(k)])?;
     let place = [EDITS, Index(k), Index(0)];
     let word = text(alloc, Some(word), &place)?;
     let change = found(alloc, change_named(word), FaultKind::Shape, &place)?;
-    let t = trade(alloc, head, reference, &[EDITS, Index(k), Index(1)])?;
-    Ok(edit_of(change, t))
+    edit_of(alloc, head, change, reference, &[EDITS, Index(k), Index(1)])
 }
 
-/// What a text says is done with a trade.
+/// What a text says is done.
 fn change_named(word: &str) -> Option<Change>
     ensures { result ≡ change_named word.now }
 {
-    value_of_word(word, &[("admit", Change::Admit), ("bar", Change::Bar)])
+    value_of_word(
+        word,
+        &[
+            ("admit", Change::Admit),
+            ("bar", Change::Bar),
+            ("leave", Change::Leave),
+            ("join", Change::Join),
+        ],
+    )
 }
 
-/// The edit that does this with trade `t`.
-fn edit_of(change: Change, t: u32) -> Edit
-    ensures { result ≡ edit_of change t }
+/// The edit that does this with what a reference names.
+#[tactic(auto, unfolding(crate::specs::Edited::edit_of))]
+fn edit_of(
+    alloc: Global,
+    head: &Head,
+    change: Change,
+    reference: &Value,
+    place: &[PlaceStep],
+) -> Result<Edit, ReadError>
+    ensures { Gives (λ edit. edit) result
+        (edit_of head.now.names change place.now (view reference.now)) }
 {
     match change {
-        Change::Admit => Edit::Admit(t),
-        Change::Bar => Edit::Bar(t),
+        Change::Admit => Ok(admit_of(trade_or_all(alloc, head, reference, place)?)),
+        Change::Bar => Ok(bar_of(trade_or_all(alloc, head, reference, place)?)),
+        Change::Leave => {
+            let f = firm(alloc, head.names(), Some(reference), place)?;
+            Ok(Edit::Leave(f))
+        }
+        Change::Join => {
+            let f = firm(alloc, head.names(), Some(reference), place)?;
+            Ok(Edit::Join(f))
+        }
+    }
+}
+
+/// The trade that a reference names, none where it is the text for all trades.
+#[tactic(auto, unfolding(crate::specs::Edited::trade_or_all))]
+fn trade_or_all(
+    alloc: Global,
+    head: &Head,
+    reference: &Value,
+    place: &[PlaceStep],
+) -> Result<Option<u32>, ReadError>
+    ensures { Gives (λ t. t) result
+        (trade_or_all head.now.names.trades place.now (view reference.now)) }
+{
+    let name = text(alloc, Some(reference), place)?;
+    if name == ALL_TRADES {
+        return Ok(None);
+    }
+    let t = trade(alloc, head, reference, place)?;
+    Ok(Some(t))
+}
+
+/// The edit that admits a trade, or all.
+fn admit_of(trade: Option<u32>) -> Edit
+    ensures { result ≡ admit_of trade }
+{
+    match trade {
+        Some(t) => Edit::Admit(t),
+        None => Edit::AdmitAll,
+    }
+}
+
+/// The edit that bars a trade, or all.
+fn bar_of(trade: Option<u32>) -> Edit
+    ensures { result ≡ bar_of trade }
+{
+    match trade {
+        Some(t) => Edit::Bar(t),
+        None => Edit::BarAll,
     }
 }

@@ -13,7 +13,7 @@ pub fn outcomes_have_their_entries()
 {}
 
 /// Edits that are read are as many as the document has entries, and each is what the entry with its index says: to admit
-/// the trade of a name, or to bar it.
+/// or to bar the trade of a name, or all trades where `*` stands for the name, or that the firm of a name leaves or joins.
 pub fn edits_have_their_entries()
     ensures { EditsHaveTheirEntries }
 {}

@@ -212,6 +212,22 @@ session
 {"version":1,"firms":[{"name":"S","kind":"laminar"},{"name":"B","kind":"laminar"}],"trades":[{"name":"a","seller":"S","buyer":"B"},{"name":"b","seller":"S","buyer":"B"}],"edits":[["bar","a"],["bar","z"]]}
 1 {"answer":"fault","fault":8,"name":"UnknownTrade","place":["edits",1,1]}
 
+session
+{"version":1,"firms":[{"name":"S","kind":"laminar"},{"name":"B","kind":"laminar"}],"trades":[{"name":"a","seller":"S","buyer":"B"},{"name":"b","seller":"S","buyer":"B"}],"edits":[["admit","*"],["bar","**"]]}
+1 {"answer":"fault","fault":8,"name":"UnknownTrade","place":["edits",1,1]}
+
+session
+{"version":1,"firms":[{"name":"S","kind":"laminar"},{"name":"B","kind":"laminar"}],"trades":[{"name":"a","seller":"S","buyer":"B"},{"name":"b","seller":"S","buyer":"B"}],"edits":[["leave","S"],["join","a"]]}
+1 {"answer":"fault","fault":6,"name":"UnknownFirm","place":["edits",1,1]}
+
+session
+{"version":1,"firms":[{"name":"S","kind":"laminar"},{"name":"B","kind":"laminar"}],"trades":[{"name":"a","seller":"S","buyer":"B"},{"name":"b","seller":"S","buyer":"B"}],"edits":[["leave","*"]]}
+1 {"answer":"fault","fault":6,"name":"UnknownFirm","place":["edits",0,1]}
+
+session
+{"version":1,"firms":[{"name":"S","kind":"laminar"},{"name":"B","kind":"laminar"}],"trades":[{"name":"a","seller":"S","buyer":"B"},{"name":"b","seller":"S","buyer":"B"}],"edits":[["join",["S"]]]}
+1 {"answer":"fault","fault":3,"name":"Shape","place":["edits",0,1]}
+
 solve
 {"version":1,"firms":[{"name":"S","kind":"laminar"},{"name":"B","kind":"dealer","costs":[]}],"trades":[{"name":"a","seller":"S","buyer":"B"},{"name":"b","seller":"S","buyer":"B"},{"name":"c","seller":"B","buyer":"S"}]}
 1 {"answer":"fault","fault":3,"name":"Shape","place":["firms",1]}

@@ -1,0 +1,6 @@
+ghost use Rattle.tn_command.specs.Edited.{FirmsAwayHaveNothing};
+
+/// In a state each firm that is away has its empty bundle.
+pub fn firms_away_have_nothing()
+    ensures { FirmsAwayHaveNothing }
+{}
