@@ -18,9 +18,12 @@ has a denominator; they are never floats, but in plots.
 Each question takes two more arguments. `program` is the path of the program; where it is None, that is the path that
 MARKET has in the environment, or else crates/market/out/market of the repository that has this file, or else `market`
 on the PATH. `timeout` is in seconds, and None for no limit.
+
+Each question is a process of its own. `stream` asks one process about any number of documents.
 """
 from __future__ import annotations
 
+import contextlib
 import dataclasses
 import functools
 import importlib
@@ -28,12 +31,16 @@ import json
 import operator
 import os
 import pathlib
+import queue
 import reprlib
+import select
 import shutil
 import subprocess
+import threading
+import time
 from dataclasses import dataclass, field
 from fractions import Fraction
-from typing import Any, ClassVar, Optional, Union
+from typing import Any, ClassVar, Iterable, Iterator, Optional, Union
 
 Document = Union[dict, str, "os.PathLike[str]", bytes]
 YES, NO = 0, 6
@@ -42,7 +49,13 @@ YES, NO = 0, 6
 # What is raised where there is no verdict. All of these can be pickled, as pools of processes do.
 
 class MarketError(Exception):
-    """There is no verdict. Each cause has a class of its own below."""
+    """There is no verdict. Each cause has a class of its own below.
+
+    yes: None, where an Answer has its verdict. answered: how many documents a stream had answered before it ended by
+    this, int; None where it is of no stream.
+    """
+    yes: None = None
+    answered: Optional[int] = None
 
 
 class _Absent:
@@ -536,6 +549,8 @@ _KINDS = {kind.answer: kind for kind in (
     Solved, Ranges, Firms, Session, Drops, Completes, Blocks, Valid, Invalid, Equilibrium, Better, Impossible, Prices,
     Cycle, Accepted, ExchangeFails)}
 
+_NOES = {kind.answer for kind in (Drops, Blocks, Invalid, Better, Impossible, Cycle, ExchangeFails)}
+
 
 @functools.lru_cache(maxsize=None)
 def _members(kind) -> tuple[str, ...]:
@@ -713,3 +728,105 @@ def replay(document: Document, claim: Union[Answer, dict, None] = None, *, progr
         said = claim.said if isinstance(claim, Answer) else claim
         document = {**json.loads(_bytes(document)), "claim": said}
     return _asked("replay", document, program, timeout)
+
+
+# Streams
+
+def stream(command: str, documents: Iterable[Document], *, program=None,
+           timeout: Optional[float] = None) -> Iterator[Union[Answer, Fault, NoMemory]]:
+    """The answers to documents, in their order, all by one process; each comes as soon as it is made.
+
+    command: check, test, support, solve, range, session, judge, replay or firms.
+    documents: any iterable. A thread goes through it, some documents ahead of the answers.
+    timeout: for the answer to one document, in seconds.
+
+    What is the matter with one document ends no stream: the Fault or NoMemory that the question alone would raise comes
+    in place of the answer, with `yes` None, and the next document is answered. All else is raised, after the answers
+    that came before: a MarketError has their count as `answered`, and what `documents` raises, or a document that is
+    none (see `ask`), is raised as it is. The process is ended where the generator is closed or dropped.
+    """
+    process = _started([find(program), *command.split(), "--lines"])
+    sent: queue.SimpleQueue = queue.SimpleQueue()  # the documents' bytes, and at last None, or what was raised
+    writer = threading.Thread(target=_write, args=(documents, process, sent), daemon=True)
+    writer.start()
+    answered, lines = 0, _lines(process, timeout)
+    try:
+        for asked in iter(sent.get, None):
+            if isinstance(asked, BaseException):
+                raise asked
+            line = next(lines, b"")
+            item = _item(_parsed(line), asked)
+            if item is None:
+                break
+            yield item
+            answered += 1
+        else:
+            line = next(lines, b"")
+            if not line and process.wait(timeout) in (YES, 1, 5):
+                return
+        status, written = process.wait(timeout), line.decode(errors="replace")
+        error = _CAUSES.get(status, Unexpected)(f"{command} ended with status {status}, after {answered}: {written}")
+    except subprocess.TimeoutExpired:
+        error = TimedOut(f"{command} took longer than {timeout} s, after {answered}")
+    finally:
+        process.kill()
+        process.wait()
+        process.stdout.close()
+        writer.join(1)  # (it may wait for the next of `documents`, and then ends)
+    error.answered = answered
+    raise error
+
+
+def _started(words: list[str]) -> subprocess.Popen:
+    try:
+        return subprocess.Popen(words, stdin=subprocess.PIPE, stdout=subprocess.PIPE)
+    except OSError as error:
+        raise NoProgram(f"{words[0]}: {error.strerror}") from error
+
+
+def _write(documents: Iterable[Document], process: subprocess.Popen, sent: queue.SimpleQueue):
+    """Writes each document as a line. A carriage return for a line feed changes no answer: it is as blank between the
+    parts of a document, and as wrong within a text of it."""
+    last = None
+    try:
+        for asked in map(_bytes, documents):
+            sent.put(asked)
+            with contextlib.suppress(BrokenPipeError):  # (told where the answer is waited for)
+                process.stdin.write(asked.replace(b"\n", b"\r") + b"\n")
+                process.stdin.flush()
+            if process.poll() is not None:
+                break
+    except BaseException as error:  # (whatever it is, it is raised where the answer is waited for)
+        last = error
+    with contextlib.suppress(OSError):
+        process.stdin.close()
+    sent.put(last)
+
+
+def _lines(process: subprocess.Popen, timeout: Optional[float]) -> Iterator[bytes]:
+    """The lines that a process writes; each has the time that is given."""
+    ready, rest = select.poll(), b""
+    ready.register(process.stdout, select.POLLIN)
+    end = timeout and time.monotonic() + timeout
+    while ready.poll(timeout and 1000 * max(0.0, end - time.monotonic())):
+        piece = os.read(process.stdout.fileno(), 65536)
+        *whole, rest = (rest + piece).split(b"\n")
+        for line in whole:
+            yield line
+            end = timeout and time.monotonic() + timeout
+        if not piece:
+            yield from filter(None, [rest])
+            return
+    raise subprocess.TimeoutExpired(process.args, timeout)
+
+
+def _item(said: Any, asked: bytes) -> Union[Answer, Fault, NoMemory, None]:
+    """A line as an item of a stream, or None where it is no answer to a document."""
+    kind = said.get("answer") if isinstance(said, dict) else None
+    if kind == "fault":
+        return Fault(said, _value_at(_parsed(asked), said["place"]))
+    if kind == "no_memory":
+        return NoMemory("memory ran out for this document")
+    if kind == "firms":
+        return _object(said, asked, said["content"] == len(said["firms"]))
+    return _object(said, asked, kind not in _NOES) if kind in _KINDS else None
