@@ -1,16 +1,16 @@
 """The program that is asked: what tools/lanes tells of a document, it was told by it."""
 from __future__ import annotations
 
-import json
 import os
 import pathlib
 import subprocess
 from typing import Iterable, Iterator, Optional
 
+import market
+
 from .tables import Trouble
 
 HOME = pathlib.Path(__file__).resolve().parent.parent.parent
-YES, NO = 0, 6
 
 
 class Program:
@@ -19,21 +19,22 @@ class Program:
     def __init__(self, path: str):
         self.path = path
 
-    def run(self, command: str, document: dict) -> dict:
-        """The answer to a document, with its exit status as `status`; it is raised where there is no verdict."""
-        text = json.dumps(document, ensure_ascii=False).encode()
+    def run(self, command: str, document: market.Document) -> dict:
+        """The answer to a document; it is raised where there is no verdict."""
         try:
-            run = subprocess.run([self.path, command], input=text, stdout=subprocess.PIPE, check=False)
-        except OSError as error:
-            raise Trouble(f"{self.path}: {error.strerror}") from None
-        if run.returncode not in (YES, NO):
-            raise Trouble(f"{self.path} {command} ended with status {run.returncode}: {run.stdout.decode().strip()}")
-        return {**json.loads(run.stdout), "status": run.returncode}
+            return market.ask(command, document, program=self.path)
+        except market.MarketError as error:
+            raise Trouble(f"{self.path} {command}: {error}") from None
 
-    def ask_each(self, command: str, documents: Iterable[dict]) -> Iterator[dict]:
-        """The answers to documents, in their order."""
-        for document in documents:
-            yield self.run(command, document)
+    def ask_each(self, command: str, documents: Iterable[market.Document]) -> Iterator[dict]:
+        """The answers to documents, in their order, by one process; it is raised where one has no verdict."""
+        try:
+            for answer in market.stream(command, documents, program=self.path):
+                if isinstance(answer, market.MarketError):
+                    raise answer
+                yield answer.said
+        except market.MarketError as error:
+            raise Trouble(f"{self.path} {command}: {error}") from None
 
 
 def program_of(path: Optional[str]) -> Program:
