@@ -1,0 +1,1 @@
+"""What tools/marginals and tools/middle do, by files."""
