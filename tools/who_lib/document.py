@@ -10,6 +10,7 @@ from lanes_lib.program import Program
 from lanes_lib.tables import Trouble
 
 Prices = dict[str, int]
+NUMBER_AT = {"rows": 1, "amounts": 1, "costs": 1, "gains": 1, "pairs": 2}  # where an entry of a firm has its number
 
 
 @dataclass(frozen=True)
@@ -40,6 +41,15 @@ def network(document: dict) -> dict:
 def arranged(document: dict, on: tuple[str, ...], prices: Prices) -> dict:
     """The network with these trades on, at these prices."""
     return {**network(document), "arrangement": {"on": list(on), "prices": list(prices.items())}}
+
+
+def scaled(firm: dict, times: int) -> dict:
+    """A firm to which each bundle is worth so many times as much."""
+    lists = {name: [[*entry[:at], times * entry[at]] for entry in firm[name]] for name, at in NUMBER_AT.items()
+             if name in firm}
+    sets = [{**each, "values": [times * value for value in each["values"]]} for each in firm.get("sets", [])]
+    return {**firm, **lists, **({"sets": sets} if "sets" in firm else {}),
+            **({"keep": times * firm["keep"]} if "keep" in firm else {})}
 
 
 def are_whole(bounds: dict[str, Optional[int]]) -> bool:

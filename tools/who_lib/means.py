@@ -3,9 +3,7 @@ from __future__ import annotations
 
 from lanes_lib.tables import Trouble
 
-from .document import Prices, Ranged, are_whole
-
-NUMBER_AT = {"rows": 1, "amounts": 1, "costs": 1, "gains": 1, "pairs": 2}  # where an entry of a firm has its number
+from .document import Prices, Ranged, are_whole, scaled
 
 
 def at_lowest(ranged: Ranged) -> dict:
@@ -24,7 +22,7 @@ def at_middle(ranged: Ranged) -> dict:
     if told:
         raise Trouble(f"there is no middle: {'; '.join(told)}")
     made = ranged.at({trade: low + ranged.highest[trade] for trade, low in ranged.lowest.items()})
-    return {**made, "firms": [doubled(firm) for firm in made["firms"]]}
+    return {**made, "firms": [scaled(firm, 2) for firm in made["firms"]]}
 
 
 def whole(bounds: dict, side: str) -> Prices:
@@ -32,12 +30,3 @@ def whole(bounds: dict, side: str) -> Prices:
         missing = ", ".join(trade for trade, price in bounds.items() if price is None)
         raise Trouble(f"there are no {side} prices together: {missing} has none")
     return bounds
-
-
-def doubled(firm: dict) -> dict:
-    """A firm to which each bundle is worth twice as much."""
-    lists = {name: [[*entry[:at], 2 * entry[at]] for entry in firm[name]] for name, at in NUMBER_AT.items()
-             if name in firm}
-    sets = [{**each, "values": [2 * value for value in each["values"]]} for each in firm.get("sets", [])]
-    return {**firm, **lists, **({"sets": sets} if "sets" in firm else {}),
-            **({"keep": 2 * firm["keep"]} if "keep" in firm else {})}

@@ -1,0 +1,1 @@
+"""What tools/none does, by files."""
