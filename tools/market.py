@@ -764,6 +764,7 @@ def stream(command: str, documents: Iterable[Document], *, program=None,
             line = next(lines, b"")
             if not line and process.wait(timeout) in (YES, 1, 5):
                 return
+        process.stdout.close()  # (so that it doesn't wait to be read)
         status, written = process.wait(timeout), line.decode(errors="replace")
         error = _CAUSES.get(status, Unexpected)(f"{command} ended with status {status}, after {answered}: {written}")
     except subprocess.TimeoutExpired:
