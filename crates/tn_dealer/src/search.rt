@@ -317,9 +317,19 @@ impl<'a> Spare<'a> {
         let sales = x.minus(buys);
         let others = wanted.minus(x);
         if purchases.count() == sales.count() + 1 {
-            Spare::between(Matching::new(costs, false), purchases, sales, others.minus(buys))
+            Spare::between(
+                Matching::new(costs, false),
+                purchases,
+                sales,
+                others.minus(buys),
+            )
         } else if sales.count() == purchases.count() + 1 {
-            Spare::between(Matching::new(costs, true), sales, purchases, others.meet(buys))
+            Spare::between(
+                Matching::new(costs, true),
+                sales,
+                purchases,
+                others.meet(buys),
+            )
         } else {
             None
         }
@@ -373,9 +383,7 @@ impl<'a> Spare<'a> {
         };
         let distance = self.reach.distances[end];
         if distance == FAR {
-            return self
-                .matching
-                .unmatched(self.left % POSITIONS, &self.reach);
+            return self.matching.unmatched(self.left % POSITIONS, &self.reach);
         }
         let mut matching = self.matching;
         matching.shift(&self.reach, self.left % POSITIONS, distance);

@@ -51,12 +51,7 @@ impl Dealer {
     }
 
     /// The worth that what was found shows, None where it shows nothing.
-    fn shown(
-        &self,
-        costs: &[i64; CELLS],
-        x: Bundle,
-        found: &Certificate,
-    ) -> Option<Option<i128>>
+    fn shown(&self, costs: &[i64; CELLS], x: Bundle, found: &Certificate) -> Option<Option<i128>>
         requires costs { AreCosts self.now.pairs.items costs.now }
         ensures { IfSome result (λ worth. worth ≡ matched_worth self.now.pairs.items x) }
     {
@@ -223,12 +218,7 @@ fn bound(cost: i64, priced: bool) -> i128
 }
 
 /// The bundle and the cost with a pair taken in, where it is listed and neither of its trades is there yet.
-fn take_in(
-    costs: &[i64; CELLS],
-    pair: (usize, usize),
-    bundle: Bundle,
-    cost: i128,
-) -> (Bundle, i128)
+fn take_in(costs: &[i64; CELLS], pair: (usize, usize), bundle: Bundle, cost: i128) -> (Bundle, i128)
     requires { IsAtMost cost (most_own * most_amount) }
     ensures { MayTake costs.now bundle cost result.0 result.1 }
 {

@@ -65,13 +65,7 @@ impl Outside {
     }
 
     /// Writes a row of worths.
-    fn row<L>(
-        &self,
-        x: Bundle,
-        wanted: Bundle,
-        worths: &mut [Option<i128>],
-        steps: &mut Steps<L>,
-    )
+    fn row<L>(&self, x: Bundle, wanted: Bundle, worths: &mut [Option<i128>], steps: &mut Steps<L>)
         requires own { x < 4 }
         requires own_wanted { wanted < 4 }
         requires room { 2 ≤ length worths.old }
