@@ -1,3 +1,4 @@
+use tn_base::{Asked, Bundle, Steps};
 use tn_dealer::Dealer;
 use tn_exchange::{RawTable, Verdict};
 use tn_laminar::Laminar;
@@ -19,12 +20,13 @@ pub enum RawFirm {
 }
 
 impl RawFirm {
-    ghost use Rattle.std.specs.Prelude.{◌≡◌, ◌≤◌, ◌↔◌};
+    ghost use Rattle.std.specs.Prelude.{◌≡◌, ◌^◌, ◌<◌, ◌≤◌, ◌↔◌, IfSome};
+    ghost use Rattle.tn_base.specs.Arcs.{IsAtMost};
     ghost use Rattle.tn_base.specs.Exchange.{NoneFails};
     ghost use Rattle.tn_exchange.specs.Verdicts.{IfFails};
     ghost use Rattle.tn_local.specs.First.{IsFirstTriple};
     ghost use Rattle.tn_firm.specs.Raw.{CanBeTested, raw_firm_of};
-    ghost use Rattle.tn_market.specs.Widths.{most_own};
+    ghost use Rattle.tn_market.specs.Widths.{most_own, most_worth};
 
     /// How many own trades there are.
     pub fn trades(&self) -> u32
@@ -36,6 +38,20 @@ impl RawFirm {
             RawFirm::Laminar(firm) => firm.trades(),
             RawFirm::Middle(firm) => firm.trades(),
             RawFirm::Dealer(firm) => firm.trades(),
+        }
+    }
+
+    /// What a bundle of own trades is worth, None where it is impossible. It takes no memory.
+    pub fn worth(&self, x: Bundle) -> Option<i128>
+        requires { x < 2 ^ (raw_firm_of self.now).count }
+        ensures worth { result ≡ (raw_firm_of self.now).worth x }
+        ensures small { IfSome result (λ worth. IsAtMost worth most_worth) }
+    {
+        match self {
+            RawFirm::Table(table) => table.worth(x),
+            RawFirm::Laminar(firm) => firm.value(x, &mut Steps::new(Asked)),
+            RawFirm::Middle(firm) => firm.value(x, &mut Steps::new(Asked)),
+            RawFirm::Dealer(firm) => firm.value(x, &mut Steps::new(Asked)),
         }
     }
 
