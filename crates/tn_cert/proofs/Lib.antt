@@ -12,5 +12,8 @@ mod LeaveLemmas
 mod BlockingLemmas
 mod CompletedLemmas
 pub mod OutcomeRefuted
-mod RefutedClaims
 mod ReplayLemmas
+mod RefutedClaims
+pub mod PlanLaw
+mod PlanRefuted
+mod PlanSums

@@ -2,13 +2,14 @@
 use Rattle.std.proofs.Common.{List, length, map, pos}
 use Rattle.tn_base.specs.Firm.{Firm}
 use Rattle.tn_plain_data.specs.declared.claim.Claim.{Claim}
-use Rattle.tn_plain_data.specs.declared.claim.Claim.TheVariants.{Equilibrium, Better, Impossible, Accepted, ExchangeFails, Supported, Cycle, Solved, Drops, Completes, Blocks}
+use Rattle.tn_plain_data.specs.declared.claim.Claim.TheVariants.{Equilibrium, Better, Impossible, Accepted, ExchangeFails, Supported, Cycle, Solved, Drops, Completes, Blocks, NoPrices}
 use Rattle.tn_plain_data.specs.declared.ends.Ends.{Ends}
 use Rattle.tn_plain_data.specs.declared.reason.Reason.{Reason}
 use Rattle.tn_plain_data.specs.Prices.{price_at}
 use Rattle.tn_cert.specs.Claims.{IsValid, node_of}
 use Rattle.tn_cert.specs.Reasons.{Refutes}
 use Rattle.tn_cert.proofs.RefutedLemmas.{lack_refuted, equilibrium_refuted, better_refuted, impossible_refuted, cycle_refuted, accepted_refuted, failure_refuted}
+use Rattle.tn_cert.proofs.PlanRefuted.{plan_refuted}
 use Rattle.tn_cert.proofs.OutcomeRefuted.{drops_refuted, completes_refuted, blocks_refuted}
 
 pub refuted : (firms : List Firm) (trades : List Ends) (claim : Claim) (reason : Reason) → Refutes firms trades claim reason → IsValid firms trades claim → ⊥
@@ -23,3 +24,4 @@ refuted firms trades (Completes outcome prices over) reason = completes_refuted 
 refuted firms trades (Blocks outcome contracts over) reason = blocks_refuted firms trades outcome contracts over reason
 refuted firms trades Accepted reason = accepted_refuted firms trades reason
 refuted firms trades (ExchangeFails f x y at) reason = failure_refuted firms trades f x y at reason
+refuted firms trades (NoPrices plan over) reason = plan_refuted firms trades plan over reason

@@ -5,7 +5,7 @@ use Rattle.tn_base.specs.Firm.{Firm}
 use Rattle.tn_base.specs.Walks.{walk_cost}
 use Rattle.tn_base.specs.Exchange.{MeetsExchange, Fails}
 use Rattle.tn_plain_data.specs.declared.claim.Claim.{Claim}
-use Rattle.tn_plain_data.specs.declared.claim.Claim.TheVariants.{Equilibrium, Better, Impossible, Accepted, ExchangeFails, Supported, Cycle, Solved, Drops, Completes as CompletesIs, Blocks as BlocksIs}
+use Rattle.tn_plain_data.specs.declared.claim.Claim.TheVariants.{Equilibrium, Better, Impossible, Accepted, ExchangeFails, Supported, Cycle, Solved, Drops, Completes as CompletesIs, Blocks as BlocksIs, NoPrices}
 use Rattle.tn_plain_data.specs.declared.contract.Outcome.{Outcome}
 use Rattle.tn_plain_data.specs.declared.ends.Ends.{Ends}
 use Rattle.tn_plain_data.specs.Prices.{price_at}
@@ -14,6 +14,7 @@ use Rattle.tn_plain_data.specs.ClaimLimits.{IsFirmWith}
 use Rattle.tn_market.specs.Equilibrium.{utility_at, IsEquilibrium, surplus_of}
 use Rattle.tn_market.specs.Graph.{exchange_arc, ArePossible}
 use Rattle.tn_plain_data.specs.Network.{own, part}
+use Rattle.tn_cert.specs.Plans.{IsPlanAgainst}
 use Rattle.tn_market.specs.Signed.{is_signed, signed_bundle, signed_price, Completes}
 
 -- what firm f gains where it has x in place of y, both possible
@@ -59,3 +60,4 @@ IsValid firms trades (CompletesIs outcome prices over) = (over ≡ outcome.over)
 IsValid firms trades (BlocksIs outcome contracts over) = Blocks firms trades outcome.over outcome.contracts over contracts
 IsValid firms trades Accepted = (f : ℕ) (firm : Firm) → slice_get firms f ≡ Some firm → MeetsExchange firm
 IsValid firms trades (ExchangeFails f x y at) = IsFirmWith firms f (λ firm. Fails firm x y at)
+IsValid firms trades (NoPrices plan over) = IsPlanAgainst firms trades plan over

@@ -3,6 +3,7 @@ pub mod Claims
 pub mod Greatest
 pub mod Least
 pub mod Outcomes
+pub mod Plans
 pub mod Reasons
 pub mod Replays
 pub mod Terms

@@ -6,7 +6,7 @@ use Rattle.tn_base.specs.Exchange.{MeetsExchange, Fails}
 use Rattle.tn_exchange.specs.TestOrder.{Triple}
 use Rattle.tn_local.specs.First.{IsFirstTriple}
 use Rattle.tn_plain_data.specs.declared.claim.Claim.{Claim}
-use Rattle.tn_plain_data.specs.declared.claim.Claim.TheVariants.{Equilibrium, Better, Impossible, Accepted, ExchangeFails, Supported, Cycle, Solved, Drops, Completes as CompletesIs, Blocks as BlocksIs}
+use Rattle.tn_plain_data.specs.declared.claim.Claim.TheVariants.{Equilibrium, Better, Impossible, Accepted, ExchangeFails, Supported, Cycle, Solved, Drops, Completes as CompletesIs, Blocks as BlocksIs, NoPrices}
 use Rattle.tn_plain_data.specs.declared.contract.Contract.{Contract}
 use Rattle.tn_plain_data.specs.declared.contract.Outcome.{Outcome}
 use Rattle.tn_plain_data.specs.declared.ends.Ends.{Ends}
@@ -21,6 +21,7 @@ use Rattle.tn_market.specs.Judged.{IsFirstImpossible, IsFirstBettered}
 use Rattle.tn_plain_data.specs.Network.{own, part, trades_of}
 use Rattle.tn_market.specs.Signed.{is_signed, signed}
 use Rattle.tn_market.specs.Supported.{IsFirstUnable}
+use Rattle.tn_cert.specs.Plans.{RefutesPlan}
 use Rattle.tn_cert.specs.Claims.{Gains, GainsByKeeping, IsPositive, AreSigned, node_of, GoesRound}
 
 -- the first firm without a best bundle: its own is impossible, or another one, a best one, has more
@@ -174,3 +175,4 @@ Refutes firms trades Accepted (Exchange f x y at) = IsFirstToFail firms trades f
 Refutes firms trades Accepted reason = ⊥
 Refutes firms trades (ExchangeFails f x y at) Holds = IsFirmWith firms f (λ firm. Fails firm x y at → ⊥)
 Refutes firms trades (ExchangeFails f x y at) reason = ⊥
+Refutes firms trades (NoPrices plan over) reason = RefutesPlan firms trades plan over reason

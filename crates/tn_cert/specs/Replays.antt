@@ -1,12 +1,14 @@
 -- What the replay of a claim says.
 use Rattle.std.specs.Prelude.{◌≡◌, ◌⊎◌, ℕ, ℤ, pos, List, map, Bool, true, false, Option, Some, None, option_map, Result, Ok, Err}
+use Rattle.tn_base.specs.Arcs.{IsAtMost}
 use Rattle.tn_base.specs.Firm.{Firm}
 use Rattle.tn_plain_data.specs.declared.claim.Claim.{Claim}
-use Rattle.tn_plain_data.specs.declared.claim.Claim.TheVariants.{Equilibrium, Better, Impossible, Accepted, ExchangeFails, Supported, Cycle, Solved, Drops, Completes, Blocks}
+use Rattle.tn_plain_data.specs.declared.claim.Claim.TheVariants.{Equilibrium, Better, Impossible, Accepted, ExchangeFails, Supported, Cycle, Solved, Drops, Completes, Blocks, NoPrices}
 use Rattle.tn_plain_data.specs.declared.ends.Ends.{Ends}
 use Rattle.tn_plain_data.specs.declared.reason.Reason.{Reason}
-use Rattle.tn_plain_data.specs.declared.reason.Reason.TheVariants.{Exchange}
+use Rattle.tn_plain_data.specs.declared.reason.Reason.TheVariants.{Exchange, Whole}
 use Rattle.tn_plain_data.specs.ClaimLimits.{IsFirmWith}
+use Rattle.tn_plain_data.specs.Limits.{most_number}
 use Rattle.tn_market.specs.Equilibrium.{IsEquilibrium, surplus_of}
 use Rattle.tn_plain_data.specs.Network.{own, part}
 use Rattle.tn_cert.specs.declared.replayed.Replayed.{Replayed}
@@ -19,19 +21,21 @@ abbrev pub Replays : List Firm → List Ends → Claim → Replayed → Type 0
 Replays firms trades claim Valid = IsValid firms trades claim
 Replays firms trades claim (Invalid reason) = Refutes firms trades claim reason
 
--- whether the claim is one on the exchange property of firms that aren't tested yet
-abbrev pub is_on_exchange : Claim → Bool
-is_on_exchange (Equilibrium at surplus) = false
-is_on_exchange (Better at f x gain) = false
-is_on_exchange (Impossible on f) = false
-is_on_exchange Accepted = true
-is_on_exchange (ExchangeFails f x y at) = true
-is_on_exchange (Supported on prices) = false
-is_on_exchange (Cycle on nodes cost) = false
-is_on_exchange (Solved at surplus) = false
-is_on_exchange (Drops outcome f keeps gain over) = false
-is_on_exchange (Completes outcome prices over) = false
-is_on_exchange (Blocks outcome contracts over) = false
+-- whether the claim is one on a network whose firms aren't tested yet: of their exchange property, or that there are no
+-- prices
+abbrev pub is_raw : Claim → Bool
+is_raw (Equilibrium at surplus) = false
+is_raw (Better at f x gain) = false
+is_raw (Impossible on f) = false
+is_raw Accepted = true
+is_raw (ExchangeFails f x y at) = true
+is_raw (Supported on prices) = false
+is_raw (Cycle on nodes cost) = false
+is_raw (Solved at surplus) = false
+is_raw (Drops outcome f keeps gain over) = false
+is_raw (Completes outcome prices over) = false
+is_raw (Blocks outcome contracts over) = false
+is_raw (NoPrices plan over) = true
 
 -- the reason with the trades at the firm's positions in place of the positions
 abbrev pub reason_in : List Ends → Reason → Reason
@@ -41,6 +45,11 @@ reason_in trades reason = reason
 abbrev pub in_trades : List Ends → Replayed → Replayed
 in_trades trades Valid = Valid
 in_trades trades (Invalid reason) = Invalid (reason_in trades reason)
+
+-- the surplus that is told of a set of trades is within the limits of claims
+abbrev pub HasSmallSurplus : Replayed → Type 0
+HasSmallSurplus (Invalid (Whole on surplus)) = IsAtMost surplus most_number
+HasSmallSurplus replayed = Unit {0}
 
 -- an equilibrium with its surplus, or the first firm without a best bundle
 abbrev pub Weighs : List Firm → List Ends → ℤ → ℕ → (ℕ → ℤ) → Result ℤ Reason → Type 0

@@ -7,7 +7,7 @@ ghost use Rattle.tn_plain_data.specs.declared.ends.Ends.{Ends};
 ghost use Rattle.tn_plain_data.specs.ClaimLimits.{IsFirmWith};
 ghost use Rattle.tn_plain_data.specs.Limits.{most_firms};
 ghost use Rattle.tn_plain_data.specs.Network.{trades_on};
-ghost use Rattle.tn_cert.specs.Replays.{Replays, in_trades};
+ghost use Rattle.tn_cert.specs.Replays.{HasSmallSurplus, Replays, in_trades};
 
 use crate::replayed::Replayed;
 use std::alloc::Global;
@@ -17,7 +17,7 @@ use tn_firm::RawFirm;
 use tn_market::{Claim, Reason, Trades};
 
 /// The positions below `count` in a bundle, ascending. It fails only where memory runs out.
-fn positions_in(alloc: Global, bundle: Bundle, count: u32) -> Result<Trades, OutOfMemory>
+pub(crate) fn positions_in(alloc: Global, bundle: Bundle, count: u32) -> Result<Trades, OutOfMemory>
     requires { count ≤ 64 }
     ensures { IfOk result (λ positions. positions ≡ trades_on bundle count) }
 {
@@ -34,7 +34,8 @@ fn positions_in(alloc: Global, bundle: Bundle, count: u32) -> Result<Trades, Out
 pub(crate) fn replay_accepted(alloc: Global, firms: &[RawFirm]) -> Result<Replayed, OutOfMemory>
     requires few_firms { length firms.now ≤ most_firms }
     requires testable { All CanBeTested firms.now }
-    ensures { IfOk result (λ replayed. (trades : List Ends) → Replays (map raw_firm_of firms.now) trades Claim.Accepted (in_trades trades replayed)) }
+    ensures replays { IfOk result (λ replayed. (trades : List Ends) → Replays (map raw_firm_of firms.now) trades Claim.Accepted (in_trades trades replayed)) }
+    ensures small { IfOk result HasSmallSurplus }
 {
     for (f, firm) in firms.iter().enumerate() {
         match firm.test() {
@@ -73,7 +74,8 @@ pub(crate) fn replay_failure(
     at: Option<u32>,
 ) -> Replayed
     requires own { IsFirmWith (map raw_firm_of firms.now) firm (λ it. (x < 2 ^ it.count) × (y < 2 ^ it.count) × IfSome at (λ k. k < it.count)) }
-    ensures { (trades : List Ends) → Replays (map raw_firm_of firms.now) trades (Claim.ExchangeFails firm x y at) (in_trades trades result) }
+    ensures replays { (trades : List Ends) → Replays (map raw_firm_of firms.now) trades (Claim.ExchangeFails firm x y at) (in_trades trades result) }
+    ensures small { HasSmallSurplus result }
 {
     if fails(&firms[firm as usize], x, y, at) {
         Replayed::Valid

@@ -12,12 +12,13 @@ mod exchange;
 mod gains;
 mod laws;
 mod least;
+mod plans;
 mod pool;
 mod replayed;
 mod replaying;
 mod terms;
 mod utilities;
 
-pub use laws::refuted_is_not_valid;
+pub use laws::{plans_bar_prices, refuted_is_not_valid};
 pub use replayed::Replayed;
-pub use replaying::{is_on_exchange, replay, replay_exchange};
+pub use replaying::{is_raw, replay, replay_raw};

@@ -1,13 +1,13 @@
 //! The replay of claims.
 
-ghost use Rattle.std.specs.Prelude.{◌≡◌, ◌≤◌, List, [], true, false, All, IfOk, length, map};
+ghost use Rattle.std.specs.Prelude.{◌≡◌, ◌≤◌, true, false, All, IfOk, length, map};
 ghost use Rattle.tn_firm.specs.Raw.{CanBeTested, raw_firm_of};
-ghost use Rattle.tn_plain_data.specs.declared.ends.Ends.{Ends};
 ghost use Rattle.tn_plain_data.specs.ClaimLimits.{IsClaimWithin};
 ghost use Rattle.tn_market.specs.Limits.{IsWithinLimits};
 ghost use Rattle.tn_cert.specs.Limits.{most_claimed_trades};
 ghost use Rattle.tn_plain_data.specs.Limits.{most_firms};
-ghost use Rattle.tn_cert.specs.Replays.{Replays, in_trades, is_on_exchange};
+ghost use Rattle.tn_plain_data.specs.Network.{IsNetwork};
+ghost use Rattle.tn_cert.specs.Replays.{HasSmallSurplus, Replays, in_trades, is_raw};
 ghost use Rattle.tn_market.specs.NetworkOf.{network_of};
 
 use crate::blocking::replay_blocks;
@@ -16,22 +16,28 @@ use crate::cycles::replay_cycle;
 use crate::dropping::replay_drops;
 use crate::equilibria::{replay_equilibrium, replay_supported};
 use crate::exchange::{replay_accepted, replay_failure};
+use crate::plans::replay_plan;
 use crate::replayed::Replayed;
 use crate::utilities::{replay_better, replay_impossible};
 use std::alloc::Global;
 use tn_base::{OutOfMemory, Steps};
 use tn_firm::RawFirm;
 use tn_market::{Claim, Market, Oracle};
+use tn_plain_data::Ends;
 
-/// Whether a claim is one on the exchange property of firms that aren't tested yet.
-pub fn is_on_exchange(claim: &Claim) -> bool
-    ensures { result ≡ is_on_exchange claim.now }
+/// Whether a claim is one on a network whose firms aren't tested yet: of their exchange property, or that there are no
+/// prices.
+pub fn is_raw(claim: &Claim) -> bool
+    ensures { result ≡ is_raw claim.now }
 {
-    matches!(claim, Claim::Accepted | Claim::ExchangeFails { .. })
+    matches!(
+        claim,
+        Claim::Accepted | Claim::ExchangeFails { .. } | Claim::NoPrices { .. }
+    )
 }
 
 /// Replays a claim on a market: it is valid exactly where no condition of it fails, and otherwise this is the first that
-/// does. It fails only where memory runs out. The claim is none on the exchange property and within the limits of
+/// does. It fails only where memory runs out. The claim is none on firms that aren't tested yet and within the limits of
 /// claims, and the market is within the limits of firms and has at most 128 trades.
 pub fn replay<V: Oracle>(
     alloc: Global,
@@ -42,7 +48,7 @@ pub fn replay<V: Oracle>(
     requires limits { IsWithinLimits V.firm V.limit market.now }
     requires few_trades { length market.now.trades ≤ most_claimed_trades }
     requires within { network_of V.firm market.now IsClaimWithin claim.now }
-    requires on_market { is_on_exchange claim.now ≡ false }
+    requires on_market { is_raw claim.now ≡ false }
     ensures { IfOk result (network_of V.firm market.now Replays claim.now) }
 {
     match claim {
@@ -75,26 +81,32 @@ pub fn replay<V: Oracle>(
             prices,
             over,
         } => replay_completes(alloc, market, outcome, prices, *over),
-        Claim::Accepted | Claim::ExchangeFails { .. } => unreachable!(),
+        Claim::Accepted | Claim::ExchangeFails { .. } | Claim::NoPrices { .. } => unreachable!(),
     }
 }
 
-/// Replays a claim on the exchange property of firms that aren't tested yet, of which a table of more than 10 trades has
-/// every bundle. Trades in its reason are positions of the firm. It fails only where memory runs out.
-pub fn replay_exchange(
+/// Replays a claim on firms that aren't tested yet, of which a table of more than 10 trades has every bundle: of their
+/// exchange property, or that there are no prices. Trades of a triple in its reason are positions of the firm. It fails
+/// only where memory runs out. There are at most 1,024 firms, which fit together with the trades, and the claim is within
+/// the limits of claims: where it is a plan, there are at most 20 trades.
+pub fn replay_raw(
     alloc: Global,
     firms: &[RawFirm],
+    ends: &[Ends],
     claim: &Claim,
 ) -> Result<Replayed, OutOfMemory>
     requires few_firms { length firms.now ≤ most_firms }
     requires testable { All CanBeTested firms.now }
-    requires within { IsClaimWithin (map raw_firm_of firms.now) [] claim.now }
-    requires on_exchange { is_on_exchange claim.now ≡ true }
-    ensures { IfOk result (λ replayed. (trades : List Ends) → Replays (map raw_firm_of firms.now) trades claim.now (in_trades trades replayed)) }
+    requires network { IsNetwork (map raw_firm_of firms.now) ends.now }
+    requires within { IsClaimWithin (map raw_firm_of firms.now) ends.now claim.now }
+    requires kind { is_raw claim.now ≡ true }
+    ensures replays { IfOk result (λ replayed. Replays (map raw_firm_of firms.now) ends.now claim.now (in_trades ends.now replayed)) }
+    ensures small { IfOk result HasSmallSurplus }
 {
     match claim {
         Claim::Accepted => replay_accepted(alloc, firms),
         Claim::ExchangeFails { firm, x, y, at } => { Ok(replay_failure(firms, *firm, *x, *y, *at)) }
+        Claim::NoPrices { plan, over } => replay_plan(alloc, firms, ends, plan, *over),
         Claim::Equilibrium { .. }
         | Claim::Better { .. }
         | Claim::Impossible { .. }

@@ -1,0 +1,6 @@
+use Rattle.std.proofs.Common.{◌≡◌}
+use Rattle.tn_plain_data.specs.Network.{part}
+use Rattle.tn_cert.proofs.plans.bundle_of.Given as goal
+
+abbrev pub invariant-loop-k : goal.invariant-loop-k
+invariant-loop-k l = l.bundle ≡ part l.ends l.f l.k l.on

@@ -1,0 +1,5 @@
+use Rattle.tn_cert.specs.Plans.{HaveShares}
+use Rattle.tn_cert.proofs.plans.first_above.Given as goal
+
+abbrev pub invariant-loop-f : goal.invariant-loop-f
+invariant-loop-f l = HaveShares l.plan l.over l.f
