@@ -1,5 +1,5 @@
 -- From the judgement of an arrangement to the answer about it.
-use Rattle.std.proofs.Common.{◌≡◌, ℕ, ◌^◌, ◌<◌, ◌≤◌, ℤ, pos, true, List, [], ◌∷◌, length, map, refl, sym, ap, ◌∙◌, subst, arith, inl, inr}
+use Rattle.std.proofs.Common.{◌≡◌, ℕ, ◌^◌, ◌<◌, ◌≤◌, ℤ, pos, ◌≤ℤ◌, get_or, true, List, [], ◌∷◌, length, map, refl, sym, ap, ◌∙◌, subst, arith, inl, inr}
 use Rattle.std.specs.Prelude.{Option, Some, None, option_map, slice_get, All}
 use Rattle.std.proofs.lemmas.Int.{ints}
 use Rattle.std.proofs.lemmas.List.{length-map, get_or_past}
@@ -12,16 +12,16 @@ use Rattle.tn_firm.specs.declared.value.FirmValue.{FirmValue}
 use Rattle.tn_firm.specs.Firms.{firm_of}
 use Rattle.tn_firm.specs.FirmLemmas.{firm_laws, firm_few}
 use Rattle.tn_cert.specs.Claims.{IsValid}
-use Rattle.tn_cert.specs.Replays.{is_on_exchange}
+use Rattle.tn_cert.proofs.PlanLaw.{plans_bar}
 use Rattle.tn_plain_data.specs.declared.claim.Claim.{Claim}
-use Rattle.tn_plain_data.specs.declared.claim.Claim.TheVariants.{Equilibrium as EquilibriumClaim, Better as BetterClaim, Impossible as ImpossibleClaim, Accepted as AcceptedClaim, ExchangeFails as ExchangeFailsClaim, Supported as SupportedClaim, Cycle as CycleClaim, Solved as SolvedClaim, Drops as DropsClaim, Completes as CompletesClaim, Blocks as BlocksClaim}
+use Rattle.tn_plain_data.specs.declared.claim.Claim.TheVariants.{Equilibrium as EquilibriumClaim, Better as BetterClaim, Impossible as ImpossibleClaim, Accepted as AcceptedClaim, ExchangeFails as ExchangeFailsClaim, Supported as SupportedClaim, Cycle as CycleClaim, Solved as SolvedClaim, Drops as DropsClaim, Completes as CompletesClaim, Blocks as BlocksClaim, NoPrices as NoPricesClaim}
 use Rattle.tn_plain_data.specs.declared.contract.Contract.{Contract}
 use Rattle.tn_plain_data.specs.declared.contract.Outcome.{Outcome}
 use Rattle.tn_plain_data.specs.declared.ends.Ends.{Ends}
 use Rattle.tn_plain_data.specs.declared.said.Said.{Said}
 use Rattle.tn_plain_data.specs.declared.said.Said.TheVariants.{Equilibrium, Better}
 use Rattle.tn_plain_data.specs.Prices.{price_at}
-use Rattle.tn_plain_data.specs.ClaimLimits.{IsClaimWithin}
+use Rattle.tn_plain_data.specs.ClaimLimits.{IsClaimWithin, IsOverWithin}
 use Rattle.tn_market.specs.Limits.{IsOutcomeOf}
 use Rattle.tn_plain_data.specs.OutcomeLimits.{IsOutcomeWithin}
 use Rattle.tn_market.specs.Signed.{signed, Completes}
@@ -136,17 +136,8 @@ claim_implies firms trades (DropsClaim outcome f keeps gain over) network within
 claim_implies firms trades (BlocksClaim outcome contracts over) network within valid = tt
 claim_implies firms trades AcceptedClaim network within valid = tt
 claim_implies firms trades (ExchangeFailsClaim f x y at) network within valid = tt
-
--- one on the exchange property implies nothing of the kind
-pub exchange_implies : (firms : List Firm) (trades : List Ends) (claim : Claim) → is_on_exchange claim ≡ true → ClaimImplies firms trades claim
-exchange_implies firms trades AcceptedClaim on_exchange = tt
-exchange_implies firms trades (ExchangeFailsClaim f x y at) on_exchange = tt
-exchange_implies firms trades (EquilibriumClaim at surplus) on_exchange = absurd (true≢false (sym on_exchange))
-exchange_implies firms trades (SolvedClaim at surplus) on_exchange = absurd (true≢false (sym on_exchange))
-exchange_implies firms trades (SupportedClaim on prices) on_exchange = absurd (true≢false (sym on_exchange))
-exchange_implies firms trades (CompletesClaim outcome prices over) on_exchange = absurd (true≢false (sym on_exchange))
-exchange_implies firms trades (BetterClaim at f x gain) on_exchange = tt
-exchange_implies firms trades (ImpossibleClaim on f) on_exchange = tt
-exchange_implies firms trades (CycleClaim on nodes cost) on_exchange = tt
-exchange_implies firms trades (DropsClaim outcome f keeps gain over) on_exchange = tt
-exchange_implies firms trades (BlocksClaim outcome contracts over) on_exchange = tt
+claim_implies firms trades (NoPricesClaim plan over) network within valid =
+    plans_bar.bars firms trades plan over network (λ k d below. from_zero (get_or plan k d).weight (within.1 k d below).1) valid
+  where
+    from_zero : (weight : ℤ) → IsOverWithin weight → pos 0 ≤ℤ weight
+    from_zero weight within = let least = within.least in omega (arith, ints, least)

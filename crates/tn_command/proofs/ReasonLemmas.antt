@@ -17,11 +17,11 @@ use Rattle.tn_firm.specs.FirmLemmas.{firm_few}
 use Rattle.tn_law.proofs.BoundLemmas.{times_small, sum_over_small}
 use Rattle.tn_law.proofs.KeepLemmas.{option_map-some}
 use Rattle.tn_plain_data.specs.declared.claim.Claim.{Claim}
-use Rattle.tn_plain_data.specs.declared.claim.Claim.TheVariants.{Equilibrium, Better, Impossible, Accepted, ExchangeFails, Supported, Cycle, Solved, Drops, Completes, Blocks}
+use Rattle.tn_plain_data.specs.declared.claim.Claim.TheVariants.{Equilibrium, Better, Impossible, Accepted, ExchangeFails, Supported, Cycle, Solved, Drops, Completes, Blocks, NoPrices}
 use Rattle.tn_plain_data.specs.declared.contract.Outcome.{Outcome}
 use Rattle.tn_plain_data.specs.declared.ends.Ends.{Ends}
 use Rattle.tn_plain_data.specs.declared.reason.Reason.{Reason}
-use Rattle.tn_plain_data.specs.declared.reason.Reason.TheVariants.{Impossible as ImpossibleIs, Better as BetterIs, Possible, Surplus, Gain, Exchange, Holds, Arc, Cost, Contract, Over, Price, Empty, Signed, Choice}
+use Rattle.tn_plain_data.specs.declared.reason.Reason.TheVariants.{Impossible as ImpossibleIs, Better as BetterIs, Possible, Surplus, Gain, Exchange, Holds, Arc, Cost, Contract, Over, Price, Empty, Signed, Choice, Shares, Balance, Whole}
 use Rattle.tn_plain_data.specs.Prices.{price_at}
 use Rattle.tn_plain_data.specs.ClaimLimits.{IsClaimWithin}
 use Rattle.tn_market.specs.Graph.{exchange_arc}
@@ -90,16 +90,36 @@ round_small firms trades on (first ∷ rest) cost network few around =
     wider : (n : ℕ) → n + 1 ≤ most_nodes → IsAtMost cost ((n + 1) * (2 * most_worth)) → IsAtMost cost most_number
     wider n few small = let low = small.low in let high = small.high in record { low = omega (arith, ints, few, low, high); high = omega (arith, ints, few, low, high) }
 
+-- the surplus of a set of trades
+set_small : (firms : List FirmValue) (trades : List Ends) (on : ℕ) (told : ℤ) → length firms ≤ most_market_firms → surplus_of (map firm_of firms) trades on ≡ Some told → IsAtMost told most_number
+set_small firms trades on told few is = let small = surplus_fits firms trades on told few is in let low = small.low in let high = small.high in record { low = omega (arith, ints, low); high = omega (arith, ints, high) }
+
 -- the reason that a surplus is another one
 surplus_small : (firms : List FirmValue) (trades : List Ends) (claim : Claim) (told : ℤ) → length firms ≤ most_market_firms → Refutes (map firm_of firms) trades claim (Surplus told) → IsAtMost told most_number
 surplus_small firms trades claim told few refutes = by claim refutes
   where
-    fits : (on : ℕ) → surplus_of (map firm_of firms) trades on ≡ Some told → IsAtMost told most_number
-    fits on is = let small = surplus_fits firms trades on told few is in let low = small.low in let high = small.high in record { low = omega (arith, ints, low); high = omega (arith, ints, high) }
-
     by : (c : Claim) → Refutes (map firm_of firms) trades c (Surplus told) → IsAtMost told most_number
-    by (Equilibrium at surplus) refutes = fits at.on refutes.1
-    by (Solved at surplus) refutes = fits at.on refutes.1
+    by (Equilibrium at surplus) refutes = set_small firms trades at.on told few refutes.1
+    by (Solved at surplus) refutes = set_small firms trades at.on told few refutes.1
+    by (Supported on prices) refutes = absurd refutes
+    by (Better at f x gain) refutes = absurd refutes
+    by (Impossible on f) refutes = absurd refutes
+    by (Cycle on nodes cost) refutes = absurd refutes
+    by (Drops outcome f keeps gain over) refutes = absurd refutes
+    by (Completes outcome prices over) refutes = absurd refutes.2
+    by (Blocks outcome contracts over) refutes = absurd refutes
+    by Accepted refutes = absurd refutes
+    by (ExchangeFails f x y at) refutes = absurd refutes
+    by (NoPrices plan over) refutes = absurd refutes
+
+-- the reason that a set of trades is worth as much as a plan
+whole_small : (firms : List FirmValue) (trades : List Ends) (claim : Claim) (listed : List ℕ) (told : ℤ) → length firms ≤ most_market_firms → Refutes (map firm_of firms) trades claim (Whole listed told) → IsAtMost told most_number
+whole_small firms trades claim listed told few refutes = by claim refutes
+  where
+    by : (c : Claim) → Refutes (map firm_of firms) trades c (Whole listed told) → IsAtMost told most_number
+    by (NoPrices plan over) refutes = let whole = refutes.3 in set_small firms trades whole.on told few whole.surplus_is
+    by (Equilibrium at surplus) refutes = absurd refutes
+    by (Solved at surplus) refutes = absurd refutes
     by (Supported on prices) refutes = absurd refutes
     by (Better at f x gain) refutes = absurd refutes
     by (Impossible on f) refutes = absurd refutes
@@ -130,6 +150,7 @@ gain_small firms trades claim g told within refutes = by claim within refutes
     by (Blocks outcome contracts over) within refutes = absurd refutes
     by Accepted within refutes = absurd refutes
     by (ExchangeFails f x y at) within refutes = absurd refutes
+    by (NoPrices plan over) within refutes = absurd refutes
 
 -- the reason that a node has no arc to the next one
 arc_small : (firms : List Firm) (trades : List Ends) (claim : Claim) (index : ℕ) → IsClaimWithin firms trades claim → Refutes firms trades claim (Arc index) → index < 2 ^ 32
@@ -151,6 +172,7 @@ arc_small firms trades claim index within refutes = by claim within refutes
     by (Blocks outcome contracts over) within refutes = absurd refutes
     by Accepted within refutes = absurd refutes
     by (ExchangeFails f x y at) within refutes = absurd refutes
+    by (NoPrices plan over) within refutes = absurd refutes
 
 -- the reason that a cost is another one
 cost_small : (firms : List FirmValue) (trades : List Ends) (claim : Claim) (told : ℤ) → IsNetwork (map firm_of firms) trades → IsClaimWithin (map firm_of firms) trades claim
@@ -172,6 +194,7 @@ cost_small firms trades claim told network within refutes = by claim within refu
     by (Blocks outcome contracts over) within refutes = absurd refutes
     by Accepted within refutes = absurd refutes
     by (ExchangeFails f x y at) within refutes = absurd refutes
+    by (NoPrices plan over) within refutes = absurd refutes
 
 -- the reason that a denominator is another one
 told_over_small : (firms : List Firm) (trades : List Ends) (claim : Claim) (told : ℤ) → IsClaimWithin firms trades claim → Refutes firms trades claim (Over told) → IsAtMost told most_number
@@ -192,6 +215,7 @@ told_over_small firms trades claim told within refutes = by claim within refutes
     by (Blocks outcome contracts over) within refutes = absurd refutes
     by Accepted within refutes = absurd refutes
     by (ExchangeFails f x y at) within refutes = absurd refutes
+    by (NoPrices plan over) within refutes = absurd refutes
 
 -- the numbers of the reason against a claim within the limits
 pub reason_small : (firms : List FirmValue) (trades : List Ends) (claim : Claim) (reason : Reason) → length firms ≤ most_market_firms → IsNetwork (map firm_of firms) trades → IsClaimWithin (map firm_of firms) trades claim
@@ -212,3 +236,6 @@ reason_small firms trades claim (Price t) few network within refutes = tt
 reason_small firms trades claim Empty few network within refutes = tt
 reason_small firms trades claim (Signed t) few network within refutes = tt
 reason_small firms trades claim (Choice f t) few network within refutes = tt
+reason_small firms trades claim (Shares f) few network within refutes = tt
+reason_small firms trades claim (Balance t) few network within refutes = tt
+reason_small firms trades claim (Whole listed told) few network within refutes = whole_small firms trades claim listed told few refutes
