@@ -17,6 +17,17 @@ pub struct Document {
     pub content: Content,
 }
 
+impl Document {
+    ghost use Rattle.std.specs.Prelude.{◌≡◌};
+
+    /// The names alone. The rest is given back here, so that no caller's proof has to follow how.
+    pub fn into_names(self) -> Names
+        ensures { result ≡ self.names }
+    {
+        self.names
+    }
+}
+
 /// The network of a document, with what is needed beside it.
 #[derive(Drop)]
 pub enum Content {

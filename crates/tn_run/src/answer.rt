@@ -80,8 +80,9 @@ fn answer_read(alloc: Global, command: Command, doc: Document) -> Result<(Said, 
     ensures names { IfOk result (λ told. told.1 ≡ (document_view doc).names) }
     ensures within { IfOk result (λ told. IsWithinClaims told.0) }
 {
-    let said = answer_document(alloc, command, &doc)?;
-    Ok((said, doc.names))
+    let said = answer_document(alloc, command, &doc);
+    let names = doc.into_names();
+    Ok((said?, names))
 }
 
 /// The answer of a command to the bytes of a document, with the names that were read. It fails only where memory runs out.
