@@ -204,12 +204,12 @@ pub line_ended : (a b left : Option (List ℕ)) (line bytes : List ℕ) → IsUn
     → TakesLines a (prepend_known (drop (before_feed bytes + 1) bytes) left) ((line ++ take (before_feed bytes) bytes) ∷ [])
 line_ended a b left line bytes plain taken filled within =
     let passes = Passes-after a (prepend_known bytes left) (prepend_known (drop (before_feed bytes + 1) bytes) left) line (take (before_feed bytes) bytes) plain
-        (subst (Consumes a (prepend_known bytes left)) (append-nil line) (Consumes-trans a b (prepend_known bytes left) line [] taken filled))
-        (part-unbroken bytes, inl (Consumes-ended left bytes within)) in
+    (subst (Consumes a (prepend_known bytes left)) (append-nil line) (Consumes-trans a b (prepend_known bytes left) line [] taken filled))
+    (part-unbroken bytes, inl (Consumes-ended left bytes within)) in
     ended-TakesLines a (prepend_known (drop (before_feed bytes + 1) bytes) left) (line ++ take (before_feed bytes) bytes) passes.0
-        (subst (Consumes a (prepend_known (drop (before_feed bytes + 1) bytes) left)) (sym (append_assoc line (take (before_feed bytes) bytes) (10 ∷ [])))
-            (Consumes-trans a b (prepend_known (drop (before_feed bytes + 1) bytes) left) line (take (before_feed bytes) bytes ++ 10 ∷ []) taken
-                (Consumes-trans b (prepend_known bytes left) (prepend_known (drop (before_feed bytes + 1) bytes) left) [] (take (before_feed bytes) bytes ++ 10 ∷ []) filled (Consumes-ended left bytes within))))
+    (subst (Consumes a (prepend_known (drop (before_feed bytes + 1) bytes) left)) (sym (append_assoc line (take (before_feed bytes) bytes) (10 ∷ [])))
+    (Consumes-trans a b (prepend_known (drop (before_feed bytes + 1) bytes) left) line (take (before_feed bytes) bytes ++ 10 ∷ []) taken
+    (Consumes-trans b (prepend_known bytes left) (prepend_known (drop (before_feed bytes + 1) bytes) left) [] (take (before_feed bytes) bytes ++ 10 ∷ []) filled (Consumes-ended left bytes within))))
 
 -- the part that none ends
 pub part_taken : (a b left : Option (List ℕ)) (line bytes : List ℕ) → Consumes a b line → Consumes b (prepend_known bytes left) [] → length bytes ≤ before_feed bytes
@@ -218,7 +218,7 @@ part_taken a b left line bytes taken filled none =
     let whole : take (before_feed bytes + 1) bytes ≡ take (before_feed bytes) bytes = take_all (before_feed bytes + 1) bytes (omega (arith, none)) ∙ sym (take_all (before_feed bytes) bytes none) in
     let front = subst (Consumes (prepend_known bytes left) (prepend_known (drop (before_feed bytes + 1) bytes) left)) whole (Consumes-front left bytes (before_feed bytes + 1)) in
     Consumes-trans a b (prepend_known (drop (before_feed bytes + 1) bytes) left) line (take (before_feed bytes) bytes) taken
-        (Consumes-trans b (prepend_known bytes left) (prepend_known (drop (before_feed bytes + 1) bytes) left) [] (take (before_feed bytes) bytes) filled front)
+    (Consumes-trans b (prepend_known bytes left) (prepend_known (drop (before_feed bytes + 1) bytes) left) [] (take (before_feed bytes) bytes) filled front)
 
 pub part_plain : (line bytes : List ℕ) → IsUnbroken line → IsUnbroken (line ++ take (before_feed bytes) bytes)
 part_plain line bytes plain = All-append (λ (byte : ℕ). byte ≢ 10) line (take (before_feed bytes) bytes) plain (part-unbroken bytes)
@@ -229,13 +229,16 @@ pub line_stopped : (a b c left : Option (List ℕ)) (line bytes : List ℕ) → 
     → (whole : List ℕ) × (length line + before_feed bytes ≤ length whole) × TakesLines a c (whole ∷ [])
 line_stopped a b c left line bytes plain taken filled some passed =
     let front : Consumes a (prepend_known (drop (before_feed bytes) bytes) left) (line ++ take (before_feed bytes) bytes) =
-        Consumes-trans a b (prepend_known (drop (before_feed bytes) bytes) left) line (take (before_feed bytes) bytes) taken
-            (Consumes-trans b (prepend_known bytes left) (prepend_known (drop (before_feed bytes) bytes) left) [] (take (before_feed bytes) bytes) filled (Consumes-front left bytes (before_feed bytes))) in
+    Consumes-trans a b (prepend_known (drop (before_feed bytes) bytes) left) line (take (before_feed bytes) bytes) taken
+    (Consumes-trans b (prepend_known bytes left) (prepend_known (drop (before_feed bytes) bytes) left) [] (take (before_feed bytes) bytes) filled (Consumes-front left bytes (before_feed bytes))) in
     let whole : List ℕ = (line ++ take (before_feed bytes) bytes) ++ passed.0 in
     let long : length line + before_feed bytes ≤ length ((line ++ take (before_feed bytes) bytes) ++ passed.0) =
-        omega (arith, length-append (line ++ take (before_feed bytes) bytes) passed.0, length-append line (take (before_feed bytes) bytes), length-take (before_feed bytes) bytes, feed-le-length bytes) in
-    (whole, long, Passes-TakesLines a c ((line ++ take (before_feed bytes) bytes) ++ passed.0) (omega (arith, some, long))
-        (Passes-after a (prepend_known (drop (before_feed bytes) bytes) left) c (line ++ take (before_feed bytes) bytes) passed.0 (part_plain line bytes plain) front passed.1))
+    omega (arith, length-append (line ++ take (before_feed bytes) bytes) passed.0, length-append line (take (before_feed bytes) bytes), length-take (before_feed bytes) bytes, feed-le-length bytes) in (
+      whole,
+      long,
+      Passes-TakesLines a c ((line ++ take (before_feed bytes) bytes) ++ passed.0) (omega (arith, some, long))
+          (Passes-after a (prepend_known (drop (before_feed bytes) bytes) left) c (line ++ take (before_feed bytes) bytes) passed.0 (part_plain line bytes plain) front passed.1),
+    )
 
 -- the last line, which the end of the bytes ends
 pub line_last : (a b c : Option (List ℕ)) (line : List ℕ) → IsUnbroken line → Consumes a b line → Consumes b c [] → IsAtEnd c → 0 < length line → TakesLines a c (line ∷ [])

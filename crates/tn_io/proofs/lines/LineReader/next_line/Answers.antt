@@ -16,18 +16,18 @@ loop-line-preserved g c =
       within = c.in-Ok-false.ensures.within;
       plain = rw c.in-Ok-false.ensures.taken (part_plain c.loop-line.line.items c.fill.new.self c.loop-line.invariant.plain);
       taken = rw (c.in-Ok-false.ensures.taken, c.in-Ok-false.ensures.rest)
-      (part_taken _ _ (g.S.Source.left c.fill.new.source) c.loop-line.line.items c.fill.new.self c.loop-line.invariant.taken c.in_ok-fill.ensures.kept none);
+          (part_taken _ _ (g.S.Source.left c.fill.new.source) c.loop-line.line.items c.fill.new.self c.loop-line.invariant.taken c.in_ok-fill.ensures.kept none);
       later = omega arith;
     }
 
 pub returns-in-Err-clause-too_long : goal.returns-in-Err-clause-too_long
 returns-in-Err-clause-too_long g c = λ is.
     let stopped = line_stopped _ _ _ (g.S.Source.left c.fill.new.source) c.loop-line.line.items c.fill.new.self c.loop-line.invariant.plain c.loop-line.invariant.taken c.in_ok-fill.ensures.kept
-        c.in-Err.ensures.some (rw c.in-Err.ensures.passed at c.in_ok-pass_over-in-Err.ensures.passed) in
+    c.in-Err.ensures.some (rw c.in-Err.ensures.passed at c.in_ok-pass_over-in-Err.ensures.passed) in
     (stopped.0, omega (arith, stopped.1, c.in-Err.ensures.too_long (cc)), stopped.2)
 
 pub returns-in-Err-clause-out_of_memory : goal.returns-in-Err-clause-out_of_memory
 returns-in-Err-clause-out_of_memory g c = λ is.
     let stopped = line_stopped _ _ _ (g.S.Source.left c.fill.new.source) c.loop-line.line.items c.fill.new.self c.loop-line.invariant.plain c.loop-line.invariant.taken c.in_ok-fill.ensures.kept
-        c.in-Err.ensures.some (rw c.in-Err.ensures.passed at c.in_ok-pass_over-in-Err.ensures.passed) in
+    c.in-Err.ensures.some (rw c.in-Err.ensures.passed at c.in_ok-pass_over-in-Err.ensures.passed) in
     (stopped.0, stopped.2)
