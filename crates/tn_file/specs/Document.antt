@@ -32,7 +32,8 @@ pub data ExtraData : Type 0 where
   edits : List Edit → ExtraData
   claim : ClaimIs → ExtraData
 
--- each firm is to meet exchange, unless the network is read raw, as it is for a claim on exchange
+-- each firm is to meet exchange, unless the network is read raw, as it is for a claim on exchange, and for the
+-- one that there are no prices
 abbrev pub is_tested : Need → Data → Bool
 is_tested Market top = true
 is_tested Raw top = false

@@ -19,7 +19,7 @@ abbrev pub document_view : Document → DocumentData
 document_view doc = record { names = doc.names; firms = (content_view doc.content).firms; ends = (content_view doc.content).ends; extra = (content_view doc.content).extra }
 
 -- beside the network stands the part that the need names, and no other; and the network is a market, unless it is read
--- raw, as it is for a claim on exchange
+-- raw, as it is for a claim on exchange and for the one that there are no prices
 abbrev pub IsFor : Need → Content → Type 0
 IsFor need (MarketIs market extra) = IsPartFor need (extra_view extra) × (is_accepted need (extra_view extra) ≡ true)
 IsFor need (RawIs net extra) = IsPartFor need (raw_extra_view extra) × (is_accepted need (raw_extra_view extra) ≡ false)

@@ -40,7 +40,7 @@ pub enum RawExtra {
     None,
     /// The arrangement.
     Arrangement(Arrangement<2>),
-    /// The claim, which is one on exchange.
+    /// The claim, which is one on exchange or that there are no prices.
     Claim(Claim),
 }
 

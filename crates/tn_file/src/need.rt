@@ -15,6 +15,6 @@ pub enum Need {
     Outcome,
     /// The network, as for a market, and the edits.
     Edits,
-    /// The network, as for a market unless the claim is one on exchange, and the claim.
+    /// The network, as for a market unless the claim is one on exchange or that there are no prices, and the claim.
     Claim,
 }

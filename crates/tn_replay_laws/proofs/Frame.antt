@@ -103,7 +103,7 @@ pub outcome_other : (listed : Listed) (value top : Data) → outcome_of listed (
 unfolding outcome_of
 outcome_other listed value top = rw (get_other (codes "outcome") value top refl)
 
--- whether the claim is one on exchange is told by its answer
+-- whether the claim's network is read raw is told by its answer
 pub raw_there : (value top : Data) (text : List ℕ) → get (codes "claim") (with_claim value top) ≡ Some value → option_and_then as_str (get (codes "answer") value) ≡ Some text
     → claims_raw (with_claim value top) ≡ names_raw text
 raw_there value top text there answer =
