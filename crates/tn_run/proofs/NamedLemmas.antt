@@ -11,7 +11,7 @@ use Rattle.tn_plain_data.specs.declared.said.Said.TheVariants.{Firms as FirmsIs,
 use Rattle.tn_plain_data.specs.Prices.{price_at}
 use Rattle.tn_plain_data.specs.Network.{part, trades_on}
 use Rattle.tn_market.specs.Judged.{Judges}
-use Rattle.tn_plain_data.proofs.NetworkLemmas.{on_below, on_ascends}
+use Rattle.tn_plain_data.proofs.NetworkLemmas.{on_ascends}
 use Rattle.tn_answer.specs.Apart.{HasShortNumbers, IsNamedAnswer}
 use Rattle.tn_names.specs.Names.{NameLists}
 use Rattle.tn_names.specs.Named.{IsNamed}
@@ -41,7 +41,7 @@ use Rattle.tn_command.specs.Supported.{SupportsSet}
 use Rattle.tn_holding.specs.Held.{TellsHoldings}
 use Rattle.tn_price.proofs.JudgeLemmas.{some_item}
 use Rattle.tn_run.specs.Tested.{Tests}
-use Rattle.tn_run.proofs.OwnLemmas.{firm_named, bundle_named, bundle_ascends, failure_named, failure_ascends}
+use Rattle.tn_run.proofs.OwnLemmas.{firm_named, bundle_named, bundle_ascends, failure_named, failure_ascends, set_named}
 use Rattle.tn_run.proofs.ReplayLemmas.{decided_named, decided_ascends}
 use Rattle.tn_run.specs.Words.{need_of}
 use Rattle.tn_run.specs.declared.command.Command.{Command}
@@ -123,19 +123,15 @@ module _ (need : Need) (doc : DocumentData) (is : IsDocument need doc) where
   -- the answer of `solve`
   solved_named : (said : Said) → Solves doc.firms doc.ends said → IsNamedAnswer doc.names said
   solved_named (Solved on prices surplus) solves = (
-    subst (All (IsNamed doc.names.trades)) (sym solves.on_is) (subst (λ n. All (λ t. t < n) (trades_on solves.set (length doc.ends))) (sym is.trades_named) (on_below solves.set (length doc.ends))),
+    set_named need doc is solves.set on solves.on_is,
     solves.one_each ∙ sym is.trades_named,
   )
   solved_named said solves = absurd solves
 
   -- the answer of `range`
-  set_named : (set : ℕ) (on : List ℕ) → on ≡ trades_on set (length doc.ends) → All (IsNamed doc.names.trades) on
-  set_named set on is_on =
-      subst (All (IsNamed doc.names.trades)) (sym is_on) (subst (λ n. All (λ t. t < n) (trades_on set (length doc.ends))) (sym is.trades_named) (on_below set (length doc.ends)))
-
   ranged_named : (said : Said) → TellsRanges doc.firms doc.ends said → IsNamedAnswer doc.names said
   ranged_named (Ranges on ranges) tells = (
-    set_named tells.set on tells.on_is,
+    set_named need doc is tells.set on tells.on_is,
     tells.each.one_each ∙ sym is.trades_named,
     (λ k d below.
         let range = tells.each.each k (get_or ranges k d) (slice_get-get_or ranges k d below) in
@@ -160,7 +156,7 @@ module _ (need : Need) (doc : DocumentData) (is : IsDocument need doc) where
       let state = (tells.each k (get_or states k d) (slice_get-get_or states k d below)).is in
       let allowed = (tells.each k (get_or states k d) (slice_get-get_or states k d below)).allowed in
       record {
-        on = set_named state.set (get_or states k d).on state.on_is;
+        on = set_named need doc is state.set (get_or states k d).on state.on_is;
         prices = subst (All (λ contract. IsNamed doc.names.trades contract.trade)) (sym state.prices_are)
             (subst (λ n. All (λ contract. contract.trade < n) (contracts_of allowed (price_at state.prices) (length doc.ends))) (sym is.trades_named)
             (contracts_are allowed (price_at state.prices) (λ contract. contract.trade < length doc.ends) (length doc.ends) (λ t inside there. inside)));

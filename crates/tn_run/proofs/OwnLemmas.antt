@@ -11,8 +11,8 @@ use Rattle.tn_file.specs.Laws.{IsDocument}
 use Rattle.tn_read_firms.proofs.KindLemmas.{listed_own_bundles}
 use Rattle.tn_local.proofs.FirstLemmas.{triple_fails}
 use Rattle.tn_read_firms.proofs.ShownLemmas.{OwnAreNamed, own_position_of, trades_named, triple_named}
-use Rattle.tn_plain_data.specs.Network.{own, trades_of}
-use Rattle.tn_plain_data.proofs.NetworkLemmas.{ascending_trades}
+use Rattle.tn_plain_data.specs.Network.{own, trades_of, trades_on}
+use Rattle.tn_plain_data.proofs.NetworkLemmas.{ascending_trades, on_ascends, on_below}
 use Rattle.tn_names.specs.Named.{IsNamed, IsNamedTriple, IsAscendingTriple}
 
 module _ (need : Need) (doc : DocumentData) (is : IsDocument need doc) where
@@ -24,6 +24,14 @@ module _ (need : Need) (doc : DocumentData) (is : IsDocument need doc) where
 
   pub trade_named : (t : ℕ) → t < length doc.ends → IsNamed doc.names.trades t
   trade_named t below = subst (λ n. t < n) (sym is.trades_named) below
+
+  -- the trades of a set
+  pub set_named : (set : ℕ) (on : List ℕ) → on ≡ trades_on set (length doc.ends) → All (IsNamed doc.names.trades) on
+  set_named set on is_on =
+      subst (All (IsNamed doc.names.trades)) (sym is_on) (subst (λ n. All (λ t. t < n) (trades_on set (length doc.ends))) (sym is.trades_named) (on_below set (length doc.ends)))
+
+  pub set_ascends : (set : ℕ) (on : List ℕ) → on ≡ trades_on set (length doc.ends) → IsStrictlyIncreasing on
+  set_ascends set on is_on = subst IsStrictlyIncreasing (sym is_on) (on_ascends set (length doc.ends))
 
   -- the trades of a firm's bundle
   pub bundle_named : (f : ℕ) (firm : Firm) (x : ℕ) → slice_get doc.firms f ≡ Some firm → All (IsNamed doc.names.trades) (trades_of doc.ends f firm.count x)

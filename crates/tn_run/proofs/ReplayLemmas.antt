@@ -1,5 +1,5 @@
 -- A reason against a document's claim speaks only of firms and trades that have a name, and its bundles ascend.
-use Rattle.std.proofs.Common.{◌≡◌, ℕ, ◌+◌, ◌^◌, ◌<◌, ℤ, pos, List, [], ◌∷◌, ◌++◌, length, map, take, sym, ap, subst, ◌∙◌}
+use Rattle.std.proofs.Common.{◌≡◌, ℕ, ◌+◌, ◌^◌, ◌<◌, ℤ, pos, List, [], ◌∷◌, ◌++◌, length, map, take, refl, sym, ap, subst, ◌∙◌}
 use Rattle.std.specs.Prelude.{Option, Some, true, All, slice_get}
 use Rattle.std.specs.List.Sorted.{IsStrictlyIncreasing}
 use Rattle.std.proofs.lemmas.List.{map_more}
@@ -12,18 +12,21 @@ use Rattle.tn_base.specs.Firm.{Firm}
 use Rattle.tn_base.proofs.SetLemmas.{has_below}
 use Rattle.tn_cert.specs.Claims.{node_of}
 use Rattle.tn_cert.specs.Reasons.{LacksBest, RefutesEquilibrium, RefutesBetter, RefutesCycle, RefutesDrops, RefutesCompletes, RefutesBlocks, IsFirstUnsigned, IsFirstMispriced, Refutes}
-use Rattle.tn_cert.specs.Replays.{is_on_exchange}
+use Rattle.tn_cert.specs.declared.replayed.Replayed.TheVariants.{Invalid as InvalidIs}
+use Rattle.tn_cert.specs.Plans.{RefutesPlan}
+use Rattle.tn_cert.specs.Replays.{HasSmallSurplus, is_raw, reason_in}
 use Rattle.tn_command.specs.Claimed.{DecidesClaim}
 use Rattle.tn_file.specs.declared.need.Need.{Need}
 use Rattle.tn_file.specs.Document.{DocumentData}
 use Rattle.tn_file.specs.Laws.{IsDocument}
 use Rattle.tn_plain_data.specs.declared.claim.Claim.{Claim}
-use Rattle.tn_plain_data.specs.declared.claim.Claim.TheVariants.{Equilibrium, Better, Impossible, Accepted, ExchangeFails, Supported, Cycle, Solved, Drops, Completes, Blocks}
+use Rattle.tn_plain_data.specs.declared.claim.Claim.TheVariants.{Equilibrium, Better, Impossible, Accepted, ExchangeFails, Supported, Cycle, Solved, Drops, Completes, Blocks, NoPrices}
 use Rattle.tn_plain_data.specs.declared.contract.Contract.{Contract}
 use Rattle.tn_plain_data.specs.declared.contract.Outcome.{Outcome}
 use Rattle.tn_plain_data.specs.declared.ends.Ends.{Ends}
+use Rattle.tn_plain_data.specs.declared.part.Part.{Part}
 use Rattle.tn_plain_data.specs.declared.reason.Reason.{Reason}
-use Rattle.tn_plain_data.specs.declared.reason.Reason.TheVariants.{Impossible as ImpossibleIs, Better as BetterIs, Possible, Surplus, Gain, Exchange, Holds, Arc, Cost, Contract as ContractIs, Over, Price, Empty, Signed, Choice}
+use Rattle.tn_plain_data.specs.declared.reason.Reason.TheVariants.{Impossible as ImpossibleIs, Better as BetterIs, Possible, Surplus, Gain, Exchange, Holds, Arc, Cost, Contract as ContractIs, Over, Price, Empty, Signed, Choice, Shares, Balance, Whole}
 use Rattle.tn_plain_data.specs.declared.said.Said.{Said}
 use Rattle.tn_plain_data.specs.declared.said.Said.TheVariants.{Valid, Invalid}
 use Rattle.tn_plain_data.specs.Prices.{price_at}
@@ -31,7 +34,7 @@ use Rattle.tn_plain_data.specs.ClaimLimits.{IsFirmWith, IsClaimWithin, AreOffers
 use Rattle.tn_plain_data.specs.OutcomeLimits.{IsOutcomeWithin}
 use Rattle.tn_market.specs.Signed.{signed}
 use Rattle.tn_names.specs.Named.{IsNamed}
-use Rattle.tn_run.proofs.OwnLemmas.{firm_named, own_named, trade_named, bundle_named, bundle_ascends, failure_named, failure_ascends}
+use Rattle.tn_run.proofs.OwnLemmas.{firm_named, own_named, trade_named, bundle_named, bundle_ascends, failure_named, failure_ascends, set_named, set_ascends}
 
 module _ (need : Need) (doc : DocumentData) (is : IsDocument need doc) where
   -- the claimed firm
@@ -99,6 +102,13 @@ module _ (need : Need) (doc : DocumentData) (is : IsDocument need doc) where
       let leaves = refutes.2 in (firm_named need doc is f leaves.firm leaves.is, offer_named offers leaves.at t leaves.offer within leaves.offered leaves.trade)
   blocks_named outcome offers e reason within refutes = absurd refutes
 
+  plan_named : (plan : List Part) (over : ℤ) (reason : Reason) → RefutesPlan doc.firms doc.ends plan over reason → IsNamedReason doc.names reason
+  plan_named plan over (Shares f) refutes = subst (λ n. f < n) (sym is.firms_named) refutes.0
+  plan_named plan over (ImpossibleIs f) refutes = claimed_named f f refl refutes.2
+  plan_named plan over (Balance t) refutes = trade_named need doc is t (slice_get_within doc.ends t refutes.3 refutes.4)
+  plan_named plan over (Whole on surplus) refutes = let whole = refutes.3 in set_named need doc is whole.on on whole.listed_is
+  plan_named plan over reason refutes = absurd refutes
+
   reason_named : (claim : Claim) (reason : Reason) → IsClaimWithin doc.firms doc.ends claim → Refutes doc.firms doc.ends claim reason → IsNamedReason doc.names reason
   reason_named (Equilibrium at surplus) reason within refutes = equilibrium_named at.on (price_at at.prices) surplus reason refutes
   reason_named (Solved at surplus) reason within refutes = equilibrium_named at.on (price_at at.prices) surplus reason refutes
@@ -110,6 +120,7 @@ module _ (need : Need) (doc : DocumentData) (is : IsDocument need doc) where
   reason_named (Drops outcome f keeps gain over) reason within refutes = drops_named outcome f keeps gain over reason within.1 refutes
   reason_named (Completes outcome prices over) reason within refutes = completes_named outcome (price_at prices) over reason within.0 refutes
   reason_named (Blocks outcome contracts over) reason within refutes = blocks_named outcome contracts over reason within.1 refutes
+  reason_named (NoPrices plan over) reason within refutes = plan_named plan over reason refutes
   reason_named Accepted (Exchange f x y at) within refutes = failure_named need doc is f x y at refutes
   reason_named Accepted reason within refutes = absurd refutes
   reason_named (ExchangeFails f x y at) Holds within refutes = tt
@@ -134,6 +145,7 @@ module _ (need : Need) (doc : DocumentData) (is : IsDocument need doc) where
   better_reason (Cycle on nodes cost) f bundle refutes = absurd refutes
   better_reason (Drops outcome g keeps gain over) f bundle refutes = absurd refutes
   better_reason (Blocks outcome contracts over) f bundle refutes = absurd refutes
+  better_reason (NoPrices plan over) f bundle refutes = absurd refutes
   better_reason Accepted f bundle refutes = absurd refutes
   better_reason (ExchangeFails g x y at) f bundle refutes = absurd refutes
 
@@ -149,10 +161,26 @@ module _ (need : Need) (doc : DocumentData) (is : IsDocument need doc) where
   exchange_reason (Drops outcome g keeps gain over) f x y at refutes = absurd refutes
   exchange_reason (Blocks outcome contracts over) f x y at refutes = absurd refutes
   exchange_reason (ExchangeFails g one other position) f x y at refutes = absurd refutes
+  exchange_reason (NoPrices plan over) f x y at refutes = absurd refutes
+
+  whole_reason : (claim : Claim) (on : List ℕ) (surplus : ℤ) → Refutes doc.firms doc.ends claim (Whole on surplus) → IsStrictlyIncreasing on
+  whole_reason (NoPrices plan over) on surplus refutes = let whole = refutes.3 in set_ascends need doc is whole.on on whole.listed_is
+  whole_reason (Equilibrium at told) on surplus refutes = absurd refutes
+  whole_reason (Solved at told) on surplus refutes = absurd refutes
+  whole_reason (Supported set prices) on surplus refutes = absurd refutes
+  whole_reason (Completes outcome prices over) on surplus refutes = absurd refutes.2
+  whole_reason (Better at f x gain) on surplus refutes = absurd refutes
+  whole_reason (Impossible set f) on surplus refutes = absurd refutes
+  whole_reason (Cycle set nodes cost) on surplus refutes = absurd refutes
+  whole_reason (Drops outcome f keeps gain over) on surplus refutes = absurd refutes
+  whole_reason (Blocks outcome contracts over) on surplus refutes = absurd refutes
+  whole_reason Accepted on surplus refutes = absurd refutes
+  whole_reason (ExchangeFails f x y at) on surplus refutes = absurd refutes
 
   reason_ascends : (claim : Claim) (reason : Reason) → Refutes doc.firms doc.ends claim reason → HasAscendingBundles reason
   reason_ascends claim (BetterIs f bundle) refutes = better_reason claim f bundle refutes
   reason_ascends claim (Exchange f x y at) refutes = exchange_reason claim f x y at refutes
+  reason_ascends claim (Whole on surplus) refutes = whole_reason claim on surplus refutes
   reason_ascends claim (ImpossibleIs f) refutes = tt
   reason_ascends claim (Possible f) refutes = tt
   reason_ascends claim (Surplus surplus) refutes = tt
@@ -166,19 +194,31 @@ module _ (need : Need) (doc : DocumentData) (is : IsDocument need doc) where
   reason_ascends claim Empty refutes = tt
   reason_ascends claim (Signed t) refutes = tt
   reason_ascends claim (Choice f t) refutes = tt
+  reason_ascends claim (Shares f) refutes = tt
+  reason_ascends claim (Balance t) refutes = tt
 
   pub decided_ascends : (claim : Claim) (said : Said) → DecidesClaim doc.firms doc.ends claim said → HasAscendingTrades said
   decided_ascends claim Valid decides = tt
   decided_ascends claim (Invalid reason) decides = reason_ascends claim reason decides
   decided_ascends claim said decides = absurd decides
 
--- a reason against a claim on exchange has no number
-pub exchange_reason_small : (firms : List Firm) (trades : List Ends) (claim : Claim) (reason : Reason) → is_on_exchange claim ≡ true → Refutes firms trades claim reason → IsReasonWithin reason
-exchange_reason_small firms trades Accepted (Exchange f x y at) kind refutes = tt
-exchange_reason_small firms trades Accepted reason kind refutes = absurd refutes
-exchange_reason_small firms trades (ExchangeFails f x y at) Holds kind refutes = tt
-exchange_reason_small firms trades (ExchangeFails f x y at) reason kind refutes = absurd refutes
-exchange_reason_small firms trades claim reason kind refutes = cc
+-- trades at positions of a firm have no surplus
+pub small_in : (trades : List Ends) (reason : Reason) → HasSmallSurplus (InvalidIs reason) → HasSmallSurplus (InvalidIs (reason_in trades reason))
+small_in trades (Exchange f x y at) small = tt
+small_in trades reason small = small
+
+-- a reason against a claim on a network that is read raw has no number but a surplus
+pub raw_reason_small : (firms : List Firm) (trades : List Ends) (claim : Claim) (reason : Reason) → is_raw claim ≡ true → Refutes firms trades claim reason → HasSmallSurplus (InvalidIs reason) → IsReasonWithin reason
+raw_reason_small firms trades Accepted (Exchange f x y at) kind refutes small = tt
+raw_reason_small firms trades Accepted reason kind refutes small = absurd refutes
+raw_reason_small firms trades (ExchangeFails f x y at) Holds kind refutes small = tt
+raw_reason_small firms trades (ExchangeFails f x y at) reason kind refutes small = absurd refutes
+raw_reason_small firms trades (NoPrices plan over) (Shares f) kind refutes small = tt
+raw_reason_small firms trades (NoPrices plan over) (ImpossibleIs f) kind refutes small = tt
+raw_reason_small firms trades (NoPrices plan over) (Balance t) kind refutes small = tt
+raw_reason_small firms trades (NoPrices plan over) (Whole on surplus) kind refutes small = small
+raw_reason_small firms trades (NoPrices plan over) reason kind refutes small = absurd refutes
+raw_reason_small firms trades claim reason kind refutes small = cc
 
 -- one position more that is named
 pub named_push : (f : ℕ → ℕ) (xs : List ℕ) (i x y : ℕ) (done : List ℕ) → done ≡ map f (take i xs) → slice_get xs i ≡ Some x → y ≡ f x → done ++ y ∷ [] ≡ map f (take (i + 1) xs)

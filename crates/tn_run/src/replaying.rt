@@ -2,16 +2,16 @@
 
 ghost use Rattle.std.specs.Prelude.{◌≡◌, ◌≤◌, IfOk, length, map, true};
 ghost use Rattle.tn_answer.specs.Kept.{IsWithinClaims};
-ghost use Rattle.tn_cert.specs.Replays.{is_on_exchange, reason_in};
+ghost use Rattle.tn_cert.specs.Replays.{is_raw, reason_in};
 ghost use Rattle.tn_command.specs.Claimed.{DecidesClaim};
 ghost use Rattle.tn_firm.specs.Raw.{raw_firm_of};
 ghost use Rattle.tn_plain_data.specs.Limits.{most_firms, most_trades};
 ghost use Rattle.tn_plain_data.specs.ClaimLimits.{IsClaimWithin};
-ghost use Rattle.tn_plain_data.specs.Network.{own};
+ghost use Rattle.tn_plain_data.specs.Network.{IsNetwork, own};
 
 use std::alloc::Global;
 use tn_base::OutOfMemory;
-use tn_cert::{Replayed, replay_exchange};
+use tn_cert::Replayed;
 use tn_file::RawNet;
 use tn_market::{Claim, Reason, Said, Trades};
 
@@ -59,17 +59,18 @@ fn reason_in(alloc: Global, net: &RawNet, reason: Reason) -> Result<Reason, OutO
     }
 }
 
-/// Whether a claim of the exchange property holds, or else the first of its conditions that fails. There are at most 1,024
-/// firms and 1,024 trades.
+/// Whether a claim of the exchange property holds, or one that there are no prices, or else the first of its conditions that
+/// fails. There are at most 1,024 firms and 1,024 trades, and firms and trades fit together.
 pub fn replay_raw(alloc: Global, net: &RawNet, claim: &Claim) -> Result<Said, OutOfMemory>
     requires few_firms { length net.now.firms ≤ most_firms }
     requires few_trades { length net.now.ends ≤ most_trades }
-    requires kind { is_on_exchange claim.now ≡ true }
+    requires network { IsNetwork (map raw_firm_of net.now.firms) net.now.ends }
+    requires kind { is_raw claim.now ≡ true }
     requires claim { IsClaimWithin (map raw_firm_of net.now.firms) net.now.ends claim.now }
     ensures answer { IfOk result (DecidesClaim (map raw_firm_of net.now.firms) net.now.ends claim.now) }
     ensures within { IfOk result IsWithinClaims }
 {
-    match replay_exchange(alloc, net.firms(), claim)? {
+    match tn_cert::replay_raw(alloc, net.firms(), net.ends(), claim)? {
         Replayed::Valid => Ok(Said::Valid),
         Replayed::Invalid(reason) => Ok(Said::Invalid(reason_in(alloc, net, reason)?)),
     }

@@ -1,18 +1,16 @@
-//! Outcomes between two stalls, claims about them, and one about a table that fails exchange.
+//! Outcomes between two stalls, and claims about them.
 
-ghost use Rattle.std.specs.Prelude.{◌≡◌, ◌^◌, ◌<◌, List, length, IfOk, false, [], ◌∷◌};
+ghost use Rattle.std.specs.Prelude.{◌≡◌, List, IfOk, false, [], ◌∷◌};
 ghost use Rattle.tn_base.specs.Firm.{Firm};
-ghost use Rattle.tn_cert.specs.Replays.{is_on_exchange};
+ghost use Rattle.tn_cert.specs.Replays.{is_raw};
 ghost use Rattle.tn_plain_data.specs.ClaimLimits.{IsClaimWithin, IsNumberWithin};
 ghost use Rattle.tn_run.specs.Stall.{trade_between};
 
 use crate::stalls::{both_sold, ends, nothing_signed, sold_at_4, two_stalls};
 use std::alloc::Global;
-use tn_base::{Asked, Bundle, Costs, OutOfMemory, Side, Steps, TradeSet};
-use tn_cert::{Replayed, is_on_exchange, replay, replay_exchange};
+use tn_base::{Asked, Bundle, Costs, OutOfMemory, Steps, TradeSet};
+use tn_cert::{Replayed, replay};
 use tn_chain::{chain_scale, reduced_graph};
-use tn_exchange::RawTable;
-use tn_firm::RawFirm;
 use tn_judge::{Judged, judge};
 use tn_market::{Arrangement, Claim, Nodes, Prices, Reason, Room, Valuation};
 use tn_residual::{contract_price, reduced_best, residual};
@@ -105,7 +103,7 @@ fn nothing_signed_is_blocked(rt: HostRuntime) {
 fn both_on(alloc: Global, surplus: i128) -> Result<Claim, OutOfMemory>
     requires { IsNumberWithin surplus }
     ensures within { IfOk result (λ claim. (firms : List Firm) → IsClaimWithin firms (trade_between 0 1 ∷ trade_between 1 0 ∷ []) claim) }
-    ensures kind { IfOk result (λ claim. is_on_exchange claim ≡ false) }
+    ensures kind { IfOk result (λ claim. is_raw claim ≡ false) }
 {
     let mut on = TradeSet::empty();
     on.toggle(0);
@@ -119,7 +117,7 @@ fn both_on(alloc: Global, surplus: i128) -> Result<Claim, OutOfMemory>
 fn round(alloc: Global, cost: i128) -> Result<Claim, OutOfMemory>
     requires { IsNumberWithin cost }
     ensures within { IfOk result (λ claim. (firms : List Firm) → IsClaimWithin firms (trade_between 0 1 ∷ trade_between 1 0 ∷ []) claim) }
-    ensures kind { IfOk result (λ claim. is_on_exchange claim ≡ false) }
+    ensures kind { IfOk result (λ claim. is_raw claim ≡ false) }
 {
     let on = TradeSet::empty();
     let nodes = Nodes::from_vec(vec![in alloc; None, Some(0)]?);
@@ -158,52 +156,6 @@ fn a_cycle_is_replayed(rt: HostRuntime) {
     let claim = round(alloc, -1).expect(&rt, "memory");
     match replay(alloc, &market, &claim, &mut steps).expect(&rt, "memory") {
         Replayed::Invalid(Reason::Cost { cost }) => assert_eq!(rt; cost, -2),
-        other => panic!(rt; "{:?}", other),
-    }
-}
-
-/// Adds a row, if there is an amount for it.
-fn add(table: &mut RawTable, bits: u64, amount: Option<i16>)
-    requires { bits < 2 ^ length table.old.sides }
-    ensures { table.new.sides ≡ table.old.sides }
-{
-    if let Some(amount) = amount {
-        let _ = table.add(Bundle::from_bits(bits), i128::from(amount));
-    }
-}
-
-/// A buyer of two trades, of which one is worth nothing without the other.
-fn complements(alloc: Global) -> Result<RawTable, OutOfMemory>
-    ensures { IfOk result (λ table. length table.sides ≡ 2) }
-{
-    let sides = vec![in alloc; Side::Buy, Side::Buy]?;
-    let mut table = RawTable::new(alloc, sides)?;
-    add(&mut table, 1, Some(0));
-    add(&mut table, 2, Some(0));
-    add(&mut table, 3, Some(10));
-    Ok(table)
-}
-
-/// Both trades against none fail at the first position, which is named where all firms are said to meet exchange.
-#[test]
-fn complements_are_replayed(rt: HostRuntime) {
-    let alloc = rt.alloc();
-    let table = complements(alloc).expect(&rt, "memory");
-    let firms = [RawFirm::Table(table)];
-    match replay_exchange(alloc, &firms, &Claim::Accepted).expect(&rt, "memory") {
-        Replayed::Invalid(Reason::Exchange { firm, x, y, at }) => {
-            assert!(rt; firm == 0 && x.len() == 2 && y.len() == 0 && at == Some(0));
-        }
-        other => panic!(rt; "{:?}", other),
-    }
-    let claim = Claim::ExchangeFails {
-        firm: 0,
-        x: Bundle::from_bits(3),
-        y: Bundle::empty(),
-        at: Some(0),
-    };
-    match replay_exchange(alloc, &firms, &claim).expect(&rt, "memory") {
-        Replayed::Valid => assert!(rt; is_on_exchange(&claim)),
         other => panic!(rt; "{:?}", other),
     }
 }

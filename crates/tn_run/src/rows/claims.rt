@@ -130,4 +130,28 @@ judge
 
 replay
 {"version":1,"firms":[{"name":"S","kind":"table","rows":[[["a"],-3]]},{"name":"B","kind":"table","rows":[[["a"],5]]}],"trades":[{"name":"a","seller":"S","buyer":"B"}],"arrangement":{"on":["a"],"prices":[["a",4]]},"claim":{"answer":"firms"}}
-1 {"answer":"fault","fault":3,"name":"Shape","place":["claim","answer"]}"#;
+1 {"answer":"fault","fault":3,"name":"Shape","place":["claim","answer"]}
+
+replay
+{"version":1,"firms":[{"name":"Seller1","kind":"laminar","sets":[{"trades":["pair1","any1"],"from":-1,"values":[0,0]}]},{"name":"Seller2","kind":"laminar","sets":[{"trades":["pair2","any2"],"from":-1,"values":[0,0]}]},{"name":"Pair","kind":"table","rows":[[["pair1"],0],[["pair2"],0],[["pair1","pair2"],10]]},{"name":"Any","kind":"laminar","amounts":[["any1",6],["any2",6]],"sets":[{"trades":["any1","any2"],"from":0,"values":[0,0]}]}],"trades":[{"name":"pair1","seller":"Seller1","buyer":"Pair"},{"name":"pair2","seller":"Seller2","buyer":"Pair"},{"name":"any1","seller":"Seller1","buyer":"Any"},{"name":"any2","seller":"Seller2","buyer":"Any"}],"claim":{"answer":"none","over":2,"plan":[["Seller1",["pair1"],1],["Seller1",["any1"],1],["Seller2",["pair2"],1],["Seller2",["any2"],1],["Pair",["pair1","pair2"],1],["Any",["any1"],1],["Any",["any2"],1]]}}
+0 {"answer":"valid"}
+
+replay
+{"version":1,"firms":[{"name":"Seller1","kind":"laminar","sets":[{"trades":["pair1","any1"],"from":-1,"values":[0,0]}]},{"name":"Seller2","kind":"laminar","sets":[{"trades":["pair2","any2"],"from":-1,"values":[0,0]}]},{"name":"Pair","kind":"table","rows":[[["pair1"],0],[["pair2"],0],[["pair1","pair2"],10]]},{"name":"Any","kind":"laminar","amounts":[["any1",6],["any2",6]],"sets":[{"trades":["any1","any2"],"from":0,"values":[0,0]}]}],"trades":[{"name":"pair1","seller":"Seller1","buyer":"Pair"},{"name":"pair2","seller":"Seller2","buyer":"Pair"},{"name":"any1","seller":"Seller1","buyer":"Any"},{"name":"any2","seller":"Seller2","buyer":"Any"}],"claim":{"answer":"none","over":2,"plan":[["Any",["any1"],2],["Any",["any2"],1]]}}
+6 {"answer":"invalid","firm":"Any","reason":"shares"}
+
+replay
+{"version":1,"firms":[{"name":"Seller1","kind":"laminar","sets":[{"trades":["pair1","any1"],"from":-1,"values":[0,0]}]},{"name":"Seller2","kind":"laminar","sets":[{"trades":["pair2","any2"],"from":-1,"values":[0,0]}]},{"name":"Pair","kind":"table","rows":[[["pair1"],0],[["pair2"],0],[["pair1","pair2"],10]]},{"name":"Any","kind":"laminar","amounts":[["any1",6],["any2",6]],"sets":[{"trades":["any1","any2"],"from":0,"values":[0,0]}]}],"trades":[{"name":"pair1","seller":"Seller1","buyer":"Pair"},{"name":"pair2","seller":"Seller2","buyer":"Pair"},{"name":"any1","seller":"Seller1","buyer":"Any"},{"name":"any2","seller":"Seller2","buyer":"Any"}],"claim":{"answer":"none","over":2,"plan":[["Seller1",["pair1","any1"],1]]}}
+6 {"answer":"invalid","firm":"Seller1","reason":"impossible"}
+
+replay
+{"version":1,"firms":[{"name":"Seller1","kind":"laminar","sets":[{"trades":["pair1","any1"],"from":-1,"values":[0,0]}]},{"name":"Seller2","kind":"laminar","sets":[{"trades":["pair2","any2"],"from":-1,"values":[0,0]}]},{"name":"Pair","kind":"table","rows":[[["pair1"],0],[["pair2"],0],[["pair1","pair2"],10]]},{"name":"Any","kind":"laminar","amounts":[["any1",6],["any2",6]],"sets":[{"trades":["any1","any2"],"from":0,"values":[0,0]}]}],"trades":[{"name":"pair1","seller":"Seller1","buyer":"Pair"},{"name":"pair2","seller":"Seller2","buyer":"Pair"},{"name":"any1","seller":"Seller1","buyer":"Any"},{"name":"any2","seller":"Seller2","buyer":"Any"}],"claim":{"answer":"none","over":2,"plan":[["Seller1",["pair1"],1],["Pair",["pair1","pair2"],1]]}}
+6 {"answer":"invalid","reason":"balance","trade":"pair2"}
+
+replay
+{"version":1,"firms":[{"name":"Seller1","kind":"laminar","sets":[{"trades":["pair1","any1"],"from":-1,"values":[0,0]}]},{"name":"Seller2","kind":"laminar","sets":[{"trades":["pair2","any2"],"from":-1,"values":[0,0]}]},{"name":"Pair","kind":"table","rows":[[["pair1"],0],[["pair2"],0],[["pair1","pair2"],10]]},{"name":"Any","kind":"laminar","amounts":[["any1",6],["any2",6]],"sets":[{"trades":["any1","any2"],"from":0,"values":[0,0]}]}],"trades":[{"name":"pair1","seller":"Seller1","buyer":"Pair"},{"name":"pair2","seller":"Seller2","buyer":"Pair"},{"name":"any1","seller":"Seller1","buyer":"Any"},{"name":"any2","seller":"Seller2","buyer":"Any"}],"claim":{"answer":"none","over":1,"plan":[["Seller1",["pair1"],1],["Seller2",["pair2"],1],["Pair",["pair1","pair2"],1]]}}
+6 {"answer":"invalid","on":["pair1","pair2"],"reason":"whole","surplus":10}
+
+replay
+{"version":1,"firms":[{"name":"Seller1","kind":"laminar","sets":[{"trades":["pair1","any1"],"from":-1,"values":[0,0]}]},{"name":"Seller2","kind":"laminar","sets":[{"trades":["pair2","any2"],"from":-1,"values":[0,0]}]},{"name":"Pair","kind":"table","rows":[[["pair1"],0],[["pair2"],0],[["pair1","pair2"],10]]},{"name":"Any","kind":"laminar","amounts":[["any1",6],["any2",6]],"sets":[{"trades":["any1","any2"],"from":0,"values":[0,0]}]}],"trades":[{"name":"pair1","seller":"Seller1","buyer":"Pair"},{"name":"pair2","seller":"Seller2","buyer":"Pair"},{"name":"any1","seller":"Seller1","buyer":"Any"},{"name":"any2","seller":"Seller2","buyer":"Any"}],"claim":{"answer":"none","over":2,"plan":[["Any",["any1"],0]]}}
+1 {"answer":"fault","fault":10,"name":"AmountRange","place":["claim","plan",0,2]}"#;
