@@ -40,6 +40,7 @@ help_lines =
     ∷ codes "             market --version"
     ∷ []
     ∷ codes "From check to replay a document is read from standard input; the others read nothing."
+    ∷ codes "With --lines behind the command, as in market check --lines, each line is a document."
     ∷ codes "The answer goes to standard output."
     ∷ []
 

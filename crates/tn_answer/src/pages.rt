@@ -46,6 +46,7 @@ fn help_text() -> &'static str
         "             market --version\n",
         "\n",
         "From check to replay a document is read from standard input; the others read nothing.\n",
+        "With --lines behind the command, as in market check --lines, each line is a document.\n",
         "The answer goes to standard output.\n",
     )
 }

@@ -2,7 +2,8 @@
 ghost use Rattle.std.specs.Prelude.{◌≢◌, ◌<◌, ◌^◌, Err, IsOk};
 
 use crate::{
-    MemorySink, MemorySource, ReadStop, SteadySink, SteadySource, WriteFailed, read_all, write_all,
+    LineReader, LineStop, MemorySink, MemorySource, ReadStop, SteadySink, SteadySource,
+    WriteFailed, read_all, write_all,
 };
 use std::alloc::Global;
 use std::test::Fail;
@@ -86,5 +87,27 @@ fn tells_nothing_past_the_room(rt: HostRuntime) -> Result<(), Fail> {
     assert_eq!(rt; sink.written(), None);
     assert_eq!(rt; write_steadily(&mut sink, b""), Ok(()));
     assert_eq!(rt; sink.written(), None);
+    Ok(())
+}
+
+/// What came of a line, as text.
+fn text_of(line: &Result<Option<Vec<u8>>, LineStop>) -> &[u8] {
+    match line {
+        Ok(Some(bytes)) => bytes,
+        Ok(None) => b"no line",
+        Err(LineStop::TooLong) => b"too long",
+        Err(LineStop::Failed | LineStop::OutOfMemory) => b"stopped",
+    }
+}
+
+#[test]
+fn reads_line_by_line(rt: HostRuntime) -> Result<(), Fail> {
+    let bytes = b"steel\n\nlumber and coal\ncoal".to_vec(rt.alloc())?;
+    let mut source = SteadySource::new(bytes, 7);
+    let mut reader = LineReader::new();
+    for wanted in ["steel", "", "too long", "coal", "no line", "no line"] {
+        let line = reader.next_line(rt.alloc(), &mut source, 5);
+        assert_eq!(rt; text_of(&line), wanted.as_bytes());
+    }
     Ok(())
 }

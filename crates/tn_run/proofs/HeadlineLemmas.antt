@@ -13,7 +13,7 @@ use Rattle.tn_run.specs.Headline.{IsHeadline, KeepsPromise, ShowsFault, is_headl
 use Rattle.tn_run.specs.Words.{need_of}
 
 -- what is promised of the document that the bytes stand for, or their first fault
-kept_or_shown : (command : Command) (bytes : List ℕ) (read : Result DocumentData Stop) (names : NameLists) (said : Said) → is_headlined command ≡ true
+pub kept_or_shown : (command : Command) (bytes : List ℕ) (read : Result DocumentData Stop) (names : NameLists) (said : Said) → is_headlined command ≡ true
     → reading_of (need_of command) bytes ≡ read → IsAnswerTo command read names said → KeepsPromise command bytes said ⊎ ShowsFault command bytes said
 kept_or_shown command bytes (Err stop) names said headlined reads answer = inr (record { stop = stop; reads = reads; said_is = answer.0 })
 kept_or_shown Solve bytes (Ok doc) names said headlined reads answer = inl (record { doc = doc; reads = reads; promised = answer.0 })

@@ -8,4 +8,5 @@ pub mod OwnLemmas
 pub mod ReplayLemmas
 pub mod CaseLemmas
 pub mod HeadlineLemmas
+pub mod LinedLemmas
 pub mod StallLemmas

@@ -6,5 +6,6 @@ pub mod Run
 pub mod Cases
 pub mod Complete
 pub mod Headline
+pub mod Lined
 pub mod Stall
 pub mod StallLemmas

@@ -33,6 +33,11 @@ command_of (word ∷ []) = word_command word
 command_of (word ∷ next ∷ []) = if bytes_eq word (codes "solve") && bytes_eq next (codes "--csv") then Some SolveRows else None
 command_of (word ∷ next ∷ third ∷ words) = None
 
+-- the command that answers line by line, by its words
+abbrev pub lines_command_of : List (List ℕ) → Option Command
+lines_command_of (word ∷ next ∷ []) = if bytes_eq next (codes "--lines") then word_command word else None
+lines_command_of words = None
+
 -- the command of a case, whose text has a blank between two words
 abbrev pub case_command : List ℕ → Option Command
 case_command text = if bytes_eq text (codes "solve --csv") then Some SolveRows else word_command text

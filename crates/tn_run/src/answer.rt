@@ -27,7 +27,7 @@ use tn_io::{ReadStop, Source, read_all};
 use tn_market::{Fault, Market, Place, Said};
 
 /// How many bytes a document may have.
-const DOCUMENT_LIMIT: usize = 4_194_304;
+pub(crate) const DOCUMENT_LIMIT: usize = 4_194_304;
 
 /// The answer of a command that reads a network alone.
 fn answer_network(
@@ -103,7 +103,7 @@ pub fn answer_bytes(
 }
 
 /// The fault of a document that is too long.
-fn too_long(alloc: Global) -> Said
+pub(crate) fn too_long(alloc: Global) -> Said
     ensures { result ≡ too_long }
 {
     Said::Fault(Fault {

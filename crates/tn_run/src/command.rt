@@ -1,6 +1,6 @@
 ghost use Rattle.std.specs.Prelude.{◌≡◌, ◌≤◌, map, string_bytes, IfSome};
 ghost use Rattle.tn_drill.specs.Draws.{most_drilled, most_start};
-ghost use Rattle.tn_run.specs.Words.{asks_for_cases, case_command, command_of, drill_of, need_of, page_of, two_numbers, word_command};
+ghost use Rattle.tn_run.specs.Words.{asks_for_cases, case_command, command_of, drill_of, lines_command_of, need_of, page_of, two_numbers, word_command};
 
 use crate::numbers::number_within;
 use tn_file::Need;
@@ -73,6 +73,22 @@ pub fn command_of(words: &[String]) -> Option<Command>
             }
         }
         [_, _, _, ..] => None,
+    }
+}
+
+/// The command that answers line by line, none where the words ask for none.
+pub fn lines_command_of(words: &[String]) -> Option<Command>
+    ensures { result ≡ lines_command_of (map string_bytes words.now) }
+{
+    match words {
+        [word, next] => {
+            if next.as_str() == "--lines" {
+                word_command(word)
+            } else {
+                None
+            }
+        }
+        [] | [_] | [_, _, _, ..] => None,
     }
 }
 

@@ -10,11 +10,14 @@ ghost use Rattle.tn_run.specs.Answer.{MayBeSaid};
 ghost use Rattle.tn_run.specs.Cases.{MayBeCases};
 ghost use Rattle.tn_run.specs.Complete.{AnswersAll, NoneCounted};
 ghost use Rattle.tn_run.specs.Headline.{IsHeadline, is_headlined};
+ghost use Rattle.tn_run.specs.Lined.{AnswersLines, IsLinedRun};
 ghost use Rattle.tn_run.specs.Run.{IsWritten};
 ghost use Rattle.tn_run.specs.Drilled.{MayBeDrilled};
-ghost use Rattle.tn_run.specs.Words.{asks_for_cases, command_of, drill_of, page_of};
+ghost use Rattle.tn_run.specs.Words.{asks_for_cases, command_of, drill_of, lines_command_of, page_of};
 ghost use Rattle.tn_run.specs.declared.command.Command.{Command};
 
+use crate::command::lines_command_of;
+use crate::lines::run_lines;
 use crate::top::run_market;
 use std::alloc::Global;
 use std::process::ExitCode;
@@ -27,9 +30,10 @@ pub fn run_to_exit<S: Source, K: Sink>(
     source: &mut S,
     sink: &mut K,
 ) -> ExitCode
-    // One answer over some names: what was read is answered, completely where a source tells its bytes and no fault was
-    // counted at either end; its text was written, or a prefix; and the status is its own, or that of a failed write.
-    ensures answer { (said : Said) × (names : NameLists)
+    // One answer over some names, unless it is to be answered line by line: what was read is answered, completely where a source
+    // tells its bytes and no fault was counted at either end; its text was written, or a prefix; and the status is its own, or
+    // that of a failed write.
+    ensures answer { lines_command_of (map string_bytes words.now) ≡ None → (said : Said) × (names : NameLists)
         × (command_of (map string_bytes words.now) ≡ None → drill_of (map string_bytes words.now) ≡ None → asks_for_cases (map string_bytes words.now) ≡ false → page_of (map string_bytes words.now) ≡ None
         → (said ≡ Said.Usage) × (source.new ≡ source.old))
         × ((page : Page) → page_of (map string_bytes words.now) ≡ Some page → (source.new ≡ source.old) × (said ≡ Said.Page page))
@@ -44,6 +48,18 @@ pub fn run_to_exit<S: Source, K: Sink>(
         → AnswersAll command all (K.written sink.old) (K.written sink.new) names said (exit_status result))
         × IsWithinClaims said
         × IsWritten (K.written sink.old) (K.written sink.new) (K.faults sink.old) (K.faults sink.new) names said (exit_status result) }
+    // Line by line: the answers to the first lines of the source, in order, each whole, and the status of all; or a failed read
+    // was told after them; or a write failed, and at most a prefix of one more text was written.
+    ensures lines { (command : Command) → lines_command_of (map string_bytes words.now) ≡ Some command
+        → IsLinedRun command (S.left source.old) (S.faults source.old) (S.faults source.new)
+        (K.written sink.old) (K.written sink.new) (K.faults sink.old) (K.faults sink.new) (exit_status result) }
+    // No fault counted at either end: the answers to all lines, and nothing else.
+    ensures all_lines { (command : Command) → lines_command_of (map string_bytes words.now) ≡ Some command
+        → NoneCounted (S.faults source.old) (S.faults source.new) → NoneCounted (K.faults sink.old) (K.faults sink.new)
+        → AnswersLines command (S.left source.old) (K.written sink.old) (K.written sink.new) (exit_status result) }
 {
-    ExitCode::from(run_market(alloc, words, source, sink).status)
+    match lines_command_of(words) {
+        Some(command) => ExitCode::from(run_lines(alloc, command, source, sink)),
+        None => ExitCode::from(run_market(alloc, words, source, sink).status),
+    }
 }

@@ -7,6 +7,7 @@ mod casing;
 mod casing_tests;
 mod command;
 mod exit;
+mod lines;
 mod numbers;
 mod replaying;
 #[cfg(test)]

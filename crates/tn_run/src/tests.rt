@@ -1,5 +1,7 @@
 //! Whole runs on documents, and over ends that fail.
 
+use crate::command::Command;
+use crate::lines::run_lines;
 use crate::{Run, run_market, run_steadily};
 use std::alloc::Global;
 use std::test::Fail;
@@ -130,5 +132,18 @@ fn tells_a_failed_read(rt: HostRuntime) -> Result<(), Fail> {
             Some(b"{\"answer\":\"read_fault\"}\n".as_slice())
         );
     }
+    Ok(())
+}
+
+#[test]
+fn answers_line_by_line(rt: HostRuntime) -> Result<(), Fail> {
+    let mut lines = DEAL.to_vec(rt.alloc())?;
+    lines.extend_from_slice(b"\n\n")?;
+    lines.extend_from_slice(DEAL)?;
+    let mut source = SteadySource::new(lines, 100);
+    let mut sink = SteadySink::with_room(rt.alloc(), 1_000, 10)?;
+    assert_eq!(rt; run_lines(rt.alloc(), Command::Check, &mut source, &mut sink), 1);
+    let written = format!(in rt.alloc(); "{EQUILIBRIUM}{NOT_JSON}{EQUILIBRIUM}")?;
+    assert_eq!(rt; sink.written(), Some(written.as_bytes()));
     Ok(())
 }

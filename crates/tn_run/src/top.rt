@@ -73,10 +73,11 @@ pub fn status_of(said: &Said) -> u8
 }
 
 /// Writes the text of an answer.
-fn write_line<K: Sink>(sink: &mut K, line: &[u8], said: Said) -> Run
+pub(crate) fn write_line<K: Sink>(sink: &mut K, line: &[u8], said: Said) -> Run
     ensures said { result.said ≡ said }
     ensures written { (names : NameLists) → line.now ≡ answer_line names said
         → IsWritten (K.written sink.old) (K.written sink.new) (K.faults sink.old) (K.faults sink.new) names said result.status }
+    ensures later { K.faults sink.old ≤ K.faults sink.new }
 {
     match write_all(sink, line) {
         Ok(()) => Run {
@@ -88,11 +89,12 @@ fn write_line<K: Sink>(sink: &mut K, line: &[u8], said: Said) -> Run
 }
 
 /// Writes an answer, or that memory ran out before its text was whole.
-fn tell<K: Sink>(alloc: Global, names: &Names, said: Said, sink: &mut K) -> Run
+pub(crate) fn tell<K: Sink>(alloc: Global, names: &Names, said: Said, sink: &mut K) -> Run
     requires { IsWithinClaims said }
     ensures said { (result.said ≡ said) ⊎ (result.said ≡ Said.NoMemory) }
     ensures within { IsWithinClaims result.said }
     ensures written { IsWritten (K.written sink.old) (K.written sink.new) (K.faults sink.old) (K.faults sink.new) names.now result.said result.status }
+    ensures later { K.faults sink.old ≤ K.faults sink.new }
 {
     match said {
         Said::Usage => write_line(sink, usage_text(), said),

@@ -1,28 +1,43 @@
-use Rattle.std.proofs.Common.{ℕ, sym, subst}
+use Rattle.std.proofs.Common.{ℕ, sym, subst, ◌∙◌}
 use Rattle.tn_run.specs.Complete.{AnswersAll}
 use Rattle.tn_run.specs.Run.{IsWritten}
+use Rattle.tn_run.proofs.LinedLemmas.{complete_lines, lined_as_asked}
 use Rattle.tn_run.proofs.exit.run_to_exit.Goals as goal
 
-pub returns : goal.returns
-returns g c =
+pub returns-in-Some-clause-lines : goal.returns-in-Some-clause-lines
+returns-in-Some-clause-lines g c = λ command is.
+    lined_as_asked c.lines_command_of.result c.in-Some.command command (g.S.Source.left c.args.source.now) (g.K.Sink.written c.args.sink.now) (g.K.Sink.written c.run_lines.new.sink)
+    (record {
+      source_first = g.S.Source.faults c.args.source.now;
+      source_last = g.S.Source.faults c.run_lines.new.source;
+      sink_first = g.K.Sink.faults c.args.sink.now;
+      sink_middle = g.K.Sink.faults c.args.sink.now;
+      sink_last = g.K.Sink.faults c.run_lines.new.sink;
+    })
+    c.run_lines.result _ c.in-Some.is (c.lines_command_of.ensures ∙ is) c.from.ensures c.run_lines.ensures
+
+pub returns-in-Some-clause-all_lines : goal.returns-in-Some-clause-all_lines
+returns-in-Some-clause-all_lines g c = λ command is quiet_source quiet_sink.
+    complete_lines command _ _ _ _ _ _ _ _ (returns-in-Some-clause-lines g c command is) quiet_source quiet_sink
+
+pub returns-in-None-clause-answer : goal.returns-in-None-clause-answer
+returns-in-None-clause-answer g c =
     let run = c.run_market.result in
     let answers = c.run_market.ensures.answer in
-    record {
-      answer = (
-        run.said,
-        answers.0,
-        c.run_market.ensures.usage,
-        c.run_market.ensures.page,
-        c.run_market.ensures.cases,
-        c.run_market.ensures.drill,
-        answers.1,
-        c.run_market.ensures.headline,
-        λ command all is told quiet_source quiet_sink.
-            subst (λ (status : ℕ). AnswersAll command all (g.K.Sink.written c.args.sink.now) (g.K.Sink.written c.run_market.new.sink) answers.0 run.said status) (sym c.from.ensures)
-            (answers.2 command all is told quiet_source quiet_sink),
-        c.run_market.ensures.within,
-        subst
-            (λ (status : ℕ). IsWritten (g.K.Sink.written c.args.sink.now) (g.K.Sink.written c.run_market.new.sink) (g.K.Sink.faults c.args.sink.now) (g.K.Sink.faults c.run_market.new.sink) answers.0 run.said status)
-            (sym c.from.ensures) answers.3,
-      );
-    }
+    λ _. (
+      run.said,
+      answers.0,
+      c.run_market.ensures.usage,
+      c.run_market.ensures.page,
+      c.run_market.ensures.cases,
+      c.run_market.ensures.drill,
+      answers.1,
+      c.run_market.ensures.headline,
+      λ command all is told quiet_source quiet_sink.
+          subst (λ (status : ℕ). AnswersAll command all (g.K.Sink.written c.args.sink.now) (g.K.Sink.written c.run_market.new.sink) answers.0 run.said status) (sym c.from-in-None.ensures)
+          (answers.2 command all is told quiet_source quiet_sink),
+      c.run_market.ensures.within,
+      subst
+          (λ (status : ℕ). IsWritten (g.K.Sink.written c.args.sink.now) (g.K.Sink.written c.run_market.new.sink) (g.K.Sink.faults c.args.sink.now) (g.K.Sink.faults c.run_market.new.sink) answers.0 run.said status)
+          (sym c.from-in-None.ensures) answers.3,
+    )

@@ -1,0 +1,99 @@
+-- What a run comes to that answers its source line by line.
+use Rattle.std.specs.Prelude.{◌≡◌, ℕ, ◌<◌, ◌≤◌, ◌⊎◌, Bool, true, ◌==◌, if◌then◌else◌, List, [], ◌∷◌, ◌++◌, map, flat_map, length, take, All, Option, Some}
+use Rattle.std.specs.List.{list_any}
+use Rattle.tn_plain_data.specs.declared.said.Said.{Said}
+use Rattle.tn_plain_data.specs.declared.said.Said.TheVariants.{ReadFault, NoMemory}
+use Rattle.tn_names.specs.Names.{NameLists, no_names}
+use Rattle.tn_answer.specs.AnswerText.{answer_line}
+use Rattle.tn_io.specs.Counts.{Rose}
+use Rattle.tn_io.specs.Lines.{TakesLines}
+use Rattle.tn_io.specs.Sink.{Grows}
+use Rattle.tn_run.specs.declared.command.Command.{Command}
+use Rattle.tn_run.specs.Answer.{document_limit, too_long}
+use Rattle.tn_run.specs.Complete.{IsAnswerToAll}
+use Rattle.tn_run.specs.Headline.{KeepsPromise, ShowsFault, is_headlined}
+use Rattle.tn_run.specs.Run.{status_of}
+
+-- a line, and what was said of it over some names
+pub record Entry : Type 0 where
+  pub line : List ℕ
+  pub names : NameLists
+  pub said : Said
+
+-- the answer of a command to the line, or want of memory
+abbrev pub IsLineAnswer : Command → Entry → Type 0
+IsLineAnswer command entry = (entry.said ≡ NoMemory) ⊎ IsAnswerToAll command entry.line entry.names entry.said
+
+-- the headline of a line: the answer is what is promised, or the line's first fault, or that it is too long; or memory ran out
+abbrev pub IsLineHeadline : Command → Entry → Type 0
+IsLineHeadline command entry =
+    (KeepsPromise command entry.line entry.said ⊎ ShowsFault command entry.line entry.said)
+    ⊎ (((document_limit < length entry.line) × (entry.said ≡ too_long)) ⊎ (entry.said ≡ NoMemory))
+
+-- what was said of each line is the command's answer to it or want of memory, and keeps the headline where that speaks of the command
+pub record AreAnswered (command : Command) (entries : List Entry) : Type 0 where
+  pub answers : All (IsLineAnswer command) entries
+  pub headline : is_headlined command ≡ true → All (IsLineHeadline command) entries
+
+-- their lines, in order
+abbrev pub lines_of : List Entry → List (List ℕ)
+lines_of entries = map (λ entry. entry.line) entries
+
+-- the texts of what was said of them, one after another
+abbrev pub texts_of : List Entry → List ℕ
+texts_of entries = flat_map (λ entry. answer_line entry.names entry.said) entries
+
+-- whether an answer has this status
+abbrev pub has_status : ℕ → List Entry → Bool
+has_status status entries = list_any (λ entry. status_of entry.said == status) entries
+
+-- the exit status of a run whose lines were all answered: 5 where memory ran out for some line, else 1 where some line had a
+-- fault, else 0
+abbrev pub lines_status : List Entry → ℕ
+lines_status entries = if has_status 5 entries then 5 else if has_status 1 entries then 1 else 0
+
+-- all lines of the source were answered, and that alone was written
+pub record AnswersLines (command : Command) (told old new : Option (List ℕ)) (status : ℕ) : Type 0 where
+  pub entries : List Entry
+  pub answered : AreAnswered command entries
+  pub lines : TakesLines told (Some []) (lines_of entries)
+  pub written : Grows old new (texts_of entries)
+  pub status_is : status ≡ lines_status entries
+
+-- the first lines of the source were answered, as far as it was read; in order, and each once
+pub record AnswersFirst (command : Command) (told : Option (List ℕ)) (entries : List Entry) : Type 0 where
+  pub answered : AreAnswered command entries
+  pub rest : List ℕ
+  pub lines : TakesLines told (Some rest) (lines_of entries)
+
+-- a read failed after the answers to the first lines, and that it failed was written after them
+pub record StopsAtRead (command : Command) (told : Option (List ℕ)) (before after : ℕ) (old new : Option (List ℕ)) (status : ℕ) : Type 0 where
+  pub entries : List Entry
+  pub first : AnswersFirst command told entries
+  pub cause : Rose before after
+  pub written : Grows old new (texts_of entries ++ answer_line no_names ReadFault)
+  pub status_is : status ≡ 3
+
+-- the text that comes after those of the entries: the next line's answer, or that a read failed
+abbrev pub IsNextText : Command → Option (List ℕ) → ℕ → ℕ → List Entry → List ℕ → Type 0
+IsNextText command told before after entries text =
+    ((entry : Entry) × AnswersFirst command told (entries ++ entry ∷ []) × (text ≡ answer_line entry.names entry.said))
+    ⊎ (Rose before after × (text ≡ answer_line no_names ReadFault))
+
+-- a write failed after the whole answers to the first lines, and at most a prefix of the next text was written after them
+pub record StopsAtWrite (command : Command) (told : Option (List ℕ)) (before after : ℕ) (old new : Option (List ℕ)) (faults_old faults_new status : ℕ) : Type 0 where
+  pub entries : List Entry
+  pub first : AnswersFirst command told entries
+  pub text : List ℕ
+  pub next : IsNextText command told before after entries text
+  pub cause : Rose faults_old faults_new
+  pub count : ℕ
+  pub within : count ≤ length text
+  pub written : Grows old new (texts_of entries ++ take count text)
+  pub status_is : status ≡ 4
+
+-- what a run by lines comes to, by what the source told and its counts of faults, and by the same of the sink
+abbrev pub IsLinedRun : Command → Option (List ℕ) → ℕ → ℕ → Option (List ℕ) → Option (List ℕ) → ℕ → ℕ → ℕ → Type 0
+IsLinedRun command told before after old new faults_old faults_new status =
+    AnswersLines command told old new status
+    ⊎ (StopsAtRead command told before after old new status ⊎ StopsAtWrite command told before after old new faults_old faults_new status)

@@ -1,0 +1,102 @@
+//! The run that answers its source line by line.
+
+ghost use Rattle.std.specs.Prelude.{◌≡◌, ◌≤◌, ◌⊎◌, ◌||◌, ◌==◌, ℕ, List, ◌∷◌, [], length, if◌then◌else◌, IfOk, IfSome, IfNone, OnErr};
+ghost use Rattle.std.specs.Io.KnownBytes.{IsAtEnd, prepend_known};
+ghost use Rattle.tn_answer.specs.Kept.{IsWithinClaims};
+ghost use Rattle.tn_file.specs.Document.{reading_of};
+ghost use Rattle.tn_io.specs.Counts.{Rose};
+ghost use Rattle.tn_io.specs.Lines.{TakesLines};
+ghost use Rattle.tn_run.specs.Answer.{IsAnswerTo};
+ghost use Rattle.tn_run.specs.Lined.{IsLineAnswer, IsLinedRun};
+ghost use Rattle.tn_run.specs.Words.{need_of};
+
+use crate::answer::{DOCUMENT_LIMIT, answer_bytes, too_long};
+use crate::command::Command;
+use crate::top::{tell, write_line};
+use std::alloc::Global;
+use tn_answer::{Names, read_fault_text};
+use tn_base::OutOfMemory;
+use tn_io::{LineReader, LineStop, ReadFailed, Sink, Source};
+use tn_market::Said;
+
+/// The exit status where a write failed.
+const WRITE_FAILED: u8 = 4;
+
+/// The answer of a command to the bytes of a line, or that memory ran out; with the names that were read.
+fn answer_line(alloc: Global, command: Command, line: &[u8]) -> (Said, Names)
+    ensures answer { (result.0 ≡ Said.NoMemory) ⊎ IsAnswerTo command (reading_of (need_of command) line.now) result.1 result.0 }
+    ensures within { IsWithinClaims result.0 }
+{
+    match answer_bytes(alloc, command, line) {
+        Ok(told) => told,
+        Err(OutOfMemory) => (Said::NoMemory, Names::empty(alloc)),
+    }
+}
+
+/// The answer of a command to the next line of a source, with the names that were read; none at the end of input.
+fn next_answer<S: Source>(
+    alloc: Global,
+    command: Command,
+    reader: &mut LineReader,
+    source: &mut S,
+) -> Result<Option<(Said, Names)>, ReadFailed>
+    ensures answer { IfOk result (λ next. IfSome next (λ told. (line : List ℕ)
+        × TakesLines (prepend_known reader.old (S.left source.old)) (prepend_known reader.new (S.left source.new)) (line ∷ [])
+        × IsLineAnswer command (record { line = line; names = told.1; said = told.0 }))) }
+    ensures end { IfOk result (λ next. IfNone next (IsAtEnd (prepend_known reader.old (S.left source.old)))) }
+    ensures within { IfOk result (λ next. IfSome next (λ told. IsWithinClaims told.0)) }
+    ensures failed { OnErr result (Rose (S.faults source.old) (S.faults source.new)) }
+    ensures later { S.faults source.old ≤ S.faults source.new }
+{
+    match reader.next_line(alloc, source, DOCUMENT_LIMIT) {
+        Ok(None) => Ok(None),
+        Ok(Some(line)) => Ok(Some(answer_line(alloc, command, &line))),
+        Err(LineStop::Failed) => Err(ReadFailed),
+        Err(LineStop::TooLong) => Ok(Some((too_long(alloc), Names::empty(alloc)))),
+        Err(LineStop::OutOfMemory) => Ok(Some((Said::NoMemory, Names::empty(alloc)))),
+    }
+}
+
+/// The status of a run after one more answer: want of memory goes before a fault, and a fault before all else.
+fn with_status(status: u8, answer: u8) -> u8
+    ensures { result ≡ (if (status == 5) || (answer == 5) then 5 else if (status == 1) || (answer == 1) then 1 else 0) }
+{
+    if status == 5 || answer == 5 {
+        5
+    } else if status == 1 || answer == 1 {
+        1
+    } else {
+        0
+    }
+}
+
+/// Answers each line of a source, and writes each answer before the next line is read. What comes back is the exit status.
+pub(crate) fn run_lines<S: Source, K: Sink>(
+    alloc: Global,
+    command: Command,
+    source: &mut S,
+    sink: &mut K,
+) -> u8
+    ensures { IsLinedRun command (S.left source.old) (S.faults source.old) (S.faults source.new)
+        (K.written sink.old) (K.written sink.new) (K.faults sink.old) (K.faults sink.new) result }
+{
+    let mut reader = LineReader::new();
+    let mut status = 0;
+    // No input has as many lines; a loop must be known to end.
+    for _turn in 0..u64::MAX {
+        match next_answer(alloc, command, &mut reader, source) {
+            Ok(None) => return status,
+            Ok(Some((said, names))) => {
+                let answer = tell(alloc, &names, said, sink).status;
+                if answer == WRITE_FAILED {
+                    return WRITE_FAILED;
+                }
+                status = with_status(status, answer);
+            }
+            Err(ReadFailed) => {
+                return write_line(sink, read_fault_text(), Said::ReadFault).status;
+            }
+        }
+    }
+    status
+}
