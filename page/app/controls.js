@@ -1,4 +1,5 @@
 // What a user does with buttons, fields, keys and files, as actions.
+import {EMPTY} from "./building.js";
 import {COMMANDS} from "./commands.js";
 import {goTo, refreshEditor} from "./editor.js";
 import {saveAnswer, saveDocument, saveFirms, savePicture, saveRanges} from "./exports.js";
@@ -54,6 +55,10 @@ function bindDocument(store, documents) {
     part("drop").addEventListener("drop", (event) => {
         event.preventDefault();
         open(store, event.dataTransfer.files[0]);
+    });
+    on("new", () => {
+        store.act("opened", "new.json", new TextEncoder().encode(EMPTY));
+        store.act("went", "build");
     });
     on("save", () => saveDocument(store.value));
     on("lay-out", () => store.act("typed", laidOut(store.value.document.text)));

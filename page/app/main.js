@@ -1,6 +1,7 @@
 // The page: a network to look at and guess with, its document, and what the program answers.
 import {shownOf} from "./answer.js";
 import {Ended, inText, NoAnswerCame, Program} from "./ask.js";
+import {readyBuild, showBuild} from "./build.js";
 import {readyClaim, showClaim} from "./claim.js";
 import {bind} from "./controls.js";
 import {readyEditor, showEditor} from "./editor.js";
@@ -61,6 +62,7 @@ function show(value) {
     showEditor(value);
     showAnswers(value);
     showClaim(value);
+    showBuild(value);
 }
 
 async function start() {
@@ -72,6 +74,7 @@ async function start() {
     readyEditor(store);
     readyTrades(store);
     readyClaim(store);
+    readyBuild(store);
     handle(store, typePrice);
     bind(store, documents, {ask: () => askNow(program), end: () => program.end()});
     part("version").textContent = await inText(program.turn())(["--version"], "");

@@ -16,13 +16,14 @@ const MOST_UNDONE = 400;
  * with one mark are taken back together. `selection` is null or `{kind, ..}`: lane, firm or bound. `guess`, `ranges`, `judged` and
  * `decided` are what `firms`, `range`, `judge` and `replay` answered, `reason` what `support` or `test` did, and `answer` is that of the
  * command in `words`, each with the `document` that it was asked of; where that isn't the present one it is old. `run` is how far the
- * command is, `view` how all this is looked at: `mode` is "guess" or "sign", and `step` the place in a story that is told.
+ * command is, `view` how all this is looked at: `mode` is "guess" or "sign", `step` the place in a story that is told, and `built` that of
+ * the firm in the form.
  */
 export const START = {
     document: {name: "", bytes: new Uint8Array(0), text: "", isWhole: true}, past: [], future: [], mark: null, selection: null,
     guess: null, ranges: null, path: null, judged: null, decided: null, reason: null, words: ["solve"], run: {state: "none"}, answer: null,
     view: {panel: "guess", mode: "guess", step: 0, isOver: false, hasRanges: false, hasReason: false, window: null, isWide: null, filter: "",
-        firm: null, sort: {by: null, isDown: false}},
+        firm: null, sort: {by: null, isDown: false}, built: 0, ends: {}},
 };
 
 /** The value, looked at in another way. */
@@ -30,12 +31,17 @@ function looked(value, view) {
     return {...value, view: {...value.view, ...view}};
 }
 
+/** The place of a firm among the firms of the document. */
+function placeOf({document}, {name}) {
+    return Math.max(0, networkOf(document).firms.findIndex((firm) => firm.name === name));
+}
+
 /** What may happen. Each takes a value, and answers the next one. */
 export const ACTIONS = {
     /** A document was opened: it is asked about as the bytes of its file, until it is edited. */
     opened: (value, name, bytes) => {
         const next = changed(value, documentOf(name, bytes), null);
-        const fresh = {isOver: false, hasReason: false, window: null, isWide: null, filter: "", firm: null};
+        const fresh = {isOver: false, hasReason: false, window: null, isWide: null, filter: "", firm: null, built: 0, ends: {}};
         const view = {...panelFor(next.document, value.view), ...fresh};
         return looked({...next, ...NOTHING_SAID, selection: null}, view);
     },
@@ -46,7 +52,7 @@ export const ACTIONS = {
     undone: (value) => value.past.length === 0 ? value : moved(value, value.past, value.future, (past, future) => ({past, future})),
     redone: (value) => value.future.length === 0 ? value : moved(value, value.future, value.past, (future, past) => ({past, future})),
     /** A lane, a firm or a bound was chosen, or nothing. */
-    selected: (value, selection) => ({...value, selection, mark: null}),
+    selected: (value, selection) => looked({...value, selection, mark: null}, selection?.kind === "firm" ? {built: placeOf(value, selection)} : {}),
     looked,
     /** A view of the panel was chosen; two of them say what the network shows. */
     went: (value, panel) => {
@@ -81,7 +87,7 @@ function panelFor(document, {panel, mode: before}) {
     if (!document.isWhole) return {};
     const {data} = networkOf(document), isSigned = data.outcome !== undefined && (data.arrangement === undefined || before === "sign");
     const mode = isSigned ? "sign" : "guess";
-    return {mode, panel: ["document", "answer"].includes(panel) ? panel : data.claim !== undefined ? "claim" : mode};
+    return {mode, panel: ["build", "document", "answer"].includes(panel) ? panel : data.claim !== undefined ? "claim" : mode};
 }
 
 /** Of another text no command has been asked, and no answer lies over its network. */

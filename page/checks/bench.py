@@ -134,7 +134,7 @@ def label(trade_ends: str) -> str:
 def tries(page: Bench, program: str | None):
     """Each as a name, and whether it is so."""
     for part in (tries_to_guess, tries_of_undo, tries_to_solve, tries_of_ranges, tries_of_complements, tries_of_reasons, tries_to_sign, tries_of_claims,
-                 tries_of_the_text, tries_of_files, tries_of_size, tries_of_ill_will):
+                 tries_to_build, tries_of_the_text, tries_of_files, tries_of_size, tries_of_ill_will):
         yield from part(page, program)
 
 
@@ -461,6 +461,82 @@ def tries_of_claims(page: Bench, program: str | None):
     page.click("#tab-guess")
 
 
+# Puts something in where the form has a key, as somebody does who chooses or types and leaves the field.
+ENTERED = """
+const [key, content] = arguments, element = [...document.querySelectorAll("#build-fields [data-key]")].find((each) => each.dataset.key === key);
+element.value = content;
+element.dispatchEvent(new Event("input", {bubbles: true}));
+element.dispatchEvent(new Event("change", {bubbles: true}));"""
+
+
+def entry(key: str) -> str:
+    return f'#build-fields [data-key="{key}"]'
+
+
+def tries_to_build(page: Bench, program: str | None):
+    page.click("#new")
+    yield "a new document has no firms, and a form", page.value("document.querySelectorAll('#build-fields button').length") == 1
+    for name in "SB":
+        page.click(entry("firm add"))
+        page.drag(entry("firm name"), 0)
+        page.press("Control+a", name, "Tab")
+    yield "firms are added and named by keys", [firm["name"] for firm in json.loads(page.text())["firms"]] == ["S", "B"]
+    yield "the next field has the focus then", page.focused() == "firm kind"
+    page.browser.run(ENTERED, "new seller", "S")
+    page.click(entry("trade add"))
+    yield "a trade is added", json.loads(page.text())["trades"] == [{"name": "s-b", "seller": "S", "buyer": "B"}] and list(page.drawn()["lanes"]) == ["s-b"]
+    page.drag(entry("amounts s-b"), 0)
+    page.press("Control+a", "7")
+    yield "an amount is typed", json.loads(page.text())["firms"][1]["amounts"] == [["s-b", 7]] and page.focused() == "amounts s-b"
+    page.press("ArrowUp", "ArrowUp")
+    yield "and made greater by keys", json.loads(page.text())["firms"][1]["amounts"] == [["s-b", 9]] and page.focused() == "amounts s-b"
+    page.press("Control+z", "Control+z", "Control+z")
+    yield "each entry is taken back by itself", json.loads(page.text())["firms"][1]["amounts"] == []
+    page.press(*["Control+Shift+Z"] * 3)
+    page.browser.run(ENTERED, "firm", "0")
+    page.browser.run(ENTERED, "firm kind", "table")
+    page.click(entry("row add"))
+    page.drag(entry("row 0 worth"), 0)
+    page.press("Control+a", "-", "4")
+    yield "a row of a table is added, with its worth", json.loads(page.text())["firms"][0] == {"name": "S", "kind": "table", "rows": [[["s-b"], -4]]}
+    page.click(label("S B"))
+    page.drag(entry("trade 0 name"), 0)
+    page.press("Control+a", "c", "a", "r", "Enter")
+    whole = json.loads(page.text())
+    yield "a trade has another name wherever it is named", whole["firms"][0]["rows"] == [[["car"], -4]] and whole["arrangement"] == {"on": ["car"], "prices": [["car", 0]]}
+    page.drag(entry("firm name"), 0)
+    page.press("Control+a", "B", "Tab")
+    yield "a name that another has isn't taken", json.loads(page.text())["firms"][0]["name"] == "S" and page.value("document.querySelector(arguments[0]).value", entry("firm name")) == "S"
+    page.focus("firm:B")
+    page.press("Enter")
+    yield "a firm that is chosen in the network is shown", page.value("document.querySelector(arguments[0]).value", entry("firm name")) == "B"
+    page.click(entry("set add"))
+    page.drag(entry("set 0 greatest"), 0)
+    page.press("Control+a", "2")
+    page.drag(entry("set 0 number 2"), 0)
+    page.press("Control+a", "-", "1")
+    yield "a capacity with steps is added", json.loads(page.text())["firms"][1]["sets"] == [{"trades": ["car"], "from": 0, "values": [0, 0, -1]}]
+    page.click("#tab-guess")
+    page.click("#solve")
+    page.wait_for("state", "answered")
+    yield "the market that was made is solved", page.says("over-says").endswith("the worths sum to 5.")
+    page.click("#tab-build")
+    page.click(entry("firm out"))
+    page.guess()
+    whole = json.loads(page.text())
+    yield "a firm is removed with its trades", (whole["firms"], whole["trades"], whole["arrangement"]) == ([{"name": "S", "kind": "table", "rows": []}], [], {"on": [], "prices": []})
+    for name, parts in (("keeps-a-car.json", "costs owner-middleman"), ("car-dealer.json", "cost a as x")):
+        page.open(name, look.example(name))
+        kinds = {"keeps-a-car.json": "middleman", "car-dealer.json": "dealer"}
+        page.browser.run(ENTERED, "firm", str([firm["kind"] for firm in json.loads(page.text())["firms"]].index(kinds[name])))
+        before = page.text()
+        page.focus(parts)
+        page.press("ArrowUp")
+        after = page.text()
+        yield f"a {kinds[name]}'s number is changed at its place", len(after) == len(before) and sum(one != other for one, other in zip(before, after)) == 1
+    page.click("#tab-guess")
+
+
 ONE_TRADE = ('{"version":1,"firms":[{"name":"S","kind":"table","rows":[[["a"],-1]]},{"name":"B","kind":"table","rows":[[["a"],4]]}],'
              '"trades":[{"name":"a","seller":"S","buyer":"B"}]}')
 
@@ -632,7 +708,7 @@ def tries_of_ill_will(page: Bench, program: str | None):
         page.ask("firms")
     for name in names:
         page.open("ill.json", contracts_of(name))
-        for tab in ("#tab-sign", "#tab-claim", "#tab-guess"):
+        for tab in ("#tab-sign", "#tab-claim", "#tab-build", "#tab-guess"):
             page.browser.run("document.querySelector(arguments[0]).click()", tab)
             page.wait_for("decided" if tab == "#tab-claim" else "judged", "answered", "fault", "none")
     yield "no document makes elements of the page", page.value("document.images.length + document.scripts.length") == 4 and page.value("document.title").startswith("market:")
@@ -678,6 +754,9 @@ def tries_of_access(page: Bench):
     decided(page)
     nodes = tree_of(page)
     yield "and all of a claim has a name", unnamed(nodes) == [] and {"price of o1d", "over"} <= set(names_in(nodes))
+    page.click("#tab-build")
+    nodes = tree_of(page)
+    yield "and all of the form", unnamed(nodes) == [] and {"Amount of o1b1", "Trade o1b1 from", "Add a trade"} <= set(names_in(nodes))
     style = (HERE.parent / "style.css").read_text()
     colours = dict(re.findall(r"--([\w-]+): (#[0-9a-f]{6})", style))
     pairs = [(text, ground) for text in ("ink", "quiet", "good", "bad") for ground in ("paper", "ground")]

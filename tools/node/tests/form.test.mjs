@@ -1,0 +1,100 @@
+// Whether the form changes firms and trades of a text as it says, and nothing else.
+import assert from "node:assert/strict";
+import {spawnSync} from "node:child_process";
+import {test} from "node:test";
+import {EMPTY, objectsIn, renamed, tradesRemoved} from "../../../page/app/building.js";
+import {applied} from "../../../page/app/edits.js";
+import {formOf} from "../../../page/app/fields.js";
+import {parse, plain, written} from "../../../page/read/json.js";
+import {Network} from "../../../page/read/network.js";
+import {examples} from "./support.mjs";
+
+/** The controls of the form of a text, by their keys. */
+function controlsOf(text, view = {built: 0, ends: {}}) {
+    const lines = formOf(new Network(text), view).flatMap((group) => group.lines);
+    return new Map(lines.flatMap(({controls}) => controls.map((control) => [control.key, control])));
+}
+
+/** A text after some entries, each a key with what is put in; `firm` shows another one. */
+function entered(text, ...entries) {
+    const view = {built: 0, ends: {}};
+    for (const [key, content] of entries) {
+        const control = controlsOf(text, view).get(key);
+        assert.ok(control, `${key} is in the form of ${text}`);
+        if (control.isRight) assert.ok(control.isRight(content), `${key} takes ${content}`);
+        if (control.look) Object.assign(view, control.look(content));
+        else text = applied(text, control.put(content));
+        Object.assign(view, control.then ?? {});
+    }
+    return text;
+}
+
+const texts = () => examples().map(({bytes}) => bytes.toString()).filter((text) => {
+    const {problem, root} = new Network(text);
+    return problem === null && root.kind === "object";
+});
+
+function market(words, text) {
+    return spawnSync(process.env.MARKET, words, {input: text, encoding: "utf8"}).stdout;
+}
+
+function answerTo(words, text) {
+    return JSON.parse(market(words, text));
+}
+
+test("firms of all four kinds are made by the form, entry by entry", () => {
+    const text = entered(EMPTY, ["firm add"], ["firm name", "S"], ["firm kind", "table"], ["firm add"], ["firm name", "M"], ["firm add"], ["firm name", "D"],
+        ["firm kind", "dealer"], ["firm add"], ["firm name", "B"], ["new seller", "S"], ["new buyer", "M"], ["trade add"], ["new seller", "M"], ["new buyer", "D"],
+        ["trade add"], ["new seller", "D"], ["new buyer", "B"], ["trade add"], ["trade 2 name", "last"], ["firm", "0"], ["row add"], ["row 0 worth", "-3"],
+        ["firm", "1"], ["firm kind", "middleman"], ["costs s-m", "1"], ["gains m-d", "2"], ["keeps", true], ["keep", "4"], ["firm", "2"],
+        ["pair m-d as last", true], ["cost m-d as last", "5"], ["firm", "3"], ["amounts last", "20"], ["set add"], ["set 0 greatest", "2"], ["set 0 number 1", "7"]);
+    assert.deepEqual(JSON.parse(text), {
+        version: 1,
+        firms: [{name: "S", kind: "table", rows: [[["s-m"], -3]]}, {name: "M", kind: "middleman", costs: [["s-m", 1]], gains: [["m-d", 2]], keep: 4},
+            {name: "D", kind: "dealer", pairs: [["m-d", "last", 5]]},
+            {name: "B", kind: "laminar", amounts: [["last", 20]], sets: [{trades: ["last"], from: 0, values: [0, 7, 0]}]}],
+        trades: [{name: "s-m", seller: "S", buyer: "M"}, {name: "m-d", seller: "M", buyer: "D"}, {name: "last", seller: "D", buyer: "B"}]});
+    assert.equal(answerTo(["solve"], text).surplus, 27 - 5 + 2 - 1 - 3);
+});
+
+test("each entry in the form of an example leaves a document, and what it is about has changed", () => {
+    const put = {name: "another", number: "0", box: null, choice: null, button: undefined};
+    for (const text of texts().filter((each) => each.length < 3000)) {
+        for (let built = 0; built < new Network(text).firms.length; built += 1) {
+            for (const [key, control] of controlsOf(text, {built, ends: {}})) {
+                if (control.look) continue;
+                const content = control.kind === "box" ? !control.value : control.kind === "choice" ? control.options.at(-1).value : put[control.kind];
+                if (control.isRight && !control.isRight(content)) continue;
+                const next = applied(text, control.put(content)), same = control.kind === "number" || control.kind === "choice";
+                assert.ok(same || written(plain(parse(next))) !== written(plain(parse(text))), key);
+                const now = controlsOf(next, {built, ends: {}}).get(key);
+                if (control.kind === "number" || control.kind === "name") assert.equal(now.value, content, `${key} of ${text}`);
+            }
+        }
+    }
+});
+
+test("a firm or trade is renamed wherever it is named, and back to the same text", () => {
+    for (const text of texts()) {
+        for (const list of ["firms", "trades"]) {
+            objectsIn(new Network(text), list).slice(0, 2).forEach(({name}, k) => {
+                const at = (whole) => objectsIn(new Network(whole), list)[k].node;
+                const next = applied(text, renamed(new Network(text), list, at(text), "of-another-name"));
+                assert.equal(applied(next, renamed(new Network(next), list, at(next), name)), text);
+                assert.equal(market(["firms"], next).replaceAll('"of-another-name"', `"${name}"`), market(["firms"], text));
+            });
+        }
+    }
+});
+
+test("a trade or firm that is removed leaves nothing of which there is none", () => {
+    const isSmall = (text) => new Network(text).trades.length < 11;
+    for (const text of texts().filter((each) => isSmall(each) && answerTo(["firms"], each).answer === "firms")) {
+        const network = new Network(text);
+        for (const {node} of objectsIn(network, "trades")) assert.equal(answerTo(["firms"], applied(text, tradesRemoved(network, [node]))).answer, "firms");
+        network.firms.forEach((_, built) => {
+            const next = applied(text, controlsOf(text, {built, ends: {}}).get("firm out").put());
+            assert.equal(answerTo(["firms"], next).answer, "firms", next);
+        });
+    }
+});
