@@ -6,7 +6,7 @@ import {saveAnswer, saveDocument, saveFirms, savePicture, saveRanges} from "./ex
 import {objectors} from "./firms.js";
 import {forget, keep, kept} from "./keep.js";
 import {laidOut} from "./lines.js";
-import {fragmentOf, MOST_LETTERS} from "./link.js";
+import {bindLinks} from "./links.js";
 import {on, part} from "./page.js";
 import {bindReasons, claim} from "./reasons.js";
 import {zoomIn, zoomOut} from "./scene.js";
@@ -25,7 +25,7 @@ export function bind(store, documents, run) {
     bindReasons(store);
     bindTabs(store);
     bindCommand(store, run);
-    bindLink(store);
+    bindLinks(store);
     bindKept(store);
 }
 
@@ -71,7 +71,7 @@ function bindHistory(store) {
     on("redo", () => store.act("redone"));
     document.addEventListener("keydown", (event) => {
         if (!(event.ctrlKey || event.metaKey) || event.altKey || event.defaultPrevented) return;
-        const key = event.key.toLowerCase(), isOwn = event.target.closest?.("#filter, #words, #fragment, #text, .CodeMirror");
+        const key = event.key.toLowerCase(), isOwn = event.target.closest?.("#filter, #words, #fragment, #address, #text, .CodeMirror");
         if (isOwn || !["z", "y"].includes(key)) return;
         event.preventDefault();
         store.act(key === "y" || event.shiftKey ? "redone" : "undone");
@@ -168,25 +168,6 @@ function bindCommand(store, {ask, end}) {
     store.watch(({run}, name) => run.state === "none" && CHANGES.includes(name) && end());
     on("answer-save", () => saveAnswer(store.value));
     on("answer-claim", () => claim(store, store.value.answer));
-}
-
-const TOO_LONG = "The document is too long for a link: save it, and hand on the file.";
-const FROM_DISK = "Put this behind any address of the page, to open it with this document. It is copied:";
-const FROM_HOST = "This link opens the page with this document. It is copied:";
-
-function bindLink(store) {
-    on("link", async () => {
-        const fragment = await fragmentOf(store.value.document.bytes), isDisk = location.protocol === "file:";
-        part("linked").hidden = false;
-        part("fragment").hidden = fragment.length > MOST_LETTERS;
-        part("linked-says").textContent = fragment.length > MOST_LETTERS ? TOO_LONG : isDisk ? FROM_DISK : FROM_HOST;
-        if (fragment.length > MOST_LETTERS) return;
-        part("fragment").value = isDisk ? fragment : `${location.href.replace(/#.*$/, "")}${fragment}`;
-        part("fragment").select();
-        document.documentElement.dataset.linked = "true";
-        await navigator.clipboard?.writeText(part("fragment").value).catch(() => document.execCommand("copy"));
-    });
-    on("linked-close", () => (part("linked").hidden = true));
 }
 
 /** Asks about the document of last time, and keeps the present one from its first change on. */

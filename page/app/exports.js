@@ -6,7 +6,7 @@ import {neighbourhood} from "./scene.js";
 import {isOld, networkOf} from "./state.js";
 
 /** The name of a file without its ending. */
-function stem(name) {
+export function stem(name) {
     return name.replace(/\.\w+$/, "") || "document";
 }
 

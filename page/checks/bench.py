@@ -1,10 +1,13 @@
 """What is tried of the workbench, by pointer and keys: guesses, who objects, ranges, reasons, contracts, claims, undo, links, and
 documents that mean it ill."""
+import hashlib
 import json
 import re
+import shutil
 import subprocess
+import tempfile
 import zlib
-from base64 import urlsafe_b64encode
+from base64 import b64encode, urlsafe_b64encode
 from pathlib import Path
 from statistics import median
 
@@ -101,6 +104,9 @@ class Bench(look.Page):
 
     def focus(self, key: str) -> None:
         self.browser.run("[...document.querySelectorAll('[data-key]')].find((element) => element.dataset.key === arguments[0]).focus()", key)
+
+    def focus_on(self, element: str) -> None:
+        self.browser.run("document.getElementById(arguments[0]).focus()", element)
 
     def focused(self) -> str:
         return self.value("document.activeElement.dataset.key ?? ''")
@@ -689,6 +695,50 @@ def tries_of_links(page: Bench, address: str):
     page.click("#kept-forget")
     page.again(address)
     yield "and forgotten", page.value("document.getElementById('kept').hidden")
+
+
+def read_code(page: Bench) -> str | None:
+    """What a code in the page says, read by zbarimg from a picture of the page; None where there is no zbarimg."""
+    if shutil.which("zbarimg") is None:
+        return None
+    with tempfile.TemporaryDirectory() as folder:
+        picture = Path(folder, "page.png")
+        page.browser.run("document.getElementById('linked').scrollIntoView()")
+        page.browser.picture(str(picture), 1280, 1400)
+        said = subprocess.run(["zbarimg", "--raw", "--quiet", picture], capture_output=True, text=True).stdout.strip()
+    page.browser.size(1280, 800)
+    return said
+
+
+# The squares on each side of the code that is shown, without the blank ones around it.
+SQUARES = "Number((document.querySelector('#code-picture svg')?.getAttribute('viewBox') ?? '0 0 8 8').split(' ')[2]) - 8"
+
+
+def tries_of_codes(page: Bench, address: str):
+    page.again(address)
+    page.open("houses.json", look.example("houses.json"))
+    page.click("#link")
+    page.wait_for("linked", "true")
+    page.focus_on("code")
+    page.press("Enter")
+    yield "from a disk a code wants an address", page.says("code-says").startswith("Type the address") and page.value(SQUARES) == 0
+    page.press(*"http://a.example/m.html#x")
+    whole = "http://a.example/m.html" + page.value("document.getElementById('fragment').value")
+    yield "the code has the size for its letters", page.says("code-says") == f"The link has {len(whole)} letters, and its code {page.value(SQUARES)} squares on each side."
+    read = read_code(page)
+    if read is None:
+        print("zbarimg is left out: it isn't here, so the code isn't read")
+    else:
+        yield "it is read as the link", read == whole
+    page.browser.run(KEEP)
+    page.click("#code-save")
+    yield "it is saved as a picture", [(name, text[:4]) for name, text in page.browser.run(OFFERED)] == [("houses-code.svg", "<svg")]
+    page.open("many.json", b'{"version":1,"firms":[],"trades":[],"note":"' + b64encode(b"".join(hashlib.sha512(bytes([k])).digest() for k in range(40))) + b'"}')
+    page.click("#link")
+    page.click("#code")
+    yield "a document too long for a code is told", page.says("code-says").startswith("The document is too long for a code: the link has ") and page.value(SQUARES) == 0
+    page.click("#linked-close")
+    yield "and closed", page.value("document.getElementById('linked').hidden")
 
 
 def contracts_of(name: str) -> bytes:
