@@ -1,15 +1,17 @@
-// A form for the firms and trades of a document, as plain data: what can be written in it, what stands there, and by which changes of
-// the text. One firm is shown at a time, and all trades.
-import {firmAdded, firmRemoved, freeName, itemAdded, itemRemoved, itemsIn, moved, NAME, numbered, objectsIn, ofKind, put, renamed, replaced, stretched,
-    textAt, toggled, tradeAdded, tradesRemoved} from "./building.js";
+// A form for the firms and trades of a document, as plain data: what can be put in, what stands there, and by which changes
+// of the text. One firm is shown at a time, and all trades.
+import {
+    firmAdded, firmRemoved, freeName, itemAdded, itemRemoved, itemsIn, moved, NAME, numbered, objectsIn, ofKind, put, renamed,
+    replaced, stretched, textAt, toggled, tradeAdded, tradesRemoved,
+} from "./building.js";
 import {memberOf} from "./edits.js";
 
 const WHOLE = /^(0|-?[1-9]\d{0,9})$/, COUNT = /^(0|-?[1-9]\d?)$/;
 
 /** The kinds of firms, each with what it is for. */
-const KINDS = {
-    table: "table: a worth for each bundle", laminar: "laminar: amounts, capacities and steps", middleman: "middleman: one good, bought and sold on",
-    dealer: "dealer: purchases matched with sales"};
+const KINDS = [
+    ["table", "table: a worth for each bundle"], ["laminar", "laminar: amounts, capacities and steps"],
+    ["middleman", "middleman: one good, bought and sold on"], ["dealer", "dealer: purchases matched with sales"]];
 
 /** How many rows of a table, and beyond how many trades only those of the firm, are in the form. */
 const MOST_ROWS = 40, MOST_TRADES = 160;
@@ -18,88 +20,109 @@ const MOST_ROWS = 40, MOST_TRADES = 160;
 const FARTHEST = 32;
 
 /**
- * The form of a document, as groups `{key, title, hint, lines}`; a line is `{key, says, controls}`. A control has a `key`, a `kind`, what
- * it `says`, its whole `name` for those who listen, its `value`, and `put`, which makes edits of what is put in. It may have `isRight`,
- * which says what may be put in, and `then`, which is another view of the page after the change. `built` is the place of the firm that is
- * shown, and `ends` are those of a trade that is to be added.
+ * The form of a document, as groups `{key, title, hint, lines}`; a line is `{key, says, controls}`. A control has a `key`, a
+ * `kind`, what it `says`, its whole `name` for those who listen, its `value`, and `put`, which makes edits of what is put in.
+ * It may have `isRight`, which says what may be put in, and `then`, which is another view of the page after the change; one
+ * with `look` in the place of `put` is such a view alone. `built` is the place of the firm that is shown, and `ends` are those
+ * of a trade that is to be added.
  */
 export function formOf(network, {built, ends}) {
     if (network.root.kind !== "object") return [];
-    const firms = objectsIn(network, "firms"), trades = objectsIn(network, "trades");
-    const place = Math.min(built, firms.length - 1), here = firms[place], names = firms.map(({name}) => name);
-    return [firmsGroup(network, names, place), ...(here ? ofFirm(network, here, names) : []), ...tradesGroups(network, trades, names, here, ends)];
+    const firms = objectsIn(network, "firms"), names = firms.map(({name}) => name);
+    const place = Math.min(built, firms.length - 1), here = firms[place];
+    const parts = here ? ofFirm(network, here, names) : [];
+    return [firmsGroup(network, names, place), ...parts, tradesGroup(network, names, here, ends)];
 }
 
-function firmsGroup(network, names, place) {
-    const fresh = freeName(names, "F", String), options = names.map((says, k) => ({value: `${k}`, says}));
-    const add = {key: "firm add", kind: "button", says: "Add a firm", put: () => firmAdded(network, fresh), then: {built: names.length}};
-    const choose = {key: "firm", kind: "choice", says: "Firm", value: `${place}`, options, look: (built) => ({built: Number(built)})};
-    return {key: "firms", title: "Firms", lines: [{key: "firms", controls: place < 0 ? [add] : [choose, add]}]};
+function button(key, says, name, change) {
+    return {key, kind: "button", says, name, put: change};
 }
 
-function optionsOf(names) {
-    return names.map((name) => ({value: name, says: name}));
-}
-
-/** The parts of the form that are of one firm. */
-function ofFirm(network, {node, name}, names) {
-    const kind = textAt(node, "kind"), remove = () => firmRemoved(network, node);
-    const kinds = Object.entries(KINDS).map(([value, says]) => ({value, says}));
-    const head = [
-        nameOf("firm name", "Name", network, "firms", node, names),
-        {key: "firm kind", kind: "choice", says: "Kind", value: kind, options: kinds, put: (next) => ofKind(network, node, next)},
-        {key: "firm out", kind: "button", says: "Remove it", name: `Remove ${name} and its trades`, put: remove}];
-    const own = objectsIn(network, "trades").filter((trade) => [textAt(trade.node, "seller"), textAt(trade.node, "buyer")].includes(name))
-        .map((trade) => ({name: trade.name, isSale: textAt(trade.node, "seller") === name}));
-    const hint = own.length === 0 ? "It has no trades yet: add some below." : "";
-    return [{key: "firm", title: `The firm ${name}`, hint, lines: [{key: "head", controls: head}]},
-        ...(own.length === 0 ? [] : PARTS[kind]?.(network, node, own) ?? [])];
-}
-
-/** A name that can be changed to one that no other has. */
-function nameOf(key, says, network, list, node, names) {
-    const value = textAt(node, "name"), isRight = (text) => NAME.test(text) && (text === value || !names.includes(text));
-    return {key, kind: "name", says, name: `${says} of ${value}`, value, isRight, put: (text) => renamed(network, list, node, text)};
+function box(key, says, name, value, change) {
+    return {key, kind: "box", says, name, value, put: change};
 }
 
 function number(key, says, name, value, change) {
     return {key, kind: "number", says, name, value, isRight: (text) => WHOLE.test(text), put: change};
 }
 
+/** A choice, which makes a change, or another view of the page. */
+function choice(key, says, name, value, options, does) {
+    return {key, kind: "choice", says, name, value, options: options.map(([each, shown]) => ({value: each, says: shown})), ...does};
+}
+
+/** A name that can be changed to one that no other has. */
+function nameOf(key, says, network, list, node, names) {
+    const value = textAt(node, "name"), isFree = (text) => text === value || !names.includes(text);
+    const isRight = (text) => NAME.test(text) && isFree(text), change = (text) => renamed(network, list, node, text);
+    return {key, kind: "name", says, name: `${says} of ${value}`, value, isRight, put: change};
+}
+
+function firmsGroup(network, names, place) {
+    const fresh = freeName(names, "F", String), options = names.map((name, k) => [`${k}`, name]);
+    const add = {...button("firm add", "Add a firm", "Add a firm", () => firmAdded(network, fresh)), then: {built: names.length}};
+    const pick = choice("firm", "Firm", "Firm", `${place}`, options, {look: (built) => ({built: Number(built)})});
+    return {key: "firms", title: "Firms", lines: [{key: "firms", controls: place < 0 ? [add] : [pick, add]}]};
+}
+
+/** The parts of the form that are of one firm. */
+function ofFirm(network, {node, name}, names) {
+    const kind = textAt(node, "kind"), remove = () => firmRemoved(network, node), own = ownTrades(network, name);
+    const head = [
+        nameOf("firm name", "Name", network, "firms", node, names),
+        choice("firm kind", "Kind", "Kind", kind, KINDS, {put: (next) => ofKind(network, node, next)}),
+        button("firm out", "Remove it", `Remove ${name} and its trades`, remove)];
+    const hint = own.length === 0 ? "It has no trades yet: add some below." : "";
+    const parts = own.length === 0 ? [] : PARTS[kind]?.(network, node, own) ?? [];
+    return [{key: "firm", title: `The firm ${name}`, hint, lines: [{key: "head", controls: head}]}, ...parts];
+}
+
+/** The trades of a firm, each with whether it is a sale. */
+function ownTrades(network, firm) {
+    const all = objectsIn(network, "trades").map(({node, name}) => ({name, ends: [textAt(node, "seller"), textAt(node, "buyer")]}));
+    return all.filter(({ends}) => ends.includes(firm)).map(({name, ends: [seller]}) => ({name, isSale: seller === firm}));
+}
+
 const PARTS = {table: tableParts, laminar: laminarParts, middleman: middlemanParts, dealer: dealerParts};
+
+const OF_ROWS = "What each bundle of its trades is worth. A bundle without a row is impossible; nothing is worth 0 where it has none.";
 
 function tableParts(network, firm, own) {
     const rows = itemsIn(firm, "rows").filter(({value: [bundle]}) => bundle?.kind === "list"), shown = rows.slice(0, MOST_ROWS);
-    const lines = shown.map((row, k) => rowLine(firm, own, row, k));
-    const more = rows.length > shown.length ? ` Here are the first ${MOST_ROWS} of ${rows.length} rows; the others stand in the document.` : "";
-    const hint = `What each bundle of its trades is worth. A bundle without a row is impossible; nothing is worth 0 where it has none.${more}`;
+    const lines = shown.map((row, k) => rowLine(firm, own, row, k)), left = rows.length - shown.length;
+    const hint = `${OF_ROWS}${left > 0 ? ` ${left} more rows stand in the document.` : ""}`;
     return [{key: "rows", title: "Worths", hint, lines: [...lines, {key: "row add", controls: rowButtons(firm, own, rows)}]}];
 }
 
+/** The trades in a list of them. */
+function namesIn(list) {
+    return list.value.map(({value}) => value);
+}
+
 function rowLine(firm, own, row, k) {
-    const [bundle, worth] = row.value, names = bundle.value.map(({value}) => value);
-    const says = names.length === 0 ? "nothing" : names.join(", ");
-    const boxes = own.map(({name}) => ({key: `row ${k} ${name}`, kind: "box", says: name, name: `${name} in row ${k + 1}`, value: names.includes(name),
-        put: (isIn) => toggled(bundle, name, isIn)}));
-    const out = {key: `row ${k} out`, kind: "button", says: "Remove", name: `Remove the row of ${says}`, put: () => itemRemoved(firm, "rows", row)};
+    const [bundle, worth] = row.value, names = namesIn(bundle), says = names.length === 0 ? "nothing" : names.join(", ");
+    const boxes = own.map(({name}) => box(`row ${k} ${name}`, name, `${name} in row ${k + 1}`, names.includes(name),
+        (isIn) => toggled(bundle, name, isIn)));
     const now = worth?.kind === "number" ? worth.value.text : "";
-    return {key: `row ${k}`, controls: [...boxes, number(`row ${k} worth`, "worth", `Worth of row ${k + 1}`, now, (text) => replaced(worth, text)), out]};
+    const field = number(`row ${k} worth`, "worth", `Worth of row ${k + 1}`, now, (text) => replaced(worth, text));
+    const out = button(`row ${k} out`, "Remove", `Remove the row of ${says}`, () => itemRemoved(firm, "rows", row));
+    return {key: `row ${k}`, controls: worth ? [...boxes, field, out] : [...boxes, out]};
 }
 
 /** Rows may be added as long as a bundle has none: first those of one trade. */
 function rowButtons(firm, own, rows) {
-    const free = freeBundle(own.map(({name}) => name), rows.map(({value: [bundle]}) => bundle.value.map(({value}) => value)));
-    if (free === null) return [];
-    return [{key: "row add", kind: "button", says: "Add a row", put: () => itemAdded(firm, "rows", `[${JSON.stringify(free)},0]`)}];
+    const free = freeBundle(own.map(({name}) => name), rows.map(({value: [bundle]}) => namesIn(bundle)));
+    const change = () => itemAdded(firm, "rows", `[${JSON.stringify(free)},0]`);
+    return free === null ? [] : [button("row add", "Add a row", "Add a row", change)];
 }
 
 function freeBundle(names, bundles) {
     const taken = new Set(bundles.map((bundle) => names.filter((name) => bundle.includes(name)).join(" ")));
-    const free = (bundle) => !taken.has(bundle.join(" "));
+    const after = (bundle) => names.slice(names.indexOf(bundle[bundle.length - 1]) + 1);
     let some = [[]];
     for (let count = 1; count <= Math.min(names.length, 14); count += 1) {
-        some = some.flatMap((bundle) => names.slice(bundle.length === 0 ? 0 : names.indexOf(bundle[bundle.length - 1]) + 1).map((name) => [...bundle, name]));
-        const found = some.find(free);
+        some = some.flatMap((bundle) => after(bundle).map((name) => [...bundle, name]));
+        const found = some.find((bundle) => !taken.has(bundle.join(" ")));
         if (found) return found;
     }
     return null;
@@ -107,43 +130,60 @@ function freeBundle(names, bundles) {
 
 /** The number of a trade in a list of entries; 0 where it has none. */
 function entryOf(firm, list, trade) {
-    const entry = itemsIn(firm, list).find(({value: [first, second]}) => first?.value === trade && second?.kind === "number");
-    return entry ? entry.value[1].value.text : "0";
+    const isIts = ({value: [first, second]}) => first?.value === trade && second?.kind === "number";
+    return itemsIn(firm, list).find(isIts)?.value[1].value.text ?? "0";
 }
 
 function entries(firm, list, trades, what) {
-    return trades.map(({name}) => number(`${list} ${name}`, name, `${what} ${name}`, entryOf(firm, list, name), (text) => numbered(firm, list, name, text)));
+    return trades.map(({name}) => number(`${list} ${name}`, name, `${what} ${name}`, entryOf(firm, list, name),
+        (text) => numbered(firm, list, name, text)));
 }
+
+const OF_SETS = "A set counts its purchases less its sales. It allows no other counts than those from the least to the greatest, "
+    + "which is a capacity, and has a number for each, which are steps.";
 
 function laminarParts(network, firm, own) {
     const sets = (memberOf(firm, "sets", "list")?.value ?? []).filter(({kind}) => kind === "object");
-    const from = own.some(({isSale}) => isSale) ? -1 : 0, to = own.every(({isSale}) => isSale) ? 0 : 1;
-    const names = JSON.stringify(own.map(({name}) => name)), zeros = Array.from({length: to - from + 1}, () => 0);
-    const add = {key: "set add", kind: "button", says: "Add a capacity or steps",
-        put: () => itemAdded(firm, "sets", `{"trades":${names},"from":${from},"values":${JSON.stringify(zeros)}}`)};
+    const amounts = {key: "amounts", controls: entries(firm, "amounts", own, "Amount of")}, says = "Add a capacity or steps";
+    const add = button("set add", says, says, () => itemAdded(firm, "sets", freshSet(own)));
     return [
-        {key: "amounts", title: "Amounts", hint: "What each trade is worth by itself; a sale mostly has less than 0.",
-            lines: [{key: "amounts", controls: entries(firm, "amounts", own, "Amount of")}]},
+        {key: "amounts", title: "Amounts", hint: "What each trade is worth by itself; a sale mostly has less than 0.", lines: [amounts]},
         ...sets.map((set, k) => setGroup(network, firm, own, set, k)),
-        {key: "set add", title: "Sets of trades", lines: [{key: "set add", controls: [add]}],
-            hint: "A set counts its purchases less its sales. It allows no other counts than those from the least to the greatest, which is a capacity, "
-                + "and has a number for each, which are steps."}];
+        {key: "set add", title: "Sets of trades", hint: OF_SETS, lines: [{key: "set add", controls: [add]}]}];
+}
+
+/** A capacity of one trade on each side on which the firm has some. */
+function freshSet(own) {
+    const from = own.some(({isSale}) => isSale) ? -1 : 0, to = own.every(({isSale}) => isSale) ? 0 : 1;
+    const zeros = Array.from({length: to - from + 1}, () => 0);
+    return JSON.stringify({trades: own.map(({name}) => name), from, values: zeros});
 }
 
 function setGroup(network, firm, own, set, k) {
-    const list = memberOf(set, "trades", "list"), names = (list?.value ?? []).map(({value}) => value), key = `set ${k}`;
-    const values = memberOf(set, "values", "list")?.value ?? [], from = Number(memberOf(set, "from", "number")?.value.text ?? 0), to = from + values.length - 1;
-    const boxes = list === null ? [] : own.map(({name}) => ({key: `${key} ${name}`, kind: "box", says: name, name: `${name} in set ${k + 1}`,
-        value: names.includes(name), put: (isIn) => toggled(list, name, isIn)}));
-    const end = (says, now, isRight, change) => ({key: `${key} ${says}`, kind: "number", says, name: `The ${says} count of set ${k + 1}`, value: `${now}`,
-        isRight: (text) => COUNT.test(text) && Math.abs(Number(text)) <= FARTHEST && isRight(Number(text)), put: change});
-    const ends = [end("least", from, (count) => count <= 0 && count <= to, (text) => stretched(network, set, Number(text), to)),
-        end("greatest", to, (count) => count >= 0 && count >= from, (text) => stretched(network, set, from, Number(text)))];
-    const numbers = values.map((value, place) => number(`${key} number ${place}`, counted(from + place), `Set ${k + 1}, ${counted(from + place)}`,
-        network.text.slice(value.start, value.end), (text) => replaced(value, text)));
-    const out = {key: `${key} out`, kind: "button", says: "Remove it", name: `Remove set ${k + 1}`, put: () => itemRemoved(firm, "sets", set)};
-    return {key, title: `Set ${k + 1}`, lines: [{key: "trades", says: "Trades", controls: boxes}, {key: "counts", says: "Counts", controls: ends},
+    const list = memberOf(set, "trades", "list"), values = memberOf(set, "values", "list")?.value ?? [], key = `set ${k}`;
+    const from = Number(memberOf(set, "from", "number")?.value.text ?? 0);
+    const boxes = own.map(({name}) => box(`${key} ${name}`, name, `${name} in set ${k + 1}`, list !== null && namesIn(list).includes(name),
+        (isIn) => toggled(list, name, isIn)));
+    const numbers = values.map((value, place) => {
+        const says = counted(from + place), now = network.text.slice(value.start, value.end);
+        return number(`${key} number ${place}`, says, `Set ${k + 1}, ${says}`, now, (text) => replaced(value, text));
+    });
+    const out = button(`${key} out`, "Remove it", `Remove set ${k + 1}`, () => itemRemoved(firm, "sets", set));
+    return {key, title: `Set ${k + 1}`, lines: [
+        {key: "trades", says: "Trades", controls: list === null ? [] : boxes},
+        {key: "counts", says: "Counts", controls: setEnds(network, set, k, from, from + values.length - 1)},
         {key: "numbers", says: "Numbers", controls: numbers}, {key: "out", controls: [out]}]};
+}
+
+/** The least and the greatest net count of a set; 0 stays between them. */
+function setEnds(network, set, k, from, to) {
+    const end = (says, now, isIn, change) => {
+        const isRight = (text) => COUNT.test(text) && Math.abs(Number(text)) <= FARTHEST && isIn(Number(text));
+        const field = number(`set ${k} ${says}`, says, `The ${says} count of set ${k + 1}`, `${now}`, (text) => change(Number(text)));
+        return {...field, isRight};
+    };
+    return [end("least", from, (count) => count <= 0 && count <= to, (count) => stretched(network, set, count, to)),
+        end("greatest", to, (count) => count >= 0 && count >= from, (count) => stretched(network, set, from, count))];
 }
 
 /** A net count in words. */
@@ -152,57 +192,66 @@ function counted(count) {
     return count < 0 ? `at ${-count} sold` : `at ${count} bought`;
 }
 
+const OF_A_MIDDLEMAN = "What a purchase costs beside its price, and what a sale brings beside it. One good is like another.";
+
 function middlemanParts(network, firm, own) {
-    const keep = firm.value.get("keep"), isKept = keep?.kind === "number";
-    const box = {key: "keeps", kind: "box", says: "It may keep a good", name: "It may keep a good", value: isKept, put: (isOn) => put(firm, "keep", isOn ? "0" : "null")};
-    const worth = isKept ? [number("keep", "worth", "Worth of a good that is kept", keep.value.text, (text) => replaced(keep, text))] : [];
-    const hint = "What a purchase costs beside its price, and what a sale brings beside it. One good is like another.";
-    return [{key: "middleman", title: "Costs and gains", hint, lines: [
-        {key: "costs", says: "Costs", controls: entries(firm, "costs", own.filter(({isSale}) => !isSale), "Cost of")},
-        {key: "gains", says: "Gains", controls: entries(firm, "gains", own.filter(({isSale}) => isSale), "Gain of")},
-        {key: "keep", controls: [box, ...worth]}]}];
+    const keep = firm.value.get("keep"), isKept = keep?.kind === "number", says = "It may keep a good";
+    const keeps = box("keeps", says, says, isKept, (isOn) => put(firm, "keep", isOn ? "0" : "null"));
+    const worth = () => number("keep", "worth", "Worth of a good that is kept", keep.value.text, (text) => replaced(keep, text));
+    const purchases = own.filter(({isSale}) => !isSale), sales = own.filter(({isSale}) => isSale);
+    return [{key: "middleman", title: "Costs and gains", hint: OF_A_MIDDLEMAN, lines: [
+        {key: "costs", says: "Costs", controls: entries(firm, "costs", purchases, "Cost of")},
+        {key: "gains", says: "Gains", controls: entries(firm, "gains", sales, "Gain of")},
+        {key: "keep", controls: isKept ? [keeps, worth()] : [keeps]}]}];
 }
 
+const NO_PAIRS = "It has no pair of a purchase and a sale yet: add trades on both sides below.";
+
 function dealerParts(network, firm, own) {
-    const sales = own.filter(({isSale}) => isSale), pairs = itemsIn(firm, "pairs");
-    const lines = own.filter(({isSale}) => !isSale).map(({name}) => ({key: `pairs ${name}`, says: `${name} as`,
+    const purchases = own.filter(({isSale}) => !isSale), sales = own.filter(({isSale}) => isSale), pairs = itemsIn(firm, "pairs");
+    const hasBoth = purchases.length > 0 && sales.length > 0;
+    const hint = hasBoth ? "Which purchase may be sold on as which sale, and what that costs." : NO_PAIRS;
+    const lines = purchases.map(({name}) => ({key: `pairs ${name}`, says: `${name} as`,
         controls: sales.flatMap((sale) => pairControls(firm, pairs, name, sale.name))}));
-    const hint = lines.length === 0 || sales.length === 0 ? "It has no pair of a purchase and a sale yet: add trades on both sides below."
-        : "Which purchase may be sold on as which sale, and what that costs.";
-    return [{key: "pairs", title: "Pairs", hint, lines: sales.length === 0 ? [] : lines}];
+    return [{key: "pairs", title: "Pairs", hint, lines: hasBoth ? lines : []}];
 }
 
 function pairControls(firm, pairs, purchase, sale) {
     const pair = pairs.find(({value: [one, other]}) => one?.value === purchase && other?.value === sale), cost = pair?.value[2];
-    const isIn = pair !== undefined, says = `${purchase} as ${sale}`, text = `[${JSON.stringify(purchase)},${JSON.stringify(sale)},0]`;
-    const box = {key: `pair ${says}`, kind: "box", says: sale, name: says, value: isIn,
-        put: (isOn) => isOn ? itemAdded(firm, "pairs", text) : itemRemoved(firm, "pairs", pair)};
-    if (cost?.kind !== "number") return [box];
-    return [box, number(`cost ${says}`, "costs", `Cost of ${says}`, cost.value.text, (put) => replaced(cost, put))];
+    const says = `${purchase} as ${sale}`, text = `[${JSON.stringify(purchase)},${JSON.stringify(sale)},0]`;
+    const change = (isOn) => isOn ? itemAdded(firm, "pairs", text) : itemRemoved(firm, "pairs", pair);
+    const isIn = box(`pair ${says}`, sale, says, pair !== undefined, change);
+    if (cost?.kind !== "number") return [isIn];
+    return [isIn, number(`cost ${says}`, "costs", `Cost of ${says}`, cost.value.text, (next) => replaced(cost, next))];
 }
 
-function tradesGroups(network, trades, names, here, ends) {
-    const isOf = ({node}) => [textAt(node, "seller"), textAt(node, "buyer")].includes(here?.name);
-    const isAll = trades.length <= MOST_TRADES, shown = isAll ? trades : trades.filter(isOf);
-    const all = trades.map(({name}) => name), lines = shown.map((trade) => tradeLine(network, trade, trades.indexOf(trade), names, all));
-    const hint = names.length < 2 ? "A trade wants two firms." : isAll ? "" : `Of ${trades.length} trades those of this firm.`;
-    return [{key: "trades", title: "Trades", hint, lines: [...lines, ...(names.length < 2 ? [] : [newTrade(network, names, all, here, ends)])]}];
+function tradesGroup(network, names, here, ends) {
+    const trades = objectsIn(network, "trades"), all = trades.map(({name}) => name), isAll = trades.length <= MOST_TRADES;
+    const isShown = ({node}) => isAll || [textAt(node, "seller"), textAt(node, "buyer")].includes(here?.name);
+    const lines = trades.map((trade, k) => [trade, k]).filter(([trade]) => isShown(trade))
+        .map(([trade, k]) => tradeLine(network, trade, k, names, all));
+    const left = isAll ? "" : `Of ${trades.length} trades those of this firm.`, hint = names.length < 2 ? "A trade wants two firms." : left;
+    const added = names.length < 2 ? [] : [newTrade(network, names, all, here, ends)];
+    return {key: "trades", title: "Trades", hint, lines: [...lines, ...added]};
 }
 
 function tradeLine(network, {node, name}, k, names, all) {
-    const end = (side, says) => ({key: `trade ${k} ${side}`, kind: "choice", says, name: `Trade ${name} ${says}`, value: textAt(node, side), options: optionsOf(names),
-        put: (firm) => moved(network, node, side, firm)});
-    return {key: `trade ${k}`, controls: [nameOf(`trade ${k} name`, "Trade", network, "trades", node, all), end("seller", "from"), end("buyer", "to"),
-        {key: `trade ${k} out`, kind: "button", says: "Remove", name: `Remove the trade ${name}`, put: () => tradesRemoved(network, [node])}]};
+    const options = names.map((each) => [each, each]);
+    const end = (side, says) => choice(`trade ${k} ${side}`, says, `Trade ${name} ${says}`, textAt(node, side), options,
+        {put: (firm) => moved(network, node, side, firm)});
+    return {key: `trade ${k}`, controls: [
+        nameOf(`trade ${k} name`, "Trade", network, "trades", node, all), end("seller", "from"), end("buyer", "to"),
+        button(`trade ${k} out`, "Remove", `Remove the trade ${name}`, () => tradesRemoved(network, [node]))]};
 }
 
 /** What adds a trade: of the firm that is shown to the next one, where nobody has chosen others. */
 function newTrade(network, names, all, here, ends) {
-    const seller = names.includes(ends.seller) ? ends.seller : here.name;
-    const buyer = names.includes(ends.buyer) && ends.buyer !== seller ? ends.buyer : names.find((name) => name !== seller);
+    const isThere = (name) => names.includes(name), options = names.map((each) => [each, each]);
+    const seller = isThere(ends.seller) ? ends.seller : here.name, isOther = isThere(ends.buyer) && ends.buyer !== seller;
+    const buyer = isOther ? ends.buyer : names.find((name) => name !== seller);
     const name = freeName(all, `${seller}-${buyer}`.toLowerCase(), (k) => k === 1 ? "" : `-${k}`);
-    const end = (side, says, value) => ({key: `new ${side}`, kind: "choice", says, name: `A new trade ${says}`, value, options: optionsOf(names),
-        look: (firm) => ({ends: {...ends, [side]: firm}})});
+    const end = (side, says, value) => choice(`new ${side}`, says, `A new trade ${says}`, value, options,
+        {look: (firm) => ({ends: {...ends, [side]: firm}})});
     return {key: "new", controls: [end("seller", "from", seller), end("buyer", "to", buyer),
-        {key: "trade add", kind: "button", says: "Add a trade", put: () => tradeAdded(network, name, seller, buyer)}]};
+        button("trade add", "Add a trade", "Add a trade", () => tradeAdded(network, name, seller, buyer))]};
 }
