@@ -6,9 +6,11 @@ import {saveAnswer, saveDocument, saveFirms, savePicture, saveRanges} from "./ex
 import {objectors} from "./firms.js";
 import {forget, keep, kept} from "./keep.js";
 import {laidOut} from "./lines.js";
+import {bindLesson} from "./lesson.js";
 import {bindLinks} from "./links.js";
 import {on, part} from "./page.js";
 import {bindReasons, claim} from "./reasons.js";
+import {sortedOut} from "./results.js";
 import {zoomIn, zoomOut} from "./scene.js";
 import {faulty, isOld} from "./state.js";
 import {arrange} from "./terms.js";
@@ -26,11 +28,15 @@ export function bind(store, documents, run) {
     bindTabs(store);
     bindCommand(store, run);
     bindLinks(store);
+    bindLesson(store);
     bindKept(store);
 }
 
-async function open(store, file) {
-    if (file) store.act("opened", file.name, new Uint8Array(await file.arrayBuffer()));
+/** Opens files: of documents the last one, and all results. */
+async function open(store, list) {
+    const {results, files} = await sortedOut(list);
+    if (files.length > 0) store.act("opened", files[files.length - 1].name, files[files.length - 1].bytes);
+    if (results.length > 0) store.act("resulted", results);
 }
 
 function bindDocument(store, documents) {
@@ -49,12 +55,12 @@ function bindDocument(store, documents) {
         if (name !== "") store.act("opened", name, new TextEncoder().encode(texts.get(name)));
         part("examples").value = "";
     });
-    part("file").addEventListener("change", () => open(store, part("file").files[0]).finally(() => (part("file").value = "")));
+    part("file").addEventListener("change", () => open(store, [...part("file").files]).finally(() => (part("file").value = "")));
     part("text").addEventListener("input", () => store.act("typed", part("text").value));
     part("drop").addEventListener("dragover", (event) => event.preventDefault());
     part("drop").addEventListener("drop", (event) => {
         event.preventDefault();
-        open(store, event.dataTransfer.files[0]);
+        open(store, [...event.dataTransfer.files]);
     });
     on("new", () => {
         store.act("opened", "new.json", new TextEncoder().encode(EMPTY));
@@ -71,7 +77,7 @@ function bindHistory(store) {
     on("redo", () => store.act("redone"));
     document.addEventListener("keydown", (event) => {
         if (!(event.ctrlKey || event.metaKey) || event.altKey || event.defaultPrevented) return;
-        const key = event.key.toLowerCase(), isOwn = event.target.closest?.("#filter, #words, #fragment, #address, #text, .CodeMirror");
+        const key = event.key.toLowerCase(), isOwn = event.target.closest?.("#filter, #words, #fragment, #address, #pupil, #maker-title, #text, .CodeMirror");
         if (isOwn || !["z", "y"].includes(key)) return;
         event.preventDefault();
         store.act(key === "y" || event.shiftKey ? "redone" : "undone");
@@ -128,14 +134,14 @@ function take(store, side) {
 }
 
 function bindTabs(store) {
-    const tabs = [...part("tabs").children], nameOf = (tab) => tab.id.slice("tab-".length);
+    const all = [...part("tabs").children], nameOf = (tab) => tab.id.slice("tab-".length);
     const go = (tab) => {
         store.act("went", nameOf(tab));
         if (nameOf(tab) === "document") refreshEditor();
     };
-    for (const tab of tabs) tab.addEventListener("click", () => go(tab));
+    for (const tab of all) tab.addEventListener("click", () => go(tab));
     part("tabs").addEventListener("keydown", (event) => {
-        const step = {ArrowRight: 1, ArrowLeft: -1}[event.key];
+        const step = {ArrowRight: 1, ArrowLeft: -1}[event.key], tabs = all.filter((tab) => tab.offsetParent !== null);
         if (step === undefined) return;
         const next = tabs[(tabs.indexOf(event.target) + step + tabs.length) % tabs.length];
         go(next);

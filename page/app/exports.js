@@ -45,7 +45,8 @@ export function saveRanges({ranges, document}) {
     offer(`${stem(document.name)}-ranges.csv`, rows([["trade", "on", "low", "high"], ...lines]), "text/csv");
 }
 
-function rows(lines) {
+/** Lines of cells as CSV. */
+export function rows(lines) {
     const quoted = (cell) => (/[",\n]/.test(cell) ? `"${String(cell).replaceAll('"', '""')}"` : cell);
     return lines.map((line) => `${line.map(quoted).join(",")}\n`).join("");
 }

@@ -52,7 +52,8 @@ const NO_ADDRESS = "Type the address at which the page stands, as https://school
 /** Shows the code of the link at the address that stands there, or why there is none. */
 function showCode() {
     const address = addressIn(part("address").value.trim()), whole = `${address}${link.fragment}`;
-    const isLong = address !== null && whole.length > MOST_IN_CODE, code = address === null || isLong ? null : codeOf(whole);
+    const isLong = address !== null && whole.length > MOST_IN_CODE;
+    const code = address === null || isLong ? null : codeOf(whole);
     link.svg = code?.svg ?? null;
     part("code-save").hidden = code === null;
     part("code-picture").replaceChildren(...(code === null ? [] : [picture(code.svg)]));
@@ -61,7 +62,8 @@ function showCode() {
 }
 
 function tooLong(count) {
-    return `The document is too long for a code: the link has ${count} letters, and a code holds ${MOST_IN_CODE}. Hand on the link, or the file.`;
+    return `The document is too long for a code: the link has ${count} letters, and a code holds ${MOST_IN_CODE}. `
+        + "Hand on the link, or the file.";
 }
 
 /** An address as browsers write it, without what stands behind a #; null where it is none of the web. */

@@ -8,10 +8,12 @@ import {readyEditor, showEditor} from "./editor.js";
 import {showFirms} from "./firms.js";
 import {Guesses} from "./guess.js";
 import {handle} from "./hand.js";
+import {showLesson} from "./lesson.js";
 import {bytesIn, isDocument} from "./link.js";
 import {part} from "./page.js";
 import {compiled, partOf} from "./parts.js";
 import {showPath, trace} from "./path.js";
+import {Marking, showResults} from "./results.js";
 import {showScene} from "./scene.js";
 import {showShell} from "./shell.js";
 import {Store} from "./state.js";
@@ -25,6 +27,7 @@ const store = new Store();
 /** Asks what is shown, and shows the answer; a newer question takes its place. */
 async function askNow(program) {
     const {document, words} = store.value, ask = program.turn();
+    if (document.exercise !== null) return;
     store.act("asked");
     const {run} = store.value;
     try {
@@ -52,6 +55,7 @@ async function openAddress() {
 }
 
 function show(value) {
+    showLesson(value);
     showShell(value);
     showVerdict(value);
     showStory(value);
@@ -63,13 +67,14 @@ function show(value) {
     showAnswers(value);
     showClaim(value);
     showBuild(value);
+    showResults(value);
 }
 
 async function start() {
     document.addEventListener("securitypolicyviolation", ({violatedDirective, blockedURI}) => {
         document.documentElement.dataset.violation = `${violatedDirective} ${blockedURI}`;
     });
-    const module = await compiled(), [program, guesser, tracer] = [1, 2, 3].map(() => new Program(module, partOf("worker")));
+    const module = await compiled(), [program, guesser, tracer, marker] = [1, 2, 3, 4].map(() => new Program(module, partOf("worker")));
     const documents = JSON.parse(partOf("documents"));
     readyEditor(store);
     readyTrades(store);
@@ -84,6 +89,7 @@ async function start() {
     });
     store.watch(show);
     new Guesses(store, guesser);
+    new Marking(store, marker);
     store.watch(() => trace(store, tracer));
     addEventListener("hashchange", openAddress);
     new ResizeObserver(() => showScene(store.value)).observe(part("stage"));

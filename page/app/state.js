@@ -2,6 +2,7 @@
 import {NotJson, readable, textOf, written} from "../read/json.js";
 import {Network} from "../read/network.js";
 import {applied} from "./edits.js";
+import {exerciseIn, GOALS, isAsGiven} from "./exercise.js";
 
 /** Up to how many bytes a document is shown as a text that can be changed. */
 const MOST_SHOWN = 1 << 18;
@@ -12,16 +13,17 @@ const BEGINNING = 2000;
 const MOST_UNDONE = 400;
 
 /**
- * The value. `document` is what is looked at, with `past` and `future` of it, and `mark`, which says what made the last change: changes
- * with one mark are taken back together. `selection` is null or `{kind, ..}`: lane, firm or bound. `guess`, `ranges`, `judged` and
+ * The value. `document` is what is looked at, with the `exercise` as which it was opened and how often it was changed since, its `tries`;
+ * `past` and `future` are of it, and `mark`, which says what made the last change: changes
+ * with one mark are taken back together. `results` are those that a teacher opened. `selection` is null or `{kind, ..}`: lane, firm or bound. `guess`, `ranges`, `judged` and
  * `decided` are what `firms`, `range`, `judge` and `replay` answered, `reason` what `support` or `test` did, and `answer` is that of the
  * command in `words`, each with the `document` that it was asked of; where that isn't the present one it is old. `run` is how far the
  * command is, `view` how all this is looked at: `mode` is "guess" or "sign", `step` the place in a story that is told, and `built` that of
  * the firm in the form.
  */
 export const START = {
-    document: {name: "", bytes: new Uint8Array(0), text: "", isWhole: true}, past: [], future: [], mark: null, selection: null,
-    guess: null, ranges: null, path: null, judged: null, decided: null, reason: null, words: ["solve"], run: {state: "none"}, answer: null,
+    document: {name: "", bytes: new Uint8Array(0), text: "", isWhole: true, exercise: null, tries: 0}, past: [], future: [], mark: null, selection: null,
+    guess: null, ranges: null, path: null, judged: null, decided: null, reason: null, results: [], words: ["solve"], run: {state: "none"}, answer: null,
     view: {panel: "guess", mode: "guess", step: 0, isOver: false, hasRanges: false, hasReason: false, window: null, isWide: null, filter: "",
         firm: null, sort: {by: null, isDown: false}, built: 0, ends: {}},
 };
@@ -46,7 +48,7 @@ export const ACTIONS = {
         return looked({...next, ...NOTHING_SAID, selection: null}, view);
     },
     /** The text of the document was edited. */
-    typed: (value, text, mark = null) => text === value.document.text ? value : changed(value, withText(value.document, text), mark),
+    typed: (value, text, mark = null) => text === value.document.text ? value : changed(value, withText(value.document, text, isMerged(value, mark)), mark),
     /** Some places of the text were changed, by the picture or a form. */
     edited: (value, edits, mark = null) => ACTIONS.typed(value, applied(value.document.text, edits), mark),
     undone: (value) => value.past.length === 0 ? value : moved(value, value.past, value.future, (past, future) => ({past, future})),
@@ -72,6 +74,13 @@ export const ACTIONS = {
     answered: (value, answer) => ({...value, run: {state: "answered"}, answer}),
     broke: (value, message) => ({...value, run: {state: "trouble", message}, answer: null}),
     ended: (value) => ({...value, run: {state: "ended"}}),
+    /** Results were opened; each is compared with the exercise that the document is, if it is one. */
+    resulted: (value, results) => {
+        const added = results.map((result) => resultWith(result, networkOf(value.document)));
+        return looked({...value, results: [...value.results, ...added]}, {panel: "results"});
+    },
+    marked: (value, result, verdict) => ({...value, results: value.results.map((each) => each === result ? {...each, verdict} : each)}),
+    forgot: (value) => ({...ACTIONS.went(value, value.view.mode), results: []}),
 };
 
 const NOTHING_SAID = {guess: null, ranges: null, path: null, judged: null, decided: null, reason: null, answer: null};
@@ -94,8 +103,7 @@ function panelFor(document, {panel, mode: before}) {
 const LAID_DOWN = ({view}) => ({run: {state: "none"}, view: {...view, isOver: false}});
 
 function changed(value, document, mark) {
-    const {document: before, selection} = value, isMerged = mark !== null && mark === value.mark;
-    const isKept = !isMerged && before.name + before.text !== "";
+    const {document: before, selection} = value, isKept = !isMerged(value, mark) && before.name + before.text !== "";
     const past = isKept ? [...value.past.slice(1 - MOST_UNDONE), {document: before, selection}] : value.past;
     return {...value, document, past, future: [], mark, ...LAID_DOWN(value)};
 }
@@ -104,16 +112,42 @@ function changed(value, document, mark) {
 function moved(value, from, to, named) {
     const {document, selection} = from[from.length - 1];
     const here = {document: value.document, selection: value.selection};
-    return {...value, document, selection, mark: null, ...LAID_DOWN(value), ...named(from.slice(0, -1), [...to, here])};
+    return {...value, document: triedAs(document, value.document), selection, mark: null, ...LAID_DOWN(value), ...named(from.slice(0, -1), [...to, here])};
 }
 
 function documentOf(name, bytes) {
     const isWhole = bytes.length <= MOST_SHOWN, shown = isWhole ? bytes : bytes.subarray(0, BEGINNING);
-    return {name, bytes, text: new TextDecoder("utf-8", {ignoreBOM: true}).decode(shown), isWhole};
+    const text = new TextDecoder("utf-8", {ignoreBOM: true}).decode(shown), document = {name, bytes, text, isWhole, exercise: null, tries: 0};
+    document.exercise = isWhole ? exerciseIn(networkOf(document)) : null;
+    return document;
 }
 
-function withText(document, text) {
-    return {...document, text, bytes: new TextEncoder().encode(text), isWhole: true};
+function withText(document, text, goesOn) {
+    return {...document, text, bytes: new TextEncoder().encode(text), isWhole: true, tries: document.tries + (goesOn ? 0 : 1)};
+}
+
+/** Whether a change belongs to the one before it. */
+function isMerged(value, mark) {
+    return mark !== null && mark === value.mark;
+}
+
+/** An earlier or later document with the tries of now, where both are of the same opening of an exercise. */
+function triedAs(document, {exercise, tries}) {
+    return exercise !== null && document.exercise === exercise ? {...document, tries} : document;
+}
+
+/** A result with its document, and whether its network is the given one. */
+function resultWith({text, ...result}, given) {
+    const document = documentOf(result.file, new TextEncoder().encode(text));
+    return {...result, document, isGiven: isAsGiven(networkOf(document), given), verdict: null};
+}
+
+/** What a pupil sees of an exercise: the view in which its goal is looked for, and nothing that would solve it. */
+function within(value) {
+    const {document: {exercise}, view} = value;
+    if (exercise === null) return value;
+    const {panel} = GOALS[exercise.goal], wanted = {panel: view.panel === "results" ? "results" : panel, mode: panel, hasRanges: false, hasReason: false, isOver: false};
+    return Object.entries(wanted).every(([name, each]) => view[name] === each) ? value : looked(value, wanted);
 }
 
 /** Whether two answers say the same. */
@@ -142,7 +176,7 @@ export class Store {
     }
 
     act(name, ...details) {
-        this.value = ACTIONS[name](this.value, ...details);
+        this.value = within(ACTIONS[name](this.value, ...details));
         for (const watch of this.watchers) watch(this.value, name);
     }
 

@@ -45,7 +45,7 @@ return {
 # The text in the editor.
 EDITED = "document.querySelector('.CodeMirror').CodeMirror.getValue()"
 
-KEYS = {"Control": "\ue009", "Shift": "\ue008", "ArrowUp": "\ue013", "ArrowDown": "\ue015", "Enter": "\ue007", "End": "\ue010",
+KEYS = {"Control": "\ue009", "Shift": "\ue008", "ArrowUp": "\ue013", "ArrowDown": "\ue015", "ArrowRight": "\ue014", "Enter": "\ue007", "End": "\ue010",
         "Backspace": "\ue003", "Tab": "\ue004"}
 
 
@@ -140,7 +140,7 @@ def label(trade_ends: str) -> str:
 def tries(page: Bench, program: str | None):
     """Each as a name, and whether it is so."""
     for part in (tries_to_guess, tries_of_undo, tries_to_solve, tries_of_ranges, tries_of_complements, tries_of_reasons, tries_to_sign, tries_of_claims,
-                 tries_to_build, tries_of_the_text, tries_of_files, tries_of_size, tries_of_ill_will):
+                 tries_to_build, tries_of_exercises, tries_of_the_text, tries_of_files, tries_of_size, tries_of_ill_will):
         yield from part(page, program)
 
 
@@ -540,6 +540,109 @@ def tries_to_build(page: Bench, program: str | None):
         page.press("ArrowUp")
         after = page.text()
         yield f"a {kinds[name]}'s number is changed at its place", len(after) == len(before) and sum(one != other for one, other in zip(before, after)) == 1
+    page.click("#tab-guess")
+
+
+# Opens several files at once.
+OPEN_MANY = """
+const moved = new DataTransfer(), input = document.getElementById("file");
+for (const [name, text] of arguments[0]) moved.items.add(new File([text], name));
+input.files = moved.files;
+input.dispatchEvent(new Event("change", {bubbles: true}));"""
+
+# What can be pressed or typed in now, by the ids.
+THERE = "return [...document.querySelectorAll('button, select, input')].filter((each) => each.offsetParent !== null).map(({id}) => id);"
+
+# The rows of the results.
+ROWS = "return [...document.querySelectorAll('#results tbody tr')].map((row) => [...row.cells].map(({textContent}) => textContent));"
+
+SOLVING = {"solve", "wonder", "ranges", "buyers-best", "sellers-best", "tab-claim", "tab-build", "tab-document", "tab-answer", "run", "reason-take", "reason-claim"}
+
+
+def to_exercise(page: Bench, title: str, goal: str) -> str:
+    """Makes the document an exercise by keys, and answers its text."""
+    page.click("#make")
+    page.press("Control+a", *title, "Tab")
+    page.browser.run(CHOSEN, "maker-goal", goal)
+    page.focus_on("maker-put")
+    page.press("Enter")
+    return page.text()
+
+
+def saved_result(page: Bench, name: str) -> tuple[str, str]:
+    """What a pupil of a name saves, as a file."""
+    page.drag("#pupil", 0)
+    page.press("Control+a", *name)
+    page.click("#result-save")
+    return tuple(page.browser.run(OFFERED)[0])
+
+
+def tries_of_exercises(page: Bench, program: str | None):
+    page.browser.run(KEEP)
+    page.open("1-one-good.json", look.example("lesson/1-one-good.json"))
+    before = page.text()
+    given = to_exercise(page, "One good", "equilibrium")
+    note = {"exercise": "One good", "goal": "equilibrium", "note": json.loads(before)["note"]}
+    yield "a document is made an exercise by its note", json.loads(given) == {**json.loads(before), "note": note} and "says so now" in page.says("maker-says")
+    page.click("#maker-try")
+    page.guess()
+    there = set(page.browser.run(THERE))
+    yield "as a pupil sees it nothing solves it", page.says("exercise-title") == "One good" and not there & (SOLVING | {"make", "tab-sign"}) and "result-save" in there
+    page.focus_on("tab-guess")
+    page.press("ArrowRight")
+    yield "nor by keys", page.value("document.activeElement.id") == "tab-guess" and not set(page.browser.run(THERE)) & SOLVING
+    yield "the page says who can find the solution", "Who reads the file" in page.says("exercise")
+    yield "objections are told", page.guess().endswith("firms are content.") and page.value("!document.getElementById('objects').disabled")
+    first = saved_result(page, "Lena")
+    page.click(label("Ada Cleo"))
+    page.drag(label("Ada Cleo"), -32)
+    page.press("Control+z")
+    page.press("Control+z")
+    yield "changes are counted as tries, and taken back they stay", page.says("tries") == "2 tries" and page.text() == given
+    for trade in ("Ada Cleo", "Ada Dan", "Ben Cleo", "Ben Dan"):
+        page.focus(f"lane:{trade}")
+        page.press("5", "5")
+    yield "an equilibrium is announced", page.guess().startswith("\u2713 An equilibrium") and page.says("tries") == "6 tries"
+    second = saved_result(page, "Max")
+    yield "a result is a small file with the document", (second[0], json.loads(second[1])) == (
+        "Max-One-good.json", {"result": 1, "name": "Max", "tries": 6, "document": json.loads(page.text())}) and len(second[1]) < 2000
+    changed = second[1].replace('"Max"', '"=Mo"').replace("90", "190")
+    signed = json.dumps({**json.loads(before), "note": {"exercise": "To last", "goal": "lasts"}, "outcome": {"over": 1, "contracts": [["ada-cleo", 55]]}})
+    lasting = json.dumps({"result": 1, "name": "Ida", "tries": 3, "document": json.loads(signed)})
+    none = json.dumps({"result": 1, "name": "Jon", "document": {}})
+    page.browser.run(OPEN_MANY, [["given.json", given], list(first), list(second), ["mo.json", changed], ["ida.json", lasting], ["jon.json", none]])
+    page.wait_for("results", "answered")
+    rows, content = page.browser.run(ROWS), asked(page, program, ["firms"], given)["content"]
+    yield "many results are told in a table, each as the program decides it", rows == [
+        ["Lena", "One good", f"\u2717 no: {content} of 4 firms are content", "0", "as given"], ["Max", "One good", "\u2713 yes", "6", "as given"],
+        ["=Mo", "One good", "\u2713 yes", "6", "changed"], ["Ida", "To last", "\u2713 yes", "3", "not compared"],
+        ["Jon", "none", "\u2717 it isn't of an exercise", "?", "not compared"]]
+    yield "and counted", page.says("results-says") == "5 results, 3 reached."
+    page.click("#results-csv")
+    table = page.browser.run(OFFERED)[0]
+    yield "they are offered as rows, none of which begins a formula", table[0] == "results.csv" and "\n'=Mo,One good,\u2713 yes,6,changed\n" in table[1]
+    page.click('[data-result="0"]')
+    yield "a click shows what a pupil saw", page.guess().endswith("firms are content.") and page.text() == given.strip()
+    page.click("#tab-results")
+    page.click("#results-forget")
+    yield "results are forgotten", page.value("document.getElementById('tab-results').offsetParent === null") and page.browser.run(ROWS) == []
+    page.open("6-signed-too-low.json", look.example("lesson/6-signed-too-low.json"))
+    to_exercise(page, "To last", "lasts")
+    page.click("#maker-try")
+    there = set(page.browser.run(THERE))
+    yield "of contracts that are to last the objections are told too", "doesn't last" in judged(page) or "isn't kept" in judged(page)
+    yield "and nothing else", not there & (SOLVING | {"make", "tab-guess"}) and "denominator" in there
+    page.click("#link")
+    page.wait_for("linked", "true")
+    fragment = page.value("document.getElementById('fragment').value")
+    page.click("#linked-close")
+    page.open("used-cars.json", look.example("used-cars.json"))
+    yield "another document is none", page.value("document.documentElement.dataset.exercise") == "none" and "tab-document" in page.browser.run(THERE)
+    page.browser.run("location.hash = arguments[0]", fragment)
+    page.wait_for("exercise", "lasts")
+    yield "a link brings the exercise", page.says("exercise-title") == "To last"
+    page.browser.run("history.replaceState(null, '', location.pathname)")
+    page.open("used-cars.json", look.example("used-cars.json"))
     page.click("#tab-guess")
 
 

@@ -1,0 +1,69 @@
+// What a class does with exercises: a teacher makes one, a pupil tries and saves the result, and a teacher opens many of
+// these.
+import {exerciseIn, exerciseMade, GOALS, resultText} from "./exercise.js";
+import {offer, on, part, write} from "./page.js";
+import {saveResults} from "./results.js";
+import {networkOf} from "./state.js";
+
+/** Binds all that. */
+export function bindLesson(store) {
+    bindMaker(store);
+    on("result-save", () => {
+        const name = part("pupil").value.trim(), {document} = store.value;
+        const file = `${stemOf(name)}-${stemOf(document.exercise.title)}.json`;
+        offer(file, resultText(document, name), "application/json");
+    });
+    on("results-csv", () => saveResults(store.value));
+    on("results-forget", () => store.act("forgot"));
+    part("results").addEventListener("click", ({target}) => {
+        const result = store.value.results[target.closest("[data-result]")?.dataset.result];
+        if (result) store.act("opened", result.file, result.document.bytes);
+    });
+}
+
+/** A name as a part of that of a file. */
+function stemOf(name) {
+    return name.replace(/[^\p{L}\p{N}]+/gu, "-").slice(0, 60) || "result";
+}
+
+const NO_TITLE = "Give it a title.", NO_OBJECT = "The document isn't one that can be an exercise: it isn't an object.";
+const IS_MADE = "The document's note says so now. Save it, or hand out a link: whoever opens that begins with the guess that "
+    + "stands there.";
+
+function bindMaker(store) {
+    on("make", () => {
+        const {title, goal} = exerciseIn(networkOf(store.value.document)) ?? {title: "", goal: "equilibrium"};
+        part("maker").hidden = false;
+        part("maker-title").value = title;
+        part("maker-goal").value = goal;
+        part("maker-says").textContent = "";
+        part("maker-title").focus();
+    });
+    on("maker-put", () => {
+        const title = part("maker-title").value.trim(), network = networkOf(store.value.document);
+        const isObject = network.root.kind === "object";
+        part("maker-says").textContent = title === "" ? NO_TITLE : isObject ? IS_MADE : NO_OBJECT;
+        if (title !== "") store.act("edited", exerciseMade(network, title, part("maker-goal").value));
+    });
+    on("maker-try", () => {
+        part("maker").hidden = true;
+        const {name, bytes} = store.value.document;
+        store.act("opened", name, bytes);
+    });
+    on("maker-close", () => (part("maker").hidden = true));
+}
+
+/** Shows the exercise that the document was opened as, and what there is of results. */
+export function showLesson(value) {
+    const {results} = value, {exercise, tries} = value.document, page = document.documentElement;
+    page.dataset.exercise = exercise?.goal ?? "none";
+    const isAsking = results.some(({verdict}) => verdict === null);
+    page.dataset.results = results.length === 0 ? "none" : isAsking ? "asking" : "answered";
+    part("exercise").hidden = exercise === null;
+    part("tab-results").hidden = results.length === 0;
+    if (exercise === null) return;
+    part("maker").hidden = true;
+    write("exercise-title", exercise.title);
+    write("exercise-says", GOALS[exercise.goal].says);
+    write("tries", tries === 1 ? "1 try" : `${tries} tries`);
+}

@@ -1,0 +1,110 @@
+// The results that a teacher has opened, as a table. Each is decided by the program, which is asked anew.
+import {NoAnswer, readAnswer} from "../read/answer.js";
+import {Ended, NoAnswerCame} from "./ask.js";
+import {GOALS, resultIn} from "./exercise.js";
+import {rows} from "./exports.js";
+import {made, offer, part} from "./page.js";
+
+const HEADS = ["Name", "Exercise", "Reached", "Tries", "Firms and trades"];
+
+/** Up to how many bytes a file may be a result. */
+const MOST_BYTES = 1 << 19;
+
+/** The results among some files, and the others, as `{results, files}`. */
+export async function sortedOut(files) {
+    const found = {results: [], files: []};
+    for (const file of files) {
+        const bytes = new Uint8Array(await file.arrayBuffer());
+        const result = bytes.length > MOST_BYTES ? null : resultIn(new TextDecoder().decode(bytes));
+        if (result === null) found.files.push({name: file.name, bytes});
+        else found.results.push({file: file.name, ...result});
+    }
+    return found;
+}
+
+export class Marking {
+    /** Watches a store, and asks a program, which is asked nothing else, of one result after another. */
+    constructor(store, program) {
+        this.store = store;
+        this.program = program;
+        this.isBusy = false;
+        store.watch(() => this.look());
+    }
+
+    async look() {
+        const next = this.store.value.results.find(({verdict}) => verdict === null);
+        if (this.isBusy || next === undefined) return;
+        this.isBusy = true;
+        const verdict = await this.decided(next.document);
+        this.isBusy = false;
+        this.store.act("marked", next, verdict);
+    }
+
+    /** Whether a document reaches its goal, as `{isReached, says}`. */
+    async decided({exercise, bytes}) {
+        if (exercise === null) return {isReached: false, says: "it isn't of an exercise"};
+        try {
+            const {status, bytes: answer} = await this.program.turn()([GOALS[exercise.goal].command], bytes);
+            if (status === 0) return {isReached: true, says: "yes"};
+            return {isReached: false, says: `no: ${whyNot(new TextDecoder().decode(answer))}`};
+        } catch (error) {
+            if (!(error instanceof NoAnswerCame || error instanceof Ended || error instanceof NoAnswer)) throw error;
+            return {isReached: false, says: "the program didn't answer"};
+        }
+    }
+}
+
+function whyNot(text) {
+    const said = readAnswer(text);
+    return WHY_NOT[said.answer]?.(said) ?? said.answer;
+}
+
+const WHY_NOT = {
+    firms: ({content, firms}) => `${content} of ${firms.length} firms are content`,
+    drops: ({firm}) => `${firm} would drop a contract`,
+    blocks: () => "other contracts block it",
+    fault: ({fault, place}) => place.length === 1 ? `there is no ${place[0]}` : `fault ${fault}`,
+};
+
+let shown = null;
+
+/** Shows the table. */
+export function showResults({results}) {
+    if (results === shown) return;
+    shown = results;
+    const table = part("results"), reached = results.filter(({verdict}) => verdict?.isReached).length;
+    const count = results.length === 1 ? "1 result" : `${results.length} results`;
+    part("results-says").textContent = `${count}, ${reached} reached.`;
+    table.tHead.replaceChildren(rowOf(HEADS.map((head) => made("th", head, {scope: "col"}))));
+    table.tBodies[0].replaceChildren(...results.map((result, k) => resultRow(result, k)));
+}
+
+function rowOf(cells) {
+    const row = made("tr");
+    row.append(...cells);
+    return row;
+}
+
+function resultRow(result, k) {
+    const [name, ...cells] = cellsOf(result), {verdict} = result, head = made("th", "", {scope: "row"});
+    head.append(made("button", name, {type: "button", "data-result": k, title: "Show what this pupil saw"}));
+    const row = rowOf([head, ...cells.map((cell) => made("td", cell))]);
+    if (verdict !== null) row.className = verdict.isReached ? "reached" : "missed";
+    return row;
+}
+
+const SIGNS = {true: "\u2713 ", false: "\u2717 "}, GIVEN = {true: "as given", false: "changed", null: "not compared"};
+
+function cellsOf({file, name, tries, document, isGiven, verdict}) {
+    const reached = verdict === null ? "" : `${SIGNS[verdict.isReached]}${verdict.says}`;
+    return [name || file, document.exercise?.title ?? "none", reached, String(tries ?? "?"), GIVEN[isGiven]];
+}
+
+export function saveResults({results}) {
+    offer("results.csv", rows([HEADS, ...results.map(quotedRow)]), "text/csv");
+}
+
+/** The row in a file: what a pupil wrote begins no formula of a spreadsheet. */
+function quotedRow(result) {
+    return cellsOf(result).map((cell) => cell.replace(/^[=+\-@\t]/, "'$&"));
+}
