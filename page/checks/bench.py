@@ -1,13 +1,10 @@
 """What is tried of the workbench, by pointer and keys: guesses, who objects, ranges, reasons, contracts, claims, undo, links, and
 documents that mean it ill."""
-import hashlib
 import json
 import re
-import shutil
 import subprocess
-import tempfile
 import zlib
-from base64 import b64encode, urlsafe_b64encode
+from base64 import urlsafe_b64encode
 from pathlib import Path
 from statistics import median
 
@@ -140,7 +137,7 @@ def label(trade_ends: str) -> str:
 def tries(page: Bench, program: str | None):
     """Each as a name, and whether it is so."""
     for part in (tries_to_guess, tries_of_undo, tries_to_solve, tries_of_ranges, tries_of_complements, tries_of_reasons, tries_to_sign, tries_of_claims,
-                 tries_to_build, tries_of_exercises, tries_of_the_text, tries_of_files, tries_of_size, tries_of_ill_will):
+                 tries_of_the_text, tries_of_files, tries_of_size, tries_of_ill_will):
         yield from part(page, program)
 
 
@@ -467,185 +464,6 @@ def tries_of_claims(page: Bench, program: str | None):
     page.click("#tab-guess")
 
 
-# Puts something in where the form has a key, as somebody does who chooses or types and leaves the field.
-ENTERED = """
-const [key, content] = arguments, element = [...document.querySelectorAll("#build-fields [data-key]")].find((each) => each.dataset.key === key);
-element.value = content;
-element.dispatchEvent(new Event("input", {bubbles: true}));
-element.dispatchEvent(new Event("change", {bubbles: true}));"""
-
-
-def entry(key: str) -> str:
-    return f'#build-fields [data-key="{key}"]'
-
-
-def tries_to_build(page: Bench, program: str | None):
-    page.click("#new")
-    yield "a new document has no firms, and a form", page.value("document.querySelectorAll('#build-fields button').length") == 1
-    for name in "SB":
-        page.click(entry("firm add"))
-        page.drag(entry("firm name"), 0)
-        page.press("Control+a", name, "Tab")
-    yield "firms are added and named by keys", [firm["name"] for firm in json.loads(page.text())["firms"]] == ["S", "B"]
-    yield "the next field has the focus then", page.focused() == "firm kind"
-    page.browser.run(ENTERED, "new seller", "S")
-    page.click(entry("trade add"))
-    yield "a trade is added", json.loads(page.text())["trades"] == [{"name": "s-b", "seller": "S", "buyer": "B"}] and list(page.drawn()["lanes"]) == ["s-b"]
-    page.drag(entry("amounts s-b"), 0)
-    page.press("Control+a", "7")
-    yield "an amount is typed", json.loads(page.text())["firms"][1]["amounts"] == [["s-b", 7]] and page.focused() == "amounts s-b"
-    page.press("ArrowUp", "ArrowUp")
-    yield "and made greater by keys", json.loads(page.text())["firms"][1]["amounts"] == [["s-b", 9]] and page.focused() == "amounts s-b"
-    page.press("Control+z", "Control+z", "Control+z")
-    yield "each entry is taken back by itself", json.loads(page.text())["firms"][1]["amounts"] == []
-    page.press(*["Control+Shift+Z"] * 3)
-    page.browser.run(ENTERED, "firm", "0")
-    page.browser.run(ENTERED, "firm kind", "table")
-    page.click(entry("row add"))
-    page.drag(entry("row 0 worth"), 0)
-    page.press("Control+a", "-", "4")
-    yield "a row of a table is added, with its worth", json.loads(page.text())["firms"][0] == {"name": "S", "kind": "table", "rows": [[["s-b"], -4]]}
-    page.click(label("S B"))
-    page.drag(entry("trade 0 name"), 0)
-    page.press("Control+a", "c", "a", "r", "Enter")
-    whole = json.loads(page.text())
-    yield "a trade has another name wherever it is named", whole["firms"][0]["rows"] == [[["car"], -4]] and whole["arrangement"] == {"on": ["car"], "prices": [["car", 0]]}
-    page.drag(entry("firm name"), 0)
-    page.press("Control+a", "B", "Tab")
-    yield "a name that another has isn't taken", json.loads(page.text())["firms"][0]["name"] == "S" and page.value("document.querySelector(arguments[0]).value", entry("firm name")) == "S"
-    page.focus("firm:B")
-    page.press("Enter")
-    yield "a firm that is chosen in the network is shown", page.value("document.querySelector(arguments[0]).value", entry("firm name")) == "B"
-    page.click(entry("set add"))
-    page.drag(entry("set 0 greatest"), 0)
-    page.press("Control+a", "2")
-    page.drag(entry("set 0 number 2"), 0)
-    page.press("Control+a", "-", "1")
-    yield "a capacity with steps is added", json.loads(page.text())["firms"][1]["sets"] == [{"trades": ["car"], "from": 0, "values": [0, 0, -1]}]
-    page.click("#tab-guess")
-    page.click("#solve")
-    page.wait_for("state", "answered")
-    yield "the market that was made is solved", page.says("over-says").endswith("the worths sum to 5.")
-    page.click("#tab-build")
-    page.click(entry("firm out"))
-    page.guess()
-    whole = json.loads(page.text())
-    yield "a firm is removed with its trades", (whole["firms"], whole["trades"], whole["arrangement"]) == ([{"name": "S", "kind": "table", "rows": []}], [], {"on": [], "prices": []})
-    for name, parts in (("keeps-a-car.json", "costs owner-middleman"), ("car-dealer.json", "cost a as x")):
-        page.open(name, look.example(name))
-        kinds = {"keeps-a-car.json": "middleman", "car-dealer.json": "dealer"}
-        page.browser.run(ENTERED, "firm", str([firm["kind"] for firm in json.loads(page.text())["firms"]].index(kinds[name])))
-        before = page.text()
-        page.focus(parts)
-        page.press("ArrowUp")
-        after = page.text()
-        yield f"a {kinds[name]}'s number is changed at its place", len(after) == len(before) and sum(one != other for one, other in zip(before, after)) == 1
-    page.click("#tab-guess")
-
-
-# Opens several files at once.
-OPEN_MANY = """
-const moved = new DataTransfer(), input = document.getElementById("file");
-for (const [name, text] of arguments[0]) moved.items.add(new File([text], name));
-input.files = moved.files;
-input.dispatchEvent(new Event("change", {bubbles: true}));"""
-
-# What can be pressed or typed in now, by the ids.
-THERE = "return [...document.querySelectorAll('button, select, input')].filter((each) => each.offsetParent !== null).map(({id}) => id);"
-
-# The rows of the results.
-ROWS = "return [...document.querySelectorAll('#results tbody tr')].map((row) => [...row.cells].map(({textContent}) => textContent));"
-
-SOLVING = {"solve", "wonder", "ranges", "buyers-best", "sellers-best", "tab-claim", "tab-build", "tab-document", "tab-answer", "run", "reason-take", "reason-claim"}
-
-
-def to_exercise(page: Bench, title: str, goal: str) -> str:
-    """Makes the document an exercise by keys, and answers its text."""
-    page.click("#make")
-    page.press("Control+a", *title, "Tab")
-    page.browser.run(CHOSEN, "maker-goal", goal)
-    page.focus_on("maker-put")
-    page.press("Enter")
-    return page.text()
-
-
-def saved_result(page: Bench, name: str) -> tuple[str, str]:
-    """What a pupil of a name saves, as a file."""
-    page.drag("#pupil", 0)
-    page.press("Control+a", *name)
-    page.click("#result-save")
-    return tuple(page.browser.run(OFFERED)[0])
-
-
-def tries_of_exercises(page: Bench, program: str | None):
-    page.browser.run(KEEP)
-    page.open("1-one-good.json", look.example("lesson/1-one-good.json"))
-    before = page.text()
-    given = to_exercise(page, "One good", "equilibrium")
-    note = {"exercise": "One good", "goal": "equilibrium", "note": json.loads(before)["note"]}
-    yield "a document is made an exercise by its note", json.loads(given) == {**json.loads(before), "note": note} and "says so now" in page.says("maker-says")
-    page.click("#maker-try")
-    page.guess()
-    there = set(page.browser.run(THERE))
-    yield "as a pupil sees it nothing solves it", page.says("exercise-title") == "One good" and not there & (SOLVING | {"make", "tab-sign"}) and "result-save" in there
-    page.focus_on("tab-guess")
-    page.press("ArrowRight")
-    yield "nor by keys", page.value("document.activeElement.id") == "tab-guess" and not set(page.browser.run(THERE)) & SOLVING
-    yield "the page says who can find the solution", "Who reads the file" in page.says("exercise")
-    yield "objections are told", page.guess().endswith("firms are content.") and page.value("!document.getElementById('objects').disabled")
-    first = saved_result(page, "Lena")
-    page.click(label("Ada Cleo"))
-    page.drag(label("Ada Cleo"), -32)
-    page.press("Control+z")
-    page.press("Control+z")
-    yield "changes are counted as tries, and taken back they stay", page.says("tries") == "2 tries" and page.text() == given
-    for trade in ("Ada Cleo", "Ada Dan", "Ben Cleo", "Ben Dan"):
-        page.focus(f"lane:{trade}")
-        page.press("5", "5")
-    yield "an equilibrium is announced", page.guess().startswith("\u2713 An equilibrium") and page.says("tries") == "6 tries"
-    second = saved_result(page, "Max")
-    yield "a result is a small file with the document", (second[0], json.loads(second[1])) == (
-        "Max-One-good.json", {"result": 1, "name": "Max", "tries": 6, "document": json.loads(page.text())}) and len(second[1]) < 2000
-    changed = second[1].replace('"Max"', '"=Mo"').replace("90", "190")
-    signed = json.dumps({**json.loads(before), "note": {"exercise": "To last", "goal": "lasts"}, "outcome": {"over": 1, "contracts": [["ada-cleo", 55]]}})
-    lasting = json.dumps({"result": 1, "name": "Ida", "tries": 3, "document": json.loads(signed)})
-    none = json.dumps({"result": 1, "name": "Jon", "document": {}})
-    page.browser.run(OPEN_MANY, [["given.json", given], list(first), list(second), ["mo.json", changed], ["ida.json", lasting], ["jon.json", none]])
-    page.wait_for("results", "answered")
-    rows, content = page.browser.run(ROWS), asked(page, program, ["firms"], given)["content"]
-    yield "many results are told in a table, each as the program decides it", rows == [
-        ["Lena", "One good", f"\u2717 no: {content} of 4 firms are content", "0", "as given"], ["Max", "One good", "\u2713 yes", "6", "as given"],
-        ["=Mo", "One good", "\u2713 yes", "6", "changed"], ["Ida", "To last", "\u2713 yes", "3", "not compared"],
-        ["Jon", "none", "\u2717 it isn't of an exercise", "?", "not compared"]]
-    yield "and counted", page.says("results-says") == "5 results, 3 reached."
-    page.click("#results-csv")
-    table = page.browser.run(OFFERED)[0]
-    yield "they are offered as rows, none of which begins a formula", table[0] == "results.csv" and "\n'=Mo,One good,\u2713 yes,6,changed\n" in table[1]
-    page.click('[data-result="0"]')
-    yield "a click shows what a pupil saw", page.guess().endswith("firms are content.") and page.text() == given.strip()
-    page.click("#tab-results")
-    page.click("#results-forget")
-    yield "results are forgotten", page.value("document.getElementById('tab-results').offsetParent === null") and page.browser.run(ROWS) == []
-    page.open("6-signed-too-low.json", look.example("lesson/6-signed-too-low.json"))
-    to_exercise(page, "To last", "lasts")
-    page.click("#maker-try")
-    there = set(page.browser.run(THERE))
-    yield "of contracts that are to last the objections are told too", "doesn't last" in judged(page) or "isn't kept" in judged(page)
-    yield "and nothing else", not there & (SOLVING | {"make", "tab-guess"}) and "denominator" in there
-    page.click("#link")
-    page.wait_for("linked", "true")
-    fragment = page.value("document.getElementById('fragment').value")
-    page.click("#linked-close")
-    page.open("used-cars.json", look.example("used-cars.json"))
-    yield "another document is none", page.value("document.documentElement.dataset.exercise") == "none" and "tab-document" in page.browser.run(THERE)
-    page.browser.run("location.hash = arguments[0]", fragment)
-    page.wait_for("exercise", "lasts")
-    yield "a link brings the exercise", page.says("exercise-title") == "To last"
-    page.browser.run("history.replaceState(null, '', location.pathname)")
-    page.open("used-cars.json", look.example("used-cars.json"))
-    page.click("#tab-guess")
-
-
 ONE_TRADE = ('{"version":1,"firms":[{"name":"S","kind":"table","rows":[[["a"],-1]]},{"name":"B","kind":"table","rows":[[["a"],4]]}],'
              '"trades":[{"name":"a","seller":"S","buyer":"B"}]}')
 
@@ -800,50 +618,6 @@ def tries_of_links(page: Bench, address: str):
     yield "and forgotten", page.value("document.getElementById('kept').hidden")
 
 
-def read_code(page: Bench) -> str | None:
-    """What a code in the page says, read by zbarimg from a picture of the page; None where there is no zbarimg."""
-    if shutil.which("zbarimg") is None:
-        return None
-    with tempfile.TemporaryDirectory() as folder:
-        picture = Path(folder, "page.png")
-        page.browser.run("document.getElementById('linked').scrollIntoView()")
-        page.browser.picture(str(picture), 1280, 1400)
-        said = subprocess.run(["zbarimg", "--raw", "--quiet", picture], capture_output=True, text=True).stdout.strip()
-    page.browser.size(1280, 800)
-    return said
-
-
-# The squares on each side of the code that is shown, without the blank ones around it.
-SQUARES = "Number((document.querySelector('#code-picture svg')?.getAttribute('viewBox') ?? '0 0 8 8').split(' ')[2]) - 8"
-
-
-def tries_of_codes(page: Bench, address: str):
-    page.again(address)
-    page.open("houses.json", look.example("houses.json"))
-    page.click("#link")
-    page.wait_for("linked", "true")
-    page.focus_on("code")
-    page.press("Enter")
-    yield "from a disk a code wants an address", page.says("code-says").startswith("Type the address") and page.value(SQUARES) == 0
-    page.press(*"http://a.example/m.html#x")
-    whole = "http://a.example/m.html" + page.value("document.getElementById('fragment').value")
-    yield "the code has the size for its letters", page.says("code-says") == f"The link has {len(whole)} letters, and its code {page.value(SQUARES)} squares on each side."
-    read = read_code(page)
-    if read is None:
-        print("zbarimg is left out: it isn't here, so the code isn't read")
-    else:
-        yield "it is read as the link", read == whole
-    page.browser.run(KEEP)
-    page.click("#code-save")
-    yield "it is saved as a picture", [(name, text[:4]) for name, text in page.browser.run(OFFERED)] == [("houses-code.svg", "<svg")]
-    page.open("many.json", b'{"version":1,"firms":[],"trades":[],"note":"' + b64encode(b"".join(hashlib.sha512(bytes([k])).digest() for k in range(40))) + b'"}')
-    page.click("#link")
-    page.click("#code")
-    yield "a document too long for a code is told", page.says("code-says").startswith("The document is too long for a code: the link has ") and page.value(SQUARES) == 0
-    page.click("#linked-close")
-    yield "and closed", page.value("document.getElementById('linked').hidden")
-
-
 def contracts_of(name: str) -> bytes:
     """A document with one name for all, in what is signed and in a claim that has all that one may have, and more."""
     claim = {"answer": name, "contracts": [[name, 1], name, None], "over": name, "firm": name, "keeps": [name], "nodes": [name, None], "at": name, name: 1}
@@ -910,6 +684,9 @@ def tries_of_access(page: Bench):
     page.click("#tab-build")
     nodes = tree_of(page)
     yield "and all of the form", unnamed(nodes) == [] and {"Amount of o1b1", "Trade o1b1 from", "Add a trade"} <= set(names_in(nodes))
+    page.open("exercise.json", b'{"version":1,"firms":[],"trades":[],"note":{"exercise":"None","goal":"equilibrium"}}')
+    nodes = tree_of(page)
+    yield "and all of an exercise", unnamed(nodes) == [] and {"Your name", "Save the result"} <= set(names_in(nodes))
     style = (HERE.parent / "style.css").read_text()
     colours = dict(re.findall(r"--([\w-]+): (#[0-9a-f]{6})", style))
     pairs = [(text, ground) for text in ("ink", "quiet", "good", "bad") for ground in ("paper", "ground")]
