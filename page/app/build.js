@@ -11,27 +11,29 @@ export function readyBuild(of) {
 }
 
 /**
- * Shows the form of a value. Its elements stay as long as the same kinds of controls are wanted, and are filled anew, so that what is
- * typed in keeps the focus, and a button that is being pressed is still there when it is let go.
+ * Shows the form of a value. Its elements stay as long as the same kinds of controls are wanted, and are filled anew, so that
+ * what is typed in keeps the focus, and a button that is being pressed is still there when it is let go.
  */
 export function showBuild(value) {
     const {document, view} = value;
     if (view.panel !== "build") return;
-    if (shownOf !== null && shownOf.document === document && shownOf.built === view.built && shownOf.ends === view.ends) return;
-    shownOf = {document, built: view.built, ends: view.ends};
+    const {built, ends} = view;
+    if (shownOf !== null && shownOf.document === document && shownOf.built === built && shownOf.ends === ends) return;
+    shownOf = {document, built, ends};
     const groups = document.isWhole ? formOf(networkOf(document), view) : [];
     write("build-says", groups.length > 0 ? "" : document.isWhole ? NO_OBJECT : TOO_LONG);
     const list = groups.flatMap(({lines}) => lines.flatMap((line) => line.controls));
     controls = new Map(list.map((control) => [control.key, control]));
     const next = JSON.stringify(groups.map(({lines}) => lines.map((line) => line.controls.map(({kind}) => kind))));
-    if (next !== structure) keepingFocus(part("build-fields"), () => part("build-fields").replaceChildren(...groups.map(groupOf)));
+    const fields = part("build-fields");
+    if (next !== structure) keepingFocus(fields, () => fields.replaceChildren(...groups.map(groupOf)));
     structure = next;
     showWords(groups);
-    part("build-fields").querySelectorAll("[data-key]").forEach((element, k) => fill(element, list[k]));
+    fields.querySelectorAll("[data-key]").forEach((element, k) => fill(element, list[k]));
 }
 
 const TOO_LONG = "The document is too long to be looked at here.";
-const NO_OBJECT = "The document isn't one that a form can change: its fault stands under Document. New begins another one.";
+const NO_OBJECT = "A form can't change this document: its fault stands under Document. New begins another one.";
 
 function groupOf({lines}) {
     const group = made("fieldset");
@@ -77,9 +79,9 @@ function labelled(...parts) {
 }
 
 function textForm({kind, key}) {
-    const input = made("input", "", {type: "text", size: kind === "name" ? 8 : 4, autocomplete: "off", spellcheck: "false", "data-key": key});
+    const looks = {size: kind === "name" ? 8 : 4, inputmode: kind === "number" ? "numeric" : null};
+    const input = made("input", "", {type: "text", ...looks, autocomplete: "off", spellcheck: "false", "data-key": key});
     const own = () => controls.get(input.dataset.key);
-    if (kind === "number") input.setAttribute("inputmode", "numeric");
     input.addEventListener(kind === "name" ? "change" : "input", () => {
         const content = input.value.trim(), {isRight, value} = own();
         input.setAttribute("aria-invalid", `${!isRight(content)}`);
@@ -136,8 +138,9 @@ function fill(element, {key, kind, name, says, value, options, isRight}) {
 
 /** Offers options, and chooses what stands in the text, which may be none of them. */
 function choose(select, options, value) {
-    const all = options.some((option) => option.value === value) ? options : [{value, says: value}, ...options], key = JSON.stringify(all);
-    if (select.dataset.options !== key) select.replaceChildren(...all.map((option) => new Option(option.says, option.value)));
+    const isKnown = options.some((option) => option.value === value), all = isKnown ? options : [{value, says: value}, ...options];
+    const key = JSON.stringify(all), fresh = () => all.map((option) => new Option(option.says, option.value));
+    if (select.dataset.options !== key) select.replaceChildren(...fresh());
     select.dataset.options = key;
     select.value = value;
 }

@@ -1,4 +1,5 @@
-// Changes of the text in its firms and trades. What is said of a trade or firm elsewhere goes along when that is renamed or removed.
+// Changes of the text in its firms and trades. What is said of a trade or firm elsewhere goes along when that is renamed
+// or removed.
 import {added, memberOf, withMember, without} from "./edits.js";
 
 /** What a name may be. */
@@ -9,17 +10,22 @@ export const EMPTY = '{"version":1,\n "firms":[],\n "trades":[]}\n';
 
 /** Where firms and trades are named, by steps from the top; * is each item. */
 const FIRMS_NAMED = ["firms * name", "trades * seller", "trades * buyer", "claim firm"];
-const TRADES_NAMED = ["trades * name", "firms * rows * 0 *", "firms * amounts * 0", "firms * sets * trades *", "firms * costs * 0", "firms * gains * 0",
-    "firms * pairs * 0", "firms * pairs * 1", "arrangement on *", "arrangement prices * 0", "outcome contracts * 0", "edits * 1", "claim on *",
-    "claim bundle *", "claim keeps *", "claim x *", "claim y *", "claim at", "claim nodes *", "claim prices * 0", "claim contracts * 0"];
+const TRADES_NAMED = [
+    "trades * name", "firms * rows * 0 *", "firms * amounts * 0", "firms * sets * trades *", "firms * costs * 0",
+    "firms * gains * 0", "firms * pairs * 0", "firms * pairs * 1", "arrangement on *", "arrangement prices * 0",
+    "outcome contracts * 0", "edits * 1", "claim on *", "claim bundle *", "claim keeps *", "claim x *", "claim y *", "claim at",
+    "claim nodes *", "claim prices * 0", "claim contracts * 0"];
 
 /** The lists of a firm, and those beside it, whose items go with a trade, each with where an item names it. */
-const OF_A_FIRM = [["rows", ["0 *"]], ["amounts", ["0"]], ["sets * trades", [""]], ["costs", ["0"]], ["gains", ["0"]], ["pairs", ["0", "1"]]];
-const OF_THE_TOP = [["arrangement on", [""]], ["arrangement prices", ["0"]], ["outcome contracts", ["0"]], ["edits", ["1"]]];
+const OF_A_FIRM = [
+    ["rows", ["0 *"]], ["amounts", ["0"]], ["sets * trades", [""]], ["costs", ["0"]], ["gains", ["0"]], ["pairs", ["0", "1"]]];
+const OF_THE_TOP = [
+    ["arrangement on", [""]], ["arrangement prices", ["0"]], ["outcome contracts", ["0"]], ["edits", ["1"]]];
 
 /** The nodes that steps lead to. */
 function nodesAt(node, steps) {
-    return steps.split(" ").filter(Boolean).reduce((nodes, step) => nodes.flatMap((each) => nextOf(each, step)), [node]);
+    const next = (nodes, step) => nodes.flatMap((each) => nextOf(each, step));
+    return steps.split(" ").filter(Boolean).reduce(next, [node]);
 }
 
 function nextOf({kind, value}, step) {
@@ -29,7 +35,8 @@ function nextOf({kind, value}, step) {
 
 /** The firms or the trades of a document that are objects, as nodes with their names. */
 export function objectsIn(network, list) {
-    return nodesAt(network.root, `${list} *`).filter(({kind}) => kind === "object").map((node) => ({node, name: textAt(node, "name")}));
+    const nodes = nodesAt(network.root, `${list} *`).filter(({kind}) => kind === "object");
+    return nodes.map((node) => ({node, name: textAt(node, "name")}));
 }
 
 /** The text of a member, "" where it is none. */
@@ -68,8 +75,8 @@ export function firmAdded(network, name) {
 }
 
 const MEMBERS = {
-    table: '"kind":"table","rows":[]', laminar: '"kind":"laminar","amounts":[],"sets":[]', middleman: '"kind":"middleman","costs":[],"gains":[]',
-    dealer: '"kind":"dealer","pairs":[]'};
+    table: '"kind":"table","rows":[]', laminar: '"kind":"laminar","amounts":[],"sets":[]',
+    middleman: '"kind":"middleman","costs":[],"gains":[]', dealer: '"kind":"dealer","pairs":[]'};
 
 /** The edits that make a firm one of another kind, of which nothing is known yet but its name and note. */
 export function ofKind(network, firm, kind) {
@@ -84,51 +91,61 @@ export function ofKind(network, firm, kind) {
 export function tradeAdded(network, name, seller, buyer) {
     const [says, from, to] = [name, seller, buyer].map((each) => JSON.stringify(each));
     const prices = nodesAt(network.root, "arrangement prices").filter(({kind}) => kind === "list");
-    return [...another(network, "trades", `{"name":${says},"seller":${from},"buyer":${to}}`), ...prices.map((list) => added(list, `[${says},0]`))];
+    const text = `{"name":${says},"seller":${from},"buyer":${to}}`;
+    return [...another(network, "trades", text), ...prices.map((list) => added(list, `[${says},0]`))];
 }
 
-/** The edits that give a firm, or a trade, another name, wherever it is named; of several with one name this one alone gets the new one. */
+/**
+ * The edits that give a firm, or a trade, another name, wherever it is named; of several with one name this one alone gets the
+ * new one.
+ */
 export function renamed(network, list, object, to) {
-    const from = textAt(object, "name"), isOne = objectsIn(network, list).filter(({name}) => name === from).length === 1;
-    if (!isOne) return put(object, "name", JSON.stringify(to));
+    const from = textAt(object, "name"), same = objectsIn(network, list).filter(({name}) => name === from);
+    if (same.length > 1) return put(object, "name", JSON.stringify(to));
     const places = list === "firms" ? FIRMS_NAMED : TRADES_NAMED;
-    const nodes = places.flatMap((steps) => nodesAt(network.root, steps)).filter(({kind, value}) => kind === "text" && value === from);
+    const nodes = places.flatMap((steps) => nodesAt(network.root, steps)).filter((node) => names(node, [from]));
     return nodes.flatMap((node) => replaced(node, JSON.stringify(to)));
 }
 
+/** Whether a node is one of some names. */
+function names({kind, value}, some) {
+    return kind === "text" && some.includes(value);
+}
+
 /** The edits that take out of some lists below a node what names some trades. */
-function forgotten(node, lists, names) {
-    const isGone = (item, places) => places.some((steps) => nodesAt(item, steps).some(({kind, value}) => kind === "text" && names.includes(value)));
+function forgotten(node, lists, trades) {
+    const isGone = (item, places) => places.some((steps) => nodesAt(item, steps).some((each) => names(each, trades)));
     return lists.flatMap(([steps, places]) => nodesAt(node, steps).filter(({kind}) => kind === "list")
         .flatMap((list) => without(list, (item) => isGone(item, places))));
 }
 
 /** The edits that remove some trades, and all that is said of them but a claim. */
 export function tradesRemoved(network, trades, but = null) {
-    const list = memberOf(network.root, "trades", "list"), names = trades.map((trade) => textAt(trade, "name"));
+    const list = memberOf(network.root, "trades", "list"), gone = trades.map((trade) => textAt(trade, "name"));
     if (list === null || trades.length === 0) return [];
     const firms = objectsIn(network, "firms").filter(({node}) => node !== but);
-    return [...without(list, (item) => trades.includes(item)), ...firms.flatMap(({node}) => forgotten(node, OF_A_FIRM, names)),
-        ...forgotten(network.root, OF_THE_TOP, names)];
+    return [...without(list, (item) => trades.includes(item)), ...firms.flatMap(({node}) => forgotten(node, OF_A_FIRM, gone)),
+        ...forgotten(network.root, OF_THE_TOP, gone)];
 }
 
 /** The edits that remove a firm with its trades. */
 export function firmRemoved(network, firm) {
-    const name = textAt(firm, "name"), isIts = ({node}) => textAt(node, "seller") === name || textAt(node, "buyer") === name;
-    const trades = objectsIn(network, "trades").filter(isIts).map(({node}) => node);
-    return [...without(memberOf(network.root, "firms", "list"), (item) => item === firm), ...tradesRemoved(network, trades, firm)];
+    const name = textAt(firm, "name"), isIts = (trade) => [textAt(trade, "seller"), textAt(trade, "buyer")].includes(name);
+    const trades = objectsIn(network, "trades").map(({node}) => node).filter(isIts), list = memberOf(network.root, "firms", "list");
+    return [...without(list, (item) => item === firm), ...tradesRemoved(network, trades, firm)];
 }
 
 /**
- * The edits that give a trade another seller or buyer; where that is its other end, the two change places. A firm whose side of it
- * changes forgets what it says of it.
+ * The edits that give a trade another seller or buyer; where that is its other end, the two change places. A firm whose side
+ * of it changes forgets what it says of it.
  */
 export function moved(network, trade, side, firm) {
-    const other = side === "seller" ? "buyer" : "seller", before = {seller: textAt(trade, "seller"), buyer: textAt(trade, "buyer")};
+    const before = {seller: textAt(trade, "seller"), buyer: textAt(trade, "buyer")}, other = side === "seller" ? "buyer" : "seller";
     const after = {...before, [side]: firm, ...(before[other] === firm ? {[other]: before[side]} : {})};
-    const isTouched = (name) => ["seller", "buyer"].some((end) => (before[end] === name) !== (after[end] === name));
-    const firms = objectsIn(network, "firms").filter(({name}) => isTouched(name));
-    return [...["seller", "buyer"].filter((end) => after[end] !== before[end]).flatMap((end) => put(trade, end, JSON.stringify(after[end]))),
+    const changed = ["seller", "buyer"].filter((end) => after[end] !== before[end]);
+    const isTouched = ({name}) => changed.some((end) => before[end] === name || after[end] === name);
+    const firms = objectsIn(network, "firms").filter(isTouched);
+    return [...changed.flatMap((end) => put(trade, end, JSON.stringify(after[end]))),
         ...firms.flatMap(({node}) => forgotten(node, OF_A_FIRM, [textAt(trade, "name")]))];
 }
 
@@ -162,7 +179,8 @@ export function itemsIn(firm, name) {
 /** The edits that give a set numbers from one net count to another; where there was none, the nearest one is taken. */
 export function stretched(network, set, from, to) {
     const first = Number(memberOf(set, "from", "number")?.value.text ?? 0), list = memberOf(set, "values", "list");
-    const texts = (list?.value ?? []).map(({start, end}) => network.text.slice(start, end)), made = [];
-    for (let count = from; count <= to; count += 1) made.push(texts[Math.min(Math.max(count - first, 0), texts.length - 1)] ?? "0");
+    const texts = (list?.value ?? []).map(({start, end}) => network.text.slice(start, end));
+    const nearest = (count) => texts[Math.min(Math.max(count - first, 0), texts.length - 1)] ?? "0";
+    const made = Array.from({length: to - from + 1}, (_, k) => nearest(from + k));
     return [...put(set, "from", `${from}`), ...put(set, "values", `[${made.join(",")}]`)];
 }
