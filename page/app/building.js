@@ -1,6 +1,6 @@
 // Changes of the text in its firms and trades. What is said of a trade or firm elsewhere goes along when that is renamed
 // or removed.
-import {added, memberOf, withMember, without} from "./edits.js";
+import {added, memberOf, put, replaced, without} from "./edits.js";
 
 /** What a name may be. */
 export const NAME = /^[A-Za-z0-9_.-]{1,32}$/;
@@ -42,17 +42,6 @@ export function objectsIn(network, list) {
 /** The text of a member, "" where it is none. */
 export function textAt(object, name) {
     return memberOf(object, name, "text")?.value ?? "";
-}
-
-/** The edits that write a value in the place of another. */
-export function replaced({start, end}, text) {
-    return [{start, end, text}];
-}
-
-/** The edits that give an object a member, in the place of the one that it has. */
-export function put(object, name, text) {
-    const before = object.value.get(name);
-    return before ? replaced(before, text) : [withMember(object, name, text)];
 }
 
 /** Another item of a list of the top, on a line of its own. */

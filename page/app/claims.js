@@ -2,7 +2,7 @@
 import {CLAIMS} from "../read/answer.js";
 import {written} from "../read/json.js";
 import {listed} from "../say/words.js";
-import {added, memberOf, withMember, without} from "./edits.js";
+import {added, memberAs, memberOf, without} from "./edits.js";
 
 /** Whether an answer can be a claim. */
 export function canBeClaimed(said) {
@@ -11,9 +11,7 @@ export function canBeClaimed(said) {
 
 /** The edits that put an answer in as the claim, in place of any other. */
 export function claimedAs(network, said) {
-    if (network.root.kind !== "object") return [];
-    const before = network.root.value.get("claim"), text = written(said);
-    return before ? [{start: before.start, end: before.end, text}] : [withMember(network.root, "claim", text)];
+    return memberAs(network, "claim", written(said));
 }
 
 /** The claim of a document as a node, or null. */

@@ -89,6 +89,22 @@ export function withMember({value, end}, name, text) {
     return {start: end - 1, end: end - 1, text: `${value.size > 0 ? "," : ""}${JSON.stringify(name)}:${text}`};
 }
 
+/** The edits that write a value in the place of another. */
+export function replaced({start, end}, text) {
+    return [{start, end, text}];
+}
+
+/** The edits that give an object a member, in the place of the one that it has. */
+export function put(object, name, text) {
+    const before = object.value.get(name);
+    return before ? replaced(before, text) : [withMember(object, name, text)];
+}
+
+/** The edits that make a text a member of a document, in place of any other of its name. */
+export function memberAs({root}, name, text) {
+    return root.kind === "object" ? put(root, name, text) : [];
+}
+
 /** Another item behind the last one of a list. */
 export function added({value, end}, text) {
     if (value.length === 0) return {start: end - 1, end: end - 1, text};

@@ -2,8 +2,7 @@
 // as a pupil leaves it.
 import {NotJson, parse, plain, written} from "../read/json.js";
 import {objectOf} from "../read/network.js";
-import {put} from "./building.js";
-import {memberOf} from "./edits.js";
+import {memberOf, put} from "./edits.js";
 
 /**
  * What may have to be reached: the command that decides it with status 0, the view in which it is looked for, and what a

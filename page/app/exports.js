@@ -16,10 +16,11 @@ export function saveDocument({document: {name, bytes}}) {
 
 /** The picture of the network with what is answered of the guess, as page/draw draws it. */
 export function savePicture(value) {
-    const {document, guess, judged, answer, view} = value, network = networkOf(document);
+    const {document, guess, judged, answer, compared, view} = value, network = networkOf(document);
     const signed = judged !== null && !isOld(value, judged) && judged.said !== null ? judged.said : {};
     const said = view.isOver ? answer.said : view.mode === "sign" ? signed : guess?.said?.answer === "firms" ? guess.said : {};
-    offer(`${stem(document.name)}.svg`, networkPicture(network, said, {firm: neighbourhood(value)}), "image/svg+xml");
+    const [before, shown] = view.mode === "whatif" && compared?.states && !isOld(value, compared) ? compared.states : [null, said];
+    offer(`${stem(document.name)}.svg`, networkPicture(network, shown, {before, firm: neighbourhood(value)}), "image/svg+xml");
 }
 
 /** The bytes that the program wrote. */

@@ -1,10 +1,10 @@
 // A form for the firms and trades of a document, as plain data: what can be put in, what stands there, and by which changes
 // of the text. One firm is shown at a time, and all trades.
 import {
-    firmAdded, firmRemoved, freeName, itemAdded, itemRemoved, itemsIn, moved, NAME, numbered, objectsIn, ofKind, put, renamed,
-    replaced, stretched, textAt, toggled, tradeAdded, tradesRemoved,
+    firmAdded, firmRemoved, freeName, itemAdded, itemRemoved, itemsIn, moved, NAME, numbered, objectsIn, ofKind, renamed,
+    stretched, textAt, toggled, tradeAdded, tradesRemoved,
 } from "./building.js";
-import {memberOf} from "./edits.js";
+import {memberOf, put, replaced} from "./edits.js";
 
 const WHOLE = /^(0|-?[1-9]\d{0,9})$/, COUNT = /^(0|-?[1-9]\d?)$/;
 

@@ -1,6 +1,7 @@
 // Pointer and keys on the network: a click turns a trade on or off, a drag gives it a price, and elsewhere moves the picture.
 import {part} from "./page.js";
 import {lookedBy, panned, zoomIn, zoomOut} from "./scene.js";
+import {suppose} from "./suppose.js";
 import {priceOf, setPrice, turn} from "./terms.js";
 
 /** How far a pointer goes before it drags, and for how many pixels a price changes by a step. */
@@ -50,7 +51,7 @@ function keyAt(element) {
 
 /** What is held by a lane of one trade: its name and price. */
 function grip(store, key) {
-    const trade = onlyTrade(key);
+    const trade = store.value.view.mode === "whatif" ? null : onlyTrade(key);
     if (trade === null) return {trade: null};
     drags += 1;
     return {trade, price: priceOf(store.value, trade), mark: `drag ${drags}`};
@@ -78,9 +79,15 @@ function dragPrice(store, {trade, price, mark, key}, steps, isFine) {
     setPrice(store, trade, price + BigInt(steps) * stepOf(price, isFine), mark);
 }
 
-/** Chooses a lane or firm; a lane of one trade is turned on or off too. */
+/** The edits that take a firm away, or the trades of a lane. */
+function awayAt(key) {
+    return key.startsWith("firm:") ? [["leave", key.slice(5)]] : tradesOf(key).map((name) => ["bar", name]);
+}
+
+/** Chooses a lane or firm; a lane of one trade is turned on or off too. In a what-if they go, or are there again. */
 function choose(store, key, isTurned) {
     if (key === null) return store.act("selected", null);
+    if (store.value.view.mode === "whatif") return suppose(store, awayAt(key));
     if (key.startsWith("firm:")) return store.act("selected", {kind: "firm", name: key.slice(5)});
     const trade = onlyTrade(key);
     if (trade !== null && isTurned) turn(store, trade);
@@ -97,7 +104,7 @@ function pressed(store, event, type) {
     }
     if (event.key === "Enter" || event.key === " ") return choose(store, key, true), true;
     const trade = onlyTrade(key);
-    if (trade === null) return false;
+    if (trade === null || store.value.view.mode === "whatif") return false;
     if (/^[-\d]$/.test(event.key)) {
         choose(store, key, false);
         return type(trade, event.key), true;

@@ -18,9 +18,11 @@ import {showScene} from "./scene.js";
 import {showShell} from "./shell.js";
 import {Store} from "./state.js";
 import {showStory} from "./story.js";
+import {Suppositions} from "./suppose.js";
 import {readyTrades, showTrades, typePrice} from "./trades.js";
 import {showVerdict} from "./verdict.js";
 import {showAnswers} from "./view.js";
+import {bindWhatIf, showWhatIf} from "./whatif.js";
 
 const store = new Store();
 
@@ -59,6 +61,7 @@ function show(value) {
     showShell(value);
     showVerdict(value);
     showStory(value);
+    showWhatIf(value);
     showScene(value);
     showFirms(value);
     showTrades(value);
@@ -91,6 +94,8 @@ async function start() {
     new Guesses(store, guesser);
     new Marking(store, marker);
     store.watch(() => trace(store, tracer));
+    bindWhatIf(store);
+    new Suppositions(store, new Program(module, partOf("worker")));
     addEventListener("hashchange", openAddress);
     new ResizeObserver(() => showScene(store.value)).observe(part("stage"));
     const [[, [[name, text]]]] = documents;

@@ -2,11 +2,13 @@
 import {BOTH, COME, FIRST, GONE, SECOND} from "../draw/svg.js";
 import {fraction} from "../read/network.js";
 import {standing} from "../read/standing.js";
+import {supposedScene} from "./difference.js";
 import {drawing, keepingFocus, part, write} from "./page.js";
 import {isTable} from "./plan.js";
 import {moodOf, stageOf} from "./stage.js";
 import {isOld, networkOf} from "./state.js";
 import {stepOf} from "./story.js";
+import {isOther} from "./suppose.js";
 
 /** By how many pixels an arrow key moves the picture, and how much a step zooms. */
 const STEP = 60, ZOOM = 1.25, MOST_ZOOM = 12;
@@ -20,7 +22,7 @@ function shapeNow() {
 }
 
 /** What else of a value the picture is made of. */
-const SHOWN = ["document", "guess", "judged", "reason"];
+const SHOWN = ["document", "guess", "judged", "reason", "compared"];
 
 /** Draws what a value has to show. */
 export function showScene(value) {
@@ -28,14 +30,19 @@ export function showScene(value) {
     const isNew = drawnOf === null || drawnOf.key !== key || SHOWN.some((name) => drawnOf[name] !== value[name]);
     if (isNew) draw(scene, value);
     drawnOf = {key, ...Object.fromEntries(SHOWN.map((name) => [name, value[name]]))};
-    const said = value.view.mode === "sign" ? value.judged : value.guess;
-    part("stage").classList.toggle("old", isOld(value, said) && !scene.isOver);
+    part("stage").classList.toggle("old", isBehind(value) && !scene.isOver);
     look(value.view.window);
+}
+
+/** Whether what is drawn was said of something else than the present. */
+function isBehind(value) {
+    if (value.view.mode === "whatif") return value.compared !== null && isOther(value);
+    return isOld(value, value.view.mode === "sign" ? value.judged : value.guess);
 }
 
 function draw(scene, value) {
     const network = networkOf(value.document), stage = part("stage"), firm = neighbourhood(value);
-    const drawn = stageOf({...scene, network, firm, shape: shapeNow(), selection: value.selection});
+    const drawn = stageOf({...scene, network, firm, shape: shapeNow(), selection: scene.signs ? null : value.selection});
     size = drawn;
     keepingFocus(stage, () => stage.replaceChildren(drawing(drawn.svg)));
     write("legend", legendOf(network, firm, scene));
@@ -52,14 +59,15 @@ export function neighbourhood({document, view, selection}) {
 
 const SIGNS = "Thick: takes place. Thin: doesn't. \u2713 content. \u2717 objects.", SIGNED = "Thick: is signed. Thin: isn't.";
 
-function legendOf(network, firm, {marks, stands}) {
-    const said = [...new Set([...marks.values()].map(({says}) => says))], signs = stands.isSigned ? SIGNED : SIGNS;
-    const coloured = said.length === 0 ? signs : `${signs} In colour: ${said.join("; ")}.`;
+function legendOf(network, firm, {marks, stands, signs: own}) {
+    const said = [...new Set([...marks.values()].map(({says}) => says))], signs = own ?? (stands.isSigned ? SIGNED : SIGNS);
+    const coloured = own || said.length === 0 ? signs : `${signs} In colour: ${said.join("; ")}.`;
     return firm === null ? coloured : `Only ${firm} and its trades are drawn. ${coloured}`;
 }
 
-/** What is drawn: the guess with what `firms` says of it, what is signed, or an answer with trades and prices; and a step of a story. */
+/** What is drawn: what would be after a change, or the guess with what `firms` says of it, what is signed, or an answer with trades and prices; and a step of a story. */
 function sceneOf(value) {
+    if (value.view.mode === "whatif") return supposedScene(value);
     const {document, guess, answer, view} = value, network = networkOf(document), shown = stepOf(value);
     const isOver = view.isOver && answer?.said?.answer === "solved" && !isOld(value, answer);
     const told = !isOver && guess?.said?.answer === "firms" ? guess.said.firms : [];

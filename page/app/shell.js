@@ -7,8 +7,8 @@ import {isTable} from "./plan.js";
 import {faulty, isOld, networkOf} from "./state.js";
 
 /** The views of the panel, each with the part of the page that it has: a guess and what is signed share the table of trades. */
-const PANELS = {guess: "panel-guess", sign: "panel-guess", claim: "panel-claim", build: "panel-build", document: "panel-document",
-    answer: "panel-answer", results: "panel-results"};
+const PANELS = {guess: "panel-guess", sign: "panel-guess", whatif: "panel-whatif", claim: "panel-claim", build: "panel-build",
+    document: "panel-document", answer: "panel-answer", results: "panel-results"};
 
 /** From how many lanes the network takes the whole width by itself. */
 const MANY = 24;

@@ -6,7 +6,7 @@ import {BELOW, labelPlaces, NAME, planOf, PRICE} from "./plan.js";
 /** How far lines in a box stand from each other. */
 const HIGH = 16;
 
-const OFF = "#64748b", GOOD = "#166534", BAD = "#9a3412", INKS = {content: GOOD, unknown: INK};
+const OFF = "#64748b", GOOD = "#166534", BAD = "#9a3412", INKS = {content: GOOD, unknown: INK, away: OFF};
 
 /** How many more letters than a number words below a name have where room is kept for them. */
 const BESIDE = 3;
@@ -69,7 +69,7 @@ function shownPrices(stands) {
 function laneSvg(lane, points, at, isClose) {
     const ink = lane.mark?.ink ?? (lane.isOn ? INK : OFF);
     const width = lane.mark?.width ?? (lane.isOn ? 4 : lane.mark ? 2 : 1.2);
-    const drawn = arrow(points, {ink, width, dashes: !lane.isOn && lane.mark ? "7 4" : null});
+    const drawn = arrow(points, {ink, width, dashes: !lane.isOn && lane.mark ? lane.mark.dashes ?? "7 4" : null});
     const says = laneSays(lane), chosen = lane.isChosen ? " chosen" : "";
     const attributes = {class: `lane${lane.isOn ? " on" : ""}${chosen}`, "data-key": lane.key, "data-trades": lane.trades.join(" ")};
     const words = isClose ? lineLabel : twoLines;
@@ -88,14 +88,21 @@ function laneSays({trades, seller, buyer, name, price, isOn, mark, isSigned}) {
             (mark === null ? "" : `; ${mark.says}`);
 }
 
-function twoLines({name, price, isOn}, {x, y}, ink) {
+/** The name of a lane, with the sign of what comes or goes. */
+function signed({name, mark}) {
+    return mark?.sign ? `${mark.sign} ${name}` : name;
+}
+
+function twoLines(lane, {x, y}, ink) {
+    const {price, isOn} = lane, name = signed(lane);
     const width = Math.max(widthOf(name, NORMAL), widthOf(price ?? "", PRICE)) + 10, weight = isOn ? "bold" : null;
     return [tag("rect", {x: x - width / 2, y: y - 17, width, height: 34, rx: 4}),
         text(x, y - 4, name, {ink, weight}), price === null ? null : text(x, y + 12, price, {size: PRICE, ink, weight})];
 }
 
-function lineLabel({name, price, isOn}, {x, y}, ink) {
-    const says = price === null ? name : `${name} at ${price}`, width = widthOf(says, NORMAL) + 6;
+function lineLabel(lane, {x, y}, ink) {
+    const {price, isOn} = lane, name = signed(lane), says = price === null ? name : `${name} at ${price}`;
+    const width = widthOf(says, NORMAL) + 6;
     return [tag("rect", {x: x - width / 2, y: y - 8, width, height: 16, rx: 3}), text(x, y + 4, says, {ink, weight: isOn ? "bold" : null})];
 }
 

@@ -18,12 +18,14 @@ const MOST_UNDONE = 400;
  * with one mark are taken back together. `results` are those that a teacher opened. `selection` is null or `{kind, ..}`: lane, firm or bound. `guess`, `ranges`, `judged` and
  * `decided` are what `firms`, `range`, `judge` and `replay` answered, `reason` what `support` or `test` did, and `answer` is that of the
  * command in `words`, each with the `document` that it was asked of; where that isn't the present one it is old. `run` is how far the
- * command is, `view` how all this is looked at: `mode` is "guess" or "sign", `step` the place in a story that is told, and `built` that of
- * the firm in the form.
+ * command is, `view` how all this is looked at: `mode` is "guess", "sign" or "whatif", `step` the place in a story that is told, and `built` that of
+ * the firm in the form. `supposed` is who is away and what is barred before and after a change, as edits; `compared` and `contributed` are
+ * what was said of it.
  */
 export const START = {
     document: {name: "", bytes: new Uint8Array(0), text: "", isWhole: true, exercise: null, tries: 0}, past: [], future: [], mark: null, selection: null,
     guess: null, ranges: null, path: null, judged: null, decided: null, reason: null, results: [], words: ["solve"], run: {state: "none"}, answer: null,
+    supposed: {before: [], after: []}, compared: null, contributed: null,
     view: {panel: "guess", mode: "guess", step: 0, isOver: false, hasRanges: false, hasReason: false, window: null, isWide: null, filter: "",
         firm: null, sort: {by: null, isDown: false}, built: 0, ends: {}},
 };
@@ -56,7 +58,7 @@ export const ACTIONS = {
     /** A lane, a firm or a bound was chosen, or nothing. */
     selected: (value, selection) => looked({...value, selection, mark: null}, selection?.kind === "firm" ? {built: placeOf(value, selection)} : {}),
     looked,
-    /** A view of the panel was chosen; two of them say what the network shows. */
+    /** A view of the panel was chosen; three of them say what the network shows. */
     went: (value, panel) => {
         const {mode, isOver} = value.view, next = MODES.includes(panel) ? panel : mode;
         return looked(value, {panel, mode: next, isOver: isOver && next === "guess", step: next === mode ? value.view.step : 0});
@@ -68,6 +70,10 @@ export const ACTIONS = {
     judged: (value, judged) => looked({...value, judged}, {step: isSame(value.judged, judged) ? value.view.step : 0}),
     reasoned: (value, reason) => looked({...value, reason}, {step: isSame(value.reason, reason) ? value.view.step : 0}),
     decided: (value, decided) => ({...value, decided}),
+    /** It is supposed that some are away and barred before, and others after; what is answered of that comes later. */
+    supposed: (value, before, after) => ({...value, supposed: {before, after}}),
+    compared: (value, compared) => ({...value, compared}),
+    contributed: (value, contributed) => ({...value, contributed}),
     /** Another command was chosen. */
     chosen: (value, words) => ({...value, words, run: {state: "none"}}),
     asked: (value) => ({...value, run: {state: "asking"}}),
@@ -83,10 +89,11 @@ export const ACTIONS = {
     forgot: (value) => ({...ACTIONS.went(value, value.view.mode), results: []}),
 };
 
-const NOTHING_SAID = {guess: null, ranges: null, path: null, judged: null, decided: null, reason: null, answer: null};
+const NOTHING_SAID = {guess: null, ranges: null, path: null, judged: null, decided: null, reason: null, answer: null,
+    supposed: START.supposed, compared: null, contributed: null};
 
-/** The views of the panel in which the network is changed. */
-const MODES = ["guess", "sign"];
+/** The views of the panel that say what the network shows. */
+const MODES = ["guess", "sign", "whatif"];
 
 /**
  * The view with which a document is opened: of its claim, of what is signed where there is no guess or that was looked at, or of the

@@ -6,7 +6,7 @@ import {isOld} from "./state.js";
 /** What is told: the answer of `judge` to what is signed, or where it is looked at why a guess has no prices; null where there is none. */
 export function reasonOf({view, judged, reason}) {
     if (view.mode === "sign") return judged;
-    return view.hasReason ? reason : null;
+    return view.mode === "guess" && view.hasReason ? reason : null;
 }
 
 /** The step of a story that is shown, as `{step, place, count}`, or null. It stays until the program has answered to a change. */

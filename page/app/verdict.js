@@ -1,14 +1,17 @@
 // What is said above the network: the verdict on a guess or on what is signed, and the sentence of a chosen firm or of a step.
 import {fraction} from "../read/network.js";
 import {Deals} from "../say/words.js";
+import {supposedVerdict} from "./difference.js";
 import {hasArrangement} from "./edits.js";
 import {linesOf, objectors} from "./firms.js";
 import {part, write} from "./page.js";
 import {isOld, networkOf} from "./state.js";
 import {stepOf} from "./story.js";
+import {isOther} from "./suppose.js";
 
 /** Shows both. */
 export function showVerdict(value) {
+    if (value.view.mode === "whatif") return showSupposed(value);
     const {document, view} = value, isSigned = view.mode === "sign", said = isSigned ? value.judged : value.guess;
     const verdict = verdictOf(value, said), list = isSigned ? [] : objectors(value);
     write("verdict", verdict.says);
@@ -16,6 +19,14 @@ export function showVerdict(value) {
     part("objects").hidden = isSigned;
     part("objects").disabled = list.length === 0 || isOld(value, said);
     document.isWhole && write("told", toldOf(value));
+}
+
+function showSupposed(value) {
+    const {mood, says, told} = supposedVerdict(value);
+    write("verdict", says);
+    part("verdict").className = value.compared !== null && isOther(value) ? `${mood} old` : mood;
+    part("objects").hidden = true;
+    write("told", told);
 }
 
 /** The sentence of a chosen firm, or that of the step. */

@@ -107,7 +107,7 @@ THERE = "return [...document.querySelectorAll('button, select, input')].filter((
 # The rows of the results.
 ROWS = "return [...document.querySelectorAll('#results tbody tr')].map((row) => [...row.cells].map(({textContent}) => textContent));"
 
-SOLVING = {"solve", "wonder", "ranges", "buyers-best", "sellers-best", "tab-claim", "tab-build", "tab-document", "tab-answer", "run", "reason-take", "reason-claim"}
+SOLVING = {"solve", "wonder", "ranges", "buyers-best", "sellers-best", "tab-whatif", "tab-claim", "tab-build", "tab-document", "tab-answer", "run", "reason-take", "reason-claim"}
 
 
 def to_exercise(page: Bench, title: str, goal: str) -> str:

@@ -4,7 +4,7 @@ import {plain, parse} from "./json.js";
 import {objectOf, withMember} from "./network.js";
 
 /** What `firms` says of an arrangement: a Map from each firm to its line, or null where there is no program or a fault. */
-async function linesAt(ask, network, on, prices = new Map()) {
+export async function linesAt(ask, network, on, prices = new Map()) {
     if (ask === null || network.root.kind !== "object") return null;
     const entries = network.trades.map(({name}) => `[${JSON.stringify(name)},${prices.get(name) ?? 0}]`);
     const asked = withMember(network, "arrangement", `{"on":${JSON.stringify(on)},"prices":[${entries}]}`);

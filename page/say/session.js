@@ -24,7 +24,8 @@ function kind(network) {
     return network.edits.some(isOfFirm) ? "usable" : "admitted";
 }
 
-function edit(words) {
+/** An edit as a sentence. */
+export function edit(words) {
     const [act, name] = itemsOf(words), trades = name === "*" ? "Every trade" : name;
     if (act === "leave") return `${name} leaves.`;
     if (act === "join") return `${name} joins.`;

@@ -1,0 +1,95 @@
+// The market as it would be where firms are away and trades barred: states of `session`, and what each firm has in one,
+// by `firms`. All numbers are the program's, but for differences of two of them.
+import {NoAnswer, readAnswer} from "./answer.js";
+import {linesAt} from "./firms.js";
+import {entriesOf, withMember} from "./network.js";
+
+/** The most edits that a document may have. */
+const MOST_EDITS = 256;
+
+const ALL = ["admit", "*"], BACK = {leave: "join", bar: "admit"};
+
+/** Whether an edit is among some. */
+export function isIn(edits, [does, name]) {
+    return edits.some((edit) => edit[0] === does && edit[1] === name);
+}
+
+function undone([does, name]) {
+    return [BACK[does], name];
+}
+
+/**
+ * What isn't there is a list of edits `["leave", firm]` and `["bar", trade]`. These lead from one such list to another:
+ * who is there again, and who goes.
+ */
+export function editsBetween(before, after) {
+    const back = before.filter((edit) => !isIn(after, edit)).map(undone);
+    return [...back, ...after.filter((edit) => !isIn(before, edit))];
+}
+
+/** All edits to one such list and on to another, from the market with everybody there. */
+export function editsTo(before, after) {
+    return [ALL, ...before, ...editsBetween(before, after)];
+}
+
+/** Those of some edits that speak of firms and trades which the document has. */
+export function editsOf(network, edits) {
+    const firms = new Set(network.firms.map(({name}) => name));
+    return edits.filter(([does, name]) => (does === "leave" ? firms.has(name) : network.byName.has(name)));
+}
+
+/**
+ * The market before and after a change, as `{states, said}`: two states of `session`, each
+ * `{on, prices, surplus, lines}`, where `lines` has what `firms` says of each firm there. Where `session` says something
+ * else, `states` is null, and `said` is that. Throws NoAnswer where there would be too many edits.
+ */
+export async function compared(ask, network, before, after) {
+    const said = await sessionOf(ask, network, editsTo(before, after));
+    if (said.answer !== "session") return {states: null, said};
+    const [then, now] = [said.edits[before.length], said.edits.at(-1)];
+    const lines = [await linesIn(ask, network, then), await linesIn(ask, network, now)];
+    return {states: [{...then, lines: lines[0]}, {...now, lines: lines[1]}], said};
+}
+
+/**
+ * What each firm has in a state, and what that is worth to it. A trade that can't be used has no price there, and is
+ * asked about at 0: it is off, so neither a worth nor a utility depends on it, though what a firm would rather have may.
+ */
+async function linesIn(ask, network, {on, prices}) {
+    return await linesAt(ask, network, on, entriesOf(prices)) ?? new Map();
+}
+
+/**
+ * By how much the greatest surplus of a market falls without each firm and each trade that is there, as
+ * `{firms, trades}`, each a Map from names to numbers. It is asked in as few sessions as their edits go into; null where
+ * there is no session. Throws NoAnswer where there would be too many edits.
+ */
+export async function contributions(ask, network, before) {
+    const base = [ALL, ...before], most = Math.max(1, Math.floor((MOST_EDITS - base.length) / 2));
+    const changes = thereIn(network, before), found = {leave: new Map(), bar: new Map()};
+    for (let k = 0; k < changes.length; k += most) {
+        const part = changes.slice(k, k + most), edits = part.flatMap((change) => [change, undone(change)]);
+        const said = await sessionOf(ask, network, [...base, ...edits]);
+        if (said.answer !== "session") return null;
+        const [whole, ...states] = said.edits.slice(base.length - 1);
+        part.forEach(([does, name], j) => found[does].set(name, whole.surplus - states[2 * j].surplus));
+    }
+    return {firms: found.leave, trades: found.bar};
+}
+
+/** The edits that take away one firm that is there, or one trade that can be used. */
+function thereIn(network, before) {
+    const isThere = (firm) => !isIn(before, ["leave", firm]);
+    const usable = network.trades.filter(({seller, buyer}) => isThere(seller) && isThere(buyer));
+    const edits = [...network.firms.map(({name}) => ["leave", name]), ...usable.map(({name}) => ["bar", name])];
+    return edits.filter((edit) => !isIn(before, edit));
+}
+
+/** What `session` says of a document with these edits in place of its own; of one that can't have any, what it says. */
+async function sessionOf(ask, network, edits) {
+    if (edits.length > MOST_EDITS) {
+        throw new NoAnswer(`That takes ${edits.length} edits, and a document has at most ${MOST_EDITS}.`);
+    }
+    const isObject = network.root.kind === "object";
+    return readAnswer(await ask(["session"], isObject ? withMember(network, "edits", JSON.stringify(edits)) : network.text));
+}

@@ -1,0 +1,107 @@
+// Whether what is said where firms leave and join, and trades come and go, is what the program answers, and is told so.
+import assert from "node:assert/strict";
+import {test} from "node:test";
+import {applied, memberAs} from "../../../page/app/edits.js";
+import {Store} from "../../../page/app/state.js";
+import {isAsked, isHidden, suppose} from "../../../page/app/suppose.js";
+import {parse, plain} from "../../../page/read/json.js";
+import {Network} from "../../../page/read/network.js";
+import {compared, contributions, editsOf, editsTo} from "../../../page/read/states.js";
+import {beforeLine, changeLine, firmStates, gainOf, partOf, tradesLine, tradeStates} from "../../../page/say/whatif.js";
+import {askOf} from "../ask.mjs";
+import {examples} from "./support.mjs";
+
+const ask = askOf(), skip = ask === null && "there is no program";
+
+function networkOf(name) {
+    return new Network(examples().find((each) => each.name === name).bytes.toString());
+}
+
+async function toldOf(network, before, after) {
+    return {...await compared(ask, network, before, after), before, after};
+}
+
+test("the used cars when the dealer leaves, and when it joins again", {skip}, async () => {
+    const network = networkOf("used-cars.json"), away = [["leave", "D"]], told = await toldOf(network, [], away);
+    assert.equal(changeLine(told), "D leaves: the worths sum to 8 in place of 10, which is 2 less.");
+    assert.equal(tradesLine(told, network), "o1d and db1 go; o1b1 comes; o2b2 stays.");
+    assert.deepEqual(["o1d", "o2d", "o1b1", "o2b2", "o2b3"].map((name) => partOf(told, name)), ["gone", "out", "comes", "stays", "off"]);
+    assert.deepEqual([firmStates(told, "D")[1], tradeStates(told, "db1")[1]], ["away", "away"]);
+    const back = await toldOf(network, away, []);
+    assert.equal(changeLine(back), "D joins: the worths sum to 10 in place of 8, which is 2 more.");
+    assert.equal(beforeLine(back), "Before that D is away.");
+    assert.equal(changeLine(await toldOf(network, away, away)), "While D is away the worths sum to 8.");
+});
+
+test("what firms have in a state sums to its surplus, also where trades are barred and firms away", {skip}, async () => {
+    for (const [name, after] of [["used-cars.json", [["leave", "D"], ["bar", "o2b2"]]], ["houses.json", [["bar", "h1b2"]]], ["keeps-a-car.json", []]]) {
+        const network = networkOf(name), told = await toldOf(network, [], after);
+        for (const {lines, surplus} of told.states) assert.equal([...lines.values()].reduce((sum, {utility}) => sum + utility, 0n), surplus);
+        const [then, now] = told.states, gains = network.firms.map((firm) => gainOf(told, firm.name));
+        assert.equal(gains.reduce((sum, gain) => sum + gain, 0n), now.surplus - then.surplus);
+    }
+});
+
+test("contributions of the used cars, and of the houses, whose prices reach them", {skip}, async () => {
+    const cars = await contributions(ask, networkOf("used-cars.json"), []);
+    assert.deepEqual([...cars.firms], [["O1", 6n], ["O2", 3n], ["D", 2n], ["B1", 1n], ["B2", 1n], ["B3", 0n]]);
+    assert.deepEqual([cars.trades.get("o1d"), cars.trades.get("o2d"), cars.trades.get("db1")], [2n, 0n, 1n]);
+    const houses = await contributions(ask, networkOf("houses.json"), []);
+    assert.deepEqual([...houses.firms], [["H1", 5n], ["H2", 6n], ["H3", 1n], ["B1", 2n], ["B2", 5n], ["B3", 1n]]);
+    const without = await contributions(ask, networkOf("used-cars.json"), [["leave", "D"], ["bar", "o1b1"]]);
+    assert.deepEqual([without.firms.has("D"), without.trades.has("o1d"), without.trades.has("o1b1")], [false, false, false]);
+});
+
+test("a market that session refuses has what it says in place of states", {skip}, async () => {
+    const network = networkOf("complements.json"), {states, said} = await compared(ask, network, [], []);
+    assert.deepEqual([states, said.fault], [null, 16n]);
+    assert.equal(await contributions(ask, network, []), null);
+});
+
+/** A program whose surplus is the number of the trades that are admitted, for edits of trades and of firms without any. */
+function counting(asked) {
+    return async (words, document) => {
+        const {trades, edits} = JSON.parse(document), admitted = new Set();
+        asked.push(edits.length);
+        const states = edits.map(([does, name]) => {
+            for (const trade of name === "*" ? trades.map((each) => each.name) : [name]) {
+                if (does === "admit") admitted.add(trade);
+                if (does === "bar") admitted.delete(trade);
+            }
+            return {on: [], prices: [], surplus: admitted.size};
+        });
+        return JSON.stringify({answer: "session", edits: states});
+    };
+}
+
+test("contributions of many are asked in several sessions, none with more edits than a document may have", async () => {
+    const trades = Array.from({length: 128}, (_, k) => ({name: `t${k}`, seller: "S", buyer: "B"})), asked = [];
+    const network = new Network(JSON.stringify({version: 2, firms: [{name: "S"}, {name: "B"}], trades}));
+    const found = await contributions(counting(asked), network, [["bar", "t0"]]);
+    assert.equal(asked.length, 2);
+    assert.ok(asked.every((count) => count <= 256));
+    assert.deepEqual([[...found.firms.values()], found.trades.size, new Set(found.trades.values())], [[0n, 0n], 127, new Set([1n])]);
+});
+
+test("what is supposed leaves the text and its history as they are, and goes into the text as edits", () => {
+    const store = new Store(), {bytes} = examples().find(({name}) => name === "used-cars-edits.json");
+    store.act("opened", "used-cars-edits.json", bytes);
+    const {document} = store.value;
+    suppose(store, [["leave", "D"]]);
+    suppose(store, [["bar", "o1b1"], ["bar", "o1b2"]]);
+    suppose(store, [["leave", "D"]]);
+    assert.deepEqual(store.value.supposed, {before: [], after: [["bar", "o1b1"], ["bar", "o1b2"]]});
+    assert.deepEqual([store.value.document, store.value.past], [document, []]);
+    const network = new Network(document.text), edits = editsTo([["leave", "D"]], [["bar", "o1b1"]]);
+    const text = applied(document.text, memberAs(network, "edits", JSON.stringify(edits)));
+    assert.deepEqual(plain(parse(text)).edits, [["admit", "*"], ["leave", "D"], ["join", "D"], ["bar", "o1b1"]]);
+    assert.deepEqual(editsOf(network, [["leave", "D"], ["leave", "nobody"], ["bar", "D"]]), [["leave", "D"]]);
+    store.act("opened", "used-cars.json", examples().find(({name}) => name === "used-cars.json").bytes);
+    assert.deepEqual(store.value.supposed, {before: [], after: []});
+});
+
+test("in an exercise nothing is told of what would be", () => {
+    const of = (document) => ({document, view: {mode: "whatif"}}), exercise = of({isWhole: true, exercise: {title: "A", goal: "equilibrium"}});
+    assert.deepEqual([isHidden(exercise), isAsked(exercise)], [true, false]);
+    assert.deepEqual([of({isWhole: true, exercise: null}), of({isWhole: false})].map(isAsked), [true, false]);
+});
