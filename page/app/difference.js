@@ -1,6 +1,7 @@
 // What is said above the network, and drawn in it, of the market before and after a change.
+import {lanesOf} from "../draw/lanes.js";
 import {COME, GONE, INK} from "../draw/svg.js";
-import {changeLine, firmSays, firmStates, partOf, tradesLine} from "../say/whatif.js";
+import {changeLine, countsOf, firmSays, firmStates, partOf, tradesLine} from "../say/whatif.js";
 import {networkOf} from "./state.js";
 
 const TOO_LONG = "The document is too long to be looked at here. The commands can be asked.";
@@ -16,8 +17,8 @@ export function supposedVerdict({document, compared: said}) {
 }
 
 /** The legend of the network. */
-const SIGNS = "Thick: stays. +, thickest and green: comes. \u2212, red and broken: goes. Dotted: can't be used. "
-    + "Below a firm: its utility before and after.";
+const SIGNS = "Thick: stays. + and green: comes, or more than before. \u2212 and red: goes, or fewer than before. "
+    + "Dotted: can't be used. Below a firm: its utility before and after.";
 
 const DIM = "#64748b";
 
@@ -30,6 +31,9 @@ const ROLES = {
     out: {ink: DIM, says: "can't be used", width: 1.5, dashes: "2 5"},
 };
 
+/** The parts of trades that take place before or after. */
+const TAKING = ["stays", "comes", "goes", "gone"];
+
 const NOWHERE = {on: [], prices: new Map()};
 
 /** What the network shows: the market after the change, with what comes and goes. */
@@ -37,9 +41,29 @@ export function supposedScene({document, compared: said}) {
     const scene = {lines: new Map(), marks: new Map(), focus: new Set(), signs: SIGNS, isOver: false, key: ["whatif"]};
     if (!said?.states || said.document.text !== document.text) return {...scene, stands: NOWHERE};
     const {trades, firms} = networkOf(document), parts = new Map(trades.map(({name}) => [name, partOf(said, name)]));
-    const marks = [...parts].filter(([, played]) => ROLES[played]).map(([name, played]) => [name, ROLES[played]]);
-    return {...scene, stands: {on: said.states[1].on, prices: pricesOf(said, parts)}, marks: new Map(marks),
-        lines: new Map(firms.map(({name}) => [name, boxOf(said, name)]))};
+    const lines = new Map(firms.map(({name}) => [name, boxOf(said, name)]));
+    const stands = {on: said.states[1].on, prices: pricesOf(said, parts)};
+    return {...scene, stands, marks: marksOf(said, trades, parts), lines};
+}
+
+/** How each trade is drawn; where those from one firm to another play several parts, they are drawn as one. */
+function marksOf(said, trades, parts) {
+    const lanes = lanesOf(trades, {on: null, prices: new Map()}, new Map(), false).map((lane) => lane.trades);
+    const marks = lanes.map((names) => [names, markOf(said, names, new Set(names.map((name) => parts.get(name))))]);
+    return new Map(marks.filter(([, mark]) => mark).flatMap(([names, mark]) => names.map((name) => [name, mark])));
+}
+
+/** How the trades of an arrow are drawn, by the parts that they play; null where there is nothing to be told. */
+function markOf(said, names, played) {
+    const taking = TAKING.filter((each) => played.has(each));
+    if (taking.length > 1) return mixed(countsOf(said, names));
+    return ROLES[taking[0] ?? (played.has("out") ? "out" : "off")] ?? null;
+}
+
+/** How trades are drawn of which some stay or come, and others go. */
+function mixed({before, after, says}) {
+    const [ink, sign] = after > before ? [COME, "+"] : after < before ? [GONE, "\u2212"] : [INK, "\u00b1"];
+    return {ink, says, width: after > before ? 6 : 4, sign};
 }
 
 /** The prices after the change, and those before it of the trades that can't be used any longer and took place. */

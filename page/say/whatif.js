@@ -31,8 +31,8 @@ export function beforeLine({before, after}) {
 }
 
 /**
- * The part that a trade plays: where it takes place at all it `stays`, `goes` or `comes`, and otherwise it is `off`. What
- * can't be used after the change is `gone` where it took place before, and `out` where it didn't.
+ * The part that a trade plays: where it takes place at all it `stays`, `goes` or `comes`, and otherwise it is `off`.
+ * What can't be used after the change is `gone` where it took place before, and `out` where it didn't.
  */
 export function partOf({states: [then, now]}, name) {
     const was = then.on.includes(name), isUsable = now.prices.some(([other]) => other === name);
@@ -43,14 +43,34 @@ export function partOf({states: [then, now]}, name) {
 
 const PARTS = [["goes", "go", ["goes", "gone"]], ["comes", "come", ["comes"]], ["stays", "stay", ["stays"]]];
 
-/** Which trades go, come and stay. */
-export function tradesLine(told, network) {
-    const names = network.trades.map(({name}) => name);
+/** Up to how many trades are named one by one. */
+const FEW = 6;
+
+/** Which trades go, come and stay; where they are many, how many of each seller and buyer do. */
+export function tradesLine(told, {trades}) {
     const said = PARTS.flatMap(([one, more, parts]) => {
-        const found = names.filter((name) => parts.includes(partOf(told, name)));
-        return found.length === 0 ? [] : [`${listed(found)} ${found.length === 1 ? one : more}`];
+        const found = trades.filter(({name}) => parts.includes(partOf(told, name)));
+        const named = found.length > FEW ? byEnds(found) : listed(found.map(({name}) => name));
+        return found.length === 0 ? [] : [`${named} ${found.length === 1 ? one : more}`];
     });
     return said.length === 0 ? "Nothing is traded before or after." : `${said.join("; ")}.`;
+}
+
+function byEnds(trades) {
+    const counts = new Map(), endsOf = ({seller, buyer}) => `from ${seller} to ${buyer}`;
+    for (const trade of trades) counts.set(endsOf(trade), (counts.get(endsOf(trade)) ?? 0) + 1);
+    return listed([...counts].map(([ends, count]) => `${count} ${ends}`));
+}
+
+/** How many of some trades go, come and stay, as `{before, after, says}`. */
+export function countsOf(told, names) {
+    const counts = PARTS.map(([one, more, parts]) => {
+        const count = names.filter((name) => parts.includes(partOf(told, name))).length;
+        return {count, says: `${count} ${count === 1 ? one : more}`};
+    });
+    const [goes, comes, stays] = counts.map(({count}) => count);
+    const says = counts.filter(({count}) => count > 0).map((each) => each.says).join(", ");
+    return {before: goes + stays, after: comes + stays, says};
 }
 
 /** A firm before and after, as two texts: its utility, or that it is away. */
@@ -88,5 +108,5 @@ export function sharesLine({before, states: [{surplus}]}) {
     return `Contributes: by how much the worths, which ${where} sum to ${surplus}, would sum to less without it.`;
 }
 
-export const UTILITIES_DEPEND = "Utilities and prices are those of one equilibrium before and one after; where there are "
-    + "several, others have other prices. The sums and the contributions are the same in all.";
+export const UTILITIES_DEPEND = "Utilities and prices are those of one equilibrium before and one after; where there "
+    + "are several, others have other prices. The sums and the contributions are the same in all.";

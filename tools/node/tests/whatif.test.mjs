@@ -1,13 +1,14 @@
 // Whether what is said where firms leave and join, and trades come and go, is what the program answers, and is told so.
 import assert from "node:assert/strict";
 import {test} from "node:test";
+import {supposedScene} from "../../../page/app/difference.js";
 import {applied, memberAs} from "../../../page/app/edits.js";
 import {Store} from "../../../page/app/state.js";
 import {isAsked, isHidden, suppose} from "../../../page/app/suppose.js";
 import {parse, plain} from "../../../page/read/json.js";
 import {Network} from "../../../page/read/network.js";
 import {compared, contributions, editsOf, editsTo} from "../../../page/read/states.js";
-import {beforeLine, changeLine, firmStates, gainOf, partOf, tradesLine, tradeStates} from "../../../page/say/whatif.js";
+import {beforeLine, changeLine, countsOf, firmStates, gainOf, partOf, tradesLine, tradeStates} from "../../../page/say/whatif.js";
 import {askOf} from "../ask.mjs";
 import {examples} from "./support.mjs";
 
@@ -31,6 +32,18 @@ test("the used cars when the dealer leaves, and when it joins again", {skip}, as
     assert.equal(changeLine(back), "D joins: the worths sum to 10 in place of 8, which is 2 more.");
     assert.equal(beforeLine(back), "Before that D is away.");
     assert.equal(changeLine(await toldOf(network, away, away)), "While D is away the worths sum to 8.");
+});
+
+test("parallel trades are told by their numbers where they are many, and drawn as one where some go and some stay", {skip}, async () => {
+    const network = networkOf("cannery.json"), told = await toldOf(network, [], [["leave", "Seattle"]]);
+    const counts = tradesLine(told, network).match(/\d+/g).map(Number), {on} = told.states[1];
+    assert.match(tradesLine(told, network), /^\d+ from Seattle to .* go; \d+ from San-Diego to .* come; .* stay\.$/);
+    const {before, after} = countsOf(told, network.trades.map(({name}) => name));
+    assert.deepEqual([before, after], [told.states[0].on.length, on.length]);
+    assert.equal(counts.reduce((sum, count) => sum + count, 0), new Set([...told.states[0].on, ...on]).size);
+    const document = {text: network.text, bytes: new TextEncoder().encode(network.text)};
+    const {marks} = supposedScene({document, compared: {...told, document}}), lane = network.trades.filter(({seller}) => seller === "San-Diego");
+    for (const {name} of lane.filter(({name: each}) => on.includes(each))) assert.match(marks.get(name).says, /stay|come/);
 });
 
 test("what firms have in a state sums to its surplus, also where trades are barred and firms away", {skip}, async () => {
