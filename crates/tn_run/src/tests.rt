@@ -142,7 +142,10 @@ fn answers_line_by_line(rt: HostRuntime) -> Result<(), Fail> {
     lines.extend_from_slice(DEAL)?;
     let mut source = SteadySource::new(lines, 100);
     let mut sink = SteadySink::with_room(rt.alloc(), 1_000, 10)?;
-    assert_eq!(rt; run_lines(rt.alloc(), Command::Check, &mut source, &mut sink), 1);
+    assert_eq!(rt;
+        run_lines(rt.alloc(), Command::Check, &mut source, &mut sink),
+        1
+    );
     let written = format!(in rt.alloc(); "{EQUILIBRIUM}{NOT_JSON}{EQUILIBRIUM}")?;
     assert_eq!(rt; sink.written(), Some(written.as_bytes()));
     Ok(())
