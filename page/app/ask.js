@@ -1,4 +1,5 @@
 // The program as a function: questions to a worker, of which the newest counts.
+import {say} from "../words/say.js";
 
 /** A newer question came, or the user ended this one. */
 export class Ended extends Error {}
@@ -6,16 +7,12 @@ export class Ended extends Error {}
 /** The program didn't answer; `trouble` is "stack", "memory" or "trap". */
 export class NoAnswerCame extends Error {
     constructor(trouble) {
-        super(TROUBLES[trouble]);
+        super(say(TROUBLES[trouble]));
         this.trouble = trouble;
     }
 }
 
-const TROUBLES = {
-    stack: "The run ended without an answer: the browser's stack ran out.",
-    memory: "The run ended without an answer: the browser refused the memory that it asked for.",
-    trap: "The run ended without an answer: the program was stopped by the browser.",
-};
+const TROUBLES = {stack: "trouble.stack", memory: "trouble.memory", trap: "trouble.trap"};
 
 export class Program {
     /** The program of a compiled module, in a worker of this text. */

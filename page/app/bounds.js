@@ -1,4 +1,5 @@
 // The bounds of a price as a bar, with the guess on it, and a button at each end that shows what holds it.
+import {language, say} from "../words/say.js";
 import {made} from "./page.js";
 
 const NAMESPACE = "http://www.w3.org/2000/svg", LONG = 80, HIGH = 16, EDGE = 6;
@@ -19,7 +20,7 @@ export function isWithin({low, high}, price) {
 /** Shows bounds in a cell. */
 export function boundsAt(cell, {range, price, scale, isOld, selection, choose}) {
     const side = selection?.kind === "bound" && selection.trade === range?.trade ? selection.side : null;
-    const key = range ? JSON.stringify([String(range.low), String(range.high), String(price), scale, side]) : "";
+    const key = range ? JSON.stringify([language(), String(range.low), String(range.high), String(price), scale, side]) : "";
     cell.classList.toggle("old", isOld);
     if (cell.dataset.shown === key) return;
     const focused = cell.contains(document.activeElement) ? document.activeElement.dataset.key : null;
@@ -29,16 +30,11 @@ export function boundsAt(cell, {range, price, scale, isOld, selection, choose}) 
     for (const child of cell.children) if (focused !== null && child.dataset.key === focused) child.focus({preventScroll: true});
 }
 
-const NONE = {low: "no lowest", high: "no highest"};
-
-const SAYS = {
-    low: ({trade, low}) => `${trade} is at least ${low}: show what holds it`,
-    high: ({trade, high}) => `${trade} is at most ${high}: show what holds it`,
-};
+const NONE = {low: "bound.no_lowest", high: "bound.no_highest"}, SAYS = {low: "bound.at_least", high: "bound.at_most"};
 
 function bound(range, side, isChosen, choose) {
-    if (range[side] === null) return made("span", NONE[side], {class: "quiet"});
-    const names = {"data-key": `${side}:${range.trade}`, "aria-label": SAYS[side](range), "aria-pressed": `${isChosen}`};
+    if (range[side] === null) return made("span", say(NONE[side]), {class: "quiet"});
+    const names = {"data-key": `${side}:${range.trade}`, "aria-label": say(SAYS[side], {trade: range.trade, price: range[side]}), "aria-pressed": `${isChosen}`};
     const button = made("button", String(range[side]), {type: "button", class: "bound", ...names});
     button.addEventListener("click", () => choose(side));
     return button;

@@ -1,4 +1,5 @@
 // The form for firms and trades: it shows what stands in the text, and each entry is a change of the text.
+import {say} from "../words/say.js";
 import {formOf} from "./fields.js";
 import {keepingFocus, made, part, write} from "./page.js";
 import {networkOf} from "./state.js";
@@ -21,7 +22,7 @@ export function showBuild(value) {
     if (shownOf !== null && shownOf.document === document && shownOf.built === built && shownOf.ends === ends) return;
     shownOf = {document, built, ends};
     const groups = document.isWhole ? formOf(networkOf(document), view) : [];
-    write("build-says", groups.length > 0 ? "" : document.isWhole ? NO_OBJECT : TOO_LONG);
+    write("build-says", groups.length > 0 ? "" : say(document.isWhole ? "build.no_object" : "build.too_long"));
     const list = groups.flatMap(({lines}) => lines.flatMap((line) => line.controls));
     controls = new Map(list.map((control) => [control.key, control]));
     const next = JSON.stringify(groups.map(({lines}) => lines.map((line) => line.controls.map(({kind}) => kind))));
@@ -31,9 +32,6 @@ export function showBuild(value) {
     showWords(groups);
     fields.querySelectorAll("[data-key]").forEach((element, k) => fill(element, list[k]));
 }
-
-const TOO_LONG = "The document is too long to be looked at here.";
-const NO_OBJECT = "A form can't change this document: its fault stands under Document. New begins another one.";
 
 function groupOf({lines}) {
     const group = made("fieldset");

@@ -1,5 +1,6 @@
 // The document's claim: what it says, what `replay` decides, and its names and numbers, each of which can be changed.
 import {plain, written} from "../read/json.js";
+import {language, say} from "../words/say.js";
 import {claimOf, fieldsOf, leftOut, spoilt, toggledIn} from "./claims.js";
 import {keepingFocus, made, part, write} from "./page.js";
 import {isOld, networkOf} from "./state.js";
@@ -32,7 +33,7 @@ export function showClaim(value) {
 /** Shows what can be changed; a form stays as long as there is the same to be changed, so that it keeps the focus. */
 function showFields(network) {
     const list = fieldsOf(network);
-    const next = JSON.stringify(list.map(({key, says, options, trades}) => [key, says, options, trades?.map(({name}) => name)]));
+    const next = JSON.stringify([language(), list.map(({key, says, options, trades}) => [key, says, options, trades?.map(({name}) => name)])]);
     fields = new Map(list.map((field) => [field.key, field]));
     if (next !== structure) keepingFocus(part("claim-fields"), () => part("claim-fields").replaceChildren(...list.map(rowOf)));
     structure = next;
@@ -41,12 +42,10 @@ function showFields(network) {
 
 const SIGNS = {content: "\u2713 ", objects: "\u2717 "};
 
-const TOO_LONG = "The document is too long to be looked at here. The commands can be asked.";
-
 function verdictOf({document, decided}) {
-    if (!document.isWhole) return {mood: "unknown", says: TOO_LONG};
-    if (claimOf(networkOf(document)) === null) return {mood: "unknown", says: "The document has no claim."};
-    if (decided === null || decided.isNone) return {mood: "unknown", says: "The program is asked."};
+    if (!document.isWhole) return {mood: "unknown", says: say("verdict.too_long")};
+    if (claimOf(networkOf(document)) === null) return {mood: "unknown", says: say("claim.none")};
+    if (decided === null || decided.isNone) return {mood: "unknown", says: say("verdict.asked")};
     if (decided.trouble) return {mood: "fault", says: decided.trouble};
     const mood = {valid: "content", invalid: "objects"}[decided.said.answer] ?? "fault";
     return {mood, says: `${SIGNS[mood] ?? ""}${decided.sentences.join(" ")}`};
@@ -102,7 +101,7 @@ function numberForm({key, says, out}) {
 
 function outButton(key) {
     const {trade} = fields.get(key).out;
-    const button = made("button", "Leave it out", {type: "button", "aria-label": `Leave the contract on ${trade} out of the claim`});
+    const button = made("button", say("claim.leave_out"), {type: "button", "aria-label": say("claim.leave_out_whole", {trade})});
     button.addEventListener("click", () => edit(leftOut(fields.get(key))));
     return button;
 }

@@ -2,6 +2,7 @@
 import {CLAIMS} from "../read/answer.js";
 import {written} from "../read/json.js";
 import {listed} from "../say/words.js";
+import {say} from "../words/say.js";
 import {added, memberAs, memberOf, without} from "./edits.js";
 
 /** Whether an answer can be a claim. */
@@ -33,7 +34,7 @@ function fieldsAt(network, claim, name, node) {
     const all = network.trades.map((trade) => trade.name), field = {key: name, says: name, node};
     if (node.kind === "number") return [{...field, kind: "number"}];
     if (name === "firm") return [{...field, kind: "choice", options: optionsOf(network.firms.map((firm) => firm.name))}];
-    if (name === "at") return [{...field, kind: "choice", options: [NONE, ...optionsOf(all)]}];
+    if (name === "at") return [{...field, kind: "choice", options: [none(), ...optionsOf(all)]}];
     if (node.kind !== "list") return [];
     if (name === "plan") return node.value.flatMap(partField);
     if (name === "nodes") return node.value.map((each, k) => nodeField(each, k, all));
@@ -42,14 +43,14 @@ function fieldsAt(network, claim, name, node) {
         : [{...field, kind: "set", trades: setOf(network, claim, node, all)}];
 }
 
-const NONE = {value: "null", says: "no trade"};
+const none = () => ({value: "null", says: say("list.no_trade")});
 
 function optionsOf(names) {
     return names.map((name) => ({value: JSON.stringify(name), says: name}));
 }
 
 function nodeField(node, k, all) {
-    return {key: `nodes ${k}`, says: `node ${k + 1}`, kind: "choice", node, options: [NONE, ...optionsOf(all)]};
+    return {key: `nodes ${k}`, says: say("claim.node", {number: k + 1}), kind: "choice", node, options: [none(), ...optionsOf(all)]};
 }
 
 /** The weight of a part of a plan; nothing where it isn't one. */
@@ -72,7 +73,7 @@ function entryFields(name, list) {
     return entries.map((entry) => {
         const [trade, number] = entry.value;
         const out = name === "contracts" ? {list, entry, trade: trade.value} : null;
-        return {key: `${name} ${trade.value}`, says: `price of ${trade.value}`, kind: "number", node: number, out};
+        return {key: `${name} ${trade.value}`, says: say("claim.price", {trade: trade.value}), kind: "number", node: number, out};
     });
 }
 

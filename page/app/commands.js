@@ -1,26 +1,16 @@
 // The commands of the program, and what its exit statuses mean.
+import {say} from "../words/say.js";
 
-/** Each command with what it asks. */
+/** Each command with the key of what it asks. */
 export const COMMANDS = [
-    ["solve", "find an equilibrium"],
-    ["range", "how far each price may move"],
-    ["firms", "what each firm has, and would rather have"],
-    ["check", "is the arrangement an equilibrium?"],
-    ["support", "prices for these trades?"],
-    ["judge", "will what is signed last?"],
-    ["session", "trades that come and go"],
-    ["test", "do all firms meet the exchange property?"],
-    ["replay", "is the claim so?"],
-    ["solve --csv", "an equilibrium as rows"],
-    ["cases", "the cases that the program carries"],
-    ["help", "all commands"]];
+    ["solve", "command.solve"], ["range", "command.range"], ["firms", "command.firms"], ["check", "command.check"],
+    ["support", "command.support"], ["judge", "command.judge"], ["session", "command.session"], ["test", "command.test"],
+    ["replay", "command.replay"], ["solve --csv", "command.rows"], ["cases", "command.cases"], ["help", "command.help"]];
 
-const VERDICTS = {
-    0: "Yes", 1: "The document has a fault", 2: "These words are no command", 3: "The document could not be read", 5: "Memory ran out",
-    6: "No"};
+const VERDICTS = {0: "status.yes", 1: "status.fault", 2: "status.no_command", 3: "status.unread", 5: "status.no_memory", 6: "status.no"};
 
 /** An exit status in words. */
 export function verdictOf(status, words) {
     const isFound = status === 0 && ["solve", "range", "session", "drill", "help", "-h", "--help", "--version"].includes(words[0]);
-    return isFound ? "Answered" : VERDICTS[status] ?? "The program ended in an unknown way";
+    return say(isFound ? "status.answered" : VERDICTS[status] ?? "status.unknown");
 }

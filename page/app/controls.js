@@ -1,10 +1,11 @@
 // What a user does with buttons, fields, keys and files, as actions.
+import {say} from "../words/say.js";
 import {EMPTY} from "./building.js";
 import {COMMANDS} from "./commands.js";
 import {goTo, refreshEditor} from "./editor.js";
 import {saveAnswer, saveDocument, saveFirms, savePicture, saveRanges} from "./exports.js";
 import {objectors} from "./firms.js";
-import {forget, keep, kept} from "./keep.js";
+import {forget, forgetAll, keep, kept} from "./keep.js";
 import {laidOut} from "./lines.js";
 import {bindLesson} from "./lesson.js";
 import {bindLinks} from "./links.js";
@@ -14,6 +15,9 @@ import {sortedOut} from "./results.js";
 import {zoomIn, zoomOut} from "./scene.js";
 import {faulty, isOld} from "./state.js";
 import {arrange} from "./terms.js";
+
+/** The document of last time, or null. */
+let last = null;
 
 /** The actions that change the document. */
 const CHANGES = ["opened", "typed", "edited", "undone", "redone"];
@@ -43,7 +47,7 @@ function bindDocument(store, documents) {
     const texts = new Map();
     for (const [group, members] of documents) {
         const options = document.createElement("optgroup");
-        options.label = group;
+        options.dataset.group = group;
         for (const [name, text] of members) {
             texts.set(name, text);
             options.append(new Option(name.replace(/\.json$/, ""), name));
@@ -150,8 +154,8 @@ function bindTabs(store) {
 }
 
 function bindCommand(store, {ask, end}) {
-    for (const [words, asks] of COMMANDS) part("command").append(new Option(`${words}: ${asks}`, words));
-    part("command").append(new Option("other words", ""));
+    const options = [...COMMANDS, ["", "command.other"]].map(([words]) => new Option(words, words));
+    part("command").append(...options);
     part("sources").textContent = document.documentElement.dataset.sources;
     const choose = () => {
         const chosen = part("command").value, isOther = chosen === "";
@@ -178,18 +182,24 @@ function bindCommand(store, {ask, end}) {
 
 /** Asks about the document of last time, and keeps the present one from its first change on. */
 function bindKept(store) {
-    const last = kept();
-    if (last !== null) {
-        part("kept").hidden = false;
-        part("kept-says").textContent = `The browser has kept a document from last time: ${last.name}.`;
-    }
+    last = kept();
+    part("kept").hidden = last === null;
     on("kept-open", () => {
         part("kept").hidden = true;
         store.act("opened", last.name, new TextEncoder().encode(last.text));
     });
-    for (const id of ["kept-forget", "forget"]) on(id, () => {
+    for (const [id, act] of [["kept-forget", forget], ["forget", forgetAll]]) on(id, () => {
         part("kept").hidden = true;
-        forget();
+        act();
     });
     store.watch(({document: now, past}, name) => CHANGES.includes(name) && past.length > 0 && keep(now));
+}
+
+/** Says what is chosen from, and what was kept, in the language that is spoken. */
+export function sayControls() {
+    [...COMMANDS, ["", "command.other"]].forEach(([words, key], k) => {
+        part("command").options[k].textContent = words === "" ? say(key) : `${words}: ${say(key)}`;
+    });
+    for (const group of part("examples").querySelectorAll("optgroup")) group.label = say(group.dataset.group);
+    part("kept-says").textContent = last === null ? "" : say("page.kept", {name: last.name});
 }

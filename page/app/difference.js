@@ -1,34 +1,29 @@
 // What is said above the network, and drawn in it, of the market before and after a change.
 import {lanesOf} from "../draw/lanes.js";
 import {COME, GONE, INK} from "../draw/svg.js";
-import {changeLine, countsOf, firmSays, firmStates, partOf, tradesLine} from "../say/whatif.js";
+import {changeLine, countsOf, firmSays, firmStates, isGone, partOf, tradesLine} from "../say/whatif.js";
+import {say} from "../words/say.js";
 import {networkOf} from "./state.js";
-
-const TOO_LONG = "The document is too long to be looked at here. The commands can be asked.";
 
 /** The two sentences above the network, as `{mood, says, told}`. */
 export function supposedVerdict({document, compared: said}) {
     const lacking = (mood, says) => ({mood, says, told: ""});
-    if (!document.isWhole) return lacking("unknown", TOO_LONG);
-    if (said === null) return lacking("unknown", "The program is asked.");
+    if (!document.isWhole) return lacking("unknown", say("verdict.too_long"));
+    if (said === null) return lacking("unknown", say("verdict.asked"));
     if (said.trouble) return lacking("fault", said.trouble);
     if (said.states === null) return lacking("fault", said.sentences.join(" "));
     return {mood: "unknown", says: changeLine(said), told: tradesLine(said, networkOf(said.document))};
 }
 
-/** The legend of the network. */
-const SIGNS = "Thick: stays. + and green: comes, or more than before. \u2212 and red: goes, or fewer than before. "
-    + "Dotted: can't be used. Below a firm: its utility before and after.";
-
 const DIM = "#64748b";
 
 /** How the trades are drawn, by the parts that they play. */
 const ROLES = {
-    stays: {ink: INK, says: "stays", width: 4},
-    comes: {ink: COME, says: "comes", width: 6, sign: "+"},
-    goes: {ink: GONE, says: "goes", width: 3, sign: "\u2212"},
-    gone: {ink: GONE, says: "goes, since it can't be used", width: 3, sign: "\u2212", dashes: "2 5"},
-    out: {ink: DIM, says: "can't be used", width: 1.5, dashes: "2 5"},
+    stays: {ink: INK, says: "role.stays", width: 4},
+    comes: {ink: COME, says: "role.comes", width: 6, sign: "+"},
+    goes: {ink: GONE, says: "role.goes", width: 3, sign: "\u2212"},
+    gone: {ink: GONE, says: "role.gone", width: 3, sign: "\u2212", dashes: "2 5"},
+    out: {ink: DIM, says: "role.out", width: 1.5, dashes: "2 5"},
 };
 
 /** The parts of trades that take place before or after. */
@@ -38,7 +33,7 @@ const NOWHERE = {on: [], prices: new Map()};
 
 /** What the network shows: the market after the change, with what comes and goes. */
 export function supposedScene({document, compared: said}) {
-    const scene = {lines: new Map(), marks: new Map(), focus: new Set(), signs: SIGNS, isOver: false, key: ["whatif"]};
+    const scene = {lines: new Map(), marks: new Map(), focus: new Set(), signs: say("legend.whatif"), isOver: false, key: ["whatif"]};
     if (!said?.states || said.document.text !== document.text) return {...scene, stands: NOWHERE};
     const {trades, firms} = networkOf(document), parts = new Map(trades.map(({name}) => [name, partOf(said, name)]));
     const lines = new Map(firms.map(({name}) => [name, boxOf(said, name)]));
@@ -57,7 +52,8 @@ function marksOf(said, trades, parts) {
 function markOf(said, names, played) {
     const taking = TAKING.filter((each) => played.has(each));
     if (taking.length > 1) return mixed(countsOf(said, names));
-    return ROLES[taking[0] ?? (played.has("out") ? "out" : "off")] ?? null;
+    const role = ROLES[taking[0] ?? (played.has("out") ? "out" : "off")];
+    return role ? {...role, says: say(role.says)} : null;
 }
 
 /** How trades are drawn of which some stay or come, and others go. */
@@ -74,7 +70,8 @@ function pricesOf({states: [then, now]}, parts) {
 
 /** What stands below a firm's name. */
 function boxOf(said, firm) {
-    const [then, now] = firmStates(said, firm), isAway = now === "away";
-    const same = isAway ? ["away"] : [`has ${now}`], below = then === now ? same : [`was ${then}`, `now ${now}`];
+    const [then, now] = firmStates(said, firm), isAway = isGone(said, firm);
+    const same = isAway ? [now] : [say("word.has", {number: now})];
+    const below = then === now ? same : [say("word.was", {state: then}), say("word.now", {state: now})];
     return {firm, mood: isAway ? "away" : "unknown", below, says: firmSays(said, firm)};
 }

@@ -1,5 +1,6 @@
 // The document's text in CodeMirror. Its history is the page's own; changes from elsewhere are put in at their offsets.
 import "../vendor/codemirror-5.65.0/codemirror.min.js";
+import {say} from "../words/say.js";
 import {made, part} from "./page.js";
 import {faulty} from "./state.js";
 
@@ -18,7 +19,7 @@ CodeMirror.defineMode("document", () => ({
 
 const SETTINGS = {
     mode: "document", inputStyle: "contenteditable", lineNumbers: true, lineSeparator: "\n", undoDepth: 0, tabSize: 2, indentUnit: 1,
-    lineWrapping: false, spellcheck: false, autocorrect: false, autocapitalize: false, screenReaderLabel: "The document, as JSON",
+    lineWrapping: false, spellcheck: false, autocorrect: false, autocapitalize: false,
 };
 
 /** The mark that the changes come from the page, and not from somebody who types. */
@@ -67,7 +68,7 @@ export function showEditor(value) {
 
 function marking(mark) {
     const [from, to] = [mark.start, endOf(mark)].map((offset) => editor.posFromIndex(offset));
-    return editor.markText(from, to, {className: "faulty", title: "Here the document has a fault."});
+    return editor.markText(from, to, {className: "faulty", title: say("page.fault_here")});
 }
 
 /** Where a mark ends; a long one is marked at its beginning alone. */
@@ -97,4 +98,9 @@ export function goTo({start, end}) {
 /** To be called when the editor has come into sight. */
 export function refreshEditor() {
     editor.refresh();
+}
+
+/** Says what the editor is in the language that is spoken. */
+export function sayEditor() {
+    editor.setOption("screenReaderLabel", say("page.text"));
 }

@@ -5,12 +5,12 @@ import {objectOf} from "../read/network.js";
 import {memberOf, put} from "./edits.js";
 
 /**
- * What may have to be reached: the command that decides it with status 0, the view in which it is looked for, and what a
- * pupil is told.
+ * What may have to be reached: the command that decides it with status 0, the view in which it is looked for, and the key
+ * of what a pupil is told.
  */
 export const GOALS = {
-    equilibrium: {command: "firms", panel: "guess", says: "Find trades and prices at which every firm is content."},
-    lasts: {command: "judge", panel: "sign", says: "Sign contracts that last."},
+    equilibrium: {command: "firms", panel: "guess", says: "exercise.equilibrium"},
+    lasts: {command: "judge", panel: "sign", says: "exercise.lasts"},
 };
 
 /** The exercise that a document is, as `{title, goal}`, or null: these stand in its note as `exercise` and `goal`. */

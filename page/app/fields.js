@@ -1,5 +1,6 @@
 // A form for the firms and trades of a document, as plain data: what can be put in, what stands there, and by which changes
 // of the text. One firm is shown at a time, and all trades.
+import {say} from "../words/say.js";
 import {
     firmAdded, firmRemoved, freeName, itemAdded, itemRemoved, itemsIn, moved, NAME, numbered, objectsIn, ofKind, renamed,
     stretched, textAt, toggled, tradeAdded, tradesRemoved,
@@ -8,10 +9,8 @@ import {memberOf, put, replaced} from "./edits.js";
 
 const WHOLE = /^(0|-?[1-9]\d{0,9})$/, COUNT = /^(0|-?[1-9]\d?)$/;
 
-/** The kinds of firms, each with what it is for. */
-const KINDS = [
-    ["table", "table: a worth for each bundle"], ["laminar", "laminar: amounts, capacities and steps"],
-    ["middleman", "middleman: one good, bought and sold on"], ["dealer", "dealer: purchases matched with sales"]];
+/** The kinds of firms, each with the key of what it is for. */
+const KINDS = [["table", "kind.table"], ["laminar", "kind.laminar"], ["middleman", "kind.middleman"], ["dealer", "kind.dealer"]];
 
 /** How many rows of a table, and beyond how many trades only those of the firm, are in the form. */
 const MOST_ROWS = 40, MOST_TRADES = 160;
@@ -51,30 +50,30 @@ function choice(key, says, name, value, options, does) {
     return {key, kind: "choice", says, name, value, options: options.map(([each, shown]) => ({value: each, says: shown})), ...does};
 }
 
-/** A name that can be changed to one that no other has. */
-function nameOf(key, says, network, list, node, names) {
+/** A name that can be changed to one that no other has. `keys` are of what it says, and of its whole name. */
+function nameOf(key, keys, network, list, node, names) {
     const value = textAt(node, "name"), isFree = (text) => text === value || !names.includes(text);
     const isRight = (text) => NAME.test(text) && isFree(text), change = (text) => renamed(network, list, node, text);
-    return {key, kind: "name", says, name: `${says} of ${value}`, value, isRight, put: change};
+    return {key, kind: "name", says: say(keys[0]), name: say(keys[1], {name: value}), value, isRight, put: change};
 }
 
 function firmsGroup(network, names, place) {
     const fresh = freeName(names, "F", String), options = names.map((name, k) => [`${k}`, name]);
-    const add = {...button("firm add", "Add a firm", "Add a firm", () => firmAdded(network, fresh)), then: {built: names.length}};
-    const pick = choice("firm", "Firm", "Firm", `${place}`, options, {look: (built) => ({built: Number(built)})});
-    return {key: "firms", title: "Firms", lines: [{key: "firms", controls: place < 0 ? [add] : [pick, add]}]};
+    const add = {...button("firm add", say("form.add_firm"), say("form.add_firm"), () => firmAdded(network, fresh)), then: {built: names.length}};
+    const pick = choice("firm", say("head.firm"), say("head.firm"), `${place}`, options, {look: (built) => ({built: Number(built)})});
+    return {key: "firms", title: say("page.firms"), lines: [{key: "firms", controls: place < 0 ? [add] : [pick, add]}]};
 }
 
 /** The parts of the form that are of one firm. */
 function ofFirm(network, {node, name}, names) {
     const kind = textAt(node, "kind"), remove = () => firmRemoved(network, node), own = ownTrades(network, name);
     const head = [
-        nameOf("firm name", "Name", network, "firms", node, names),
-        choice("firm kind", "Kind", "Kind", kind, KINDS, {put: (next) => ofKind(network, node, next)}),
-        button("firm out", "Remove it", `Remove ${name} and its trades`, remove)];
-    const hint = own.length === 0 ? "It has no trades yet: add some below." : "";
+        nameOf("firm name", ["head.name", "form.name_of"], network, "firms", node, names),
+        choice("firm kind", say("form.kind"), say("form.kind"), kind, KINDS.map(([each, says]) => [each, say(says)]), {put: (next) => ofKind(network, node, next)}),
+        button("firm out", say("form.remove_it"), say("form.remove_firm", {name}), remove)];
+    const hint = own.length === 0 ? say("form.no_trades") : "";
     const parts = own.length === 0 ? [] : PARTS[kind]?.(network, node, own) ?? [];
-    return [{key: "firm", title: `The firm ${name}`, hint, lines: [{key: "head", controls: head}]}, ...parts];
+    return [{key: "firm", title: say("form.the_firm", {name}), hint, lines: [{key: "head", controls: head}]}, ...parts];
 }
 
 /** The trades of a firm, each with whether it is a sale. */
@@ -85,13 +84,11 @@ function ownTrades(network, firm) {
 
 const PARTS = {table: tableParts, laminar: laminarParts, middleman: middlemanParts, dealer: dealerParts};
 
-const OF_ROWS = "What each bundle of its trades is worth. A bundle without a row is impossible; nothing is worth 0 where it has none.";
-
 function tableParts(network, firm, own) {
     const rows = itemsIn(firm, "rows").filter(({value: [bundle]}) => bundle?.kind === "list"), shown = rows.slice(0, MOST_ROWS);
     const lines = shown.map((row, k) => rowLine(firm, own, row, k)), left = rows.length - shown.length;
-    const hint = `${OF_ROWS}${left > 0 ? ` ${left} more rows stand in the document.` : ""}`;
-    return [{key: "rows", title: "Worths", hint, lines: [...lines, {key: "row add", controls: rowButtons(firm, own, rows)}]}];
+    const hint = [say("form.of_rows"), ...(left > 0 ? [say("form.more_rows", {count: left})] : [])].join(" ");
+    return [{key: "rows", title: say("form.worths"), hint, lines: [...lines, {key: "row add", controls: rowButtons(firm, own, rows)}]}];
 }
 
 /** The trades in a list of them. */
@@ -100,12 +97,12 @@ function namesIn(list) {
 }
 
 function rowLine(firm, own, row, k) {
-    const [bundle, worth] = row.value, names = namesIn(bundle), says = names.length === 0 ? "nothing" : names.join(", ");
-    const boxes = own.map(({name}) => box(`row ${k} ${name}`, name, `${name} in row ${k + 1}`, names.includes(name),
+    const [bundle, worth] = row.value, names = namesIn(bundle), says = names.length === 0 ? say("list.none") : names.join(", ");
+    const boxes = own.map(({name}) => box(`row ${k} ${name}`, name, say("form.in_row", {name, row: k + 1}), names.includes(name),
         (isIn) => toggled(bundle, name, isIn)));
     const now = worth?.kind === "number" ? worth.value.text : "";
-    const field = number(`row ${k} worth`, "worth", `Worth of row ${k + 1}`, now, (text) => replaced(worth, text));
-    const out = button(`row ${k} out`, "Remove", `Remove the row of ${says}`, () => itemRemoved(firm, "rows", row));
+    const field = number(`row ${k} worth`, say("form.worth"), say("form.worth_of_row", {row: k + 1}), now, (text) => replaced(worth, text));
+    const out = button(`row ${k} out`, say("form.remove"), say("form.remove_row", {trades: says}), () => itemRemoved(firm, "rows", row));
     return {key: `row ${k}`, controls: worth ? [...boxes, field, out] : [...boxes, out]};
 }
 
@@ -113,7 +110,7 @@ function rowLine(firm, own, row, k) {
 function rowButtons(firm, own, rows) {
     const free = freeBundle(own.map(({name}) => name), rows.map(({value: [bundle]}) => namesIn(bundle)));
     const change = () => itemAdded(firm, "rows", `[${JSON.stringify(free)},0]`);
-    return free === null ? [] : [button("row add", "Add a row", "Add a row", change)];
+    return free === null ? [] : [button("row add", say("form.add_row"), say("form.add_row"), change)];
 }
 
 function freeBundle(names, bundles) {
@@ -135,21 +132,18 @@ function entryOf(firm, list, trade) {
 }
 
 function entries(firm, list, trades, what) {
-    return trades.map(({name}) => number(`${list} ${name}`, name, `${what} ${name}`, entryOf(firm, list, name),
+    return trades.map(({name}) => number(`${list} ${name}`, name, say(what, {name}), entryOf(firm, list, name),
         (text) => numbered(firm, list, name, text)));
 }
 
-const OF_SETS = "A set counts its purchases less its sales. It allows no other counts than those from the least to the greatest, "
-    + "which is a capacity, and has a number for each, which are steps.";
-
 function laminarParts(network, firm, own) {
     const sets = (memberOf(firm, "sets", "list")?.value ?? []).filter(({kind}) => kind === "object");
-    const amounts = {key: "amounts", controls: entries(firm, "amounts", own, "Amount of")}, says = "Add a capacity or steps";
+    const amounts = {key: "amounts", controls: entries(firm, "amounts", own, "form.amount_of")}, says = say("form.add_set");
     const add = button("set add", says, says, () => itemAdded(firm, "sets", freshSet(own)));
     return [
-        {key: "amounts", title: "Amounts", hint: "What each trade is worth by itself; a sale mostly has less than 0.", lines: [amounts]},
+        {key: "amounts", title: say("form.amounts"), hint: say("form.of_amounts"), lines: [amounts]},
         ...sets.map((set, k) => setGroup(network, firm, own, set, k)),
-        {key: "set add", title: "Sets of trades", hint: OF_SETS, lines: [{key: "set add", controls: [add]}]}];
+        {key: "set add", title: say("form.sets"), hint: say("form.of_sets"), lines: [{key: "set add", controls: [add]}]}];
 }
 
 /** A capacity of one trade on each side on which the firm has some. */
@@ -162,67 +156,63 @@ function freshSet(own) {
 function setGroup(network, firm, own, set, k) {
     const list = memberOf(set, "trades", "list"), values = memberOf(set, "values", "list")?.value ?? [], key = `set ${k}`;
     const from = Number(memberOf(set, "from", "number")?.value.text ?? 0);
-    const boxes = own.map(({name}) => box(`${key} ${name}`, name, `${name} in set ${k + 1}`, list !== null && namesIn(list).includes(name),
+    const boxes = own.map(({name}) => box(`${key} ${name}`, name, say("form.in_set", {name, set: k + 1}), list !== null && namesIn(list).includes(name),
         (isIn) => toggled(list, name, isIn)));
     const numbers = values.map((value, place) => {
         const says = counted(from + place), now = network.text.slice(value.start, value.end);
-        return number(`${key} number ${place}`, says, `Set ${k + 1}, ${says}`, now, (text) => replaced(value, text));
+        return number(`${key} number ${place}`, says, say("form.set_count", {set: k + 1, count: says}), now, (text) => replaced(value, text));
     });
-    const out = button(`${key} out`, "Remove it", `Remove set ${k + 1}`, () => itemRemoved(firm, "sets", set));
-    return {key, title: `Set ${k + 1}`, lines: [
-        {key: "trades", says: "Trades", controls: list === null ? [] : boxes},
-        {key: "counts", says: "Counts", controls: setEnds(network, set, k, from, from + values.length - 1)},
-        {key: "numbers", says: "Numbers", controls: numbers}, {key: "out", controls: [out]}]};
+    const out = button(`${key} out`, say("form.remove_it"), say("form.remove_set", {set: k + 1}), () => itemRemoved(firm, "sets", set));
+    return {key, title: say("form.set", {set: k + 1}), lines: [
+        {key: "trades", says: say("page.trades"), controls: list === null ? [] : boxes},
+        {key: "counts", says: say("form.counts"), controls: setEnds(network, set, k, from, from + values.length - 1)},
+        {key: "numbers", says: say("form.numbers"), controls: numbers}, {key: "out", controls: [out]}]};
 }
 
 /** The least and the greatest net count of a set; 0 stays between them. */
 function setEnds(network, set, k, from, to) {
-    const end = (says, now, isIn, change) => {
+    const end = (name, [says, whole], now, isIn, change) => {
         const isRight = (text) => COUNT.test(text) && Math.abs(Number(text)) <= FARTHEST && isIn(Number(text));
-        const field = number(`set ${k} ${says}`, says, `The ${says} count of set ${k + 1}`, `${now}`, (text) => change(Number(text)));
+        const field = number(`set ${k} ${name}`, say(says), say(whole, {set: k + 1}), `${now}`, (text) => change(Number(text)));
         return {...field, isRight};
     };
-    return [end("least", from, (count) => count <= 0 && count <= to, (count) => stretched(network, set, count, to)),
-        end("greatest", to, (count) => count >= 0 && count >= from, (count) => stretched(network, set, from, count))];
+    return [end("least", ["form.least", "form.least_of"], from, (count) => count <= 0 && count <= to, (count) => stretched(network, set, count, to)),
+        end("greatest", ["form.greatest", "form.greatest_of"], to, (count) => count >= 0 && count >= from, (count) => stretched(network, set, from, count))];
 }
 
 /** A net count in words. */
 function counted(count) {
-    if (count === 0) return "at 0";
-    return count < 0 ? `at ${-count} sold` : `at ${count} bought`;
+    if (count === 0) return say("form.at_zero");
+    return count < 0 ? say("form.at_sold", {count: -count}) : say("form.at_bought", {count});
 }
-
-const OF_A_MIDDLEMAN = "What a purchase costs beside its price, and what a sale brings beside it. One good is like another.";
 
 function middlemanParts(network, firm, own) {
-    const keep = firm.value.get("keep"), isKept = keep?.kind === "number", says = "It may keep a good";
+    const keep = firm.value.get("keep"), isKept = keep?.kind === "number", says = say("form.keeps");
     const keeps = box("keeps", says, says, isKept, (isOn) => put(firm, "keep", isOn ? "0" : "null"));
-    const worth = () => number("keep", "worth", "Worth of a good that is kept", keep.value.text, (text) => replaced(keep, text));
+    const worth = () => number("keep", say("form.worth"), say("form.worth_of_kept"), keep.value.text, (text) => replaced(keep, text));
     const purchases = own.filter(({isSale}) => !isSale), sales = own.filter(({isSale}) => isSale);
-    return [{key: "middleman", title: "Costs and gains", hint: OF_A_MIDDLEMAN, lines: [
-        {key: "costs", says: "Costs", controls: entries(firm, "costs", purchases, "Cost of")},
-        {key: "gains", says: "Gains", controls: entries(firm, "gains", sales, "Gain of")},
+    return [{key: "middleman", title: say("form.middleman"), hint: say("form.of_middleman"), lines: [
+        {key: "costs", says: say("form.costs"), controls: entries(firm, "costs", purchases, "form.cost_of")},
+        {key: "gains", says: say("form.gains"), controls: entries(firm, "gains", sales, "form.gain_of")},
         {key: "keep", controls: isKept ? [keeps, worth()] : [keeps]}]}];
 }
-
-const NO_PAIRS = "It has no pair of a purchase and a sale yet: add trades on both sides below.";
 
 function dealerParts(network, firm, own) {
     const purchases = own.filter(({isSale}) => !isSale), sales = own.filter(({isSale}) => isSale), pairs = itemsIn(firm, "pairs");
     const hasBoth = purchases.length > 0 && sales.length > 0;
-    const hint = hasBoth ? "Which purchase may be sold on as which sale, and what that costs." : NO_PAIRS;
-    const lines = purchases.map(({name}) => ({key: `pairs ${name}`, says: `${name} as`,
+    const hint = say(hasBoth ? "form.of_pairs" : "form.no_pairs");
+    const lines = purchases.map(({name}) => ({key: `pairs ${name}`, says: say("form.as", {name}),
         controls: sales.flatMap((sale) => pairControls(firm, pairs, name, sale.name))}));
-    return [{key: "pairs", title: "Pairs", hint, lines: hasBoth ? lines : []}];
+    return [{key: "pairs", title: say("form.pairs"), hint, lines: hasBoth ? lines : []}];
 }
 
 function pairControls(firm, pairs, purchase, sale) {
     const pair = pairs.find(({value: [one, other]}) => one?.value === purchase && other?.value === sale), cost = pair?.value[2];
-    const says = `${purchase} as ${sale}`, text = `[${JSON.stringify(purchase)},${JSON.stringify(sale)},0]`;
+    const key = `${purchase} as ${sale}`, says = say("form.pair", {purchase, sale}), text = `[${JSON.stringify(purchase)},${JSON.stringify(sale)},0]`;
     const change = (isOn) => isOn ? itemAdded(firm, "pairs", text) : itemRemoved(firm, "pairs", pair);
-    const isIn = box(`pair ${says}`, sale, says, pair !== undefined, change);
+    const isIn = box(`pair ${key}`, sale, says, pair !== undefined, change);
     if (cost?.kind !== "number") return [isIn];
-    return [isIn, number(`cost ${says}`, "costs", `Cost of ${says}`, cost.value.text, (next) => replaced(cost, next))];
+    return [isIn, number(`cost ${key}`, say("form.costs_it"), say("form.cost_of", {name: says}), cost.value.text, (next) => replaced(cost, next))];
 }
 
 function tradesGroup(network, names, here, ends) {
@@ -230,18 +220,19 @@ function tradesGroup(network, names, here, ends) {
     const isShown = ({node}) => isAll || [textAt(node, "seller"), textAt(node, "buyer")].includes(here?.name);
     const lines = trades.map((trade, k) => [trade, k]).filter(([trade]) => isShown(trade))
         .map(([trade, k]) => tradeLine(network, trade, k, names, all));
-    const left = isAll ? "" : `Of ${trades.length} trades those of this firm.`, hint = names.length < 2 ? "A trade wants two firms." : left;
+    const left = isAll ? "" : say("form.of_trades", {count: trades.length}), hint = names.length < 2 ? say("form.two_firms") : left;
     const added = names.length < 2 ? [] : [newTrade(network, names, all, here, ends)];
-    return {key: "trades", title: "Trades", hint, lines: [...lines, ...added]};
+    return {key: "trades", title: say("page.trades"), hint, lines: [...lines, ...added]};
 }
 
 function tradeLine(network, {node, name}, k, names, all) {
     const options = names.map((each) => [each, each]);
-    const end = (side, says) => choice(`trade ${k} ${side}`, says, `Trade ${name} ${says}`, textAt(node, side), options,
+    const end = (side, [says, whole]) => choice(`trade ${k} ${side}`, say(says), say(whole, {name}), textAt(node, side), options,
         {put: (firm) => moved(network, node, side, firm)});
     return {key: `trade ${k}`, controls: [
-        nameOf(`trade ${k} name`, "Trade", network, "trades", node, all), end("seller", "from"), end("buyer", "to"),
-        button(`trade ${k} out`, "Remove", `Remove the trade ${name}`, () => tradesRemoved(network, [node]))]};
+        nameOf(`trade ${k} name`, ["head.trade", "form.trade_of"], network, "trades", node, all),
+        end("seller", ["form.from", "form.trade_from"]), end("buyer", ["form.to", "form.trade_to"]),
+        button(`trade ${k} out`, say("form.remove"), say("form.remove_trade", {name}), () => tradesRemoved(network, [node]))]};
 }
 
 /** What adds a trade: of the firm that is shown to the next one, where nobody has chosen others. */
@@ -250,8 +241,8 @@ function newTrade(network, names, all, here, ends) {
     const seller = isThere(ends.seller) ? ends.seller : here.name, isOther = isThere(ends.buyer) && ends.buyer !== seller;
     const buyer = isOther ? ends.buyer : names.find((name) => name !== seller);
     const name = freeName(all, `${seller}-${buyer}`.toLowerCase(), (k) => k === 1 ? "" : `-${k}`);
-    const end = (side, says, value) => choice(`new ${side}`, says, `A new trade ${says}`, value, options,
+    const end = (side, [says, whole], value) => choice(`new ${side}`, say(says), say(whole), value, options,
         {look: (firm) => ({ends: {...ends, [side]: firm}})});
-    return {key: "new", controls: [end("seller", "from", seller), end("buyer", "to", buyer),
-        button("trade add", "Add a trade", "Add a trade", () => tradeAdded(network, name, seller, buyer))]};
+    return {key: "new", controls: [end("seller", ["form.from", "form.new_from"], seller), end("buyer", ["form.to", "form.new_to"], buyer),
+        button("trade add", say("form.add_trade"), say("form.add_trade"), () => tradeAdded(network, name, seller, buyer))]};
 }

@@ -1,11 +1,12 @@
 // The table of firms: what each has, what that is worth to it, and what it would rather have.
+import {say} from "../words/say.js";
 import {keepingFocus, made, part} from "./page.js";
 import {isOld, networkOf} from "./state.js";
 import {moodOf} from "./stage.js";
 
-const HEADS = ["Firm", "Has", "Worth", "Utility", "Would rather", "Gain"];
+const HEADS = ["head.firm", "head.has", "head.worth", "head.utility", "head.rather", "head.gain"];
 const SIGNS = {content: "\u2713", objects: "\u2717", impossible: "\u2717", unknown: ""};
-const MOODS = {content: "content", objects: "objects", impossible: "objects: what it has is impossible for it", unknown: ""};
+const MOODS = {content: "mood.content", objects: "mood.objects", impossible: "mood.impossible"};
 
 let shownOf = null;
 
@@ -15,7 +16,7 @@ export function showFirms(value) {
     table.classList.toggle("old", isOld(value, guess));
     if (shownOf !== null && shownOf.guess === guess && shownOf.document === document && shownOf.selection === selection) return;
     shownOf = {guess, document, selection};
-    if (table.tHead.rows.length === 0) table.tHead.append(rowOf(HEADS.map((head) => made("th", head, {scope: "col"}))));
+    table.tHead.replaceChildren(rowOf(HEADS.map((head) => made("th", say(head), {scope: "col"}))));
     const lines = linesOf(guess), firms = networkOf(document).firms.map(({name}) => name).filter((name) => name !== "");
     keepingFocus(table, () => table.tBodies[0].replaceChildren(...firms.map((name) => firmRow(name, lines.get(name), selection))));
 }
@@ -35,7 +36,7 @@ function firmRow(name, line, selection) {
     const mood = moodOf(line), isChosen = selection?.kind === "firm" && selection.name === name;
     const names = {"data-key": `row:${name}`, "data-firm": name, "aria-pressed": `${isChosen}`, class: mood};
     const button = made("button", `${SIGNS[mood]} ${name}`.trim(), {type: "button", ...names});
-    if (mood !== "unknown") button.append(made("span", MOODS[mood], {class: "unseen"}));
+    if (mood !== "unknown") button.append(made("span", say(MOODS[mood]), {class: "unseen"}));
     const head = made("th", "", {scope: "row"});
     head.append(button);
     const row = rowOf([head, ...cellsOf(line).map((content, k) => made("td", content, {class: k === 0 || k === 3 ? null : "number"}))]);
@@ -47,12 +48,12 @@ function firmRow(name, line, selection) {
 export function cellsOf(line) {
     if (!line) return ["", "", "", "", ""];
     const best = line.gain === 0n ? "" : namesOf(line.best);
-    const number = (value) => value === null ? "impossible" : String(value);
+    const number = (value) => value === null ? say("word.impossible") : String(value);
     return [namesOf(line.has), number(line.worth), number(line.utility), best, line.gain === null ? "" : String(line.gain)];
 }
 
 function namesOf(names) {
-    return names.length === 0 ? "nothing" : names.join(", ");
+    return names.length === 0 ? say("list.none") : names.join(", ");
 }
 
 /** The firms that aren't content. */

@@ -6,6 +6,7 @@ import {NoAnswer, readAnswer} from "../read/answer.js";
 import {haves} from "../read/firms.js";
 import {explain} from "../say/explain.js";
 import {storyOf} from "../say/story.js";
+import {say} from "../words/say.js";
 import {markOf} from "./answer.js";
 import {Ended, inText, NoAnswerCame} from "./ask.js";
 import {claimOf} from "./claims.js";
@@ -86,7 +87,7 @@ async function understood(document, words, {bytes}, ask) {
         said = await readHere(words, bytes, document, ask);
     } catch (error) {
         if (!(error instanceof NoAnswer)) throw error;
-        return troubled(document, "The program's answer could not be read.");
+        return troubled(document, say("trouble.unread"));
     }
     const isFault = said.answer === "fault", isNone = isFault && !network.problem && lacks(network, words, said.place);
     const sentences = await explain(network, said, ASKING.includes(words) ? ask : null);

@@ -1,6 +1,7 @@
-// The document of last time, which the browser keeps where it lets pages do so. Nothing depends on it.
+// The document of last time and the language that was chosen, which the browser keeps where it lets pages do so. Nothing depends on
+// them.
 
-const KEY = "market: the document", WAIT = 300;
+const KEY = "market: the document", LANGUAGE = "market: the language", WAIT = 300;
 
 let waiting = null;
 
@@ -16,10 +17,26 @@ export function kept() {
     return typeof found?.text === "string" && typeof found.name === "string" ? found : null;
 }
 
-/** Forgets it. */
+/** Forgets the document. */
 export function forget() {
     clearTimeout(waiting);
     tried(() => localStorage.removeItem(KEY));
+}
+
+/** Keeps the name of a language. */
+export function keepLanguage(name) {
+    tried(() => localStorage.setItem(LANGUAGE, name));
+}
+
+/** The name of the language that is kept, or null. */
+export function keptLanguage() {
+    return tried(() => localStorage.getItem(LANGUAGE));
+}
+
+/** Forgets all that is kept. */
+export function forgetAll() {
+    forget();
+    tried(() => localStorage.removeItem(LANGUAGE));
 }
 
 /** A browser may refuse, by a setting or from a disk. */

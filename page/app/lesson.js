@@ -1,5 +1,6 @@
 // What a class does with exercises: a teacher makes one, a pupil tries and saves the result, and a teacher opens many of
 // these.
+import {say} from "../words/say.js";
 import {exerciseIn, exerciseMade, GOALS, resultText} from "./exercise.js";
 import {offer, on, part, write} from "./page.js";
 import {saveResults} from "./results.js";
@@ -26,10 +27,6 @@ function stemOf(name) {
     return name.replace(/[^\p{L}\p{N}]+/gu, "-").slice(0, 60) || "result";
 }
 
-const NO_TITLE = "Give it a title.", NO_OBJECT = "The document isn't one that can be an exercise: it isn't an object.";
-const IS_MADE = "The document's note says so now. Save it, or hand out a link: whoever opens that begins with the guess that "
-    + "stands there.";
-
 function bindMaker(store) {
     on("make", () => {
         const {title, goal} = exerciseIn(networkOf(store.value.document)) ?? {title: "", goal: "equilibrium"};
@@ -42,7 +39,7 @@ function bindMaker(store) {
     on("maker-put", () => {
         const title = part("maker-title").value.trim(), network = networkOf(store.value.document);
         const isObject = network.root.kind === "object";
-        part("maker-says").textContent = title === "" ? NO_TITLE : isObject ? IS_MADE : NO_OBJECT;
+        part("maker-says").textContent = say(title === "" ? "maker.no_title" : isObject ? "maker.is_made" : "maker.no_object");
         if (title !== "") store.act("edited", exerciseMade(network, title, part("maker-goal").value));
     });
     on("maker-try", () => {
@@ -64,6 +61,6 @@ export function showLesson(value) {
     if (exercise === null) return;
     part("maker").hidden = true;
     write("exercise-title", exercise.title);
-    write("exercise-says", GOALS[exercise.goal].says);
-    write("tries", tries === 1 ? "1 try" : `${tries} tries`);
+    write("exercise-says", say(GOALS[exercise.goal].says));
+    write("tries", say("exercise.tries", {count: tries}));
 }

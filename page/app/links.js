@@ -1,12 +1,10 @@
 // What hands the document on as an address: in letters, and as a QR code.
+import {say} from "../words/say.js";
 import {codeOf, MOST_IN_CODE} from "./code.js";
 import {stem} from "./exports.js";
+import {linkEnd} from "./language.js";
 import {fragmentOf, MOST_LETTERS} from "./link.js";
 import {drawing, offer, on, part} from "./page.js";
-
-const TOO_LONG = "The document is too long for a link: save it, and hand on the file.";
-const FROM_DISK = "Put this behind any address of the page, to open it with this document. It is copied:";
-const FROM_HOST = "This link opens the page with this document. It is copied:";
 
 /** The link that was made last, and the picture of its code, or null. */
 let link = {name: "", fragment: "", svg: null};
@@ -34,20 +32,18 @@ function here() {
 }
 
 async function makeLink({name, bytes}) {
-    const fragment = await fragmentOf(bytes), isLong = fragment.length > MOST_LETTERS;
+    const fragment = `${await fragmentOf(bytes)}${linkEnd()}`, isLong = fragment.length > MOST_LETTERS;
     link = {name, fragment, svg: null};
     part("linked").hidden = false;
     for (const id of ["fragment", "code"]) part(id).hidden = isLong;
     part("code-part").hidden = true;
-    part("linked-says").textContent = isLong ? TOO_LONG : isDisk() ? FROM_DISK : FROM_HOST;
+    part("linked-says").textContent = say(isLong ? "link.too_long" : isDisk() ? "link.from_disk" : "link.from_host");
     if (isLong) return;
     part("fragment").value = isDisk() ? fragment : `${here()}${fragment}`;
     part("fragment").select();
     document.documentElement.dataset.linked = "true";
     await navigator.clipboard?.writeText(part("fragment").value).catch(() => document.execCommand("copy"));
 }
-
-const NO_ADDRESS = "Type the address at which the page stands, as https://school.example/market.html.";
 
 /** Shows the code of the link at the address that stands there, or why there is none. */
 function showCode() {
@@ -57,13 +53,9 @@ function showCode() {
     link.svg = code?.svg ?? null;
     part("code-save").hidden = code === null;
     part("code-picture").replaceChildren(...(code === null ? [] : [picture(code.svg)]));
-    part("code-says").textContent = address === null ? NO_ADDRESS : isLong ? tooLong(whole.length)
-        : `The link has ${whole.length} letters, and its code ${code.count} squares on each side.`;
-}
-
-function tooLong(count) {
-    return `The document is too long for a code: the link has ${count} letters, and a code holds ${MOST_IN_CODE}. `
-        + "Hand on the link, or the file.";
+    part("code-says").textContent = address === null ? say("link.no_address")
+        : isLong ? say("link.too_long_code", {letters: whole.length, most: MOST_IN_CODE})
+        : say("link.code", {letters: whole.length, squares: code.count});
 }
 
 /** An address as browsers write it, without what stands behind a #; null where it is none of the web. */
@@ -79,6 +71,6 @@ function addressIn(text) {
 function picture(svg) {
     const drawn = drawing(svg);
     drawn.setAttribute("role", "img");
-    drawn.setAttribute("aria-label", "The link as a QR code");
+    drawn.setAttribute("aria-label", say("link.picture"));
     return drawn;
 }

@@ -1,4 +1,5 @@
 // The page: a network to look at and guess with, its document, and what the program answers.
+import {say} from "../words/say.js";
 import {shownOf} from "./answer.js";
 import {Ended, inText, NoAnswerCame, Program} from "./ask.js";
 import {readyBuild, showBuild} from "./build.js";
@@ -8,6 +9,7 @@ import {readyEditor, showEditor} from "./editor.js";
 import {showFirms} from "./firms.js";
 import {Guesses} from "./guess.js";
 import {handle} from "./hand.js";
+import {speakFirst} from "./language.js";
 import {showLesson} from "./lesson.js";
 import {bytesIn, isDocument} from "./link.js";
 import {part} from "./page.js";
@@ -19,6 +21,7 @@ import {showShell} from "./shell.js";
 import {Store} from "./state.js";
 import {showStory} from "./story.js";
 import {Suppositions} from "./suppose.js";
+import {bindLanguage, tellPage} from "./texts.js";
 import {readyTrades, showTrades, typePrice} from "./trades.js";
 import {showVerdict} from "./verdict.js";
 import {showAnswers} from "./view.js";
@@ -43,15 +46,27 @@ async function askNow(program) {
     }
 }
 
+/** Says again what was answered to the command, in the language that is spoken. */
+async function tellAgain(program) {
+    const {answer, run} = store.value;
+    if (answer === null || run.state === "asking") return;
+    try {
+        const shown = await shownOf(answer.document, answer.words, answer, inText(program.turn()));
+        if (store.value.answer === answer) store.act("retold", shown);
+    } catch (error) {
+        if (!(error instanceof Ended || error instanceof NoAnswerCame)) throw error;
+    }
+}
+
 /** Opens the document in the address, and answers whether there was one. */
 async function openAddress() {
     if (!isDocument(location.hash)) return false;
     try {
-        store.act("opened", "from a link", await bytesIn(location.hash));
+        store.act("opened", say("page.from_link"), await bytesIn(location.hash));
         return true;
     } catch {
         part("notice").hidden = false;
-        part("notice").textContent = "The link's document could not be read: it isn't whole.";
+        part("notice").textContent = say("link.broken");
         return false;
     }
 }
@@ -74,6 +89,8 @@ function show(value) {
 }
 
 async function start() {
+    speakFirst();
+    tellPage();
     document.addEventListener("securitypolicyviolation", ({violatedDirective, blockedURI}) => {
         document.documentElement.dataset.violation = `${violatedDirective} ${blockedURI}`;
     });
@@ -85,6 +102,7 @@ async function start() {
     readyBuild(store);
     handle(store, typePrice);
     bind(store, documents, {ask: () => askNow(program), end: () => program.end()});
+    bindLanguage(store, () => tellAgain(program));
     part("version").textContent = await inText(program.turn())(["--version"], "");
     globalThis.market = Object.freeze({
         /** For the console, and for tests: `market.ask(["solve"], bytes)` is a promise of `{status, bytes, ms}`. */
@@ -105,5 +123,5 @@ async function start() {
 
 start().catch((error) => {
     document.documentElement.dataset.state = "failed";
-    part("status").textContent = part("verdict").textContent = `The program can't run in this browser: ${error.message}.`;
+    part("status").textContent = part("verdict").textContent = say("page.failed", {why: error.message});
 });

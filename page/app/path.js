@@ -3,6 +3,7 @@ import {whyPicture} from "../draw/why.js";
 import {changesAlong} from "../read/changes.js";
 import {costs} from "../read/firms.js";
 import {changeWith} from "../say/changes.js";
+import {say} from "../words/say.js";
 import {Ended, inText} from "./ask.js";
 import {drawing, made, part} from "./page.js";
 import {isOld, networkOf} from "./state.js";
@@ -27,12 +28,8 @@ export async function trace(store, program) {
     }
 }
 
-const ABOVE = "at a higher price, whatever the others are, one of these firms would rather make its change.";
-const BELOW = "at a lower price, whatever the others are, one of these firms would rather make its change.";
-
 function headOf({trade, low, high}, side) {
-    return side === "high" ? `In no equilibrium is ${trade} above ${high}: ${ABOVE}`
-        : `In no equilibrium is ${trade} below ${low}: ${BELOW}`;
+    return side === "high" ? say("bound.above", {trade, price: high}) : say("bound.below", {trade, price: low});
 }
 
 /** Shows the path of a value. */

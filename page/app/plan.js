@@ -2,6 +2,7 @@
 import {lanesOf} from "../draw/lanes.js";
 import {closely, labelled, layout} from "../draw/layout.js";
 import {NORMAL, widthOf} from "../draw/svg.js";
+import {language, say} from "../words/say.js";
 
 /** The room for a picture, by the shape of its place in the page. */
 const ROOMS = {wide: {width: 1540, height: 760}, usual: {width: 940, height: 720}, narrow: {width: 400, height: 460}};
@@ -39,7 +40,7 @@ function lanesAt(network, firm = null) {
  */
 export function planOf(network, firm, digits, shape) {
     const trades = network.trades.map(({name, seller, buyer}) => [name, seller, buyer]);
-    const key = JSON.stringify([firm, digits, shape, network.firms.map(({name}) => name), trades]);
+    const key = JSON.stringify([language(), firm, digits, shape, network.firms.map(({name}) => name), trades]);
     if (!kept.has(key)) {
         if (kept.size >= MOST_KEPT) kept.delete(kept.keys().next().value);
         kept.set(key, madePlan(network, firm, digits, shape));
@@ -80,7 +81,8 @@ function madeLabels({lanes, places, boxes, isClose}, digits, isNamed) {
 const WIDER = 1.12;
 
 function boxSize(name, digits, isClose) {
-    const number = "0".repeat(digits), below = isClose ? ["\u2717 none", `\u2717 ${number}`] : ["impossible", `best ${number}`];
+    const number = "0".repeat(digits), below = isClose
+        ? [`\u2717 ${say("word.none")}`, `\u2717 ${number}`] : [say("word.impossible"), say("word.best", {number})];
     const widest = Math.max(widthOf(name, NAME), ...below.map((says) => widthOf(says, BELOW)));
     return {width: widest * WIDER + 12, height: isClose ? 38 : 58};
 }
@@ -88,12 +90,16 @@ function boxSize(name, digits, isClose) {
 /** The room for a name above a price. */
 function labelSize({trades}, digits) {
     const number = "0".repeat(digits);
-    const [name, price] = trades.length === 1 ? [trades[0], number] : [`${trades.length} of ${trades.length} on`, `${number} to ${number}`];
+    const price = trades.length === 1 ? number : say("extent.from_to", {low: number, high: number}), name = nameOf(trades);
     return {width: Math.max(widthOf(name, NORMAL), widthOf(price, PRICE)) * WIDER + 8, height: NORMAL + PRICE + 8};
 }
 
 /** The room for both in one line. */
 function lineSize({trades}, digits) {
-    const name = trades.length === 1 ? trades[0] : `${trades.length} of ${trades.length} on`;
-    return {width: widthOf(`${name} at ${"0".repeat(digits)}`, NORMAL) * WIDER + 4, height: NORMAL + 4};
+    const says = say("picture.at", {name: nameOf(trades), price: "0".repeat(digits)});
+    return {width: widthOf(says, NORMAL) * WIDER + 4, height: NORMAL + 4};
+}
+
+function nameOf(trades) {
+    return trades.length === 1 ? trades[0] : say("stage.on", {on: trades.length, all: trades.length});
 }

@@ -1,4 +1,5 @@
 // What a user does with reasons, contracts and claims, as actions.
+import {say} from "../words/say.js";
 import {claimedAs, claimOf} from "./claims.js";
 import {goTo, refreshEditor} from "./editor.js";
 import {on, part} from "./page.js";
@@ -33,15 +34,13 @@ function bindStory(store) {
     });
 }
 
-const NOT_WHOLE = "With this denominator a price isn't whole.", BOUNDS = "A denominator is a whole number from 1 to 100.";
-
 function bindSigning(store) {
     on("sign-guess", () => signGuess(store));
     part("denominator").addEventListener("change", () => {
         const text = part("denominator").value.trim(), isOne = /^([1-9]\d?|100)$/.test(text);
         const isCounted = isOne && countOver(store, BigInt(text));
         part("denominator").setAttribute("aria-invalid", `${!isCounted}`);
-        part("denominator-says").textContent = isCounted ? "" : isOne ? NOT_WHOLE : BOUNDS;
+        part("denominator-says").textContent = isCounted ? "" : say(isOne ? "sign.not_whole" : "sign.denominators");
     });
 }
 

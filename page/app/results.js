@@ -1,11 +1,12 @@
 // The results that a teacher has opened, as a table. Each is decided by the program, which is asked anew.
 import {NoAnswer, readAnswer} from "../read/answer.js";
+import {say} from "../words/say.js";
 import {Ended, NoAnswerCame} from "./ask.js";
 import {GOALS, resultIn} from "./exercise.js";
 import {rows} from "./exports.js";
 import {made, offer, part} from "./page.js";
 
-const HEADS = ["Name", "Exercise", "Reached", "Tries", "Firms and trades"];
+const HEADS = ["head.name", "head.exercise", "head.reached", "head.tries", "head.given"];
 
 /** Up to how many bytes a file may be a result. */
 const MOST_BYTES = 1 << 19;
@@ -42,28 +43,28 @@ export class Marking {
 
     /** Whether a document reaches its goal, as `{isReached, says}`. */
     async decided({exercise, bytes}) {
-        if (exercise === null) return {isReached: false, says: "it isn't of an exercise"};
+        if (exercise === null) return {isReached: false, says: say("result.no_exercise")};
         try {
             const {status, bytes: answer} = await this.program.turn()([GOALS[exercise.goal].command], bytes);
-            if (status === 0) return {isReached: true, says: "yes"};
-            return {isReached: false, says: `no: ${whyNot(new TextDecoder().decode(answer))}`};
+            if (status === 0) return {isReached: true, says: say("result.yes")};
+            return {isReached: false, says: whyNot(new TextDecoder().decode(answer))};
         } catch (error) {
             if (!(error instanceof NoAnswerCame || error instanceof Ended || error instanceof NoAnswer)) throw error;
-            return {isReached: false, says: "the program didn't answer"};
+            return {isReached: false, says: say("result.no_answer")};
         }
     }
 }
 
 function whyNot(text) {
     const said = readAnswer(text);
-    return WHY_NOT[said.answer]?.(said) ?? said.answer;
+    return WHY_NOT[said.answer]?.(said) ?? say("result.other", {answer: said.answer});
 }
 
 const WHY_NOT = {
-    firms: ({content, firms}) => `${content} of ${firms.length} firms are content`,
-    drops: ({firm}) => `${firm} would drop a contract`,
-    blocks: () => "other contracts block it",
-    fault: ({fault, place}) => place.length === 1 ? `there is no ${place[0]}` : `fault ${fault}`,
+    firms: ({content: count, firms}) => say("result.content", {count, all: firms.length}),
+    drops: ({firm}) => say("result.drops", {firm}),
+    blocks: () => say("result.blocks"),
+    fault: ({fault, place}) => place.length === 1 ? say("result.lacks", {part: place[0]}) : say("result.fault", {fault}),
 };
 
 let shown = null;
@@ -73,9 +74,8 @@ export function showResults({results}) {
     if (results === shown) return;
     shown = results;
     const table = part("results"), reached = results.filter(({verdict}) => verdict?.isReached).length;
-    const count = results.length === 1 ? "1 result" : `${results.length} results`;
-    part("results-says").textContent = `${count}, ${reached} reached.`;
-    table.tHead.replaceChildren(rowOf(HEADS.map((head) => made("th", head, {scope: "col"}))));
+    part("results-says").textContent = say("result.counted", {count: results.length, reached});
+    table.tHead.replaceChildren(rowOf(HEADS.map((head) => made("th", say(head), {scope: "col"}))));
     table.tBodies[0].replaceChildren(...results.map((result, k) => resultRow(result, k)));
 }
 
@@ -87,21 +87,21 @@ function rowOf(cells) {
 
 function resultRow(result, k) {
     const [name, ...cells] = cellsOf(result), {verdict} = result, head = made("th", "", {scope: "row"});
-    head.append(made("button", name, {type: "button", "data-result": k, title: "Show what this pupil saw"}));
+    head.append(made("button", name, {type: "button", "data-result": k, title: say("result.show")}));
     const row = rowOf([head, ...cells.map((cell) => made("td", cell))]);
     if (verdict !== null) row.className = verdict.isReached ? "reached" : "missed";
     return row;
 }
 
-const SIGNS = {true: "\u2713 ", false: "\u2717 "}, GIVEN = {true: "as given", false: "changed", null: "not compared"};
+const SIGNS = {true: "\u2713 ", false: "\u2717 "}, GIVEN = {true: "result.as_given", false: "result.changed", null: "result.not_compared"};
 
 function cellsOf({file, name, tries, document, isGiven, verdict}) {
     const reached = verdict === null ? "" : `${SIGNS[verdict.isReached]}${verdict.says}`;
-    return [name || file, document.exercise?.title ?? "none", reached, String(tries ?? "?"), GIVEN[isGiven]];
+    return [name || file, document.exercise?.title ?? say("word.none"), reached, String(tries ?? "?"), say(GIVEN[isGiven])];
 }
 
 export function saveResults({results}) {
-    offer("results.csv", rows([HEADS, ...results.map(quotedRow)]), "text/csv");
+    offer("results.csv", rows([HEADS.map((head) => say(head)), ...results.map(quotedRow)]), "text/csv");
 }
 
 /** The row in a file: what a pupil wrote begins no formula of a spreadsheet. */

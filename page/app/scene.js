@@ -2,6 +2,7 @@
 import {BOTH, COME, FIRST, GONE, SECOND} from "../draw/svg.js";
 import {fraction} from "../read/network.js";
 import {standing} from "../read/standing.js";
+import {say} from "../words/say.js";
 import {supposedScene} from "./difference.js";
 import {drawing, keepingFocus, part, write} from "./page.js";
 import {isTable} from "./plan.js";
@@ -57,12 +58,10 @@ export function neighbourhood({document, view, selection}) {
     return (network.firms.find(isIts) ?? network.firms[0])?.name ?? null;
 }
 
-const SIGNS = "Thick: takes place. Thin: doesn't. \u2713 content. \u2717 objects.", SIGNED = "Thick: is signed. Thin: isn't.";
-
 function legendOf(network, firm, {marks, stands, signs: own}) {
-    const said = [...new Set([...marks.values()].map(({says}) => says))], signs = own ?? (stands.isSigned ? SIGNED : SIGNS);
-    const coloured = own || said.length === 0 ? signs : `${signs} In colour: ${said.join("; ")}.`;
-    return firm === null ? coloured : `Only ${firm} and its trades are drawn. ${coloured}`;
+    const said = [...new Set([...marks.values()].map(({says}) => says))], signs = own ?? say(stands.isSigned ? "legend.signed" : "legend.guess");
+    const coloured = own || said.length === 0 ? signs : say("legend.coloured", {signs, marks: said.join("; ")});
+    return firm === null ? coloured : say("legend.one_firm", {firm, legend: coloured});
 }
 
 /** What is drawn: what would be after a change, or the guess with what `firms` says of it, what is signed, or an answer with trades and prices; and a step of a story. */
@@ -73,7 +72,7 @@ function sceneOf(value) {
     const told = !isOver && guess?.said?.answer === "firms" ? guess.said.firms : [];
     const lines = view.mode === "sign" ? signedLines(value) : new Map(told.map((line) => [line.firm, line]));
     const isStory = shown !== null && (view.mode === "sign" || !["firm", "bound"].includes(value.selection?.kind));
-    const marks = isStory ? new Map([...shown.step.trades].map(([name, role]) => [name, ROLES[role]])) : marksOf(value, lines);
+    const marks = isStory ? new Map([...shown.step.trades].map(([name, role]) => [name, {...ROLES[role], says: say(ROLES[role].says)}])) : marksOf(value, lines);
     for (const [firm, below] of shown?.step.below ?? []) {
         lines.set(firm, {firm, below, mood: moodNow(view, lines.get(firm)), says: below.join(", ")});
     }
@@ -102,36 +101,36 @@ function signedLines({judged}) {
     if (!judged?.has) return new Map();
     const {over} = networkOf(judged.document).outcome;
     return new Map([...judged.has].map(([firm, has]) => {
-        const number = has === null ? "impossible" : fraction(has, over);
-        return [firm, {firm, mood: isLasting ? "content" : "unknown", below: [isLasting ? `\u2713 ${number}` : `has ${number}`],
-            says: has === null ? "what it has signed is impossible" : `its utility is ${number} by what is signed`}];
+        const number = has === null ? say("word.impossible") : fraction(has, over);
+        return [firm, {firm, mood: isLasting ? "content" : "unknown", below: [isLasting ? `\u2713 ${number}` : say("word.has", {number})],
+            says: has === null ? say("stage.signed_impossible") : say("stage.by_signed", {number})}];
     }));
 }
 
 /** How the trades of a step are drawn, by the part that they play in it. */
 const ROLES = {
-    change: {ink: FIRST, says: "what this step changes", width: 5}, changed: {ink: BOTH, says: "what the steps before it changed"},
-    round: {ink: FIRST, says: "what the round changes"},
-    impossible: {ink: GONE, says: "what it has"}, x: {ink: FIRST, says: "in x", width: 4}, y: {ink: SECOND, says: "in y", width: 4},
-    "x and y": {ink: BOTH, says: "in x and in y", width: 4}, moved: {ink: GONE, says: "what goes from one to the other", width: 4},
-    keeps: {ink: COME, says: "what it would keep"}, drops: {ink: GONE, says: "what it would drop"},
-    contract: {ink: FIRST, says: "the contract of this step", width: 5},
-    "signed before": {ink: BOTH, says: "the contracts of the steps before it", width: 3},
-    chain: {ink: FIRST, says: "the contracts of the chain", width: 3}, left: {ink: GONE, says: "what would be left"},
+    change: {ink: FIRST, says: "role.change", width: 5}, changed: {ink: BOTH, says: "role.changed"},
+    round: {ink: FIRST, says: "role.round"},
+    impossible: {ink: GONE, says: "role.has"}, x: {ink: FIRST, says: "role.x", width: 4}, y: {ink: SECOND, says: "role.y", width: 4},
+    "x and y": {ink: BOTH, says: "role.both", width: 4}, moved: {ink: GONE, says: "role.moved", width: 4},
+    keeps: {ink: COME, says: "role.keeps"}, drops: {ink: GONE, says: "role.drops"},
+    contract: {ink: FIRST, says: "role.contract", width: 5},
+    "signed before": {ink: BOTH, says: "role.before", width: 3},
+    chain: {ink: FIRST, says: "role.chain", width: 3}, left: {ink: GONE, says: "role.left"},
 };
 
 /** The trades in colour: those that a chosen firm would rather have, or those of the path that holds a chosen bound. */
 function marksOf({selection, ranges}, lines) {
     const line = selection?.kind === "firm" ? lines.get(selection.name) : null;
-    const rather = {ink: FIRST, says: `what ${line?.firm} would rather have`};
+    const rather = {ink: FIRST, says: say("mark.rather", {firm: line?.firm ?? ""})};
     if (line?.best && line.gain !== 0n) return new Map(line.best.map((name) => [name, rather]));
     const range = selection?.kind === "bound" && ranges?.said?.ranges?.find(({trade}) => trade === selection.trade);
     return range ? marksOfPath(range, selection.side === "high") : new Map();
 }
 
 function marksOfPath({trade, high_path: above, low_path: below}, isHigh) {
-    const own = {ink: BOTH, says: `the price of ${trade}`};
-    const other = isHigh ? {ink: FIRST, says: `holds ${trade} from above`} : {ink: SECOND, says: `holds ${trade} from below`};
+    const own = {ink: BOTH, says: say("mark.price", {trade})};
+    const other = isHigh ? {ink: FIRST, says: say("mark.holds_above", {trade})} : {ink: SECOND, says: say("mark.holds_below", {trade})};
     const nodes = (isHigh ? above : below).filter((node) => node !== null);
     return new Map(nodes.map((node) => [node, node === trade ? own : other]));
 }

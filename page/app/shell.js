@@ -1,4 +1,5 @@
 // What stands around the network and the tables: buttons, tabs, notices, and the states that the page names.
+import {say} from "../words/say.js";
 import {outcomeOf} from "./contracts.js";
 import {hasArrangement} from "./edits.js";
 import {isOneLine} from "./lines.js";
@@ -105,7 +106,7 @@ function showOver(value) {
     part("over").hidden = !isOver;
     part("verdict-row").hidden = isOver;
     part("told").hidden = isOver;
-    if (isOver) write("over-says", `This is the equilibrium that solve found: the worths sum to ${answer.said.surplus}.`);
+    if (isOver) write("over-says", say("verdict.solved", {surplus: answer.said.surplus}));
 }
 
 function showRanges(value) {

@@ -1,6 +1,7 @@
 // The network as it is guessed, or as an answer has it, drawn so that its firms and lanes can be clicked and reached by keys.
 import {spanOf} from "../draw/lanes.js";
 import {arrow, escaped, INK, NORMAL, smooth, tag, text, widthOf} from "../draw/svg.js";
+import {say} from "../words/say.js";
 import {BELOW, labelPlaces, NAME, planOf, PRICE} from "./plan.js";
 
 /** How far lines in a box stand from each other. */
@@ -47,8 +48,8 @@ function laneAt(lane, on, stands, marks, selection) {
     const mark = markOf(lane.trades.map((name) => marks.get(name)).filter(Boolean));
     const isChosen = selection?.kind === "lane" && selection.key === laneKey(lane);
     const price = spanOf(isOn ? taking : lane.trades, shownPrices(stands));
-    const isSigned = stands.isSigned ?? false, state = isSigned ? "signed" : "on";
-    const name = lane.trades.length === 1 ? lane.trades[0] : `${taking.length} of ${lane.trades.length} ${state}`;
+    const isSigned = stands.isSigned ?? false, counts = {on: taking.length, all: lane.trades.length};
+    const name = lane.trades.length === 1 ? lane.trades[0] : say(isSigned ? "stage.signed" : "stage.on", counts);
     const isNamed = isOn || mark !== null || isChosen, rank = (isChosen ? 4 : 0) + (isOn ? 2 : 0) + (mark ? 1 : 0);
     return {...lane, key: laneKey(lane), name, price, isOn, mark, isChosen, isNamed, rank, isSigned};
 }
@@ -79,13 +80,15 @@ function laneSvg(lane, points, at, isClose) {
         label: at && tag("g", {class: `lane-label${chosen}`, "data-of": lane.key, "aria-hidden": "true"}, words(lane, at, ink))};
 }
 
+/** What a lane is, for those who hear it: whether it takes place or is signed. */
+const STATES = {true: {true: "stage.is_signed", false: "stage.is_not_signed"}, false: {true: "stage.is_on", false: "stage.is_off"}};
+
 /** A lane in words, for those who hear it. */
 function laneSays({trades, seller, buyer, name, price, isOn, mark, isSigned}) {
-    const priced = price === null ? "without a price" : `at ${price}`, [on, off] = isSigned ? ["signed", "not signed"] : ["on", "off"];
-    const state = [isOn ? on : off, ...(mark === null ? [] : [mark.says])].join(", ");
-    return trades.length === 1 ? `Trade ${name}, from ${seller} to ${buyer}, ${priced}: ${state}`
-        : `${trades.length} trades from ${seller} to ${buyer}, ${name}, ${priced}: ${trades.join(", ")}` +
-            (mark === null ? "" : `; ${mark.says}`);
+    const priced = price === null ? say("stage.no_price") : say("stage.at", {price}), marks = mark === null ? [] : [mark.says];
+    const values = {name, seller, buyer, priced, count: trades.length};
+    if (trades.length === 1) return say("stage.trade", {...values, state: [say(STATES[isSigned][isOn]), ...marks].join(", ")});
+    return say("stage.trades", {...values, trades: [trades.join(", "), ...marks].join("; ")});
 }
 
 /** The name of a lane, with the sign of what comes or goes. */
@@ -101,7 +104,7 @@ function twoLines(lane, {x, y}, ink) {
 }
 
 function lineLabel(lane, {x, y}, ink) {
-    const {price, isOn} = lane, name = signed(lane), says = price === null ? name : `${name} at ${price}`;
+    const {price, isOn} = lane, name = signed(lane), says = price === null ? name : say("picture.at", {name, price});
     const width = widthOf(says, NORMAL) + 6;
     return [tag("rect", {x: x - width / 2, y: y - 8, width, height: 16, rx: 3}), text(x, y + 4, says, {ink, weight: isOn ? "bold" : null})];
 }
@@ -127,16 +130,16 @@ function belowOf(line, isClose) {
     if (line.below) return isClose ? line.below.slice(-1) : line.below;
     const mood = moodOf(line);
     if (mood === "content") return [`\u2713 ${line.utility}`];
-    if (mood === "impossible") return isClose ? ["\u2717 none"] : ["\u2717", "impossible"];
-    return isClose ? [`\u2717 ${line.utility}`] : [`\u2717 ${line.utility}`, `best ${line.best_utility}`];
+    if (mood === "impossible") return isClose ? [`\u2717 ${say("word.none")}`] : ["\u2717", say("word.impossible")];
+    return isClose ? [`\u2717 ${line.utility}`] : [`\u2717 ${line.utility}`, say("word.best", {number: line.best_utility})];
 }
 
 /** A firm in words. */
 function firmSays(name, line) {
     const mood = moodOf(line);
-    if (line?.says) return `Firm ${name}: ${line.says}`;
-    if (mood === "unknown") return `Firm ${name}`;
-    if (mood === "content") return `Firm ${name}, content with a utility of ${line.utility}`;
-    if (mood === "impossible") return `Firm ${name} objects: what it has is impossible for it`;
-    return `Firm ${name} objects: its utility is ${line.utility}, and it could have ${line.best_utility}`;
+    if (line?.says) return say("stage.firm_says", {name, says: line.says});
+    if (mood === "unknown") return say("stage.firm", {name});
+    if (mood === "content") return say("stage.firm_content", {name, utility: line.utility});
+    if (mood === "impossible") return say("stage.firm_impossible", {name});
+    return say("stage.firm_objects", {name, utility: line.utility, most: line.best_utility});
 }

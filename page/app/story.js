@@ -1,4 +1,5 @@
 // Why an answer is so, in the page: step by step above the network, and as a list with its picture beside it.
+import {say} from "../words/say.js";
 import {canBeClaimed} from "./claims.js";
 import {drawing, keepingFocus, made, part, write} from "./page.js";
 import {isOld} from "./state.js";
@@ -56,7 +57,7 @@ function showStep(value) {
     part("story").hidden = shownStep === null || shownStep.count === 1;
     if (shownStep === null) return;
     const {place, count} = shownStep;
-    write("story-place", `Step ${place + 1} of ${count}`);
+    write("story-place", say("story.step", {place: place + 1, all: count}));
     part("story-back").setAttribute("aria-disabled", `${place === 0}`);
     part("story-next").setAttribute("aria-disabled", `${place === count - 1}`);
 }

@@ -1,5 +1,6 @@
 // The table of trades: each can be turned on or off, or signed, and be given a price, with the bounds of its price beside it. Of very
 // many only the rows in sight are there.
+import {say} from "../words/say.js";
 import {made, part} from "./page.js";
 import {boundsAt, isWithin, scaleOf} from "./bounds.js";
 import {outcomeOf} from "./contracts.js";
@@ -7,7 +8,7 @@ import {laneKey} from "./stage.js";
 import {isOld, networkOf} from "./state.js";
 import {setPrice, termsOf, turn} from "./terms.js";
 
-const HEADS = [["Trade", "name"], ["From", "seller"], ["To", "buyer"], ["On", "on"], ["Price", "price"], ["Bounds", null]];
+const HEADS = [["head.trade", "name"], ["head.from", "seller"], ["head.to", "buyer"], ["head.on", "on"], ["head.price", "price"], ["head.bounds", null]];
 
 /** How high a row is, in pixels, and beyond how many rows only those in sight are there. */
 const HIGH = 37, MOST_ROWS = 200, AROUND = 8;
@@ -27,10 +28,10 @@ export function readyTrades(of) {
 
 function headRow() {
     const row = made("tr");
-    for (const [head, by] of HEADS) {
-        const cell = made("th", by === null ? head : "", {scope: "col", "data-by": by});
+    for (const [, by] of HEADS) {
+        const cell = made("th", "", {scope: "col", "data-by": by});
         if (by !== null) {
-            const button = made("button", head, {type: "button", class: "plain"});
+            const button = made("button", "", {type: "button", class: "plain"});
             button.addEventListener("click", () => sortBy(by));
             cell.append(button);
         }
@@ -63,8 +64,9 @@ export function showTrades(value) {
 function showHeads(network, {view, ranges}) {
     const {cells} = part("trades").tHead.rows[0], isSigned = view.mode === "sign", {over} = outcomeOf(network);
     for (const cell of cells) cell.setAttribute("aria-sort", orderOf(cell.dataset.by, view.sort));
-    cells[3].firstElementChild.textContent = isSigned ? "Signed" : "On";
-    cells[4].firstElementChild.textContent = isSigned && over !== 1n ? `Price, in 1/${over}` : "Price";
+    HEADS.forEach(([head], k) => ((cells[k].firstElementChild ?? cells[k]).textContent = say(head)));
+    if (isSigned) cells[3].firstElementChild.textContent = say("head.signed");
+    if (isSigned && over !== 1n) cells[4].firstElementChild.textContent = say("head.price_over", {over});
     cells[5].hidden = isSigned || ranges?.said?.answer !== "ranges";
 }
 
@@ -89,9 +91,9 @@ function sorted(all, {by, isDown}) {
 
 function fillFirms(network, view) {
     const names = network.firms.map(({name}) => name).filter((name) => name !== ""), select = part("by-firm");
-    const key = JSON.stringify(names);
+    const all = say("page.all_firms"), key = JSON.stringify([all, names]);
     if (select.dataset.names !== key) {
-        select.replaceChildren(new Option("All firms", ""), ...names.map((name) => new Option(name, name)));
+        select.replaceChildren(new Option(all, ""), ...names.map((name) => new Option(name, name)));
         select.dataset.names = key;
     }
     select.value = view.firm ?? "";
@@ -133,8 +135,8 @@ const FIELD = {type: "text", inputmode: "numeric", size: 6, autocomplete: "off"}
 /** A row with its button and field, which outlives changes. */
 function rowFor(name) {
     const row = made("tr", "", {"data-trade": name});
-    const on = made("input", "", {type: "checkbox", "data-key": `on:${name}`, "aria-label": `${name} is on`});
-    const price = made("input", "", {...FIELD, "data-key": `price:${name}`, "aria-label": `Price of ${name}`});
+    const on = made("input", "", {type: "checkbox", "data-key": `on:${name}`});
+    const price = made("input", "", {...FIELD, "data-key": `price:${name}`});
     on.addEventListener("change", () => turn(store, name, on.checked));
     price.addEventListener("input", () => typed(name, price));
     price.addEventListener("blur", () => shownPrice(price));
@@ -186,7 +188,8 @@ function update(element, row, place, value, {scale, range, isOldRange}) {
     if (to.textContent !== row.buyer) to.textContent = row.buyer;
     if (head.textContent !== row.name) head.textContent = row.name;
     box.checked = row.on;
-    box.setAttribute("aria-label", `${row.name} is ${value.view.mode === "sign" ? "signed" : "on"}`);
+    box.setAttribute("aria-label", say(value.view.mode === "sign" ? "stage.name_signed" : "stage.name_on", {name: row.name}));
+    field.setAttribute("aria-label", say("stage.price_of", {name: row.name}));
     const shown = row.price === undefined ? "" : String(row.price);
     field.dataset.price = shown;
     const isTyped = field === document.activeElement && field.value.trim() === shown;

@@ -1,6 +1,7 @@
 // What is said above the network: the verdict on a guess or on what is signed, and the sentence of a chosen firm or of a step.
 import {fraction} from "../read/network.js";
 import {Deals} from "../say/words.js";
+import {say} from "../words/say.js";
 import {supposedVerdict} from "./difference.js";
 import {hasArrangement} from "./edits.js";
 import {linesOf, objectors} from "./firms.js";
@@ -44,41 +45,31 @@ function guessLine({guess, document}, name) {
 /** What a firm does by what is signed, and what it has by that. */
 function signedLine({judged, document}, name) {
     const network = networkOf(document), deals = new Deals(network, {answer: "drops"});
-    const does = `${name} ${deals.does(name, network.own(name, deals.on))}`, has = judged?.has?.get(name);
-    if (has === undefined) return `${does}.`;
-    if (has === null) return `${does}, which is impossible for it.`;
-    return `${does}: its utility is ${fraction(has, networkOf(judged.document).outcome.over)}.`;
+    const values = {firm: name, does: deals.does(name, network.own(name, deals.on))}, has = judged?.has?.get(name);
+    if (has === undefined) return say("verdict.signed_does", values);
+    if (has === null) return say("verdict.signed_impossible", values);
+    return say("verdict.signed_utility", {...values, utility: fraction(has, networkOf(judged.document).outcome.over)});
 }
 
-const NOT_SIGNED = "Nothing is signed yet: click a trade to sign it.", NO_GUESS = "No guess yet: click a trade, or press Solve.";
-
-const NO_PRICES = "The trades have no prices yet: type some, or ask whether there are any.";
-
 function verdictOf({document, view}, said) {
-    if (!document.isWhole) return {mood: "unknown", says: "The document is too long to guess at. The commands can be asked."};
-    if (said === null) return {mood: "unknown", says: "The program is asked."};
+    if (!document.isWhole) return {mood: "unknown", says: say("verdict.too_long_to_guess")};
+    if (said === null) return {mood: "unknown", says: say("verdict.asked")};
     if (said.trouble) return {mood: "fault", says: said.trouble};
-    if (said.isNone) return {mood: "unknown", says: view.mode === "sign" ? NOT_SIGNED : lacking(document)};
+    if (said.isNone) return {mood: "unknown", says: say(view.mode === "sign" ? "verdict.not_signed" : lacking(document))};
     const says = VERDICTS[said.said.answer];
     return says ? says(said.said) : {mood: "fault", says: said.story ? said.sentences[0] : said.sentences.join(" ")};
 }
 
-/** What there isn't of a guess: all of it, or its prices. */
+/** The key of what there isn't of a guess: all of it, or its prices. */
 function lacking(document) {
-    return hasArrangement(networkOf(document)) ? NO_PRICES : NO_GUESS;
+    return hasArrangement(networkOf(document)) ? "verdict.no_prices" : "verdict.no_guess";
 }
 
 const VERDICTS = {
-    firms: ({firms, content, surplus}) => content === BigInt(firms.length)
-        ? {mood: "content", says: `\u2713 An equilibrium: every firm is content, and the worths sum to ${surplus}.`}
-        : {mood: "objects", says: `\u2717 No equilibrium: ${content} of ${firms.length} firms are content.`},
-    completes: () => ({mood: "content", says: "\u2713 It lasts: nobody would drop a contract, and prices complete what is signed."}),
-    drops: ({firm, keeps}) => {
-        const what = keeps.length === 0 ? "its contracts" : "some of its contracts";
-        return {mood: "objects", says: `\u2717 It isn't kept: ${firm} would rather drop ${what}.`};
-    },
-    blocks: ({contracts}) => {
-        const what = contracts.length === 1 ? "one other contract" : `a chain of ${contracts.length} other contracts`;
-        return {mood: "objects", says: `\u2717 It doesn't last: ${what} blocks it.`};
-    },
+    firms: ({firms, content: count, surplus}) => count === BigInt(firms.length)
+        ? {mood: "content", says: `\u2713 ${say("verdict.equilibrium", {surplus})}`}
+        : {mood: "objects", says: `\u2717 ${say("verdict.no_equilibrium", {count, all: firms.length})}`},
+    completes: () => ({mood: "content", says: `\u2713 ${say("verdict.lasts")}`}),
+    drops: ({firm, keeps}) => ({mood: "objects", says: `\u2717 ${say(keeps.length === 0 ? "verdict.drops_all" : "verdict.drops_some", {firm})}`}),
+    blocks: ({contracts}) => ({mood: "objects", says: `\u2717 ${say("verdict.blocks", {count: contracts.length})}`}),
 };

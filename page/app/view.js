@@ -1,5 +1,6 @@
 // The value of the page, shown.
 import {lineAndColumn} from "../read/json.js";
+import {say} from "../words/say.js";
 import {canBeClaimed} from "./claims.js";
 import {verdictOf} from "./commands.js";
 import {lineOf} from "./exports.js";
@@ -22,22 +23,23 @@ export function showAnswers(value) {
     part("shown").dataset.old = `${old}`;
     part("answer-claim").hidden = !canBeClaimed(answer?.said);
     part("answer-claim").setAttribute("aria-disabled", `${old}`);
-    write("status", statusOf(run, words, answer) || (old ? "This was answered to an earlier text of the document." : ""));
+    write("status", statusOf(run, words, answer) || (old ? say("status.earlier") : ""));
     if (answer !== null && answer !== last) showAnswer(answer);
     last = answer;
 }
 
 function nameOf({name, bytes, isWhole}) {
-    const size = bytes.length < 1000 ? `${bytes.length} bytes` : `${Math.round(bytes.length / 100) / 10} KB`;
-    return [name, size, isWhole ? "" : "too long to be changed here; its beginning is shown"].filter(Boolean).join(", ");
+    const size = bytes.length < 1000 ? say("page.bytes", {count: bytes.length}) : `${Math.round(bytes.length / 100) / 10} KB`;
+    return [name, size, isWhole ? "" : say("page.too_long")].filter(Boolean).join(", ");
 }
 
-const STATES = {none: "", asking: "The program runs.", ended: "The run was ended."};
+const STATES = {asking: "status.runs", ended: "status.ended"};
 
 function statusOf({state, message}, words, answer) {
     if (state === "trouble") return message;
-    if (state !== "answered") return STATES[state];
-    return `${verdictOf(answer.status, words)} (exit status ${answer.status}, ${answer.ms.toFixed(answer.ms < 10 ? 1 : 0)} ms).`;
+    if (state !== "answered") return STATES[state] ? say(STATES[state]) : "";
+    const {status, ms} = answer;
+    return say("status.line", {verdict: verdictOf(status, words), status, ms: ms.toFixed(ms < 10 ? 1 : 0)});
 }
 
 function showAnswer({document: asked, words, text, bytes, sentences, mark, pictures}) {
@@ -47,7 +49,7 @@ function showAnswer({document: asked, words, text, bytes, sentences, mark, pictu
     part("pictures").replaceChildren(...pictures.map(pictureOf));
     part("bytes").textContent = text;
     part("raw").open = sentences.length === 0;
-    part("raw").firstElementChild.textContent = `What the program wrote: ${bytes.length} bytes`;
+    part("raw").firstElementChild.textContent = say("page.wrote_bytes", {count: bytes.length});
 }
 
 const MOST_SENTENCES = 12;
@@ -56,7 +58,7 @@ const MOST_SENTENCES = 12;
 function said(sentences) {
     if (sentences.length <= MOST_SENTENCES) return sentences;
     const rest = made("details");
-    rest.append(made("summary", `${sentences.length - MOST_SENTENCES / 2} more sentences`), ...sentences.slice(MOST_SENTENCES / 2));
+    rest.append(made("summary", say("page.more_sentences", {count: sentences.length - MOST_SENTENCES / 2})), ...sentences.slice(MOST_SENTENCES / 2));
     return [...sentences.slice(0, MOST_SENTENCES / 2), rest];
 }
 

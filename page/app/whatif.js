@@ -1,14 +1,15 @@
 // What if: firms that leave and join, trades that come and go, before and after side by side, and what each contributes.
 import {editsBetween, editsTo, isIn} from "../read/states.js";
-import {beforeLine, firmStates, gainOf, partOf, sharesLine, tradeStates, UTILITIES_DEPEND} from "../say/whatif.js";
+import {beforeLine, firmStates, gainOf, partOf, sharesLine, tradeStates} from "../say/whatif.js";
+import {say} from "../words/say.js";
 import {memberAs} from "./edits.js";
 import {goTo, refreshEditor} from "./editor.js";
 import {keepingFocus, made, on, part} from "./page.js";
 import {networkOf} from "./state.js";
 import {areOthers, isAsked, isHidden, isOther, suppose} from "./suppose.js";
 
-const FIRM_HEADS = ["Firm", "Before", "After", "Change", "Contributes"];
-const TRADE_HEADS = ["Trade", "Before", "After", "", "Contributes"];
+const FIRM_HEADS = ["head.firm", "head.before", "head.after", "head.change", "head.contributes"];
+const TRADE_HEADS = ["head.trade", "head.before", "head.after", null, "head.contributes"];
 
 /** Binds what a user does in the view. */
 export function bindWhatIf(store) {
@@ -61,7 +62,7 @@ function able(id, isAble) {
 }
 
 function fill(said, supposed, found) {
-    const network = networkOf(said.document), lines = [beforeLine(said), found && sharesLine(said), UTILITIES_DEPEND];
+    const network = networkOf(said.document), lines = [beforeLine(said), found && sharesLine(said), say("whatif.depend")];
     part("whatif-lines").replaceChildren(...lines.filter(Boolean).map((line) => made("p", line)));
     table("whatif-firms", FIRM_HEADS, network.firms.map(({name}) => firmRow(said, name, supposed, found)));
     table("whatif-trades", TRADE_HEADS, network.trades.map((trade) => tradeRow(said, trade, supposed, found)));
@@ -69,7 +70,7 @@ function fill(said, supposed, found) {
 
 function table(id, heads, rows) {
     const {tHead, tBodies: [body]} = part(id);
-    if (tHead.rows.length === 0) tHead.append(rowOf(heads.map((head) => made("th", head, {scope: "col"}))));
+    tHead.replaceChildren(rowOf(heads.map((head) => made("th", head === null ? "" : say(head), {scope: "col"}))));
     keepingFocus(part(id), () => body.replaceChildren(...rows));
 }
 
@@ -82,7 +83,7 @@ function rowOf(cells, attributes = {}) {
 /** The name of a firm or trade, with a box that says whether it is there after the change. */
 function headOf([does, name], says, {after}) {
     const head = made("th", "", {scope: "row"}), label = made("label", "", {class: "box"});
-    const names = {"data-does": does, "data-name": name, "data-key": `${does}:${name}`, "aria-label": `${name}${says}`};
+    const names = {"data-does": does, "data-name": name, "data-key": `${does}:${name}`, "aria-label": says};
     const box = made("input", "", {type: "checkbox", ...names});
     box.checked = !isIn(after, [does, name]);
     label.append(box, name);
@@ -98,15 +99,16 @@ function firmRow(said, name, supposed, found) {
     const change = gainOf(said, name), signed = change > 0n ? `+${change}` : change, edit = ["leave", name];
     const cells = numbers([...firmStates(said, name), signed, found?.firms.get(name)]);
     const attributes = {"data-firm": name, class: isIn(supposed.after, edit) ? "away" : null};
-    return rowOf([headOf(edit, " is there", supposed), ...cells], attributes);
+    return rowOf([headOf(edit, say("whatif.is_there", {name}), supposed), ...cells], attributes);
 }
 
 const PLAYS = {stays: "stays", comes: "comes", goes: "goes", gone: "goes"};
+const SAYS = {stays: "role.stays", comes: "role.comes", goes: "role.goes"};
 
 function tradeRow(said, {name, seller, buyer}, supposed, found) {
     const played = partOf(said, name), plays = PLAYS[played] ?? "";
-    const head = headOf(["bar", name], `, from ${seller} to ${buyer}, is admitted`, supposed);
-    const cells = [...tradeStates(said, name), plays].map((text) => made("td", text));
+    const head = headOf(["bar", name], say("whatif.is_admitted", {name, seller, buyer}), supposed);
+    const cells = [...tradeStates(said, name), plays === "" ? "" : say(SAYS[plays])].map((text) => made("td", text));
     const attributes = {"data-trade": name, class: plays || played};
     return rowOf([head, ...cells, ...numbers([found?.trades.get(name)])], attributes);
 }

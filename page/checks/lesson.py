@@ -226,7 +226,29 @@ def lesson(page: Bench, name: str) -> None:
     page.open(name, look.example(f"lesson/{name}.json"))
 
 
-def tries_of_the_hour(page: Bench, program: str | None):
+# What the page says in the hour, in each language: of firms that are content, of prices, and of what is signed.
+SAID = {
+    "en": {"content": "{0} of {1} firms are content.", "sum": "the worths sum to {0}.", "round": "sums to {0},", "prices": "There are prices",
+           "objects": "objects", "lasts": ("Sue would rather drop", "one other contract blocks it", "It lasts", "Tom would rather drop"),
+           "leaves": "Dee leaves: the worths sum to 6 in place of 11, which is 5 less.", "who": "the other one is y"},
+    "de": {"content": "{0} von {1} Firmen {2} zufrieden.", "sum": "die Summe der Werte ist {0}.", "round": "ist zusammen {0}.",
+           "prices": "gibt es Preise", "objects": "widerspricht",
+           "lasts": ("Sue würde die eigenen Verträge lieber kündigen", "Ein anderer Vertrag blockiert es", "Es hält:", "Tom würde die eigenen Verträge lieber kündigen"),
+           "leaves": "Dee geht: Die Summe der Werte ist 6 statt 11, um 5 kleiner.", "who": "das andere ist y"},
+}
+
+
+def tries_of_the_hour(page: Bench, program: str | None, language: str = "en"):
+    said_as = SAID[language]
+
+    def says(told: str, key: str, *values: object) -> bool:
+        """Whether something ends as the page says it, whatever letter begins it."""
+        words = said_as[key].format(*values)
+        return told.lower().endswith(words.lower())
+
+    def content(count: int, firms: int) -> bool:
+        return says(page.guess(), "content", count, firms, "ist" if count == 1 else "sind")
+
     page.open("used-cars.json", look.example("used-cars.json"))
     page.click("#tab-guess")
     page.focus("firm:D")
@@ -237,7 +259,7 @@ def tries_of_the_hour(page: Bench, program: str | None):
     page.drag(label("O1 D"), 16)
     yield "5 to 10: the dear car is dragged down until all are content", page.guess().startswith("\u2713")
     lesson(page, "1-one-good")
-    yield "10 to 18: one good, at 40", page.guess().endswith("3 of 4 firms are content.")
+    yield "10 to 18: one good, at 40", content(3, 4)
     answers = []
     for price in (50, 60, 61):
         priced(page, ada_cleo=price, ada_dan=price, ben_cleo=price, ben_dan=price)
@@ -253,40 +275,44 @@ def tries_of_the_hour(page: Bench, program: str | None):
     yield "18 to 22: Dan and Ben hold the price", "Dan" in told[0] and "Ben" in told[1]
     page.click("#ranges")
     lesson(page, "2-assignment")
-    yield "22 to 34: the houses have no prices at first", "sums to -2," in wondered(page)
+    yield "22 to 34: the houses have no prices at first", said_as["round"].format(-2) in wondered(page)
     page.click("#reason-close")
     turned(page, "h1b1", "h3b2", "h1b2", "h3b1")
-    yield "the best way has some", "There are prices" in wondered(page)
+    yield "the best way has some", said_as["prices"] in wondered(page)
     page.click("#reason-take")
-    yield "which are taken", page.guess().endswith("the worths sum to 16.")
+    yield "which are taken", says(page.guess(), "sum", 16)
     page.click("#reason-close")
     lesson(page, "3-middleman")
-    yield "the middleman's price has two that object", page.guess().endswith("1 of 3 firms are content.")
+    yield "the middleman's price has two that object", content(1, 3)
     priced(page, olga_mia=6, mia_bo=9, olga_bo=6)
     yield "and she can earn 2", page.guess().startswith("\u2713") and page.drawn()["firms"]["Mia"]["shown"].endswith("\u2713 2")
     lesson(page, "5-complements")
-    yield "34 to 41: the fan objects", page.guess().startswith("\u2717") and "objects" in page.drawn()["firms"]["Fan"]["says"]
+    yield "34 to 41: the fan objects", page.guess().startswith("\u2717") and said_as["objects"] in page.drawn()["firms"]["Fan"]["says"]
     page.click("#solve")
     page.wait_for("reason", "answered")
-    yield "and solve says why there may be no prices", "Couple" in page.says("reason-lines")
+    yield "and solve says why there may be no prices", "Couple" in page.says("reason-lines") and said_as["who"] in page.says("reason-lines").lower()
     page.click("#reason-close")
     lesson(page, "6-signed-too-low")
     said = [judged(page)]
     for price in (4, 6, 11):
         priced(page, sue_tom=price)
         said.append(judged(page))
-    words = ("Sue would rather drop", "one other contract blocks it", "It lasts", "Tom would rather drop")
-    yield "41 to 48: what is signed lasts at 6, not at 2, 4 and 11", all(word in each for word, each in zip(words, said))
+    yield "41 to 48: what is signed lasts at 6, not at 2, 4 and 11", all(word in each for word, each in zip(said_as["lasts"], said))
     lesson(page, "7-dealer")
+    page.click("#tab-whatif")
+    page.wait_for("whatif", "answered")
+    page.click('[data-firm="Dee"]')
+    page.wait_for("whatif", "answered")
+    yield "48 to 56: the dealer leaves, and 5 are missing", page.says("verdict") == said_as["leaves"]
     page.click("#tab-guess")
-    content = page.guess()
+    is_content = page.guess().startswith("\u2713")
     turned(page, "pam-dee", "quin-dee", "dee-xaver", "dee-yara", "pam-xaver", "quin-yara")
-    yield "48 to 56: without the dealer's trades there are no prices", content.startswith("\u2713") and "sums to -3," in wondered(page)
+    yield "without the dealer's trades there are no prices", is_content and said_as["round"].format(-3) in wondered(page)
     page.click("#reason-close")
     lesson(page, "7-without-dealer")
     page.click("#solve")
     page.wait_for("state", "answered")
-    yield "and the market without her has 6", page.says("over-says").endswith("the worths sum to 6.")
+    yield "and the market without her has 6", says(page.says("over-says"), "sum", 6)
 
 
 def read_code(page: Bench) -> str | None:

@@ -1,4 +1,5 @@
 // The ranges of prices as bars, from the lowest to the highest price of each trade.
+import {say} from "../words/say.js";
 import {FIRST, foot, NORMAL, picture, tag, text, widthOf} from "./svg.js";
 
 const LINE = 20, MOST_LINES = 42, ACROSS = 1590;
@@ -13,7 +14,7 @@ export function barsPicture(network, said) {
     const long = Math.max(120, Math.min(360, ACROSS / count - indent - 30)), wide = indent + long + 30, height = lines * LINE + 16;
     const drawn = columns.map((column, k) => columnAt(column, {left: k * wide, indent, long, height}, axis));
     const {drawn: below, bottom} = foot(height + 30, columns.length * wide, [], legendOf(bars));
-    return picture(columns.length * wide, bottom, "price ranges", drawn, below);
+    return picture(columns.length * wide, bottom, say("picture.ranges"), drawn, below);
 }
 
 function barsOf(network, {on, ranges}) {
@@ -30,7 +31,8 @@ function barsOf(network, {on, ranges}) {
 }
 
 function titleOf({seller, buyer, trades, on}) {
-    return trades.length === 1 ? `${trades[0]}, ${seller} to ${buyer}` : `${on}/${trades.length}, ${seller} to ${buyer}`;
+    const name = trades.length === 1 ? trades[0] : `${on}/${trades.length}`;
+    return `${name}, ${say("picture.ends", {seller, buyer})}`;
 }
 
 /** Where an axis begins and ends, and the round distance of its ticks, of which there are at most ten. */
@@ -50,7 +52,7 @@ function columnAt(bars, {left, indent, long, height}, {from, to, tick}) {
         ticks.map((price, k) => [
             tag("line", {x1: x(price), x2: x(price), y1: 8, y2: height, stroke: "#cbd5e1"}),
             k % every === 0 ? text(x(price), height + 16, price, {ink: "#475569"}) : null]),
-        text(left + indent + long / 2, height + 32, "price", {ink: "#475569"}),
+        text(left + indent + long / 2, height + 32, say("picture.price"), {ink: "#475569"}),
         bars.map((bar, k) => barAt(bar, 22 + k * LINE, {left: left + indent, right: left + indent + long}, x))];
 }
 
@@ -66,8 +68,8 @@ function barAt({title, trades, on, low, high}, y, {left, right}, x) {
 function legendOf(bars) {
     const bar = (width, dashes) => (x, y) => tag("line", {x1: x, x2: x + 36, y1: y, y2: y, stroke: FIRST, "stroke-width": width, "stroke-dasharray": dashes});
     return [
-        bars.some(({on}) => on > 0) ? {sample: bar(7, null), says: "takes place"} : null,
-        bars.some(({on}) => on === 0) ? {sample: bar(2, null), says: "doesn't take place"} : null,
-        bars.some(({low, high}) => low === null || high === null) ? {sample: bar(2, "6 4"), says: "goes on beyond every bound"} : null]
+        bars.some(({on}) => on > 0) ? {sample: bar(7, null), says: say("picture.takes_place")} : null,
+        bars.some(({on}) => on === 0) ? {sample: bar(2, null), says: say("picture.takes_no_place")} : null,
+        bars.some(({low, high}) => low === null || high === null) ? {sample: bar(2, "6 4"), says: say("picture.beyond")} : null]
         .filter((entry) => entry !== null);
 }

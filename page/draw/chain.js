@@ -1,6 +1,7 @@
 // Contracts that block an outcome, between the firms that would rather sign them, with what each has and could have.
 import {gains} from "../read/firms.js";
 import {fraction} from "../read/network.js";
+import {say} from "../words/say.js";
 import {layout} from "./layout.js";
 import {arrow, boxWidth, FIRST, foot, INK, label, namedBox, picture, sizeOf, tag} from "./svg.js";
 
@@ -24,15 +25,15 @@ function arrowOf(network, name, price, state) {
 }
 
 function boxOf(name, isActor, gain, over) {
-    const below = gain ? `${fraction(gain.now, over)}, then ${fraction(gain.then, over)}` : null;
+    const below = gain ? say("picture.now_then", {now: fraction(gain.now, over), then: fraction(gain.then, over)}) : null;
     const style = isActor ? {fill: "#ffedd5", stroke: FIRST, inkBelow: INK} : {};
     return {id: name, name, below, style, width: boxWidth(name, below), height: below === null ? 24 : 36};
 }
 
 const STYLES = {
-    new: {ink: FIRST, width: 3, says: "what the firms in colour would rather sign"},
-    signed: {ink: INK, width: 3, says: "what is signed"},
-    left: {ink: INK, width: 2, dashes: "7 4", says: "what is signed, and one of them would leave"},
+    new: {ink: FIRST, width: 3, says: "picture.rather_sign"},
+    signed: {ink: INK, width: 3, says: "picture.signed"},
+    left: {ink: INK, width: 2, dashes: "7 4", says: "picture.signed_left"},
 };
 
 function drawn(boxes, arrows, places, hasGains) {
@@ -43,9 +44,9 @@ function drawn(boxes, arrows, places, hasGains) {
     const labels = arrows.map(({lines: words, state}, k) => places.arrows[k].label &&
         label(moved(places.arrows[k].label), words, {ink: STYLES[state].ink}));
     const legend = Object.entries(STYLES).filter(([state]) => arrows.some((each) => each.state === state))
-        .map(([, style]) => ({says: style.says, sample: (x, y) => arrow([{x, y}, {x: x + 36, y}], style)}));
-    const caption = hasGains ? ["below the name of a firm: its utility by what is signed, and what it then could have"] : [];
+        .map(([, style]) => ({says: say(style.says), sample: (x, y) => arrow([{x, y}, {x: x + 36, y}], style)}));
+    const caption = hasGains ? [say("picture.below_name")] : [];
     const {drawn: below, bottom} = foot(16 + places.height, width, caption, legend);
     const firms = boxes.map((box) => namedBox("firm", box, moved(places.centers.get(box.id)), box.style));
-    return picture(width, bottom, "contracts that block", lines, firms, labels, below);
+    return picture(width, bottom, say("mark.blocks"), lines, firms, labels, below);
 }

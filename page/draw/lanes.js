@@ -1,4 +1,5 @@
 // The trades of a network as the arrows of a picture: those from one firm to another are one, a lane, where nothing sets them apart.
+import {say} from "../words/say.js";
 
 /**
  * The lanes of some trades, as `{seller, buyer, trades, on, mark, isAdmitted}`; `on` counts those that take place and is null where
@@ -23,11 +24,16 @@ export function wordsOf(lane, {on, prices}, before = null) {
     const shown = lane.on ? lane.trades.filter((name) => on.includes(name)) : lane.trades;
     const price = spanOf(shown, prices);
     const old = before ? spanOf(shown, before.prices) : price;
-    const count = lane.on === null ? `${lane.trades.length} trades` : `${lane.on}/${lane.trades.length}`;
-    const name = lane.trades.length === 1 ? lane.trades[0] : count;
+    const all = lane.trades.length, isOne = all === 1;
+    const name = isOne ? lane.trades[0] : lane.on === null ? say("picture.trades", {count: all}) : `${lane.on}/${all}`;
     if (price === null) return [name];
-    return lane.trades.length === 1 ? [name, old === null || old === price ? price : `${old} \u2192 ${price}`]
-        : [`${name} at ${old === null || old === price ? price : `${old} \u2192 ${price}`}`];
+    const shows = old === null || old === price ? price : `${old} \u2192 ${price}`;
+    return isOne ? [name, shows] : [say("picture.at", {name, price: shows})];
+}
+
+/** A lane in a line: its ends, and what stands beside it. */
+export function laneLine({seller, buyer}, [name, price]) {
+    return `${say("picture.ends", {seller, buyer})}: ${price === undefined ? name : say("picture.at", {name, price})}`;
 }
 
 /** The one price of some trades, or their least and greatest; other words of prices as they are where all are alike. */
@@ -35,7 +41,7 @@ export function spanOf(names, prices) {
     const texts = [...new Set(names.map((name) => prices.get(name)).filter((price) => price !== undefined))];
     if (texts.length === 0) return null;
     if (texts.length === 1) return texts[0];
-    if (!texts.every((price) => /^-?\d+$/.test(price))) return "several prices";
+    if (!texts.every((price) => /^-?\d+$/.test(price))) return say("picture.several");
     const sorted = texts.map(BigInt).sort((one, other) => (one < other ? -1 : 1));
-    return `${sorted[0]} to ${sorted[sorted.length - 1]}`;
+    return say("extent.from_to", {low: sorted[0], high: sorted[sorted.length - 1]});
 }

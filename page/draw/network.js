@@ -1,6 +1,7 @@
 // The picture of a network, with or without an answer: a box for each firm, and an arrow from seller to buyer.
 import {extent, standing} from "../read/standing.js";
 import {captionOf} from "../say/captions.js";
+import {say} from "../words/say.js";
 import {layout} from "./layout.js";
 import {lanesOf, wordsOf} from "./lanes.js";
 import {changesOf, marksOf} from "./marks.js";
@@ -63,8 +64,8 @@ function boxesOf(firms, lanes, said, inColour) {
 
 /** The utility of a firm, with a sign where it isn't content. */
 function utilityOf({utility, gain}) {
-    if (utility === null) return "\u2717 impossible";
-    return gain === 0n ? `${utility}` : `\u2717 ${utility}, could have ${utility + gain}`;
+    if (utility === null) return `\u2717 ${say("word.impossible")}`;
+    return gain === 0n ? `${utility}` : `\u2717 ${say("picture.could_have", {utility, most: utility + gain})}`;
 }
 
 function drawn(boxes, arrows, places, caption) {
@@ -76,24 +77,24 @@ function drawn(boxes, arrows, places, caption) {
     const labels = arrows.map(({lines: words, style}, k) => places.arrows[k].label &&
         label(moved(places.arrows[k].label), words, {ink: style.mark ?? style.textInk}));
     const {drawn: below, bottom} = foot(top + places.height, width, caption, legendOf(arrows.map(({style}) => style)));
-    return picture(width, bottom, caption[0] ?? "network",
+    return picture(width, bottom, caption[0] ?? say("picture.network"),
         lines.sort((one, other) => (one.lane.on ?? 0) - (other.lane.on ?? 0)).map((line) => line.drawn),
         boxes.map((box) => namedBox("firm", box, moved(places.centers.get(box.id)), box.style)), labels, below);
 }
 
 function titleOf({lane, lines}) {
-    const names = lane.trades.length > 1 ? `${lane.trades.join(", ")}: ` : "";
-    return `${lane.seller} to ${lane.buyer}: ${names}${lines.join(" at ")}`;
+    const [name, price] = lines, says = name === undefined ? "" : price === undefined ? name : say("picture.at", {name, price});
+    return `${say("picture.ends", lane)}: ${lane.trades.length > 1 ? `${lane.trades.join(", ")}: ` : ""}${says}`;
 }
 
 /** How a lane is drawn, and what that says. */
 function styleOf({on, mark, isAdmitted}, stands) {
     const common = {ink: mark?.ink ?? INK, mark: mark?.ink ?? null, says: mark?.says ?? null, textInk: INK, dashes: null};
     if (stands.on === null) return {...common, width: 1.5, state: null};
-    if (on > 0) return {...common, width: 2.5 + Math.min(on, 6) * 0.7, state: stands.isSigned ? "is signed" : "takes place"};
+    if (on > 0) return {...common, width: 2.5 + Math.min(on, 6) * 0.7, state: say(stands.isSigned ? "picture.is_signed" : "picture.takes_place")};
     const faint = {...common, ink: mark?.ink ?? FAINT, textInk: "#64748b"};
-    if (!isAdmitted) return {...faint, width: 1, dashes: "2 4", state: "isn't admitted"};
-    return {...faint, width: mark ? 1.8 : 1, dashes: mark ? "7 4" : null, state: stands.isSigned ? "isn't signed" : "doesn't take place"};
+    if (!isAdmitted) return {...faint, width: 1, dashes: "2 4", state: say("picture.not_admitted")};
+    return {...faint, width: mark ? 1.8 : 1, dashes: mark ? "7 4" : null, state: say(stands.isSigned ? "picture.not_signed" : "picture.takes_no_place")};
 }
 
 /** What the lines mean that really occur: each state and each colour once. */

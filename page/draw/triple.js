@@ -1,5 +1,6 @@
 // Two bundles between which the exchange property fails, trade by trade, with what each is worth.
 import {worths} from "../read/firms.js";
+import {say} from "../words/say.js";
 import {BOTH, FIRST, foot, INK, LARGE, NORMAL, picture, SECOND, tag, text, widthOf} from "./svg.js";
 
 /** The failing triple that an answer tells, as `{firm, x, y, at}`, or null. */
@@ -22,22 +23,22 @@ export async function triplePicture(network, said, ask) {
     const right = 90 + names.length * wide + 16;
     const rows = [["x", ofX], ["y", ofY]].map(([name, worth], line) => [
         text(74, 114 + line * 40, name, {size: LARGE, weight: "bold", anchor: "end"}),
-        worth === null ? null : text(right, 114 + line * 40, `worth ${worth}`, {size: LARGE, anchor: "start"})]);
+        worth === null ? null : text(right, 114 + line * 40, say("picture.worth", {worth}), {size: LARGE, anchor: "start"})]);
     const width = Math.max(right + 140, 560);
     const {drawn, bottom} = foot(176, width, captionOf(at, ofX, ofY), []);
-    const title = `${firm} doesn't meet the exchange property`;
+    const title = say("picture.fails", {firm});
     return picture(width, bottom, title, text(16, 30, title, {size: LARGE, weight: "bold", anchor: "start"}), parts, rows, drawn);
 }
 
 function captionOf(at, ofX, ofY) {
-    const sum = ofX === null || ofY === null ? "as much together as before" : `${ofX + ofY} together, as before`;
-    return [at === null ? `No trade of y more can be toggled in both so that both stay possible and are worth ${sum}.`
-        : `Where x toggles ${at}, and y with it, alone or with one other trade, they never stay possible and worth ${sum}.`];
+    const isKnown = ofX !== null && ofY !== null, sum = isKnown ? ofX + ofY : "";
+    if (at === null) return [isKnown ? say("picture.no_trade_sum", {sum}) : say("picture.no_trade")];
+    return [isKnown ? say("picture.trade_sum", {trade: at, sum}) : say("picture.trade", {trade: at})];
 }
 
 function endsOf(network, name, firm) {
     const {seller, buyer} = network.trade(name);
-    return seller === firm ? `to ${buyer}` : `from ${seller}`;
+    return seller === firm ? say("picture.to", {firm: buyer}) : say("picture.from", {firm: seller});
 }
 
 function inkOf(inX, inY) {

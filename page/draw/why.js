@@ -3,12 +3,11 @@ import {changesAlong} from "../read/changes.js";
 import {costs} from "../read/firms.js";
 import {extent, standing} from "../read/standing.js";
 import {itemsOf} from "../read/network.js";
+import {say} from "../words/say.js";
 import {chainPicture} from "./chain.js";
 import {FIRST, foot, INK, LARGE, picture, SECOND, tag, text, widthOf} from "./svg.js";
 import {failingOf, triplePicture} from "./triple.js";
 import {walk} from "./walk.js";
-
-const COST = "A cost is what the firm loses in worth by its change, and a negative one what it gains.";
 
 /** The picture as SVG, or null where an answer has no reason that is drawn. */
 export async function whyPicture(network, said, ask) {
@@ -21,16 +20,16 @@ export async function whyPicture(network, said, ask) {
 async function cyclePicture(network, said, ask) {
     const on = standing(network, said).on ?? [];
     const changes = changesAlong(network, on, [...said.nodes, said.nodes[0]]);
-    const words = wordsOf(changes, await costs(ask, network, on, changes));
-    const round = {words, nodes: said.nodes, ink: FIRST, isRound: true, says: ""};
-    return framed([round], network, on, `No prices go with these trades: the costs sum to ${said.cost}.`);
+    const known = await costs(ask, network, on, changes), words = wordsOf(changes, known);
+    const round = {words, isPriced: known.some((cost) => cost !== null), nodes: said.nodes, ink: FIRST, isRound: true, says: ""};
+    return framed([round], network, on, say("picture.round", {cost: said.cost}));
 }
 
 async function rangesPicture(network, said, ask) {
     const paths = said.ranges.flatMap((range) => {
         const {trade, low, high} = range;
-        const above = high === null ? "no highest price" : `not above ${high}, since these costs sum to ${high}`;
-        const below = low === null ? "no lowest price" : `not below ${low}, since these costs sum to ${-low}`;
+        const above = high === null ? say("picture.no_highest") : say("picture.not_above", {price: high});
+        const below = low === null ? say("picture.no_lowest") : say("picture.not_below", {price: low, sum: -low});
         return [{nodes: range.high_path, ink: FIRST, title: `${trade}: ${extent(range)}`, says: above}, {nodes: range.low_path, ink: SECOND, says: below}];
     });
     const changes = paths.map(({nodes}) => changesAlong(network, said.on, nodes));
@@ -38,7 +37,7 @@ async function rangesPicture(network, said, ask) {
     let used = 0;
     const parts = paths.map((path, k) => {
         const ofPath = known.slice(used, (used += changes[k].length));
-        return {...path, isRound: false, words: wordsOf(changes[k], ofPath)};
+        return {...path, isRound: false, isPriced: ofPath.some((cost) => cost !== null), words: wordsOf(changes[k], ofPath)};
     });
     return framed(parts, network, said.on, "");
 }
@@ -46,10 +45,13 @@ async function rangesPicture(network, said, ask) {
 /** The words of arrows: the firm, what it would do, and what that costs it. */
 function wordsOf(changes, known) {
     return changes.map(({firm, acts}, k) => {
-        const told = acts.map(({does, trade}, place) => (place < acts.length - 1 ? `${does} ${trade},` : `${does} ${trade}`));
-        return [`${firm} would`, ...told, ...(known[k] === null ? [] : [`cost ${known[k]}`])];
+        const told = acts.map(({does, trade}, place) => say(ACTS[does], {trade}) + (place < acts.length - 1 ? "," : ""));
+        return [say("picture.would", {firm}), ...told, ...(known[k] === null ? [] : [say("picture.cost", {cost: known[k]})])];
     });
 }
+
+/** What a firm would do, in short. */
+const ACTS = {buy: "picture.buy", sell: "picture.sell", "keep back": "picture.keep_back", "give up": "picture.give_up"};
 
 /** Walks below each other, each under its title and over what it says. */
 function framed(parts, network, on, caption) {
@@ -65,17 +67,16 @@ function framed(parts, network, on, caption) {
         top += part.height + 8;
         width = Math.max(width, part.width + 32);
     }
-    const isPriced = parts.some(({words}) => words.some((lines) => lines.at(-1).startsWith("cost ")));
     const isOn = parts.some(({nodes}) => nodes.some((node) => on.includes(node)));
     const thick = (x, y) => tag("rect", {x, y: y - 7, width: 36, height: 14, rx: 4, fill: "#f8fafc", stroke: INK, "stroke-width": 3});
-    const legend = isOn ? [{sample: thick, says: "takes place"}] : [];
-    const lines = [caption, isPriced ? COST : ""].filter(Boolean);
+    const legend = isOn ? [{sample: thick, says: say("picture.takes_place")}] : [];
+    const lines = [caption, parts.some(({isPriced}) => isPriced) ? say("picture.costs") : ""].filter(Boolean);
     const {drawn: below, bottom} = foot(top, Math.max(width, 420), lines, legend);
-    return picture(Math.max(width, 420), bottom, caption || "price ranges", drawn, below);
+    return picture(Math.max(width, 420), bottom, caption || say("picture.ranges"), drawn, below);
 }
 
 function nodeOf(network, on, node) {
-    if (node === null) return {name: "no trade", below: "", isOn: false};
+    if (node === null) return {name: say("list.no_trade"), below: "", isOn: false};
     const {seller, buyer} = network.trade(node);
-    return {name: node, below: `${seller} to ${buyer}`, isOn: itemsOf(on).includes(node)};
+    return {name: node, below: say("picture.ends", {seller, buyer}), isOn: itemsOf(on).includes(node)};
 }

@@ -1,4 +1,5 @@
 // The text of an answer, and whether it can be one to a document.
+import {say} from "../words/say.js";
 import {find, NotJson, parse, plain, written} from "./json.js";
 import {isObject, itemsOf, withMember} from "./network.js";
 
@@ -13,7 +14,7 @@ export function readAnswer(text) {
     } catch (error) {
         if (!(error instanceof NotJson)) throw error;
     }
-    throw new NoAnswer("This is no answer of the program: one line of JSON with the member answer is wanted.");
+    throw new NoAnswer(say("trouble.no_answer"));
 }
 
 const LISTS = {better: ["bundle"], exchange_fails: ["x", "y"], prices: ["prices"], cycle: ["nodes"], solved: ["on", "prices"], ranges: ["on", "ranges"], session: ["edits"],

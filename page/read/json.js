@@ -1,5 +1,6 @@
 // JSON text into values that know where they stand. It takes exactly what `market` takes: of equal members the last counts, a
 // value nests at most 127 deep, and a number too large for a float is none. Numbers stay text, so none is rounded.
+import {say} from "../words/say.js";
 
 /** How deep lists and objects may stand in each other. */
 const DEEPEST = 127;
@@ -30,7 +31,7 @@ export function parse(text) {
     const reader = new Reader(text);
     const value = reader.value(0);
     reader.skip();
-    if (reader.at < text.length) throw new NotJson("there is more after the value", reader.at);
+    if (reader.at < text.length) throw new NotJson(say("json.more"), reader.at);
     return value;
 }
 
@@ -80,7 +81,7 @@ export function textOf(bytes) {
     try {
         return new TextDecoder("utf-8", {fatal: true, ignoreBOM: true}).decode(bytes);
     } catch {
-        throw new NotJson("the bytes are no UTF-8", readable(bytes).length);
+        throw new NotJson(say("json.no_utf8"), readable(bytes).length);
     }
 }
 
@@ -133,8 +134,8 @@ class Reader {
     }
 
     content(depth, first) {
-        if (first === undefined) this.fail("the text ends where a value is wanted");
-        if ((first === "{" || first === "[") && depth === DEEPEST) this.fail(`values nest more than ${DEEPEST} deep`);
+        if (first === undefined) this.fail(say("json.ends"));
+        if ((first === "{" || first === "[") && depth === DEEPEST) this.fail(say("json.deep", {most: DEEPEST}));
         if (first === "{") return ["object", this.object(depth + 1)];
         if (first === "[") return ["list", this.list(depth + 1)];
         if (first === '"') return ["text", this.string()];
@@ -144,7 +145,7 @@ class Reader {
             this.at += word.length;
             return [kind, value];
         }
-        return this.fail("no value begins like this");
+        return this.fail(say("json.no_value"));
     }
 
     list(depth) {
@@ -152,7 +153,7 @@ class Reader {
         this.at += 1;
         if (this.takes("]")) return items;
         do items.push(this.value(depth)); while (this.takes(","));
-        if (!this.takes("]")) this.fail("a list goes on by , or ends by ]");
+        if (!this.takes("]")) this.fail(say("json.list"));
         return items;
     }
 
@@ -162,23 +163,23 @@ class Reader {
         if (this.takes("}")) return members;
         do {
             this.skip();
-            if (this.text[this.at] !== '"') this.fail("a member begins with its name in quotes");
+            if (this.text[this.at] !== '"') this.fail(say("json.member"));
             const name = this.string();
-            if (!this.takes(":")) this.fail("a : is wanted after the name of a member");
+            if (!this.takes(":")) this.fail(say("json.colon"));
             members.set(name, this.value(depth));
         } while (this.takes(","));
-        if (!this.takes("}")) this.fail("an object goes on by , or ends by }");
+        if (!this.takes("}")) this.fail(say("json.object"));
         return members;
     }
 
     number() {
         NUMBER.lastIndex = this.at;
         const found = NUMBER.exec(this.text);
-        if (found === null) this.fail("a number has digits");
+        if (found === null) this.fail(say("json.digits"));
         const start = this.at;
         this.at += found[0].length;
-        if ("0123456789.eE".includes(this.text[this.at] ?? "end")) this.fail("a number doesn't go on like this");
-        if (!Number.isFinite(Number(found[0]))) this.fail("the number is too large for a float", start);
+        if ("0123456789.eE".includes(this.text[this.at] ?? "end")) this.fail(say("json.number"));
+        if (!Number.isFinite(Number(found[0]))) this.fail(say("json.too_large"), start);
         return new Numeral(found[0]);
     }
 
@@ -187,8 +188,8 @@ class Reader {
         let text = "";
         for (this.at += 1; ; ) {
             const sign = this.text[this.at];
-            if (sign === undefined) this.fail("a text isn't closed", opened);
-            if (sign < " ") this.fail("a text has a control character");
+            if (sign === undefined) this.fail(say("json.open"), opened);
+            if (sign < " ") this.fail(say("json.control"));
             this.at += 1;
             if (sign === '"') return text;
             text += sign === "\\" ? this.escape() : sign;
@@ -198,7 +199,7 @@ class Reader {
     escape() {
         const sign = this.text[this.at];
         if (sign === "u") return this.character();
-        if (ESCAPES[sign] === undefined) this.fail("no escape is written like this");
+        if (ESCAPES[sign] === undefined) this.fail(say("json.escape"));
         this.at += 1;
         return ESCAPES[sign];
     }
@@ -207,16 +208,16 @@ class Reader {
     character() {
         const start = this.at - 1, first = this.unit();
         if (first < 0xd800 || first > 0xdfff) return String.fromCharCode(first);
-        if (first > 0xdbff || !this.text.startsWith("\\u", this.at)) this.fail("half a character", start);
+        if (first > 0xdbff || !this.text.startsWith("\\u", this.at)) this.fail(say("json.half"), start);
         this.at += 1;
         const second = this.unit();
-        if (second < 0xdc00 || second > 0xdfff) this.fail("half a character", start);
+        if (second < 0xdc00 || second > 0xdfff) this.fail(say("json.half"), start);
         return String.fromCharCode(first, second);
     }
 
     unit() {
         const digits = this.text.slice(this.at + 1, this.at + 5);
-        if (!/^[0-9a-fA-F]{4}$/.test(digits)) this.fail("an escape has four digits");
+        if (!/^[0-9a-fA-F]{4}$/.test(digits)) this.fail(say("json.four_digits"));
         this.at += 5;
         return parseInt(digits, 16);
     }

@@ -1,5 +1,6 @@
 // What takes place, and at which prices, by a document and an answer to it.
 import {entriesOf, fraction, itemsOf} from "./network.js";
+import {say} from "../words/say.js";
 
 const JUDGED = ["drops", "completes", "blocks"];
 
@@ -34,8 +35,8 @@ function texts(prices, over = 1n) {
 
 /** A range of prices in words. */
 export function extent({low, high}) {
-    if (low === null && high === null) return "any price";
+    if (low === null && high === null) return say("extent.any");
     if (low === high) return String(low);
-    if (high === null) return `${low} or more`;
-    return low === null ? `${high} or less` : `${low} to ${high}`;
+    if (high === null) return say("extent.or_more", {low});
+    return low === null ? say("extent.or_less", {high}) : say("extent.from_to", {low, high});
 }

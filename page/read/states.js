@@ -1,5 +1,6 @@
 // The market as it would be where firms are away and trades barred: states of `session`, and what each firm has in one,
 // by `firms`. All numbers are the program's, but for differences of two of them.
+import {say} from "../words/say.js";
 import {NoAnswer, readAnswer} from "./answer.js";
 import {linesAt} from "./firms.js";
 import {entriesOf, withMember} from "./network.js";
@@ -88,7 +89,7 @@ function thereIn(network, before) {
 /** What `session` says of a document with these edits in place of its own; of one that can't have any, what it says. */
 async function sessionOf(ask, network, edits) {
     if (edits.length > MOST_EDITS) {
-        throw new NoAnswer(`That takes ${edits.length} edits, and a document has at most ${MOST_EDITS}.`);
+        throw new NoAnswer(say("trouble.edits", {count: edits.length, most: MOST_EDITS}));
     }
     const isObject = network.root.kind === "object";
     return readAnswer(await ask(["session"], isObject ? withMember(network, "edits", JSON.stringify(edits)) : network.text));

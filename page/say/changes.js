@@ -1,17 +1,18 @@
 // The changes of cycles and paths in sentences.
+import {say} from "../words/say.js";
+import {listed} from "./words.js";
 
-/** What a firm would do by a change. */
-export function acts({acts: parts}) {
-    return parts.map(({does, trade, partner}) => {
-        if (does === "buy") return `buy ${trade} from ${partner}`;
-        return does === "sell" ? `sell ${trade} to ${partner}` : `${does} ${trade}`;
-    }).join(" and ");
+const ACTS = {buy: "change.buy", sell: "change.sell", "keep back": "change.keep_back", "give up": "change.give_up"};
+
+/** An act as it stands after "would". */
+function actOf({does, trade, partner}) {
+    return say(ACTS[does], {trade, partner});
 }
 
 /** A change, with what it costs its firm in worth where that is known. */
-export function changeWith(change, cost) {
-    const does = `${change.firm} would ${acts(change)}`;
-    if (cost === null) return does;
-    if (cost === 0n) return `${does} at no cost in worth`;
-    return cost > 0n ? `${does} at a cost of ${cost} in worth` : `${does} and gain ${-cost} in worth`;
+export function changeWith({firm, acts: parts}, cost) {
+    const values = {firm, acts: listed(parts.map(actOf))};
+    if (cost === null) return say("change.plain", values);
+    if (cost === 0n) return say("change.free", values);
+    return cost > 0n ? say("change.costs", {...values, cost}) : say("change.gains", {...values, gain: -cost});
 }

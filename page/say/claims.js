@@ -1,31 +1,37 @@
 // Claims in words, and why one isn't so.
 import {entriesOf, fraction, itemsOf} from "../read/network.js";
 import {worths} from "../read/firms.js";
+import {say} from "../words/say.js";
 import {failingLines} from "./exchange.js";
 import {listed, set} from "./words.js";
 
 const CLAIMED = {
-    equilibrium: ({surplus}) => `that the arrangement is an equilibrium of the surplus ${surplus}`,
-    solved: ({surplus}) => `that its trades and prices are an equilibrium of the surplus ${surplus}`,
-    prices: () => "that its prices support the trades that are on",
-    better: ({firm, gain, bundle}) => `that ${firm} would gain ${gain} with ${set(bundle)}`,
-    impossible: ({firm}) => `that what ${firm} has is impossible`,
-    cycle: ({nodes, cost}) => `that ${listed(nodes.map(String))} are a cycle of the cost ${cost}`,
-    accepted: () => "that each firm meets the exchange property",
-    exchange_fails: ({firm, x, y, at}) => at === null ? `that ${firm} fails the exchange property between x = ${set(x)} and y = ${set(y)}`
-        : `that ${firm} fails the exchange property between x = ${set(x)} and y = ${set(y)}, at ${at}`,
-    drops: ({firm, keeps, gain, over}) => gain === null ? `that ${firm} would keep ${listed(keeps)} of its contracts, which together are impossible`
-        : `that ${firm} would keep ${listed(keeps)} of its contracts and gain ${fraction(gain, over)}`,
-    completes: () => "that its prices complete what is signed",
-    blocks: ({contracts, over}) => contracts.length === 0 ? "that no contracts would block what is signed"
-        : `that ${listed(contracts.map(([name, price]) => `${name} at ${fraction(price, over)}`))} would block what is signed`,
-    none: (claim, {firms}) => `that a plan in parts is worth more than any set of trades: ${listed(firms.flatMap(({name}) => sharesOf(claim, name)))}`,
+    equilibrium: ({surplus}) => say("claimed.equilibrium", {surplus}),
+    solved: ({surplus}) => say("claimed.solved", {surplus}),
+    prices: () => say("claimed.prices"),
+    better: ({firm, gain, bundle}) => say("claimed.better", {firm, gain, bundle: set(bundle)}),
+    impossible: ({firm}) => say("claimed.impossible", {firm}),
+    cycle: ({nodes, cost}) => say("claimed.cycle", {nodes: listed(nodes.map(String)), cost}),
+    accepted: () => say("claimed.accepted"),
+    exchange_fails: ({firm, x, y, at}) => {
+        const values = {firm, x: set(x), y: set(y)};
+        return at === null ? say("claimed.fails", values) : say("claimed.fails_at", {...values, trade: at});
+    },
+    drops: ({firm, keeps, gain, over}) => gain === null ? say("claimed.drops_impossible", {firm, keeps: listed(keeps)})
+        : say("claimed.drops", {firm, keeps: listed(keeps), gain: fraction(gain, over)}),
+    completes: () => say("claimed.completes"),
+    blocks: ({contracts, over}) => {
+        const priced = contracts.map(([trades, price]) => say("deal.priced", {trades, price: fraction(price, over), count: 1}));
+        return contracts.length === 0 ? say("claimed.blocks_none") : say("claimed.blocks", {contracts: listed(priced)});
+    },
+    none: (claim, {firms}) => say("claimed.none", {shares: listed(firms.flatMap(({name}) => sharesOf(claim, name)))}),
 };
 
 /** What a firm has of a plan: "1/2 of {a, b} for B". */
-function sharesOf({plan, over}, name) {
-    const mine = plan.filter(([firm]) => firm === name);
-    return mine.length === 0 ? [] : [`${mine.map(([, names, weight]) => `${fraction(weight, over)} of ${set(names)}`).join(" and ")} for ${name}`];
+function sharesOf({plan, over}, firm) {
+    const mine = plan.filter(([name]) => name === firm);
+    const parts = mine.map(([, names, weight]) => say("claimed.part", {weight: fraction(weight, over), bundle: set(names)}));
+    return mine.length === 0 ? [] : [say("claimed.share", {parts: listed(parts), firm})];
 }
 
 /** What a plan is worth, over its denominator; what a firm has no share of is the empty bundle. Null where that isn't known. */
@@ -46,49 +52,49 @@ export async function implied(network, ask) {
     const {claim} = network;
     if (claim.answer !== "none") return [];
     const worth = await planWorth(network, claim, ask);
-    return [worth === null ? "No set of trades is worth as much as the plan." : `The plan is worth ${fraction(worth, claim.over)}, and each set of trades less.`,
-        "At prices that clear the market each firm would have at least as much as from its shares. The prices cancel in the sum over all firms, so some set of trades "
-            + "would be worth at least as much as the plan. So there are no such prices."];
+    return [worth === null ? say("claimed.no_set") : say("claimed.plan_worth", {worth: fraction(worth, claim.over)}), say("claimed.no_prices")];
 }
 
 /** What a claim says, after "It says". */
 export function claimed(network) {
-    return CLAIMED[network.claim.answer]?.(network.claim, network) ?? "what it says";
+    return CLAIMED[network.claim.answer]?.(network.claim, network) ?? say("claimed.unknown");
 }
 
 /** The condition of the claim that fails, in sentences. */
 export async function failed(network, said, ask) {
-    if (said.reason === "exchange") return [`${said.firm} doesn't.`, ...await failingLines(network, said, ask)];
-    return [REASONS[said.reason]?.(said, network) ?? `The reason is ${said.reason}.`];
+    if (said.reason === "exchange") return [say("reason.exchange", {firm: said.firm}), ...await failingLines(network, said, ask)];
+    return [REASONS[said.reason]?.(said, network) ?? say("reason.unknown", {reason: said.reason})];
 }
 
+/** What is impossible, by the claim that says so. */
+const IMPOSSIBLE = {better: "reason.impossible_better", drops: "reason.impossible_drops", none: "reason.impossible_plan"};
+
 const REASONS = {
-    impossible: ({firm}, {claim}) => claim.answer === "better" ? `What ${firm} has, or what it is said to want, is impossible for it.`
-        : claim.answer === "drops" ? `What ${firm} is said to keep is impossible for it.`
-        : claim.answer === "none" ? `A part of the plan is impossible for ${firm}.` : `What ${firm} has is impossible for it.`,
-    better: ({firm, bundle}) => bundle.length === 0 ? `${firm} would rather trade nothing: at these prices that is best for it, and what it has isn't.`
-        : `${firm} would rather have ${listed(bundle)}: at these prices that is best for it, and what it has isn't.`,
-    possible: () => "It is possible.",
-    surplus: ({surplus}) => `The worths sum to ${surplus}.`,
+    impossible: ({firm}, {claim}) => say(IMPOSSIBLE[claim.answer] ?? "reason.impossible", {firm}),
+    better: ({firm, bundle}) => bundle.length === 0 ? say("reason.better_nothing", {firm}) : say("reason.better", {firm, bundle: listed(bundle)}),
+    possible: () => say("reason.possible"),
+    surplus: ({surplus}) => say("reason.surplus", {surplus}),
     gain: ({firm, gain}, {claim, outcome}) => {
-        if (gain === null) return `All contracts of ${firm} together are impossible, so there is nothing to compare with.`;
+        if (gain === null) return say("reason.nothing_to_compare", {firm});
         const number = claim.answer === "drops" ? fraction(gain, outcome.over) : gain;
-        return gain > 0n ? `It would gain ${number}.` : `It would gain nothing: its utility would change by ${number}.`;
+        return say(gain > 0n ? "reason.gain" : "reason.no_gain", {gain: number});
     },
-    holds: () => "There they meet it.",
-    arc: ({index}, {claim: {nodes}}) => `There is no arc from ${nodes[Number(index)]} to ${nodes[(Number(index) + 1) % nodes.length]}.`,
-    cost: ({cost}) => cost < 0n ? `The costs sum to ${cost}.` : `The costs sum to ${cost}, which isn't negative.`,
-    contract: ({trade}) => `${trade} isn't signed.`,
-    over: ({over}) => `The denominator of what is signed is ${over}.`,
+    holds: () => say("reason.holds"),
+    arc: ({index}, {claim: {nodes}}) => {
+        const [from, to] = [nodes[Number(index)], nodes[(Number(index) + 1) % nodes.length]];
+        return say("reason.arc", {from: String(from), to: String(to)});
+    },
+    cost: ({cost}) => say(cost < 0n ? "reason.cost" : "reason.cost_not_negative", {cost}),
+    contract: ({trade}) => say("reason.contract", {trade}),
+    over: ({over}) => say("reason.over", {over}),
     price: ({trade}, {claim, outcome}) => {
         const [signed, said] = [outcome.contracts, claim.prices].map((entries) => entriesOf(itemsOf(entries)).get(trade));
-        return `${trade} is signed at ${fraction(signed, outcome.over)}, and not at ${fraction(said, claim.over)}.`;
+        return say("reason.price", {trade, signed: fraction(signed, outcome.over), said: fraction(said, claim.over)});
     },
-    empty: () => "It names no contract.",
-    signed: ({trade}) => `${trade} is signed already, at this very price.`,
-    choice: ({firm, trade}) => `${firm} does as well as it can without ${trade}.`,
-    shares: ({firm}) => `The shares of ${firm} sum to more than 1.`,
-    balance: ({trade}) => `${trade} isn't sold as much as it is bought.`,
-    whole: ({on, surplus}) => on.length === 0 ? `No trade at all is worth ${surplus}, and the plan is worth no more.`
-        : `With ${listed(on)} the worths sum to ${surplus}, and the plan is worth no more.`,
+    empty: () => say("reason.empty"),
+    signed: ({trade}) => say("reason.signed", {trade}),
+    choice: ({firm, trade}) => say("reason.choice", {firm, trade}),
+    shares: ({firm}) => say("reason.shares", {firm}),
+    balance: ({trade}) => say("reason.balance", {trade}),
+    whole: ({on, surplus}) => on.length === 0 ? say("reason.whole_none", {surplus}) : say("reason.whole", {trades: listed(on), surplus}),
 };

@@ -2,6 +2,7 @@
 import {changesAlong} from "../read/changes.js";
 import {costs} from "../read/firms.js";
 import {extent} from "../read/standing.js";
+import {say} from "../words/say.js";
 import {changeWith} from "./changes.js";
 import {listed} from "./words.js";
 
@@ -11,24 +12,23 @@ export async function rangeLines({on, ranges}, network, ask) {
     const paths = groups.flatMap(([{low_path: below, high_path: above}]) => [below, above]).map((nodes) => changesAlong(network, on, nodes));
     const known = await costs(ask, network, on, paths.flat());
     const told = paths.map((changes) => changes.map((change) => changeWith(change, known.shift())).join("; "));
-    return ["The prices of each trade over all equilibria. Beyond them, whatever the other prices are, one of the firms named beside would rather make its change.",
-        ...groups.flatMap((group, k) => groupLines(group, network, told[2 * k], told[2 * k + 1])),
-        on.length === 0 ? "No set of trades has a greater sum of worths than none at all." : `No set of trades has a greater sum of worths than ${listed(on)}.`,
-        ...(ranges.length > 0 && ranges.every(({high}) => high !== null) ? ["All highest prices together are an equilibrium with that."] : []),
-        ...(ranges.length > 0 && ranges.every(({low}) => low !== null) ? ["All lowest prices together are an equilibrium with that."] : [])];
+    const isBounded = (side) => ranges.length > 0 && ranges.every((range) => range[side] !== null);
+    return [say("range.head"), ...groups.flatMap((group, k) => groupLines(group, network, told[2 * k], told[2 * k + 1])),
+        on.length === 0 ? say("range.best_none") : say("range.best", {trades: listed(on)}),
+        ...(isBounded("high") ? [say("range.highest")] : []), ...(isBounded("low") ? [say("range.lowest")] : [])];
 }
 
 function groupLines(group, network, below, above) {
-    const [range] = group, {seller, buyer} = network.trade(range.trade);
-    const told = [group.length === 1 ? `${range.trade}, from ${seller} to ${buyer}: ${words(range)}.`
-        : `${listed(group.map(({trade}) => trade))}, each from ${seller} to ${buyer}: ${words(range)}. Of ${range.trade}:`];
-    if (range.low !== null) told.push(`  not below ${range.low}: ${below}.`);
-    if (range.high !== null) told.push(`  not above ${range.high}: ${above}.`);
+    const [range] = group, {seller, buyer} = network.trade(range.trade), values = {seller, buyer, trade: range.trade, range: words(range)};
+    const told = [group.length === 1 ? say("range.one", values)
+        : say("range.several", {...values, trades: listed(group.map(({trade}) => trade))})];
+    if (range.low !== null) told.push(`  ${say("range.not_below", {price: range.low, changes: below})}`);
+    if (range.high !== null) told.push(`  ${say("range.not_above", {price: range.high, changes: above})}`);
     return told;
 }
 
 function words(range) {
-    return range.low !== null && range.low === range.high ? `${range.low}, and no other price` : extent(range);
+    return range.low !== null && range.low === range.high ? say("range.only", {price: range.low}) : extent(range);
 }
 
 function groupsOf(network, ranges) {

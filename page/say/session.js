@@ -1,41 +1,37 @@
 // An answer of `session` in sentences.
 import {entriesOf, itemsOf} from "../read/network.js";
+import {say} from "../words/say.js";
 import {Deals, listed} from "./words.js";
 
 /** A sentence for each edit, and its state. */
 export function sessionLines({edits: states}, network) {
-    if (states.length === 0) return ["Nothing is admitted and nothing is barred."];
-    return [FIRST[network.edits.some(isOfFirm)],
-        ...states.map((state, k) => `${k + 1}. ${edit(network.edits[k])} ${standing(state, network)} The worths sum to ${state.surplus}, and no other set of ${kind(network)} trades has more.`)];
+    if (states.length === 0) return [say("session.nothing")];
+    const isOfFirms = network.edits.some(isOfFirm);
+    return [say(isOfFirms ? "session.first_firms" : "session.first"),
+        ...states.map((state, k) => `${k + 1}. ${edit(network.edits[k])}. ${standing(state, network, isOfFirms)}`)];
 }
-
-/** What is so before all edits, by whether there are edits of firms. */
-const FIRST = {
-    false: "An equilibrium after each edit. At first no trade is admitted.",
-    true: "An equilibrium after each edit. At first no trade is admitted and all firms are there. A trade can be used where it is admitted and both its firms are there.",
-};
 
 function isOfFirm(words) {
     return ["leave", "join"].includes(itemsOf(words)[0]);
 }
 
-/** The trades that states are of: where firms may be away, an admitted one need not be among them. */
-function kind(network) {
-    return network.edits.some(isOfFirm) ? "usable" : "admitted";
-}
+const EDITS = {leave: "session.leaves", join: "session.joins", admit: "session.admitted", bar: "session.barred"};
 
-/** An edit as a sentence. */
+/** An edit as a sentence without its point. */
 export function edit(words) {
-    const [act, name] = itemsOf(words), trades = name === "*" ? "Every trade" : name;
-    if (act === "leave") return `${name} leaves.`;
-    if (act === "join") return `${name} joins.`;
-    return act === "admit" ? `${trades} is admitted.` : `${trades} is barred.`;
+    const [act, name] = itemsOf(words), key = EDITS[act] ?? EDITS.bar;
+    if (name === "*" && key === EDITS.admit) return say("session.all_admitted");
+    return name === "*" && key === EDITS.bar ? say("session.all_barred") : say(key, {name});
 }
 
-/** What is on in a state, at its prices, and what its other prices keep off. */
-function standing({on, prices}, network) {
+/**
+ * What is on in a state, at its prices, what its other prices keep off, and the sum of its worths. Where firms may be away, a trade
+ * that is admitted need not be one that can be used.
+ */
+function standing({on, prices, surplus}, network, isOfFirms) {
     const deals = new Deals(network, {}, {on, prices: new Map([...entriesOf(prices)].map(([name, price]) => [name, String(price)]))});
-    const trading = on.length === 0 ? "Nothing is traded." : `${listed(deals.sentences(on).map((sentence) => sentence.slice(0, -1)))}.`;
-    const off = deals.off.filter((name) => deals.prices.has(name));
-    return off.length === 0 ? trading : `${trading} At these prices the other ${kind(network)} trades are off: ${deals.priced(off)}.`;
+    const trading = on.length === 0 ? say("deal.nothing") : `${listed(deals.clauses(on))}.`;
+    const off = deals.off.filter((name) => deals.prices.has(name)), trades = deals.priced(off);
+    const rest = off.length === 0 ? [] : [say(isOfFirms ? "session.off_usable" : "session.off_admitted", {trades})];
+    return [trading, ...rest, say(isOfFirms ? "session.sum_usable" : "session.sum_admitted", {surplus})].join(" ");
 }

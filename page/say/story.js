@@ -4,25 +4,15 @@ import {changesAlong} from "../read/changes.js";
 import {costs, gains, haves, keeping, worths} from "../read/firms.js";
 import {entriesOf, fraction, itemsOf} from "../read/network.js";
 import {standing} from "../read/standing.js";
+import {say} from "../words/say.js";
 import {changeWith} from "./changes.js";
 import {failingLines} from "./exchange.js";
 import {Deals, listed, set} from "./words.js";
 
-const NO_PRICES = "No prices go with these trades. The reason is a round of changes, each by one firm:";
-
-export const SIGNS_OTHERS = "Each firm named there, whatever it keeps of what it has signed, would rather have all of these that are its own. "
-    + "So no prices go with what is signed.";
-
-/** What comes of the costs around a cycle. */
-function roundOf(cost) {
-    return `What these firms would lose in worth sums to ${cost}, so in sum they would gain, and in the round each price is paid `
-        + "once and got once. So at any prices at least one of them would rather make its change.";
-}
-
 /** A contract as a sentence. */
 export function contractOf(network, [name, price], over) {
     const {seller, buyer} = network.trade(name);
-    return `${seller} sells ${name} to ${buyer} at ${fraction(price, over)}.`;
+    return say("story.contract", {seller, buyer, trade: name, price: fraction(price, over)});
 }
 
 /**
@@ -46,37 +36,38 @@ async function cycleStory(network, {nodes, cost}, ask) {
         return {says: `${changeWith(change, known[k])}.`, firms: [change.firm], trades, below: new Map(below)};
     });
     const all = new Map([...before.keys()].map((name) => [name, "round"]));
-    const end = {says: roundOf(cost), firms: changes.map(({firm}) => firm), trades: all, below};
-    return {head: NO_PRICES, steps: [...steps, end]};
+    const end = {says: say("story.round", {cost}), firms: changes.map(({firm}) => firm), trades: all, below};
+    return {head: say("story.no_prices"), steps: [...steps, end]};
 }
 
 /** A cost in a word or two. */
 function costWord(cost) {
-    return cost === 0n ? "no cost" : cost > 0n ? `costs ${cost}` : `gains ${-cost}`;
+    if (cost === 0n) return say("story.free");
+    return cost > 0n ? say("story.costs", {cost}) : say("story.gains", {gain: -cost});
 }
 
 async function impossibleStory(network, {firm}) {
     const deals = new Deals(network, {}), own = network.own(firm, deals.on);
-    const says = `${firm} ${deals.does(firm, own)}, and gives this bundle no worth.`;
+    const says = say("story.no_worth", {firm, does: deals.does(firm, own)});
     const trades = new Map(own.map((name) => [name, "impossible"]));
-    return {head: `No prices go with these trades: what ${firm} has is impossible for it.`,
-        steps: [{says, firms: [firm], trades, below: new Map([[firm, ["impossible"]]])}]};
+    return {head: say("story.impossible", {firm}),
+        steps: [{says, firms: [firm], trades, below: new Map([[firm, [say("word.impossible")]]])}]};
 }
 
 async function failingStory(network, said, ask) {
     const {firm, x, y, at} = said, moved = [x, y].map((bundle) => toggled(network, firm, bundle, at));
     const [ofX, ofY, thenX, thenY] = await worths(ask, network, firm, [x, y, ...moved]);
     const step = (says, trades, worth, other = null) => {
-        const lines = [`x: ${worth ?? "none"}`, ...(other === null ? [] : [`y: ${other.worth ?? "none"}`])];
+        const lines = [`x: ${worth ?? say("word.none")}`, ...(other === null ? [] : [`y: ${other.worth ?? say("word.none")}`])];
         return {says, firms: [firm], trades: new Map(trades), below: new Map([[firm, lines]])};
     };
     const both = [...x.map((name) => [name, "x"]), ...y.map((name) => [name, x.includes(name) ? "x and y" : "y"])];
-    const goes = `${movedFrom(at, x)} leaves ${worthOf(moved[0], thenX)}, and ${worthOf(moved[1], thenY)}.`;
+    const left = {trade: at, x: worthOf(moved[0], thenX), y: worthOf(moved[1], thenY)};
     const [, fails] = await failingLines(network, said, ask);
-    return {head: `${firm} doesn't meet the exchange property, on which the theory of equilibrium rests.`, steps: [
-        step(`The first of two bundles is x = ${worthOf(x, ofX)} to ${firm}.`, x.map((name) => [name, "x"]), ofX),
-        step(`The other one is y = ${worthOf(y, ofY)}.`, y.map((name) => [name, "y"]), ofX, {worth: ofY}),
-        ...(at === null ? [] : [step(goes, [...both, [at, "moved"]], thenX, {worth: thenY})]),
+    return {head: say("exchange.fails", {firm}), steps: [
+        step(say("story.first_bundle", {firm, x: worthOf(x, ofX)}), x.map((name) => [name, "x"]), ofX),
+        step(say("story.other_bundle", {y: worthOf(y, ofY)}), y.map((name) => [name, "y"]), ofX, {worth: ofY}),
+        ...(at === null ? [] : [step(say(x.includes(at) ? "story.out_of_x" : "story.out_of_y", left), [...both, [at, "moved"]], thenX, {worth: thenY})]),
         step(fails, both, ofX, {worth: ofY})]};
 }
 
@@ -86,26 +77,21 @@ function toggled(network, firm, bundle, at) {
 }
 
 function worthOf(bundle, worth) {
-    return worth === null ? `${set(bundle)}, which is impossible` : `${set(bundle)}, worth ${worth}`;
-}
-
-function movedFrom(at, x) {
-    return x.includes(at) ? `To take ${at} out of x and into y` : `To take ${at} out of y and into x`;
+    return worth === null ? say("story.bundle_impossible", {bundle: set(bundle)}) : say("story.bundle_worth", {bundle: set(bundle), worth});
 }
 
 async function dropsStory(network, said, ask) {
     const {firm, keeps, gain, over} = said, deals = new Deals(network, said), own = network.own(firm, deals.on);
     const has = numberOf((await haves(ask, network)).get(firm), over), could = numberOf(await keeping(ask, network, said), over);
     const trades = new Map(own.map((name) => [name, keeps.includes(name) ? "keeps" : "drops"]));
-    const below = new Map([[firm, [gain === null ? "impossible" : `has ${has}`, `then ${could}`]]]);
-    const cannot = `${firm} can't do all that. Of what it may keep, it is best to keep ${listed(keeps)}: its utility is then ${could}.`;
-    const says = gain === null ? cannot
-        : `${firm} has a utility of ${has}. It would rather keep ${listed(keeps)}, and have ${could}, which is ${fraction(gain, over)} more.`;
-    return {head: `By what is signed ${firm} ${deals.does(firm, own)}.`, steps: [{says, firms: [firm], trades, below}]};
+    const now = gain === null ? say("word.impossible") : say("word.has", {number: has});
+    const below = new Map([[firm, [now, say("word.then", {number: could})]]]), values = {firm, keeps: listed(keeps), could};
+    const says = gain === null ? say("story.cannot", values) : say("story.rather_keep", {...values, has, gain: fraction(gain, over)});
+    return {head: say("answer.by_signed", {firm, does: deals.does(firm, own)}), steps: [{says, firms: [firm], trades, below}]};
 }
 
 function numberOf(numerator, over) {
-    return numerator === null || numerator === undefined ? "unknown" : fraction(numerator, over);
+    return numerator === null || numerator === undefined ? say("word.unknown") : fraction(numerator, over);
 }
 
 async function chainStory(network, said, ask) {
@@ -121,20 +107,19 @@ async function chainStory(network, said, ask) {
         return {says: says.join(" "), firms: [seller, buyer], trades, below: new Map(below)};
     });
     const trades = new Map([...contracts.map(([name]) => [name, "chain"]), ...left.map(({name}) => [name, "left"])]);
-    const lost = left.filter(({partner}) => partner !== null).map(({name, partner}) => `${partner} loses ${name}, and isn't asked.`);
-    return {head: "Each firm would keep all its contracts, but some would rather sign others, which are a chain:",
-        steps: [...steps, {says: [SIGNS_OTHERS, ...lost].join(" "), firms: [...found.keys()], trades, below}]};
+    const lost = left.filter(({partner}) => partner !== null).map(({name, partner}) => say("story.loses", {firm: partner, trade: name}));
+    return {head: say("story.chain"),
+        steps: [...steps, {says: [say("story.signs_others"), ...lost].join(" "), firms: [...found.keys()], trades, below}]};
 }
 
 function hasThen({now, then}, over) {
-    return [`has ${fraction(now, over)}`, `then ${fraction(then, over)}`];
+    return [say("word.has", {number: fraction(now, over)}), say("word.then", {number: fraction(then, over)})];
 }
 
 function gainOf(firm, {now, then}, over, left) {
     const leaves = left.filter(({by}) => by.includes(firm)).map(({name}) => name);
-    const away = leaves.length === 0 ? "" : `, and leave ${listed(leaves)}`;
-    const could = `with its contracts of the chain it would have ${fraction(then, over)}${away}`;
-    return `By what is signed ${firm} has a utility of ${fraction(now, over)}; ${could}.`;
+    const values = {firm, now: fraction(now, over), then: fraction(then, over)};
+    return leaves.length === 0 ? say("story.would_have", values) : say("story.would_leave", {...values, trades: listed(leaves)});
 }
 
 /** The signed trades that firms of a chain would leave, as `{name, by, partner}`; `partner` is null where both would. */

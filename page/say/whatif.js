@@ -1,33 +1,34 @@
 // What comes of a firm that leaves or joins, or of a trade that comes or goes, in sentences. What is told is
 // `{states, before, after}`: the states before and after a change, and who is away and what is barred in each.
 import {editsBetween, isIn} from "../read/states.js";
+import {say} from "../words/say.js";
 import {edit} from "./session.js";
 import {listed} from "./words.js";
 
-const IS = {leave: (name) => `${name} is away`, bar: (name) => `${name} is barred`};
+const IS = {leave: "whatif.is_away", bar: "whatif.is_barred"};
 
 /** What isn't there before a change, as parts of a sentence; none where all are. */
 function missing(before) {
-    return listed(before.map(([does, name]) => IS[does](name)));
+    return listed(before.map(([does, name]) => say(IS[does], {name})));
 }
 
 /** What changes, and what that does to the sum of the worths. */
 export function changeLine({states: [then, now], before, after}) {
-    const changes = editsBetween(before, after).map((words) => edit(words).slice(0, -1));
-    if (changes.length > 0) return `${listed(changes)}: the worths sum to ${sumsOf(then.surplus, now.surplus)}.`;
-    const where = before.length === 0 ? "With everybody there" : `While ${missing(before)}`;
-    return `${where} the worths sum to ${then.surplus}.`;
+    const changes = editsBetween(before, after).map(edit);
+    if (changes.length > 0) return changed(listed(changes), then.surplus, now.surplus);
+    const {surplus} = then;
+    return before.length === 0 ? say("whatif.all_there", {surplus}) : say("whatif.while", {missing: missing(before), surplus});
 }
 
-function sumsOf(then, now) {
-    if (now === then) return `${now}, as before`;
-    return `${now} in place of ${then}, which is ${now < then ? `${then - now} less` : `${now - then} more`}`;
+function changed(changes, then, now) {
+    if (now === then) return say("whatif.same", {changes, now});
+    return now < then ? say("whatif.less", {changes, then, now, less: then - now}) : say("whatif.more", {changes, then, now, more: now - then});
 }
 
 /** What was so before the change, where that isn't that everybody is there; an empty text where it is. */
 export function beforeLine({before, after}) {
     const isTold = before.length > 0 && editsBetween(before, after).length > 0;
-    return isTold ? `Before that ${missing(before)}.` : "";
+    return isTold ? say("whatif.before_that", {missing: missing(before)}) : "";
 }
 
 /**
@@ -41,50 +42,62 @@ export function partOf({states: [then, now]}, name) {
     return isUsable ? "off" : "out";
 }
 
-const PARTS = [["goes", "go", ["goes", "gone"]], ["comes", "come", ["comes"]], ["stays", "stay", ["stays"]]];
+/** The parts of trades that are told together: the key of that, the key of how many they are, and these parts. */
+const PARTS = [["whatif.go", "whatif.count_go", ["goes", "gone"]], ["whatif.come", "whatif.count_come", ["comes"]],
+    ["whatif.stay", "whatif.count_stay", ["stays"]]];
 
 /** Up to how many trades are named one by one. */
 const FEW = 6;
 
 /** Which trades go, come and stay; where they are many, how many of each seller and buyer do. */
 export function tradesLine(told, {trades}) {
-    const said = PARTS.flatMap(([one, more, parts]) => {
+    const said = PARTS.flatMap(([key, , parts]) => {
         const found = trades.filter(({name}) => parts.includes(partOf(told, name)));
         const named = found.length > FEW ? byEnds(found) : listed(found.map(({name}) => name));
-        return found.length === 0 ? [] : [`${named} ${found.length === 1 ? one : more}`];
+        return found.length === 0 ? [] : [say(key, {trades: named, count: found.length})];
     });
-    return said.length === 0 ? "Nothing is traded before or after." : `${said.join("; ")}.`;
+    return said.length === 0 ? say("whatif.nothing") : `${said.join("; ")}.`;
 }
 
 function byEnds(trades) {
-    const counts = new Map(), endsOf = ({seller, buyer}) => `from ${seller} to ${buyer}`;
-    for (const trade of trades) counts.set(endsOf(trade), (counts.get(endsOf(trade)) ?? 0) + 1);
-    return listed([...counts].map(([ends, count]) => `${count} ${ends}`));
+    const counts = new Map();
+    for (const {seller, buyer} of trades) {
+        const key = `${seller} ${buyer}`;
+        counts.set(key, {seller, buyer, count: (counts.get(key)?.count ?? 0) + 1});
+    }
+    return listed([...counts.values()].map((each) => say("whatif.many", each)));
 }
 
 /** How many of some trades go, come and stay, as `{before, after, says}`. */
 export function countsOf(told, names) {
-    const counts = PARTS.map(([one, more, parts]) => {
+    const counts = PARTS.map(([, key, parts]) => {
         const count = names.filter((name) => parts.includes(partOf(told, name))).length;
-        return {count, says: `${count} ${count === 1 ? one : more}`};
+        return {count, says: say(key, {count})};
     });
     const [goes, comes, stays] = counts.map(({count}) => count);
     const says = counts.filter(({count}) => count > 0).map((each) => each.says).join(", ");
     return {before: goes + stays, after: comes + stays, says};
 }
 
+/** Whether a firm is away before and after, and which utility it has where that is known. */
+function utilities({states, before, after}, firm) {
+    return [before, after].map((edits, k) => ({isAway: isIn(edits, ["leave", firm]), utility: states[k].lines.get(firm)?.utility ?? ""}));
+}
+
 /** A firm before and after, as two texts: its utility, or that it is away. */
-export function firmStates({states, before, after}, firm) {
-    return [before, after].map((edits, k) => {
-        if (isIn(edits, ["leave", firm])) return "away";
-        return String(states[k].lines.get(firm)?.utility ?? "");
-    });
+export function firmStates(told, firm) {
+    return utilities(told, firm).map(({isAway, utility}) => isAway ? say("word.away") : String(utility));
+}
+
+/** Whether a firm is away after the change. */
+export function isGone({after}, firm) {
+    return isIn(after, ["leave", firm]);
 }
 
 /** The same for those who listen. */
 export function firmSays(told, firm) {
-    const [then, now] = firmStates(told, firm).map((state) => (state === "away" ? state : `a utility of ${state}`));
-    return then === now ? `${then} before and after` : `${then} before, ${now} after`;
+    const [then, now] = utilities(told, firm).map(({isAway, utility}) => isAway ? say("word.away") : say("whatif.utility", {utility}));
+    return then === now ? say("whatif.both", {state: then}) : say("whatif.then_now", {then, now});
 }
 
 /** By how much a firm's utility changes; null where that isn't known. */
@@ -97,16 +110,12 @@ export function gainOf({states}, firm) {
 export function tradeStates({states, before, after}, name) {
     return [before, after].map((edits, k) => {
         const {on, prices} = states[k], price = prices.find(([other]) => other === name)?.[1];
-        if (price === undefined) return isIn(edits, ["bar", name]) ? "barred" : "away";
-        return on.includes(name) ? `on at ${price}` : `off at ${price}`;
+        if (price === undefined) return say(isIn(edits, ["bar", name]) ? "word.barred" : "word.away");
+        return say(on.includes(name) ? "whatif.on_at" : "whatif.off_at", {price});
     });
 }
 
 /** What the contributions are of. */
 export function sharesLine({before, states: [{surplus}]}) {
-    const where = before.length === 0 ? "with everybody there" : `while ${missing(before)}`;
-    return `Contributes: by how much the worths, which ${where} sum to ${surplus}, would sum to less without it.`;
+    return before.length === 0 ? say("whatif.shares", {surplus}) : say("whatif.shares_while", {missing: missing(before), surplus});
 }
-
-export const UTILITIES_DEPEND = "Utilities and prices are those of one equilibrium before and one after; where there "
-    + "are several, others have other prices. The sums and the contributions are the same in all.";

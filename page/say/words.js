@@ -1,10 +1,12 @@
 // How sentences name trades, prices and numbers.
 import {standing} from "../read/standing.js";
+import {say} from "../words/say.js";
 
 /** Words in a list: "a, b and c". */
 export function listed(words) {
-    if (words.length === 0) return "nothing";
-    return words.length === 1 ? `${words[0]}` : `${words.slice(0, -1).join(", ")} and ${words[words.length - 1]}`;
+    if (words.length === 0) return say("list.none");
+    if (words.length === 1) return `${words[0]}`;
+    return say("list.some", {most: words.slice(0, -1).join(", "), last: words[words.length - 1]});
 }
 
 export function set(names) {
@@ -13,7 +15,7 @@ export function set(names) {
 
 /** A whole number with its digits in threes. */
 export function large(number) {
-    return String(number).replace(/\B(?=(\d{3})+(?!\d))/g, ",");
+    return String(number).replace(/\B(?=(\d{3})+(?!\d))/g, say("list.thousands"));
 }
 
 /** The trades and prices that sentences speak of: what takes place, and what a firm does by its trades. */
@@ -42,31 +44,35 @@ export class Deals {
 
     /** "a at 5", or "a, b and c at 5 each". */
     priced(names) {
-        return listed(this.groups(names).map((group) => listed(group.names) + atPrice(group)));
+        return listed(this.groups(names).map((group) => told(group, PRICED)));
     }
 
-    /** A sentence for each lane of trades that take place. */
-    sentences(names) {
-        return this.groups(names).map((group) => `${group.seller} sells ${listed(group.names)} to ${group.buyer}${atPrice(group)}.`);
+    /** A sentence without its point for each lane of trades that take place. */
+    clauses(names) {
+        return this.groups(names).map((group) => told(group, SELLS));
     }
 
     /** What a firm does by its trades: "buys a from S at 5 and sells b to B at 7". */
     does(firm, names) {
-        return names.length === 0 ? "trades nothing" : this.acts(firm, names, "sells", "buys");
+        return names.length === 0 ? say("deal.does_nothing") : this.acts(firm, names, DOES);
     }
 
     /** The same after "would". */
     do(firm, names) {
-        return names.length === 0 ? "trade nothing" : this.acts(firm, names, "sell", "buy");
+        return names.length === 0 ? say("deal.do_nothing") : this.acts(firm, names, DO);
     }
 
-    acts(firm, names, sell, buy) {
-        return listed(this.groups(names).map((group) => group.seller === firm ? `${sell} ${listed(group.names)} to ${group.buyer}${atPrice(group)}`
-            : `${buy} ${listed(group.names)} from ${group.seller}${atPrice(group)}`));
+    acts(firm, names, [sells, buys]) {
+        return listed(this.groups(names).map((group) => told(group, group.seller === firm ? sells : buys)));
     }
 }
 
-function atPrice({names, price}) {
-    if (price === undefined) return "";
-    return names.length === 1 ? ` at ${price}` : ` at ${price} each`;
+/** The keys of what is said of a lane, with its price and without one. */
+const PRICED = ["deal.priced", "deal.unpriced"], SELLS = ["deal.sells", "deal.sells_unpriced"];
+const DOES = [["deal.does_sell", "deal.does_sell_unpriced"], ["deal.does_buy", "deal.does_buy_unpriced"]];
+const DO = [["deal.do_sell", "deal.do_sell_unpriced"], ["deal.do_buy", "deal.do_buy_unpriced"]];
+
+function told({names, price, ...ends}, [priced, unpriced]) {
+    const values = {...ends, trades: listed(names), count: names.length};
+    return price === undefined ? say(unpriced, values) : say(priced, {...values, price});
 }

@@ -1,0 +1,50 @@
+// The form for firms and trades.
+export const FORM = {
+    build: {
+        too_long: "Das Dokument ist zu lang, um hier betrachtet zu werden.",
+        no_object: "Ein Formular kann dieses Dokument nicht ändern: Sein Fehler steht unter „Dokument“. „Neu“ "
+            + "beginnt ein anderes.",
+    },
+    kind: {
+        table: "table: ein Wert für jedes Bündel", laminar: "laminar: Beträge, Kapazitäten und Stufen",
+        middleman: "middleman: eine Ware, gekauft und weiterverkauft",
+        dealer: "dealer: Käufe, denen Verkäufe zugeordnet sind",
+    },
+    form: {
+        add_firm: "Firma hinzufügen", the_firm: "Die Firma {name}", name_of: "Name von {name}", kind: "Art",
+        remove: "Entfernen", remove_it: "Entfernen",
+        remove_firm: "{name} und die Geschäfte dieser Firma entfernen",
+        no_trades: "Sie hat noch keine Geschäfte: füge unten welche hinzu.",
+        worths: "Werte", worth: "Wert", in_row: "{name} in Zeile {row}", worth_of_row: "Wert von Zeile {row}",
+        remove_row: "Die Zeile mit {trades} entfernen", add_row: "Zeile hinzufügen",
+        of_rows: "Was jedes Bündel ihrer Geschäfte wert ist. Ein Bündel ohne Zeile ist unmöglich; nichts ist 0 "
+            + "wert, wenn es keine hat.",
+        more_rows: {
+            one: "{count} weitere Zeile steht im Dokument.",
+            other: "{count} weitere Zeilen stehen im Dokument.",
+        },
+        amounts: "Beträge", amount_of: "Betrag von {name}",
+        of_amounts: "Was jedes Geschäft für sich wert ist; ein Verkauf meist weniger als 0.",
+        sets: "Mengen von Geschäften", add_set: "Kapazität oder Stufen hinzufügen", set: "Menge {set}",
+        in_set: "{name} in Menge {set}", set_count: "Menge {set}, {count}", remove_set: "Menge {set} entfernen",
+        counts: "Saldo", numbers: "Zahlen",
+        of_sets: "Der Saldo einer Menge ist die Zahl ihrer Käufe weniger die ihrer Verkäufe. Er darf nur vom "
+            + "kleinsten bis zum größten gehen, was eine Kapazität ist, und zu jedem gehört eine Zahl, was Stufen "
+            + "sind.",
+        least: "kleinster", least_of: "Der kleinste Saldo von Menge {set}", greatest: "größter",
+        greatest_of: "Der größte Saldo von Menge {set}", at_zero: "bei 0", at_sold: "bei {count} verkauft",
+        at_bought: "bei {count} gekauft", middleman: "Kosten und Erträge", costs: "Kosten",
+        cost_of: "Kosten von {name}", gains: "Erträge", gain_of: "Ertrag von {name}",
+        of_middleman: "Was ein Kauf neben seinem Preis kostet und was ein Verkauf neben seinem Preis bringt. Eine "
+            + "Ware ist wie die andere.",
+        keeps: "Sie kann eine Ware behalten", worth_of_kept: "Wert einer Ware, die behalten wird", pairs: "Paare",
+        as: "{name} als", pair: "{purchase} als {sale}", costs_it: "kostet",
+        of_pairs: "Welcher Kauf als welcher Verkauf weiterverkauft werden kann und was das kostet.",
+        no_pairs: "Sie hat noch kein Paar aus einem Kauf und einem Verkauf: füge unten auf beiden Seiten Geschäfte "
+            + "hinzu.",
+        of_trades: "Von {count} Geschäften die dieser Firma.", two_firms: "Zu einem Geschäft gehören zwei Firmen.",
+        trade_of: "Geschäft {name}", from: "von", to: "an", trade_from: "Geschäft {name} von",
+        trade_to: "Geschäft {name} an", remove_trade: "Das Geschäft {name} entfernen",
+        new_from: "Ein neues Geschäft von", new_to: "Ein neues Geschäft an", add_trade: "Geschäft hinzufügen",
+    },
+};

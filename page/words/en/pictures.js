@@ -1,0 +1,50 @@
+// What stands in pictures, and below them.
+export const PICTURES = {
+    picture: {
+        network: "network", ranges: "price ranges", price: "price", ends: "{seller} to {buyer}", from: "from {firm}",
+        to: "to {firm}", at: "{name} at {price}", several: "several prices",
+        trades: {one: "{count} trade", other: "{count} trades"},
+        too_many: "too many arrows to draw: name one firm to see its trades",
+        takes_place: "takes place", takes_no_place: "doesn't take place", is_signed: "is signed",
+        not_signed: "isn't signed", not_admitted: "isn't admitted", beyond: "goes on beyond every bound",
+        could_have: "{utility}, could have {most}", now_then: "{now}, then {then}",
+        rather_sign: "what the firms in colour would rather sign",
+        signed: "what is signed",
+        signed_left: "what is signed, and one of them would leave",
+        below_name: "below the name of a firm: its utility by what is signed, and what it then could have",
+        fails: "{firm} doesn't meet the exchange property", worth: "worth {worth}",
+        no_trade: "No trade of y more can be toggled in both so that both stay possible and are worth as much "
+            + "together as before.",
+        no_trade_sum: "No trade of y more can be toggled in both so that both stay possible and are worth {sum} "
+            + "together, as before.",
+        trade: "Where x toggles {trade}, and y with it, alone or with one other trade, they never stay possible and "
+            + "worth as much together as before.",
+        trade_sum: "Where x toggles {trade}, and y with it, alone or with one other trade, they never stay possible "
+            + "and worth {sum} together, as before.",
+        round: "No prices go with these trades: the costs sum to {cost}.",
+        costs: "A cost is what the firm loses in worth by its change, and a negative one what it gains.",
+        no_highest: "no highest price", no_lowest: "no lowest price",
+        not_above: "not above {price}, since these costs sum to {price}",
+        not_below: "not below {price}, since these costs sum to {sum}",
+        would: "{firm} would", buy: "buy {trade}", sell: "sell {trade}", keep_back: "keep back {trade}",
+        give_up: "give up {trade}", cost: "cost {cost}",
+    },
+    caption: {
+        equilibrium: "an equilibrium: the worths sum to {surplus}",
+        solved: "an equilibrium is found: the worths sum to {surplus}",
+        prices: "prices that support these trades", cycle: "no prices: the cycle of {nodes} costs {cost}",
+        better: "{firm} would gain {gain} with {bundle}", impossible: "what {firm} has is impossible",
+        accepted: "every firm meets the exchange property", fails: "{firm} fails the exchange property",
+        fails_at: "{firm} fails the exchange property at {at}", ranges: "the prices over all equilibria",
+        no_edits: "no edits",
+        session: "after the last edit, {edit}: the worths sum to {surplus}",
+        firms: "{count} of {all} firms are content; the worths sum to {surplus}",
+        firms_impossible: "{count} of {all} firms are content; what one of them has is impossible",
+        drops: "{firm} would keep {bundle} and gain {gain}",
+        drops_impossible: "{firm} would keep {bundle}: what it has signed is impossible",
+        completes: "prices that complete what is signed", blocks: "blocked by the chain of {trades}",
+        valid: "the claim {claim} is valid", invalid: "the claim {claim} isn't valid: {reason}",
+        invalid_at: "the claim {claim} isn't valid: {reason} at {trade}",
+        fault: "fault {fault}, {name}: {cause}", fault_at: "at {place}",
+    },
+};

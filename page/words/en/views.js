@@ -1,0 +1,102 @@
+// What is said above the network and in it, of bounds, what-ifs and claims.
+export const VIEWS = {
+    verdict: {
+        asked: "The program is asked.",
+        too_long: "The document is too long to be looked at here. The commands can be asked.",
+        too_long_to_guess: "The document is too long to guess at. The commands can be asked.",
+        not_signed: "Nothing is signed yet: click a trade to sign it.",
+        no_guess: "No guess yet: click a trade, or press Solve.",
+        no_prices: "The trades have no prices yet: type some, or ask whether there are any.",
+        equilibrium: "An equilibrium: every firm is content, and the worths sum to {surplus}.",
+        no_equilibrium: "No equilibrium: {count} of {all} firms are content.",
+        lasts: "It lasts: nobody would drop a contract, and prices complete what is signed.",
+        drops_all: "It isn't kept: {firm} would rather drop its contracts.",
+        drops_some: "It isn't kept: {firm} would rather drop some of its contracts.",
+        blocks: {
+            one: "It doesn't last: one other contract blocks it.",
+            other: "It doesn't last: a chain of {count} other contracts blocks it.",
+        },
+        solved: "This is the equilibrium that solve found: the worths sum to {surplus}.",
+        signed_does: "{firm} {does}.",
+        signed_impossible: "{firm} {does}, which is impossible for it.",
+        signed_utility: "{firm} {does}: its utility is {utility}.",
+    },
+    stage: {
+        firm: "Firm {name}", firm_says: "Firm {name}: {says}",
+        firm_content: "Firm {name}, content with a utility of {utility}",
+        firm_impossible: "Firm {name} objects: what it has is impossible for it",
+        firm_objects: "Firm {name} objects: its utility is {utility}, and it could have {most}",
+        trade: "Trade {name}, from {seller} to {buyer}, {priced}: {state}",
+        trades: "{count} trades from {seller} to {buyer}, {name}, {priced}: {trades}",
+        at: "at {price}", no_price: "without a price", on: "{on} of {all} on", signed: "{on} of {all} signed",
+        is_on: "on", is_off: "off", is_signed: "signed", is_not_signed: "not signed", name_on: "{name} is on",
+        name_signed: "{name} is signed", price_of: "Price of {name}",
+        signed_impossible: "what it has signed is impossible", by_signed: "its utility is {number} by what is signed",
+    },
+    legend: {
+        guess: "Thick: takes place. Thin: doesn't. \u2713 content. \u2717 objects.",
+        signed: "Thick: is signed. Thin: isn't.",
+        whatif: "Thick: stays. + and green: comes, or more than before. \u2212 and red: goes, or fewer than before. "
+            + "Dotted: can't be used. Below a firm: its utility before and after.",
+        coloured: "{signs} In colour: {marks}.",
+        one_firm: "Only {firm} and its trades are drawn. {legend}",
+    },
+    role: {
+        change: "what this step changes", changed: "what the steps before it changed",
+        round: "what the round changes", has: "what it has", x: "in x", y: "in y", both: "in x and in y",
+        moved: "what goes from one to the other", keeps: "what it would keep", drops: "what it would drop",
+        contract: "the contract of this step", before: "the contracts of the steps before it",
+        chain: "the contracts of the chain", left: "what would be left", stays: "stays", comes: "comes", goes: "goes",
+        gone: "goes, since it can't be used", out: "can't be used",
+    },
+    mark: {
+        cycle: "on the cycle", blocks: "contracts that block", rather: "what {firm} would rather have",
+        keep: "what {firm} would keep", reason: "what the reason speaks of", x_alone: "in x alone",
+        y_alone: "in y alone", both: "in x and in y", above: "holds the price from above",
+        below: "holds it from below", above_below: "holds it from above and from below", fault: "where the fault is",
+        came: "takes place now, and didn't before", went: "took place before, and doesn't now",
+        price: "the price of {trade}", holds_above: "holds {trade} from above",
+        holds_below: "holds {trade} from below",
+    },
+    mood: {content: "content", objects: "objects", impossible: "objects: what it has is impossible for it"},
+    word: {
+        impossible: "impossible", none: "none", away: "away", barred: "barred", unknown: "unknown",
+        has: "has {number}", then: "then {number}", best: "best {number}", was: "was {state}", now: "now {state}",
+    },
+    bound: {
+        no_lowest: "no lowest", no_highest: "no highest",
+        at_least: "{trade} is at least {price}: show what holds it",
+        at_most: "{trade} is at most {price}: show what holds it",
+        above: "In no equilibrium is {trade} above {price}: at a higher price, whatever the others are, one of "
+            + "these firms would rather make its change.",
+        below: "In no equilibrium is {trade} below {price}: at a lower price, whatever the others are, one of these "
+            + "firms would rather make its change.",
+    },
+    whatif: {
+        is_away: "{name} is away", is_barred: "{name} is barred", is_there: "{name} is there",
+        is_admitted: "{name}, from {seller} to {buyer}, is admitted",
+        all_there: "With everybody there the worths sum to {surplus}.",
+        while: "While {missing} the worths sum to {surplus}.", same: "{changes}: the worths sum to {now}, as before.",
+        less: "{changes}: the worths sum to {now} in place of {then}, which is {less} less.",
+        more: "{changes}: the worths sum to {now} in place of {then}, which is {more} more.",
+        before_that: "Before that {missing}.", nothing: "Nothing is traded before or after.",
+        go: {one: "{trades} goes", other: "{trades} go"}, come: {one: "{trades} comes", other: "{trades} come"},
+        stay: {one: "{trades} stays", other: "{trades} stay"}, many: "{count} from {seller} to {buyer}",
+        count_go: {one: "{count} goes", other: "{count} go"},
+        count_come: {one: "{count} comes", other: "{count} come"},
+        count_stay: {one: "{count} stays", other: "{count} stay"}, utility: "a utility of {utility}",
+        both: "{state} before and after", then_now: "{then} before, {now} after", on_at: "on at {price}",
+        off_at: "off at {price}",
+        shares: "Contributes: by how much the worths, which with everybody there sum to {surplus}, would sum to "
+            + "less without it.",
+        shares_while: "Contributes: by how much the worths, which while {missing} sum to {surplus}, would sum to "
+            + "less without it.",
+        depend: "Utilities and prices are those of one equilibrium before and one after; where there are several, "
+            + "others have other prices. The sums and the contributions are the same in all.",
+    },
+    claim: {
+        none: "The document has no claim.", node: "node {number}", price: "price of {trade}",
+        leave_out: "Leave it out",
+        leave_out_whole: "Leave the contract on {trade} out of the claim",
+    },
+};
