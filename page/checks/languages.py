@@ -2,6 +2,7 @@
 change of the language while something is shown."""
 import json
 import re
+import time
 
 import bench
 import lesson
@@ -28,6 +29,14 @@ select.dispatchEvent(new Event("change", {bubbles: true}));"""
 def english_in(page: bench.Bench) -> list[str]:
     """What is left of English in the page, but for the commands of the program."""
     return [text for text in page.browser.run(READ) if ENGLISH.search(re.sub(r"^(\w+( --csv)?: |market .*)", "", text))]
+
+
+def has_changed(page: bench.Bench) -> bool:
+    """Whether nothing is left in English as soon as the answer to a command is told again, which takes a moment."""
+    ends = time.monotonic() + 10
+    while english_in(page) and time.monotonic() < ends:
+        time.sleep(0.1)
+    return english_in(page) == []
 
 
 def tries(page: bench.Bench, program: str | None, address: str):
@@ -83,6 +92,9 @@ def tries_of_a_change(page: bench.Bench, address: str):
     page.browser.run(CHOOSE, "en")
     page.wait_for("reason", "answered")
     page.wait_for("guess", "answered", "none")
+    ends = time.monotonic() + 10
+    while page.browser.run(look.SHOWN)["sentences"] == shown["sentences"] and time.monotonic() < ends:
+        time.sleep(0.1)
     again, now = page.browser.run(bench.STEPS), page.browser.run(look.SHOWN)
     yield "the story is told in the other language", len(again) == len(told) and told[0].startswith("B3 würde") and again[0].startswith("B3 would give up db3")
     yield "and so is the answer, whose bytes are the same", now["bytes"] == shown["bytes"] and now["sentences"] != shown["sentences"] and "exit status" in now["status"]
@@ -95,7 +107,7 @@ def tries_of_a_change(page: bench.Bench, address: str):
     page.click("#reason-close")
     page.browser.run(CHOOSE, "de")
     page.guess()
-    yield "and changed back", page.says("tab-guess") == "Vorschlag" and english_in(page) == []
+    yield "and changed back", page.says("tab-guess") == "Vorschlag" and has_changed(page)
 
 
 def tries_of_links(page: bench.Bench, address: str):

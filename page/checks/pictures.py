@@ -59,6 +59,7 @@ def taken(page: bench.Bench, address: str, name: str) -> bytes:
     """A picture of the page in Chromium, as WebP."""
     language, steps = PICTURES[name]
     page.again(f"{address}#lang={language}")
+    page.browser.run("document.getElementById('forget').click()")
     page.browser.size(*SIZE)
     steps(page)
     page.browser.run("scrollTo(0, 0); document.activeElement.blur()")

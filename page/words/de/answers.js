@@ -57,8 +57,8 @@ export const ANSWERS = {
         none_more: "Keine andere Menge von Geschäften hat eine größere Summe der Werte.",
         better: "Das ist kein Gleichgewicht: {firm} stünde anders besser da.",
         as_it_is: "So, wie es ist, gilt: {firm} {does}.",
-        rather: "Bei diesen Preisen würde die Firma lieber {do}: Ihr Nutzen ist dann um {gain} größer, und kein "
-            + "Bündel bringt ihr mehr.",
+        rather: "Bei diesen Preisen würde sie lieber {do}: Ihr Nutzen ist dann um {gain} größer, und kein Bündel "
+            + "bringt ihr mehr.",
         better_before: {
             one: "{firms} steht im Dokument vor {firm} und ist zufrieden.",
             other: "{firms} stehen im Dokument vor {firm} und sind zufrieden.",
@@ -70,11 +70,11 @@ export const ANSWERS = {
         content: {one: "{count} von {all} Firmen ist zufrieden.", other: "{count} von {all} Firmen sind zufrieden."},
         no_sum: "Was eine von ihnen hat, ist unmöglich, und so gibt es keine Summe ihrer Werte.",
         sum: "Die Summe der Werte aller Firmen ist {surplus}.",
-        firm_impossible: "{firm} {does}, was für diese Firma unmöglich ist. Am besten würde sie {do}: Ihr Nutzen "
+        firm_impossible: "{firm} {does}, was für diese Firma unmöglich ist. Am besten würde {firm} {do}: Der Nutzen "
             + "ist dann {most}.",
         firm_content: "{firm} {does}: Wert {worth}, Nutzen {utility}. Die Firma ist zufrieden.",
-        firm_objects: "{firm} {does}: Wert {worth}, Nutzen {utility}. Lieber würde die Firma {do}: Ihr Nutzen ist "
-            + "dann {most}, um {gain} größer.",
+        firm_objects: "{firm} {does}: Wert {worth}, Nutzen {utility}. Lieber würde {firm} {do}: Der Nutzen ist dann "
+            + "{most}, um {gain} größer.",
         accepted: "Jede Firma erfüllt die Tauscheigenschaft: Ihre Käufe ersetzen einander, ihre Verkäufe auch, und "
             + "ein Verkauf mehr lässt sie nie einen Kauf weniger wollen.",
         drops_all: "Was unterschrieben ist, wird nicht eingehalten: {firm} würde die eigenen Verträge lieber "

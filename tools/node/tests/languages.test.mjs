@@ -29,8 +29,8 @@ function textsOf(name) {
 
 const valuesIn = (forms) => [...new Set(Object.values(forms).flatMap((text) => text.match(/\{\w+\}/g) ?? []))].sort();
 
-/** Numbers in a text, without what sets their digits in threes. */
-const numbersIn = (text) => (text.match(/-?\d[\d.,/]*/g) ?? []).map((number) => number.replace(/[.,]/g, ""));
+/** Which numbers are in a text, without what sets their digits in threes. */
+const numbersIn = (text) => [...new Set((text.match(/-?\d[\d.,/]*/g) ?? []).map((number) => number.replace(/[.,]/g, "")))].sort().join();
 
 /** What a source asks for: texts in quotes that are keys, or would be. */
 function askedFor(parts) {
@@ -57,9 +57,9 @@ test("all languages have the same texts, with the same values and numbers, in ea
         for (const [key, forms] of texts) {
             assert.deepEqual(valuesIn(forms), valuesIn(english.get(key)), `the values of ${key} in ${name}`);
             assert.ok("" in forms || Object.keys(forms).sort().join() === wanted.join(), `the forms of ${key} in ${name}`);
-            const others = Object.values(english.get(key)).map((text) => numbersIn(text).sort().join());
+            const others = Object.values(english.get(key)).map(numbersIn);
             for (const text of Object.values(forms)) {
-                assert.ok(others.includes(numbersIn(text).sort().join()), `the numbers of ${key} in ${name}`);
+                assert.ok(others.includes(numbersIn(text)), `the numbers of ${key} in ${name}`);
                 assert.doesNotMatch(text, /undefined| {2}|"/, `${key} in ${name}`);
             }
         }
@@ -117,7 +117,7 @@ test("every answer to an example is told and drawn in each language, with the sa
         for (const command of ["check", "test", "support", "solve", "range", "session", "judge", "replay", "firms"]) {
             const said = readAnswer(await ask([command], bytes)), {en, de} = await inEach(() => toldOf(network, said));
             assert.equal(de.lines.length, en.lines.length, `${name} ${command}`);
-            const numbers = ({lines}) => lines.map((line) => numbersIn(line).sort().join());
+            const numbers = ({lines}) => lines.map(numbersIn);
             assert.deepEqual(numbers(de), numbers(en), `${name} ${command}`);
             assert.doesNotMatch([...de.lines, ...de.drawn].join("\n"), /undefined|\[object|NaN/, `${name} ${command}`);
             for (const line of de.lines) assert.doesNotMatch(line, ENGLISH, `${name} ${command}`);
