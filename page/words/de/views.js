@@ -2,8 +2,10 @@
 export const VIEWS = {
     verdict: {
         asked: "Das Programm wird gefragt.",
-        too_long: "Das Dokument ist zu lang, um hier betrachtet zu werden. Die Befehle lassen sich fragen.",
-        too_long_to_guess: "Das Dokument ist zu lang für einen Vorschlag. Die Befehle lassen sich fragen.",
+        too_long: "Das Dokument ist zu lang, um hier betrachtet zu werden. Die Befehle unter „Antworten“ gehen "
+            + "trotzdem.",
+        too_long_to_guess: "Das Dokument ist zu lang für einen Vorschlag. Die Befehle unter „Antworten“ gehen "
+            + "trotzdem.",
         not_signed: "Noch ist nichts unterschrieben: klicke auf ein Geschäft, um es zu unterschreiben.",
         no_guess: "Noch kein Vorschlag: klicke auf ein Geschäft, oder drücke „Lösen“.",
         no_prices: "Die Geschäfte haben noch keine Preise: tippe welche ein, oder frage, ob es welche gibt.",
