@@ -20,7 +20,8 @@ export function isWithin({low, high}, price) {
 /** Shows bounds in a cell. */
 export function boundsAt(cell, {range, price, scale, isOld, selection, choose}) {
     const side = selection?.kind === "bound" && selection.trade === range?.trade ? selection.side : null;
-    const key = range ? JSON.stringify([language(), String(range.low), String(range.high), String(price), scale, side]) : "";
+    const key = range ? JSON.stringify([language(), String(range.low), String(range.high), String(price), scale, side])
+        : "";
     cell.classList.toggle("old", isOld);
     if (cell.dataset.shown === key) return;
     const focused = cell.contains(document.activeElement) ? document.activeElement.dataset.key : null;
@@ -34,7 +35,8 @@ const NONE = {low: "bound.no_lowest", high: "bound.no_highest"}, SAYS = {low: "b
 
 function bound(range, side, isChosen, choose) {
     if (range[side] === null) return made("span", say(NONE[side]), {class: "quiet"});
-    const names = {"data-key": `${side}:${range.trade}`, "aria-label": say(SAYS[side], {trade: range.trade, price: range[side]}), "aria-pressed": `${isChosen}`};
+    const names = {"data-key": `${side}:${range.trade}`,
+        "aria-label": say(SAYS[side], {trade: range.trade, price: range[side]}), "aria-pressed": `${isChosen}`};
     const button = made("button", String(range[side]), {type: "button", class: "bound", ...names});
     button.addEventListener("click", () => choose(side));
     return button;

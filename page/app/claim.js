@@ -33,7 +33,8 @@ export function showClaim(value) {
 /** Shows what can be changed; a form stays as long as there is the same to be changed, so that it keeps the focus. */
 function showFields(network) {
     const list = fieldsOf(network);
-    const next = JSON.stringify([language(), list.map(({key, says, options, trades}) => [key, says, options, trades?.map(({name}) => name)])]);
+    const next = JSON.stringify([language(),
+        list.map(({key, says, options, trades}) => [key, says, options, trades?.map(({name}) => name)])]);
     fields = new Map(list.map((field) => [field.key, field]));
     if (next !== structure) keepingFocus(part("claim-fields"), () => part("claim-fields").replaceChildren(...list.map(rowOf)));
     structure = next;
@@ -101,7 +102,8 @@ function numberForm({key, says, out}) {
 
 function outButton(key) {
     const {trade} = fields.get(key).out;
-    const button = made("button", say("claim.leave_out"), {type: "button", "aria-label": say("claim.leave_out_whole", {trade})});
+    const button = made("button", say("claim.leave_out"),
+        {type: "button", "aria-label": say("claim.leave_out_whole", {trade})});
     button.addEventListener("click", () => edit(leftOut(fields.get(key))));
     return button;
 }

@@ -50,7 +50,8 @@ function optionsOf(names) {
 }
 
 function nodeField(node, k, all) {
-    return {key: `nodes ${k}`, says: say("claim.node", {number: k + 1}), kind: "choice", node, options: [none(), ...optionsOf(all)]};
+    return {key: `nodes ${k}`, says: say("claim.node", {number: k + 1}), kind: "choice", node,
+        options: [none(), ...optionsOf(all)]};
 }
 
 /** The weight of a part of a plan; nothing where it isn't one. */
@@ -73,7 +74,8 @@ function entryFields(name, list) {
     return entries.map((entry) => {
         const [trade, number] = entry.value;
         const out = name === "contracts" ? {list, entry, trade: trade.value} : null;
-        return {key: `${name} ${trade.value}`, says: say("claim.price", {trade: trade.value}), kind: "number", node: number, out};
+        return {key: `${name} ${trade.value}`, says: say("claim.price", {trade: trade.value}), kind: "number",
+            node: number, out};
     });
 }
 

@@ -4,10 +4,12 @@ import {say} from "../words/say.js";
 /** Each command with the key of what it asks. */
 export const COMMANDS = [
     ["solve", "command.solve"], ["range", "command.range"], ["firms", "command.firms"], ["check", "command.check"],
-    ["support", "command.support"], ["judge", "command.judge"], ["session", "command.session"], ["test", "command.test"],
-    ["replay", "command.replay"], ["solve --csv", "command.rows"], ["cases", "command.cases"], ["help", "command.help"]];
+    ["support", "command.support"], ["judge", "command.judge"], ["session", "command.session"],
+    ["test", "command.test"], ["replay", "command.replay"], ["solve --csv", "command.rows"],
+    ["cases", "command.cases"], ["help", "command.help"]];
 
-const VERDICTS = {0: "status.yes", 1: "status.fault", 2: "status.no_command", 3: "status.unread", 5: "status.no_memory", 6: "status.no"};
+const VERDICTS = {0: "status.yes", 1: "status.fault", 2: "status.no_command", 3: "status.unread",
+    5: "status.no_memory", 6: "status.no"};
 
 /** An exit status in words. */
 export function verdictOf(status, words) {

@@ -33,7 +33,8 @@ const NOWHERE = {on: [], prices: new Map()};
 
 /** What the network shows: the market after the change, with what comes and goes. */
 export function supposedScene({document, compared: said}) {
-    const scene = {lines: new Map(), marks: new Map(), focus: new Set(), signs: say("legend.whatif"), isOver: false, key: ["whatif"]};
+    const scene = {lines: new Map(), marks: new Map(), focus: new Set(), signs: say("legend.whatif"), isOver: false,
+        key: ["whatif"]};
     if (!said?.states || said.document.text !== document.text) return {...scene, stands: NOWHERE};
     const {trades, firms} = networkOf(document), parts = new Map(trades.map(({name}) => [name, partOf(said, name)]));
     const lines = new Map(firms.map(({name}) => [name, boxOf(said, name)]));

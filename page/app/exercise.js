@@ -5,8 +5,8 @@ import {objectOf} from "../read/network.js";
 import {memberOf, put} from "./edits.js";
 
 /**
- * What may have to be reached: the command that decides it with status 0, the view in which it is looked for, and the key
- * of what a pupil is told.
+ * What may have to be reached: the command that decides it with status 0, the view in which it is looked for, and
+ * the key of what a pupil is told.
  */
 export const GOALS = {
     equilibrium: {command: "firms", panel: "guess", says: "exercise.equilibrium"},

@@ -10,7 +10,8 @@ import {memberOf, put, replaced} from "./edits.js";
 const WHOLE = /^(0|-?[1-9]\d{0,9})$/, COUNT = /^(0|-?[1-9]\d?)$/;
 
 /** The kinds of firms, each with the key of what it is for. */
-const KINDS = [["table", "kind.table"], ["laminar", "kind.laminar"], ["middleman", "kind.middleman"], ["dealer", "kind.dealer"]];
+const KINDS = [["table", "kind.table"], ["laminar", "kind.laminar"], ["middleman", "kind.middleman"],
+    ["dealer", "kind.dealer"]];
 
 /** How many rows of a table, and beyond how many trades only those of the firm, are in the form. */
 const MOST_ROWS = 40, MOST_TRADES = 160;
@@ -59,8 +60,10 @@ function nameOf(key, keys, network, list, node, names) {
 
 function firmsGroup(network, names, place) {
     const fresh = freeName(names, "F", String), options = names.map((name, k) => [`${k}`, name]);
-    const add = {...button("firm add", say("form.add_firm"), say("form.add_firm"), () => firmAdded(network, fresh)), then: {built: names.length}};
-    const pick = choice("firm", say("head.firm"), say("head.firm"), `${place}`, options, {look: (built) => ({built: Number(built)})});
+    const add = {...button("firm add", say("form.add_firm"), say("form.add_firm"), () => firmAdded(network, fresh)),
+        then: {built: names.length}};
+    const pick = choice("firm", say("head.firm"), say("head.firm"), `${place}`, options,
+        {look: (built) => ({built: Number(built)})});
     return {key: "firms", title: say("page.firms"), lines: [{key: "firms", controls: place < 0 ? [add] : [pick, add]}]};
 }
 
@@ -69,7 +72,8 @@ function ofFirm(network, {node, name}, names) {
     const kind = textAt(node, "kind"), remove = () => firmRemoved(network, node), own = ownTrades(network, name);
     const head = [
         nameOf("firm name", ["head.name", "form.name_of"], network, "firms", node, names),
-        choice("firm kind", say("form.kind"), say("form.kind"), kind, KINDS.map(([each, says]) => [each, say(says)]), {put: (next) => ofKind(network, node, next)}),
+        choice("firm kind", say("form.kind"), say("form.kind"), kind, KINDS.map(([each, says]) => [each, say(says)]),
+            {put: (next) => ofKind(network, node, next)}),
         button("firm out", say("form.remove_it"), say("form.remove_firm", {name}), remove)];
     const hint = own.length === 0 ? say("form.no_trades") : "";
     const parts = own.length === 0 ? [] : PARTS[kind]?.(network, node, own) ?? [];
@@ -88,7 +92,8 @@ function tableParts(network, firm, own) {
     const rows = itemsIn(firm, "rows").filter(({value: [bundle]}) => bundle?.kind === "list"), shown = rows.slice(0, MOST_ROWS);
     const lines = shown.map((row, k) => rowLine(firm, own, row, k)), left = rows.length - shown.length;
     const hint = [say("form.of_rows"), ...(left > 0 ? [say("form.more_rows", {count: left})] : [])].join(" ");
-    return [{key: "rows", title: say("form.worths"), hint, lines: [...lines, {key: "row add", controls: rowButtons(firm, own, rows)}]}];
+    return [{key: "rows", title: say("form.worths"), hint,
+        lines: [...lines, {key: "row add", controls: rowButtons(firm, own, rows)}]}];
 }
 
 /** The trades in a list of them. */
@@ -97,12 +102,15 @@ function namesIn(list) {
 }
 
 function rowLine(firm, own, row, k) {
-    const [bundle, worth] = row.value, names = namesIn(bundle), says = names.length === 0 ? say("list.none") : names.join(", ");
-    const boxes = own.map(({name}) => box(`row ${k} ${name}`, name, say("form.in_row", {name, row: k + 1}), names.includes(name),
-        (isIn) => toggled(bundle, name, isIn)));
+    const [bundle, worth] = row.value, names = namesIn(bundle);
+    const says = names.length === 0 ? say("list.none") : names.join(", ");
+    const boxes = own.map(({name}) => box(`row ${k} ${name}`, name, say("form.in_row", {name, row: k + 1}),
+        names.includes(name), (isIn) => toggled(bundle, name, isIn)));
     const now = worth?.kind === "number" ? worth.value.text : "";
-    const field = number(`row ${k} worth`, say("form.worth"), say("form.worth_of_row", {row: k + 1}), now, (text) => replaced(worth, text));
-    const out = button(`row ${k} out`, say("form.remove"), say("form.remove_row", {trades: says}), () => itemRemoved(firm, "rows", row));
+    const field = number(`row ${k} worth`, say("form.worth"), say("form.worth_of_row", {row: k + 1}), now,
+        (text) => replaced(worth, text));
+    const out = button(`row ${k} out`, say("form.remove"), say("form.remove_row", {trades: says}),
+        () => itemRemoved(firm, "rows", row));
     return {key: `row ${k}`, controls: worth ? [...boxes, field, out] : [...boxes, out]};
 }
 
@@ -138,12 +146,14 @@ function entries(firm, list, trades, what) {
 
 function laminarParts(network, firm, own) {
     const sets = (memberOf(firm, "sets", "list")?.value ?? []).filter(({kind}) => kind === "object");
-    const amounts = {key: "amounts", controls: entries(firm, "amounts", own, "form.amount_of")}, says = say("form.add_set");
-    const add = button("set add", says, says, () => itemAdded(firm, "sets", freshSet(own)));
+    const amounts = {key: "amounts", controls: entries(firm, "amounts", own, "form.amount_of")};
+    const add = button("set add", say("form.add_set"), say("form.add_set"),
+        () => itemAdded(firm, "sets", freshSet(own)));
     return [
         {key: "amounts", title: say("form.amounts"), hint: say("form.of_amounts"), lines: [amounts]},
         ...sets.map((set, k) => setGroup(network, firm, own, set, k)),
-        {key: "set add", title: say("form.sets"), hint: say("form.of_sets"), lines: [{key: "set add", controls: [add]}]}];
+        {key: "set add", title: say("form.sets"), hint: say("form.of_sets"),
+            lines: [{key: "set add", controls: [add]}]}];
 }
 
 /** A capacity of one trade on each side on which the firm has some. */
@@ -156,13 +166,15 @@ function freshSet(own) {
 function setGroup(network, firm, own, set, k) {
     const list = memberOf(set, "trades", "list"), values = memberOf(set, "values", "list")?.value ?? [], key = `set ${k}`;
     const from = Number(memberOf(set, "from", "number")?.value.text ?? 0);
-    const boxes = own.map(({name}) => box(`${key} ${name}`, name, say("form.in_set", {name, set: k + 1}), list !== null && namesIn(list).includes(name),
-        (isIn) => toggled(list, name, isIn)));
+    const boxes = own.map(({name}) => box(`${key} ${name}`, name, say("form.in_set", {name, set: k + 1}),
+        list !== null && namesIn(list).includes(name), (isIn) => toggled(list, name, isIn)));
     const numbers = values.map((value, place) => {
         const says = counted(from + place), now = network.text.slice(value.start, value.end);
-        return number(`${key} number ${place}`, says, say("form.set_count", {set: k + 1, count: says}), now, (text) => replaced(value, text));
+        return number(`${key} number ${place}`, says, say("form.set_count", {set: k + 1, count: says}), now,
+            (text) => replaced(value, text));
     });
-    const out = button(`${key} out`, say("form.remove_it"), say("form.remove_set", {set: k + 1}), () => itemRemoved(firm, "sets", set));
+    const out = button(`${key} out`, say("form.remove_it"), say("form.remove_set", {set: k + 1}),
+        () => itemRemoved(firm, "sets", set));
     return {key, title: say("form.set", {set: k + 1}), lines: [
         {key: "trades", says: say("page.trades"), controls: list === null ? [] : boxes},
         {key: "counts", says: say("form.counts"), controls: setEnds(network, set, k, from, from + values.length - 1)},
@@ -173,11 +185,14 @@ function setGroup(network, firm, own, set, k) {
 function setEnds(network, set, k, from, to) {
     const end = (name, [says, whole], now, isIn, change) => {
         const isRight = (text) => COUNT.test(text) && Math.abs(Number(text)) <= FARTHEST && isIn(Number(text));
-        const field = number(`set ${k} ${name}`, say(says), say(whole, {set: k + 1}), `${now}`, (text) => change(Number(text)));
+        const field = number(`set ${k} ${name}`, say(says), say(whole, {set: k + 1}), `${now}`,
+            (text) => change(Number(text)));
         return {...field, isRight};
     };
-    return [end("least", ["form.least", "form.least_of"], from, (count) => count <= 0 && count <= to, (count) => stretched(network, set, count, to)),
-        end("greatest", ["form.greatest", "form.greatest_of"], to, (count) => count >= 0 && count >= from, (count) => stretched(network, set, from, count))];
+    return [end("least", ["form.least", "form.least_of"], from, (count) => count <= 0 && count <= to,
+        (count) => stretched(network, set, count, to)),
+        end("greatest", ["form.greatest", "form.greatest_of"], to, (count) => count >= 0 && count >= from,
+            (count) => stretched(network, set, from, count))];
 }
 
 /** A net count in words. */
@@ -189,7 +204,8 @@ function counted(count) {
 function middlemanParts(network, firm, own) {
     const keep = firm.value.get("keep"), isKept = keep?.kind === "number", says = say("form.keeps");
     const keeps = box("keeps", says, says, isKept, (isOn) => put(firm, "keep", isOn ? "0" : "null"));
-    const worth = () => number("keep", say("form.worth"), say("form.worth_of_kept"), keep.value.text, (text) => replaced(keep, text));
+    const worth = () => number("keep", say("form.worth"), say("form.worth_of_kept"), keep.value.text,
+        (text) => replaced(keep, text));
     const purchases = own.filter(({isSale}) => !isSale), sales = own.filter(({isSale}) => isSale);
     return [{key: "middleman", title: say("form.middleman"), hint: say("form.of_middleman"), lines: [
         {key: "costs", says: say("form.costs"), controls: entries(firm, "costs", purchases, "form.cost_of")},
@@ -208,11 +224,13 @@ function dealerParts(network, firm, own) {
 
 function pairControls(firm, pairs, purchase, sale) {
     const pair = pairs.find(({value: [one, other]}) => one?.value === purchase && other?.value === sale), cost = pair?.value[2];
-    const key = `${purchase} as ${sale}`, says = say("form.pair", {purchase, sale}), text = `[${JSON.stringify(purchase)},${JSON.stringify(sale)},0]`;
+    const key = `${purchase} as ${sale}`, says = say("form.pair", {purchase, sale}),
+        text = `[${JSON.stringify(purchase)},${JSON.stringify(sale)},0]`;
     const change = (isOn) => isOn ? itemAdded(firm, "pairs", text) : itemRemoved(firm, "pairs", pair);
     const isIn = box(`pair ${key}`, sale, says, pair !== undefined, change);
     if (cost?.kind !== "number") return [isIn];
-    return [isIn, number(`cost ${key}`, say("form.costs_it"), say("form.cost_of", {name: says}), cost.value.text, (next) => replaced(cost, next))];
+    return [isIn, number(`cost ${key}`, say("form.costs_it"), say("form.cost_of", {name: says}), cost.value.text,
+        (next) => replaced(cost, next))];
 }
 
 function tradesGroup(network, names, here, ends) {
@@ -220,19 +238,22 @@ function tradesGroup(network, names, here, ends) {
     const isShown = ({node}) => isAll || [textAt(node, "seller"), textAt(node, "buyer")].includes(here?.name);
     const lines = trades.map((trade, k) => [trade, k]).filter(([trade]) => isShown(trade))
         .map(([trade, k]) => tradeLine(network, trade, k, names, all));
-    const left = isAll ? "" : say("form.of_trades", {count: trades.length}), hint = names.length < 2 ? say("form.two_firms") : left;
+    const left = isAll ? "" : say("form.of_trades", {count: trades.length});
+    const hint = names.length < 2 ? say("form.two_firms") : left;
     const added = names.length < 2 ? [] : [newTrade(network, names, all, here, ends)];
     return {key: "trades", title: say("page.trades"), hint, lines: [...lines, ...added]};
 }
 
 function tradeLine(network, {node, name}, k, names, all) {
     const options = names.map((each) => [each, each]);
-    const end = (side, [says, whole]) => choice(`trade ${k} ${side}`, say(says), say(whole, {name}), textAt(node, side), options,
+    const end = (side, [says, whole]) => choice(`trade ${k} ${side}`, say(says), say(whole, {name}),
+        textAt(node, side), options,
         {put: (firm) => moved(network, node, side, firm)});
     return {key: `trade ${k}`, controls: [
         nameOf(`trade ${k} name`, ["head.trade", "form.trade_of"], network, "trades", node, all),
         end("seller", ["form.from", "form.trade_from"]), end("buyer", ["form.to", "form.trade_to"]),
-        button(`trade ${k} out`, say("form.remove"), say("form.remove_trade", {name}), () => tradesRemoved(network, [node]))]};
+        button(`trade ${k} out`, say("form.remove"), say("form.remove_trade", {name}),
+            () => tradesRemoved(network, [node]))]};
 }
 
 /** What adds a trade: of the firm that is shown to the next one, where nobody has chosen others. */
@@ -243,6 +264,8 @@ function newTrade(network, names, all, here, ends) {
     const name = freeName(all, `${seller}-${buyer}`.toLowerCase(), (k) => k === 1 ? "" : `-${k}`);
     const end = (side, [says, whole], value) => choice(`new ${side}`, say(says), say(whole), value, options,
         {look: (firm) => ({ends: {...ends, [side]: firm}})});
-    return {key: "new", controls: [end("seller", ["form.from", "form.new_from"], seller), end("buyer", ["form.to", "form.new_to"], buyer),
-        button("trade add", say("form.add_trade"), say("form.add_trade"), () => tradeAdded(network, name, seller, buyer))]};
+    return {key: "new", controls: [end("seller", ["form.from", "form.new_from"], seller),
+        end("buyer", ["form.to", "form.new_to"], buyer),
+        button("trade add", say("form.add_trade"), say("form.add_trade"),
+            () => tradeAdded(network, name, seller, buyer))]};
 }

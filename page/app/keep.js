@@ -1,5 +1,5 @@
-// The document of last time and the language that was chosen, which the browser keeps where it lets pages do so. Nothing depends on
-// them.
+// The document of last time and the language that was chosen, which the browser keeps where it lets pages do so.
+// Nothing depends on them.
 
 const KEY = "market: the document", LANGUAGE = "market: the language", WAIT = 300;
 

@@ -39,7 +39,8 @@ function bindMaker(store) {
     on("maker-put", () => {
         const title = part("maker-title").value.trim(), network = networkOf(store.value.document);
         const isObject = network.root.kind === "object";
-        part("maker-says").textContent = say(title === "" ? "maker.no_title" : isObject ? "maker.is_made" : "maker.no_object");
+        const key = title === "" ? "maker.no_title" : isObject ? "maker.is_made" : "maker.no_object";
+        part("maker-says").textContent = say(key);
         if (title !== "") store.act("edited", exerciseMade(network, title, part("maker-goal").value));
     });
     on("maker-try", () => {

@@ -1,5 +1,5 @@
-// What stands in the fragment of an address: a document as "1." and its bytes, made smaller by deflate, in letters of base64url, and
-// a language as "lang=" and its name. Where both are there, & stands between them.
+// What stands in the fragment of an address: a document as "1." and its bytes, made smaller by deflate, in letters of
+// base64url, and a language as "lang=" and its name. Where both are there, & stands between them.
 
 const HEAD = "1.", LANGUAGE = "lang=", MOST_BYTES = (1 << 22) + 1;
 

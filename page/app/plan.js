@@ -90,7 +90,8 @@ function boxSize(name, digits, isClose) {
 /** The room for a name above a price. */
 function labelSize({trades}, digits) {
     const number = "0".repeat(digits);
-    const price = trades.length === 1 ? number : say("extent.from_to", {low: number, high: number}), name = nameOf(trades);
+    const price = trades.length === 1 ? number : say("extent.from_to", {low: number, high: number}),
+        name = nameOf(trades);
     return {width: Math.max(widthOf(name, NORMAL), widthOf(price, PRICE)) * WIDER + 8, height: NORMAL + PRICE + 8};
 }
 

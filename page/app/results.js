@@ -64,7 +64,8 @@ const WHY_NOT = {
     firms: ({content: count, firms}) => say("result.content", {count, all: firms.length}),
     drops: ({firm}) => say("result.drops", {firm}),
     blocks: () => say("result.blocks"),
-    fault: ({fault, place}) => place.length === 1 ? say("result.lacks", {part: place[0]}) : say("result.fault", {fault}),
+    fault: ({fault, place}) => place.length === 1 ? say("result.lacks", {part: place[0]})
+        : say("result.fault", {fault}),
 };
 
 let shown = null;
@@ -93,11 +94,13 @@ function resultRow(result, k) {
     return row;
 }
 
-const SIGNS = {true: "\u2713 ", false: "\u2717 "}, GIVEN = {true: "result.as_given", false: "result.changed", null: "result.not_compared"};
+const SIGNS = {true: "\u2713 ", false: "\u2717 "},
+    GIVEN = {true: "result.as_given", false: "result.changed", null: "result.not_compared"};
 
 function cellsOf({file, name, tries, document, isGiven, verdict}) {
     const reached = verdict === null ? "" : `${SIGNS[verdict.isReached]}${verdict.says}`;
-    return [name || file, document.exercise?.title ?? say("word.none"), reached, String(tries ?? "?"), say(GIVEN[isGiven])];
+    return [name || file, document.exercise?.title ?? say("word.none"), reached, String(tries ?? "?"),
+        say(GIVEN[isGiven])];
 }
 
 export function saveResults({results}) {

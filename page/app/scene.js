@@ -59,7 +59,8 @@ export function neighbourhood({document, view, selection}) {
 }
 
 function legendOf(network, firm, {marks, stands, signs: own}) {
-    const said = [...new Set([...marks.values()].map(({says}) => says))], signs = own ?? say(stands.isSigned ? "legend.signed" : "legend.guess");
+    const said = [...new Set([...marks.values()].map(({says}) => says))],
+        signs = own ?? say(stands.isSigned ? "legend.signed" : "legend.guess");
     const coloured = own || said.length === 0 ? signs : say("legend.coloured", {signs, marks: said.join("; ")});
     return firm === null ? coloured : say("legend.one_firm", {firm, legend: coloured});
 }
@@ -72,7 +73,7 @@ function sceneOf(value) {
     const told = !isOver && guess?.said?.answer === "firms" ? guess.said.firms : [];
     const lines = view.mode === "sign" ? signedLines(value) : new Map(told.map((line) => [line.firm, line]));
     const isStory = shown !== null && (view.mode === "sign" || !["firm", "bound"].includes(value.selection?.kind));
-    const marks = isStory ? new Map([...shown.step.trades].map(([name, role]) => [name, {...ROLES[role], says: say(ROLES[role].says)}])) : marksOf(value, lines);
+    const marks = isStory ? rolesOf(shown.step.trades) : marksOf(value, lines);
     for (const [firm, below] of shown?.step.below ?? []) {
         lines.set(firm, {firm, below, mood: moodNow(view, lines.get(firm)), says: below.join(", ")});
     }
@@ -102,7 +103,8 @@ function signedLines({judged}) {
     const {over} = networkOf(judged.document).outcome;
     return new Map([...judged.has].map(([firm, has]) => {
         const number = has === null ? say("word.impossible") : fraction(has, over);
-        return [firm, {firm, mood: isLasting ? "content" : "unknown", below: [isLasting ? `\u2713 ${number}` : say("word.has", {number})],
+        return [firm, {firm, mood: isLasting ? "content" : "unknown",
+            below: [isLasting ? `\u2713 ${number}` : say("word.has", {number})],
             says: has === null ? say("stage.signed_impossible") : say("stage.by_signed", {number})}];
     }));
 }
@@ -111,13 +113,19 @@ function signedLines({judged}) {
 const ROLES = {
     change: {ink: FIRST, says: "role.change", width: 5}, changed: {ink: BOTH, says: "role.changed"},
     round: {ink: FIRST, says: "role.round"},
-    impossible: {ink: GONE, says: "role.has"}, x: {ink: FIRST, says: "role.x", width: 4}, y: {ink: SECOND, says: "role.y", width: 4},
+    impossible: {ink: GONE, says: "role.has"}, x: {ink: FIRST, says: "role.x", width: 4},
+        y: {ink: SECOND, says: "role.y", width: 4},
     "x and y": {ink: BOTH, says: "role.both", width: 4}, moved: {ink: GONE, says: "role.moved", width: 4},
     keeps: {ink: COME, says: "role.keeps"}, drops: {ink: GONE, says: "role.drops"},
     contract: {ink: FIRST, says: "role.contract", width: 5},
     "signed before": {ink: BOTH, says: "role.before", width: 3},
     chain: {ink: FIRST, says: "role.chain", width: 3}, left: {ink: GONE, says: "role.left"},
 };
+
+/** The marks of trades that play parts in a step. */
+function rolesOf(trades) {
+    return new Map([...trades].map(([name, role]) => [name, {...ROLES[role], says: say(ROLES[role].says)}]));
+}
 
 /** The trades in colour: those that a chosen firm would rather have, or those of the path that holds a chosen bound. */
 function marksOf({selection, ranges}, lines) {
@@ -130,7 +138,8 @@ function marksOf({selection, ranges}, lines) {
 
 function marksOfPath({trade, high_path: above, low_path: below}, isHigh) {
     const own = {ink: BOTH, says: say("mark.price", {trade})};
-    const other = isHigh ? {ink: FIRST, says: say("mark.holds_above", {trade})} : {ink: SECOND, says: say("mark.holds_below", {trade})};
+    const other = isHigh ? {ink: FIRST, says: say("mark.holds_above", {trade})}
+        : {ink: SECOND, says: say("mark.holds_below", {trade})};
     const nodes = (isHigh ? above : below).filter((node) => node !== null);
     return new Map(nodes.map((node) => [node, node === trade ? own : other]));
 }

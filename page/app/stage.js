@@ -81,13 +81,16 @@ function laneSvg(lane, points, at, isClose) {
 }
 
 /** What a lane is, for those who hear it: whether it takes place or is signed. */
-const STATES = {true: {true: "stage.is_signed", false: "stage.is_not_signed"}, false: {true: "stage.is_on", false: "stage.is_off"}};
+const STATES = {true: {true: "stage.is_signed", false: "stage.is_not_signed"},
+    false: {true: "stage.is_on", false: "stage.is_off"}};
 
 /** A lane in words, for those who hear it. */
 function laneSays({trades, seller, buyer, name, price, isOn, mark, isSigned}) {
-    const priced = price === null ? say("stage.no_price") : say("stage.at", {price}), marks = mark === null ? [] : [mark.says];
+    const priced = price === null ? say("stage.no_price") : say("stage.at", {price});
+    const marks = mark === null ? [] : [mark.says];
     const values = {name, seller, buyer, priced, count: trades.length};
-    if (trades.length === 1) return say("stage.trade", {...values, state: [say(STATES[isSigned][isOn]), ...marks].join(", ")});
+    if (trades.length === 1) return say("stage.trade",
+        {...values, state: [say(STATES[isSigned][isOn]), ...marks].join(", ")});
     return say("stage.trades", {...values, trades: [trades.join(", "), ...marks].join("; ")});
 }
 
@@ -131,7 +134,8 @@ function belowOf(line, isClose) {
     const mood = moodOf(line);
     if (mood === "content") return [`\u2713 ${line.utility}`];
     if (mood === "impossible") return isClose ? [`\u2717 ${say("word.none")}`] : ["\u2717", say("word.impossible")];
-    return isClose ? [`\u2717 ${line.utility}`] : [`\u2717 ${line.utility}`, say("word.best", {number: line.best_utility})];
+    return isClose ? [`\u2717 ${line.utility}`]
+        : [`\u2717 ${line.utility}`, say("word.best", {number: line.best_utility})];
 }
 
 /** A firm in words. */

@@ -80,9 +80,10 @@ export const ACTIONS = {
     answered: (value, answer) => ({...value, run: {state: "answered"}, answer}),
     broke: (value, message) => ({...value, run: {state: "trouble", message}, answer: null}),
     ended: (value) => ({...value, run: {state: "ended"}}),
-    /** Another language is spoken: what is said in sentences is asked for again, but for the answer to the command, which is told again. */
+    /** Another language is spoken: sentences are asked for again, and the answer to the command is told again. */
     spoken: (value) => {
-        const {document, answer, supposed, view} = value, results = value.results.map((each) => ({...each, verdict: null}));
+        const {document, answer, supposed, view} = value,
+            results = value.results.map((each) => ({...each, verdict: null}));
         return {...value, ...NOTHING_SAID, answer, supposed, document: {...document}, view: {...view}, results};
     },
     retold: (value, answer) => ({...value, answer}),

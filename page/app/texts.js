@@ -17,7 +17,8 @@ export function bindLanguage(store, retell) {
         store.act("spoken");
         retell();
     };
-    const options = Object.entries(LANGUAGES).map(([name, {name: own}]) => made("option", own, {value: name, lang: name}));
+    const options = Object.entries(LANGUAGES).map(([name, {name: own}]) => made("option", own,
+        {value: name, lang: name}));
     select.append(...options);
     select.addEventListener("change", () => {
         keepLanguage(select.value);

@@ -8,7 +8,8 @@ import {laneKey} from "./stage.js";
 import {isOld, networkOf} from "./state.js";
 import {setPrice, termsOf, turn} from "./terms.js";
 
-const HEADS = [["head.trade", "name"], ["head.from", "seller"], ["head.to", "buyer"], ["head.on", "on"], ["head.price", "price"], ["head.bounds", null]];
+const HEADS = [["head.trade", "name"], ["head.from", "seller"], ["head.to", "buyer"], ["head.on", "on"],
+    ["head.price", "price"], ["head.bounds", null]];
 
 /** How high a row is, in pixels, and beyond how many rows only those in sight are there. */
 const HIGH = 37, MOST_ROWS = 200, AROUND = 8;
@@ -188,7 +189,8 @@ function update(element, row, place, value, {scale, range, isOldRange}) {
     if (to.textContent !== row.buyer) to.textContent = row.buyer;
     if (head.textContent !== row.name) head.textContent = row.name;
     box.checked = row.on;
-    box.setAttribute("aria-label", say(value.view.mode === "sign" ? "stage.name_signed" : "stage.name_on", {name: row.name}));
+    box.setAttribute("aria-label", say(value.view.mode === "sign" ? "stage.name_signed" : "stage.name_on",
+        {name: row.name}));
     field.setAttribute("aria-label", say("stage.price_of", {name: row.name}));
     const shown = row.price === undefined ? "" : String(row.price);
     field.dataset.price = shown;

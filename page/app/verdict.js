@@ -55,7 +55,8 @@ function verdictOf({document, view}, said) {
     if (!document.isWhole) return {mood: "unknown", says: say("verdict.too_long_to_guess")};
     if (said === null) return {mood: "unknown", says: say("verdict.asked")};
     if (said.trouble) return {mood: "fault", says: said.trouble};
-    if (said.isNone) return {mood: "unknown", says: say(view.mode === "sign" ? "verdict.not_signed" : lacking(document))};
+    if (said.isNone) return {mood: "unknown",
+        says: say(view.mode === "sign" ? "verdict.not_signed" : lacking(document))};
     const says = VERDICTS[said.said.answer];
     return says ? says(said.said) : {mood: "fault", says: said.story ? said.sentences[0] : said.sentences.join(" ")};
 }
@@ -70,6 +71,7 @@ const VERDICTS = {
         ? {mood: "content", says: `\u2713 ${say("verdict.equilibrium", {surplus})}`}
         : {mood: "objects", says: `\u2717 ${say("verdict.no_equilibrium", {count, all: firms.length})}`},
     completes: () => ({mood: "content", says: `\u2713 ${say("verdict.lasts")}`}),
-    drops: ({firm, keeps}) => ({mood: "objects", says: `\u2717 ${say(keeps.length === 0 ? "verdict.drops_all" : "verdict.drops_some", {firm})}`}),
+    drops: ({firm, keeps}) => ({mood: "objects",
+        says: `\u2717 ${say(keeps.length === 0 ? "verdict.drops_all" : "verdict.drops_some", {firm})}`}),
     blocks: ({contracts}) => ({mood: "objects", says: `\u2717 ${say("verdict.blocks", {count: contracts.length})}`}),
 };

@@ -29,7 +29,8 @@ export function showAnswers(value) {
 }
 
 function nameOf({name, bytes, isWhole}) {
-    const size = bytes.length < 1000 ? say("page.bytes", {count: bytes.length}) : `${Math.round(bytes.length / 100) / 10} KB`;
+    const size = bytes.length < 1000 ? say("page.bytes", {count: bytes.length})
+        : `${Math.round(bytes.length / 100) / 10} KB`;
     return [name, size, isWhole ? "" : say("page.too_long")].filter(Boolean).join(", ");
 }
 
@@ -58,7 +59,8 @@ const MOST_SENTENCES = 12;
 function said(sentences) {
     if (sentences.length <= MOST_SENTENCES) return sentences;
     const rest = made("details");
-    rest.append(made("summary", say("page.more_sentences", {count: sentences.length - MOST_SENTENCES / 2})), ...sentences.slice(MOST_SENTENCES / 2));
+    rest.append(made("summary", say("page.more_sentences", {count: sentences.length - MOST_SENTENCES / 2})),
+        ...sentences.slice(MOST_SENTENCES / 2));
     return [...sentences.slice(0, MOST_SENTENCES / 2), rest];
 }
 

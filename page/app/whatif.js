@@ -62,7 +62,8 @@ function able(id, isAble) {
 }
 
 function fill(said, supposed, found) {
-    const network = networkOf(said.document), lines = [beforeLine(said), found && sharesLine(said), say("whatif.depend")];
+    const network = networkOf(said.document),
+        lines = [beforeLine(said), found && sharesLine(said), say("whatif.depend")];
     part("whatif-lines").replaceChildren(...lines.filter(Boolean).map((line) => made("p", line)));
     table("whatif-firms", FIRM_HEADS, network.firms.map(({name}) => firmRow(said, name, supposed, found)));
     table("whatif-trades", TRADE_HEADS, network.trades.map((trade) => tradeRow(said, trade, supposed, found)));

@@ -70,6 +70,7 @@ function legendOf(bars) {
     return [
         bars.some(({on}) => on > 0) ? {sample: bar(7, null), says: say("picture.takes_place")} : null,
         bars.some(({on}) => on === 0) ? {sample: bar(2, null), says: say("picture.takes_no_place")} : null,
-        bars.some(({low, high}) => low === null || high === null) ? {sample: bar(2, "6 4"), says: say("picture.beyond")} : null]
+        bars.some(({low, high}) => low === null || high === null)
+            ? {sample: bar(2, "6 4"), says: say("picture.beyond")} : null]
         .filter((entry) => entry !== null);
 }

@@ -25,7 +25,8 @@ function arrowOf(network, name, price, state) {
 }
 
 function boxOf(name, isActor, gain, over) {
-    const below = gain ? say("picture.now_then", {now: fraction(gain.now, over), then: fraction(gain.then, over)}) : null;
+    const below = gain ? say("picture.now_then", {now: fraction(gain.now, over), then: fraction(gain.then, over)})
+        : null;
     const style = isActor ? {fill: "#ffedd5", stroke: FIRST, inkBelow: INK} : {};
     return {id: name, name, below, style, width: boxWidth(name, below), height: below === null ? 24 : 36};
 }

@@ -20,7 +20,8 @@ export function marksOf(network, said) {
         markBoth(mark, above, below, say("mark.above"), say("mark.below"), say("mark.above_below"));
     }
     const [part, index] = itemsOf(said.place);
-    if (said.answer === "fault" && part === "trades" && index !== undefined) mark([network.trades[Number(index)]?.name], GONE, say("mark.fault"));
+    const isOfTrade = said.answer === "fault" && part === "trades" && index !== undefined;
+    if (isOfTrade) mark([network.trades[Number(index)]?.name], GONE, say("mark.fault"));
     return {trades, firms: firmsIn(network, said)};
 }
 
@@ -40,8 +41,8 @@ function firmsIn(network, said) {
 
 /** What changed from one standing to another, as marks of the trades that came and went. */
 export function changesOf(before, now) {
-    const trades = new Map();
-    for (const name of now.on ?? []) if (!before.on?.includes(name)) trades.set(name, {ink: COME, says: say("mark.came")});
-    for (const name of before.on ?? []) if (!now.on?.includes(name)) trades.set(name, {ink: GONE, says: say("mark.went")});
-    return trades;
+    const came = (now.on ?? []).filter((name) => !before.on?.includes(name));
+    const went = (before.on ?? []).filter((name) => !now.on?.includes(name));
+    return new Map([...came.map((name) => [name, {ink: COME, says: say("mark.came")}]),
+        ...went.map((name) => [name, {ink: GONE, says: say("mark.went")}])]);
 }

@@ -83,7 +83,7 @@ function drawn(boxes, arrows, places, caption) {
 }
 
 function titleOf({lane, lines}) {
-    const [name, price] = lines, says = name === undefined ? "" : price === undefined ? name : say("picture.at", {name, price});
+    const [name = "", price] = lines, says = price === undefined ? name : say("picture.at", {name, price});
     return `${say("picture.ends", lane)}: ${lane.trades.length > 1 ? `${lane.trades.join(", ")}: ` : ""}${says}`;
 }
 
@@ -91,10 +91,12 @@ function titleOf({lane, lines}) {
 function styleOf({on, mark, isAdmitted}, stands) {
     const common = {ink: mark?.ink ?? INK, mark: mark?.ink ?? null, says: mark?.says ?? null, textInk: INK, dashes: null};
     if (stands.on === null) return {...common, width: 1.5, state: null};
-    if (on > 0) return {...common, width: 2.5 + Math.min(on, 6) * 0.7, state: say(stands.isSigned ? "picture.is_signed" : "picture.takes_place")};
+    if (on > 0) return {...common, width: 2.5 + Math.min(on, 6) * 0.7,
+        state: say(stands.isSigned ? "picture.is_signed" : "picture.takes_place")};
     const faint = {...common, ink: mark?.ink ?? FAINT, textInk: "#64748b"};
     if (!isAdmitted) return {...faint, width: 1, dashes: "2 4", state: say("picture.not_admitted")};
-    return {...faint, width: mark ? 1.8 : 1, dashes: mark ? "7 4" : null, state: say(stands.isSigned ? "picture.not_signed" : "picture.takes_no_place")};
+    return {...faint, width: mark ? 1.8 : 1, dashes: mark ? "7 4" : null,
+        state: say(stands.isSigned ? "picture.not_signed" : "picture.takes_no_place")};
 }
 
 /** What the lines mean that really occur: each state and each colour once. */

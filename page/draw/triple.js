@@ -23,7 +23,8 @@ export async function triplePicture(network, said, ask) {
     const right = 90 + names.length * wide + 16;
     const rows = [["x", ofX], ["y", ofY]].map(([name, worth], line) => [
         text(74, 114 + line * 40, name, {size: LARGE, weight: "bold", anchor: "end"}),
-        worth === null ? null : text(right, 114 + line * 40, say("picture.worth", {worth}), {size: LARGE, anchor: "start"})]);
+        worth === null ? null : text(right, 114 + line * 40, say("picture.worth", {worth}),
+            {size: LARGE, anchor: "start"})]);
     const width = Math.max(right + 140, 560);
     const {drawn, bottom} = foot(176, width, captionOf(at, ofX, ofY), []);
     const title = say("picture.fails", {firm});

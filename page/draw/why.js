@@ -21,7 +21,8 @@ async function cyclePicture(network, said, ask) {
     const on = standing(network, said).on ?? [];
     const changes = changesAlong(network, on, [...said.nodes, said.nodes[0]]);
     const known = await costs(ask, network, on, changes), words = wordsOf(changes, known);
-    const round = {words, isPriced: known.some((cost) => cost !== null), nodes: said.nodes, ink: FIRST, isRound: true, says: ""};
+    const round = {words, isPriced: known.some((cost) => cost !== null), nodes: said.nodes, ink: FIRST, isRound: true,
+        says: ""};
     return framed([round], network, on, say("picture.round", {cost: said.cost}));
 }
 
@@ -37,7 +38,8 @@ async function rangesPicture(network, said, ask) {
     let used = 0;
     const parts = paths.map((path, k) => {
         const ofPath = known.slice(used, (used += changes[k].length));
-        return {...path, isRound: false, isPriced: ofPath.some((cost) => cost !== null), words: wordsOf(changes[k], ofPath)};
+        return {...path, isRound: false, isPriced: ofPath.some((cost) => cost !== null),
+            words: wordsOf(changes[k], ofPath)};
     });
     return framed(parts, network, said.on, "");
 }
@@ -45,8 +47,10 @@ async function rangesPicture(network, said, ask) {
 /** The words of arrows: the firm, what it would do, and what that costs it. */
 function wordsOf(changes, known) {
     return changes.map(({firm, acts}, k) => {
-        const told = acts.map(({does, trade}, place) => say(ACTS[does], {trade}) + (place < acts.length - 1 ? "," : ""));
-        return [say("picture.would", {firm}), ...told, ...(known[k] === null ? [] : [say("picture.cost", {cost: known[k]})])];
+        const ends = (place) => (place < acts.length - 1 ? "," : "");
+        const told = acts.map(({does, trade}, place) => say(ACTS[does], {trade}) + ends(place));
+        return [say("picture.would", {firm}), ...told,
+            ...(known[k] === null ? [] : [say("picture.cost", {cost: known[k]})])];
     });
 }
 

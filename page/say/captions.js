@@ -23,17 +23,20 @@ const CAPTIONS = {
     impossible: ({firm}) => [say("caption.impossible", {firm})],
     accepted: () => [say("caption.accepted")],
     exchange_fails: ({firm, at, x, y}) => [
-        at === null ? say("caption.fails", {firm}) : say("caption.fails_at", {firm, at}), `x = ${set(x)}, y = ${set(y)}`],
+        at === null ? say("caption.fails", {firm}) : say("caption.fails_at", {firm, at}),
+            `x = ${set(x)}, y = ${set(y)}`],
     ranges: ({ranges}) => ranges.length !== 1 ? [say("caption.ranges")] : [`${ranges[0].trade}: ${extent(ranges[0])}`],
     session: ({edits}, network) => edits.length === 0 ? [say("caption.no_edits")]
         : [say("caption.session", {edit: itemsOf(network.edits.at(-1)).join(" "), surplus: edits.at(-1).surplus})],
     firms: ({firms, content: count, surplus}) => {
         const values = {count, all: firms.length};
-        return [surplus === null ? say("caption.firms_impossible", values) : say("caption.firms", {...values, surplus})];
+        return [surplus === null ? say("caption.firms_impossible", values)
+            : say("caption.firms", {...values, surplus})];
     },
     drops: ({firm, keeps, gain, over}) => {
         const values = {firm, bundle: set(keeps)};
-        return [gain === null ? say("caption.drops_impossible", values) : say("caption.drops", {...values, gain: fraction(gain, over)})];
+        return [gain === null ? say("caption.drops_impossible", values)
+            : say("caption.drops", {...values, gain: fraction(gain, over)})];
     },
     completes: () => [say("caption.completes")],
     blocks: ({contracts}) => [say("caption.blocks", {trades: path(contracts.map(([name]) => name))})],

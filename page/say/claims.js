@@ -21,7 +21,8 @@ const CLAIMED = {
         : say("claimed.drops", {firm, keeps: listed(keeps), gain: fraction(gain, over)}),
     completes: () => say("claimed.completes"),
     blocks: ({contracts, over}) => {
-        const priced = contracts.map(([trades, price]) => say("deal.priced", {trades, price: fraction(price, over), count: 1}));
+        const priced = contracts.map(([trades, price]) => say("deal.priced",
+            {trades, price: fraction(price, over), count: 1}));
         return contracts.length === 0 ? say("claimed.blocks_none") : say("claimed.blocks", {contracts: listed(priced)});
     },
     none: (claim, {firms}) => say("claimed.none", {shares: listed(firms.flatMap(({name}) => sharesOf(claim, name)))}),
@@ -30,7 +31,8 @@ const CLAIMED = {
 /** What a firm has of a plan: "1/2 of {a, b} for B". */
 function sharesOf({plan, over}, firm) {
     const mine = plan.filter(([name]) => name === firm);
-    const parts = mine.map(([, names, weight]) => say("claimed.part", {weight: fraction(weight, over), bundle: set(names)}));
+    const parts = mine.map(([, names, weight]) => say("claimed.part",
+        {weight: fraction(weight, over), bundle: set(names)}));
     return mine.length === 0 ? [] : [say("claimed.share", {parts: listed(parts), firm})];
 }
 
@@ -52,7 +54,8 @@ export async function implied(network, ask) {
     const {claim} = network;
     if (claim.answer !== "none") return [];
     const worth = await planWorth(network, claim, ask);
-    return [worth === null ? say("claimed.no_set") : say("claimed.plan_worth", {worth: fraction(worth, claim.over)}), say("claimed.no_prices")];
+    return [worth === null ? say("claimed.no_set") : say("claimed.plan_worth", {worth: fraction(worth, claim.over)}),
+        say("claimed.no_prices")];
 }
 
 /** What a claim says, after "It says". */
@@ -62,16 +65,19 @@ export function claimed(network) {
 
 /** The condition of the claim that fails, in sentences. */
 export async function failed(network, said, ask) {
-    if (said.reason === "exchange") return [say("reason.exchange", {firm: said.firm}), ...await failingLines(network, said, ask)];
+    if (said.reason === "exchange") return [say("reason.exchange", {firm: said.firm}),
+        ...await failingLines(network, said, ask)];
     return [REASONS[said.reason]?.(said, network) ?? say("reason.unknown", {reason: said.reason})];
 }
 
 /** What is impossible, by the claim that says so. */
-const IMPOSSIBLE = {better: "reason.impossible_better", drops: "reason.impossible_drops", none: "reason.impossible_plan"};
+const IMPOSSIBLE = {better: "reason.impossible_better", drops: "reason.impossible_drops",
+    none: "reason.impossible_plan"};
 
 const REASONS = {
     impossible: ({firm}, {claim}) => say(IMPOSSIBLE[claim.answer] ?? "reason.impossible", {firm}),
-    better: ({firm, bundle}) => bundle.length === 0 ? say("reason.better_nothing", {firm}) : say("reason.better", {firm, bundle: listed(bundle)}),
+    better: ({firm, bundle}) => bundle.length === 0 ? say("reason.better_nothing", {firm})
+        : say("reason.better", {firm, bundle: listed(bundle)}),
     possible: () => say("reason.possible"),
     surplus: ({surplus}) => say("reason.surplus", {surplus}),
     gain: ({firm, gain}, {claim, outcome}) => {
@@ -96,5 +102,6 @@ const REASONS = {
     choice: ({firm, trade}) => say("reason.choice", {firm, trade}),
     shares: ({firm}) => say("reason.shares", {firm}),
     balance: ({trade}) => say("reason.balance", {trade}),
-    whole: ({on, surplus}) => on.length === 0 ? say("reason.whole_none", {surplus}) : say("reason.whole", {trades: listed(on), surplus}),
+    whole: ({on, surplus}) => on.length === 0 ? say("reason.whole_none", {surplus})
+        : say("reason.whole", {trades: listed(on), surplus}),
 };

@@ -17,7 +17,8 @@ export async function explain(network, said, ask) {
 
 function trading(network, said) {
     const deals = new Deals(network, said);
-    return [...(deals.on.length === 0 ? [say("deal.nothing")] : deals.clauses(deals.on).map((clause) => `${clause}.`)), ...keepingOff(deals)];
+    return [...(deals.on.length === 0 ? [say("deal.nothing")] : deals.clauses(deals.on).map((clause) => `${clause}.`)),
+        ...keepingOff(deals)];
 }
 
 function keepingOff(deals) {
@@ -25,7 +26,8 @@ function keepingOff(deals) {
 }
 
 function signed(deals) {
-    return deals.on.length === 0 ? say("deal.nothing_signed") : say("deal.signed", {contracts: listed(deals.clauses(deals.on))});
+    return deals.on.length === 0 ? say("deal.nothing_signed")
+        : say("deal.signed", {contracts: listed(deals.clauses(deals.on))});
 }
 
 /** What is said of the firms before one, if there are any. */
@@ -35,8 +37,10 @@ function earlier(network, firm, key) {
 }
 
 const ANSWERS = {
-    equilibrium: (said, network) => [say("answer.equilibrium"), ...trading(network, said), say("answer.most", {surplus: said.surplus})],
-    solved: (said, network) => [say("answer.solved"), ...trading(network, said), say("answer.most", {surplus: said.surplus})],
+    equilibrium: (said, network) => [say("answer.equilibrium"), ...trading(network, said),
+        say("answer.most", {surplus: said.surplus})],
+    solved: (said, network) => [say("answer.solved"), ...trading(network, said),
+        say("answer.most", {surplus: said.surplus})],
     prices: (said, network) => [say("answer.prices"), ...trading(network, said), say("answer.none_more")],
     cycle: async (said, network, ask) => {
         const {head, steps} = await storyOf(network, said, ask);
@@ -45,14 +49,18 @@ const ANSWERS = {
     better: betterLines,
     impossible: (said, network) => {
         const deals = new Deals(network, said), {firm} = said;
-        return [say("answer.impossible", {firm}), say("answer.no_worth", {does: deals.does(firm, network.own(firm, deals.on))}),
+        return [say("answer.impossible", {firm}),
+            say("answer.no_worth", {does: deals.does(firm, network.own(firm, deals.on))}),
             ...earlier(network, firm, "answer.impossible_before")];
     },
     firms: ({firms, content, surplus}, network) => [
-        content === BigInt(firms.length) ? say("answer.all_content") : say("answer.content", {count: content, all: firms.length}),
-        ...firms.map((line) => firmLine(line, network)), surplus === null ? say("answer.no_sum") : say("answer.sum", {surplus})],
+        content === BigInt(firms.length) ? say("answer.all_content")
+            : say("answer.content", {count: content, all: firms.length}),
+        ...firms.map((line) => firmLine(line, network)), surplus === null ? say("answer.no_sum")
+            : say("answer.sum", {surplus})],
     accepted: () => [say("answer.accepted")],
-    exchange_fails: async (said, network, ask) => [say("exchange.fails", {firm: said.firm}), ...await failingLines(network, said, ask),
+    exchange_fails: async (said, network, ask) => [say("exchange.fails", {firm: said.firm}),
+        ...await failingLines(network, said, ask),
         ...earlier(network, said.firm, "exchange.before")],
     fault: async (said, network, ask) => [...faultLines(network, said),
         ...(said.fault === 16n ? await failingLines(network, {...said, firm: network.firms[Number(said.place[1])].name}, ask) : [])],
@@ -66,8 +74,10 @@ const ANSWERS = {
     blocks: (said, network) => [say("answer.blocks"), signed(new Deals(network, said)), say("answer.would_sign"),
         ...said.contracts.map((contract) => contractOf(network, contract, said.over)), say("story.signs_others")],
     drill: ({firms, size, start, surplus}) => [say("answer.drill", {firms, size, start, surplus})],
-    valid: async (said, network, ask) => [say("answer.valid", {claim: claimed(network)}), ...await implied(network, ask)],
-    invalid: async (said, network, ask) => [say("answer.invalid", {claim: claimed(network)}), ...await failed(network, said, ask)],
+    valid: async (said, network, ask) => [say("answer.valid", {claim: claimed(network)}),
+        ...await implied(network, ask)],
+    invalid: async (said, network, ask) => [say("answer.invalid", {claim: claimed(network)}),
+        ...await failed(network, said, ask)],
     usage: () => [say("answer.usage")],
     read_fault: () => [say("answer.read_fault")],
     no_memory: () => [say("answer.no_memory")],
@@ -75,7 +85,8 @@ const ANSWERS = {
 
 function betterLines(said, network) {
     const deals = new Deals(network, said), {firm, bundle, gain} = said;
-    return [say("answer.better", {firm}), say("answer.as_it_is", {firm, does: deals.does(firm, network.own(firm, deals.on))}),
+    return [say("answer.better", {firm}),
+        say("answer.as_it_is", {firm, does: deals.does(firm, network.own(firm, deals.on))}),
         say("answer.rather", {do: deals.do(firm, bundle), gain}), ...earlier(network, firm, "answer.better_before")];
 }
 
@@ -83,7 +94,8 @@ function dropsLines(said, network) {
     const {firm, keeps, gain, over} = said, deals = new Deals(network, said), values = {keeps: listed(keeps)};
     return [keeps.length === 0 ? say("answer.drops_all", {firm}) : say("answer.drops_some", {firm}),
         say("answer.by_signed", {firm, does: deals.does(firm, network.own(firm, deals.on))}),
-        gain === null ? say("answer.keeps_best", values) : say("answer.keeps_rather", {...values, gain: fraction(gain, over)}),
+        gain === null ? say("answer.keeps_best", values)
+            : say("answer.keeps_rather", {...values, gain: fraction(gain, over)}),
         ...earlier(network, firm, "answer.drops_before")];
 }
 

@@ -4,9 +4,10 @@ import {itemsOf} from "../read/network.js";
 import {say} from "../words/say.js";
 import {large, listed} from "./words.js";
 
-const CAUSES = ["cause.unknown", "cause.no_json", "cause.too_long", "cause.shape", "cause.name", "cause.taken", "cause.no_firm", "cause.itself",
-    "cause.no_trade", "cause.too_many", "cause.number", "cause.not_its", "cause.same_bundle", "cause.at_zero", "cause.crosses",
-    "cause.concave", "cause.exchange", "cause.twice", "cause.no_price", "cause.denominator", "cause.same_pair"];
+const CAUSES = ["cause.unknown", "cause.no_json", "cause.too_long", "cause.shape", "cause.name", "cause.taken",
+    "cause.no_firm", "cause.itself", "cause.no_trade", "cause.too_many", "cause.number", "cause.not_its",
+    "cause.same_bundle", "cause.at_zero", "cause.crosses", "cause.concave", "cause.exchange", "cause.twice",
+    "cause.no_price", "cause.denominator", "cause.same_pair"];
 
 /** What a fault says, by its number. */
 export function cause(fault) {
@@ -21,7 +22,8 @@ export function faultLines(network, {fault, name, place}) {
 }
 
 function way(place) {
-    return place.map((step) => typeof step === "bigint" ? say("fault.item", {step}) : String(step)).join(say("fault.then"));
+    return place.map((step) => typeof step === "bigint" ? say("fault.item", {step})
+        : String(step)).join(say("fault.then"));
 }
 
 function whereIs(network, fault, place, found) {
@@ -52,15 +54,17 @@ function quoted(value) {
 }
 
 function shapeOf({kind, value}) {
-    if (kind === "object") return value.size === 0 ? say("shape.empty") : say("shape.object", {members: listed([...value.keys()])});
+    if (kind === "object") return value.size === 0 ? say("shape.empty")
+        : say("shape.object", {members: listed([...value.keys()])});
     if (kind === "list") return say("shape.list", {length: value.length});
     if (kind === "number") return say("shape.number", {number: value});
-    return kind === "text" ? say("shape.text", {text: quoted(value)}) : say(kind === "truth" ? "shape.truth" : "shape.null");
+    return kind === "text" ? say("shape.text", {text: quoted(value)})
+        : say(kind === "truth" ? "shape.truth" : "shape.null");
 }
 
 /** The limits of lists and numbers, by the member that has them. */
-const LIMITS = {firms: "limit.firms", trades: "limit.trades", edits: "limit.edits", nodes: "limit.nodes", sets: "limit.sets",
-    values: "limit.values", from: "limit.from", rows: "limit.rows"};
+const LIMITS = {firms: "limit.firms", trades: "limit.trades", edits: "limit.edits", nodes: "limit.nodes",
+    sets: "limit.sets", values: "limit.values", from: "limit.from", rows: "limit.rows"};
 
 /** The limits of how many trades a firm has, by its kind. */
 const OF_KINDS = {table: "limit.table", laminar: "limit.laminar", middleman: "limit.middleman", dealer: "limit.dealer"};
@@ -69,8 +73,10 @@ const OF_KINDS = {table: "limit.table", laminar: "limit.laminar", middleman: "li
 function limitOf(network, place, value) {
     const {version} = network.data, last = place[place.length - 1], most = version === 2n ? 128 : 64;
     const firm = place[0] === "firms" && place.length > 1 ? network.firms[Number(place[1])] : null;
-    const own = firm ? network.trades.filter(({seller, buyer}) => seller === firm.name || buyer === firm.name).length : 0;
-    const values = {value, count: itemsOf(value).length, version: String(version), most, nodes: most + 1, own, bundles: large(2 ** own - 1)};
+    const own = firm ? network.trades.filter(({seller, buyer}) => seller === firm.name || buyer === firm.name).length
+        : 0;
+    const values = {value, count: itemsOf(value).length, version: String(version), most, nodes: most + 1, own,
+        bundles: large(2 ** own - 1)};
     if (Object.hasOwn(LIMITS, last)) return say(LIMITS[last], values);
     return firm && Object.hasOwn(OF_KINDS, firm.kind) ? say(OF_KINDS[firm.kind], {...values, count: own}) : null;
 }

@@ -13,13 +13,15 @@ export async function rangeLines({on, ranges}, network, ask) {
     const known = await costs(ask, network, on, paths.flat());
     const told = paths.map((changes) => changes.map((change) => changeWith(change, known.shift())).join("; "));
     const isBounded = (side) => ranges.length > 0 && ranges.every((range) => range[side] !== null);
-    return [say("range.head"), ...groups.flatMap((group, k) => groupLines(group, network, told[2 * k], told[2 * k + 1])),
+    const lines = groups.flatMap((group, k) => groupLines(group, network, told[2 * k], told[2 * k + 1]));
+    return [say("range.head"), ...lines,
         on.length === 0 ? say("range.best_none") : say("range.best", {trades: listed(on)}),
         ...(isBounded("high") ? [say("range.highest")] : []), ...(isBounded("low") ? [say("range.lowest")] : [])];
 }
 
 function groupLines(group, network, below, above) {
-    const [range] = group, {seller, buyer} = network.trade(range.trade), values = {seller, buyer, trade: range.trade, range: words(range)};
+    const [range] = group, {seller, buyer} = network.trade(range.trade),
+        values = {seller, buyer, trade: range.trade, range: words(range)};
     const told = [group.length === 1 ? say("range.one", values)
         : say("range.several", {...values, trades: listed(group.map(({trade}) => trade))})];
     if (range.low !== null) told.push(`  ${say("range.not_below", {price: range.low, changes: below})}`);

@@ -25,8 +25,8 @@ export function edit(words) {
 }
 
 /**
- * What is on in a state, at its prices, what its other prices keep off, and the sum of its worths. Where firms may be away, a trade
- * that is admitted need not be one that can be used.
+ * What is on in a state, at its prices, what its other prices keep off, and the sum of its worths. Where firms may be
+ * away, a trade that is admitted need not be one that can be used.
  */
 function standing({on, prices, surplus}, network, isOfFirms) {
     const deals = new Deals(network, {}, {on, prices: new Map([...entriesOf(prices)].map(([name, price]) => [name, String(price)]))});

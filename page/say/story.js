@@ -58,7 +58,8 @@ async function failingStory(network, said, ask) {
     const {firm, x, y, at} = said, moved = [x, y].map((bundle) => toggled(network, firm, bundle, at));
     const [ofX, ofY, thenX, thenY] = await worths(ask, network, firm, [x, y, ...moved]);
     const step = (says, trades, worth, other = null) => {
-        const lines = [`x: ${worth ?? say("word.none")}`, ...(other === null ? [] : [`y: ${other.worth ?? say("word.none")}`])];
+        const lines = [`x: ${worth ?? say("word.none")}`,
+            ...(other === null ? [] : [`y: ${other.worth ?? say("word.none")}`])];
         return {says, firms: [firm], trades: new Map(trades), below: new Map([[firm, lines]])};
     };
     const both = [...x.map((name) => [name, "x"]), ...y.map((name) => [name, x.includes(name) ? "x and y" : "y"])];
@@ -67,7 +68,8 @@ async function failingStory(network, said, ask) {
     return {head: say("exchange.fails", {firm}), steps: [
         step(say("story.first_bundle", {firm, x: worthOf(x, ofX)}), x.map((name) => [name, "x"]), ofX),
         step(say("story.other_bundle", {y: worthOf(y, ofY)}), y.map((name) => [name, "y"]), ofX, {worth: ofY}),
-        ...(at === null ? [] : [step(say(x.includes(at) ? "story.out_of_x" : "story.out_of_y", left), [...both, [at, "moved"]], thenX, {worth: thenY})]),
+        ...(at === null ? [] : [step(say(x.includes(at) ? "story.out_of_x" : "story.out_of_y", left),
+            [...both, [at, "moved"]], thenX, {worth: thenY})]),
         step(fails, both, ofX, {worth: ofY})]};
 }
 
@@ -77,7 +79,8 @@ function toggled(network, firm, bundle, at) {
 }
 
 function worthOf(bundle, worth) {
-    return worth === null ? say("story.bundle_impossible", {bundle: set(bundle)}) : say("story.bundle_worth", {bundle: set(bundle), worth});
+    return worth === null ? say("story.bundle_impossible", {bundle: set(bundle)})
+        : say("story.bundle_worth", {bundle: set(bundle), worth});
 }
 
 async function dropsStory(network, said, ask) {
@@ -85,9 +88,12 @@ async function dropsStory(network, said, ask) {
     const has = numberOf((await haves(ask, network)).get(firm), over), could = numberOf(await keeping(ask, network, said), over);
     const trades = new Map(own.map((name) => [name, keeps.includes(name) ? "keeps" : "drops"]));
     const now = gain === null ? say("word.impossible") : say("word.has", {number: has});
-    const below = new Map([[firm, [now, say("word.then", {number: could})]]]), values = {firm, keeps: listed(keeps), could};
-    const says = gain === null ? say("story.cannot", values) : say("story.rather_keep", {...values, has, gain: fraction(gain, over)});
-    return {head: say("answer.by_signed", {firm, does: deals.does(firm, own)}), steps: [{says, firms: [firm], trades, below}]};
+    const below = new Map([[firm, [now, say("word.then", {number: could})]]]),
+        values = {firm, keeps: listed(keeps), could};
+    const says = gain === null ? say("story.cannot", values)
+        : say("story.rather_keep", {...values, has, gain: fraction(gain, over)});
+    return {head: say("answer.by_signed", {firm, does: deals.does(firm, own)}),
+        steps: [{says, firms: [firm], trades, below}]};
 }
 
 function numberOf(numerator, over) {
@@ -107,9 +113,11 @@ async function chainStory(network, said, ask) {
         return {says: says.join(" "), firms: [seller, buyer], trades, below: new Map(below)};
     });
     const trades = new Map([...contracts.map(([name]) => [name, "chain"]), ...left.map(({name}) => [name, "left"])]);
-    const lost = left.filter(({partner}) => partner !== null).map(({name, partner}) => say("story.loses", {firm: partner, trade: name}));
+    const lost = left.filter(({partner}) => partner !== null)
+        .map(({name, partner}) => say("story.loses", {firm: partner, trade: name}));
     return {head: say("story.chain"),
-        steps: [...steps, {says: [say("story.signs_others"), ...lost].join(" "), firms: [...found.keys()], trades, below}]};
+        steps: [...steps, {says: [say("story.signs_others"), ...lost].join(" "), firms: [...found.keys()], trades,
+            below}]};
 }
 
 function hasThen({now, then}, over) {
@@ -119,7 +127,8 @@ function hasThen({now, then}, over) {
 function gainOf(firm, {now, then}, over, left) {
     const leaves = left.filter(({by}) => by.includes(firm)).map(({name}) => name);
     const values = {firm, now: fraction(now, over), then: fraction(then, over)};
-    return leaves.length === 0 ? say("story.would_have", values) : say("story.would_leave", {...values, trades: listed(leaves)});
+    return leaves.length === 0 ? say("story.would_have", values)
+        : say("story.would_leave", {...values, trades: listed(leaves)});
 }
 
 /** The signed trades that firms of a chain would leave, as `{name, by, partner}`; `partner` is null where both would. */

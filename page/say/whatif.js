@@ -17,12 +17,14 @@ export function changeLine({states: [then, now], before, after}) {
     const changes = editsBetween(before, after).map(edit);
     if (changes.length > 0) return changed(listed(changes), then.surplus, now.surplus);
     const {surplus} = then;
-    return before.length === 0 ? say("whatif.all_there", {surplus}) : say("whatif.while", {missing: missing(before), surplus});
+    return before.length === 0 ? say("whatif.all_there", {surplus})
+        : say("whatif.while", {missing: missing(before), surplus});
 }
 
 function changed(changes, then, now) {
     if (now === then) return say("whatif.same", {changes, now});
-    return now < then ? say("whatif.less", {changes, then, now, less: then - now}) : say("whatif.more", {changes, then, now, more: now - then});
+    return now < then ? say("whatif.less", {changes, then, now, less: then - now})
+        : say("whatif.more", {changes, then, now, more: now - then});
 }
 
 /** What was so before the change, where that isn't that everybody is there; an empty text where it is. */
@@ -81,7 +83,8 @@ export function countsOf(told, names) {
 
 /** Whether a firm is away before and after, and which utility it has where that is known. */
 function utilities({states, before, after}, firm) {
-    return [before, after].map((edits, k) => ({isAway: isIn(edits, ["leave", firm]), utility: states[k].lines.get(firm)?.utility ?? ""}));
+    return [before, after].map((edits, k) => ({isAway: isIn(edits, ["leave", firm]),
+        utility: states[k].lines.get(firm)?.utility ?? ""}));
 }
 
 /** A firm before and after, as two texts: its utility, or that it is away. */
@@ -96,7 +99,8 @@ export function isGone({after}, firm) {
 
 /** The same for those who listen. */
 export function firmSays(told, firm) {
-    const [then, now] = utilities(told, firm).map(({isAway, utility}) => isAway ? say("word.away") : say("whatif.utility", {utility}));
+    const [then, now] = utilities(told, firm).map(({isAway, utility}) => isAway ? say("word.away")
+        : say("whatif.utility", {utility}));
     return then === now ? say("whatif.both", {state: then}) : say("whatif.then_now", {then, now});
 }
 
@@ -117,5 +121,6 @@ export function tradeStates({states, before, after}, name) {
 
 /** What the contributions are of. */
 export function sharesLine({before, states: [{surplus}]}) {
-    return before.length === 0 ? say("whatif.shares", {surplus}) : say("whatif.shares_while", {missing: missing(before), surplus});
+    return before.length === 0 ? say("whatif.shares", {surplus})
+        : say("whatif.shares_while", {missing: missing(before), surplus});
 }

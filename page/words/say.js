@@ -1,5 +1,6 @@
-// The texts of the page, each from the table of the language that is spoken. A text has a key, as "deal.none": its part of
-// the table and its name there. It may have one form for each way in which the language counts; `count` says which it is.
+// The texts of the page, each from the table of the language that is spoken. A text has a key, as "deal.none": its
+// part of the table and its name there. It may have one form for each way in which the language counts; `count` says
+// which it is.
 import {DE} from "./de.js";
 import {EN} from "./en.js";
 
@@ -19,11 +20,11 @@ export function speak(next) {
     forms = new Intl.PluralRules(next);
 }
 
-/** A text with its values put in by their names. One that isn't in the table, or wants a value that isn't given, is an error. */
+/** A text with its values put in by their names. One that isn't there, or lacks a value, is an error. */
 export function say(key, values = {}) {
     const [part, name] = key.split("."), entry = LANGUAGES[spoken].table[part]?.[name];
     if (entry === undefined) throw new Error(`There is no text ${key} in ${spoken}.`);
-    const isPlain = typeof entry === "string", text = isPlain ? entry : entry[forms.select(Number(given(values, "count", key)))];
+    const text = typeof entry === "string" ? entry : entry[forms.select(Number(given(values, "count", key)))];
     return text.replace(/\{(\w+)\}/g, (_, each) => given(values, each, key));
 }
 
