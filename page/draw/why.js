@@ -1,10 +1,11 @@
-// The picture of why an answer is so: the changes of a cycle or of ranges, contracts that block, or a failing triple.
+// The picture of why an answer is so: the changes of a cycle or of ranges, contracts that block, a plan in parts, or a failing triple.
 import {changesAlong} from "../read/changes.js";
 import {costs} from "../read/firms.js";
 import {extent, standing} from "../read/standing.js";
 import {itemsOf} from "../read/network.js";
 import {say} from "../words/say.js";
 import {chainPicture} from "./chain.js";
+import {isPlan, planPicture} from "./plan.js";
 import {FIRST, foot, INK, LARGE, picture, SECOND, tag, text, widthOf} from "./svg.js";
 import {failingOf, triplePicture} from "./triple.js";
 import {walk} from "./walk.js";
@@ -14,6 +15,7 @@ export async function whyPicture(network, said, ask) {
     if (said.answer === "cycle") return cyclePicture(network, said, ask);
     if (said.answer === "ranges" && said.ranges.length > 0) return rangesPicture(network, said, ask);
     if (said.answer === "blocks") return chainPicture(network, said, ask);
+    if (isPlan(network, said)) return planPicture(network, ask);
     return failingOf(network, said) === null ? null : triplePicture(network, said, ask);
 }
 

@@ -1,6 +1,5 @@
 // Claims in words, and why one isn't so.
 import {entriesOf, fraction, itemsOf} from "../read/network.js";
-import {worths} from "../read/firms.js";
 import {say} from "../words/say.js";
 import {failingLines} from "./exchange.js";
 import {listed, set} from "./words.js";
@@ -25,38 +24,8 @@ const CLAIMED = {
             {trades, price: fraction(price, over), count: 1}));
         return contracts.length === 0 ? say("claimed.blocks_none") : say("claimed.blocks", {contracts: listed(priced)});
     },
-    none: (claim, {firms}) => say("claimed.none", {shares: listed(firms.flatMap(({name}) => sharesOf(claim, name)))}),
+    none: () => say("claimed.none"),
 };
-
-/** What a firm has of a plan: "1/2 of {a, b} for B". */
-function sharesOf({plan, over}, firm) {
-    const mine = plan.filter(([name]) => name === firm);
-    const parts = mine.map(([, names, weight]) => say("claimed.part",
-        {weight: fraction(weight, over), bundle: set(names)}));
-    return mine.length === 0 ? [] : [say("claimed.share", {parts: listed(parts), firm})];
-}
-
-/** What a plan is worth, over its denominator; what a firm has no share of is the empty bundle. Null where that isn't known. */
-async function planWorth(network, {plan, over}, ask) {
-    let sum = 0n;
-    for (const {name} of network.firms) {
-        const mine = plan.filter(([firm]) => firm === name);
-        const parts = [...mine, [name, [], mine.reduce((rest, [, , weight]) => rest - weight, over)]];
-        const each = await worths(ask, network, name, parts.map(([, names]) => names));
-        if (each.includes(null)) return null;
-        sum += each.reduce((worth, one, k) => worth + one * parts[k][2], 0n);
-    }
-    return sum;
-}
-
-/** What follows from a claim that is valid, in sentences. */
-export async function implied(network, ask) {
-    const {claim} = network;
-    if (claim.answer !== "none") return [];
-    const worth = await planWorth(network, claim, ask);
-    return [worth === null ? say("claimed.no_set") : say("claimed.plan_worth", {worth: fraction(worth, claim.over)}),
-        say("claimed.no_prices")];
-}
 
 /** What a claim says, after "It says". */
 export function claimed(network) {

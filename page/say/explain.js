@@ -1,9 +1,10 @@
 // An answer to a document in sentences. They hold no numbers but those of the document, of the answer, and of what `firms` answers.
 import {fraction} from "../read/network.js";
 import {say} from "../words/say.js";
-import {claimed, failed, implied} from "./claims.js";
+import {claimed, failed} from "./claims.js";
 import {failingLines} from "./exchange.js";
 import {faultLines} from "./faults.js";
+import {planLines, refusedLines} from "./plan.js";
 import {rangeLines} from "./ranges.js";
 import {sessionLines} from "./session.js";
 import {contractOf, storyOf} from "./story.js";
@@ -75,8 +76,9 @@ const ANSWERS = {
         ...said.contracts.map((contract) => contractOf(network, contract, said.over)), say("story.signs_others")],
     drill: ({firms, size, start, surplus}) => [say("answer.drill", {firms, size, start, surplus})],
     valid: async (said, network, ask) => [say("answer.valid", {claim: claimed(network)}),
-        ...await implied(network, ask)],
+        ...(network.claim.answer === "none" ? await planLines(network, ask) : [])],
     invalid: async (said, network, ask) => [say("answer.invalid", {claim: claimed(network)}),
+        ...(network.claim.answer === "none" ? await refusedLines(network, ask) : []),
         ...await failed(network, said, ask)],
     usage: () => [say("answer.usage")],
     read_fault: () => [say("answer.read_fault")],

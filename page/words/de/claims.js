@@ -17,13 +17,39 @@ export const CLAIMS = {
         completes: "dass ihre Preise ergänzen, was unterschrieben ist",
         blocks: "dass {contracts} blockieren würden, was unterschrieben ist",
         blocks_none: "dass keine Verträge blockieren würden, was unterschrieben ist",
-        none: "dass ein Plan in Teilen mehr wert ist als jede Menge von Geschäften: {shares}",
-        part: "{weight} von {bundle}", share: "{parts} für {firm}", unknown: "was sie sagt",
-        no_set: "Keine Menge von Geschäften ist so viel wert wie der Plan.",
-        plan_worth: "Der Plan ist {worth} wert und jede Menge von Geschäften weniger.",
-        no_prices: "Bei Preisen, die den Markt räumen, hätte jede Firma mindestens so viel wie durch ihre Anteile. "
-            + "In der Summe über alle Firmen heben sich die Preise auf, also wäre eine Menge von Geschäften "
-            + "mindestens so viel wert wie der Plan. Also gibt es keine solchen Preise.",
+        none: "dass ein Plan in Teilen mehr wert ist als jede Menge von Geschäften", unknown: "was sie sagt",
+    },
+    plan: {
+        share: "{firm} hat {parts}.", part: "{share} von {bundle}", part_worth: "{share} von {bundle} ({worth} wert)",
+        part_drawn: "{share} von {bundle}, {worth} wert", all: "alles", half: "die Hälfte",
+        come_to: "Diese Anteile sind zusammen {sum} wert.",
+        as_much: "Keine Menge von Geschäften ist so viel wert wie diese Anteile.",
+        as_much_sum: "Diese Anteile sind zusammen {sum} wert, und keine Menge von Geschäften ist so viel wert.",
+        more: "Diese Anteile sind zusammen {sum} wert, und keine Menge von Geschäften ist mehr wert als {most}.",
+        more_as: {
+            one: "Diese Anteile sind zusammen {sum} wert, und keine Menge von Geschäften ist mehr wert als {most}, wie es "
+                + "{trades} ist.",
+            other: "Diese Anteile sind zusammen {sum} wert, und keine Menge von Geschäften ist mehr wert als {most}, wie "
+                + "es {trades} sind.",
+        },
+        cancel: "Bei Preisen, die den Markt räumen, hätte jede Firma mindestens so viel wie von ihren Anteilen. In "
+            + "der Summe über alle Firmen heben sich die Preise auf, also wäre eine Menge von Geschäften so viel "
+            + "wert wie diese Anteile oder mehr. Also gibt es keine solchen Preise.",
+        cancel_sum: "Bei Preisen, die den Markt räumen, hätte jede Firma mindestens so viel wie von ihren Anteilen. In "
+            + "der Summe über alle Firmen heben sich die Preise auf, also wäre eine Menge von Geschäften "
+            + "{sum} wert oder mehr. Also gibt es keine solchen Preise.",
+        cancel_most: "Bei Preisen, die den Markt räumen, hätte jede Firma mindestens so viel wie von ihren Anteilen. In "
+            + "der Summe über alle Firmen heben sich die Preise auf, also wäre {sum} höchstens {most}. Also "
+            + "gibt es keine solchen Preise.",
+        title: "ein Plan in Teilen", trades: {one: "{count} Geschäft", other: "{count} Geschäften"},
+        others: "und {count} mehr",
+        drawn: "Keine Menge von Geschäften ist so viel wert wie dieser Plan, also räumen keine Preise den Markt.",
+        drawn_sum: "Die Anteile sind zusammen {sum} wert und keine Menge von Geschäften so viel: also räumen keine Preise "
+            + "den Markt.",
+        drawn_most: "Die Anteile sind zusammen {sum} wert und keine Menge von Geschäften mehr als {most}: für Preise, die "
+            + "den Markt räumen, müsste {sum} höchstens {most} sein.",
+        below: "Unter dem Namen einer Firma stehen ihre Anteile, mit dem, was diese Bündel ihr wert sind; an einem Pfeil "
+            + "steht, wie viel des Geschäfts verkauft wird.",
     },
     reason: {
         exchange: "{firm} erfüllt sie nicht.", unknown: "Der Grund ist {reason}.",

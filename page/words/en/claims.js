@@ -12,13 +12,35 @@ export const CLAIMS = {
         drops_impossible: "that {firm} would keep {keeps} of its contracts, which together are impossible",
         completes: "that its prices complete what is signed", blocks: "that {contracts} would block what is signed",
         blocks_none: "that no contracts would block what is signed",
-        none: "that a plan in parts is worth more than any set of trades: {shares}",
-        part: "{weight} of {bundle}", share: "{parts} for {firm}", unknown: "what it says",
-        no_set: "No set of trades is worth as much as the plan.",
-        plan_worth: "The plan is worth {worth}, and each set of trades less.",
-        no_prices: "At prices that clear the market each firm would have at least as much as from its shares. The "
-            + "prices cancel in the sum over all firms, so some set of trades would be worth at least as much as the "
-            + "plan. So there are no such prices.",
+        none: "that a plan in parts is worth more than any set of trades", unknown: "what it says",
+    },
+    plan: {
+        share: "{firm} has {parts}.", part: "{share} of {bundle}", part_worth: "{share} of {bundle} (worth {worth})",
+        part_drawn: "{share} of {bundle}, worth {worth}", all: "all", half: "half",
+        come_to: "These shares come to {sum}.",
+        as_much: "No set of trades is worth as much as these shares.",
+        as_much_sum: "These shares come to {sum}, and no set of trades is worth as much.",
+        more: "These shares come to {sum}, and no set of trades is worth more than {most}.",
+        more_as: {
+            one: "These shares come to {sum}, and no set of trades is worth more than {most}, as {trades} is.",
+            other: "These shares come to {sum}, and no set of trades is worth more than {most}, as {trades} are.",
+        },
+        cancel: "At prices that clear the market each firm would have at least as much as from its shares. In the "
+            + "sum over all firms the prices cancel, so some set of trades would be worth what these shares come "
+            + "to or more. So there are no such prices.",
+        cancel_sum: "At prices that clear the market each firm would have at least as much as from its shares. In the "
+            + "sum over all firms the prices cancel, so some set of trades would be worth {sum} or more. So there "
+            + "are no such prices.",
+        cancel_most: "At prices that clear the market each firm would have at least as much as from its shares. In the "
+            + "sum over all firms the prices cancel, so {sum} would be at most {most}. So there are no such prices.",
+        title: "a plan in parts", trades: {one: "{count} trade", other: "{count} trades"},
+        others: "and {count} more",
+        drawn: "No set of trades is worth as much as this plan, so no prices clear the market.",
+        drawn_sum: "The shares come to {sum}, and no set of trades to as much: so no prices clear the market.",
+        drawn_most: "The shares come to {sum}, and no set of trades to more than {most}: prices that clear the market "
+            + "would need {sum} to be at most {most}.",
+        below: "Below the name of a firm are its shares, with what these bundles are worth to it; on an arrow is how "
+            + "much of the trade is sold.",
     },
     reason: {
         exchange: "{firm} doesn't.", unknown: "The reason is {reason}.",

@@ -92,6 +92,16 @@ test("reasons are drawn whole and legibly", {skip}, async () => {
     }
 });
 
+test("a plan in parts is drawn with all its firms, and each trade of which something is sold", {skip}, async () => {
+    for (const name of ["no-prices.json", "three-pairs.json"]) {
+        const {bytes} = examples().find((each) => each.name === name), network = new Network(bytes.toString());
+        const svg = await whyPicture(network, readAnswer(await ask(["replay"], bytes)), ask);
+        hasOnce(svg, network, name);
+        isLegible(svg, name);
+        assert.match(svg, /would need (11 to be at most 10|6 to be at most 4)\./);
+    }
+});
+
 test("one firm, and what changed, are drawn alone", {skip}, async () => {
     const {bytes} = examples().find(({name}) => name === "used-cars.json"), network = new Network(bytes.toString());
     const said = readAnswer(await ask(["solve"], bytes));

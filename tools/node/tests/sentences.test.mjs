@@ -4,6 +4,7 @@ import {test} from "node:test";
 import {belongs, isSo, NoAnswer, readAnswer} from "../../../page/read/answer.js";
 import {costs, gains, worths} from "../../../page/read/firms.js";
 import {Network} from "../../../page/read/network.js";
+import {mostOf, sharesOf, worthOf} from "../../../page/read/plan.js";
 import {explain} from "../../../page/say/explain.js";
 import {storyOf} from "../../../page/say/story.js";
 import {askOf} from "../ask.mjs";
@@ -100,4 +101,34 @@ test("what firms of a chain and of contracts that are dropped have and would hav
         {S: ["has 0", "then 1/7"], M1: ["has 0", "then 2/7"], M2: ["has 0", "then 2/7"], B: ["has 0", "then 37/7"]});
     assert.deepEqual(await below("signed-too-low.json"), {S: ["has -1", "then 0"]});
     assert.deepEqual(await below("signed-undeliverable.json"), {S: ["impossible", "then 0"]});
+});
+
+/** The sentences of what `replay` says of a document. */
+async function replayLines(bytes) {
+    return explain(new Network(bytes.toString()), readAnswer(await ask(["replay"], bytes)), ask);
+}
+
+const CANCEL = "At prices that clear the market each firm would have at least as much as from its shares. In the sum over all firms the prices cancel, ";
+
+test("a plan in parts is told with what its shares come to, and with the most that a set of trades does", {skip}, async () => {
+    const bytesOf = (wanted) => examples().find(({name}) => name === wanted).bytes;
+    assert.deepEqual((await replayLines(bytesOf("no-prices.json"))).slice(1), [
+        "Seller1 has half of {pair1} (worth 0) and half of {any1} (worth 0).", "Seller2 has half of {pair2} (worth 0) and half of {any2} (worth 0).",
+        "Pair has half of {pair1, pair2} (worth 10).", "Any has half of {any1} (worth 6) and half of {any2} (worth 6).",
+        "These shares come to 11, and no set of trades is worth more than 10, as pair1 and pair2 are.",
+        `${CANCEL}so 11 would be at most 10. So there are no such prices.`]);
+    assert.match((await replayLines(bytesOf("three-pairs.json"))).at(-1), /so 6 would be at most 4\./);
+    assert.deepEqual((await replayLines(bytesOf("claim-whole.json"))).slice(1), ["S has half of {a, b} (worth -2).", "B has half of {a, b} (worth 10).",
+        "These shares come to 4.", "With a and b the worths sum to 8, and the plan is worth no more."]);
+});
+
+test("the most that a set of trades is worth is found from far, and is left out where weights are too few for it", {skip}, async () => {
+    const plan = JSON.parse(examples().find(({name}) => name === "no-prices.json").bytes.toString());
+    for (const [pair, any, most] of [[10, 6, 10n], [7, 100, 100n], [30000, 20000, 30000n], [-5, 1, null], [1000000000, 600000000, null]]) {
+        plan.firms[2].rows[2][1] = pair;
+        plan.firms[3].amounts = [["any1", any], ["any2", any]];
+        const network = new Network(JSON.stringify(plan)), {answer} = readAnswer(await ask(["replay"], network.text));
+        const found = answer === "valid" ? await mostOf(network, network.claim, worthOf(await sharesOf(network, network.claim, ask)), ask) : null;
+        assert.equal(found === null ? null : found.surplus, most, `${pair} and ${any}`);
+    }
 });
