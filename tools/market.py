@@ -17,14 +17,12 @@ has a denominator; they are never floats, but in plots.
 
 Each question takes two more arguments. `program` is the path of the program; where it is None, that is the path that
 MARKET has in the environment, or else crates/market/out/market of the repository that has this file, or else `market`
-on the PATH. `timeout` is in seconds, and None for no limit.
-
-Each question is a process of its own. `stream` asks one process about any number of documents.
+on the PATH. `timeout` is in seconds, and None for no limit. Each question is a process of its own; `stream` asks one
+process about any number of documents.
 """
 from __future__ import annotations
 
 import contextlib
-import dataclasses
 import functools
 import importlib
 import json
@@ -38,7 +36,7 @@ import shutil
 import subprocess
 import threading
 import time
-from dataclasses import dataclass, field
+from dataclasses import dataclass, field, fields
 from fractions import Fraction
 from typing import Any, ClassVar, Iterable, Iterator, Optional, Union
 
@@ -62,8 +60,7 @@ class _Absent:
     def __repr__(self):
         return "ABSENT"
 
-    def __reduce__(self):
-        return "ABSENT"
+    __reduce__ = __repr__  # (what is pickled by its name is the same one)
 
 
 ABSENT = _Absent()
@@ -147,13 +144,13 @@ class Answer:
         return json.loads(self.asked)
 
     def rows(self) -> list[dict]:
-        """The answer as a table: a list of dictionaries from columns to values. Here it is one row with the kind of
-        answer and its members, with a blank between the names of a list. Answers with other rows say so."""
+        """The answer as a table: a list of dictionaries from columns to values. Here it is one row, of the kind of
+        answer and its members, with blanks between the names of a list. Answers with other rows say so."""
         return [_flat({"answer": self.answer, **{name: getattr(self, name) for name in _members(type(self))}})]
 
     def frame(self):
-        """The rows as a pandas.DataFrame, with the first column as its index where the rows are of trades or firms.
-        Columns in which a value may be absent are Int64, with pandas.NA where it is. Needs pandas."""
+        """The rows as a pandas.DataFrame, whose index are the trades or firms, where the rows are of these. Columns in
+        which a value may be absent are Int64, with pandas.NA where it is. Needs pandas."""
         pandas = _needed("pandas", "rows() needs nothing")
         rows = self.rows()
         frame = pandas.DataFrame({name: _column(pandas, [row[name] for row in rows], name in self.nullable)
@@ -191,23 +188,19 @@ class _OfTrades(Answer):
     """An answer with a price for each of some trades, of which some are on."""
     columns = ("trade", "seller", "buyer", "on", "price")
 
-    def _prices(self) -> dict:
-        return self.prices
-
     def _on(self) -> tuple:
         return self.on
 
     def rows(self) -> list[dict]:
         """A row for each trade, in the order of the answer: `trade`, `seller`, `buyer`, whether it is `on`, `price`."""
         trades, on = _trades(self.document), set(self._on())
-        rows = [{**trades[name], "on": name in on, "price": price} for name, price in self._prices().items()]
+        rows = [{**trades[name], "on": name in on, "price": price} for name, price in self.prices.items()]
         return [{name: row[name] for name in self.columns} for row in rows]
 
     def plot(self, axes=None):
         """A point for each price, by trade, which is full where the trade is on. Needs matplotlib."""
-        prices, on = self._prices(), set(self._on())
-        axes = _axes(axes, list(prices))
-        for at, (name, price) in enumerate(prices.items()):
+        axes, on = _axes(axes, list(self.prices)), set(self._on())
+        for at, (name, price) in enumerate(self.prices.items()):
             axes.plot([float(price)], [at], marker="o", color="C0", fillstyle="full" if name in on else "none")
         return _whole_ticks(axes, "price")
 
@@ -237,12 +230,8 @@ def _whole_ticks(axes, label):
 
 @dataclass(frozen=True)
 class Solved(_OfTrades):
-    """Of `solve`: an equilibrium.
-
-    on: its trades, a tuple of names in the order of the document.
-    prices: a dictionary from every trade to its price, int.
-    surplus: the sum of the firms' worths, int; no set of trades has more.
-    """
+    """Of `solve`: an equilibrium. on: its trades, a tuple of names in the order of the document. prices: a dictionary
+    from every trade to its price, int. surplus: the sum of the firms' worths, int; no set of trades has more."""
     answer = "solved"
     on: tuple[str, ...]
     prices: dict[str, int]
@@ -368,10 +357,7 @@ class State:
 
 @dataclass(frozen=True)
 class Session(Answer):
-    """Of `session`: an equilibrium after each edit.
-
-    edits: a tuple of State, one for each of the document's edits, in order.
-    """
+    """Of `session`: an equilibrium after each edit. edits: a tuple of State, one for each edit, in order."""
     answer = "session"
     columns = ("edit", "trade", "on", "surplus")
     edits: tuple[State, ...]
@@ -405,12 +391,9 @@ class Session(Answer):
 
 @dataclass(frozen=True)
 class Drops(Answer):
-    """Of `judge`: a firm would drop contracts (no).
-
-    firm: the first such firm. keeps: the trades of a best set of its contracts, a tuple of names.
-    gain: how much more utility that has, Fraction; None where its contracts together are an impossible bundle.
-    over: the outcome's denominator, int.
-    """
+    """Of `judge`: a firm would drop contracts (no). firm: the first such firm. keeps: the trades of a best set of its
+    contracts, a tuple of names. gain: how much more utility that has, Fraction; None where all its contracts are an
+    impossible bundle. over: the outcome's denominator, int."""
     answer = "drops"
     firm: str
     keeps: tuple[str, ...]
@@ -420,11 +403,8 @@ class Drops(Answer):
 
 @dataclass(frozen=True)
 class Completes(_OfTrades):
-    """Of `judge`: prices complete the outcome to an equilibrium, and nothing blocks it (yes). In rows and plots the
-    signed trades are on.
-
-    prices: a dictionary from every trade to its price, Fraction. over: their denominator, int.
-    """
+    """Of `judge`: prices complete the outcome to an equilibrium, and nothing blocks it (yes). prices: a dictionary from
+    every trade to its price, Fraction. over: their denominator, int. In rows and plots the signed trades are on."""
     answer = "completes"
     prices: dict[str, Fraction]
     over: int
@@ -435,18 +415,15 @@ class Completes(_OfTrades):
 
 @dataclass(frozen=True)
 class Blocks(_OfTrades):
-    """Of `judge`: contracts block the outcome (no). Rows and plots are of these contracts alone, without `on`.
-
-    contracts: a dictionary from trades to their prices, Fraction, in the order of a chain: the buyer of each is the
-    seller of the next. over: the denominator of these prices, int.
-    """
+    """Of `judge`: contracts block the outcome (no). contracts: a dictionary from trades to their prices, Fraction, in
+    the order of a chain: the buyer of each is the seller of the next. over: the denominator of these prices, int. Rows
+    and plots are of these contracts alone, without `on`."""
     answer = "blocks"
     columns = ("trade", "seller", "buyer", "price")
     contracts: dict[str, Fraction]
     over: int
 
-    def _prices(self):
-        return self.contracts
+    prices = property(operator.attrgetter("contracts"))
 
     def _on(self):
         return tuple(self.contracts)
@@ -483,11 +460,8 @@ class Equilibrium(Answer):
 
 @dataclass(frozen=True)
 class Better(Answer):
-    """Of `check`: a firm would rather have another bundle (no).
-
-    firm: the first such firm. bundle: a best bundle of it, a tuple of trades.
-    gain: how much more utility that has, int.
-    """
+    """Of `check`: a firm would rather have another bundle (no). firm: the first such firm. bundle: a best bundle of it,
+    a tuple of trades. gain: how much more utility that has, int."""
     answer = "better"
     firm: str
     bundle: tuple[str, ...]
@@ -503,10 +477,8 @@ class Impossible(Answer):
 
 @dataclass(frozen=True)
 class Prices(_OfTrades):
-    """Of `support`: prices at which the arrangement's trades are an equilibrium (yes).
-
-    prices: a dictionary from every trade to its price, int.
-    """
+    """Of `support`: prices at which the arrangement's trades are an equilibrium (yes). prices: a dictionary from every
+    trade to its price, int."""
     answer = "prices"
     prices: dict[str, int]
 
@@ -516,11 +488,8 @@ class Prices(_OfTrades):
 
 @dataclass(frozen=True)
 class Cycle(Answer):
-    """Of `support`: no prices support the arrangement's trades (no).
-
-    nodes: a cycle of the exchange graph (docs/SUPPORT.md), a tuple of trades (str) and at most one None.
-    cost: its cost, int, below 0.
-    """
+    """Of `support`: no prices support the arrangement's trades (no). nodes: a cycle of the exchange graph
+    (docs/SUPPORT.md), a tuple of trades (str) and at most one None. cost: its cost, int, below 0."""
     answer = "cycle"
     nodes: tuple[Optional[str], ...]
     cost: int
@@ -534,10 +503,8 @@ class Accepted(Answer):
 
 @dataclass(frozen=True)
 class ExchangeFails(Answer):
-    """Of `test`: a firm doesn't meet the exchange property (no).
-
-    firm: the first such firm. x, y: the two bundles, tuples of trades. at: the trade, or None.
-    """
+    """Of `test`: a firm doesn't meet the exchange property (no). firm: the first such firm. x, y: the two bundles,
+    tuples of trades. at: the trade, or None."""
     answer = "exchange_fails"
     firm: str
     x: tuple[str, ...]
@@ -554,8 +521,8 @@ _NOES = {kind.answer for kind in (Drops, Blocks, Invalid, Better, Impossible, Cy
 
 @functools.lru_cache(maxsize=None)
 def _members(kind) -> tuple[str, ...]:
-    common = {each.name for each in dataclasses.fields(Answer)}
-    return tuple(each.name for each in dataclasses.fields(kind) if each.name not in common)
+    common = {each.name for each in fields(Answer)}
+    return tuple(each.name for each in fields(kind) if each.name not in common)
 
 
 def _object(said: dict, asked: bytes, yes: bool) -> Answer:
@@ -587,7 +554,7 @@ def _over(number: Optional[int], over: Optional[int]) -> Union[int, Fraction, No
 
 
 def _part(kind, members: dict):
-    return kind(*(_member(each.name, members[each.name], None) for each in dataclasses.fields(kind)))
+    return kind(*(_member(each.name, members[each.name], None) for each in fields(kind)))
 
 
 # Questions
@@ -648,12 +615,10 @@ def _parsed(text: Union[str, bytes]) -> Any:
 
 def _value_at(value: Any, place: list) -> Any:
     """The value that a place leads to, or ABSENT."""
-    for step in place:
-        try:
-            value = value[step]
-        except (KeyError, IndexError, TypeError):
-            return ABSENT
-    return value
+    try:
+        return functools.reduce(operator.getitem, place, value)
+    except (KeyError, IndexError, TypeError):
+        return ABSENT
 
 
 def ask(command: str, document: Optional[Document] = None, *, program=None, timeout: Optional[float] = None):
@@ -721,8 +686,8 @@ def replay(document: Document, claim: Union[Answer, dict, None] = None, *, progr
            timeout: Optional[float] = None) -> Union[Valid, Invalid]:
     """Whether the document's claim is so. Raises as `ask` does.
 
-    claim: an answer of check, test, support, solve or judge (an Answer, or the dictionary that the program wrote); it
-    is put into the document as its claim; None where the document has one.
+    claim: an answer of check, test, support, solve or judge (an Answer, or the dictionary that the program wrote), or
+    another claim as a dictionary, which is put into the document as its claim; None where the document has one.
     """
     if claim is not None:
         said = claim.said if isinstance(claim, Answer) else claim
@@ -740,10 +705,9 @@ def stream(command: str, documents: Iterable[Document], *, program=None,
     documents: any iterable. A thread goes through it, some documents ahead of the answers.
     timeout: for the answer to one document, in seconds.
 
-    What is the matter with one document ends no stream: the Fault or NoMemory that the question alone would raise comes
-    in place of the answer, with `yes` None, and the next document is answered. All else is raised, after the answers
-    that came before: a MarketError has their count as `answered`, and what `documents` raises, or a document that is
-    none (see `ask`), is raised as it is. The process is ended where the generator is closed or dropped.
+    What is the matter with one document ends no stream: its Fault or NoMemory comes in place of the answer, with `yes`
+    None. All else is raised, after the answers that came before: a MarketError has their count as `answered`; what
+    `documents` raises, or for one that is none (see `ask`), is as it is. Closing the generator ends the process.
     """
     process = _started([find(program), *command.split(), "--lines"])
     sent: queue.SimpleQueue = queue.SimpleQueue()  # the documents' bytes, and at last None, or what was raised
