@@ -1,3 +1,5 @@
+//! Tests of laminar firms.
+
 ghost use Rattle.std.specs.Prelude.{◌≡◌};
 
 use crate::{Laminar, LaminarRefusal, LaminarSet};
@@ -55,6 +57,12 @@ fn a_second_good_is_worth_less(rt: HostRuntime) -> Result<(), Fail> {
     assert_eq!(rt; buyer.value(Bundle::from_bits(0b011), &mut steps), Some(18));
     assert_eq!(rt; buyer.value(Bundle::from_bits(0b101), &mut steps), Some(21));
     assert_eq!(rt; buyer.value(Bundle::from_bits(0b111), &mut steps), None);
+    let all = Bundle::from_bits(0b111);
+    let mut worths = [None; 3];
+    buyer.row(Bundle::from_bits(0b011), all, &mut worths, &mut steps);
+    assert_eq!(rt; worths, [Some(9), Some(12), None]);
+    buyer.row(Bundle::from_bits(0b101), all, &mut worths, &mut steps);
+    assert_eq!(rt; worths, [Some(9), None, Some(12)]);
     Ok(())
 }
 
