@@ -18,8 +18,7 @@ use Rattle.tn_market.specs.Graph.{exchange_arc}
 use Rattle.tn_plain_data.specs.Network.{IsNetwork, trades_on}
 use Rattle.tn_market.specs.Ranges.{AreRanges, IsPath, ShowsHighest, ShowsLowest}
 use Rattle.tn_market.specs.Valued.{IsWorthAtMost}
-use Rattle.tn_cycle.proofs.WalkLemmas.{AreApart, apart_from_different, few_apart, walk_inside}
-use Rattle.tn_cycle.proofs.RoundLemmas.{walk_small}
+use Rattle.tn_cycle.proofs.WalkLemmas.{AreApart, apart_from_different, few_apart, walk_inside, walk_small}
 use Rattle.tn_network.proofs.SupportLemmas.{arcs_small}
 use Rattle.tn_network.proofs.WelfareLemmas.{equilibrium_is_efficient}
 use Rattle.tn_price.proofs.CycleLemmas.{arcs_between, said_inside}

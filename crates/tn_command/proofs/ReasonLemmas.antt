@@ -10,7 +10,7 @@ use Rattle.tn_answer.specs.ReasonText.{IsReasonWithin}
 use Rattle.tn_cert.specs.Claims.{Gains, GoesRound, node_of}
 use Rattle.tn_cert.specs.Reasons.{Refutes}
 use Rattle.tn_chain.proofs.MoveLemmas.{price_small as signed_price_small}
-use Rattle.tn_cycle.proofs.RoundLemmas.{walk_small}
+use Rattle.tn_cycle.proofs.WalkLemmas.{walk_small}
 use Rattle.tn_firm.specs.declared.value.FirmValue.{FirmValue}
 use Rattle.tn_firm.specs.Firms.{firm_of}
 use Rattle.tn_firm.specs.FirmLemmas.{firm_few}

@@ -1,16 +1,16 @@
 -- Least cycles over kept labels, and the labels after them.
-use Rattle.std.proofs.Common.{◌≡◌, ◌≢◌, ℕ, ◌+◌, ◌*◌, ◌<◌, ◌≤◌, refl, sym, ap, ◌∙◌, subst, arith, inl, inr, ◌⊎◌, List, [], ◌∷◌, length, set, ℤ, pos, ◌+ℤ◌, ◌-ℤ◌, ◌≤ℤ◌, ◌<ℤ◌, Option, Some, None, Bool, true, false, ◌&&◌, ◌||◌, ◌==◌, if◌then◌else◌, nat_lt}
+use Rattle.std.proofs.Common.{◌≡◌, ◌≢◌, ℕ, ◌+◌, ◌*◌, ◌<◌, ◌≤◌, refl, sym, ap, ◌∙◌, subst, arith, inl, inr, ◌⊎◌, List, length, set, ℤ, pos, ◌+ℤ◌, ◌-ℤ◌, ◌≤ℤ◌, ◌<ℤ◌, Option, Some, None, Bool, true, false, ◌&&◌, ◌||◌, ◌==◌, if◌then◌else◌, nat_lt}
 use Rattle.std.specs.Prelude.{unwrap_or}
 use Rattle.std.specs.Option.{ForSome}
 use Rattle.std.proofs.lemmas.Int.{ints}
-use Rattle.std.proofs.lemmas.Bool.{cases_eq, ne_eqb, le-ltb, and_parts}
+use Rattle.std.proofs.lemmas.Bool.{cases_eq, ne_eqb, and_parts}
 use Rattle.std.proofs.lemmas.Option.{none-some, same_Some}
 use Rattle.std.proofs.lemmas.List.{get_or-set_same, get_or-set_other, length-set}
 use Rattle.tn_base.specs.Arcs.{AreBetweenNodes, AreSmall, IsAtMost}
-use Rattle.tn_base.specs.Options.{both}
-use Rattle.tn_base.specs.Walks.{walk_cost, KeepsArcs, arcs_among, is_admitted, is_looked_at}
+use Rattle.tn_base.specs.Walks.{KeepsArcs, arcs_among, is_admitted, is_looked_at}
 use Rattle.tn_base.specs.Widths.{most_cost}
 use Rattle.tn_cycle.specs.declared.cell.Cell.{Cell}
+use Rattle.tn_cycle.specs.declared.kept.Sought.TheVariants as seek
 use Rattle.tn_cycle.specs.declared.answer.Path.{Path}
 use Rattle.tn_cycle.specs.declared.answer.Path.TheVariants as path
 use Rattle.tn_cycle.specs.Answers.{AnswersCycle, AnswersLeast, AreNear, cost_of, label_in}
@@ -68,6 +68,14 @@ pub raise_left : (labels old : List ℤ) (v : ℕ) (new : ℤ) → ((k : ℕ) �
 raise_left labels old v new left k above =
     get_or-set_other labels v k new (pos 0) (λ e. omega (arith, above, e)) ∙ left k (omega (arith, above))
 
+-- one label more is signed
+pub sign_next : (labels old : List ℤ) (negates : Bool) (v : ℕ) (new : ℤ) → v < length labels → ((k : ℕ) → k < v → label_in labels k ≡ signed negates (label_in old k))
+    → new ≡ signed negates (label_in old v) → (k : ℕ) → k < v + 1 → label_in (set labels v new) k ≡ signed negates (label_in old k)
+sign_next labels old negates v new places before is k below = elim (cases_eq k v) [
+  | inl same ↦ ap (label_in (set labels v new)) same ∙ get_or-set_same labels v new (pos 0) places ∙ is ∙ ap (λ (z : ℕ). signed negates (label_in old z)) (sym same)
+  | inr other ↦ get_or-set_other labels v k new (pos 0) other ∙ before k (omega (arith, below, other))
+]
+
 -- one arc more is kept
 pub lifted_next : (arc : ℕ → ℕ → Option ℤ) (node : ℕ) (label : ℕ → ℤ) (count : ℕ) (least found : Option ℤ) → IsLifted count arc node label least
     → (count ≡ node → found ≡ least) → (count ≢ node → IsLiftedBy least (label count) (arc node count) found) → IsLifted (count + 1) arc node label found
@@ -101,7 +109,7 @@ lifted_near limit reach m node count label least cost found room had near small 
 ]
 
 module _ (nodes : ℕ) (arc : ℕ → ℕ → Option ℤ) (end : ℕ) (cap : Option ℤ) (label : ℕ → ℤ) (cell : ℕ → Cell) (waits : ℕ → Bool) (between : AreBetweenNodes nodes arc)
-    (small : AreSmall arc most_cost) (keeps : KeepsArcsOff arc end label) (stopped : IsStopped nodes arc end cap label cell waits) (inside : end < nodes) where
+    (small : AreSmall arc most_cost) (keeps : KeepsArcsOff arc end label) (stopped : IsStopped nodes arc end (seek.Cycle cap) label cell waits) (inside : end < nodes) where
   pub read_negative : cap ≡ Some (pos 0) → (listed : List ℕ) (found : Path) → IsCycleRead cell end cap listed found → AnswersCycle arc end listed found
   read_negative cap_is listed path.None read = (kept_none nodes arc end cap label cell waits between keeps stopped (pos 0) inside cap_is read.0, read.1)
   read_negative cap_is listed (path.Cycle cost count) read = record {
@@ -123,11 +131,11 @@ module _ (nodes : ℕ) (arc : ℕ → ℕ → Option ℤ) (end : ℕ) (cap : Opt
 
   pub read_small : (listed : List ℕ) (found : Path) → IsCycleRead cell end cap listed found → IsAtMost (cost_of found) (nodes * most_cost)
   read_small listed path.None read = record { low = omega (arith, ints); high = omega (arith, ints) }
-  read_small listed (path.Cycle cost count) read = kept_small nodes arc end cap label cell waits between keeps stopped most_cost small end cost inside read.0
+  read_small listed (path.Cycle cost count) read = kept_small nodes arc end (seek.Cycle cap) label cell waits between keeps stopped most_cost small end cost inside read.0
 
   pub kept_room : nodes ≤ most_graph_nodes → HasRoom nodes cell
   kept_room few v within w is =
-      let one = kept_small nodes arc end cap label cell waits between keeps stopped most_cost small v w within is in
+      let one = kept_small nodes arc end (seek.Cycle cap) label cell waits between keeps stopped most_cost small v w within is in
       record { low = omega (arith, ints, one.low, few); high = omega (arith, ints, one.high, few) }
 
   -- the raised labels are near where the labels were
@@ -143,7 +151,7 @@ module _ (nodes : ℕ) (arc : ℕ → ℕ → Option ℤ) (end : ℕ) (cap : Opt
         | inr off ↦ elim ((raised v within).1 off).one [
           | inl e ↦ record { low = omega (arith, ints, e, own.low); high = omega (arith, ints, e, own.high) }
           | inr lack ↦
-              let cost = kept_small nodes arc end cap label cell waits between keeps stopped most_cost small v lack.0 within lack.1 in
+              let cost = kept_small nodes arc end (seek.Cycle cap) label cell waits between keeps stopped most_cost small v lack.0 within lack.1 in
               record {
                 low = omega (arith, ints, lack.2, base.low, gap_small.low, cost.high);
                 high = omega (arith, ints, lack.2, base.high, gap_small.high, cost.low);
@@ -225,20 +233,11 @@ sunk_keeps nodes sink arc label same keeps u v cost off is =
     let inside = some_if (nat_lt u nodes) (if v == nodes then Some (pos 0) else arc u v) cost is in
     keeps u v cost (sym (ap (λ (s : Bool). if s then Some (pos 0) else arc u v) (ne_eqb v nodes (λ e. off (e ∙ sym same)))) ∙ inside.1)
 
--- no walk leads from the sink
-from_sink : (nodes : ℕ) (arc : ℕ → ℕ → Option ℤ) (ws : List ℕ) (w : ℕ) → walk_cost (with_sink nodes arc) nodes ws w ≡ None
-from_sink nodes arc [] w = ap (λ (s : Bool). if s then (if w == nodes then Some (pos 0) else arc nodes w) else None) (le-ltb nodes nodes (omega arith))
-from_sink nodes arc (v ∷ vs) w =
-    ap (λ (o : Option ℤ). both o (walk_cost (with_sink nodes arc) v vs w))
-    (ap (λ (s : Bool). if s then (if v == nodes then Some (pos 0) else arc nodes v) else None) (le-ltb nodes nodes (omega arith)))
-
--- a search to the sink without a cap settles
+-- a search for the walks to the sink settles
 pub sunk_settled : (nodes sink : ℕ) (arc : ℕ → ℕ → Option ℤ) (label : ℕ → ℤ) (cell : ℕ → Cell) (waits : ℕ → Bool) → AreBetweenNodes nodes arc → sink ≡ nodes → KeepsArcs arc label
-    → IsStopped (nodes + 1) (with_sink nodes arc) sink None label cell waits → IsSettled (nodes + 1) (with_sink nodes arc) sink cell
-sunk_settled nodes sink arc label cell waits between same keeps stopped =
-    kept_settled (nodes + 1) (with_sink nodes arc) sink None label cell waits (between-with_sink nodes arc between) (sunk_keeps nodes sink arc label same keeps) stopped refl
-    (sym (stopped.known.leads sink (omega (arith, same))) ∙ subst (λ (s : ℕ). walk_cost (with_sink nodes arc) s (trail cell (cell sink).round sink) sink ≡ None) (sym same)
-    (from_sink nodes arc (trail cell (cell sink).round sink) sink))
+    → IsStopped (nodes + 1) (with_sink nodes arc) sink seek.Walks label cell waits → IsSettled (nodes + 1) (with_sink nodes arc) sink cell
+sunk_settled nodes sink arc label cell waits between same keeps =
+    kept_settled (nodes + 1) (with_sink nodes arc) sink label cell waits (between-with_sink nodes arc between) (sunk_keeps nodes sink arc label same keeps)
 
 -- an arc of the graph with a sink that doesn't end there leads between marked nodes, where all arcs of the graph do
 pub sunk_marked : (nodes sink : ℕ) (arc : ℕ → ℕ → Option ℤ) (marks : List Bool) → AreBetweenNodes nodes arc → sink ≡ nodes

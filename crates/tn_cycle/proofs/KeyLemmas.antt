@@ -6,6 +6,8 @@ use Rattle.std.proofs.lemmas.Option.{none-some, same_Some}
 use Rattle.tn_base.specs.Arcs.{IsAtMost}
 use Rattle.tn_cycle.specs.declared.cell.Cell.{Cell}
 use Rattle.tn_cycle.specs.declared.kept.Near.{Near}
+use Rattle.tn_cycle.specs.declared.kept.Sought.{Sought}
+use Rattle.tn_cycle.specs.declared.kept.Sought.TheVariants as seek
 use Rattle.tn_cycle.specs.Cells.{HasRoom}
 use Rattle.tn_cycle.specs.Widths.{most_label}
 use Rattle.tn_cycle.specs.Kept.{AllArePast, ComesFirst, HasBy, IsNearer, IsNearest, IsNotAfter, IsPast, NoneWaits}
@@ -125,16 +127,18 @@ module _ (label : ℕ → ℤ) (cell : ℕ → Cell) (waits : ℕ → Bool) (v :
         | inr other ↦ earlier best refl u w (omega (arith, inside, other)) u_waits is
       ]
 
+-- what isn't sought isn't where it comes later
+pub past-more : (sought : Sought) (own : Cell) (a : ℤ) (m : ℕ) (b : ℤ) (n : ℕ) → IsPast sought own a m → IsNotAfter a m b n → IsPast sought own b n
+past-more seek.Walks own a m b n past after = past
+past-more (seek.Cycle cap) own a m b n (inl has) after = inl (has_by-more own a m b n has after)
+past-more (seek.Cycle cap) own a m b n (inr capped) after = inr (capped.0, capped.1, omega (arith, ints, capped.2, after.0))
+
 -- where the first of the waiting nodes is past, all are
-pub past_all : (nodes : ℕ) (base : ℤ) (cap : Option ℤ) (label : ℕ → ℤ) (cell : ℕ → Cell) (own : Cell) (waits : ℕ → Bool) (u : ℕ) (key : ℤ) (round : ℕ)
-    → ComesFirst nodes label cell waits u key round → IsPast cap own (key -ℤ base) round → AllArePast nodes base cap label cell own waits
-past_all nodes base cap label cell own waits u key round first past v w inside waiting is =
+pub past_all : (nodes : ℕ) (base : ℤ) (sought : Sought) (label : ℕ → ℤ) (cell : ℕ → Cell) (own : Cell) (waits : ℕ → Bool) (u : ℕ) (key : ℤ) (round : ℕ)
+    → ComesFirst nodes label cell waits u key round → IsPast sought own (key -ℤ base) round → AllArePast nodes base sought label cell own waits
+past_all nodes base sought label cell own waits u key round first past v w inside waiting is =
     let after = first.first v w inside waiting is in
-    elim past [
-      | inl has ↦ inl (has_by-more own (key -ℤ base) round ((w +ℤ label v) -ℤ base) (cell v).round has
-          (omega (arith, ints, after.0), λ back. after.1 (omega (arith, ints, back))))
-      | inr capped ↦ inr (capped.0, capped.1, omega (arith, ints, capped.2, after.0))
-    ]
+    past-more sought own (key -ℤ base) round ((w +ℤ label v) -ℤ base) (cell v).round past (omega (arith, ints, after.0), λ back. after.1 (omega (arith, ints, back)))
 
 -- the key that comes first is far from the limits of its type
 pub first_small : (nodes : ℕ) (label : ℕ → ℤ) (cell : ℕ → Cell) (waits : ℕ → Bool) (u : ℕ) (key : ℤ) (round : ℕ) → HasRoom nodes cell

@@ -20,7 +20,7 @@ use Rattle.tn_cycle.specs.Searched.{IsSettled}
 use Rattle.tn_cycle.specs.Answers.{AreLabels, IsLowest, label_in}
 use Rattle.tn_cycle.proofs.OrderLemmas.{parts}
 use Rattle.tn_cycle.proofs.WalkLemmas.{AreApart, few_apart, avoids-cons, avoids-head, avoids-tail}
-use Rattle.tn_cycle.proofs.RoundLemmas.{led_room}
+use Rattle.tn_cycle.proofs.CellLemmas.{led_room}
 use Rattle.tn_cycle.proofs.GraphLemmas.{to_sink, off_sink, none_off_sink}
 use Rattle.tn_cycle.proofs.SettledLemmas.{led_walk, led_apart, led_once, led_inside}
 

@@ -7,8 +7,6 @@ pub mod ViewLemmas
 pub mod LabelLemmas
 pub mod OrderLemmas
 pub mod WalkLemmas
-pub mod Rounds
-pub mod RoundLemmas
 pub mod DifferenceLemmas
 pub mod KeyLemmas
 pub mod KeptLemmas

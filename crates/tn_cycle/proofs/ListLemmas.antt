@@ -3,6 +3,7 @@ use Rattle.std.proofs.Common.{◌≡◌, ◌≢◌, ℕ, ◌+◌, ◌<◌, ◌�
 use Rattle.std.proofs.lemmas.Bool.{cases_eq, false≢true}
 use Rattle.std.proofs.lemmas.List.{get_or-set_same, get_or-set_other}
 use Rattle.tn_cycle.specs.declared.cell.Cell.{Cell}
+use Rattle.tn_cycle.specs.declared.kept.Sought.{Sought}
 use Rattle.tn_cycle.specs.Cells.{cell_at, no_cell}
 use Rattle.tn_cycle.specs.Kept.{AfterOffer, AllArePast, AreOffered, AreWaiting, ComesFirst, IsNotAfter, IsOffered, IsPast, cell_by, every, label_by, node_at}
 
@@ -134,11 +135,11 @@ module _ (nodes : ℕ) (label : ℕ → ℤ) (cell : ℕ → Cell) (waits : ℕ 
       }
 
   -- where no listed node matters, no waiting one does
-  pub listed_past : (base : ℤ) (cap : Option ℤ) (own : Cell) → AllArePast count base cap (label_by label list) (cell_by cell list) own every
-      → AllArePast nodes base cap label cell own waits
-  listed_past base cap own past v w inside waiting is =
+  pub listed_past : (base : ℤ) (sought : Sought) (own : Cell) → AllArePast count base sought (label_by label list) (cell_by cell list) own every
+      → AllArePast nodes base sought label cell own waits
+  listed_past base sought own past v w inside waiting is =
       let at = lists.all v inside waiting in
-      subst (λ (z : ℕ). IsPast cap own ((w +ℤ label z) -ℤ base) (cell z).round) at.2 (past at.0 w at.1 refl (subst (λ (z : ℕ). (cell z).cost ≡ Some w) (sym at.2) is))
+      subst (λ (z : ℕ). IsPast sought own ((w +ℤ label z) -ℤ base) (cell z).round) at.2 (past at.0 w at.1 refl (subst (λ (z : ℕ). (cell z).cost ≡ Some w) (sym at.2) is))
 
 -- what the listed nodes were offered is what the waiting ones were
 pub listed_after : (nodes : ℕ) (arc : ℕ → ℕ → Option ℤ) (end u : ℕ) (waits : ℕ → Bool) (list : List ℕ) (count : ℕ) (cell new : ℕ → Cell) → AreWaiting nodes waits list count

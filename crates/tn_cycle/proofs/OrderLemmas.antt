@@ -3,11 +3,7 @@ use Rattle.std.proofs.Common.{◌≡◌, refl, ap, arith, ℤ, ◌+ℤ◌, Optio
 use Rattle.std.proofs.lemmas.Int.{ints}
 use Rattle.std.proofs.lemmas.Option.{none-some, same_Some}
 use Rattle.tn_base.specs.Options.{both}
-use Rattle.tn_cycle.specs.Order.{IsUpTo, IsBelow}
-
-pub up_to_itself : (a : Option ℤ) → IsUpTo a a
-up_to_itself None = tt
-up_to_itself (Some a) = omega (arith, ints)
+use Rattle.tn_cycle.specs.Order.{IsUpTo}
 
 pub up_to-trans : (a b c : Option ℤ) → IsUpTo a b → IsUpTo b c → IsUpTo a c
 up_to-trans None b None p q = tt
@@ -16,45 +12,6 @@ up_to-trans None None (Some c) p q = q
 up_to-trans None (Some b) (Some c) p q = p
 up_to-trans (Some a) None (Some c) p q = absurd q
 up_to-trans (Some a) (Some b) (Some c) p q = omega (arith, ints, p, q)
-
-pub below_up_to : (a b : Option ℤ) → IsBelow a b → IsUpTo a b
-below_up_to None b p = absurd p
-below_up_to (Some a) None p = tt
-below_up_to (Some a) (Some b) p = omega (arith, ints, p)
-
-pub below-up_to : (a b c : Option ℤ) → IsBelow a b → IsUpTo b c → IsBelow a c
-below-up_to None b c p q = absurd p
-below-up_to (Some a) b None p q = tt
-below-up_to (Some a) None (Some c) p q = absurd q
-below-up_to (Some a) (Some b) (Some c) p q = omega (arith, ints, p, q)
-
-pub up_to-below : (a b c : Option ℤ) → IsUpTo a b → IsBelow b c → IsBelow a c
-up_to-below a None c p q = absurd q
-up_to-below None (Some b) c p q = absurd p
-up_to-below (Some a) (Some b) None p q = tt
-up_to-below (Some a) (Some b) (Some c) p q = omega (arith, ints, p, q)
-
--- nothing is below what is at most it
-pub not_below : (a b : Option ℤ) → IsBelow a b → IsUpTo b a → ⊥
-not_below None b p q = p
-not_below (Some a) None p q = q
-not_below (Some a) (Some b) p q = omega (arith, ints, p, q)
-
-pub below_some : (a b : Option ℤ) → IsBelow a b → (x : ℤ) × (a ≡ Some x)
-below_some None b p = absurd p
-below_some (Some a) b p = (a, refl)
-
-pub both-up_to : (a b c : Option ℤ) → IsUpTo b c → IsUpTo (both a b) (both a c)
-both-up_to None b c p = tt
-both-up_to (Some a) None None p = tt
-both-up_to (Some a) (Some b) None p = tt
-both-up_to (Some a) None (Some c) p = absurd p
-both-up_to (Some a) (Some b) (Some c) p = omega (arith, ints, p)
-
-pub both-below : (a : ℤ) (b c : Option ℤ) → IsBelow b c → IsBelow (both (Some a) b) (both (Some a) c)
-both-below a None c p = absurd p
-both-below a (Some b) None p = tt
-both-below a (Some b) (Some c) p = omega (arith, ints, p)
 
 -- the two parts of a sum
 pub record Parts (a b : Option ℤ) (sum : ℤ) : Type 0 where

@@ -1,5 +1,5 @@
 -- What the cells of a search say once it has settled.
-use Rattle.std.proofs.Common.{◌≡◌, ◌≢◌, ℕ, ◌<◌, refl, ◌∙◌, subst, arith, inl, inr, [], length, ℤ, Option, Some, None, Bool, true, false}
+use Rattle.std.proofs.Common.{◌≡◌, ◌≢◌, ℕ, ◌<◌, refl, ◌∙◌, subst, arith, inl, inr, [], length, ℤ, Option, Some, None}
 use Rattle.std.specs.Prelude.{All}
 use Rattle.std.proofs.lemmas.Int.{ints}
 use Rattle.std.proofs.lemmas.Bool.{cases_lt}
@@ -50,8 +50,3 @@ module _ (nodes : ℕ) (arc : ℕ → ℕ → Option ℤ) (end : ℕ) (cell : �
             let e : 0 ≡ (cell v).round = omega (arith, first) in
             subst (λ (k : ℕ). All (λ u. u < nodes) (trail cell k v)) e (All-nil (λ u. u < nodes))
       ]
-
--- a search settles where no closed walk off its end is negative
-pub settles : {S N : Type 0} (result : Bool) → (result ≡ true → S) → (result ≡ false → N → ⊥) → N → S
-settles true yes_then no_then none = yes_then refl
-settles false yes_then no_then none = absurd (no_then refl none)

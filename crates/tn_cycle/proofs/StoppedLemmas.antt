@@ -8,20 +8,16 @@ use Rattle.std.proofs.lemmas.List.Elements.{All-weaker}
 use Rattle.tn_base.specs.Arcs.{AreBetweenNodes, AreSmall, IsAtMost}
 use Rattle.tn_base.specs.Walks.{walk_cost, Avoids, AreDifferent, CyclesCostAtLeast, IsLeastCycle, IsUnreached, KeepsArcsEntering}
 use Rattle.tn_cycle.specs.declared.cell.Cell.{Cell}
+use Rattle.tn_cycle.specs.declared.kept.Sought.{Sought}
+use Rattle.tn_cycle.specs.declared.kept.Sought.TheVariants as seek
 use Rattle.tn_cycle.specs.Order.{IsUpTo, IsBelow}
 use Rattle.tn_cycle.specs.Cells.{trail}
 use Rattle.tn_cycle.specs.Searched.{HasNoNegativeCycleOff, IsSettled}
-use Rattle.tn_cycle.specs.Kept.{AreRaised, HasBy, IsCapped, IsCounted, IsNotAfter, IsPast, IsStopped, KeepsArcsOff}
+use Rattle.tn_cycle.specs.Kept.{AreRaised, HasBy, IsCapped, IsCounted, IsPast, IsStopped, KeepsArcsOff}
 use Rattle.tn_cycle.proofs.OrderLemmas.{parts, up_to_none}
 use Rattle.tn_cycle.proofs.ReadLemmas.{length-trail}
-use Rattle.tn_cycle.proofs.RoundLemmas.{walk_small}
-use Rattle.tn_cycle.proofs.WalkLemmas.{AreApart, IsShortened, apart_or_shortened, avoids-head, avoids-tail, different_from_apart, found_or_not, walk_parts}
-use Rattle.tn_cycle.proofs.KeyLemmas.{has_by-more, same_cost}
-
--- a cost past the end's own or past the cap stays so where it comes later
-past-more : (cap : Option ℤ) (own : Cell) (a : ℤ) (m : ℕ) (b : ℤ) (n : ℕ) → IsPast cap own a m → IsNotAfter a m b n → IsPast cap own b n
-past-more cap own a m b n (inl has) after = inl (has_by-more own a m b n has after)
-past-more cap own a m b n (inr capped) after = inr (capped.0, capped.1, omega (arith, ints, capped.2, after.0))
+use Rattle.tn_cycle.proofs.WalkLemmas.{AreApart, IsShortened, apart_or_shortened, avoids-head, avoids-tail, different_from_apart, found_or_not, walk_parts, walk_small}
+use Rattle.tn_cycle.proofs.KeyLemmas.{has_by-more, past-more, same_cost}
 
 -- labels that keep the arcs off t bound the walks off t
 walk_kept_off : (arc : ℕ → ℕ → Option ℤ) (t : ℕ) (label : ℕ → ℤ) → KeepsArcsOff arc t label → (u : ℕ) (vs : List ℕ) (w : ℕ) (cost : ℤ) → Avoids t vs → w ≢ t
@@ -38,11 +34,11 @@ pub none_off_kept : (arc : ℕ → ℕ → Option ℤ) (t : ℕ) (label : ℕ �
 none_off_kept arc t label keeps u vs cost off avoids walk =
     let round : label u ≤ℤ (label u +ℤ cost) = walk_kept_off arc t label keeps u vs u cost avoids off walk in omega (arith, ints, round)
 
-module _ (nodes : ℕ) (arc : ℕ → ℕ → Option ℤ) (end : ℕ) (cap : Option ℤ) (label : ℕ → ℤ) (cell : ℕ → Cell) (waits : ℕ → Bool) (between : AreBetweenNodes nodes arc)
-    (keeps : KeepsArcsOff arc end label) (stopped : IsStopped nodes arc end cap label cell waits) where
+module _ (nodes : ℕ) (arc : ℕ → ℕ → Option ℤ) (end : ℕ) (sought : Sought) (label : ℕ → ℤ) (cell : ℕ → Cell) (waits : ℕ → Bool) (between : AreBetweenNodes nodes arc)
+    (keeps : KeepsArcsOff arc end label) (stopped : IsStopped nodes arc end sought label cell waits) where
   -- no cell is after a walk, unless that can't matter
   walks : (v : ℕ) (ws : List ℕ) (cost : ℤ) → v < nodes → Avoids end ws → walk_cost arc v ws end ≡ Some cost
-      → HasBy (cell v) cost (length ws) ⊎ IsPast cap (cell end) ((cost +ℤ label v) -ℤ label end) (length ws)
+      → HasBy (cell v) cost (length ws) ⊎ IsPast sought (cell end) ((cost +ℤ label v) -ℤ label end) (length ws)
   walks v [] cost inside avoids walk = inl (stopped.known.first v cost inside walk)
   walks v (u ∷ us) cost inside avoids walk =
       let two = parts (arc v u) (walk_cost arc u us end) cost walk in
@@ -50,12 +46,12 @@ module _ (nodes : ℕ) (arc : ℕ → ℕ → Option ℤ) (end : ℕ) (cap : Opt
       let node : u < nodes = (between v u two.first two.first_is).1 in
       let kept : label u ≤ℤ (label v +ℤ two.first) = keeps v u two.first off two.first_is in
       elim (walks u us two.second node (avoids-tail end u us avoids) two.second_is) [
-        | inr past ↦ inr (past-more cap (cell end) ((two.second +ℤ label u) -ℤ label end) (length us) ((cost +ℤ label v) -ℤ label end) (suc (length us)) past
+        | inr past ↦ inr (past-more sought (cell end) ((two.second +ℤ label u) -ℤ label end) (length us) ((cost +ℤ label v) -ℤ label end) (suc (length us)) past
             (omega (arith, ints, kept, two.sum_is), λ back. omega arith))
         | inl has ↦ elim (cases_Bool (waits u)) [
           | inl waiting ↦
               let ahead : has.least ≤ℤ two.second = has.before.0 in
-              inr (past-more cap (cell end) ((has.least +ℤ label u) -ℤ label end) (cell u).round ((cost +ℤ label v) -ℤ label end) (suc (length us))
+              inr (past-more sought (cell end) ((has.least +ℤ label u) -ℤ label end) (cell u).round ((cost +ℤ label v) -ℤ label end) (suc (length us))
               (stopped.past u has.least node waiting has.is)
               (omega (arith, ints, kept, two.sum_is, ahead), λ back. let fewer : (cell u).round ≤ length us = has.before.1 (omega (arith, ints, back, kept, two.sum_is)) in omega (arith, fewer)))
           | inr shut ↦
@@ -65,13 +61,24 @@ module _ (nodes : ℕ) (arc : ℕ → ℕ → Option ℤ) (end : ℕ) (cap : Opt
         ]
       ]
 
+  -- the cost of a cell, by the number of nodes
+  pub kept_small : (limit : ℕ) → AreSmall arc limit → (v : ℕ) (w : ℤ) → v < nodes → (cell v).cost ≡ Some w → IsAtMost w (nodes * limit)
+  kept_small limit small v w inside is =
+      let whole = walk_small arc limit small v (trail cell (cell v).round v) end w (stopped.known.leads v inside ∙ is) in
+      let size : length (trail cell (cell v).round v) ≡ (cell v).round = length-trail cell (cell v).round v in
+      let short : length (trail cell (cell v).round v) + 1 ≤ nodes = omega (arith, size, stopped.known.few v inside, stopped.fewer) in
+      let more : (length (trail cell (cell v).round v) + 1) * limit ≤ nodes * limit = mul-le-mul_right limit short in
+      record { low = omega (arith, ints, whole.low, more); high = omega (arith, ints, whole.high, more) }
+
+module _ (nodes : ℕ) (arc : ℕ → ℕ → Option ℤ) (end : ℕ) (cap : Option ℤ) (label : ℕ → ℤ) (cell : ℕ → Cell) (waits : ℕ → Bool) (between : AreBetweenNodes nodes arc)
+    (keeps : KeepsArcsOff arc end label) (stopped : IsStopped nodes arc end (seek.Cycle cap) label cell waits) where
   -- the end's own walk isn't after another one, unless that doesn't count
   end_walks : end < nodes → (ws : List ℕ) (cost : ℤ) → Avoids end ws → walk_cost arc end ws end ≡ Some cost → HasBy (cell end) cost (length ws) ⊎ IsCapped cap cost
   end_walks inside ws cost avoids walk =
       let same : (cost +ℤ label end) -ℤ label end ≡ cost = omega (arith, ints) in
-      elim (walks end ws cost inside avoids walk) [
+      elim (walks nodes arc end (seek.Cycle cap) label cell waits between keeps stopped end ws cost inside avoids walk) [
         | inl has ↦ inl has
-        | inr past ↦ subst (λ (z : ℤ). IsPast cap (cell end) z (length ws)) same past
+        | inr past ↦ subst (λ (z : ℤ). IsPast (seek.Cycle cap) (cell end) z (length ws)) same past
       ]
 
   along : end < nodes → Avoids end (trail cell (cell end).round end)
@@ -211,18 +218,11 @@ module _ (nodes : ℕ) (arc : ℕ → ℕ → Option ℤ) (end : ℕ) (cap : Opt
             ]
           ]
 
-  -- the cost of a cell, by the number of nodes
-  pub kept_small : (limit : ℕ) → AreSmall arc limit → (v : ℕ) (w : ℤ) → v < nodes → (cell v).cost ≡ Some w → IsAtMost w (nodes * limit)
-  kept_small limit small v w inside is =
-      let whole = walk_small arc limit small v (trail cell (cell v).round v) end w (stopped.known.leads v inside ∙ is) in
-      let size : length (trail cell (cell v).round v) ≡ (cell v).round = length-trail cell (cell v).round v in
-      let short : length (trail cell (cell v).round v) + 1 ≤ nodes = omega (arith, size, stopped.known.few v inside, stopped.fewer) in
-      let more : (length (trail cell (cell v).round v) + 1) * limit ≤ nodes * limit = mul-le-mul_right limit short in
-      record { low = omega (arith, ints, whole.low, more); high = omega (arith, ints, whole.high, more) }
-
-  -- where nothing stops it, it has settled
-  pub kept_settled : cap ≡ None → (cell end).cost ≡ None → IsSettled nodes arc end cell
-  kept_settled uncapped unreached = record {
+module _ (nodes : ℕ) (arc : ℕ → ℕ → Option ℤ) (end : ℕ) (label : ℕ → ℤ) (cell : ℕ → Cell) (waits : ℕ → Bool) (between : AreBetweenNodes nodes arc)
+    (keeps : KeepsArcsOff arc end label) (stopped : IsStopped nodes arc end seek.Walks label cell waits) where
+  -- where the walks are sought, it has settled
+  pub kept_settled : IsSettled nodes arc end cell
+  kept_settled = record {
     least = λ v ws inside avoids. least v ws inside avoids (walk_cost arc v ws end) refl;
     fewest = λ v ws inside avoids fewer. fewest v ws inside avoids fewer (walk_cost arc v ws end) refl;
     leads = stopped.known.leads;
@@ -230,16 +230,10 @@ module _ (nodes : ℕ) (arc : ℕ → ℕ → Option ℤ) (end : ℕ) (cap : Opt
     few = λ v inside. omega (arith, stopped.known.few v inside, stopped.fewer);
   }
     where
-      never_past : (cost : ℤ) (inner : ℕ) → IsPast cap (cell end) cost inner → ⊥
-      never_past cost inner past = elim past [
-        | inl has ↦ none-some has.least (sym unreached ∙ has.is)
-        | inr capped ↦ none-some capped.0 (sym uncapped ∙ capped.1)
-      ]
-
       has_by : (v : ℕ) (ws : List ℕ) (cost : ℤ) → v < nodes → Avoids end ws → walk_cost arc v ws end ≡ Some cost → HasBy (cell v) cost (length ws)
-      has_by v ws cost inside avoids walk = elim (walks v ws cost inside avoids walk) [
+      has_by v ws cost inside avoids walk = elim (walks nodes arc end seek.Walks label cell waits between keeps stopped v ws cost inside avoids walk) [
         | inl has ↦ has
-        | inr past ↦ absurd (never_past ((cost +ℤ label v) -ℤ label end) (length ws) past)
+        | inr past ↦ absurd past
       ]
 
       least : (v : ℕ) (ws : List ℕ) → v < nodes → Avoids end ws → (o : Option ℤ) → walk_cost arc v ws end ≡ o → IsUpTo (cell v).cost o

@@ -1,5 +1,5 @@
 -- Walks in the graph turned round.
-use Rattle.std.proofs.Common.{◌≡◌, ◌≢◌, ℕ, ◌<◌, refl, sym, ap, ◌∙◌, subst, arith, inl, inr, List, [], ◌∷◌, ◌++◌, ℤ, pos, ◌≤ℤ◌, Option, Some, None, true, false, Bool}
+use Rattle.std.proofs.Common.{◌≡◌, ◌≢◌, ℕ, ◌<◌, refl, sym, ap, ◌∙◌, subst, arith, inl, inr, List, [], ◌∷◌, ◌++◌, ℤ, pos, neg_ℤ, ◌+ℤ◌, ◌≤ℤ◌, Option, Some, None, true, false, Bool}
 use Rattle.std.specs.Prelude.{reverse}
 use Rattle.std.proofs.lemmas.Int.{ints}
 use Rattle.std.proofs.lemmas.Bool.{cases_eq}
@@ -7,7 +7,7 @@ use Rattle.std.proofs.lemmas.List.{reverse-append}
 use Rattle.std.proofs.lemmas.List.Elements.{All-nil}
 use Rattle.tn_base.specs.Arcs.{AreBetweenNodes}
 use Rattle.tn_base.specs.Options.{both}
-use Rattle.tn_base.specs.Walks.{walk_cost, Avoids, HasNoNegativeCycle, IsLeastWalk}
+use Rattle.tn_base.specs.Walks.{walk_cost, Avoids, HasNoNegativeCycle, IsLeastWalk, KeepsArcs}
 use Rattle.tn_cycle.specs.declared.cell.Cell.{Cell}
 use Rattle.tn_cycle.specs.Order.{IsUpTo}
 use Rattle.tn_cycle.specs.Cells.{trail}
@@ -31,8 +31,9 @@ walk_cost-turned arc u (v ∷ vs) w =
     ∙ sym (walk_cost-through arc w (reverse vs) v [] u)
     ∙ ap (λ (xs : List ℕ). walk_cost arc w xs u) (sym (reverse-cons v vs))
 
-pub none_negative-turned : (arc : ℕ → ℕ → Option ℤ) → HasNoNegativeCycle arc → HasNoNegativeCycle (turned arc)
-none_negative-turned arc none u vs cost walk = none u (reverse vs) cost (sym (walk_cost-turned arc u vs u) ∙ walk)
+-- the negatives of labels keep the arcs turned round
+pub keeps-turned : (arc : ℕ → ℕ → Option ℤ) (label : ℕ → ℤ) → KeepsArcs arc label → KeepsArcs (turned arc) (λ v. neg_ℤ (label v))
+keeps-turned arc label keeps u v cost is = let kept : label u ≤ℤ (label v +ℤ cost) = keeps v u cost is in omega (arith, ints, kept)
 
 avoids-reverse : (t : ℕ) (xs : List ℕ) → Avoids t xs → Avoids t (reverse xs)
 avoids-reverse t [] h = h

@@ -1,16 +1,20 @@
 -- What the finder's parts let be read.
-use Rattle.std.proofs.Common.{◌≡◌, ℕ, ◌+◌, ◌<◌, ◌≤◌, sym, ap, ◌∙◌, subst, arith, List, ◌++◌, length, take, drop, ℤ, Option, None, Bool}
+use Rattle.std.proofs.Common.{◌≡◌, ℕ, ◌+◌, ◌<◌, ◌≤◌, sym, ap, ◌∙◌, subst, arith, List, ◌++◌, length, take, drop, ℤ, ◌+ℤ◌, ◌≤ℤ◌, Option, None, Bool}
 use Rattle.std.proofs.lemmas.List.{take_all, length-take}
 use Rattle.std.proofs.lemmas.List.Elements.{All-weaker}
 use Rattle.std.proofs.lemmas.List.FromFn.{get_or-map-range_with_len, length-map-range_with_len}
-use Rattle.tn_base.specs.Arcs.{AreBetweenNodes}
-use Rattle.tn_base.specs.Walks.{HasNoNegativeCycle}
+use Rattle.std.proofs.lemmas.Int.{ints}
+use Rattle.tn_base.specs.Arcs.{AreBetweenNodes, IsAtMost}
+use Rattle.tn_base.specs.Walks.{HasNoNegativeCycle, KeepsArcs}
 use Rattle.tn_cycle.specs.declared.cell.Cell.{Cell}
 use Rattle.tn_cycle.specs.declared.finder.Finder.TheInside.{Inside}
 use Rattle.tn_cycle.specs.Cells.{cell_at, trail}
 use Rattle.tn_cycle.specs.Searched.{IsSettled}
 use Rattle.tn_cycle.specs.Reading.{HasPlaces, IsListable, Reading, reading_of, walk_nodes}
-use Rattle.tn_cycle.specs.Answers.{LeadsAlong, distance_in, walk_in}
+use Rattle.tn_cycle.specs.Answers.{AreNear, LeadsAlong, distance_in, label_in, walk_in}
+use Rattle.tn_cycle.specs.Kept.{signed}
+use Rattle.tn_cycle.specs.Widths.{most_label}
+use Rattle.tn_cycle.proofs.KeptCycleLemmas.{signed_near}
 use Rattle.tn_cycle.proofs.ReadLemmas.{front-written}
 use Rattle.tn_cycle.proofs.SettledLemmas.{led_inside}
 use Rattle.tn_cycle.proofs.TurnLemmas.{leads_along}
@@ -24,6 +28,36 @@ written-back written old places whole =
         → take places (take places (written ++ drop (length written) old)) ≡ take places (written ++ drop (length written) old)
     take-all-twice written old places whole = take_all places (take places (written ++ drop (length written) old))
         (omega (arith, length-take places (written ++ drop (length written) old)))
+
+-- a list that was written whole is read whole
+pub whole-read : {A : Type 0} (written old : List A) (count places : ℕ) → length written ≡ places → count ≡ places
+    → take count (take places (written ++ drop (length written) old)) ≡ written
+whole-read written old count places whole all =
+    front-written written (drop (length written) old) count places (omega (arith, all)) (omega (arith, whole, all)) ∙ take_all count written (omega (arith, whole, all))
+
+-- all labels are read off the finder, where there is one for each place
+pub all-read : (f : Inside) (now : Reading) → reading_of f.nodes f.count f.path.items f.labelled f.labels.items f.reached f.turns f.end f.row.items ≡ now
+    → length f.labels.items ≤ length now.labels → now.labels ≡ f.labels.items
+all-read f now view many =
+    let is : take f.labelled f.labels.items ≡ now.labels = ap (λ (reading : Reading). reading.labels) view in
+    let size : length (take f.labelled f.labels.items) ≡ length now.labels = ap length is in
+    sym is ∙ take_all f.labelled f.labels.items (omega (arith, many, size, length-take f.labelled f.labels.items))
+
+-- labels, or their negatives, that were written
+pub signed_near_all : (negates : Bool) (old new : List ℤ) → length new ≡ length old → AreNear most_label old
+    → ((v : ℕ) → v < length old → label_in new v ≡ signed negates (label_in old v)) → AreNear most_label new
+signed_near_all negates old new sized near are v inside =
+    let places : v < length old = omega (arith, inside, sized) in
+    subst (λ (z : ℤ). IsAtMost z most_label) (sym (are v places)) (signed_near negates (label_in old v) most_label (near v places))
+
+pub signed_keep : (negates : Bool) (nodes : ℕ) (arc : ℕ → ℕ → Option ℤ) (old new : List ℤ) → AreBetweenNodes nodes arc → nodes ≡ length old
+    → ((v : ℕ) → v < length old → label_in new v ≡ signed negates (label_in old v)) → KeepsArcs arc (λ v. signed negates (label_in old v)) → KeepsArcs arc (label_in new)
+signed_keep negates nodes arc old new between sized are keeps u v cost is =
+    let two = between u v cost is in
+    let first : label_in new u ≡ signed negates (label_in old u) = are u (omega (arith, two.0, sized)) in
+    let second : label_in new v ≡ signed negates (label_in old v) = are v (omega (arith, two.1, sized)) in
+    let kept : signed negates (label_in old v) ≤ℤ (signed negates (label_in old u) +ℤ cost) = keeps u v cost is in
+    omega (arith, ints, first, second, kept)
 
 -- the cost and the walk of a node
 pub distance-read : (nodes count : ℕ) (path : List ℕ) (labelled : ℕ) (labels : List ℤ) (reached : ℕ) (turns : Bool) (end : ℕ) (row : List Cell) (v : ℕ) → v < reached
@@ -70,15 +104,14 @@ reads_along turns nodes arc end path labels row between none found v inside =
     (leads_along nodes arc end (cell_at row) between none found turns v inside))
 
 -- the finder keeps its places where others of its cells may be read
-pub places_kept : (nodes count labelled reached path labels row_places after_places waits : ℕ) (row : List Cell) (count' labelled' reached' : ℕ) (row' : List Cell)
-    → HasPlaces nodes count labelled reached path labels row_places after_places waits row → count' ≤ nodes + 2 → labelled' ≤ nodes → reached' ≤ nodes
+pub places_kept : (nodes count labelled reached path labels row_places waits : ℕ) (row : List Cell) (count' labelled' reached' : ℕ) (row' : List Cell)
+    → HasPlaces nodes count labelled reached path labels row_places waits row → count' ≤ nodes + 2 → labelled' ≤ nodes → reached' ≤ nodes
     → ((v : ℕ) → v < reached' → IsListable (nodes + 2) row' v)
-    → HasPlaces nodes count' labelled' reached' path labels row_places after_places waits row'
-places_kept nodes count labelled reached path labels row_places after_places waits row count' labelled' reached' row' had few few_labels few_walks listable = record {
+    → HasPlaces nodes count' labelled' reached' path labels row_places waits row'
+places_kept nodes count labelled reached path labels row_places waits row count' labelled' reached' row' had few few_labels few_walks listable = record {
   some = had.some;
   not_many = had.not_many;
   row_sized = had.row_sized;
-  after_sized = had.after_sized;
   waits_sized = had.waits_sized;
   path_sized = had.path_sized;
   labels_sized = had.labels_sized;

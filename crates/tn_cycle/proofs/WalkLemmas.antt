@@ -1,5 +1,5 @@
 -- Walks: joining, cutting, and how long one need be.
-use Rattle.std.proofs.Common.{◌≡◌, ◌≢◌, ℕ, zero, suc, ◌<◌, ◌≤◌, refl, sym, ap, ◌∙◌, subst, arith, inl, inr, ◌⊎◌, List, [], ◌∷◌, ◌++◌, length, ℤ, pos, ◌+ℤ◌, ◌≤ℤ◌, Option, Some, true, false, eqb}
+use Rattle.std.proofs.Common.{◌≡◌, ◌≢◌, ℕ, zero, suc, ◌+◌, ◌*◌, ◌<◌, ◌≤◌, refl, sym, ap, ◌∙◌, subst, arith, inl, inr, ◌⊎◌, List, [], ◌∷◌, ◌++◌, length, ℤ, pos, ◌+ℤ◌, ◌≤ℤ◌, Option, Some, true, false, eqb}
 use Rattle.std.specs.Prelude.{All, slice_get}
 use Rattle.std.specs.List.{IsDistinct, list_any}
 use Rattle.std.proofs.lemmas.Int.{ints}
@@ -8,7 +8,7 @@ use Rattle.std.proofs.lemmas.Option.{none-some, same_Some, slice_get_within, sli
 use Rattle.std.proofs.lemmas.List.{length-append}
 use Rattle.std.proofs.lemmas.List.Elements.{All-nil, All-cons, All-head, All-tail, All-append, All-weaker, recursion_from_All}
 use Rattle.std.proofs.lemmas.Map.Steps.{length-le_from_distinct_below}
-use Rattle.tn_base.specs.Arcs.{AreBetweenNodes}
+use Rattle.tn_base.specs.Arcs.{AreBetweenNodes, AreSmall, IsAtMost}
 use Rattle.tn_base.specs.Options.{both}
 use Rattle.tn_base.specs.Walks.{walk_cost, Avoids, AreDifferent}
 use Rattle.tn_cycle.specs.Searched.{HasNoNegativeCycleOff}
@@ -180,24 +180,20 @@ apart_or_shortened arc t none v (u ∷ us) cost avoids walk =
       no_more = omega (arith, ints, short.no_more, two.sum_is);
     }
 
--- a walk without a node twice that costs no more
-pub record IsCutApart (arc : ℕ → ℕ → Option ℤ) (t v : ℕ) (cost : ℤ) : Type 0 where
-  pub nodes : List ℕ
-  pub less : ℤ
-  pub walk : walk_cost arc v nodes t ≡ Some less
-  pub avoids : Avoids t nodes
-  pub apart : AreApart nodes
-  pub no_more : less ≤ℤ cost
-
-pub cut_apart : (arc : ℕ → ℕ → Option ℤ) (t : ℕ) → HasNoNegativeCycleOff arc t → (fuel v : ℕ) (us : List ℕ) (cost : ℤ) → length us < fuel → Avoids t us
-    → walk_cost arc v us t ≡ Some cost → IsCutApart arc t v cost
-cut_apart arc t none zero v us cost short avoids walk = absurd (omega (arith, short))
-cut_apart arc t none (suc fuel) v us cost short avoids walk = elim (apart_or_shortened arc t none v us cost avoids walk) [
-  | inl apart ↦ record { nodes = us; less = cost; walk = walk; avoids = avoids; apart = apart; no_more = omega (arith, ints) }
-  | inr shorter ↦
-      let rest = cut_apart arc t none fuel v shorter.nodes shorter.less (omega (arith, short, shorter.fewer)) shorter.avoids shorter.walk in
-      record { nodes = rest.nodes; less = rest.less; walk = rest.walk; avoids = rest.avoids; apart = rest.apart; no_more = omega (arith, ints, rest.no_more, shorter.no_more) }
-]
+-- the cost of a walk, by the number of its arcs
+pub walk_small : (arc : ℕ → ℕ → Option ℤ) (m : ℕ) → AreSmall arc m → (u : ℕ) (vs : List ℕ) (w : ℕ) (cost : ℤ) → walk_cost arc u vs w ≡ Some cost
+    → IsAtMost cost ((length vs + 1) * m)
+walk_small arc m small u [] w cost walk =
+    let one = small u w cost walk in
+    record { low = omega (arith, ints, one.low); high = omega (arith, ints, one.high) }
+walk_small arc m small u (v ∷ vs) w cost walk =
+    let two = parts (arc u v) (walk_cost arc v vs w) cost walk in
+    let one = small u v two.first two.first_is in
+    let rest = walk_small arc m small v vs w two.second two.second_is in
+    record {
+      low = omega (arith, ints, one.low, rest.low, two.sum_is);
+      high = omega (arith, ints, one.high, rest.high, two.sum_is);
+    }
 
 -- two graphs that agree off t have the same walks there
 pub walk_cost-same_off : (arc other : ℕ → ℕ → Option ℤ) (t : ℕ) → ((a b : ℕ) → a ≢ t → b ≢ t → arc a b ≡ other a b) → (u : ℕ) (vs : List ℕ) (w : ℕ)

@@ -4,6 +4,8 @@ use Rattle.tn_base.specs.Options.{both}
 use Rattle.tn_base.specs.Walks.{is_admitted, walk_cost}
 use Rattle.tn_cycle.specs.declared.cell.Cell.{Cell}
 use Rattle.tn_cycle.specs.declared.kept.Near.{Near}
+use Rattle.tn_cycle.specs.declared.kept.Sought.{Sought}
+use Rattle.tn_cycle.specs.declared.kept.Sought.TheVariants as seek
 use Rattle.tn_cycle.specs.declared.answer.Path.{Path}
 use Rattle.tn_cycle.specs.declared.answer.Path.TheVariants as path
 use Rattle.tn_cycle.specs.Cells.{trail}
@@ -59,9 +61,10 @@ pub record HasBy (own : Cell) (cost : ℤ) (inner : ℕ) : Type 0 where
 abbrev pub IsCapped : Option ℤ → ℤ → Type 0
 IsCapped cap cost = (most : ℤ) × (cap ≡ Some most) × (most ≤ℤ cost)
 
--- a walk from the end to itself of this cost is no better than the end's own, or doesn't count
-abbrev pub IsPast : Option ℤ → Cell → ℤ → ℕ → Type 0
-IsPast cap own cost inner = HasBy own cost inner ⊎ IsCapped cap cost
+-- a walk from the end to itself of this cost isn't sought: it is no better than the end's own, or doesn't count
+abbrev pub IsPast : Sought → Cell → ℤ → ℕ → Type 0
+IsPast seek.Walks own cost inner = ⊥
+IsPast (seek.Cycle cap) own cost inner = HasBy own cost inner ⊎ IsCapped cap cost
 
 -- which of the best node so far and another one's walk comes first
 pub record IsNearer (best : Option Near) (place : ℕ) (own : Cell) (label : ℤ) (found : Option Near) : Type 0 where
@@ -88,13 +91,13 @@ IsNearest nodes label cell waits None = NoneWaits nodes cell waits
 IsNearest nodes label cell waits (Some near) = ComesFirst nodes label cell waits near.place near.key near.round
 
 -- no node that waits matters
-abbrev pub AllArePast : ℕ → ℤ → Option ℤ → (ℕ → ℤ) → (ℕ → Cell) → Cell → (ℕ → Bool) → Type 0
-AllArePast nodes base cap label cell own waits =
-    (v : ℕ) (w : ℤ) → v < nodes → waits v ≡ true → (cell v).cost ≡ Some w → IsPast cap own ((w +ℤ label v) -ℤ base) (cell v).round
+abbrev pub AllArePast : ℕ → ℤ → Sought → (ℕ → ℤ) → (ℕ → Cell) → Cell → (ℕ → Bool) → Type 0
+AllArePast nodes base sought label cell own waits =
+    (v : ℕ) (w : ℤ) → v < nodes → waits v ≡ true → (cell v).cost ≡ Some w → IsPast sought own ((w +ℤ label v) -ℤ base) (cell v).round
 
-abbrev pub IsNext : ℕ → ℤ → Option ℤ → (ℕ → ℤ) → (ℕ → Cell) → Cell → (ℕ → Bool) → Option ℕ → Type 0
-IsNext nodes base cap label cell own waits None = AllArePast nodes base cap label cell own waits
-IsNext nodes base cap label cell own waits (Some u) = (key : ℤ) × (round : ℕ) × ComesFirst nodes label cell waits u key round
+abbrev pub IsNext : ℕ → ℤ → Sought → (ℕ → ℤ) → (ℕ → Cell) → Cell → (ℕ → Bool) → Option ℕ → Type 0
+IsNext nodes base sought label cell own waits None = AllArePast nodes base sought label cell own waits
+IsNext nodes base sought label cell own waits (Some u) = (key : ℤ) × (round : ℕ) × ComesFirst nodes label cell waits u key round
 
 -- a cell goes on over u, whose own cell is the one beyond
 pub record GoesOver (first : Option ℤ) (beyond : Cell) (u : ℕ) (new : Cell) : Type 0 where
@@ -138,11 +141,11 @@ pub record IsUnderWay (nodes : ℕ) (arc : ℕ → ℕ → Option ℤ) (end : �
   pub few : (v : ℕ) → v < nodes → (cell v).round ≤ settled
 
 -- a search that has stopped, as no node that waits matters
-pub record IsStopped (nodes : ℕ) (arc : ℕ → ℕ → Option ℤ) (end : ℕ) (cap : Option ℤ) (label : ℕ → ℤ) (cell : ℕ → Cell) (waits : ℕ → Bool) : Type 0 where
+pub record IsStopped (nodes : ℕ) (arc : ℕ → ℕ → Option ℤ) (end : ℕ) (sought : Sought) (label : ℕ → ℤ) (cell : ℕ → Cell) (waits : ℕ → Bool) : Type 0 where
   pub settled : ℕ
   pub fewer : settled < nodes
   pub known : IsUnderWay nodes arc end label cell waits settled
-  pub past : AllArePast nodes (label end) cap label cell (cell end) waits
+  pub past : AllArePast nodes (label end) sought label cell (cell end) waits
 
 -- a label after it was raised: at least what it was and what a cost lacks to the limit, and one of the two
 pub record IsRaised (label : ℤ) (cost : Option ℤ) (limit new : ℤ) : Type 0 where

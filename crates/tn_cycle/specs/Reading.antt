@@ -10,7 +10,7 @@ pub record Reading : Type 0 where
   pub nodes : ℕ
   -- the nodes of the last cycle or walk, in order
   pub listed : List ℕ
-  -- the label of each node, after a search for labels that has found some
+  -- the label of each node, where some were found or given
   pub labels : List ℤ
   -- the least cost of a walk for each node, and that walk's nodes, after a search for least walks
   pub distances : List (Option ℤ)
@@ -57,11 +57,10 @@ pub record IsListable (places : ℕ) (row : List Cell) (v : ℕ) : Type 0 where
   pub inside : All (λ u. u < length row) (trail (cell_at row) (cell_at row v).round v)
 
 -- the finder's lists are long enough for its nodes
-pub record HasPlaces (nodes count labelled reached path labels row_places after_places waits : ℕ) (row : List Cell) : Type 0 where
+pub record HasPlaces (nodes count labelled reached path labels row_places waits : ℕ) (row : List Cell) : Type 0 where
   pub some : 1 ≤ nodes
   pub not_many : nodes ≤ most_graph_nodes
   pub row_sized : row_places ≡ nodes + 1
-  pub after_sized : after_places ≡ nodes + 1
   pub waits_sized : waits ≡ nodes + 1
   pub path_sized : path ≡ nodes + 2
   pub labels_sized : labels ≡ nodes

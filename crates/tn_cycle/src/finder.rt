@@ -1,5 +1,6 @@
 ghost use Rattle.std.specs.Prelude.{◌≡◌, ℕ, ◌+◌, ◌-◌, ◌*◌, ◌<◌, ◌≤◌, pos, ◌+ℤ◌, Some, [], length, slice_get, IfOk, IsSome};
 ghost use Rattle.tn_base.specs.Walks.{arcs_among, is_admitted, is_looked_at, HasNoNegativeCycle, KeepsArcs, KeepsArcsEntering};
+ghost use Rattle.tn_cycle.specs.Kept.{signed};
 ghost use Rattle.tn_cycle.specs.Widths.{label_step, most_graph_nodes, most_label};
 
 use crate::answer::{Labels, Path};
@@ -8,7 +9,7 @@ use crate::graphs::{Admitted, Looked, Turned};
 use crate::grown::grow_labels;
 use crate::kept_cycles::{least_kept, negative_kept, relabel_all, relabel_among};
 use crate::read::list_walk;
-use crate::search::search;
+use crate::walks::{find_walks, sign};
 use std::alloc::Global;
 use std::marker::Model;
 use tn_base::{Costs, OutOfMemory, TradeSet};
@@ -17,9 +18,9 @@ use tn_base::{Costs, OutOfMemory, TradeSet};
 /// null node, the others are trades.
 ///
 /// `through` and `least_through` find a least cycle through a trade over labels, and leave labels that keep the arcs
-/// with it; `label_all` is where these begin, and `relabel` gives the labels that `labels` would give. `labels` finds
-/// labels of a graph of which nothing is known, or a negative cycle, and `least_to` and `least_from` find least walks.
-/// Then `at` reads the nodes of a cycle; `label` reads labels; `distance` reads the least cost for a node, and `walk`
+/// with it; `least_to` and `least_from` find least walks over labels. `label_all`, `label_graph` and `label_as` are where
+/// these begin, and `relabel` gives the labels that `labels` would give. `labels` finds labels of a graph of which nothing
+/// is known, or a negative cycle. Then `at` reads the nodes of a cycle; `label` reads labels; `distance` reads the least cost for a node, and `walk`
 /// lists the nodes of its walk, which `at` reads. A search forgets what the one before it found, but for the labels
 /// that it goes by. A graph that is searched has as many nodes as the finder was made for. No search and no reader
 /// takes memory or refuses.
@@ -28,11 +29,10 @@ use tn_base::{Costs, OutOfMemory, TradeSet};
 #[derive(Drop)]
 pub struct Finder {
     nodes: u32,
-    /// The cells after the last round, room for the next, and which nodes wait for a search over kept labels.
+    /// The cells that the last search left, and which nodes wait while one runs.
     row: Vec<Cell>,
-    after: Vec<Cell>,
     waits: Vec<bool>,
-    /// The nodes that may be read, and how many; while a search runs, the nodes that a round goes over.
+    /// The nodes that may be read, and how many; while a search runs, the nodes that wait.
     path: Vec<u32>,
     count: u32,
     /// The labels, and how many may be read.
@@ -52,7 +52,7 @@ impl Model for Finder {
 
     ghost view = { λ f. reading_of f.nodes f.count f.path.items f.labelled f.labels.items f.reached f.turns f.end f.row.items };
 
-    ghost invariant = { λ f. HasPlaces f.nodes f.count f.labelled f.reached (vec_len f.path) (vec_len f.labels) (vec_len f.row) (vec_len f.after) (vec_len f.waits) f.row.items };
+    ghost invariant = { λ f. HasPlaces f.nodes f.count f.labelled f.reached (vec_len f.path) (vec_len f.labels) (vec_len f.row) (vec_len f.waits) f.row.items };
 }
 
 impl Finder {
@@ -75,7 +75,6 @@ impl Finder {
         Ok(Finder {
             nodes,
             row: vec![in alloc; cell; places + 1]?,
-            after: vec![in alloc; cell; places + 1]?,
             waits: vec![in alloc; false; places + 1]?,
             path: vec![in alloc; 0; places + 2]?,
             count: 0,
@@ -113,6 +112,43 @@ impl Finder {
         self.count = 0;
         self.reached = 0;
         self.labels.fill(0);
+        self.labelled = self.nodes;
+    }
+
+    /// Forgets all that was found, and gives each node a label, such that the labels keep the arcs. No cycle may be
+    /// negative. It takes less work than `labels`, which gives one choice of labels.
+    pub fn label_graph<C: Costs>(&mut self, costs: &C)
+        requires sized { C.node_count costs.now ≡ self.old.nodes }
+        requires none_negative { HasNoNegativeCycle (C.arc costs.now) }
+        ensures one_each { length self.new.labels ≡ self.old.nodes }
+        ensures near { AreNear most_label self.new.labels }
+        ensures keeps { KeepsArcs (C.arc costs.now) (label_in self.new.labels) }
+        ensures none_listed { self.new.listed ≡ [] }
+        ensures rest { ListsNoWalks self.old.nodes self.new }
+    {
+        self.count = 0;
+        self.reached = 0;
+        grow_labels(
+            costs,
+            &mut self.labels,
+            &mut self.waits,
+            &mut self.row,
+            &mut self.path,
+        );
+        self.labelled = self.nodes;
+    }
+
+    /// Forgets all that was found, and gives each node the label that another finder, of as many nodes, has for it.
+    pub fn label_as(&mut self, other: &Finder)
+        requires same_nodes { other.now.nodes ≡ self.old.nodes }
+        requires labelled { length other.now.labels ≡ self.old.nodes }
+        ensures labels { self.new.labels ≡ other.now.labels }
+        ensures none_listed { self.new.listed ≡ [] }
+        ensures rest { ListsNoWalks self.old.nodes self.new }
+    {
+        self.count = 0;
+        self.reached = 0;
+        self.labels.copy_from_slice(&other.labels);
         self.labelled = self.nodes;
     }
 
@@ -287,28 +323,42 @@ impl Finder {
         self.labels[v as usize]
     }
 
-    /// Finds the least walks to a node, which are said to be turned round or not.
+    /// Finds the least walks to a node, which are said to be turned round or not. Where they are, the negatives of the
+    /// labels keep the arcs.
     fn least_walks<C: Costs>(&mut self, costs: &C, node: u32, turns: bool)
         requires sized { C.node_count costs.now ≡ self.old.nodes }
         requires inside { node < self.old.nodes }
-        requires none_negative { HasNoNegativeCycle (C.arc costs.now) }
+        requires labelled { length self.old.labels ≡ self.old.nodes }
+        requires near { AreNear most_label self.old.labels }
+        requires keeps { KeepsArcs (C.arc costs.now) (λ v. signed turns (label_in self.old.labels v)) }
         ensures walks { (v : ℕ) → v < self.old.nodes → LeadsAlong turns (C.arc costs.now) v node (walk_in self.new v) (distance_in self.new v) }
         ensures rest { ReadsWalks self.old.nodes self.new }
     {
         self.count = 0;
         self.labelled = 0;
-        search(costs, node, &mut self.row, &mut self.after, &mut self.path);
+        sign(&mut self.labels, turns);
+        find_walks(
+            costs,
+            node,
+            &self.labels,
+            &mut self.waits,
+            &mut self.row,
+            &mut self.path,
+        );
         self.reached = self.nodes;
         self.turns = turns;
         self.end = node;
     }
 
     /// Finds, from each node, a walk to the given one of least cost, in which no node stands twice but for the two
-    /// ends, where they are one: a walk from the node to itself has at least one arc too. No cycle may be negative.
+    /// ends, where they are one: a walk from the node to itself has at least one arc too. The labels at hand keep the
+    /// arcs, so that no cycle is negative.
     pub fn least_to<C: Costs>(&mut self, costs: &C, node: u32)
         requires sized { C.node_count costs.now ≡ self.old.nodes }
         requires inside { node < self.old.nodes }
-        requires none_negative { HasNoNegativeCycle (C.arc costs.now) }
+        requires labelled { length self.old.labels ≡ self.old.nodes }
+        requires near { AreNear most_label self.old.labels }
+        requires keeps { KeepsArcs (C.arc costs.now) (label_in self.old.labels) }
         ensures walks { (v : ℕ) → v < self.old.nodes → LeadsLeast (C.arc costs.now) v node (walk_in self.new v) (distance_in self.new v) }
         ensures rest { ReadsWalks self.old.nodes self.new }
     {
@@ -316,11 +366,14 @@ impl Finder {
     }
 
     /// Finds, to each node, a walk from the given one of least cost, in which no node stands twice but for the two
-    /// ends, where they are one: a walk from the node to itself has at least one arc too. No cycle may be negative.
+    /// ends, where they are one: a walk from the node to itself has at least one arc too. The labels at hand keep the
+    /// arcs, so that no cycle is negative.
     pub fn least_from<C: Costs>(&mut self, costs: &C, node: u32)
         requires sized { C.node_count costs.now ≡ self.old.nodes }
         requires inside { node < self.old.nodes }
-        requires none_negative { HasNoNegativeCycle (C.arc costs.now) }
+        requires labelled { length self.old.labels ≡ self.old.nodes }
+        requires near { AreNear most_label self.old.labels }
+        requires keeps { KeepsArcs (C.arc costs.now) (label_in self.old.labels) }
         ensures walks { (v : ℕ) → v < self.old.nodes → LeadsLeast (C.arc costs.now) node v (walk_in self.new v) (distance_in self.new v) }
         ensures rest { ReadsWalks self.old.nodes self.new }
     {

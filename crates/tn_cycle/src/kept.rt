@@ -1,6 +1,7 @@
 ghost use Rattle.std.specs.Prelude.{◌≡◌, ◌≢◌, ℕ, ◌+◌, ◌*◌, ◌^◌, ◌<◌, ◌≤◌, ℤ, pos, ◌+ℤ◌, ◌-ℤ◌, true, false, Some, length, ◌⊎◌};
 ghost use Rattle.std.specs.Option.{ForSome};
 ghost use Rattle.tn_base.specs.Arcs.{IsAtMost};
+ghost use Rattle.tn_base.specs.Options.{both};
 ghost use Rattle.tn_base.specs.Widths.{most_cost};
 ghost use Rattle.tn_cycle.specs.Answers.{AreNear, label_in};
 ghost use Rattle.tn_cycle.specs.Cells.{HasRoom, cell_at};
@@ -8,8 +9,16 @@ ghost use Rattle.tn_cycle.specs.Kept.{AreOffered, AreWaiting, HasBy, IsCapped, I
 ghost use Rattle.tn_cycle.specs.Widths.{most_graph_nodes, most_label, most_walk_cost};
 
 use crate::cell::Cell;
-use crate::search::{begin, extended};
 use tn_base::Costs;
+
+/// What a search is for.
+#[derive(Clone, Copy)]
+pub enum Sought {
+    /// The least walk of each node.
+    Walks,
+    /// The least walk from the end to itself, where it costs less than the cap, if there is one.
+    Cycle(Option<i128>),
+}
 
 /// The place of a waiting node, its key, which is the cost of its walk and its label, and the number of nodes inside that
 /// walk.
@@ -18,6 +27,43 @@ pub struct Near {
     pub place: u32,
     pub key: i128,
     pub round: u32,
+}
+
+/// The walks of one arc.
+fn begin<C: Costs>(costs: &C, end: u32, row: &mut [Cell])
+    requires sized { C.node_count costs.now ≤ length row.old }
+    requires inside { end < C.node_count costs.now }
+    ensures { (v : ℕ) → v < C.node_count costs.now →
+        cell_at row.new v ≡ record { cost = C.arc costs.now v end; round = 0; next = end } }
+{
+    for v in 0..costs.nodes() {
+        row[v as usize] = Cell {
+            cost: costs.cost(v, end),
+            round: 0,
+            next: end,
+        };
+    }
+}
+
+/// The sum of two costs.
+fn total(first: i128, rest: i128) -> i128
+    requires first { IsAtMost first most_cost }
+    requires rest { IsAtMost rest most_walk_cost }
+    ensures { result ≡ first +ℤ rest }
+{
+    first + rest
+}
+
+/// The cost of going on over an arc.
+fn extended(first: Option<i128>, rest: Option<i128>) -> Option<i128>
+    requires first { ForSome first (λ a. IsAtMost a most_cost) }
+    requires rest { ForSome rest (λ a. IsAtMost a most_walk_cost) }
+    ensures { result ≡ both first rest }
+{
+    match (first, rest) {
+        (Some(first), Some(rest)) => Some(total(first, rest)),
+        _ => None,
+    }
 }
 
 /// The key of a node.
@@ -119,19 +165,22 @@ pub(crate) fn is_capped(cap: Option<i128>, cost: i128) -> bool
     }
 }
 
-/// Whether a cost is past that of the end or past the cap.
-fn is_past(cap: Option<i128>, own: Cell, cost: i128, round: u32) -> bool
-    ensures { result ≡ true → IsPast cap own cost round }
+/// Whether no walk of this cost is sought: it is past that of the end, or past the cap, where a cycle is sought.
+fn is_past(sought: Sought, own: Cell, cost: i128, round: u32) -> bool
+    ensures { result ≡ true → IsPast sought own cost round }
 {
-    has_by(own, cost, round) || is_capped(cap, cost)
+    match sought {
+        Sought::Walks => false,
+        Sought::Cycle(cap) => has_by(own, cost, round) || is_capped(cap, cost),
+    }
 }
 
 /// The place of the node that is settled next: the waiting one whose key comes first. None where no waiting node matters:
-/// its key is past that of the end, or past the cap.
+/// a cycle is sought, and its key is past that of the end or past the cap.
 fn next_place(
     end: u32,
     base: i128,
-    cap: Option<i128>,
+    sought: Sought,
     labels: &[i128],
     list: &[u32],
     count: u32,
@@ -144,10 +193,10 @@ fn next_place(
     requires near { AreNear (2 * most_label) labels.now }
     requires last { end < length row.now }
     requires base { IsAtMost base (2 * most_label) }
-    ensures { IsNext count base cap (label_by (label_in labels.now) list.now) (cell_by (cell_at row.now) list.now) (cell_at row.now end) every result }
+    ensures { IsNext count base sought (label_by (label_in labels.now) list.now) (cell_by (cell_at row.now) list.now) (cell_at row.now end) every result }
 {
     let near = nearest(labels, list, count, row)?;
-    if is_past(cap, row[end as usize], over(near.key, base), near.round) {
+    if is_past(sought, row[end as usize], over(near.key, base), near.round) {
         None
     } else {
         Some(near.place)
@@ -221,14 +270,14 @@ fn offer<C: Costs>(costs: &C, end: u32, u: u32, list: &[u32], count: u32, row: &
 
 /// Finds, from each node, the walk to `end` of least cost, of these one with the fewest arcs, and of these that over
 /// the lowest nodes (Dijkstra 1959): a node's key is the cost of its walk and its label. Labels keep the arcs, so that
-/// a key is never below that of the node it goes on over, and nodes are settled in the order of their keys. The search
-/// stops once no waiting node can lead to a better walk from the end to itself, or to one that costs less than the cap.
-/// Only nodes that wait are gone over: they stand at the front of `list`.
+/// a key is never below that of the node it goes on over, and nodes are settled in the order of their keys. Where a
+/// cycle is sought, the search stops once no waiting node can lead to a better walk from the end to itself, or to one
+/// that costs less than the cap. Only nodes that wait are gone over: they stand at the front of `list`.
 pub(crate) fn search_kept<C: Costs>(
     costs: &C,
     end: u32,
     base: i128,
-    cap: Option<i128>,
+    sought: Sought,
     labels: &[i128],
     waits: &mut [bool],
     row: &mut [Cell],
@@ -246,13 +295,13 @@ pub(crate) fn search_kept<C: Costs>(
     requires begins { (v u : ℕ) (cost : ℤ) → v ≢ end → u ≢ end → C.arc costs.now v u ≡ Some cost → flag_at waits.old v ≡ true }
     requires passes { (v u : ℕ) (cost last : ℤ) → u ≢ end → C.arc costs.now v u ≡ Some cost → C.arc costs.now u end ≡ Some last → flag_at waits.old u ≡ true }
     requires keeps { KeepsArcsOff (C.arc costs.now) end (label_in labels.now) }
-    ensures { IsStopped (C.node_count costs.now) (C.arc costs.now) end cap (label_in labels.now) (cell_at row.new) (flag_at waits.new) }
+    ensures { IsStopped (C.node_count costs.now) (C.arc costs.now) end sought (label_in labels.now) (cell_at row.new) (flag_at waits.new) }
 {
     let nodes = costs.nodes();
     begin(costs, end, row);
     let mut count = list_waiting(waits, nodes, list);
     for settled in 0..nodes {
-        match next_place(end, base, cap, labels, list, count, row) {
+        match next_place(end, base, sought, labels, list, count, row) {
             Some(place) => {
                 let u = list[place as usize];
                 count -= 1;

@@ -12,7 +12,7 @@ ghost use Rattle.tn_cycle.specs.Widths.{label_step, most_graph_nodes, most_label
 use crate::answer::Path;
 use crate::cell::Cell;
 use crate::graphs::{Admitted, Looked, Sunk, Turned};
-use crate::kept::{is_capped, search_kept};
+use crate::kept::{Sought, is_capped, search_kept};
 use crate::labels::{lowest_cost, write_labels};
 use crate::read::list_way;
 use tn_base::Costs;
@@ -131,7 +131,16 @@ fn find_kept<C: Costs>(
     ensures near { (reach : ℕ) → AreNear reach labels.old → AreNear (reach + 2 * (C.node_count costs.now * most_cost)) labels.new }
 {
     let base = labels[node as usize];
-    search_kept(costs, node, base, cap, labels, waits, row, path);
+    search_kept(
+        costs,
+        node,
+        base,
+        Sought::Cycle(cap),
+        labels,
+        waits,
+        row,
+        path,
+    );
     let found = read_cycle(row, node, cap, path);
     raise(labels, row, node, gain(base, found.cost()));
     found
@@ -151,7 +160,7 @@ fn lifted(least: Option<i128>, v: u32, node: u32, label: i128, cost: Option<i128
 }
 
 /// A label, or its negative.
-fn signed(label: i128, negates: bool) -> i128
+pub(crate) fn signed(label: i128, negates: bool) -> i128
     requires { IsAtMost label (3 * most_label) }
     ensures { result ≡ signed negates label }
 {
@@ -301,7 +310,7 @@ pub(crate) fn relabel_kept<C: Costs>(
         &Sunk { costs, sink },
         sink,
         0,
-        None,
+        Sought::Walks,
         labels,
         waits,
         row,

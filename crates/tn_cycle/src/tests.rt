@@ -119,15 +119,18 @@ fn finds_labels_and_walks(rt: HostRuntime) -> Result<(), Fail> {
     match finder.labels(&ring) {
         Labels::Feasible => {
             assert_eq!(rt; [finder.label(0), finder.label(3)], [0, 0]);
+            finder.label_graph(&ring);
+            let mut other = Finder::new(rt.alloc(), 4)?;
+            other.label_as(&finder);
             finder.least_to(&ring, 3);
             assert_eq!(rt; finder.distance(1), Some(4));
-            finder.least_from(&ring, 3);
-            let distance = finder.distance(1);
+            other.least_from(&ring, 3);
+            let distance = other.distance(1);
             assert_eq!(rt; distance, Some(3));
             if distance.is_some() {
-                let count = finder.walk(1);
+                let count = other.walk(1);
                 assert_eq!(rt; count, 3);
-                assert_eq!(rt; [finder.at(0), finder.at(1), finder.at(2)], [3, 0, 1]);
+                assert_eq!(rt; [other.at(0), other.at(1), other.at(2)], [3, 0, 1]);
             }
             Ok(())
         }

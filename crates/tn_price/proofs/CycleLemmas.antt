@@ -13,8 +13,7 @@ use Rattle.tn_market.specs.Graph.{exchange_arc}
 use Rattle.tn_market.specs.Valued.{IsWorthAtMost}
 use Rattle.tn_market.specs.Supported.{IsNegativeCycle, said_node}
 use Rattle.tn_market.proofs.GraphLemmas.{arc_within}
-use Rattle.tn_cycle.proofs.WalkLemmas.{AreApart, apart_from_different, few_apart, walk_inside}
-use Rattle.tn_cycle.proofs.RoundLemmas.{walk_small}
+use Rattle.tn_cycle.proofs.WalkLemmas.{AreApart, apart_from_different, few_apart, walk_inside, walk_small}
 use Rattle.tn_network.proofs.RoundLemmas.{cycle_avoids}
 use Rattle.tn_network.proofs.SupportLemmas.{arcs_small}
 

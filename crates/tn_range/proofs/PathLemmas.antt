@@ -9,8 +9,7 @@ use Rattle.tn_base.specs.Widths.{most_cost}
 use Rattle.tn_base.proofs.WalkLemmas.{SameArcs, walk-same}
 use Rattle.tn_cycle.specs.Answers.{LeadsLeast}
 use Rattle.tn_cycle.specs.Widths.{most_graph_nodes, most_read}
-use Rattle.tn_cycle.proofs.WalkLemmas.{AreApart, apart_from_different, few_apart, walk_inside}
-use Rattle.tn_cycle.proofs.RoundLemmas.{walk_small}
+use Rattle.tn_cycle.proofs.WalkLemmas.{AreApart, apart_from_different, few_apart, walk_inside, walk_small}
 use Rattle.tn_network.specs.Bounds.{IsDistance}
 use Rattle.tn_network.proofs.PoolLemmas.{append_cases}
 

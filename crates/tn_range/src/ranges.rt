@@ -61,6 +61,8 @@ pub fn range<V: Valuation, const W: usize>(
     let mut from_null = Finder::new(alloc, trades + 1)?;
     let mut to_null = Finder::new(alloc, trades + 1)?;
     graph.fill(market, on, steps);
+    from_null.label_graph(&graph);
+    to_null.label_as(&from_null);
     from_null.least_from(&graph, trades);
     to_null.least_to(&graph, trades);
     ranges_from(alloc, from_null, to_null, trades)

@@ -26,7 +26,7 @@ returns-then-is_past c =
     let base_fits : SFits w128 c.args.base = c.ranges.base in
     let over_fits : SFits w128 c.over.result = search rules in
     let yes = c.is_past.ensures c.if-is_past.true in
-    let past : IsPast c.args.cap own c.over.result near.round = simp to_z-of_z at yes in
+    let past : IsPast c.args.sought own c.over.result near.round = simp to_z-of_z at yes in
     let over_is = simp to_z-of_z at c.over.ensures in
-    past_all c.args.count c.args.base c.args.cap (label_by (label_in c.args.labels.now) c.args.list.now) (cell_by (cell_at c.args.row.now) c.args.list.now) own every near.place near.key near.round c.in_ok-near.ensures
-    (subst (λ (z : ℤ). IsPast c.args.cap own z near.round) over_is past)
+    past_all c.args.count c.args.base c.args.sought (label_by (label_in c.args.labels.now) c.args.list.now) (cell_by (cell_at c.args.row.now) c.args.list.now) own every near.place near.key near.round c.in_ok-near.ensures
+    (subst (λ (z : ℤ). IsPast c.args.sought own z near.round) over_is past)

@@ -4,7 +4,7 @@ use Rattle.std.proofs.lemmas.List.{get_or-set_same, get_or-set_other}
 use Rattle.tn_cycle.specs.Answers.{label_in}
 use Rattle.tn_cycle.specs.Cells.{cell_at}
 use Rattle.tn_cycle.specs.Kept.{AreWaiting, ComesFirst, flag_at, node_at}
-use Rattle.tn_cycle.proofs.RoundLemmas.{led_room}
+use Rattle.tn_cycle.proofs.CellLemmas.{led_room}
 use Rattle.tn_cycle.proofs.KeptLemmas.{begun, known_next, waiting, waiting_fewer, waiting_less}
 use Rattle.tn_cycle.proofs.ListLemmas.{listed_after, listed_first, taken_out}
 use Rattle.tn_cycle.proofs.kept.search_kept.Goals as goal

@@ -1,5 +1,6 @@
-use Rattle.tn_cycle.proofs.TurnLemmas.{none_negative-turned}
+use Rattle.tn_cycle.specs.Answers.{label_in}
+use Rattle.tn_cycle.proofs.TurnLemmas.{keeps-turned}
 use Rattle.tn_cycle.proofs.finder.Finder.least_from.Goals as goal
 
-pub least_walks-requires-clause-none_negative : goal.least_walks-requires-clause-none_negative
-least_walks-requires-clause-none_negative g c = none_negative-turned (g.C.Costs.arc c.args.costs.now) c.requires.none_negative
+pub least_walks-requires-clause-keeps : goal.least_walks-requires-clause-keeps
+least_walks-requires-clause-keeps g c = keeps-turned (g.C.Costs.arc c.args.costs.now) (label_in c.args.self.now.labels) c.requires.keeps
