@@ -7,7 +7,7 @@ use Rattle.std.proofs.lemmas.Bool.{cases_eq, ne_eqb, and_parts}
 use Rattle.std.proofs.lemmas.Option.{none-some, same_Some}
 use Rattle.std.proofs.lemmas.List.{get_or-set_same, get_or-set_other, length-set}
 use Rattle.tn_base.specs.Arcs.{AreBetweenNodes, AreSmall, IsAtMost}
-use Rattle.tn_base.specs.Walks.{KeepsArcs, arcs_among, is_admitted, is_looked_at}
+use Rattle.tn_base.specs.Walks.{CyclesCostAtLeast, KeepsArcs, KeepsArcsEntering, arcs_among, is_admitted, is_looked_at}
 use Rattle.tn_base.specs.Widths.{most_cost}
 use Rattle.tn_cycle.specs.declared.cell.Cell.{Cell}
 use Rattle.tn_cycle.specs.declared.kept.Sought.TheVariants as seek
@@ -22,6 +22,7 @@ use Rattle.tn_cycle.specs.Kept.{AreRaised, IsCycleRead, IsLifted, IsLiftedBy, Is
 use Rattle.tn_cycle.specs.Widths.{most_graph_nodes}
 use Rattle.tn_cycle.proofs.GraphLemmas.{keeps_avoiding, looked_off}
 use Rattle.tn_cycle.proofs.KeyLemmas.{same_cost}
+use Rattle.tn_cycle.proofs.LabelLemmas.{none_negative_kept}
 use Rattle.tn_cycle.proofs.ReadLemmas.{length-trail}
 use Rattle.tn_cycle.proofs.StoppedLemmas.{kept_cycle, kept_none, kept_settled, kept_small, kept_unreached}
 
@@ -205,6 +206,27 @@ set_keep arc labels node base places keeps own u v cost off is = elim (cases_eq 
       let kept : label_in labels v ≤ℤ (label_in labels u +ℤ cost) = keeps u v cost other off is in
       omega (arith, ints, here, there, kept)
 ]
+
+-- labels that break no arc, though some might end at the node
+pub entered_all : (arc : ℕ → ℕ → Option ℤ) (node : ℕ) (label : ℕ → ℤ) → KeepsArcsOff arc node label
+    → ((u : ℕ) (cost : ℤ) → arc u node ≡ Some cost → label node ≤ℤ (label u +ℤ cost)) → KeepsArcs arc label
+entered_all arc node label keeps into u v cost is = elim (cases_eq v node) [
+  | inl same ↦ subst (λ (z : ℕ). label z ≤ℤ (label u +ℤ cost)) (sym same) (into u cost (subst (λ (z : ℕ). arc u z ≡ Some cost) same is))
+  | inr off ↦ keeps u v cost off is
+]
+
+-- no cycle through the node is negative then
+pub entered_none : (arc : ℕ → ℕ → Option ℤ) (node : ℕ) (label : ℕ → ℤ) → KeepsArcsOff arc node label
+    → ((u : ℕ) (cost : ℤ) → arc u node ≡ Some cost → label node ≤ℤ (label u +ℤ cost)) → CyclesCostAtLeast arc node (pos 0)
+entered_none arc node label keeps into vs cost avoids walk = none_negative_kept arc label (entered_all arc node label keeps into) node vs cost walk
+
+-- and the node's label is that for all arcs
+pub entered_own : (arc : ℕ → ℕ → Option ℤ) (node : ℕ) (label : ℕ → ℤ) → KeepsArcsOff arc node label
+    → ((u : ℕ) (cost : ℤ) → arc u node ≡ Some cost → label node ≤ℤ (label u +ℤ cost)) → KeepsArcsEntering arc node (label node +ℤ pos 0) label
+entered_own arc node label keeps into = record {
+  others = keeps;
+  enters = λ u cost is. let kept = into u cost is in omega (arith, ints, kept);
+}
 
 -- labels that keep the admitted arcs keep those of the looked-at graph that avoid its node
 pub looked_keep : (null node allowed : ℕ) (arc : ℕ → ℕ → Option ℤ) (label : ℕ → ℤ) → KeepsArcs (arcs_among (is_admitted null allowed) arc) label

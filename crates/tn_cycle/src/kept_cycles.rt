@@ -202,8 +202,44 @@ fn node_label<C: Costs>(costs: &C, node: u32, labels: &[i128]) -> i128
     }
 }
 
+/// Whether a number is above another one.
+fn is_above(first: i128, second: i128) -> bool
+    ensures { result ≡ false → first ≤ℤ second }
+{
+    second < first
+}
+
+/// Whether the labels of its begin and its end break an arc, where there is one.
+fn is_broken(begin: i128, cost: Option<i128>, end: i128) -> bool
+    requires begin { IsAtMost begin (2 * most_label) }
+    requires cost { ForSome cost (λ c. IsAtMost c most_walk_cost) }
+    ensures { (c : ℤ) → result ≡ false → cost ≡ Some c → end ≤ℤ (begin +ℤ c) }
+{
+    match cost {
+        Some(cost) => is_above(end, gain(begin, cost)),
+        None => false,
+    }
+}
+
+/// Whether the labels break an arc that ends at a node.
+fn break_into<C: Costs>(costs: &C, node: u32, labels: &[i128]) -> bool
+    requires labels_sized { length labels.now ≡ C.node_count costs.now }
+    requires inside { node < C.node_count costs.now }
+    requires near { AreNear (most_label + most_cost) labels.now }
+    ensures { (u : ℕ) (cost : ℤ) → result ≡ false → C.arc costs.now u node ≡ Some cost → label_in labels.now node ≤ℤ (label_in labels.now u +ℤ cost) }
+{
+    let end = labels[node as usize];
+    for v in 0..costs.nodes() {
+        if is_broken(labels[v as usize], costs.cost(v, node), end) {
+            return true;
+        }
+    }
+    false
+}
+
 /// A least cycle through a node whose label isn't known yet, where one is negative, over labels that keep the arcs among
-/// the other nodes. The node gets a label that keeps the arcs that begin at it, and then all labels are raised.
+/// the other nodes. The node gets a label that keeps the arcs that begin at it. Where that keeps those that end at it
+/// too, there is nothing to search for; otherwise all labels are raised.
 pub(crate) fn find_added<C: Costs>(
     costs: &C,
     node: u32,
@@ -229,7 +265,11 @@ pub(crate) fn find_added<C: Costs>(
     ensures near { (reach : ℕ) → AreNear reach labels.old → AreNear (reach + label_step (C.node_count costs.now)) labels.new }
 {
     labels[node as usize] = node_label(costs, node, labels);
-    find_kept(costs, node, Some(0), labels, waits, row, path)
+    if break_into(costs, node, labels) {
+        find_kept(costs, node, Some(0), labels, waits, row, path)
+    } else {
+        Path::None
+    }
 }
 
 /// Finds a least cycle through a node whose label isn't known yet, where one is negative. Its nodes then stand at the
