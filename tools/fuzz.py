@@ -547,6 +547,10 @@ def hold_rows(program, document, answer):
     if isinstance(answer, dict) and answer["answer"] == "solved":
         rows = list(csv.reader(said.splitlines()))[1:]
         want(rows == [[name, str(int(name in answer["on"])), str(price)] for name, price in answer["prices"]], "rows", said, answer)
+        said = program.ask("solve --csv=wide", document)
+        ends = [[trade["seller"], trade["buyer"]] for trade in document["trades"]]
+        wide = [[row[0], *pair, *row[1:]] for row, pair in zip(rows, ends)]
+        want(list(csv.reader(said.splitlines()))[1:] == wide, "wide rows", said, answer)
 
 
 def hold_all(program, document, draw):

@@ -6,6 +6,8 @@ export const COMMANDS = [
     ["solve", "command.solve"], ["range", "command.range"], ["firms", "command.firms"], ["check", "command.check"],
     ["support", "command.support"], ["judge", "command.judge"], ["session", "command.session"],
     ["test", "command.test"], ["replay", "command.replay"], ["solve --csv", "command.rows"],
+    ["solve --csv=wide", "command.rows_wide"], ["range --csv", "command.rows_range"],
+    ["firms --csv", "command.rows_firms"], ["support --csv", "command.rows_support"],
     ["cases", "command.cases"], ["help", "command.help"]];
 
 const VERDICTS = {0: "status.yes", 1: "status.fault", 2: "status.no_command", 3: "status.unread",

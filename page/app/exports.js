@@ -25,7 +25,7 @@ export function savePicture(value) {
 
 /** The bytes that the program wrote. */
 export function saveAnswer({answer}) {
-    const [ending, type] = answer.words.includes("--csv") ? ["csv", "text/csv"] : ["json", "application/json"];
+    const [ending, type] = answer.words[1]?.startsWith("--csv") ? ["csv", "text/csv"] : ["json", "application/json"];
     offer(`${stem(answer.document.name)}-${answer.words[0] ?? "usage"}.${ending}`, answer.bytes, type);
 }
 

@@ -3,6 +3,7 @@ use Rattle.std.proofs.Common.{◌≡◌, ℕ, List, length, refl, arith, inl, in
 use Rattle.std.specs.Prelude.{Option}
 use Rattle.json.specs.Print.{escape_byte}
 use Rattle.tn_answer.specs.AnswerText.{answer_line}
+use Rattle.tn_answer.specs.declared.layout.Layout.{Layout}
 use Rattle.tn_names.specs.Names.{NameLists}
 use Rattle.tn_plain_data.specs.declared.said.Said.{Said}
 use Rattle.tn_plain_data.specs.declared.said.Said.TheVariants.{NoMemory}
@@ -15,9 +16,9 @@ pub none_counted : (before after : ℕ) → after ≡ 0 → NoneCounted before a
 none_counted before after none rose = elim rose [ inl less ↦ absurd (omega (arith, none, less)) | inr last ↦ absurd (omega (arith, none, last)) ]
 
 -- where no write failed, the text was written whole
-pub whole_of : (old new : Option (List ℕ)) (before after : ℕ) (names : NameLists) (said : Said) (status : ℕ)
-    → NoneCounted before after → IsWritten old new before after names said status → IsWrittenWhole old new names said status
-whole_of old new before after names said status none written = elim written [ inl whole ↦ whole | inr cut ↦ absurd (none cut.cause) ]
+pub whole_of : (old new : Option (List ℕ)) (before after : ℕ) (layout : Layout) (names : NameLists) (said : Said) (status : ℕ)
+    → NoneCounted before after → IsWritten old new before after layout names said status → IsWrittenWhole old new layout names said status
+whole_of old new before after layout names said status none written = elim written [ inl whole ↦ whole | inr cut ↦ absurd (none cut.cause) ]
 
 -- want of memory may be answered to all words
 pub may_want_memory : (words : List (List ℕ)) (document : List ℕ) (names : NameLists) → MayBeAnswered words document names NoMemory
@@ -30,6 +31,6 @@ may_want_memory words document names = record {
 }
 
 -- the text of want of memory is short
-pub no_memory_length : (names : NameLists) → length (answer_line names NoMemory) ≡ 23
+pub no_memory_length : (layout : Layout) (names : NameLists) → length (answer_line layout names NoMemory) ≡ 23
 unfolding answer_line escape_byte
-no_memory_length names = refl
+no_memory_length layout names = refl

@@ -11,6 +11,7 @@ ghost use Rattle.tn_answer.specs.AnswerText.{answer_line};
 ghost use Rattle.tn_names.specs.Names.{NameLists};
 ghost use Rattle.tn_plain_data.specs.declared.said.Said.{Said};
 ghost use Rattle.tn_run.specs.Run.{status_of};
+ghost use Rattle.tn_run.specs.Words.{layout_of};
 ghost use Rattle.page.specs.Answered.{MayBeAnswered};
 ghost use Rattle.page.specs.Told.{IsTold};
 ghost use Rattle.page.specs.Words.{words_in};
@@ -33,7 +34,7 @@ const NO_MEMORY: u8 = 5;
 pub extern "C" fn page_answer(alloc: Global, words: &[u8], document: &[u8], out: &mut [u8]) -> u64
     // The defined answer to these words and this document, or want of memory: its text and its status.
     ensures { (names : NameLists) × (said : Said) × MayBeAnswered (words_in words.now) document.now names said
-        × IsTold (answer_line names said) (status_of said) out.old out.new result }
+        × IsTold (answer_line (layout_of (words_in words.now)) names said) (status_of said) out.old out.new result }
 {
     match run_on(alloc, words, document) {
         Ok(whole) => tell(whole.status, &whole.text, out),

@@ -1,7 +1,9 @@
 -- Answers over the same names whose data are equal are written alike.
-use Rattle.std.proofs.Common.{◌≡◌, ℕ, suc, ℤ, pos, negsuc, ◌+◌, ◌*◌, List, [], ◌∷◌, slice_get, get_or, Option, None, Some, is_some, true≢false, option_and_then, unwrap_or, find, All, IfSome, codes, bytes_eq, refl, sym, ap, ◌∙◌, subst, ◌++◌, arith}
+use Rattle.std.proofs.Common.{◌≡◌, ℕ, suc, ℤ, pos, negsuc, ◌+◌, ◌*◌, ◌<◌, List, [], ◌∷◌, length, FitsSigned, slice_get, get_or, Option, None, Some, is_some, true≢false, option_and_then, unwrap_or, find, All, IfSome, codes, bytes_eq, refl, sym, ap, ◌∙◌, subst, ◌++◌, arith}
 use Rattle.std.proofs.lemmas.List.Elements.{All-head, All-tail}
-use Rattle.std.proofs.lemmas.Option.{same_Some, slice_get-get_or, unwrap_or-slice_get}
+use Rattle.std.proofs.lemmas.Option.{same_Some, slice_get-get_or, slice_get_within, unwrap_or-slice_get}
+use Rattle.std.specs.Fmt.{signed_decimal}
+use Rattle.std.specs.Int.{w64}
 use Rattle.std.specs.List.{AllZip}
 use Rattle.serde_json.specs.Data.{Data, null, boolean, number, string, array, object, Items, no_items, item}
 use Rattle.serde_json.specs.View.{items_of}
@@ -20,24 +22,30 @@ use Rattle.tn_plain_data.specs.declared.reason.Reason.TheVariants.{Impossible as
 use Rattle.tn_plain_data.specs.declared.said.Fault.{Fault}
 use Rattle.tn_plain_data.specs.declared.said.Shown.{Shown}
 use Rattle.tn_plain_data.specs.declared.contract.Contract.{Contract}
+use Rattle.tn_plain_data.specs.declared.ends.Ends.{Ends}
 use Rattle.tn_plain_data.specs.declared.holding.Holding.{Holding}
 use Rattle.tn_plain_data.specs.declared.range.Range.{Range}
 use Rattle.tn_plain_data.specs.declared.session.State.{State}
 use Rattle.tn_plain_data.specs.declared.said.Page.{Page}
 use Rattle.tn_plain_data.specs.declared.said.Page.TheVariants.{Help, Version as VersionPage}
 use Rattle.tn_plain_data.specs.declared.said.Said.{Said}
-use Rattle.tn_plain_data.specs.declared.said.Said.TheVariants.{Usage, ReadFault, NoMemory, Fault as FaultIs, Equilibrium, Better, Impossible, Accepted, ExchangeFails, Supported, Cycle, Solved, Rows, Drill, Ranges, Session, Drops, Completes, Blocks, Valid, Invalid, Cases, Page as PageIs, Firms as FirmsIs}
+use Rattle.tn_plain_data.specs.declared.said.Said.TheVariants.{Usage, ReadFault, NoMemory, Fault as FaultIs, Equilibrium, Better, Impossible, Accepted, ExchangeFails, Supported, Cycle, Solved, Drill, Ranges, Session, Drops, Completes, Blocks, Valid, Invalid, Cases, Page as PageIs, Firms as FirmsIs}
 use Rattle.tn_names.specs.Names.{NameLists, IsNameList}
 use Rattle.tn_answer.specs.Words.{word_text}
 use Rattle.tn_names.specs.Named.{IsNamed, IsNamedStep, IsNamedTriple}
 use Rattle.tn_answer.specs.Pages.{lines_text, page_lines}
-use Rattle.tn_answer.specs.Rows.{each_from}
-use Rattle.tn_answer.specs.AnswerText.{contracts_data, holding_data, range_data, state_data, states_data, prices_from, nodes_data, step_data, place_data, fault_data, Layout, json, rows, lines, answer_layout, data_in, layout_text, answer, answer_data, answer_line}
+use Rattle.tn_answer.specs.Rows.{buyer_text, deal_head, deal_row, each_from, firm_head, firm_row, price_head, price_row, range_head, range_row, rows_text, seller_text, table}
+use Rattle.tn_answer.specs.AnswerText.{contracts_data, holding_data, range_data, state_data, states_data, prices_from, nodes_data, step_data, place_data, fault_data, Form, json, lines, answer_form, table_of, text_of, data_in, form_text, answer, answer_data, answer_line}
 use Rattle.tn_answer.specs.Values.{bound_data, name_data, names_data, option_data, integer_data, numbers_data}
 use Rattle.tn_answer.specs.ReasonText.{reason_members, IsNamedReason}
-use Rattle.tn_answer.specs.Apart.{HasNamedPaths, HasShortNumbers, IsNamedAnswer, IsNamedHolding, IsNamedState, IsSameStep, IsSameFault, IsSameAnswer, AnswersAreToldApart}
+use Rattle.tn_answer.specs.Apart.{AnswersAreToldApart, AreNamedEnds, AreSameBounds, AreSameEnds, AreSameOn, HasNamedPaths, HasShortNumbers, IsNamedAnswer, IsNamedHolding, IsNamedState, IsSameFault, IsSameInRows, IsSameInWideRows, IsSameObject, IsSameStep}
 use Rattle.tn_answer.proofs.DataTexts.{IsPlain, clash, compact_text-tells}
-use Rattle.tn_answer.proofs.RowLemmas.{same_rows}
+use Rattle.tn_answer.specs.Sayable.{HasShortBounds, IsShortHolding}
+use Rattle.tn_answer.specs.declared.layout.Layout.TheVariants.{Object as AsObject, Rows as AsRows, WideRows as AsWideRows}
+use Rattle.tn_answer.proofs.BundleLemmas.{same_bundle, same_name_text}
+use Rattle.tn_answer.proofs.LawLemmas.{object_line}
+use Rattle.tn_answer.proofs.RowLemmas.{item_at, same_bound_text, same_decimal, same_items, same_on, same_places, same_tables, there}
+use Rattle.csv.specs.Writing.{fields_text, read_back}
 use Rattle.serde_json.specs.Written.{compact_text}
 use Rattle.tn_answer.proofs.PlainAnswers.{answer_is_plain}
 
@@ -278,12 +286,11 @@ answer_text (Better firm bundle gain) = codes "better"
 answer_text (Impossible firm) = codes "impossible"
 answer_text Accepted = codes "accepted"
 answer_text (ExchangeFails firm x y at) = codes "exchange_fails"
-answer_text (Supported prices) = codes "prices"
+answer_text (Supported on prices ends) = codes "prices"
 answer_text (Cycle nodes cost) = codes "cycle"
-answer_text (Solved on prices surplus) = codes "solved"
-answer_text (Rows on prices surplus) = []
+answer_text (Solved on prices surplus ends) = codes "solved"
 answer_text (Drill size start firms surplus) = codes "drill"
-answer_text (Ranges on ranges) = codes "ranges"
+answer_text (Ranges on ranges ends) = codes "ranges"
 answer_text (Session edits) = codes "session"
 answer_text (Drops firm keeps gain over) = codes "drops"
 answer_text (Completes prices over) = codes "completes"
@@ -312,12 +319,11 @@ answer_says names (Better firm bundle gain) = refl
 answer_says names (Impossible firm) = refl
 answer_says names Accepted = refl
 answer_says names (ExchangeFails firm x y at) = refl
-answer_says names (Supported prices) = refl
+answer_says names (Supported on prices ends) = refl
 answer_says names (Cycle nodes cost) = refl
-answer_says names (Solved on prices surplus) = refl
-answer_says names (Rows on prices surplus) = refl
+answer_says names (Solved on prices surplus ends) = refl
 answer_says names (Drill size start firms surplus) = refl
-answer_says names (Ranges on ranges) = refl
+answer_says names (Ranges on ranges ends) = refl
 answer_says names (Session edits) = refl
 answer_says names (Drops firm keeps gain over) = refl
 answer_says names (Completes prices over) = refl
@@ -441,92 +447,87 @@ module _ (names : NameLists) (firms : IsNameList names.firms) (trades : IsNameLi
   same_mark : (first second : Said) → answer_data names first ≡ answer_data names second → mark (answer_text first) ≡ mark (answer_text second)
   same_mark first second e = ap mark (sym (answer_says names first) ∙ ap (λ d. text_in (part (codes "answer") d)) e ∙ answer_says names second)
 
-  -- of rows and pages the text is told, of others the data
-  same_answer : (first second : Said) → IsNamedAnswer names first → IsNamedAnswer names second → HasShortNumbers first → HasShortNumbers second
-      → layout_text (answer_layout names first) ≡ layout_text (answer_layout names second) → answer_data names first ≡ answer_data names second → IsSameAnswer names first second
-  same_answer Usage Usage h k short short' line e = refl
-  same_answer ReadFault ReadFault h k short short' line e = refl
-  same_answer NoMemory NoMemory h k short short' line e = refl
-  same_answer (FaultIs first) (FaultIs second) h k short short' line e = same_fault names.trades trades first second first.shown second.shown refl refl h.0 k.0 h.1 k.1 e
-  same_answer (Equilibrium y) (Equilibrium z) h k short short' line e = ap Equilibrium (same_integer y z (ap (part (codes "surplus")) e))
-  same_answer (Better firm bundle gain) (Better other bundle' gain') h k short short' line e =
+  -- of pages the text is told, of others the data
+  same_object : (first second : Said) → IsNamedAnswer names first → IsNamedAnswer names second → HasShortNumbers first → HasShortNumbers second
+      → form_text (answer_form names first) ≡ form_text (answer_form names second) → answer_data names first ≡ answer_data names second → IsSameObject names first second
+  same_object Usage Usage h k short short' line e = refl
+  same_object ReadFault ReadFault h k short short' line e = refl
+  same_object NoMemory NoMemory h k short short' line e = refl
+  same_object (FaultIs first) (FaultIs second) h k short short' line e = same_fault names.trades trades first second first.shown second.shown refl refl h.0 k.0 h.1 k.1 e
+  same_object (Equilibrium y) (Equilibrium z) h k short short' line e = ap Equilibrium (same_integer y z (ap (part (codes "surplus")) e))
+  same_object (Better firm bundle gain) (Better other bundle' gain') h k short short' line e =
       let same_bundle = same_names names.trades trades bundle bundle' h.1 k.1 (ap (part (codes "bundle")) e) in
       let same_firm = same_name names.firms firms firm other h.0 k.0 (ap (part (codes "firm")) e) in
       let same_gain = same_integer gain gain' (ap (part (codes "gain")) e) in
       λ i. Better (same_firm i) (same_bundle i) (same_gain i)
-  same_answer (Impossible firm) (Impossible other) h k short short' line e = ap Impossible (same_name names.firms firms firm other h k (ap (part (codes "firm")) e))
-  same_answer Accepted Accepted h k short short' line e = refl
-  same_answer (ExchangeFails firm x y at) (ExchangeFails other x' y' at') h k short short' line e =
+  same_object (Impossible firm) (Impossible other) h k short short' line e = ap Impossible (same_name names.firms firms firm other h k (ap (part (codes "firm")) e))
+  same_object Accepted Accepted h k short short' line e = refl
+  same_object (ExchangeFails firm x y at) (ExchangeFails other x' y' at') h k short short' line e =
       let same_at = same_option names.trades trades at at' h.1.at k.1.at (ap (part (codes "at")) e) in
       let same_firm = same_name names.firms firms firm other h.0 k.0 (ap (part (codes "firm")) e) in
       let same_x = same_names names.trades trades x x' h.1.x k.1.x (ap (part (codes "x")) e) in
       let same_y = same_names names.trades trades y y' h.1.y k.1.y (ap (part (codes "y")) e) in
       λ i. ExchangeFails (same_firm i) (same_x i) (same_y i) (same_at i)
-  same_answer (Supported prices) (Supported others) h k short short' line e = ap Supported (same_prices names.trades 0 prices others (ap (part (codes "prices")) e))
-  same_answer (Cycle nodes cost) (Cycle others cost') h k short short' line e =
+  same_object (Supported on prices ends) (Supported on' prices' ends') h k short short' line e = same_prices names.trades 0 prices prices' (ap (part (codes "prices")) e)
+  same_object (Cycle nodes cost) (Cycle others cost') h k short short' line e =
       let same_cost = same_integer cost cost' (ap (part (codes "cost")) e) in
       let same_list = same_nodes names.trades trades nodes others h k (ap (part (codes "nodes")) e) in
       λ i. Cycle (same_list i) (same_cost i)
-  same_answer (Solved on prices surplus) (Solved on' prices' surplus') h k short short' line e =
+  same_object (Solved on prices surplus ends) (Solved on' prices' surplus' ends') h k short short' line e =
       let same_on = same_names names.trades trades on on' h.0 k.0 (ap (part (codes "on")) e) in
       let same_list = same_prices names.trades 0 prices prices' (ap (part (codes "prices")) e) in
       let same_surplus = same_integer surplus surplus' (ap (part (codes "surplus")) e) in
-      λ i. Solved (same_on i) (same_list i) (same_surplus i)
-  same_answer (Rows on prices surplus) (Rows others other_prices other_surplus) h k short short' line e = same_rows names.trades on others prices other_prices h.0 k.0 h.1 k.1 short.0 short'.0 line
-  same_answer (Drill size start firms surplus) (Drill size' start' firms' surplus') h k short short' line e =
+      (same_on, same_list, same_surplus)
+  same_object (Drill size start firms surplus) (Drill size' start' firms' surplus') h k short short' line e =
       let same_size = ap (λ d. natural_in (part (codes "size") d)) e in
       let same_start = ap (λ d. natural_in (part (codes "start") d)) e in
       let same_firms = ap (λ d. natural_in (part (codes "firms") d)) e in
       let same_surplus = same_integer surplus surplus' (ap (part (codes "surplus")) e) in
       λ i. Drill (same_size i) (same_start i) (same_firms i) (same_surplus i)
-  same_answer (Ranges on ranges) (Ranges others other_ranges) h k short short' line e =
+  same_object (Ranges on ranges ends) (Ranges others other_ranges other_ends) h k short short' line e =
       let same_on = same_names names.trades trades on others h.0 k.0 (ap (part (codes "on")) e) in
       let same_list = same_ranges names.trades trades 0 ranges other_ranges h.2 k.2 (ap (part (codes "ranges")) e) in
-      λ i. Ranges (same_on i) (same_list i)
-  same_answer (Session edits) (Session others) h k short short' line e = ap Session (same_states names.trades trades edits others h k (ap (part (codes "edits")) e))
-  same_answer (Drops firm keeps gain over) (Drops other keeps' gain' over') h k short short' line e =
+      (same_on, same_list)
+  same_object (Session edits) (Session others) h k short short' line e = ap Session (same_states names.trades trades edits others h k (ap (part (codes "edits")) e))
+  same_object (Drops firm keeps gain over) (Drops other keeps' gain' over') h k short short' line e =
       let same_firm = same_name names.firms firms firm other h.0 k.0 (ap (part (codes "firm")) e) in
       let same_keeps = same_names names.trades trades keeps keeps' h.1 k.1 (ap (part (codes "keeps")) e) in
       let same_gain = same_bound names.trades trades gain gain' (ap (part (codes "gain")) e) in
       let same_over = same_integer over over' (ap (part (codes "over")) e) in
       λ i. Drops (same_firm i) (same_keeps i) (same_gain i) (same_over i)
-  same_answer (Completes prices over) (Completes prices' over') h k short short' line e =
+  same_object (Completes prices over) (Completes prices' over') h k short short' line e =
       let same_list = same_prices names.trades 0 prices prices' (ap (part (codes "prices")) e) in
       let same_over = same_integer over over' (ap (part (codes "over")) e) in
       λ i. Completes (same_list i) (same_over i)
-  same_answer (Blocks contracts over) (Blocks contracts' over') h k short short' line e =
+  same_object (Blocks contracts over) (Blocks contracts' over') h k short short' line e =
       let same_list = same_contracts names.trades trades contracts contracts' h k (ap (part (codes "contracts")) e) in
       let same_over = same_integer over over' (ap (part (codes "over")) e) in
       λ i. Blocks (same_list i) (same_over i)
-  same_answer Valid Valid h k short short' line e = refl
-  same_answer (Invalid reason) (Invalid other) h k short short' line e = ap Invalid (same_reason names firms trades reason other h k e)
-  same_answer (Cases count failed) (Cases count' failed') h k short short' line e =
+  same_object Valid Valid h k short short' line e = refl
+  same_object (Invalid reason) (Invalid other) h k short short' line e = ap Invalid (same_reason names firms trades reason other h k e)
+  same_object (Cases count failed) (Cases count' failed') h k short short' line e =
       let same_count = ap (λ d. natural_in (part (codes "count") d)) e in
       let same_failed = same_numbers failed failed' (ap (part (codes "failed")) e) in
       λ i. Cases (same_count i) (same_failed i)
-  same_answer (FirmsIs content holdings surplus) (FirmsIs content' holdings' surplus') h k short short' line e =
+  same_object (FirmsIs content holdings surplus) (FirmsIs content' holdings' surplus') h k short short' line e =
       let same_content = ap (λ d. natural_in (part (codes "content") d)) e in
       let same_list = same_holdings names trades 0 holdings holdings' h.1 k.1 (ap (part (codes "firms")) e) in
       let same_surplus = same_bound names.trades trades surplus surplus' (ap (part (codes "surplus")) e) in
       λ i. FirmsIs (same_content i) (same_list i) (same_surplus i)
-  same_answer (PageIs Help) (PageIs Help) h k short short' line e = refl
-  same_answer (PageIs VersionPage) (PageIs VersionPage) h k short short' line e = refl
-  same_answer (PageIs Help) (PageIs VersionPage) h k short short' line e = absurd (clash 102 49 refl (ap eighth_byte line))
-  same_answer (PageIs VersionPage) (PageIs Help) h k short short' line e = absurd (clash 49 102 refl (ap eighth_byte line))
-  same_answer (Rows on prices surplus) (PageIs page) h k short short' line e = absurd (clash 116 109 refl (ap first_byte line ∙ page_begins page))
-  same_answer (PageIs page) (Rows on prices surplus) h k short short' line e = absurd (clash 116 109 refl (ap first_byte (sym line) ∙ page_begins page))
-  same_answer first second h k short short' line e = absurd (clash (mark (answer_text first)) (mark (answer_text second)) refl (same_mark first second e))
+  same_object (PageIs Help) (PageIs Help) h k short short' line e = refl
+  same_object (PageIs VersionPage) (PageIs VersionPage) h k short short' line e = refl
+  same_object (PageIs Help) (PageIs VersionPage) h k short short' line e = absurd (clash 102 49 refl (ap eighth_byte line))
+  same_object (PageIs VersionPage) (PageIs Help) h k short short' line e = absurd (clash 49 102 refl (ap eighth_byte line))
+  same_object first second h k short short' line e = absurd (clash (mark (answer_text first)) (mark (answer_text second)) refl (same_mark first second e))
 
--- ---- layouts
+-- ---- forms
 
--- a line of JSON begins with a brace, rows with their head's first letter, and a page with the program's
-abbrev beginning : Layout → ℕ
+-- a line of JSON begins with a brace, and a page with the program's first letter
+abbrev beginning : Form → ℕ
 beginning (json value) = 123
-beginning (rows fields) = 116
 beginning (lines texts) = 109
 
-begins : (names : NameLists) (said : Said) → first_byte (layout_text (answer_layout names said)) ≡ beginning (answer_layout names said)
-begins names (Rows on prices surplus) = refl
+begins : (names : NameLists) (said : Said) → first_byte (form_text (answer_form names said)) ≡ beginning (answer_form names said)
 begins names (PageIs page) = page_begins page
 begins names (FaultIs fault) = by fault.shown
   where
@@ -536,28 +537,174 @@ begins names (FaultIs fault) = by fault.shown
 begins names said = refl
 
 module _ (names : NameLists) (first second : Said) where
-  starts : (said : Said) (l : Layout) → answer_layout names said ≡ l → first_byte (layout_text l) ≡ beginning l
-  starts said l e = subst (λ l. first_byte (layout_text l) ≡ beginning l) e (begins names said)
+  starts : (said : Said) (l : Form) → answer_form names said ≡ l → first_byte (form_text l) ≡ beginning l
+  starts said l e = subst (λ l. first_byte (form_text l) ≡ beginning l) e (begins names said)
 
   -- equal texts begin alike
-  same_beginning : (l m : Layout) → answer_layout names first ≡ l → answer_layout names second ≡ m → layout_text l ≡ layout_text m → beginning l ≡ beginning m
+  same_beginning : (l m : Form) → answer_form names first ≡ l → answer_form names second ≡ m → form_text l ≡ form_text m → beginning l ≡ beginning m
   same_beginning l m p q same = sym (starts first l p) ∙ ap first_byte same ∙ starts second m q
 
-  same_data : (l m : Layout) → answer_layout names first ≡ l → answer_layout names second ≡ m → IsPlain (data_in l) → IsPlain (data_in m) → layout_text l ≡ layout_text m → data_in l ≡ data_in m
+  same_data : (l m : Form) → answer_form names first ≡ l → answer_form names second ≡ m → IsPlain (data_in l) → IsPlain (data_in m) → form_text l ≡ form_text m → data_in l ≡ data_in m
   same_data (json d) (json e) p q plain_d plain_e same = compact_text-tells d e 10 plain_d plain_e (λ h. omega (arith, h)) same
-  same_data (json d) (rows s) p q plain_d plain_e same = absurd (clash 123 116 refl (same_beginning (json d) (rows s) p q same))
   same_data (json d) (lines t) p q plain_d plain_e same = absurd (clash 123 109 refl (same_beginning (json d) (lines t) p q same))
-  same_data (rows r) (json e) p q plain_d plain_e same = absurd (clash 116 123 refl (same_beginning (rows r) (json e) p q same))
   same_data (lines t) (json e) p q plain_d plain_e same = absurd (clash 109 123 refl (same_beginning (lines t) (json e) p q same))
-  same_data (rows r) (rows s) p q plain_d plain_e same = refl
-  same_data (rows r) (lines t) p q plain_d plain_e same = refl
-  same_data (lines t) (rows s) p q plain_d plain_e same = refl
   same_data (lines t) (lines u) p q plain_d plain_e same = refl
+
+-- ---- rows
+
+module _ (names : NameLists) (firms : IsNameList names.firms) (trades : IsNameList names.trades) where
+  -- answers of one text are written alike as objects
+  told_apart : (first second : Said) → IsNamedAnswer names first → IsNamedAnswer names second → HasShortNumbers first → HasShortNumbers second
+      → form_text (answer_form names first) ≡ form_text (answer_form names second) → IsSameObject names first second
+  told_apart first second h k short short' same =
+      let plain_first = answer_is_plain names firms trades first short in
+      let plain_second = answer_is_plain names firms trades second short' in
+      same_object names firms trades first second h k short short' same
+      (same_data names first second (answer_form names first) (answer_form names second) refl refl plain_first plain_second same)
+
+  -- the first byte of an answer that isn't rows
+  abbrev start : Said → ℕ
+  start said = beginning (answer_form names said)
+
+  same_ends : (ends others : List Ends) → AreNamedEnds names ends → AreNamedEnds names others
+      → ((t : ℕ) → t < length names.trades → (seller_text names.firms (slice_get ends t) ≡ seller_text names.firms (slice_get others t)) × (buyer_text names.firms (slice_get ends t) ≡ buyer_text names.firms (slice_get others t)))
+      → AreSameEnds ends others
+  same_ends ends others named other_named h =
+      let one_each = named.one_each in
+      let counted = one_each ∙ sym other_named.one_each in
+      record {
+        same_sellers = same_places (λ trade. trade.seller) ends others counted
+            (λ t x y at at'. same_name_text names.firms firms x.seller y.seller (there (λ trade. IsNamed names.firms trade.seller) ends t x named.sellers at) (there (λ trade. IsNamed names.firms trade.seller) others t y other_named.sellers at')
+            (sym (ap (seller_text names.firms) at) ∙ (h t (inside t x at one_each)).0 ∙ ap (seller_text names.firms) at'));
+        same_buyers = same_places (λ trade. trade.buyer) ends others counted
+            (λ t x y at at'. same_name_text names.firms firms x.buyer y.buyer (there (λ trade. IsNamed names.firms trade.buyer) ends t x named.buyers at) (there (λ trade. IsNamed names.firms trade.buyer) others t y other_named.buyers at')
+            (sym (ap (buyer_text names.firms) at) ∙ (h t (inside t x at one_each)).1 ∙ ap (buyer_text names.firms) at'));
+      }
+    where
+      inside : (t : ℕ) (x : Ends) → slice_get ends t ≡ Some x → length ends ≡ length names.trades → t < length names.trades
+      inside t x at counted = let below = slice_get_within ends t x at in omega (arith, below, counted)
+
+  -- rows that stand at each trade of a table agree at each trade
+  at_each : {A : Type 0} (xs ys : List A) (row other : ℕ → A → List (List ℕ)) → length xs ≡ length names.trades → length ys ≡ length names.trades
+      → ((k : ℕ) (x y : A) → slice_get xs k ≡ Some x → slice_get ys k ≡ Some y → read_back (row k x) ≡ read_back (other k y))
+      → (t : ℕ) → t < length names.trades → (x : A) × (y : A) × (read_back (row t x) ≡ read_back (other t y))
+  at_each xs ys row other counted other_counted rows t below =
+      let x = item_at xs t (omega (arith, below, counted)) in
+      let y = item_at ys t (omega (arith, below, other_counted)) in
+      (x.0, y.0, rows t x.0 y.0 x.1 y.1)
+
+  same_prices_in_rows : (i : ℕ) (xs ys : List ℤ) (row other : ℕ → ℤ → List (List ℕ)) → length xs ≡ length ys → All (FitsSigned w64) xs → All (FitsSigned w64) ys
+      → ((k : ℕ) (x : ℤ) → get_or (read_back (row k x)) i [] ≡ signed_decimal x) → ((k : ℕ) (y : ℤ) → get_or (read_back (other k y)) i [] ≡ signed_decimal y)
+      → ((k : ℕ) (x y : ℤ) → slice_get xs k ≡ Some x → slice_get ys k ≡ Some y → read_back (row k x) ≡ read_back (other k y)) → xs ≡ ys
+  same_prices_in_rows i xs ys row other counted short short' is other_is rows = same_items xs ys counted
+      (λ k x y at at'. same_decimal x y (there (FitsSigned w64) xs k x short at) (there (FitsSigned w64) ys k y short' at')
+      (sym (is k x) ∙ ap (λ r. get_or r i []) (rows k x y at at') ∙ other_is k y))
+
+  same_deals : (on : List ℕ) (prices : List ℤ) (ends : List Ends) (on' : List ℕ) (prices' : List ℤ) (ends' : List Ends)
+      → All (IsNamed names.trades) on → All (IsNamed names.trades) on' → length prices ≡ length names.trades → length prices' ≡ length names.trades
+      → AreNamedEnds names ends → AreNamedEnds names ends' → All (FitsSigned w64) prices → All (FitsSigned w64) prices'
+      → rows_text (table deal_head (deal_row names on ends) prices) ≡ rows_text (table deal_head (deal_row names on' ends') prices')
+      → AreSameOn on on' × (prices ≡ prices') × AreSameEnds ends ends'
+  same_deals on prices ends on' prices' ends' named named' one_each one_each' ends_named ends_named' short short' e =
+      let counted = one_each ∙ sym one_each' in
+      let rows = same_tables (deal_row names on ends) (deal_row names on' ends') deal_head prices prices' counted e in
+      let each = at_each prices prices' (deal_row names on ends) (deal_row names on' ends') one_each one_each' rows in (
+        same_on (length names.trades) on on' named named' (λ t below. ap (λ r. get_or r 3 []) (each t below).2),
+        same_prices_in_rows 4 prices prices' (deal_row names on ends) (deal_row names on' ends') counted short short' (λ k x. refl) (λ k y. refl) rows,
+        same_ends ends ends' ends_named ends_named' (λ t below. (ap (λ r. get_or r 1 []) (each t below).2, ap (λ r. get_or r 2 []) (each t below).2)),
+      )
+
+  same_prices_alone : (on : List ℕ) (prices : List ℤ) (on' : List ℕ) (prices' : List ℤ)
+      → All (IsNamed names.trades) on → All (IsNamed names.trades) on' → length prices ≡ length names.trades → length prices' ≡ length names.trades → All (FitsSigned w64) prices → All (FitsSigned w64) prices'
+      → rows_text (table price_head (price_row names on) prices) ≡ rows_text (table price_head (price_row names on') prices') → AreSameOn on on' × (prices ≡ prices')
+  same_prices_alone on prices on' prices' named named' one_each one_each' short short' e =
+      let counted = one_each ∙ sym one_each' in
+      let rows = same_tables (price_row names on) (price_row names on') price_head prices prices' counted e in
+      let each = at_each prices prices' (price_row names on) (price_row names on') one_each one_each' rows in (
+        same_on (length names.trades) on on' named named' (λ t below. ap (λ r. get_or r 1 []) (each t below).2),
+        same_prices_in_rows 2 prices prices' (price_row names on) (price_row names on') counted short short' (λ k x. refl) (λ k y. refl) rows,
+      )
+
+  same_range_rows : (on : List ℕ) (ranges : List Range) (ends : List Ends) (on' : List ℕ) (ranges' : List Range) (ends' : List Ends)
+      → All (IsNamed names.trades) on → All (IsNamed names.trades) on' → length ranges ≡ length names.trades → length ranges' ≡ length names.trades
+      → AreNamedEnds names ends → AreNamedEnds names ends' → All HasShortBounds ranges → All HasShortBounds ranges'
+      → rows_text (table range_head (range_row names on ends) ranges) ≡ rows_text (table range_head (range_row names on' ends') ranges')
+      → AreSameOn on on' × AreSameBounds ranges ranges' × AreSameEnds ends ends'
+  same_range_rows on ranges ends on' ranges' ends' named named' one_each one_each' ends_named ends_named' short short' e =
+      let counted = one_each ∙ sym one_each' in
+      let rows = same_tables (range_row names on ends) (range_row names on' ends') range_head ranges ranges' counted e in
+      let each = at_each ranges ranges' (range_row names on ends) (range_row names on' ends') one_each one_each' rows in
+      let bounds : AreSameBounds ranges ranges' = record {
+        same_lows = same_places (λ range. range.low) ranges ranges' counted
+            (λ t x y at at'. same_bound_text x.low y.low (there HasShortBounds ranges t x short at).low (there HasShortBounds ranges' t y short' at').low (ap (λ r. get_or r 4 []) (rows t x y at at')));
+        same_highs = same_places (λ range. range.high) ranges ranges' counted
+            (λ t x y at at'. same_bound_text x.high y.high (there HasShortBounds ranges t x short at).high (there HasShortBounds ranges' t y short' at').high (ap (λ r. get_or r 5 []) (rows t x y at at')));
+      } in (
+        same_on (length names.trades) on on' named named' (λ t below. ap (λ r. get_or r 3 []) (each t below).2),
+        bounds,
+        same_ends ends ends' ends_named ends_named' (λ t below. (ap (λ r. get_or r 1 []) (each t below).2, ap (λ r. get_or r 2 []) (each t below).2)),
+      )
+
+  same_firm_row : (k : ℕ) (x y : Holding) → IsNamedHolding names.trades x → IsNamedHolding names.trades y → IsShortHolding x → IsShortHolding y
+      → read_back (firm_row names k x) ≡ read_back (firm_row names k y) → x ≡ y
+  same_firm_row k x y h i short short' e =
+      let worth = same_bound_text x.worth y.worth short.worth short'.worth (ap (λ r. get_or r 2 []) e) in
+      let utility = same_bound_text x.utility y.utility short.utility short'.utility (ap (λ r. get_or r 3 []) e) in
+      let best_utility = same_decimal x.best_utility y.best_utility short.best_utility short'.best_utility (ap (λ r. get_or r 4 []) e) in
+      let gain = same_bound_text x.gain y.gain short.gain short'.gain (ap (λ r. get_or r 5 []) e) in
+      let has = same_bundle names.trades trades x.has y.has h.has i.has (ap (λ r. get_or r 6 []) e) in
+      let best = same_bundle names.trades trades x.best y.best h.best i.best (ap (λ r. get_or r 7 []) e) in
+      λ j. record { has = has j; worth = worth j; utility = utility j; best = best j; best_utility = best_utility j; gain = gain j }
+
+  same_firm_rows : (xs ys : List Holding) → length xs ≡ length ys → All (IsNamedHolding names.trades) xs → All (IsNamedHolding names.trades) ys → All IsShortHolding xs → All IsShortHolding ys
+      → rows_text (table firm_head (firm_row names) xs) ≡ rows_text (table firm_head (firm_row names) ys) → xs ≡ ys
+  same_firm_rows xs ys counted h i short short' e = same_items xs ys counted
+      (λ k x y at at'. same_firm_row k x y (there (IsNamedHolding names.trades) xs k x h at) (there (IsNamedHolding names.trades) ys k y i at') (there IsShortHolding xs k x short at) (there IsShortHolding ys k y short' at')
+      (same_tables (firm_row names) (firm_row names) firm_head xs ys counted e k x y at at'))
+
+  abbrev byte : ℕ → List ℕ → ℕ
+  byte k text = get_or text k 0
+
+  -- heads of different tables differ in a byte, and rows begin with another byte than other answers
+  same_in_rows : (first second : Said) → IsNamedAnswer names first → IsNamedAnswer names second → HasShortNumbers first → HasShortNumbers second
+      → text_of (table_of names first AsRows) (answer_form names first) ≡ text_of (table_of names second AsRows) (answer_form names second) → IsSameInRows names first second
+  unfolding fields_text
+  same_in_rows (Supported on prices ends) (Supported on' prices' ends') h k short short' e = same_deals on prices ends on' prices' ends' h.0 k.0 h.1 k.1 h.2 k.2 short short' e
+  same_in_rows (Solved on prices surplus ends) (Solved on' prices' surplus' ends') h k short short' e = same_prices_alone on prices on' prices' h.0 k.0 h.1 k.1 short.0 short'.0 e
+  same_in_rows (Ranges on ranges ends) (Ranges on' ranges' ends') h k short short' e = same_range_rows on ranges ends on' ranges' ends' h.0 k.0 h.1 k.1 h.3 k.3 short short' e
+  same_in_rows (FirmsIs content holdings surplus) (FirmsIs content' holdings' surplus') h k short short' e = same_firm_rows holdings holdings' (h.0 ∙ sym k.0) h.1 k.1 short.1 short'.1 e
+  same_in_rows (Supported on prices ends) (Solved on' prices' surplus' ends') h k short short' e = absurd (clash 115 111 refl (ap (byte 6) e))
+  same_in_rows (Supported on prices ends) (Ranges on' ranges' ends') h k short short' e = absurd (clash 112 108 refl (ap (byte 22) e))
+  same_in_rows (Supported on prices ends) (FirmsIs content' holdings' surplus') h k short short' e = absurd (clash 116 102 refl (ap (byte 0) e))
+  same_in_rows (Solved on prices surplus ends) (Supported on' prices' ends') h k short short' e = absurd (clash 111 115 refl (ap (byte 6) e))
+  same_in_rows (Solved on prices surplus ends) (Ranges on' ranges' ends') h k short short' e = absurd (clash 111 115 refl (ap (byte 6) e))
+  same_in_rows (Solved on prices surplus ends) (FirmsIs content' holdings' surplus') h k short short' e = absurd (clash 116 102 refl (ap (byte 0) e))
+  same_in_rows (Ranges on ranges ends) (Supported on' prices' ends') h k short short' e = absurd (clash 108 112 refl (ap (byte 22) e))
+  same_in_rows (Ranges on ranges ends) (Solved on' prices' surplus' ends') h k short short' e = absurd (clash 115 111 refl (ap (byte 6) e))
+  same_in_rows (Ranges on ranges ends) (FirmsIs content' holdings' surplus') h k short short' e = absurd (clash 116 102 refl (ap (byte 0) e))
+  same_in_rows (FirmsIs content holdings surplus) (Supported on' prices' ends') h k short short' e = absurd (clash 102 116 refl (ap (byte 0) e))
+  same_in_rows (FirmsIs content holdings surplus) (Solved on' prices' surplus' ends') h k short short' e = absurd (clash 102 116 refl (ap (byte 0) e))
+  same_in_rows (FirmsIs content holdings surplus) (Ranges on' ranges' ends') h k short short' e = absurd (clash 102 116 refl (ap (byte 0) e))
+  same_in_rows (Supported on prices ends) second h k short short' e = absurd (clash 116 (start second) refl (ap (byte 0) e ∙ begins names second))
+  same_in_rows (Solved on prices surplus ends) second h k short short' e = absurd (clash 116 (start second) refl (ap (byte 0) e ∙ begins names second))
+  same_in_rows (Ranges on ranges ends) second h k short short' e = absurd (clash 116 (start second) refl (ap (byte 0) e ∙ begins names second))
+  same_in_rows (FirmsIs content holdings surplus) second h k short short' e = absurd (clash 102 (start second) refl (ap (byte 0) e ∙ begins names second))
+  same_in_rows first (Supported on prices ends) h k short short' e = absurd (clash 116 (start first) refl (ap (byte 0) (sym e) ∙ begins names first))
+  same_in_rows first (Solved on prices surplus ends) h k short short' e = absurd (clash 116 (start first) refl (ap (byte 0) (sym e) ∙ begins names first))
+  same_in_rows first (Ranges on ranges ends) h k short short' e = absurd (clash 116 (start first) refl (ap (byte 0) (sym e) ∙ begins names first))
+  same_in_rows first (FirmsIs content holdings surplus) h k short short' e = absurd (clash 102 (start first) refl (ap (byte 0) (sym e) ∙ begins names first))
+  same_in_rows first second h k short short' e = told_apart first second h k short short' e
+
+  same_in_wide_rows : (first second : Said) → IsNamedAnswer names first → IsNamedAnswer names second → HasShortNumbers first → HasShortNumbers second
+      → text_of (table_of names first AsWideRows) (answer_form names first) ≡ text_of (table_of names second AsWideRows) (answer_form names second) → IsSameInWideRows names first second
+  same_in_wide_rows (Solved on prices surplus ends) (Solved on' prices' surplus' ends') h k short short' e = same_deals on prices ends on' prices' ends' h.0 k.0 h.1 k.1 h.2 k.2 short.0 short'.0 e
+  same_in_wide_rows (Solved on prices surplus ends) second h k short short' e = absurd (clash 116 (start second) refl (ap (byte 0) e ∙ begins names second))
+  same_in_wide_rows first (Solved on prices surplus ends) h k short short' e = absurd (clash 116 (start first) refl (ap (byte 0) (sym e) ∙ begins names first))
+  same_in_wide_rows first second h k short short' e = told_apart first second h k short short' e
 
 pub answers_told_apart : AnswersAreToldApart
 unfolding answer_line
-answers_told_apart names first second firms trades named_first named_second short_first short_second same =
-    let plain_first = answer_is_plain names firms trades first short_first in
-    let plain_second = answer_is_plain names firms trades second short_second in
-    same_answer names firms trades first second named_first named_second short_first short_second same
-    (same_data names first second (answer_layout names first) (answer_layout names second) refl refl plain_first plain_second same)
+answers_told_apart AsObject names first second firms trades h k short short' same =
+    told_apart names firms trades first second h k short short' (object_line names first ∙ same ∙ sym (object_line names second))
+answers_told_apart AsRows names first second firms trades h k short short' same = same_in_rows names firms trades first second h k short short' same
+answers_told_apart AsWideRows names first second firms trades h k short short' same = same_in_wide_rows names firms trades first second h k short short' same

@@ -1,16 +1,16 @@
 -- A price that is written fits the type that it is kept in.
-use Rattle.std.proofs.Common.{◌≡◌, ℕ, ℤ, arith, List, All, get_or, slice_get, Some, FitsSigned}
+use Rattle.std.proofs.Common.{◌≡◌, ℕ, ℤ, arith, subst, List, All, slice_get, Some, FitsSigned}
 use Rattle.std.specs.Int.{w64}
 use Rattle.std.proofs.lemmas.Int.{ints}
 use Rattle.std.proofs.lemmas.Option.{slice_get_within, get_or_from_slice_get}
 use mir.Syntax.{w128}
 use mir.Val.{SFits}
 
+pub wide : (z : ℤ) → FitsSigned w64 z → SFits w128 z
+wide z h = omega (arith, ints, h)
+
 pub fits : (prices : List ℤ) (k : ℕ) (price : ℤ) → All (FitsSigned w64) prices → slice_get prices k ≡ Some price → SFits w128 price
 fits prices k price short at =
     let here = short k price (slice_get_within prices k price at) in
     let same = get_or_from_slice_get prices k price price at in
-    wide (get_or prices k price) price same here
-  where
-    wide : (y z : ℤ) → y ≡ z → FitsSigned w64 y → SFits w128 z
-    wide y z same h = omega (arith, ints, same, h)
+    wide price (subst (FitsSigned w64) same here)

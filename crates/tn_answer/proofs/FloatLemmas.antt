@@ -15,7 +15,7 @@ use Rattle.tn_plain_data.specs.declared.holding.Holding.{Holding}
 use Rattle.tn_plain_data.specs.declared.range.Range.{Range}
 use Rattle.tn_plain_data.specs.declared.session.State.{State}
 use Rattle.tn_plain_data.specs.declared.said.Said.{Said}
-use Rattle.tn_plain_data.specs.declared.said.Said.TheVariants.{Usage, ReadFault, NoMemory, Fault as FaultIs, Equilibrium, Better, Impossible, Accepted, ExchangeFails, Supported, Cycle, Solved, Rows, Drill, Ranges, Session, Drops, Completes, Blocks, Valid, Invalid, Cases, Page as PageIs, Firms}
+use Rattle.tn_plain_data.specs.declared.said.Said.TheVariants.{Usage, ReadFault, NoMemory, Fault as FaultIs, Equilibrium, Better, Impossible, Accepted, ExchangeFails, Supported, Cycle, Solved, Drill, Ranges, Session, Drops, Completes, Blocks, Valid, Invalid, Cases, Page as PageIs, Firms}
 use Rattle.tn_answer.specs.AnswerText.{prices_from, nodes_data, step_data, place_data, fault_data, contracts_data, range_data, states_data, holding_data, answer, answer_data}
 use Rattle.tn_answer.specs.ReasonText.{reason_members}
 use Rattle.tn_answer.specs.Values.{names_data, option_data, bound_data, numbers_data}
@@ -120,13 +120,12 @@ answer_has_no_float names (Better firm bundle gain) = neither _ _ (names_have_no
 answer_has_no_float names (Impossible firm) = refl
 answer_has_no_float names Accepted = refl
 answer_has_no_float names (ExchangeFails firm x y at) = neither _ _ (option_has_no_float names.trades at) (neither _ _ (names_have_no_float names.trades x) (neither _ _ (names_have_no_float names.trades y) refl))
-answer_has_no_float names (Supported prices) = neither _ _ (prices_have_no_float names.trades 0 prices) refl
+answer_has_no_float names (Supported on prices ends) = neither _ _ (prices_have_no_float names.trades 0 prices) refl
 answer_has_no_float names (Cycle nodes cost) = neither _ _ (integer_is_no_float cost) (neither _ _ (nodes_have_no_float names.trades nodes) refl)
-answer_has_no_float names (Solved on prices surplus) =
+answer_has_no_float names (Solved on prices surplus ends) =
     neither _ _ (names_have_no_float names.trades on) (neither _ _ (prices_have_no_float names.trades 0 prices) (neither _ _ (integer_is_no_float surplus) refl))
-answer_has_no_float names (Rows on prices surplus) = refl
 answer_has_no_float names (Drill size start firms surplus) = neither _ _ (integer_is_no_float surplus) refl
-answer_has_no_float names (Ranges on ranges) = neither _ _ (names_have_no_float names.trades on) (neither _ _ (ranges_have_no_float names.trades 0 ranges) refl)
+answer_has_no_float names (Ranges on ranges ends) = neither _ _ (names_have_no_float names.trades on) (neither _ _ (ranges_have_no_float names.trades 0 ranges) refl)
 answer_has_no_float names (Session edits) = neither _ _ (states_have_no_float names.trades edits) refl
 answer_has_no_float names (Drops firm keeps gain over) = neither _ _ (bound_has_no_float names.trades gain) (neither _ _ (names_have_no_float names.trades keeps) (neither _ _ (integer_is_no_float over) refl))
 answer_has_no_float names (Completes prices over) = neither _ _ (integer_is_no_float over) (neither _ _ (prices_have_no_float names.trades 0 prices) refl)

@@ -1,5 +1,5 @@
 -- Where an answer names no firm and no trade, names don't matter.
-use Rattle.std.proofs.Common.{◌≡◌, ℕ, Bool, true, false, ◌&&◌, List, [], ◌∷◌, map, codes, All, get_or, Option, None, Some, IfSome, is_none, refl, ap, true≢false, sym, arith, FitsSigned, ℤ, ◌<◌, ◌^◌}
+use Rattle.std.proofs.Common.{◌≡◌, ℕ, Bool, true, false, ◌&&◌, List, [], ◌∷◌, map, codes, All, get_or, Option, None, Some, IfSome, is_none, refl, ap, ◌∙◌, true≢false, sym, arith, FitsSigned, ℤ, ◌<◌, ◌^◌}
 use Rattle.std.specs.Int.{w64}
 use Rattle.std.proofs.lemmas.Int.{ints}
 use Rattle.std.specs.List.{list_all}
@@ -16,9 +16,11 @@ use Rattle.tn_plain_data.specs.declared.holding.Holding.{Holding}
 use Rattle.tn_plain_data.specs.declared.range.Range.{Range}
 use Rattle.tn_plain_data.specs.declared.session.State.{State}
 use Rattle.tn_plain_data.specs.declared.said.Said.{Said}
-use Rattle.tn_plain_data.specs.declared.said.Said.TheVariants.{Usage, ReadFault, NoMemory, Fault as FaultIs, Equilibrium, Better, Impossible, Accepted, ExchangeFails, Supported, Cycle, Solved, Rows, Drill, Ranges, Session, Drops, Completes, Blocks, Valid, Invalid, Cases, Page as PageIs, Firms}
+use Rattle.tn_plain_data.specs.declared.said.Said.TheVariants.{Usage, ReadFault, NoMemory, Fault as FaultIs, Equilibrium, Better, Impossible, Accepted, ExchangeFails, Supported, Cycle, Solved, Drill, Ranges, Session, Drops, Completes, Blocks, Valid, Invalid, Cases, Page as PageIs, Firms}
 use Rattle.tn_names.specs.Names.{NameLists}
-use Rattle.tn_answer.specs.AnswerText.{contracts_data, state_data, prices_data, nodes_data, step_data, answer, fault_members, fault_data, json, answer_layout, layout_text, answer_line}
+use Rattle.tn_answer.specs.AnswerText.{contracts_data, state_data, prices_data, nodes_data, step_data, answer, fault_members, fault_data, json, answer_form, form_text, table_of, text_of, answer_line}
+use Rattle.tn_answer.specs.declared.layout.Layout.{Layout}
+use Rattle.tn_answer.specs.declared.layout.Layout.TheVariants.{Object, Rows, WideRows}
 use Rattle.tn_answer.specs.Values.{names_data, option_data, integer_data}
 use Rattle.tn_answer.specs.ReasonText.{reason_members, reason_names_nothing, IsReasonWithin, IsShortReason}
 use Rattle.tn_answer.specs.Sayable.{HasShortBounds, IsSayable, IsShortHolding, IsShortState}
@@ -98,46 +100,77 @@ same_reason (Over over) names others e = refl
 same_reason Empty names others e = refl
 same_reason reason names others e = absurd (true≢false (sym e))
 
-same_layout : (said : Said) (names others : NameLists) → names_nothing said ≡ true → answer_layout names said ≡ answer_layout others said
-same_layout Usage names others e = refl
-same_layout ReadFault names others e = refl
-same_layout NoMemory names others e = refl
-same_layout (FaultIs fault) names others e =
+same_form : (said : Said) (names others : NameLists) → names_nothing said ≡ true → answer_form names said ≡ answer_form others said
+same_form Usage names others e = refl
+same_form ReadFault names others e = refl
+same_form NoMemory names others e = refl
+same_form (FaultIs fault) names others e =
     let parts = both (list_all names_no_trade_at fault.place) (names_no_trade_in fault.shown) e in
     ap json (same_fault names.trades others.trades fault fault.shown parts.0 parts.1)
-same_layout (Equilibrium surplus) names others e = refl
-same_layout (Better firm bundle gain) names others e = absurd (true≢false (sym e))
-same_layout (Impossible firm) names others e = absurd (true≢false (sym e))
-same_layout Accepted names others e = refl
-same_layout (ExchangeFails firm x y at) names others e = absurd (true≢false (sym e))
-same_layout (Supported prices) names others e = ap (λ d. json (answer (codes "prices") (member (codes "prices") d no_members))) (same_prices names.trades others.trades prices e)
-same_layout (Cycle nodes cost) names others e = ap (λ d. json (answer (codes "cycle") (member (codes "cost") (integer_data cost) (member (codes "nodes") d no_members)))) (same_nodes names.trades others.trades nodes e)
-same_layout (Solved on prices surplus) names others e =
+same_form (Equilibrium surplus) names others e = refl
+same_form (Better firm bundle gain) names others e = absurd (true≢false (sym e))
+same_form (Impossible firm) names others e = absurd (true≢false (sym e))
+same_form Accepted names others e = refl
+same_form (ExchangeFails firm x y at) names others e = absurd (true≢false (sym e))
+same_form (Supported on prices ends) names others e = ap (λ d. json (answer (codes "prices") (member (codes "prices") d no_members))) (same_prices names.trades others.trades prices e)
+same_form (Cycle nodes cost) names others e = ap (λ d. json (answer (codes "cycle") (member (codes "cost") (integer_data cost) (member (codes "nodes") d no_members)))) (same_nodes names.trades others.trades nodes e)
+same_form (Solved on prices surplus ends) names others e =
     let parts = both (are_none on) (is_empty prices) e in
     λ j. json (answer (codes "solved")
     (member (codes "on") (same_names names.trades others.trades on parts.0 j)
     (member (codes "prices") (same_prices names.trades others.trades prices parts.1 j) (member (codes "surplus") (integer_data surplus) no_members))))
-same_layout (Rows on [] surplus) names others e = refl
-same_layout (Rows on (price ∷ prices) surplus) names others e = absurd (true≢false (sym e))
-same_layout (Drill size start firms surplus) names others e = refl
-same_layout (Ranges on []) names others e =
+same_form (Drill size start firms surplus) names others e = refl
+same_form (Ranges on [] ends) names others e =
     let parts = both (are_none on) true e in
     ap (λ d. json (answer (codes "ranges") (member (codes "on") d (member (codes "ranges") (array (items_of [])) no_members)))) (same_names names.trades others.trades on parts.0)
-same_layout (Ranges on (range ∷ ranges)) names others e = absurd (true≢false (sym (both (are_none on) false e).1))
-same_layout (Session edits) names others e = ap (λ ds. json (answer (codes "session") (member (codes "edits") (array (items_of ds)) no_members))) (same_states names.trades others.trades edits e)
-same_layout (Drops firm keeps gain over) names others e = absurd (true≢false (sym e))
-same_layout (Completes prices over) names others e = ap (λ d. json (answer (codes "completes") (member (codes "over") (integer_data over) (member (codes "prices") d no_members)))) (same_prices names.trades others.trades prices e)
-same_layout (Blocks contracts over) names others e = ap (λ d. json (answer (codes "blocks") (member (codes "contracts") d (member (codes "over") (integer_data over) no_members)))) (same_contracts names.trades others.trades contracts e)
-same_layout Valid names others e = refl
-same_layout (Invalid reason) names others e = ap (λ ms. json (answer (codes "invalid") ms)) (same_reason reason names others e)
-same_layout (Cases count failed) names others e = refl
-same_layout (PageIs page) names others e = refl
-same_layout (Firms content [] surplus) names others e = refl
-same_layout (Firms content (holding ∷ holdings) surplus) names others e = absurd (true≢false (sym e))
+same_form (Ranges on (range ∷ ranges) ends) names others e = absurd (true≢false (sym (both (are_none on) false e).1))
+same_form (Session edits) names others e = ap (λ ds. json (answer (codes "session") (member (codes "edits") (array (items_of ds)) no_members))) (same_states names.trades others.trades edits e)
+same_form (Drops firm keeps gain over) names others e = absurd (true≢false (sym e))
+same_form (Completes prices over) names others e = ap (λ d. json (answer (codes "completes") (member (codes "over") (integer_data over) (member (codes "prices") d no_members)))) (same_prices names.trades others.trades prices e)
+same_form (Blocks contracts over) names others e = ap (λ d. json (answer (codes "blocks") (member (codes "contracts") d (member (codes "over") (integer_data over) no_members)))) (same_contracts names.trades others.trades contracts e)
+same_form Valid names others e = refl
+same_form (Invalid reason) names others e = ap (λ ms. json (answer (codes "invalid") ms)) (same_reason reason names others e)
+same_form (Cases count failed) names others e = refl
+same_form (PageIs page) names others e = refl
+same_form (Firms content [] surplus) names others e = refl
+same_form (Firms content (holding ∷ holdings) surplus) names others e = absurd (true≢false (sym e))
 
-pub same_line : (said : Said) (names others : NameLists) → names_nothing said ≡ true → answer_line names said ≡ answer_line others said
+same_rows : (said : Said) (names others : NameLists) → names_nothing said ≡ true → table_of names said Rows ≡ table_of others said Rows
+same_rows (Supported on [] ends) names others e = refl
+same_rows (Supported on (price ∷ prices) ends) names others e = absurd (true≢false (sym e))
+same_rows (Solved on [] surplus ends) names others e = refl
+same_rows (Solved on (price ∷ prices) surplus ends) names others e = absurd (true≢false (sym (both (are_none on) false e).1))
+same_rows (Ranges on [] ends) names others e = refl
+same_rows (Ranges on (range ∷ ranges) ends) names others e = absurd (true≢false (sym (both (are_none on) false e).1))
+same_rows (Firms content [] surplus) names others e = refl
+same_rows (Firms content (holding ∷ holdings) surplus) names others e = absurd (true≢false (sym e))
+same_rows said names others e = refl
+
+same_wide_rows : (said : Said) (names others : NameLists) → names_nothing said ≡ true → table_of names said WideRows ≡ table_of others said WideRows
+same_wide_rows (Solved on [] surplus ends) names others e = refl
+same_wide_rows (Solved on (price ∷ prices) surplus ends) names others e = absurd (true≢false (sym (both (are_none on) false e).1))
+same_wide_rows said names others e = refl
+
+-- no answer has rows as an object
+no_table : (names : NameLists) (said : Said) → table_of names said Object ≡ None
+no_table names (Supported on prices ends) = refl
+no_table names (Solved on prices surplus ends) = refl
+no_table names (Ranges on ranges ends) = refl
+no_table names (Firms content firms surplus) = refl
+no_table names said = refl
+
+pub object_line : (names : NameLists) (said : Said) → form_text (answer_form names said) ≡ answer_line Object names said
 unfolding answer_line
-same_line said names others e = ap layout_text (same_layout said names others e)
+object_line names said = ap (λ o. text_of o (answer_form names said)) (sym (no_table names said))
+
+same_table : (layout : Layout) (said : Said) (names others : NameLists) → names_nothing said ≡ true → table_of names said layout ≡ table_of others said layout
+same_table Object said names others e = no_table names said ∙ sym (no_table others said)
+same_table Rows said names others e = same_rows said names others e
+same_table WideRows said names others e = same_wide_rows said names others e
+
+pub same_line : (layout : Layout) (said : Said) (names others : NameLists) → names_nothing said ≡ true → answer_line layout names said ≡ answer_line layout others said
+unfolding answer_line
+same_line layout said names others e = λ j. text_of (same_table layout said names others e j) (same_form said names others e j)
 
 -- ---- within the limits of claims
 
@@ -208,12 +241,11 @@ within_sayable (Better firm bundle gain) within = fits_from_within gain within
 within_sayable (Impossible firm) within = tt
 within_sayable Accepted within = tt
 within_sayable (ExchangeFails firm x y at) within = tt
-within_sayable (Supported prices) within = prices_fit prices within
+within_sayable (Supported on prices ends) within = prices_fit prices within
 within_sayable (Cycle nodes cost) within = fits_from_within cost within
-within_sayable (Solved on prices surplus) within = (prices_fit prices within.0, fits_from_within surplus within.1)
-within_sayable (Rows on prices surplus) within = (prices_fit prices within.0, fits_from_within surplus within.1)
+within_sayable (Solved on prices surplus ends) within = (prices_fit prices within.0, fits_from_within surplus within.1)
 within_sayable (Drill size start firms surplus) within = (omega (arith, within.0), omega (arith, within.1), omega (arith, within.2), fits_from_within surplus within.3)
-within_sayable (Ranges on ranges) within = λ k d below. range_fits (get_or ranges k d) (within k d below)
+within_sayable (Ranges on ranges ends) within = λ k d below. range_fits (get_or ranges k d) (within k d below)
 within_sayable (Session edits) within = λ k d below. state_fits (get_or edits k d) (within k d below)
 within_sayable (Drops firm keeps gain over) within = (gain_fits gain within.0, fits_from_within over within.1)
 within_sayable (Completes prices over) within = ((λ k d below. fits_from_within (get_or prices k d) (within.0 k d below)), fits_from_within over within.1)

@@ -6,4 +6,5 @@ pub mod DataTexts
 pub mod PlainAnswers
 pub mod EachLemmas
 pub mod RowLemmas
+pub mod BundleLemmas
 pub mod ApartLemmas

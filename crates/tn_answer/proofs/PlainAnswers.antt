@@ -22,7 +22,7 @@ use Rattle.tn_plain_data.specs.declared.holding.Holding.{Holding}
 use Rattle.tn_plain_data.specs.declared.range.Range.{Range}
 use Rattle.tn_plain_data.specs.declared.session.State.{State}
 use Rattle.tn_plain_data.specs.declared.said.Said.{Said}
-use Rattle.tn_plain_data.specs.declared.said.Said.TheVariants.{Usage, ReadFault, NoMemory, Fault as FaultIs, Equilibrium, Better, Impossible, Accepted, ExchangeFails, Supported, Cycle, Solved, Rows, Drill, Ranges, Session, Drops, Completes, Blocks, Valid, Invalid, Cases, Page as PageIs, Firms}
+use Rattle.tn_plain_data.specs.declared.said.Said.TheVariants.{Usage, ReadFault, NoMemory, Fault as FaultIs, Equilibrium, Better, Impossible, Accepted, ExchangeFails, Supported, Cycle, Solved, Drill, Ranges, Session, Drops, Completes, Blocks, Valid, Invalid, Cases, Page as PageIs, Firms}
 use Rattle.tn_names.specs.Names.{NameLists, IsNameList, is_name}
 use Rattle.tn_answer.specs.Words.{kind_name, word_text}
 use Rattle.tn_answer.specs.Rows.{each_from}
@@ -202,14 +202,13 @@ answer_is_plain names firms trades (Impossible firm) h = (refl, refl, (refl, nam
 answer_is_plain names firms trades Accepted h = (refl, refl, tt)
 answer_is_plain names firms trades (ExchangeFails firm x y at) h =
     (refl, refl, (refl, option_is_plain names.trades trades at, (refl, name_is_plain names.firms firms firm, (refl, names_are_plain names.trades trades x, (refl, names_are_plain names.trades trades y, tt)))))
-answer_is_plain names firms trades (Supported prices) h = (refl, refl, (refl, prices_are_plain names.trades trades 0 prices h, tt))
+answer_is_plain names firms trades (Supported on prices ends) h = (refl, refl, (refl, prices_are_plain names.trades trades 0 prices h, tt))
 answer_is_plain names firms trades (Cycle nodes cost) h = (refl, refl, (refl, integer_is_short cost h, (refl, nodes_are_plain names.trades trades nodes, tt)))
-answer_is_plain names firms trades (Solved on prices surplus) h =
+answer_is_plain names firms trades (Solved on prices surplus ends) h =
     (refl, refl, (refl, names_are_plain names.trades trades on, (refl, prices_are_plain names.trades trades 0 prices h.0, (refl, integer_is_short surplus h.1, tt))))
-answer_is_plain names firms trades (Rows on prices surplus) h = tt
 answer_is_plain names firms trades (Drill size start count surplus) h =
     (refl, refl, (refl, h.2, (refl, h.0, (refl, h.1, (refl, integer_is_short surplus h.3, tt)))))
-answer_is_plain names firms trades (Ranges on ranges) h = (refl, refl, (refl, names_are_plain names.trades trades on, (refl, ranges_are_plain names.trades trades 0 ranges h, tt)))
+answer_is_plain names firms trades (Ranges on ranges ends) h = (refl, refl, (refl, names_are_plain names.trades trades on, (refl, ranges_are_plain names.trades trades 0 ranges h, tt)))
 answer_is_plain names firms trades (Session edits) h = (refl, refl, (refl, states_are_plain names.trades trades edits h, tt))
 answer_is_plain names firms trades (Drops firm keeps gain over) h =
     (refl, refl, (refl, name_is_plain names.firms firms firm, (refl, bound_is_plain names.trades trades gain h.0, (refl, names_are_plain names.trades trades keeps, (refl, integer_is_short over h.1, tt)))))

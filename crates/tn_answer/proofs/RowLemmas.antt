@@ -1,23 +1,25 @@
--- Rows of one text have the same trades on, at the same prices.
-use Rattle.std.proofs.Common.{◌≡◌, ℕ, zero, suc, ◌+◌, ◌<◌, ◌≤◌, ℤ, pos, negsuc, Bool, true, false, ◌==◌, ◌⊎◌, inl, inr, if◌then◌else◌, List, [], ◌∷◌, ◌++◌, length, get_or, All, FitsSigned, codes, decimal, refl, sym, ap, ◌∙◌, subst, arith, ne_eqb, eq-eqb, add-one, append-nil, take, slice_get, Some}
+-- Rows that are written one after another, and what rows of one text agree in.
+use Rattle.std.proofs.Common.{◌≡◌, ℕ, zero, suc, ◌+◌, ◌<◌, ◌≤◌, ℤ, pos, negsuc, Bool, true, false, ◌==◌, ◌⊎◌, inl, inr, List, [], ◌∷◌, ◌++◌, length, map, get_or, All, FitsSigned, decimal, refl, sym, ap, ◌∙◌, subst, arith, ne_eqb, eq-eqb, add-one, append-nil, take, slice_get, Option, None, Some, IfSome}
 use Rattle.std.specs.Fmt.{signed_decimal}
 use Rattle.std.specs.Int.{w64}
 use Rattle.std.proofs.lemmas.Fmt.{decimal_injective}
 use Rattle.std.proofs.lemmas.List.Elements.{All-head, All-tail}
-use Rattle.std.proofs.lemmas.Option.{same_Some}
+use Rattle.std.proofs.lemmas.Option.{none-some, same_Some, slice_get_within, get_or_from_slice_get}
 use Rattle.csv.specs.Machine.{next_record}
 use Rattle.csv.specs.Reading.{default_config}
 use Rattle.csv.specs.Writing.{default_writer, row_text, read_back}
 use Rattle.csv.specs.declared.parser.State.TheVariants as st
 use Rattle.csv.proofs.RoundTrip.{read-write}
-use Rattle.tn_answer.specs.Rows.{each_from, is_listed, row_of, first_row, rows_text, table_of}
-use Rattle.tn_answer.specs.Apart.{AreSameRows}
+use Rattle.tn_answer.specs.Rows.{bound_text, each_from, flag_text, is_listed, rows_text, table}
+use Rattle.tn_answer.specs.Apart.{AreSameOn}
 use Rattle.std.proofs.lemmas.List.Folds.{list_any-append}
 use Rattle.std.proofs.lemmas.Map.Keys.{any_passes_from_place}
 use Rattle.tn_answer.proofs.DataTexts.{clash, first_of_decimal}
 use Rattle.std.proofs.lemmas.Grind.{flat_map-append}
 use Rattle.tn_answer.proofs.EachLemmas.{each-more, each-whole}
 use Rattle.tn_answer.proofs.MapLemmas.{take-suc-at, take-whole}
+
+-- ---- fields
 
 row_front : (a b : List (List ℕ)) (r s : List ℕ) → row_text default_writer a ++ r ≡ row_text default_writer b ++ s → (read_back a ≡ read_back b) × (r ≡ s)
 row_front a b r s e =
@@ -27,7 +29,7 @@ row_front a b r s e =
 abbrev front : List ℕ → ℕ
 front l = get_or l 0 0
 
-same_flag : (a b : Bool) → (if a then codes "1" else codes "0") ≡ (if b then codes "1" else codes "0") → a ≡ b
+pub same_flag : (a b : Bool) → flag_text a ≡ flag_text b → a ≡ b
 same_flag true true e = refl
 same_flag true false e = absurd (clash 49 48 refl (ap front e))
 same_flag false true e = absurd (clash 48 49 refl (ap front e))
@@ -39,7 +41,7 @@ no_sign m text h e =
     let sign = ap (λ l. front (l ++ [])) e in
     omega (arith, digit.0, sign)
 
-same_decimal : (y z : ℤ) → FitsSigned w64 y → FitsSigned w64 z → signed_decimal y ≡ signed_decimal z → y ≡ z
+pub same_decimal : (y z : ℤ) → FitsSigned w64 y → FitsSigned w64 z → signed_decimal y ≡ signed_decimal z → y ≡ z
 same_decimal (pos m) (pos n) h k e = ap pos (decimal_injective m n (omega (arith, h)) (omega (arith, k)) e)
 same_decimal (pos m) (negsuc n) h k e = absurd (no_sign m _ h e)
 same_decimal (negsuc m) (pos n) h k e = absurd (no_sign n _ k (sym e))
@@ -52,24 +54,75 @@ same_decimal (negsuc m) (negsuc n) h k e =
     get_tail [] = []
     get_tail (x ∷ xs) = xs
 
-module _ (names : List (List ℕ)) (on others : List ℕ) where
-  same_from : (k : ℕ) (xs ys : List ℤ) → length xs ≡ length ys → All (FitsSigned w64) xs → All (FitsSigned w64) ys
-      → rows_text (each_from (row_of names on) k xs) ≡ rows_text (each_from (row_of names others) k ys)
-      → (xs ≡ ys) × ((j : ℕ) → j < length xs → is_listed on (k + j) ≡ is_listed others (k + j))
-  same_from k [] [] l h i e = (refl, λ j below. absurd (omega (arith, below)))
-  same_from k [] (y ∷ ys) l h i e = absurd (omega (arith, l))
-  same_from k (x ∷ xs) [] l h i e = absurd (omega (arith, l))
-  same_from k (x ∷ xs) (y ∷ ys) l h i e =
-      let parts = row_front (row_of names on k x) (row_of names others k y) (rows_text (each_from (row_of names on) (suc k) xs)) (rows_text (each_from (row_of names others) (suc k) ys)) e in
-      let flag = same_flag (is_listed on k) (is_listed others k) (ap (λ r. get_or r 1 []) parts.0) in
-      let price = same_decimal x y (All-head (FitsSigned w64) x xs h) (All-head (FitsSigned w64) y ys i) (ap (λ r. get_or r 2 []) parts.0) in
-      let rest = same_from (suc k) xs ys (omega (arith, l)) (All-tail (FitsSigned w64) x xs h) (All-tail (FitsSigned w64) y ys i) parts.1 in
-      (λ j. price j ∷ rest.0 j, at flag rest.1)
-    where
-      at : is_listed on k ≡ is_listed others k → ((j : ℕ) → j < length xs → is_listed on (suc k + j) ≡ is_listed others (suc k + j))
-          → (j : ℕ) → j < length (x ∷ xs) → is_listed on (k + j) ≡ is_listed others (k + j)
-      at first rest zero below = let same : k ≡ k + 0 = omega arith in subst (λ n. is_listed on n ≡ is_listed others n) same first
-      at first rest (suc j) below = let same : suc k + j ≡ k + suc j = omega arith in subst (λ n. is_listed on n ≡ is_listed others n) same (rest j (omega (arith, below)))
+no_digit : (z : ℤ) → FitsSigned w64 z → signed_decimal z ≡ [] → ⊥
+no_digit (pos m) h e =
+    let digit = first_of_decimal m [] (omega (arith, h)) in
+    let nothing = ap (λ l. front (l ++ [])) e in
+    omega (arith, digit.0, nothing)
+no_digit (negsuc m) h e = clash 45 0 refl (ap front e)
+
+pub same_bound_text : (x y : Option ℤ) → IfSome x (FitsSigned w64) → IfSome y (FitsSigned w64) → bound_text x ≡ bound_text y → x ≡ y
+same_bound_text None None h k e = refl
+same_bound_text None (Some z) h k e = absurd (no_digit z k (sym e))
+same_bound_text (Some z) None h k e = absurd (no_digit z h e)
+same_bound_text (Some y) (Some z) h k e = ap Some (same_decimal y z h k e)
+
+-- ---- rows of one text
+
+module _ {A B : Type 0} (row : ℕ → A → List (List ℕ)) (other : ℕ → B → List (List ℕ)) where
+  same_from : (from : ℕ) (xs : List A) (ys : List B) → length xs ≡ length ys → rows_text (each_from row from xs) ≡ rows_text (each_from other from ys)
+      → (k : ℕ) (x : A) (y : B) → slice_get xs k ≡ Some x → slice_get ys k ≡ Some y → read_back (row (from + k) x) ≡ read_back (other (from + k) y)
+  same_from from [] ys l e k x y at there = absurd (none-some x at)
+  same_from from (v ∷ xs) [] l e k x y at there = absurd (none-some y there)
+  same_from from (v ∷ xs) (w ∷ ys) l e zero x y at there =
+      let parts = row_front (row from v) (other from w) (rows_text (each_from row (suc from) xs)) (rows_text (each_from other (suc from) ys)) e in
+      let none_more : from ≡ from + 0 = omega arith in
+      subst (λ n. read_back (row n x) ≡ read_back (other n y)) none_more
+      (ap (λ z. read_back (row from z)) (sym (same_Some v x at)) ∙ parts.0 ∙ ap (λ z. read_back (other from z)) (same_Some w y there))
+  same_from from (v ∷ xs) (w ∷ ys) l e (suc k) x y at there =
+      let parts = row_front (row from v) (other from w) (rows_text (each_from row (suc from) xs)) (rows_text (each_from other (suc from) ys)) e in
+      let one_more : suc from + k ≡ from + suc k = omega arith in
+      subst (λ n. read_back (row n x) ≡ read_back (other n y)) one_more (same_from (suc from) xs ys (omega (arith, l)) parts.1 k x y at there)
+
+  -- the rows of two tables of one text agree row by row
+  pub same_tables : (head : List (List ℕ)) (xs : List A) (ys : List B) → length xs ≡ length ys → rows_text (table head row xs) ≡ rows_text (table head other ys)
+      → (k : ℕ) (x : A) (y : B) → slice_get xs k ≡ Some x → slice_get ys k ≡ Some y → read_back (row k x) ≡ read_back (other k y)
+  same_tables head xs ys l e k x y at there =
+      let parts = row_front head head (rows_text (each_from row 0 xs)) (rows_text (each_from other 0 ys)) e in
+      let none_before : 0 + k ≡ k = omega arith in
+      subst (λ n. read_back (row n x) ≡ read_back (other n y)) none_before (same_from 0 xs ys l parts.1 k x y at there)
+
+-- lists that agree place by place in what a function gives
+module _ {A B : Type 0} (f : A → B) where
+  pub same_places : (xs ys : List A) → length xs ≡ length ys → ((k : ℕ) (x y : A) → slice_get xs k ≡ Some x → slice_get ys k ≡ Some y → f x ≡ f y) → map f xs ≡ map f ys
+  same_places [] [] l h = refl
+  same_places [] (y ∷ ys) l h = absurd (omega (arith, l))
+  same_places (x ∷ xs) [] l h = absurd (omega (arith, l))
+  same_places (x ∷ xs) (y ∷ ys) l h =
+      let first = h 0 x y refl refl in
+      let rest = same_places xs ys (omega (arith, l)) (λ k v w at there. h (suc k) v w at there) in
+      λ j. first j ∷ rest j
+
+pub same_items : {A : Type 0} (xs ys : List A) → length xs ≡ length ys → ((k : ℕ) (x y : A) → slice_get xs k ≡ Some x → slice_get ys k ≡ Some y → x ≡ y) → xs ≡ ys
+same_items [] [] l h = refl
+same_items [] (y ∷ ys) l h = absurd (omega (arith, l))
+same_items (x ∷ xs) [] l h = absurd (omega (arith, l))
+same_items (x ∷ xs) (y ∷ ys) l h =
+    let first = h 0 x y refl refl in
+    let rest = same_items xs ys (omega (arith, l)) (λ k v w at there. h (suc k) v w at there) in
+    λ j. first j ∷ rest j
+
+-- what holds of all items holds of the one at a place
+pub there : {A : Type 0} (P : A → Type 0) (xs : List A) (k : ℕ) (x : A) → All P xs → slice_get xs k ≡ Some x → P x
+there P xs k x all at = subst P (get_or_from_slice_get xs k x x at) (all k x (slice_get_within xs k x at))
+
+-- a list has an item at each place before its end
+pub item_at : {A : Type 0} (xs : List A) (k : ℕ) → k < length xs → (x : A) × (slice_get xs k ≡ Some x)
+item_at [] k below = absurd (omega (arith, below))
+item_at (x ∷ xs) zero below = (x, refl)
+item_at (x ∷ xs) (suc k) below = item_at xs k (omega (arith, below))
+
+-- ---- the trades that are on
 
 unlisted : (n t : ℕ) (ks : List ℕ) → All (λ k. k < n) ks → n ≤ t → is_listed ks t ≡ false
 unlisted n t [] named past = refl
@@ -85,23 +138,12 @@ below_or_past (suc t) (suc n) = elim (below_or_past t n) [
   | inr past ↦ inr (omega (arith, past))
 ]
 
-pub same_rows : (names : List (List ℕ)) (on others : List ℕ) (prices other_prices : List ℤ)
-    → All (λ t. t < length names) on → All (λ t. t < length names) others → length prices ≡ length names → length other_prices ≡ length names
-    → All (FitsSigned w64) prices → All (FitsSigned w64) other_prices
-    → rows_text (table_of names on prices) ≡ rows_text (table_of names others other_prices) → AreSameRows on prices others other_prices
-same_rows names on others prices other_prices named other_named one_each other_each short other_short e =
-    let rows = row_front first_row first_row (rows_text (each_from (row_of names on) 0 prices)) (rows_text (each_from (row_of names others) 0 other_prices)) e in
-    let same = same_from names on others 0 prices other_prices (one_each ∙ sym other_each) short other_short rows.1 in
-    record {
-      same_on = λ t. elim (below_or_past t (length names)) [
-        | inl below ↦ at_zero same.1 t (omega (arith, below, one_each))
-        | inr past ↦ unlisted (length names) t on named past ∙ sym (unlisted (length names) t others other_named past)
-      ];
-      same_prices = same.0;
-    }
-  where
-    at_zero : ((j : ℕ) → j < length prices → is_listed on (0 + j) ≡ is_listed others (0 + j)) → (t : ℕ) → t < length prices → is_listed on t ≡ is_listed others t
-    at_zero h t below = let same : 0 + t ≡ t = omega arith in subst (λ n. is_listed on n ≡ is_listed others n) same (h t below)
+-- the same trades are on where the flags of all trades are the same
+pub same_on : (n : ℕ) (on others : List ℕ) → All (λ k. k < n) on → All (λ k. k < n) others → ((t : ℕ) → t < n → flag_text (is_listed on t) ≡ flag_text (is_listed others t)) → AreSameOn on others
+same_on n on others named other_named flags t = elim (below_or_past t n) [
+  | inl below ↦ same_flag (is_listed on t) (is_listed others t) (flags t below)
+  | inr past ↦ unlisted n t on named past ∙ sym (unlisted n t others other_named past)
+]
 
 -- ---- a list that is looked through
 
@@ -119,14 +161,14 @@ module _ (ks : List ℕ) (k at : ℕ) where
 
 -- ---- rows that are written one after another
 
-module _ (names : List (List ℕ)) (on : List ℕ) (prices : List ℤ) (k : ℕ) where
-  pub rows-more : (price : ℤ) (row : List (List ℕ)) → slice_get prices k ≡ Some price → row ≡ row_of names on k price
-      → rows_text (first_row ∷ take k (each_from (row_of names on) 0 prices)) ++ row_text default_writer row ≡ rows_text (first_row ∷ take (k + 1) (each_from (row_of names on) 0 prices))
-  rows-more price row at same =
-      let done = take k (each_from (row_of names on) 0 prices) in
-      ap (λ r. rows_text (first_row ∷ done) ++ r) (ap (row_text default_writer) same ∙ sym (append-nil (row_text default_writer (row_of names on k price))))
-      ∙ sym (flat_map-append (row_text default_writer) (first_row ∷ done) (row_of names on k price ∷ []))
-      ∙ ap (λ rows. rows_text (first_row ∷ rows)) (sym (each-more (row_of names on) prices k price at))
+module _ {A : Type 0} (head : List (List ℕ)) (row : ℕ → A → List (List ℕ)) (xs : List A) (k : ℕ) where
+  pub rows-more : (x : A) (written : List (List ℕ)) → slice_get xs k ≡ Some x → written ≡ row k x
+      → rows_text (head ∷ take k (each_from row 0 xs)) ++ row_text default_writer written ≡ rows_text (head ∷ take (k + 1) (each_from row 0 xs))
+  rows-more x written at same =
+      let done = take k (each_from row 0 xs) in
+      ap (λ r. rows_text (head ∷ done) ++ r) (ap (row_text default_writer) same ∙ sym (append-nil (row_text default_writer (row k x))))
+      ∙ sym (flat_map-append (row_text default_writer) (head ∷ done) (row k x ∷ []))
+      ∙ ap (λ rows. rows_text (head ∷ rows)) (sym (each-more row xs k x at))
 
-  pub rows-whole : length prices ≤ k → rows_text (first_row ∷ take k (each_from (row_of names on) 0 prices)) ≡ rows_text (table_of names on prices)
-  rows-whole h = ap (λ rows. rows_text (first_row ∷ rows)) (each-whole (row_of names on) prices k h)
+  pub rows-whole : length xs ≤ k → rows_text (head ∷ take k (each_from row 0 xs)) ≡ rows_text (table head row xs)
+  rows-whole h = ap (λ rows. rows_text (head ∷ rows)) (each-whole row xs k h)

@@ -1,4 +1,5 @@
--- What is written for an answer: compact JSON, the members of an object in byte order, and one line end; or rows; or a page.
+-- What is written for an answer: rows where its layout has them; else compact JSON, the members of an object in byte order,
+-- and one line end; or a page.
 use Rattle.std.specs.Prelude.{ℕ, ℤ, List, [], ◌∷◌, ◌++◌, map, Option, None, Some, codes}
 use Rattle.serde_json.specs.Data.{Data, null, number, string, array, object, unsigned, no_items, item, Members, no_members, member}
 use Rattle.serde_json.specs.View.{items_of}
@@ -14,13 +15,15 @@ use Rattle.tn_plain_data.specs.declared.session.State.{State}
 use Rattle.tn_plain_data.specs.declared.said.Fault.{Fault}
 use Rattle.tn_plain_data.specs.declared.said.Shown.{Shown}
 use Rattle.tn_plain_data.specs.declared.said.Said.{Said}
-use Rattle.tn_plain_data.specs.declared.said.Said.TheVariants.{Usage, ReadFault, NoMemory, Fault as FaultIs, Equilibrium, Better, Impossible, Accepted, ExchangeFails, Supported, Cycle, Solved, Rows, Drill, Ranges, Session, Drops, Completes, Blocks, Valid, Invalid, Cases, Page as PageIs, Firms}
+use Rattle.tn_plain_data.specs.declared.said.Said.TheVariants.{Usage, ReadFault, NoMemory, Fault as FaultIs, Equilibrium, Better, Impossible, Accepted, ExchangeFails, Supported, Cycle, Solved, Drill, Ranges, Session, Drops, Completes, Blocks, Valid, Invalid, Cases, Page as PageIs, Firms}
 use Rattle.tn_names.specs.Names.{NameLists}
 use Rattle.tn_answer.specs.Pages.{lines_text, page_lines}
 use Rattle.tn_answer.specs.ReasonText.{reason_members}
-use Rattle.tn_answer.specs.Rows.{each_from, rows_text, table_of}
+use Rattle.tn_answer.specs.Rows.{each_from, deal_head, deal_row, firm_head, firm_row, price_head, price_row, range_head, range_row, rows_text, table}
 use Rattle.tn_answer.specs.Values.{name_data, names_data, option_data, integer_data, bound_data, numbers_data}
 use Rattle.tn_answer.specs.Words.{kind_name, word_text}
+use Rattle.tn_answer.specs.declared.layout.Layout.{Layout}
+use Rattle.tn_answer.specs.declared.layout.Layout.TheVariants.{Rows, WideRows}
 
 -- a price beside the name of its trade, and those of all trades from k on
 abbrev pub price_data : List (List ℕ) → ℕ → ℤ → Data
@@ -85,54 +88,63 @@ abbrev pub fault_data : List (List ℕ) → Fault → Option Shown → Data
 fault_data trades fault None = answer (codes "fault") (fault_members fault.kind (place_data trades fault.place) no_members)
 fault_data trades fault (Some shown) = answer (codes "fault") (member (codes "at") (option_data trades shown.at) (fault_members fault.kind (place_data trades fault.place) (member (codes "x") (names_data trades shown.x) (member (codes "y") (names_data trades shown.y) no_members))))
 
--- how an answer is laid out: as one JSON value, as rows of fields, or as lines of text
-pub data Layout : Type 0 where
-  json : Data → Layout
-  rows : List (List (List ℕ)) → Layout
-  lines : List (List ℕ) → Layout
+-- the form of an answer without rows: one JSON value, or lines of text
+pub data Form : Type 0 where
+  json : Data → Form
+  lines : List (List ℕ) → Form
 
--- the layout of an answer
-abbrev pub answer_layout : NameLists → Said → Layout
-answer_layout names Usage = json (answer (codes "usage") no_members)
-answer_layout names ReadFault = json (answer (codes "read_fault") no_members)
-answer_layout names NoMemory = json (answer (codes "no_memory") no_members)
-answer_layout names (FaultIs fault) = json (fault_data names.trades fault fault.shown)
-answer_layout names (Equilibrium surplus) = json (answer (codes "equilibrium") (member (codes "surplus") (integer_data surplus) no_members))
-answer_layout names (Better firm bundle gain) = json (answer (codes "better") (member (codes "bundle") (names_data names.trades bundle) (member (codes "firm") (name_data names.firms firm) (member (codes "gain") (integer_data gain) no_members))))
-answer_layout names (Impossible firm) = json (answer (codes "impossible") (member (codes "firm") (name_data names.firms firm) no_members))
-answer_layout names Accepted = json (answer (codes "accepted") no_members)
-answer_layout names (ExchangeFails firm x y at) = json (answer (codes "exchange_fails") (member (codes "at") (option_data names.trades at) (member (codes "firm") (name_data names.firms firm) (member (codes "x") (names_data names.trades x) (member (codes "y") (names_data names.trades y) no_members)))))
-answer_layout names (Supported prices) = json (answer (codes "prices") (member (codes "prices") (prices_data names.trades prices) no_members))
-answer_layout names (Cycle nodes cost) = json (answer (codes "cycle") (member (codes "cost") (integer_data cost) (member (codes "nodes") (nodes_data names.trades nodes) no_members)))
-answer_layout names (Solved on prices surplus) = json (answer (codes "solved") (member (codes "on") (names_data names.trades on) (member (codes "prices") (prices_data names.trades prices) (member (codes "surplus") (integer_data surplus) no_members))))
-answer_layout names (Rows on prices surplus) = rows (table_of names.trades on prices)
-answer_layout names (Drill size start firms surplus) = json (answer (codes "drill") (member (codes "firms") (number (unsigned firms)) (member (codes "size") (number (unsigned size)) (member (codes "start") (number (unsigned start)) (member (codes "surplus") (integer_data surplus) no_members)))))
-answer_layout names (Ranges on ranges) = json (answer (codes "ranges") (member (codes "on") (names_data names.trades on) (member (codes "ranges") (ranges_data names.trades ranges) no_members)))
-answer_layout names (Session edits) = json (answer (codes "session") (member (codes "edits") (states_data names.trades edits) no_members))
-answer_layout names (Drops firm keeps gain over) = json (answer (codes "drops") (member (codes "firm") (name_data names.firms firm) (member (codes "gain") (bound_data gain) (member (codes "keeps") (names_data names.trades keeps) (member (codes "over") (integer_data over) no_members)))))
-answer_layout names (Completes prices over) = json (answer (codes "completes") (member (codes "over") (integer_data over) (member (codes "prices") (prices_data names.trades prices) no_members)))
-answer_layout names (Blocks contracts over) = json (answer (codes "blocks") (member (codes "contracts") (contracts_data names.trades contracts) (member (codes "over") (integer_data over) no_members)))
-answer_layout names Valid = json (answer (codes "valid") no_members)
-answer_layout names (Invalid reason) = json (answer (codes "invalid") (reason_members names reason))
-answer_layout names (Cases count failed) = json (answer (codes "cases") (member (codes "count") (number (unsigned count)) (member (codes "failed") (numbers_data failed) no_members)))
-answer_layout names (PageIs page) = lines (page_lines page)
-answer_layout names (Firms content firms surplus) = json (answer (codes "firms") (member (codes "content") (number (unsigned content)) (member (codes "firms") (holdings_data names firms) (member (codes "surplus") (bound_data surplus) no_members))))
+abbrev pub answer_form : NameLists → Said → Form
+answer_form names Usage = json (answer (codes "usage") no_members)
+answer_form names ReadFault = json (answer (codes "read_fault") no_members)
+answer_form names NoMemory = json (answer (codes "no_memory") no_members)
+answer_form names (FaultIs fault) = json (fault_data names.trades fault fault.shown)
+answer_form names (Equilibrium surplus) = json (answer (codes "equilibrium") (member (codes "surplus") (integer_data surplus) no_members))
+answer_form names (Better firm bundle gain) = json (answer (codes "better") (member (codes "bundle") (names_data names.trades bundle) (member (codes "firm") (name_data names.firms firm) (member (codes "gain") (integer_data gain) no_members))))
+answer_form names (Impossible firm) = json (answer (codes "impossible") (member (codes "firm") (name_data names.firms firm) no_members))
+answer_form names Accepted = json (answer (codes "accepted") no_members)
+answer_form names (ExchangeFails firm x y at) = json (answer (codes "exchange_fails") (member (codes "at") (option_data names.trades at) (member (codes "firm") (name_data names.firms firm) (member (codes "x") (names_data names.trades x) (member (codes "y") (names_data names.trades y) no_members)))))
+answer_form names (Supported on prices ends) = json (answer (codes "prices") (member (codes "prices") (prices_data names.trades prices) no_members))
+answer_form names (Cycle nodes cost) = json (answer (codes "cycle") (member (codes "cost") (integer_data cost) (member (codes "nodes") (nodes_data names.trades nodes) no_members)))
+answer_form names (Solved on prices surplus ends) = json (answer (codes "solved") (member (codes "on") (names_data names.trades on) (member (codes "prices") (prices_data names.trades prices) (member (codes "surplus") (integer_data surplus) no_members))))
+answer_form names (Drill size start firms surplus) = json (answer (codes "drill") (member (codes "firms") (number (unsigned firms)) (member (codes "size") (number (unsigned size)) (member (codes "start") (number (unsigned start)) (member (codes "surplus") (integer_data surplus) no_members)))))
+answer_form names (Ranges on ranges ends) = json (answer (codes "ranges") (member (codes "on") (names_data names.trades on) (member (codes "ranges") (ranges_data names.trades ranges) no_members)))
+answer_form names (Session edits) = json (answer (codes "session") (member (codes "edits") (states_data names.trades edits) no_members))
+answer_form names (Drops firm keeps gain over) = json (answer (codes "drops") (member (codes "firm") (name_data names.firms firm) (member (codes "gain") (bound_data gain) (member (codes "keeps") (names_data names.trades keeps) (member (codes "over") (integer_data over) no_members)))))
+answer_form names (Completes prices over) = json (answer (codes "completes") (member (codes "over") (integer_data over) (member (codes "prices") (prices_data names.trades prices) no_members)))
+answer_form names (Blocks contracts over) = json (answer (codes "blocks") (member (codes "contracts") (contracts_data names.trades contracts) (member (codes "over") (integer_data over) no_members)))
+answer_form names Valid = json (answer (codes "valid") no_members)
+answer_form names (Invalid reason) = json (answer (codes "invalid") (reason_members names reason))
+answer_form names (Cases count failed) = json (answer (codes "cases") (member (codes "count") (number (unsigned count)) (member (codes "failed") (numbers_data failed) no_members)))
+answer_form names (PageIs page) = lines (page_lines page)
+answer_form names (Firms content firms surplus) = json (answer (codes "firms") (member (codes "content") (number (unsigned content)) (member (codes "firms") (holdings_data names firms) (member (codes "surplus") (bound_data surplus) no_members))))
 
--- the JSON value of a layout, null where it is rows or lines
-abbrev pub data_in : Layout → Data
+-- the JSON value of a form, null where it is lines
+abbrev pub data_in : Form → Data
 data_in (json value) = value
-data_in (rows fields) = null
 data_in (lines texts) = null
 
 abbrev pub answer_data : NameLists → Said → Data
-answer_data names said = data_in (answer_layout names said)
+answer_data names said = data_in (answer_form names said)
 
--- a layout as text: a JSON value is one compact line
-abbrev pub layout_text : Layout → List ℕ
-layout_text (json value) = compact_text value ++ 10 ∷ []
-layout_text (rows fields) = rows_text fields
-layout_text (lines texts) = lines_text texts
+-- the table of an answer in a layout, none where the two have none
+abbrev pub table_of : NameLists → Said → Layout → Option (List (List (List ℕ)))
+table_of names (Supported on prices ends) Rows = Some (table deal_head (deal_row names on ends) prices)
+table_of names (Solved on prices surplus ends) Rows = Some (table price_head (price_row names on) prices)
+table_of names (Solved on prices surplus ends) WideRows = Some (table deal_head (deal_row names on ends) prices)
+table_of names (Ranges on ranges ends) Rows = Some (table range_head (range_row names on ends) ranges)
+table_of names (Firms content firms surplus) Rows = Some (table firm_head (firm_row names) firms)
+table_of names said layout = None
 
--- an answer as text
-unfoldable pub answer_line : NameLists → Said → List ℕ
-answer_line names said = layout_text (answer_layout names said)
+-- a form as text: a JSON value is one compact line
+abbrev pub form_text : Form → List ℕ
+form_text (json value) = compact_text value ++ 10 ∷ []
+form_text (lines texts) = lines_text texts
+
+-- a table as text, or what stands for it
+abbrev pub text_of : Option (List (List (List ℕ))) → Form → List ℕ
+text_of None form = form_text form
+text_of (Some rows) form = rows_text rows
+
+-- an answer in a layout as text
+unfoldable pub answer_line : Layout → NameLists → Said → List ℕ
+answer_line layout names said = text_of (table_of names said layout) (answer_form names said)

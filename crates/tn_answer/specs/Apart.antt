@@ -1,14 +1,15 @@
--- Different answers over the same names have different texts.
-use Rattle.std.specs.Prelude.{◌≡◌, ℕ, ℤ, List, length, All, IfSome, slice_get, Some}
+-- How far the text of an answer tells it.
+use Rattle.std.specs.Prelude.{◌≡◌, ℕ, List, length, map, All, IfSome, slice_get, Some}
 use Rattle.std.specs.List.{AllZip}
 use Rattle.tn_plain_data.specs.declared.place.PlaceStep.{PlaceStep}
 use Rattle.tn_plain_data.specs.declared.place.PlaceStep.TheVariants.{Word, Trade}
+use Rattle.tn_plain_data.specs.declared.ends.Ends.{Ends}
 use Rattle.tn_plain_data.specs.declared.holding.Holding.{Holding}
 use Rattle.tn_plain_data.specs.declared.range.Range.{Range}
 use Rattle.tn_plain_data.specs.declared.session.State.{State}
 use Rattle.tn_plain_data.specs.declared.said.Fault.{Fault}
 use Rattle.tn_plain_data.specs.declared.said.Said.{Said}
-use Rattle.tn_plain_data.specs.declared.said.Said.TheVariants.{Usage, ReadFault, NoMemory, Fault as FaultIs, Equilibrium, Better, Impossible, Accepted, ExchangeFails, Supported, Cycle, Solved, Rows, Drill, Ranges, Session, Drops, Completes, Blocks, Valid, Invalid, Cases, Page as PageIs, Firms}
+use Rattle.tn_plain_data.specs.declared.said.Said.TheVariants.{Usage, ReadFault, NoMemory, Fault as FaultIs, Equilibrium, Better, Impossible, Accepted, ExchangeFails, Supported, Cycle, Solved, Drill, Ranges, Session, Drops, Completes, Blocks, Valid, Invalid, Cases, Page as PageIs, Firms}
 use Rattle.tn_names.specs.Names.{NameLists, IsNameList}
 use Rattle.tn_answer.specs.Words.{word_text}
 use Rattle.tn_names.specs.Named.{IsNamed, IsNamedStep, IsNamedTriple, HasShortIndex}
@@ -16,6 +17,8 @@ use Rattle.tn_answer.specs.Rows.{is_listed}
 use Rattle.tn_answer.specs.ReasonText.{IsNamedReason}
 use Rattle.tn_answer.specs.Sayable.{IsSayable}
 use Rattle.tn_answer.specs.AnswerText.{answer_line}
+use Rattle.tn_answer.specs.declared.layout.Layout.{Layout}
+use Rattle.tn_answer.specs.declared.layout.Layout.TheVariants.{Object, Rows, WideRows}
 
 -- the paths of a range are of trades that have a name, and so are the trades of a state, and those of a firm
 pub record HasNamedPaths (names : List (List ℕ)) (range : Range) : Type 0 where
@@ -30,6 +33,12 @@ pub record IsNamedHolding (names : List (List ℕ)) (holding : Holding) : Type 0
   pub best : All (IsNamed names) holding.best
   pub has : All (IsNamed names) holding.has
 
+-- the ends are of trades that have a name, one for each of them, and are firms that have one
+pub record AreNamedEnds (names : NameLists) (ends : List Ends) : Type 0 where
+  pub one_each : length ends ≡ length names.trades
+  pub sellers : All (λ trade. IsNamed names.firms trade.seller) ends
+  pub buyers : All (λ trade. IsNamed names.firms trade.buyer) ends
+
 -- an answer speaks only of firms and trades that have a name, and prices are one for each name of a trade
 abbrev pub IsNamedAnswer : NameLists → Said → Type 0
 IsNamedAnswer names Usage = Unit {0}
@@ -41,12 +50,11 @@ IsNamedAnswer names (Better firm bundle gain) = IsNamed names.firms firm × All 
 IsNamedAnswer names (Impossible firm) = IsNamed names.firms firm
 IsNamedAnswer names Accepted = Unit {0}
 IsNamedAnswer names (ExchangeFails firm x y at) = IsNamed names.firms firm × IsNamedTriple names.trades (record { x = x; y = y; at = at })
-IsNamedAnswer names (Supported prices) = length prices ≡ length names.trades
+IsNamedAnswer names (Supported on prices ends) = All (IsNamed names.trades) on × (length prices ≡ length names.trades) × AreNamedEnds names ends
 IsNamedAnswer names (Cycle nodes cost) = All (λ node. IfSome node (IsNamed names.trades)) nodes
-IsNamedAnswer names (Solved on prices surplus) = All (IsNamed names.trades) on × (length prices ≡ length names.trades)
-IsNamedAnswer names (Rows on prices surplus) = All (IsNamed names.trades) on × (length prices ≡ length names.trades)
+IsNamedAnswer names (Solved on prices surplus ends) = All (IsNamed names.trades) on × (length prices ≡ length names.trades) × AreNamedEnds names ends
 IsNamedAnswer names (Drill size start firms surplus) = Unit {0}
-IsNamedAnswer names (Ranges on ranges) = All (IsNamed names.trades) on × (length ranges ≡ length names.trades) × All (HasNamedPaths names.trades) ranges
+IsNamedAnswer names (Ranges on ranges ends) = All (IsNamed names.trades) on × (length ranges ≡ length names.trades) × All (HasNamedPaths names.trades) ranges × AreNamedEnds names ends
 IsNamedAnswer names (Session edits) = All (IsNamedState names.trades) edits
 IsNamedAnswer names (Drops firm keeps gain over) = IsNamed names.firms firm × All (IsNamed names.trades) keeps
 IsNamedAnswer names (Completes prices over) = length prices ≡ length names.trades
@@ -74,19 +82,51 @@ pub record IsSameFault (trades : List (List ℕ)) (first second : Fault) : Type 
   pub place : AllZip (IsSameStep trades) first.place second.place
   pub shown : first.shown ≡ second.shown
 
--- rows are written alike: the same trades are on, and the prices are equal; rows don't tell the surplus
-pub record AreSameRows (on : List ℕ) (prices : List ℤ) (others : List ℕ) (other_prices : List ℤ) : Type 0 where
-  pub same_on : (t : ℕ) → is_listed on t ≡ is_listed others t
-  pub same_prices : prices ≡ other_prices
+-- answers are written alike as objects: two faults that are, or equal answers, but that an object doesn't tell the ends of
+-- trades, nor a support its set
+abbrev pub IsSameObject : NameLists → Said → Said → Type 0
+IsSameObject names (FaultIs first) (FaultIs second) = IsSameFault names.trades first second
+IsSameObject names (Supported on prices ends) (Supported others other_prices other_ends) = prices ≡ other_prices
+IsSameObject names (Solved on prices surplus ends) (Solved others other_prices other_surplus other_ends) = (on ≡ others) × (prices ≡ other_prices) × (surplus ≡ other_surplus)
+IsSameObject names (Ranges on ranges ends) (Ranges others other_ranges other_ends) = (on ≡ others) × (ranges ≡ other_ranges)
+IsSameObject names first second = first ≡ second
 
--- answers are written alike: two faults that are, two answers as rows that are, or equal answers
-abbrev pub IsSameAnswer : NameLists → Said → Said → Type 0
-IsSameAnswer names (FaultIs first) (FaultIs second) = IsSameFault names.trades first second
-IsSameAnswer names (Rows on prices surplus) (Rows others other_prices other_surplus) = AreSameRows on prices others other_prices
-IsSameAnswer names first second = first ≡ second
+-- the same trades are on
+abbrev pub AreSameOn : List ℕ → List ℕ → Type 0
+AreSameOn on others = (t : ℕ) → is_listed on t ≡ is_listed others t
 
--- answers of one text over the same names are written alike
+-- each trade has the same seller and the same buyer
+pub record AreSameEnds (ends others : List Ends) : Type 0 where
+  pub same_sellers : map (λ trade. trade.seller) ends ≡ map (λ trade. trade.seller) others
+  pub same_buyers : map (λ trade. trade.buyer) ends ≡ map (λ trade. trade.buyer) others
+
+-- each trade has the same lowest price, or none, and the same highest one
+pub record AreSameBounds (ranges others : List Range) : Type 0 where
+  pub same_lows : map (λ range. range.low) ranges ≡ map (λ range. range.low) others
+  pub same_highs : map (λ range. range.high) ranges ≡ map (λ range. range.high) others
+
+-- answers are written alike as rows: they agree in what their columns say, or are written alike as objects. Rows don't tell
+-- a surplus, nor the paths of a range, and of the ends of trades only those of a support and a range do
+abbrev pub IsSameInRows : NameLists → Said → Said → Type 0
+IsSameInRows names (Supported on prices ends) (Supported others other_prices other_ends) = AreSameOn on others × (prices ≡ other_prices) × AreSameEnds ends other_ends
+IsSameInRows names (Solved on prices surplus ends) (Solved others other_prices other_surplus other_ends) = AreSameOn on others × (prices ≡ other_prices)
+IsSameInRows names (Ranges on ranges ends) (Ranges others other_ranges other_ends) = AreSameOn on others × AreSameBounds ranges other_ranges × AreSameEnds ends other_ends
+IsSameInRows names (Firms content firms surplus) (Firms other_content other_firms other_surplus) = firms ≡ other_firms
+IsSameInRows names first second = IsSameObject names first second
+
+-- and as wide rows, which tell the ends of trades too
+abbrev pub IsSameInWideRows : NameLists → Said → Said → Type 0
+IsSameInWideRows names (Solved on prices surplus ends) (Solved others other_prices other_surplus other_ends) = AreSameOn on others × (prices ≡ other_prices) × AreSameEnds ends other_ends
+IsSameInWideRows names first second = IsSameObject names first second
+
+-- answers are written alike in a layout
+abbrev pub IsSameAnswer : Layout → NameLists → Said → Said → Type 0
+IsSameAnswer Object names first second = IsSameObject names first second
+IsSameAnswer Rows names first second = IsSameInRows names first second
+IsSameAnswer WideRows names first second = IsSameInWideRows names first second
+
+-- answers of one text in one layout over the same names are written alike
 abbrev pub AnswersAreToldApart : Type 0
 AnswersAreToldApart =
-    (names : NameLists) (first second : Said) → IsNameList names.firms → IsNameList names.trades → IsNamedAnswer names first → IsNamedAnswer names second → HasShortNumbers first → HasShortNumbers second
-    → answer_line names first ≡ answer_line names second → IsSameAnswer names first second
+    (layout : Layout) (names : NameLists) (first second : Said) → IsNameList names.firms → IsNameList names.trades → IsNamedAnswer names first → IsNamedAnswer names second → HasShortNumbers first → HasShortNumbers second
+    → answer_line layout names first ≡ answer_line layout names second → IsSameAnswer layout names first second

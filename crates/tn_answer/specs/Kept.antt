@@ -7,7 +7,7 @@ use Rattle.tn_plain_data.specs.declared.holding.Holding.{Holding}
 use Rattle.tn_plain_data.specs.declared.range.Range.{Range}
 use Rattle.tn_plain_data.specs.declared.session.State.{State}
 use Rattle.tn_plain_data.specs.declared.said.Said.{Said}
-use Rattle.tn_plain_data.specs.declared.said.Said.TheVariants.{Usage, ReadFault, NoMemory, Fault as FaultIs, Equilibrium, Better, Impossible, Accepted, ExchangeFails, Supported, Cycle, Solved, Rows, Drill, Ranges, Session, Drops, Completes, Blocks, Valid, Invalid, Cases, Page as PageIs, Firms}
+use Rattle.tn_plain_data.specs.declared.said.Said.TheVariants.{Usage, ReadFault, NoMemory, Fault as FaultIs, Equilibrium, Better, Impossible, Accepted, ExchangeFails, Supported, Cycle, Solved, Drill, Ranges, Session, Drops, Completes, Blocks, Valid, Invalid, Cases, Page as PageIs, Firms}
 use Rattle.tn_names.specs.Named.{IsAscendingTriple}
 use Rattle.tn_answer.specs.ReasonText.{IsReasonWithin, HasAscendingBundles}
 
@@ -45,12 +45,11 @@ IsWithinClaims (Better firm bundle gain) = IsWithinClaim gain
 IsWithinClaims (Impossible firm) = Unit {0}
 IsWithinClaims Accepted = Unit {0}
 IsWithinClaims (ExchangeFails firm x y at) = Unit {0}
-IsWithinClaims (Supported prices) = All IsWithinPrices prices
+IsWithinClaims (Supported on prices ends) = All IsWithinPrices prices
 IsWithinClaims (Cycle nodes cost) = IsWithinClaim cost
-IsWithinClaims (Solved on prices surplus) = All IsWithinPrices prices × IsWithinClaim surplus
-IsWithinClaims (Rows on prices surplus) = All IsWithinPrices prices × IsWithinClaim surplus
+IsWithinClaims (Solved on prices surplus ends) = All IsWithinPrices prices × IsWithinClaim surplus
 IsWithinClaims (Drill size start firms surplus) = (size < 2 ^ 32) × (start < 2 ^ 32) × (firms < 2 ^ 32) × IsWithinClaim surplus
-IsWithinClaims (Ranges on ranges) = All HasWithinBounds ranges
+IsWithinClaims (Ranges on ranges ends) = All HasWithinBounds ranges
 IsWithinClaims (Session edits) = All IsWithinState edits
 IsWithinClaims (Drops firm keeps gain over) = IfSome gain IsWithinClaim × IsWithinClaim over
 IsWithinClaims (Completes prices over) = All IsWithinClaim prices × IsWithinClaim over
@@ -82,12 +81,11 @@ HasAscendingTrades (Better firm bundle gain) = IsStrictlyIncreasing bundle
 HasAscendingTrades (Impossible firm) = Unit {0}
 HasAscendingTrades Accepted = Unit {0}
 HasAscendingTrades (ExchangeFails firm x y at) = IsAscendingTriple (record { x = x; y = y; at = at })
-HasAscendingTrades (Supported prices) = Unit {0}
+HasAscendingTrades (Supported on prices ends) = IsStrictlyIncreasing on
 HasAscendingTrades (Cycle nodes cost) = Unit {0}
-HasAscendingTrades (Solved on prices surplus) = IsStrictlyIncreasing on
-HasAscendingTrades (Rows on prices surplus) = IsStrictlyIncreasing on
+HasAscendingTrades (Solved on prices surplus ends) = IsStrictlyIncreasing on
 HasAscendingTrades (Drill size start firms surplus) = Unit {0}
-HasAscendingTrades (Ranges on ranges) = IsStrictlyIncreasing on
+HasAscendingTrades (Ranges on ranges ends) = IsStrictlyIncreasing on
 HasAscendingTrades (Session edits) = All IsAscendingState edits
 HasAscendingTrades (Drops firm keeps gain over) = IsStrictlyIncreasing keeps
 HasAscendingTrades (Completes prices over) = Unit {0}

@@ -6,12 +6,13 @@ use Rattle.tn_plain_data.specs.declared.place.PlaceStep.TheVariants.{Word, Index
 use Rattle.tn_plain_data.specs.declared.said.Shown.{Shown}
 use Rattle.tn_plain_data.specs.declared.session.State.{State}
 use Rattle.tn_plain_data.specs.declared.said.Said.{Said}
-use Rattle.tn_plain_data.specs.declared.said.Said.TheVariants.{Usage, ReadFault, NoMemory, Fault as FaultIs, Equilibrium, Better, Impossible, Accepted, ExchangeFails, Supported, Cycle, Solved, Rows, Drill, Ranges, Session, Drops, Completes, Blocks, Valid, Invalid, Cases, Page as PageIs, Firms}
+use Rattle.tn_plain_data.specs.declared.said.Said.TheVariants.{Usage, ReadFault, NoMemory, Fault as FaultIs, Equilibrium, Better, Impossible, Accepted, ExchangeFails, Supported, Cycle, Solved, Drill, Ranges, Session, Drops, Completes, Blocks, Valid, Invalid, Cases, Page as PageIs, Firms}
 use Rattle.tn_names.specs.Names.{NameLists}
 use Rattle.tn_answer.specs.ReasonText.{reason_names_nothing}
 use Rattle.tn_answer.specs.Sayable.{IsSayable}
 use Rattle.tn_answer.specs.Kept.{IsWithinClaims}
 use Rattle.tn_answer.specs.AnswerText.{answer_line}
+use Rattle.tn_answer.specs.declared.layout.Layout.{Layout}
 
 abbrev pub names_no_trade_at : PlaceStep → Bool
 names_no_trade_at (Word word) = true
@@ -44,12 +45,11 @@ names_nothing (Better firm bundle gain) = false
 names_nothing (Impossible firm) = false
 names_nothing Accepted = true
 names_nothing (ExchangeFails firm x y at) = false
-names_nothing (Supported prices) = is_empty prices
+names_nothing (Supported on prices ends) = is_empty prices
 names_nothing (Cycle nodes cost) = list_all is_none nodes
-names_nothing (Solved on prices surplus) = are_none on && is_empty prices
-names_nothing (Rows on prices surplus) = is_empty prices
+names_nothing (Solved on prices surplus ends) = are_none on && is_empty prices
 names_nothing (Drill size start firms surplus) = true
-names_nothing (Ranges on ranges) = are_none on && is_empty ranges
+names_nothing (Ranges on ranges ends) = are_none on && is_empty ranges
 names_nothing (Session edits) = list_all state_names_nothing edits
 names_nothing (Drops firm keeps gain over) = false
 names_nothing (Completes prices over) = is_empty prices
@@ -60,9 +60,9 @@ names_nothing (Cases count failed) = true
 names_nothing (PageIs page) = true
 names_nothing (Firms content firms surplus) = is_empty firms
 
--- the text of such an answer is the same over any names
+-- the text of such an answer is the same over any names, in each layout
 abbrev pub NeedsNoNames : Type 0
-NeedsNoNames = (said : Said) (names others : NameLists) → names_nothing said ≡ true → answer_line names said ≡ answer_line others said
+NeedsNoNames = (layout : Layout) (said : Said) (names others : NameLists) → names_nothing said ≡ true → answer_line layout names said ≡ answer_line layout others said
 
 -- an answer within the limits of claims can be written
 abbrev pub IsSayableWithinClaims : Type 0

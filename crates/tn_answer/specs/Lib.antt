@@ -4,6 +4,7 @@ pub mod ReasonText
 pub mod Sayable
 pub mod Kept
 pub mod Rows
+pub mod Cells
 pub mod Pages
 pub mod AnswerText
 pub mod Fields

@@ -41,6 +41,8 @@ help_lines =
     ∷ []
     ∷ codes "From check to replay a document is read from standard input; the others read nothing."
     ∷ codes "With --lines behind the command, as in market check --lines, each line is a document."
+    ∷ codes "With --csv behind firms, support, solve or range the answer is rows, where it has some;"
+    ∷ codes "in those of market solve --csv=wide stand the sellers and the buyers too."
     ∷ codes "The answer goes to standard output."
     ∷ []
 

@@ -1,10 +1,14 @@
--- Rows of an answer, for a spreadsheet: a head, and for each trade its name, 1 where it is on and 0 where it is off, and
--- its price; fields are parted by commas, and each row is a line.
-use Rattle.std.specs.Prelude.{◌≡◌, ℕ, suc, ℤ, List, [], ◌∷◌, Bool, false, Option, Some, ◌==◌, if◌then◌else◌, slice_get, unwrap_or, codes, flat_map}
+-- The rows of an answer, for a spreadsheet. A table has a head, and a row for each trade or for each firm; a row has
+-- fields, which are parted by commas in the text, and each row is a line.
+use Rattle.std.specs.Prelude.{◌≡◌, ℕ, suc, ℤ, List, [], ◌∷◌, ◌++◌, Bool, false, Option, Some, None, ◌==◌, if◌then◌else◌, slice_get, unwrap_or, unsigned_abs, codes, flat_map}
 use Rattle.std.specs.Fmt.{signed_decimal}
 use Rattle.std.specs.List.{list_any}
 use Rattle.csv.specs.Writing.{default_writer, row_text}
 use Rattle.csv.specs.declared.writer.WriterBuilder.{WriterBuilder}
+use Rattle.tn_plain_data.specs.declared.ends.Ends.{Ends}
+use Rattle.tn_plain_data.specs.declared.holding.Holding.{Holding}
+use Rattle.tn_plain_data.specs.declared.range.Range.{Range}
+use Rattle.tn_names.specs.Names.{NameLists}
 
 -- what a function of the number and the item makes of each item, the first one being number k
 abbrev pub each_from : {A B : Type 0} → (ℕ → A → B) → ℕ → List A → List B
@@ -15,14 +19,79 @@ each_from f k (x ∷ xs) = f k x ∷ each_from f (suc k) xs
 abbrev pub is_listed : List ℕ → ℕ → Bool
 is_listed ks k = list_any (λ j. j == k) ks
 
-abbrev pub row_of : List (List ℕ) → List ℕ → ℕ → ℤ → List (List ℕ)
-row_of names on k price = unwrap_or (slice_get names k) [] ∷ (if is_listed on k then codes "1" else codes "0") ∷ signed_decimal price ∷ []
+-- whether a gain is there and is nothing
+abbrev pub is_nothing : Option ℤ → Bool
+is_nothing None = false
+is_nothing (Some gain) = unsigned_abs gain == 0
 
-abbrev pub first_row : List (List ℕ)
-first_row = codes "trade" ∷ codes "on" ∷ codes "price" ∷ []
+-- ---- fields
 
-abbrev pub table_of : List (List ℕ) → List ℕ → List ℤ → List (List (List ℕ))
-table_of names on prices = first_row ∷ each_from (row_of names on) 0 prices
+-- the name with a number, empty where there is none
+abbrev pub name_text : List (List ℕ) → ℕ → List ℕ
+name_text names k = unwrap_or (slice_get names k) []
+
+-- 1 for yes, 0 for no
+abbrev pub flag_text : Bool → List ℕ
+flag_text flag = if flag then codes "1" else codes "0"
+
+-- a number that may be none, and then the field is empty: a bound of prices, a gain
+abbrev pub bound_text : Option ℤ → List ℕ
+bound_text None = []
+bound_text (Some z) = signed_decimal z
+
+-- the names with some numbers, with a blank between each two
+abbrev pub bundle_text : List (List ℕ) → List ℕ → List ℕ
+bundle_text names [] = []
+bundle_text names (k ∷ ks) = name_text names k ++ flat_map (λ j. 32 ∷ name_text names j) ks
+
+-- the names of a trade's seller and buyer
+abbrev pub seller_text : List (List ℕ) → Option Ends → List ℕ
+seller_text firms None = []
+seller_text firms (Some trade) = name_text firms trade.seller
+
+abbrev pub buyer_text : List (List ℕ) → Option Ends → List ℕ
+buyer_text firms None = []
+buyer_text firms (Some trade) = name_text firms trade.buyer
+
+-- ---- rows
+
+-- the head and the row of a trade: its name, whether it is on, and its price
+abbrev pub price_head : List (List ℕ)
+price_head = codes "trade" ∷ codes "on" ∷ codes "price" ∷ []
+
+abbrev pub price_row : NameLists → List ℕ → ℕ → ℤ → List (List ℕ)
+price_row names on k price = name_text names.trades k ∷ flag_text (is_listed on k) ∷ signed_decimal price ∷ []
+
+-- the same with who sells and who buys
+abbrev pub deal_head : List (List ℕ)
+deal_head = codes "trade" ∷ codes "seller" ∷ codes "buyer" ∷ codes "on" ∷ codes "price" ∷ []
+
+abbrev pub deal_row : NameLists → List ℕ → List Ends → ℕ → ℤ → List (List ℕ)
+deal_row names on ends k price =
+    name_text names.trades k ∷ seller_text names.firms (slice_get ends k) ∷ buyer_text names.firms (slice_get ends k) ∷ flag_text (is_listed on k) ∷ signed_decimal price ∷ []
+
+-- with the lowest and the highest price
+abbrev pub range_head : List (List ℕ)
+range_head = codes "trade" ∷ codes "seller" ∷ codes "buyer" ∷ codes "on" ∷ codes "low" ∷ codes "high" ∷ []
+
+abbrev pub range_row : NameLists → List ℕ → List Ends → ℕ → Range → List (List ℕ)
+range_row names on ends k range =
+    name_text names.trades k ∷ seller_text names.firms (slice_get ends k) ∷ buyer_text names.firms (slice_get ends k) ∷ flag_text (is_listed on k) ∷ bound_text range.low ∷ bound_text range.high ∷ []
+
+-- and the row of a firm: its name, whether it is content, and what it has
+abbrev pub firm_head : List (List ℕ)
+firm_head = codes "firm" ∷ codes "content" ∷ codes "worth" ∷ codes "utility" ∷ codes "best_utility" ∷ codes "gain" ∷ codes "has" ∷ codes "best" ∷ []
+
+abbrev pub firm_row : NameLists → ℕ → Holding → List (List ℕ)
+firm_row names k holding =
+    name_text names.firms k ∷ flag_text (is_nothing holding.gain) ∷ bound_text holding.worth ∷ bound_text holding.utility ∷ signed_decimal holding.best_utility ∷ bound_text holding.gain
+    ∷ bundle_text names.trades holding.has ∷ bundle_text names.trades holding.best ∷ []
+
+-- ---- tables
+
+-- a head, and what a function makes of each item
+abbrev pub table : {A : Type 0} → List (List ℕ) → (ℕ → A → List (List ℕ)) → List A → List (List (List ℕ))
+table head row xs = head ∷ each_from row 0 xs
 
 -- rows as text, each in the csv crate's default form
 abbrev pub rows_text : List (List (List ℕ)) → List ℕ

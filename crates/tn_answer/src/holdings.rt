@@ -13,7 +13,7 @@ use tn_names::Names;
 use tn_plain_data::{Holding, Holdings};
 
 /// The name of the firm at a place, empty where there is none.
-fn firm_name_at(names: &Names, k: usize) -> &str
+pub(crate) fn firm_name_at(names: &Names, k: usize) -> &str
     ensures { result.now ≡ unwrap_or (slice_get names.now.firms k) [] }
 {
     if k < names.firms() as usize {

@@ -2,7 +2,8 @@
 
 ghost use Rattle.std.specs.Prelude.{◌≡◌};
 ghost use Rattle.tn_answer.specs.AnswerText.{answer_line};
-ghost use Rattle.tn_answer.specs.Pages.{help_lines, lines_text, version_lines};
+ghost use Rattle.tn_answer.specs.declared.layout.Layout.{Layout};
+ghost use Rattle.tn_answer.specs.Pages.{help_lines, lines_text, page_lines, version_lines};
 ghost use Rattle.tn_names.specs.Names.{NameLists};
 
 use tn_plain_data::{Page, Said};
@@ -47,6 +48,8 @@ fn help_text() -> &'static str
         "\n",
         "From check to replay a document is read from standard input; the others read nothing.\n",
         "With --lines behind the command, as in market check --lines, each line is a document.\n",
+        "With --csv behind firms, support, solve or range the answer is rows, where it has some;\n",
+        "in those of market solve --csv=wide stand the sellers and the buyers too.\n",
         "The answer goes to standard output.\n",
     )
 }
@@ -58,13 +61,20 @@ fn version_text() -> &'static str
     concat!("market 1.9.0\n", "rattle-kit-13f logic dac8208d650f15bf\n")
 }
 
-/// The text of a page.
-#[tactic(auto, unfolding(crate::specs::AnswerText::answer_line))]
-pub fn page_text(page: Page) -> &'static [u8]
-    ensures { (names : NameLists) → result.now ≡ answer_line names (Said.Page page) }
+/// The lines of a page.
+pub(crate) fn page_lines(page: Page) -> &'static [u8]
+    ensures { result.now ≡ lines_text (page_lines page) }
 {
     match page {
         Page::Help => help_text().as_bytes(),
         Page::Version => version_text().as_bytes(),
     }
+}
+
+/// The text of a page, which is the same in each layout.
+#[tactic(auto, unfolding(crate::specs::AnswerText::answer_line))]
+pub fn page_text(page: Page) -> &'static [u8]
+    ensures { (layout : Layout) (names : NameLists) → result.now ≡ answer_line layout names (Said.Page page) }
+{
+    page_lines(page)
 }

@@ -1,4 +1,4 @@
-// Answers as JSON values, null for one that is written as rows or as a page. An object has its members in byte order, whatever order
+// Answers as JSON values, null for a page. An object has its members in byte order, whatever order
 // they are put in.
 ghost use Rattle.std.specs.Prelude.{◌≡◌, [], All, unwrap_or, slice_get, IfOk, IfSome, FitsSigned};
 ghost use Rattle.std.specs.Int.{w64};
@@ -37,22 +37,23 @@ pub(crate) fn answer_value(alloc: Global, names: &Names, said: &Said) -> Result<
         Said::ExchangeFails { firm, x, y, at } => {
             exchange_fails_value(alloc, names, *firm, x, y, *at)
         }
-        Said::Supported { prices } => supported_value(alloc, names, prices),
+        Said::Supported { prices, .. } => supported_value(alloc, names, prices),
         Said::Cycle { nodes, cost } => cycle_value(alloc, names, nodes, *cost),
         Said::Solved {
             on,
             prices,
             surplus,
+            ..
         } => solved_value(alloc, names, on, prices, *surplus),
-        // (written as rows, or as a page)
-        Said::Rows { .. } | Said::Page(_) => Ok(Value::Null),
+        // (written as lines)
+        Said::Page(_) => Ok(Value::Null),
         Said::Drill {
             size,
             start,
             firms,
             surplus,
         } => drill_value(alloc, names, *size, *start, *firms, *surplus),
-        Said::Ranges { on, ranges } => ranged_value(alloc, names, on, ranges),
+        Said::Ranges { on, ranges, .. } => ranged_value(alloc, names, on, ranges),
         Said::Session { edits } => session_value(alloc, names, edits),
         Said::Drops {
             firm,
@@ -188,7 +189,7 @@ fn exchange_fails_value<'a>(
 fn supported_value(alloc: Global, names: &Names, prices: &Prices) -> Result<Value, AllocError>
     requires { All (FitsSigned w64) prices.now }
     ensures { IfOk result
-        (λ value. view value ≡ answer_data names.now (Said.Supported prices.now)) }
+        (λ value. view value ≡ answer_data names.now (Said.Supported [] prices.now [])) }
 {
     let fields = [
         ("answer", Field::Word("prices")),
@@ -220,7 +221,7 @@ fn solved_value<'a>(
     requires prices { All (FitsSigned w64) prices.now }
     requires surplus { FitsSigned w64 surplus }
     ensures { IfOk result
-        (λ value. view value ≡ answer_data names.now (Said.Solved on.now prices.now surplus)) }
+        (λ value. view value ≡ answer_data names.now (Said.Solved on.now prices.now surplus [])) }
 {
     let fields = [
         ("answer", Field::Word("solved")),
@@ -261,7 +262,7 @@ fn ranged_value(
 ) -> Result<Value, AllocError>
     requires { All HasShortBounds ranges.now }
     ensures { IfOk result
-        (λ value. view value ≡ answer_data names.now (Said.Ranges on.now ranges.now)) }
+        (λ value. view value ≡ answer_data names.now (Said.Ranges on.now ranges.now [])) }
 {
     json!(in alloc; {
         "answer": "ranges",

@@ -52,7 +52,7 @@ case_2 = one_answer (Trees.numbered 2) Check (Readings.deal_document asks_3 Read
 -- no trades
 case_3 : HasOneAnswer (Trees.numbered 3)
 unfolding answer_line escape_byte digits
-case_3 = one_answer (Trees.numbered 3) Solve Readings.idle_document (Solved [] [] (pos 7)) refl Readings.reading_3
+case_3 = one_answer (Trees.numbered 3) Solve Readings.idle_document (Solved [] [] (pos 7) []) refl Readings.reading_3
     (is_solved (documents_are_networks Market Trees.bytes_3 _ Readings.reading_3).network)
     only_solved
     refl refl

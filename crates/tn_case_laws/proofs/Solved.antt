@@ -49,24 +49,28 @@ idle_equilibrium = two_firms (λ f firm. HasBest no_ends (pos 1) 0 (price_at [])
     (pos 7, best_by 1 (utility_at no_ends (pos 1) (price_at []) 0 (idle (Some (pos 7)))) (own_utilities no_ends (pos 1) (price_at []) 0 (idle (Some (pos 7))) (own_bundles (idle_table (Some (pos 7))))) 0 (pos 7) refl refl)
     (pos 0, best_by 1 (utility_at no_ends (pos 1) (price_at []) 1 (idle None)) (own_utilities no_ends (pos 1) (price_at []) 1 (idle None) (own_bundles (idle_table None))) 0 (pos 0) refl refl)
 
-pub is_solved : IsNetwork idle_firms no_ends → Solves idle_firms no_ends (Solved [] [] (pos 7))
-is_solved network = record {
-  set = 0;
-  on_is = refl;
-  one_each = refl;
-  equilibrium = idle_equilibrium;
-  surplus_is = idle_surplus 0;
-  implied = implied_by idle_firms no_ends 0 (price_at []) network idle_equilibrium;
-}
+pub is_solved : IsNetwork idle_firms no_ends → Solves idle_firms no_ends (Solved [] [] (pos 7) no_ends)
+is_solved network = (
+  record {
+    set = 0;
+    on_is = refl;
+    one_each = refl;
+    equilibrium = idle_equilibrium;
+    surplus_is = idle_surplus 0;
+    implied = implied_by idle_firms no_ends 0 (price_at []) network idle_equilibrium;
+  },
+  refl,
+)
 
 no_prices : (prices : List ℤ) → length prices ≡ 0 → prices ≡ []
 no_prices [] e = refl
 no_prices (p ∷ prices) e = absurd (omega (arith, e))
 
-pub only_solved : (said : Said) → Solves idle_firms no_ends said → said ≡ Solved [] [] (pos 7)
-only_solved (Solved on prices surplus) solves =
-    let none_on : on ≡ [] = solves.on_is in
-    let none_priced = no_prices prices solves.one_each in
-    let worth = same_Some surplus (pos 7) (sym solves.surplus_is ∙ idle_surplus solves.set) in
-    λ i. Solved (none_on i) (none_priced i) (worth i)
+pub only_solved : (said : Said) → Solves idle_firms no_ends said → said ≡ Solved [] [] (pos 7) no_ends
+only_solved (Solved on prices surplus ends) solves =
+    let none_on : on ≡ [] = solves.0.on_is in
+    let none_priced = no_prices prices solves.0.one_each in
+    let worth = same_Some surplus (pos 7) (sym solves.0.surplus_is ∙ idle_surplus solves.0.set) in
+    let none_ends = solves.1 in
+    λ i. Solved (none_on i) (none_priced i) (worth i) (none_ends i)
 only_solved said solves = absurd solves

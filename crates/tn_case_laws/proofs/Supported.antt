@@ -168,7 +168,7 @@ is_unable = (first_unable, unable_unsupported)
 
 pub only_impossible : (said : Said) → SupportsSet (deal_firms None) deal_trades 1 said → said ≡ Impossible 0
 only_impossible (Impossible f) supports = ap (λ (g : ℕ). Impossible g) (only_unable f supports.0)
-only_impossible (Supported prices) supports = absurd (unable_unsupported (price_at prices) supports.0.equilibrium)
+only_impossible (Supported listed prices ends) supports = absurd (unable_unsupported (price_at prices) supports.0.equilibrium)
 only_impossible (Cycle nodes cost) supports = absurd (unable_has_no_cycle nodes cost supports.0)
 only_impossible said supports = absurd supports
 
@@ -177,7 +177,7 @@ is_cyclic = (is_cycle, off_unsupported)
 
 pub only_cyclic : (said : Said) → SupportsSet (deal_firms asks_3) deal_trades 0 said → said ≡ Cycle (None ∷ Some 0 ∷ []) (negsuc 1)
 only_cyclic (Impossible f) supports = absurd (off_unable f supports.0)
-only_cyclic (Supported prices) supports = absurd (off_unsupported (price_at prices) supports.0.equilibrium)
+only_cyclic (Supported listed prices ends) supports = absurd (off_unsupported (price_at prices) supports.0.equilibrium)
 only_cyclic (Cycle nodes cost) supports =
     let known = only_cycle nodes cost supports.0 in let nodes_are = known.0 in let cost_is = known.1 in λ i. Cycle (nodes_are i) (cost_is i)
 only_cyclic said supports = absurd supports

@@ -1,6 +1,6 @@
 -- From what the search for prices says to the answer about it.
-use Rattle.std.proofs.Common.{◌≡◌, ℕ, ◌+◌, ◌*◌, ◌≤◌, ℤ, List, length, map, subst, arith, to_z, of_z}
-use Rattle.std.specs.Prelude.{Option, Some, slice_get}
+use Rattle.std.proofs.Common.{◌≡◌, ℕ, ◌+◌, ◌*◌, ◌≤◌, ℤ, List, length, map, sym, subst, arith, to_z, of_z}
+use Rattle.std.specs.Prelude.{Option, Some, slice_get, Result, Ok, Err, IfOk}
 use Rattle.std.specs.Int.{w128}
 use Rattle.std.proofs.lemmas.Int.{ints}
 use Rattle.tn_base.specs.Arcs.{IsAtMost}
@@ -9,6 +9,7 @@ use Rattle.tn_firm.specs.declared.value.FirmValue.{FirmValue}
 use Rattle.tn_firm.specs.Firms.{firm_of}
 use Rattle.tn_firm.specs.FirmLemmas.{firm_laws}
 use Rattle.tn_plain_data.specs.declared.ends.Ends.{Ends}
+use Rattle.tn_plain_data.specs.declared.said.Said.{Said}
 use Rattle.tn_plain_data.specs.Prices.{price_at}
 use Rattle.tn_plain_data.specs.Network.{IsNetwork}
 use Rattle.tn_market.specs.Supported.{AreSupports, IsNegativeCycle}
@@ -19,6 +20,11 @@ use Rattle.tn_command.specs.Limits.{most_answered_trades}
 use Rattle.tn_plain_data.specs.Limits.{most_number, most_price}
 use Rattle.tn_market.specs.Widths.{most_worth}
 use Rattle.tn_command.proofs.CheckLemmas.{implied_by, value_at}
+
+-- what holds of one answer holds of a result that is that answer, if it is any
+pub if_ok : {E : Type 0} (P : Said → Type 0) (result : Result Said E) (one : Said) → P one → IfOk result (λ said. said ≡ one) → IfOk result P
+if_ok P (Ok said) one holds same = subst P (sym same) holds
+if_ok P (Err e) one holds same = tt
 
 -- supporting prices are those of an equilibrium
 pub supports_imply : (firms : List Firm) (trades : List Ends) (on : ℕ) (prices : List ℤ) → IsNetwork firms trades → AreSupports firms trades on prices

@@ -17,6 +17,7 @@ pub record IsRanged (firms : List Firm) (trades : List Ends) (on : List ℕ) (ra
   pub efficient : IsEfficient firms trades set
   pub each : AreRanges firms trades set ranges
 
+-- beside the ends of the trades
 abbrev pub TellsRanges : List Firm → List Ends → Said → Type 0
-TellsRanges firms trades (Ranges on ranges) = IsRanged firms trades on ranges
+TellsRanges firms trades (Ranges on ranges ends) = IsRanged firms trades on ranges × (ends ≡ trades)
 TellsRanges firms trades said = ⊥

@@ -3,7 +3,7 @@ use Rattle.std.specs.Prelude.{◌≡◌, ℕ, ℤ, pos, List, length, Some}
 use Rattle.tn_base.specs.Firm.{Firm}
 use Rattle.tn_plain_data.specs.declared.ends.Ends.{Ends}
 use Rattle.tn_plain_data.specs.declared.said.Said.{Said}
-use Rattle.tn_plain_data.specs.declared.said.Said.TheVariants.{Solved, Rows}
+use Rattle.tn_plain_data.specs.declared.said.Said.TheVariants.{Solved}
 use Rattle.tn_plain_data.specs.Prices.{price_at}
 use Rattle.tn_plain_data.specs.Network.{trades_on}
 use Rattle.tn_market.specs.Equilibrium.{IsEquilibrium, surplus_of}
@@ -19,11 +19,7 @@ pub record IsSolved (firms : List Firm) (trades : List Ends) (on : List ℕ) (pr
   pub surplus_is : surplus_of firms trades set ≡ Some surplus
   pub implied : IsEfficientAndStable firms trades set (price_at prices)
 
+-- beside the ends of the trades
 abbrev pub Solves : List Firm → List Ends → Said → Type 0
-Solves firms trades (Solved on prices surplus) = IsSolved firms trades on prices surplus
+Solves firms trades (Solved on prices surplus ends) = IsSolved firms trades on prices surplus × (ends ≡ trades)
 Solves firms trades said = ⊥
-
--- the same, to be written as rows
-abbrev pub SolvesInRows : List Firm → List Ends → Said → Type 0
-SolvesInRows firms trades (Rows on prices surplus) = IsSolved firms trades on prices surplus
-SolvesInRows firms trades said = ⊥

@@ -19,5 +19,5 @@ pub use judging::judge_outcome;
 pub use laws::firms_away_have_nothing;
 pub use ranging::price_ranges;
 pub use replaying::replay_claim;
-pub use solving::{solve, solve_in_rows};
+pub use solving::solve;
 pub use supporting::prices_for;

@@ -7,7 +7,7 @@ ghost use Rattle.tn_command.specs.Limits.{most_answered_trades};
 ghost use Rattle.tn_firm.specs.Firms.{firm_of};
 ghost use Rattle.tn_market.specs.NetworkOf.{network_of};
 
-use crate::solving::{equilibrium, trades_on};
+use crate::solving::{ends_of, equilibrium, trades_on};
 use std::alloc::Global;
 use tn_base::{Asked, OutOfMemory, Steps};
 use tn_firm::FirmValue;
@@ -21,9 +21,11 @@ pub fn price_ranges(alloc: Global, market: &Market<FirmValue>) -> Result<Said, O
     ensures within { IfOk result IsWithinClaims }
 {
     let at = equilibrium(alloc, market)?;
+    let ends = ends_of(alloc, market)?;
     let ranges = range(alloc, market, &at.on, &mut Steps::new(Asked))?;
     Ok(Said::Ranges {
         on: trades_on(alloc, &at.on, market.trades())?,
         ranges,
+        ends,
     })
 }

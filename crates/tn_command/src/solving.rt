@@ -8,7 +8,7 @@ ghost use Rattle.tn_plain_data.specs.Prices.{price_at};
 ghost use Rattle.tn_market.specs.Equilibrium.{IsEquilibrium, surplus_of};
 ghost use Rattle.tn_market.specs.Graph.{ArePossible};
 ghost use Rattle.tn_plain_data.specs.Network.{trades_on};
-ghost use Rattle.tn_command.specs.Solved.{Solves, SolvesInRows};
+ghost use Rattle.tn_command.specs.Solved.{Solves};
 ghost use Rattle.tn_command.specs.Limits.{most_answered_trades};
 ghost use Rattle.tn_plain_data.specs.Limits.{most_price};
 ghost use Rattle.tn_market.specs.NetworkOf.{network_of};
@@ -17,7 +17,7 @@ use std::alloc::Global;
 use tn_base::{Asked, OutOfMemory, Steps, TradeSet};
 use tn_firm::FirmValue;
 use tn_flow::Solver;
-use tn_market::{Arrangement, Market, Prices, Said, Trades};
+use tn_market::{Arrangement, Market, Prices, Said, TradeEnds, Trades};
 use tn_price::surplus_of;
 
 /// The trades of a set, ascending.
@@ -32,6 +32,18 @@ pub(crate) fn trades_on(alloc: Global, on: &TradeSet<2>, count: u32) -> Result<T
         }
     }
     Ok(Trades::from_vec(trades))
+}
+
+/// The ends of the trades of a market.
+pub(crate) fn ends_of(alloc: Global, market: &Market<FirmValue>) -> Result<TradeEnds, OutOfMemory>
+    ensures { IfOk result (λ ends. ends ≡ market.now.trades) }
+{
+    let count = market.trades();
+    let mut list = Vec::with_capacity(alloc, count as usize)?;
+    for t in 0..count {
+        list.push(market.ends(t))?;
+    }
+    Ok(TradeEnds::from_vec(list))
 }
 
 /// The prices that a solver has found.
@@ -86,24 +98,11 @@ pub fn solve(alloc: Global, market: &Market<FirmValue>) -> Result<Said, OutOfMem
 {
     let at = equilibrium(alloc, market)?;
     let surplus = surplus(market, &at.on);
+    let ends = ends_of(alloc, market)?;
     Ok(Said::Solved {
         on: trades_on(alloc, &at.on, market.trades())?,
         prices: at.prices,
         surplus,
-    })
-}
-
-/// The same, to be written as rows.
-pub fn solve_in_rows(alloc: Global, market: &Market<FirmValue>) -> Result<Said, OutOfMemory>
-    requires wide { length market.now.trades ≤ most_answered_trades }
-    ensures answer { IfOk result (network_of firm_of market.now SolvesInRows) }
-    ensures within { IfOk result IsWithinClaims }
-{
-    let at = equilibrium(alloc, market)?;
-    let surplus = surplus(market, &at.on);
-    Ok(Said::Rows {
-        on: trades_on(alloc, &at.on, market.trades())?,
-        prices: at.prices,
-        surplus,
+        ends,
     })
 }

@@ -1,17 +1,38 @@
 //! The answer of `support`.
 
-ghost use Rattle.std.specs.Prelude.{◌≤◌, IfOk, length};
+ghost use Rattle.std.specs.Prelude.{◌≡◌, ◌≤◌, IfOk, length};
 ghost use Rattle.tn_answer.specs.Kept.{IsWithinClaims};
 ghost use Rattle.tn_firm.specs.Firms.{firm_of};
 ghost use Rattle.tn_command.specs.Supported.{SupportsSet};
+ghost use Rattle.tn_plain_data.specs.Network.{trades_on};
 ghost use Rattle.tn_command.specs.Limits.{most_answered_trades};
 ghost use Rattle.tn_market.specs.NetworkOf.{network_of};
 
+use crate::solving::{ends_of, trades_on};
 use std::alloc::Global;
 use tn_base::{Asked, OutOfMemory, Steps, TradeSet};
 use tn_firm::FirmValue;
-use tn_market::{Market, Said};
+use tn_market::{Market, Prices, Said};
 use tn_price::{Support, support};
+
+/// The answer that prices support a set of trades.
+fn supported(
+    alloc: Global,
+    market: &Market<FirmValue>,
+    on: &TradeSet<2>,
+    prices: Prices,
+) -> Result<Said, OutOfMemory>
+    requires { length market.now.trades ≤ most_answered_trades }
+    ensures { IfOk result (λ said. said ≡ Said.Supported (trades_on on.now (length market.now.trades)) prices market.now.trades) }
+{
+    let listed = trades_on(alloc, on, market.trades())?;
+    let ends = ends_of(alloc, market)?;
+    Ok(Said::Supported {
+        on: listed,
+        prices,
+        ends,
+    })
+}
 
 /// Prices that support a set of trades, or why there are none. There are at most 128 trades.
 pub fn prices_for(
@@ -25,7 +46,7 @@ pub fn prices_for(
 {
     let _count = market.trades();
     match support(alloc, market, on, &mut Steps::new(Asked))? {
-        Support::Supported { prices } => Ok(Said::Supported { prices }),
+        Support::Supported { prices } => supported(alloc, market, on, prices),
         Support::Impossible { firm } => Ok(Said::Impossible { firm }),
         Support::Cycle { nodes, cost } => Ok(Said::Cycle { nodes, cost }),
     }

@@ -12,7 +12,8 @@ use Rattle.tn_plain_data.specs.declared.said.Said.TheVariants.{Equilibrium, Bett
 use Rattle.tn_price.proofs.JudgeLemmas.{some_item}
 use Rattle.tn_market.specs.Equilibrium.{HasBest, IsEquilibrium}
 use Rattle.tn_market.specs.Judged.{AreBestBefore, Judges}
-use Rattle.tn_holding.specs.Held.{is_content, is_nothing, TellsFirm, TellsFirms}
+use Rattle.tn_answer.specs.Rows.{is_nothing}
+use Rattle.tn_holding.specs.Held.{is_content, TellsFirm, TellsFirms}
 use Rattle.tn_holding.specs.Laws.{AllContentIsEquilibrium, CheckNamesTheFirst, IsFirstDiscontent, SaysTheSame}
 
 -- ---- one firm

@@ -1,6 +1,6 @@
 -- What is said of each firm in an arrangement: a set of trades with prices for all trades. The firms needn't meet
 -- exchange.
-use Rattle.std.specs.Prelude.{◌≡◌, ℕ, ℤ, ◌-ℤ◌, ◌==◌, unsigned_abs, Bool, false, List, length, slice_get, Option, Some, None, option_map}
+use Rattle.std.specs.Prelude.{◌≡◌, ℕ, ℤ, ◌-ℤ◌, Bool, List, length, slice_get, Option, Some, None, option_map}
 use Rattle.std.specs.List.{count_by}
 use Rattle.tn_base.specs.Firm.{Firm, IsBest}
 use Rattle.tn_plain_data.specs.declared.ends.Ends.{Ends}
@@ -9,6 +9,7 @@ use Rattle.tn_plain_data.specs.declared.said.Said.{Said}
 use Rattle.tn_plain_data.specs.declared.said.Said.TheVariants.{Firms}
 use Rattle.tn_plain_data.specs.Network.{part, trades_of}
 use Rattle.tn_market.specs.Equilibrium.{utility_at, surplus_of}
+use Rattle.tn_answer.specs.Rows.{is_nothing}
 
 -- what is said of firm f: its own bundle with worth and utility, a best bundle, its own where that is best, and what
 -- its utility gains by that
@@ -23,10 +24,6 @@ pub record TellsFirm (trades : List Ends) (scale : ℤ) (on : ℕ) (prices : ℕ
   pub gain_is : told.gain ≡ option_map (λ value. told.best_utility -ℤ value) told.utility
 
 -- a firm is content where it gains nothing
-abbrev pub is_nothing : Option ℤ → Bool
-is_nothing None = false
-is_nothing (Some gain) = unsigned_abs gain == 0
-
 abbrev pub is_content : Holding → Bool
 is_content told = is_nothing told.gain
 

@@ -26,7 +26,7 @@ pub use holding::Holding;
 pub use limits::Limits;
 pub use lists::{
     Amounts, Contracts, Edits, Holdings, Lent, Listed, Nodes, Numbers, Parts, Place, Prices,
-    Ranges, States, Trades,
+    Ranges, States, TradeEnds, Trades,
 };
 pub use part::Part;
 pub use place::{PlaceStep, Word};

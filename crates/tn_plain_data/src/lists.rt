@@ -1,6 +1,7 @@
 ghost use Rattle.std.specs.Prelude.{◌≡◌, ◌<◌, Some, length, slice_get};
 
 use crate::contract::Contract;
+use crate::ends::Ends;
 use crate::holding::Holding;
 use crate::part::Part;
 use crate::place::PlaceStep;
@@ -12,6 +13,8 @@ use std::marker::Model;
 pub type Trades = Listed<u32>;
 /// Prices by trade number: numerators over a denominator that is said beside them.
 pub type Prices = Listed<i128>;
+/// The ends of trades, by trade number.
+pub type TradeEnds = Listed<Ends>;
 /// Contracts over a denominator that is said beside them.
 pub type Contracts = Listed<Contract>;
 /// Nodes of an exchange graph: a trade number, or none for the null node.

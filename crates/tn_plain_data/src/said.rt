@@ -1,4 +1,6 @@
-use crate::lists::{Contracts, Holdings, Nodes, Numbers, Place, Prices, Ranges, States, Trades};
+use crate::lists::{
+    Contracts, Holdings, Nodes, Numbers, Place, Prices, Ranges, States, TradeEnds, Trades,
+};
 use crate::reason::Reason;
 use tn_base::FaultKind;
 
@@ -78,8 +80,12 @@ pub enum Said {
     },
     /// With these prices the set of trades is an equilibrium.
     Supported {
+        /// The trades of the set, ascending.
+        on: Trades,
         /// The price of each trade, by trade number.
         prices: Prices,
+        /// The ends of each trade, by trade number.
+        ends: TradeEnds,
     },
     /// No prices support the set of trades, since this cycle of its exchange graph is negative.
     Cycle {
@@ -96,15 +102,8 @@ pub enum Said {
         prices: Prices,
         /// The sum of the firms' worths.
         surplus: i128,
-    },
-    /// An equilibrium, to be written as rows.
-    Rows {
-        /// The trades that are on, ascending.
-        on: Trades,
-        /// The price of each trade, by trade number.
-        prices: Prices,
-        /// The sum of the firms' worths.
-        surplus: i128,
+        /// The ends of each trade, by trade number.
+        ends: TradeEnds,
     },
     /// What trade can bring at most in a network that is made from two numbers.
     Drill {
@@ -123,6 +122,8 @@ pub enum Said {
         on: Trades,
         /// The prices that each trade may have over all equilibria, by trade number.
         ranges: Ranges,
+        /// The ends of each trade, by trade number.
+        ends: TradeEnds,
     },
     /// What follows from changes of the admitted trades.
     Session {

@@ -135,10 +135,10 @@ module _ (listed : Listed) (firms : List Firm) (are : AreRead listed firms) (top
       )
 
   pub supported_back : (on : ℕ) (prices : List ℤ) → length prices ≡ length names → All (λ z. IsAtMost z most_number) prices
-      → get (codes "claim") top ≡ Some (answer_data listed.names (Said.Supported prices)) → trades_on_of names top ≡ Ok on → claim_of listed top ≡ Ok (Supported on prices)
+      → get (codes "claim") top ≡ Some (answer_data listed.names (Said.Supported [] prices [])) → trades_on_of names top ≡ Ok on → claim_of listed top ≡ Ok (Supported on prices)
   unfolding claim_of kind_of supported_of object_of allows allows_in_claim
   supported_back on prices counted small there part =
-      rw (there, part, claimed_prices_back listed are.limits are.trade_names (answer_data listed.names (Said.Supported prices)) prices counted small refl)
+      rw (there, part, claimed_prices_back listed are.limits are.trade_names (answer_data listed.names (Said.Supported [] prices [])) prices counted small refl)
 
   pub cycle_back : (on : ℕ) (nodes : List (Option ℕ)) (cost : ℤ) → All (λ node. IfSome node (λ t. t < length names)) nodes → least_nodes ≤ length nodes → length nodes ≤ listed.limits.nodes → IsAtMost cost most_number
       → get (codes "claim") top ≡ Some (answer_data listed.names (Said.Cycle nodes cost)) → trades_on_of names top ≡ Ok on → claim_of listed top ≡ Ok (Cycle on nodes cost)
@@ -152,11 +152,11 @@ module _ (listed : Listed) (firms : List Firm) (are : AreRead listed firms) (top
       )
 
   pub solved_back : (x : ℕ) (prices : List ℤ) (surplus : ℤ) → length prices ≡ length names → All (λ z. IsAtMost z most_number) prices → IsAtMost surplus most_number
-      → get (codes "claim") top ≡ Some (answer_data listed.names (Said.Solved (trades_on x (length names)) prices surplus))
+      → get (codes "claim") top ≡ Some (answer_data listed.names (Said.Solved (trades_on x (length names)) prices surplus []))
       → claim_of listed top ≡ Ok (Solved (record { on = set_of (has x) (length names); prices = prices }) surplus)
   unfolding claim_of kind_of solved_of object_of allows allows_in_claim
   solved_back x prices surplus counted small_prices small there =
-      let value = answer_data listed.names (Said.Solved (trades_on x (length names)) prices surplus) in
+      let value = answer_data listed.names (Said.Solved (trades_on x (length names)) prices surplus []) in
       rw (there, on_back names are.trade_names value x refl, claimed_prices_back listed are.limits are.trade_names value prices counted small_prices refl, claimed_number_back listed are.limits Surplus surplus small)
 
   pub drops_back : (outcome : Outcome) (f : ℕ) (firm : Firm) (keeps : ℕ) (gain : Option ℤ) (over : ℤ) → slice_get firms f ≡ Some firm → keeps < 2 ^ firm.count

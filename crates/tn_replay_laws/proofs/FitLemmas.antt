@@ -14,9 +14,9 @@ prices_within prices small = all_within most_price most_number prices (omega ari
 pub answers_fit_claims : AnswersFitClaims
 answers_fit_claims (Equilibrium surplus) within = within
 answers_fit_claims (Better firm bundle gain) within = within
-answers_fit_claims (Supported prices) within = prices_within prices within
+answers_fit_claims (Supported on prices ends) within = prices_within prices within
 answers_fit_claims (Cycle nodes cost) within = within
-answers_fit_claims (Solved on prices surplus) within = (prices_within prices within.0, within.1)
+answers_fit_claims (Solved on prices surplus ends) within = (prices_within prices within.0, within.1)
 answers_fit_claims (Drops firm keeps gain over) within = within.0
 answers_fit_claims (Completes prices over) within = within.0
 answers_fit_claims (Blocks contracts over) within = within.0

@@ -112,9 +112,9 @@ module _ (top : Data) (doc : DocumentData) (on : ℕ) (from : IsReadFrom On top 
       (impossible_back (listed_in from.parts.limits doc) doc.firms (are_read On top doc from) (with_claim value top) on f (slice_get_within doc.firms f is.firm is.is) (there On top doc from said) (on_there value))
       (is.firm, is.is, is.impossible)
 
-  supported_replays : (prices : List ℤ) → SupportsSet doc.firms doc.ends on (Supported prices) → FitsClaim (Supported prices) → IsReplayed top doc (Supported prices)
-  supported_replays prices supports within =
-      let said = Supported prices in
+  supported_replays : (listed : List ℕ) (prices : List ℤ) (ends : List Ends) → SupportsSet doc.firms doc.ends on (Supported listed prices ends) → FitsClaim (Supported listed prices ends) → IsReplayed top doc (Supported listed prices ends)
+  supported_replays listed prices ends supports within =
+      let said = Supported listed prices ends in
       let value = answer_data doc.names said in
       replayed On top doc from said (codes "prices") (SupportedClaim on prices) refl refl
       (supported_back (listed_in from.parts.limits doc) doc.firms (are_read On top doc from) (with_claim value top) on prices (supports.0.one_each ∙ sym from.is.trades_named) within
@@ -136,7 +136,7 @@ module _ (top : Data) (doc : DocumentData) (on : ℕ) (from : IsReadFrom On top 
 
 supported : (top : Data) (doc : DocumentData) (on : ℕ) (said : Said) → IsReadFrom On top doc → doc.extra ≡ on_alone on → SupportsSet doc.firms doc.ends on said → FitsClaim said → IsReplayed top doc said
 supported top doc on (Impossible f) from extra supports within = unable_replays top doc on from extra f supports.0
-supported top doc on (Supported prices) from extra supports within = supported_replays top doc on from extra prices supports within
+supported top doc on (Supported listed prices ends) from extra supports within = supported_replays top doc on from extra listed prices ends supports within
 supported top doc on (Cycle nodes cost) from extra supports within = cycle_replays top doc on from extra nodes cost supports.0 within
 supported top doc on said from extra supports within = absurd supports
 
@@ -182,10 +182,10 @@ surplus-same firms trades network set = surplus_from-same trades set (set_of (ha
     let e : g ≡ 0 + g = omega arith in subst (λ f. part trades f firm.count set ≡ part trades f firm.count (set_of (has set) (length trades))) e (part-same firms trades network set g firm is))
 
 module _ (top : Data) (doc : DocumentData) (from : IsReadFrom Market top doc) where
-  set_replays : (set : ℕ) (prices : List ℤ) (surplus : ℤ) → length prices ≡ length doc.ends → IsEquilibrium doc.firms doc.ends (pos 1) set (price_at prices) → surplus_of doc.firms doc.ends set ≡ Some surplus
-      → All (λ z. IsAtMost z most_number) prices → IsAtMost surplus most_number → IsReplayed top doc (Solved (trades_on set (length doc.names.trades)) prices surplus)
-  set_replays set prices surplus one_each equilibrium is small_prices small =
-      let said = Solved (trades_on set (length doc.names.trades)) prices surplus in
+  set_replays : (set : ℕ) (prices : List ℤ) (surplus : ℤ) (ends : List Ends) → length prices ≡ length doc.ends → IsEquilibrium doc.firms doc.ends (pos 1) set (price_at prices) → surplus_of doc.firms doc.ends set ≡ Some surplus
+      → All (λ z. IsAtMost z most_number) prices → IsAtMost surplus most_number → IsReplayed top doc (Solved (trades_on set (length doc.names.trades)) prices surplus ends)
+  set_replays set prices surplus ends one_each equilibrium is small_prices small =
+      let said = Solved (trades_on set (length doc.names.trades)) prices surplus ends in
       let value = answer_data doc.names said in
       replayed Market top doc from said (codes "solved") (SolvedClaim (record { on = set_of (has set) (length doc.names.trades); prices = prices }) surplus) refl refl
       (solved_back (listed_in from.parts.limits doc) doc.firms (are_read Market top doc from) (with_claim value top) set prices surplus (one_each ∙ sym from.is.trades_named) small_prices small (there Market top doc from said)) (
@@ -194,9 +194,9 @@ module _ (top : Data) (doc : DocumentData) (from : IsReadFrom Market top doc) wh
       )
 
 solved : (top : Data) (doc : DocumentData) (said : Said) → IsReadFrom Market top doc → Solves doc.firms doc.ends said → FitsClaim said → IsReplayed top doc said
-solved top doc (Solved on prices surplus) from is within =
-    subst (λ l. IsReplayed top doc (Solved l prices surplus)) (ap (trades_on is.set) from.is.trades_named ∙ sym is.on_is)
-    (set_replays top doc from is.set prices surplus is.one_each is.equilibrium is.surplus_is within.0 within.1)
+solved top doc (Solved on prices surplus ends) from is within =
+    subst (λ l. IsReplayed top doc (Solved l prices surplus ends)) (ap (trades_on is.0.set) from.is.trades_named ∙ sym is.0.on_is)
+    (set_replays top doc from is.0.set prices surplus ends is.0.one_each is.0.equilibrium is.0.surplus_is within.0 within.1)
 solved top doc said from is within = absurd is
 
 pub solutions_replay : SolutionsReplay

@@ -23,6 +23,7 @@ use Rattle.tn_plain_data.specs.declared.said.Said.{Said}
 use Rattle.tn_plain_data.specs.declared.said.Said.TheVariants.{Accepted, Better, Blocks, Completes, Cycle, Drops, Equilibrium, ExchangeFails, Impossible, Solved, Supported}
 use Rattle.tn_names.specs.Names.{NameLists}
 use Rattle.tn_answer.specs.AnswerText.{answer_data, answer_line, contract_data, price_data, prices_from}
+use Rattle.tn_answer.specs.declared.layout.Layout.TheVariants.{Object}
 use Rattle.tn_answer.specs.Kept.{IsWithinClaims}
 use Rattle.tn_answer.specs.Values.{bound_data, integer_data, name_data, option_data}
 use Rattle.tn_replay_laws.specs.Lines.{LinesAreRead, is_claim}
@@ -127,14 +128,14 @@ module _ (names : NameLists) where
       let b = list_readable 0 (map (name_data names.trades) x) (names_readable names.trades x) in
       let c = list_readable 0 (map (name_data names.trades) y) (names_readable names.trades y) in
       record { reads = rw (a.reads, b.reads, c.reads); numbers = (tt, (a.numbers, (tt, (b.numbers, (c.numbers, tt))))); shallow = let p = a.shallow in let q = b.shallow in let r = c.shallow in grind (arith, p, q, r) }
-  answer_readable (Supported prices) claim within =
+  answer_readable (Supported on prices ends) claim within =
       let a = list_readable 1 (prices_from names.trades 0 prices) (prices_readable names.trades 0 prices (prices_within prices within)) in
       record { reads = rw a.reads; numbers = (tt, (a.numbers, tt)); shallow = let p = a.shallow in grind (arith, p) }
   answer_readable (Cycle nodes cost) claim within =
       let a = number_readable 0 cost within in
       let b = list_readable 0 (map (option_data names.trades) nodes) (nodes_readable names.trades nodes) in
       record { reads = rw (a.reads, b.reads); numbers = (tt, (a.numbers, (b.numbers, tt))); shallow = let p = a.shallow in let q = b.shallow in grind (arith, p, q) }
-  answer_readable (Solved on prices surplus) claim within =
+  answer_readable (Solved on prices surplus ends) claim within =
       let a = list_readable 0 (map (name_data names.trades) on) (names_readable names.trades on) in
       let b = list_readable 1 (prices_from names.trades 0 prices) (prices_readable names.trades 0 prices (prices_within prices within.0)) in
       let c = number_readable 0 surplus within.1 in
@@ -164,16 +165,16 @@ text_read d is =
     ∙ is.reads
 
 -- a claim is written as one line of JSON
-claim_line : (names : NameLists) (said : Said) → is_claim said ≡ true → answer_line names said ≡ compact_text (answer_data names said) ++ 10 ∷ []
+claim_line : (names : NameLists) (said : Said) → is_claim said ≡ true → answer_line Object names said ≡ compact_text (answer_data names said) ++ 10 ∷ []
 unfolding answer_line
 claim_line names (Equilibrium surplus) claim = refl
 claim_line names (Better firm bundle gain) claim = refl
 claim_line names (Impossible firm) claim = refl
 claim_line names Accepted claim = refl
 claim_line names (ExchangeFails firm x y at) claim = refl
-claim_line names (Supported prices) claim = refl
+claim_line names (Supported on prices ends) claim = refl
 claim_line names (Cycle nodes cost) claim = refl
-claim_line names (Solved on prices surplus) claim = refl
+claim_line names (Solved on prices surplus ends) claim = refl
 claim_line names (Drops firm keeps gain over) claim = refl
 claim_line names (Completes prices over) claim = refl
 claim_line names (Blocks contracts over) claim = refl

@@ -23,7 +23,7 @@ use Rattle.tn_replay_laws.proofs.CheckedLemmas.{tests_replay, verdicts_replay}
 use Rattle.tn_replay_laws.proofs.FoundLemmas.{solutions_replay, supports_replay}
 use Rattle.tn_replay_laws.proofs.OutcomeLemmas.{judgements_replay}
 use Rattle.tn_run.specs.declared.command.Command.{Command}
-use Rattle.tn_run.specs.declared.command.Command.TheVariants.{Check, Firms, Judge, Range, Replay, Session, Solve, SolveRows, Support, Test}
+use Rattle.tn_run.specs.declared.command.Command.TheVariants.{Check, Firms, Judge, Range, Replay, Session, Solve, Support, Test}
 use Rattle.tn_run.specs.Answer.{ChecksExtra, IsAnswerOf, IsAnswerTo, JudgesExtra, SupportsExtra}
 use Rattle.tn_replay_laws.specs.Runs.{AnswersReplay, answers_claims}
 use Rattle.tn_run.specs.Tested.{Tests}
@@ -56,7 +56,6 @@ replayed Range top doc said claims read answer within = absurd (true≢false (sy
 replayed Replay top doc said claims read answer within = absurd (true≢false (sym claims))
 replayed Session top doc said claims read answer within = absurd (true≢false (sym claims))
 replayed Solve top doc said claims read answer within = solutions_replay top doc said read answer within
-replayed SolveRows top doc said claims read answer within = absurd (true≢false (sym claims))
 replayed Support top doc said claims read answer within = supported top doc said within read doc.extra refl answer
 replayed Test top doc said claims read answer within = tested top doc said read answer
 

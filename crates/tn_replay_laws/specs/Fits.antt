@@ -9,9 +9,9 @@ use Rattle.tn_plain_data.specs.declared.said.Said.TheVariants.{Better, Blocks, C
 abbrev pub FitsClaim : Said → Type 0
 FitsClaim (Equilibrium surplus) = IsNumberWithin surplus
 FitsClaim (Better firm bundle gain) = IsNumberWithin gain
-FitsClaim (Supported prices) = All IsNumberWithin prices
+FitsClaim (Supported on prices ends) = All IsNumberWithin prices
 FitsClaim (Cycle nodes cost) = IsNumberWithin cost
-FitsClaim (Solved on prices surplus) = All IsNumberWithin prices × IsNumberWithin surplus
+FitsClaim (Solved on prices surplus ends) = All IsNumberWithin prices × IsNumberWithin surplus
 FitsClaim (Drops firm keeps gain over) = IfSome gain IsNumberWithin
 FitsClaim (Completes prices over) = All IsNumberWithin prices
 FitsClaim (Blocks contracts over) = All (λ contract. IsNumberWithin contract.price) contracts

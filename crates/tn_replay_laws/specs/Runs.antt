@@ -10,7 +10,7 @@ use Rattle.tn_names.specs.Names.{NameLists}
 use Rattle.tn_replay_laws.specs.Fits.{FitsClaim}
 use Rattle.tn_replay_laws.specs.Replayed.{with_claim}
 use Rattle.tn_run.specs.declared.command.Command.{Command}
-use Rattle.tn_run.specs.declared.command.Command.TheVariants.{Check, Firms, Judge, Range, Replay, Session, Solve, SolveRows, Support, Test}
+use Rattle.tn_run.specs.declared.command.Command.TheVariants.{Check, Firms, Judge, Range, Replay, Session, Solve, Support, Test}
 use Rattle.tn_run.specs.Answer.{IsAnswerOf, IsAnswerTo}
 use Rattle.tn_run.specs.Words.{need_of}
 
@@ -23,7 +23,6 @@ answers_claims Range = false
 answers_claims Replay = false
 answers_claims Session = false
 answers_claims Solve = true
-answers_claims SolveRows = false
 answers_claims Support = true
 answers_claims Test = true
 

@@ -19,11 +19,11 @@ use Rattle.tn_names.specs.Names.{NameLists}
 use Rattle.tn_run.specs.Answer.{document_limit}
 use Rattle.tn_run.specs.Cases.{AreFailed, IsCaseAnswer, IsPassed}
 use Rattle.tn_run.specs.Run.{status_of}
-use Rattle.tn_run.specs.Words.{case_command}
+use Rattle.tn_run.specs.Words.{case_command, case_layout}
 
 -- a run of a case comes to what the case says, or to something else
 pub passed_or_not : (case : CaseData) (names : NameLists) (said : Said) (status : ℕ) (text : List ℕ) (agrees : Bool)
-    → IsCaseAnswer (case_command case.command) case.document names said → status ≡ status_of said → text ≡ answer_line names said
+    → IsCaseAnswer (case_command case.command) case.document names said → status ≡ status_of said → text ≡ answer_line (case_layout case.command) names said
     → agrees ≡ agrees_with status text case → IsPassed agrees case
 passed_or_not case names said status text agrees answer status_is text_is decided =
     by_tests agrees (status == case.status) (bytes_eq text case.text) (Decides-eqb status case.status) (bytes_eq-Decides text case.text) decided
@@ -48,11 +48,11 @@ passed_or_not case names said status text agrees answer status_is text_is decide
 
 pub run_decides : {E : Type 0} (found : Option CaseData) (case : CaseData) (names : NameLists) (said : Said) (result : Result Bool E)
     → found ≡ Some case → IsCaseAnswer (case_command case.command) case.document names said
-    → IfOk result (λ agrees. Some agrees ≡ option_map (agrees_with (status_of said) (answer_line names said)) found) → IfOk result (λ agrees. IfSome found (IsPassed agrees))
+    → IfOk result (λ agrees. Some agrees ≡ option_map (agrees_with (status_of said) (answer_line (case_layout case.command) names said)) found) → IfOk result (λ agrees. IfSome found (IsPassed agrees))
 run_decides found case names said (Ok agrees) is answer decided =
     subst (λ (one : Option CaseData). IfSome one (IsPassed agrees)) (sym is)
-    (passed_or_not case names said (status_of said) (answer_line names said) agrees answer refl refl
-    (same_Some agrees (agrees_with (status_of said) (answer_line names said) case) (decided ∙ ap (option_map (agrees_with (status_of said) (answer_line names said))) is)))
+    (passed_or_not case names said (status_of said) (answer_line (case_layout case.command) names said) agrees answer refl refl
+    (same_Some agrees (agrees_with (status_of said) (answer_line (case_layout case.command) names said) case) (decided ∙ ap (option_map (agrees_with (status_of said) (answer_line (case_layout case.command) names said))) is)))
 run_decides found case names said (Err error) is answer decided = decided
 
 -- no case is run yet

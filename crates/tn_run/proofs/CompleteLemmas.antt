@@ -3,6 +3,7 @@ use Rattle.std.proofs.Common.{◌≡◌, ℕ, ◌+◌, ◌≤◌, List, length, 
 use Rattle.std.specs.Prelude.{Option, Some, None}
 use Rattle.tn_plain_data.specs.declared.said.Said.{Said}
 use Rattle.tn_plain_data.specs.declared.said.Said.TheVariants.{Usage, ReadFault, NoMemory}
+use Rattle.tn_answer.specs.declared.layout.Layout.{Layout}
 use Rattle.tn_io.specs.Source.{TakesFirst}
 use Rattle.tn_names.specs.Names.{NameLists}
 use Rattle.tn_file.specs.Document.{reading_of}
@@ -40,9 +41,9 @@ said_of_all command all new before after names NoMemory quiet may = inl refl
 said_of_all command all new before after names said quiet may = inr (all_answered command all new names said may)
 
 -- what was written is the whole text, where the sink counted no fault
-whole_written : (old new : Option (List ℕ)) (before after : ℕ) (names : NameLists) (said : Said) (status : ℕ)
-    → NoneCounted before after → IsWritten old new before after names said status → IsWrittenWhole old new names said status
-whole_written old new before after names said status quiet written = elim written [ inl whole ↦ whole | inr cut ↦ absurd (quiet cut.cause) ]
+whole_written : (old new : Option (List ℕ)) (before after : ℕ) (layout : Layout) (names : NameLists) (said : Said) (status : ℕ)
+    → NoneCounted before after → IsWritten old new before after layout names said status → IsWrittenWhole old new layout names said status
+whole_written old new before after layout names said status quiet written = elim written [ inl whole ↦ whole | inr cut ↦ absurd (quiet cut.cause) ]
 
 -- the counts of faults of a run's two ends
 pub record Counts : Type 0 where
@@ -52,12 +53,12 @@ pub record Counts : Type 0 where
   pub sink_after : ℕ
 
 -- a run is complete where neither end counted a fault
-pub complete_run : (command : Command) (all : List ℕ) (told left old new : Option (List ℕ)) (counts : Counts) (names : NameLists) (said : Said) (status : ℕ)
+pub complete_run : (command : Command) (layout : Layout) (all : List ℕ) (told left old new : Option (List ℕ)) (counts : Counts) (names : NameLists) (said : Said) (status : ℕ)
     → told ≡ Some all → NoneCounted counts.source_before counts.source_after → NoneCounted counts.sink_before counts.sink_after
     → MayBeSaid command told left counts.source_before counts.source_after names said
-    → IsWritten old new counts.sink_before counts.sink_after names said status → AnswersAll command all old new names said status
-complete_run command all told left old new counts names said status tells quiet_source quiet_sink may written = record {
+    → IsWritten old new counts.sink_before counts.sink_after layout names said status → AnswersAll command layout all old new names said status
+complete_run command layout all told left old new counts names said status tells quiet_source quiet_sink may written = record {
   answer = said_of_all command all left counts.source_before counts.source_after names said quiet_source
       (subst (λ (o : Option (List ℕ)). MayBeSaid command o left counts.source_before counts.source_after names said) tells may);
-  written = whole_written old new counts.sink_before counts.sink_after names said status quiet_sink written;
+  written = whole_written old new counts.sink_before counts.sink_after layout names said status quiet_sink written;
 }

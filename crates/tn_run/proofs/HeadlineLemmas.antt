@@ -7,7 +7,7 @@ use Rattle.tn_plain_data.specs.declared.said.Said.{Said}
 use Rattle.tn_plain_data.specs.declared.said.Said.TheVariants.{Usage, ReadFault, NoMemory}
 use Rattle.tn_names.specs.Names.{NameLists}
 use Rattle.tn_run.specs.declared.command.Command.{Command}
-use Rattle.tn_run.specs.declared.command.Command.TheVariants.{Check, Firms, Judge, Range, Replay, Session, Solve, SolveRows, Support, Test}
+use Rattle.tn_run.specs.declared.command.Command.TheVariants.{Check, Firms, Judge, Range, Replay, Session, Solve, Support, Test}
 use Rattle.tn_run.specs.Answer.{AnswersBytes, IsAnswerTo, MayBeSaid}
 use Rattle.tn_run.specs.Headline.{IsHeadline, KeepsPromise, ShowsFault, is_headlined}
 use Rattle.tn_run.specs.Words.{need_of}
@@ -17,7 +17,6 @@ pub kept_or_shown : (command : Command) (bytes : List ℕ) (read : Result Docume
     → reading_of (need_of command) bytes ≡ read → IsAnswerTo command read names said → KeepsPromise command bytes said ⊎ ShowsFault command bytes said
 kept_or_shown command bytes (Err stop) names said headlined reads answer = inr (record { stop = stop; reads = reads; said_is = answer.0 })
 kept_or_shown Solve bytes (Ok doc) names said headlined reads answer = inl (record { doc = doc; reads = reads; promised = answer.0 })
-kept_or_shown SolveRows bytes (Ok doc) names said headlined reads answer = inl (record { doc = doc; reads = reads; promised = answer.0 })
 kept_or_shown Judge bytes (Ok doc) names said headlined reads answer = inl (record { doc = doc; reads = reads; promised = answer.0 })
 kept_or_shown Check bytes (Ok doc) names said headlined reads answer = absurd (true≢false (sym headlined))
 kept_or_shown Firms bytes (Ok doc) names said headlined reads answer = absurd (true≢false (sym headlined))

@@ -9,9 +9,10 @@ use Rattle.std.proofs.lemmas.List.Concat.{flat_map-append}
 use Rattle.std.proofs.lemmas.List.Elements.{All-nil, All-push}
 use Rattle.std.proofs.lemmas.List.Folds.{list_any-append}
 use Rattle.tn_plain_data.specs.declared.said.Said.{Said}
-use Rattle.tn_plain_data.specs.declared.said.Said.TheVariants.{Usage, ReadFault, NoMemory, Fault, Equilibrium, Better, Impossible, Accepted, ExchangeFails, Supported, Cycle, Solved, Rows, Drill, Ranges, Session, Drops, Completes, Blocks, Valid, Invalid, Cases, Page as PageIs, Firms}
+use Rattle.tn_plain_data.specs.declared.said.Said.TheVariants.{Usage, ReadFault, NoMemory, Fault, Equilibrium, Better, Impossible, Accepted, ExchangeFails, Supported, Cycle, Solved, Drill, Ranges, Session, Drops, Completes, Blocks, Valid, Invalid, Cases, Page as PageIs, Firms}
 use Rattle.tn_names.specs.Names.{NameLists, no_names}
 use Rattle.tn_answer.specs.AnswerText.{answer_line}
+use Rattle.tn_answer.specs.declared.layout.Layout.TheVariants.{Object}
 use Rattle.tn_file.specs.Document.{reading_of}
 use Rattle.tn_io.specs.Counts.{Rose}
 use Rattle.tn_io.specs.Lines.{TakesLines, most_turns}
@@ -58,8 +59,8 @@ answered_more command entries entry answered answer = record {
   headline = λ headlined. All-push (IsLineHeadline command) entries entry (answered.headline headlined) (line_headline command entry headlined answer);
 }
 
-texts_more : (entries : List Entry) (entry : Entry) → texts_of (entries ++ entry ∷ []) ≡ texts_of entries ++ answer_line entry.names entry.said
-texts_more entries entry = flat_map-append (λ (e : Entry). answer_line e.names e.said) entries (entry ∷ []) ∙ ap (λ l. texts_of entries ++ l) (append-nil (answer_line entry.names entry.said))
+texts_more : (entries : List Entry) (entry : Entry) → texts_of (entries ++ entry ∷ []) ≡ texts_of entries ++ answer_line Object entry.names entry.said
+texts_more entries entry = flat_map-append (λ (e : Entry). answer_line Object e.names e.said) entries (entry ∷ []) ∙ ap (λ l. texts_of entries ++ l) (append-nil (answer_line Object entry.names entry.said))
 
 or_false : (b : Bool) → (b || false) ≡ b
 or_false true = refl
@@ -141,12 +142,12 @@ module _ (command : Command) (told left after : Option (List ℕ)) (names : Name
       record { answered = answered_more command entries (entry_of next) answered next.answer; rest = rest.0; lines = rest.1 }
 
   pub one_more : (old middle new : Option (List ℕ)) (turns before status : ℕ) → SoFar command told left old middle turns before → NextAnswer command left after names said
-      → Grows middle new (answer_line names said) → status ≡ with_status before (status_of said) → SoFar command told after old new (turns + 1) status
+      → Grows middle new (answer_line Object names said) → status ≡ with_status before (status_of said) → SoFar command told after old new (turns + 1) status
   one_more old middle new turns before status so_far next grown is = record {
     entries = so_far.entries ++ entry_of next ∷ [];
     answered = answered_more command so_far.entries (entry_of next) so_far.answered next.answer;
     lines = lines_more so_far.entries next so_far.lines;
-    written = subst (Grows old new) (sym (texts_more so_far.entries (entry_of next))) (Grows-trans old middle new (texts_of so_far.entries) (answer_line names said) so_far.written grown);
+    written = subst (Grows old new) (sym (texts_more so_far.entries (entry_of next))) (Grows-trans old middle new (texts_of so_far.entries) (answer_line Object names said) so_far.written grown);
     status_is = is ∙ ap (λ (n : ℕ). with_status n (status_of said)) so_far.status_is ∙ status_more so_far.entries (entry_of next);
     turns_are = length_push so_far.entries (entry_of next) ∙ ap (λ (n : ℕ). n + 1) so_far.turns_are;
   }
@@ -192,12 +193,11 @@ never_failed (Better firm bundle gain) is = absurd (omega (arith, is))
 never_failed (Impossible firm) is = absurd (omega (arith, is))
 never_failed Accepted is = absurd (omega (arith, is))
 never_failed (ExchangeFails firm x y at) is = absurd (omega (arith, is))
-never_failed (Supported prices) is = absurd (omega (arith, is))
+never_failed (Supported on prices ends) is = absurd (omega (arith, is))
 never_failed (Cycle nodes cost) is = absurd (omega (arith, is))
-never_failed (Solved on prices surplus) is = absurd (omega (arith, is))
-never_failed (Rows on prices surplus) is = absurd (omega (arith, is))
+never_failed (Solved on prices surplus ends) is = absurd (omega (arith, is))
 never_failed (Drill size start firms surplus) is = absurd (omega (arith, is))
-never_failed (Ranges on ranges) is = absurd (omega (arith, is))
+never_failed (Ranges on ranges ends) is = absurd (omega (arith, is))
 never_failed (Session edits) is = absurd (omega (arith, is))
 never_failed (Drops firm keeps gain over) is = absurd (omega (arith, is))
 never_failed (Completes prices over) is = absurd (omega (arith, is))
@@ -245,7 +245,7 @@ first_so_far command told left old new turns status so_far =
 -- a read failed, and that was written or cut short
 pub read_failed : (command : Command) (told left old middle new : Option (List ℕ)) (turns before status : ℕ) (faults : Faults) → SoFar command told left old middle turns before
     → Rose faults.source_first faults.source_last → faults.sink_first ≤ faults.sink_middle
-    → IsWritten middle new faults.sink_middle faults.sink_last no_names ReadFault status
+    → IsWritten middle new faults.sink_middle faults.sink_last Object no_names ReadFault status
     → IsLinedRun command told faults.source_first faults.source_last old new faults.sink_first faults.sink_last status
 read_failed command told left old middle new turns before status faults so_far rose later written =
     let first = first_so_far command told left old middle turns before so_far in
@@ -254,30 +254,30 @@ read_failed command told left old middle new turns before status faults so_far r
         entries = so_far.entries;
         first = first;
         cause = rose;
-        written = Grows-trans old middle new (texts_of so_far.entries) (answer_line no_names ReadFault) so_far.written whole.grown;
+        written = Grows-trans old middle new (texts_of so_far.entries) (answer_line Object no_names ReadFault) so_far.written whole.grown;
         status_is = whole.status_is;
       }))
-      | inr cut ↦ inr (inr (cut_text command told old middle new faults so_far.entries (answer_line no_names ReadFault) status first
+      | inr cut ↦ inr (inr (cut_text command told old middle new faults so_far.entries (answer_line Object no_names ReadFault) status first
           (inr (rose, refl)) so_far.written later cut.cause cut.grown cut.status_is))
     ]
 
 -- the answer to a line was cut short
 pub write_failed : (command : Command) (told left after old middle new : Option (List ℕ)) (turns before status : ℕ) (faults : Faults) (names : NameLists) (said : Said)
     → SoFar command told left old middle turns before → NextAnswer command left after names said → faults.sink_first ≤ faults.sink_middle
-    → IsWritten middle new faults.sink_middle faults.sink_last names said status → status ≡ 4
+    → IsWritten middle new faults.sink_middle faults.sink_last Object names said status → status ≡ 4
     → IsLinedRun command told faults.source_first faults.source_last old new faults.sink_first faults.sink_last 4
 write_failed command told left after old middle new turns before status faults names said so_far next later written is =
     let first = first_so_far command told left old middle turns before so_far in
     elim written [
       | inl whole ↦ absurd (never_failed said (sym whole.status_is ∙ is))
-      | inr cut ↦ inr (inr (cut_text command told old middle new faults so_far.entries (answer_line names said) 4 first
+      | inr cut ↦ inr (inr (cut_text command told old middle new faults so_far.entries (answer_line Object names said) 4 first
           (inl (record { line = next.line; names = names; said = said }, first_more command told left after names said so_far.entries next so_far.answered so_far.lines, refl))
           so_far.written later cut.cause cut.grown refl))
     ]
 
 -- an answer whose status isn't that of a failed write was written whole
-pub whole_answer : (old new : Option (List ℕ)) (before after : ℕ) (names : NameLists) (said : Said) (status : ℕ) → IsWritten old new before after names said status
-    → (status ≡ 4 → ⊥) → IsWrittenWhole old new names said status
+pub whole_answer : (old new : Option (List ℕ)) (before after : ℕ) (names : NameLists) (said : Said) (status : ℕ) → IsWritten old new before after Object names said status
+    → (status ≡ 4 → ⊥) → IsWrittenWhole old new Object names said status
 whole_answer old new before after names said status written kept = elim written [ inl whole ↦ whole | inr cut ↦ absurd (kept cut.status_is) ]
 
 -- all lines are answered where neither end counts a fault

@@ -1,18 +1,19 @@
 -- What is said of a document keeps the rules of answers: it speaks only of firms and trades that have a name, its
 -- numbers are short, and its lists of trades ascend.
-use Rattle.std.proofs.Common.{◌≡◌, ◌≢◌, ℕ, ◌<◌, ℤ, pos, List, length, map, Result, sym, subst, ◌∙◌, arith}
-use Rattle.std.specs.Prelude.{Ok, Err, All, IfOk, IfSome, get_or}
+use Rattle.std.proofs.Common.{◌≡◌, ◌≢◌, ℕ, ◌<◌, ℤ, pos, List, length, map, Result, sym, ap, subst, ◌∙◌, arith}
+use Rattle.std.specs.Prelude.{Ok, Err, Some, All, IfOk, IfSome, get_or, slice_get}
 use Rattle.std.specs.List.Sorted.{IsStrictlyIncreasing}
 use Rattle.std.proofs.lemmas.Option.{slice_get-get_or}
 use Rattle.tn_base.specs.declared.fault.FaultKind.TheVariants.{TooLong}
+use Rattle.tn_plain_data.specs.declared.ends.Ends.{Ends}
 use Rattle.tn_plain_data.specs.declared.said.Fault.{Fault as FaultIs}
 use Rattle.tn_plain_data.specs.declared.said.Said.{Said}
-use Rattle.tn_plain_data.specs.declared.said.Said.TheVariants.{Firms as FirmsIs, Equilibrium, Better, Impossible, Fault, Accepted, ExchangeFails, Supported, Cycle, Solved, Rows, Ranges, Session as SessionIs, Drops, Completes, Blocks}
+use Rattle.tn_plain_data.specs.declared.said.Said.TheVariants.{Firms as FirmsIs, Equilibrium, Better, Impossible, Fault, Accepted, ExchangeFails, Supported, Cycle, Solved, Ranges, Session as SessionIs, Drops, Completes, Blocks}
 use Rattle.tn_plain_data.specs.Prices.{price_at}
-use Rattle.tn_plain_data.specs.Network.{part, trades_on}
+use Rattle.tn_plain_data.specs.Network.{part}
 use Rattle.tn_market.specs.Judged.{Judges}
 use Rattle.tn_plain_data.proofs.NetworkLemmas.{on_ascends}
-use Rattle.tn_answer.specs.Apart.{HasShortNumbers, IsNamedAnswer}
+use Rattle.tn_answer.specs.Apart.{AreNamedEnds, HasShortNumbers, IsNamedAnswer}
 use Rattle.tn_names.specs.Names.{NameLists}
 use Rattle.tn_names.specs.Named.{IsNamed}
 use Rattle.tn_answer.specs.Kept.{HasAscendingTrades, IsWithinClaims}
@@ -36,7 +37,7 @@ use Rattle.tn_plain_data.specs.declared.contract.Contract.{Contract}
 use Rattle.tn_plain_data.specs.declared.session.Edit.{Edit}
 use Rattle.tn_plain_data.specs.Choices.{contracts_of}
 use Rattle.tn_plain_data.proofs.ContractLemmas.{contract_trades, contracts_are}
-use Rattle.tn_command.specs.Solved.{Solves, SolvesInRows}
+use Rattle.tn_command.specs.Solved.{Solves}
 use Rattle.tn_command.specs.Supported.{SupportsSet}
 use Rattle.tn_holding.specs.Held.{TellsHoldings}
 use Rattle.tn_price.proofs.JudgeLemmas.{some_item}
@@ -45,7 +46,7 @@ use Rattle.tn_run.proofs.OwnLemmas.{firm_named, bundle_named, bundle_ascends, fa
 use Rattle.tn_run.proofs.ReplayLemmas.{decided_named, decided_ascends}
 use Rattle.tn_run.specs.Words.{need_of}
 use Rattle.tn_run.specs.declared.command.Command.{Command}
-use Rattle.tn_run.specs.declared.command.Command.TheVariants.{Check, Firms, Judge, Range, Replay, Session, Solve, SolveRows, Support, Test}
+use Rattle.tn_run.specs.declared.command.Command.TheVariants.{Check, Firms, Judge, Range, Replay, Session, Solve, Support, Test}
 
 module _ (need : Need) (doc : DocumentData) (is : IsDocument need doc) where
   -- the answer of `check`
@@ -120,34 +121,50 @@ module _ (need : Need) (doc : DocumentData) (is : IsDocument need doc) where
   tested_ascends (ExchangeFails f x y at) tests = failure_ascends need doc is f x y at tests
   tested_ascends said tests = absurd tests
 
+  -- the ends of the trades
+  ends_named : (ends : List Ends) → ends ≡ doc.ends → AreNamedEnds doc.names ends
+  ends_named ends same = record {
+    one_each = ap length same ∙ sym is.trades_named;
+    sellers = λ t d below.
+        let trade = get_or ends t d in
+        let sold = is.network.sold t trade (subst (λ (all : List Ends). slice_get all t ≡ Some trade) same (slice_get-get_or ends t d below)) in
+        firm_named need doc is trade.seller sold.0 sold.1;
+    buyers = λ t d below.
+        let trade = get_or ends t d in
+        let bought = is.network.bought t trade (subst (λ (all : List Ends). slice_get all t ≡ Some trade) same (slice_get-get_or ends t d below)) in
+        firm_named need doc is trade.buyer bought.0 bought.1;
+  }
+
   -- the answer of `solve`
   solved_named : (said : Said) → Solves doc.firms doc.ends said → IsNamedAnswer doc.names said
-  solved_named (Solved on prices surplus) solves = (
-    set_named need doc is solves.set on solves.on_is,
-    solves.one_each ∙ sym is.trades_named,
+  solved_named (Solved on prices surplus ends) solves = (
+    set_named need doc is solves.0.set on solves.0.on_is,
+    solves.0.one_each ∙ sym is.trades_named,
+    ends_named ends solves.1,
   )
   solved_named said solves = absurd solves
 
   -- the answer of `range`
   ranged_named : (said : Said) → TellsRanges doc.firms doc.ends said → IsNamedAnswer doc.names said
-  ranged_named (Ranges on ranges) tells = (
-    set_named need doc is tells.set on tells.on_is,
-    tells.each.one_each ∙ sym is.trades_named,
+  ranged_named (Ranges on ranges ends) tells = (
+    set_named need doc is tells.0.set on tells.0.on_is,
+    tells.0.each.one_each ∙ sym is.trades_named,
     (λ k d below.
-        let range = tells.each.each k (get_or ranges k d) (slice_get-get_or ranges k d below) in
-        let one_each = tells.each.one_each in
+        let range = tells.0.each.each k (get_or ranges k d) (slice_get-get_or ranges k d below) in
+        let one_each = tells.0.each.one_each in
         let inside : k < length doc.ends = omega (arith, below, one_each) in
         record {
           high = subst (λ n. All (λ node. IfSome node (λ t. t < n)) (get_or ranges k d).high_path) (sym is.trades_named)
-              (high_inside doc.firms doc.ends tells.set is.network k (get_or ranges k d).high (get_or ranges k d).high_path inside range.high_shown);
+              (high_inside doc.firms doc.ends tells.0.set is.network k (get_or ranges k d).high (get_or ranges k d).high_path inside range.high_shown);
           low = subst (λ n. All (λ node. IfSome node (λ t. t < n)) (get_or ranges k d).low_path) (sym is.trades_named)
-              (low_inside doc.firms doc.ends tells.set is.network k (get_or ranges k d).low (get_or ranges k d).low_path inside range.low_shown);
+              (low_inside doc.firms doc.ends tells.0.set is.network k (get_or ranges k d).low (get_or ranges k d).low_path inside range.low_shown);
         }),
+    ends_named ends tells.1,
   )
   ranged_named said tells = absurd tells
 
   ranged_ascends : (said : Said) → TellsRanges doc.firms doc.ends said → HasAscendingTrades said
-  ranged_ascends (Ranges on ranges) tells = subst IsStrictlyIncreasing (sym tells.on_is) (on_ascends tells.set (length doc.ends))
+  ranged_ascends (Ranges on ranges ends) tells = subst IsStrictlyIncreasing (sym tells.0.on_is) (on_ascends tells.0.set (length doc.ends))
   ranged_ascends said tells = absurd tells
 
   -- the answer of `session`
@@ -181,19 +198,10 @@ module _ (need : Need) (doc : DocumentData) (is : IsDocument need doc) where
   edited_ascends (edits listed) said tells = states_ascend listed said tells
   edited_ascends extra said tells = absurd tells
 
-  -- the answer of `solve --csv`
-  rows_named : (said : Said) → SolvesInRows doc.firms doc.ends said → IsNamedAnswer doc.names said
-  rows_named (Rows on prices surplus) solves = solved_named (Solved on prices surplus) solves
-  rows_named said solves = absurd solves
-
-  rows_ascend : (said : Said) → SolvesInRows doc.firms doc.ends said → HasAscendingTrades said
-  rows_ascend (Rows on prices surplus) solves = subst IsStrictlyIncreasing (sym solves.on_is) (on_ascends solves.set (length doc.ends))
-  rows_ascend said solves = absurd solves
-
   -- the answer of `support`
   supported_named : (on : ℕ) (said : Said) → SupportsSet doc.firms doc.ends on said → IsNamedAnswer doc.names said
   supported_named on (Impossible f) supports = firm_named need doc is f supports.0.firm supports.0.is
-  supported_named on (Supported prices) supports = supports.0.one_each ∙ sym is.trades_named
+  supported_named on (Supported listed prices ends) supports = (set_named need doc is on listed supports.2, supports.0.one_each ∙ sym is.trades_named, ends_named ends supports.3)
   supported_named on (Cycle nodes cost) supports =
       subst (λ n. All (λ node. IfSome node (λ t. t < n)) nodes) (sym is.trades_named) (nodes_inside doc.firms doc.ends on nodes cost supports.0)
   supported_named on said supports = absurd supports
@@ -204,7 +212,7 @@ module _ (need : Need) (doc : DocumentData) (is : IsDocument need doc) where
 
   supported_ascends : (on : ℕ) (said : Said) → SupportsSet doc.firms doc.ends on said → HasAscendingTrades said
   supported_ascends on (Impossible f) supports = tt
-  supported_ascends on (Supported prices) supports = tt
+  supported_ascends on (Supported listed prices ends) supports = subst IsStrictlyIncreasing (sym supports.2) (on_ascends on (length doc.ends))
   supported_ascends on (Cycle nodes cost) supports = tt
   supported_ascends on said supports = absurd supports
 
@@ -213,7 +221,7 @@ module _ (need : Need) (doc : DocumentData) (is : IsDocument need doc) where
   priced_ascends extra said supports = absurd supports
 
   solved_ascends : (said : Said) → Solves doc.firms doc.ends said → HasAscendingTrades said
-  solved_ascends (Solved on prices surplus) solves = subst IsStrictlyIncreasing (sym solves.on_is) (on_ascends solves.set (length doc.ends))
+  solved_ascends (Solved on prices surplus ends) solves = subst IsStrictlyIncreasing (sym solves.0.on_is) (on_ascends solves.0.set (length doc.ends))
   solved_ascends said solves = absurd solves
 
   -- the answer of `judge`
@@ -261,7 +269,6 @@ document_ascends Range doc is said answer = ranged_ascends (need_of Range) doc i
 document_ascends Replay doc is said answer = replayed_ascends (need_of Replay) doc is doc.extra said answer
 document_ascends Session doc is said answer = edited_ascends (need_of Session) doc is doc.extra said answer
 document_ascends Solve doc is said answer = solved_ascends (need_of Solve) doc is said answer
-document_ascends SolveRows doc is said answer = rows_ascend (need_of SolveRows) doc is said answer
 document_ascends Support doc is said answer = priced_ascends (need_of Support) doc is doc.extra said answer
 document_ascends Test doc is said answer = tested_ascends (need_of Test) doc is said answer
 
@@ -273,7 +280,6 @@ document_named Range doc is said answer = ranged_named (need_of Range) doc is sa
 document_named Replay doc is said answer = replayed_named (need_of Replay) doc is doc.extra said is.extra answer
 document_named Session doc is said answer = edited_named (need_of Session) doc is doc.extra said answer
 document_named Solve doc is said answer = solved_named (need_of Solve) doc is said answer
-document_named SolveRows doc is said answer = rows_named (need_of SolveRows) doc is said answer
 document_named Support doc is said answer = priced_named (need_of Support) doc is doc.extra said answer
 document_named Test doc is said answer = tested_named (need_of Test) doc is said answer
 
@@ -312,7 +318,6 @@ no_fault Session doc fault answer = by_extra doc.extra answer
     by_extra : (extra : ExtraData) → EditsExtra doc extra (Fault fault) → ⊥
     by_extra (edits listed) states = states
     by_extra extra states = states
-no_fault SolveRows doc fault answer = answer
 
 -- and its numbers are short within the limits of claims
 document_short : (command : Command) (doc : DocumentData) (said : Said) → IsAnswerOf command doc said → IsWithinClaims said → HasShortNumbers said

@@ -17,13 +17,13 @@ use Rattle.tn_names.specs.Names.{NameLists, IsNameList, no_names}
 use Rattle.tn_read_head.specs.Beside.{Stop}
 use Rattle.tn_file.specs.Document.{DocumentData, ExtraData, nothing, arrangement, on_alone, outcome, edits, claim, reading_of}
 use Rattle.tn_run.specs.declared.command.Command.{Command}
-use Rattle.tn_run.specs.declared.command.Command.TheVariants.{Check, Firms, Judge, Range, Replay, Session, Solve, SolveRows, Support, Test}
+use Rattle.tn_run.specs.declared.command.Command.TheVariants.{Check, Firms, Judge, Range, Replay, Session, Solve, Support, Test}
 use Rattle.tn_command.specs.Implied.{IsEfficientAndStable}
 use Rattle.tn_command.specs.Claimed.{DecidesClaim}
 use Rattle.tn_command.specs.Edited.{TellsStates}
 use Rattle.tn_command.specs.Outcome.{JudgesOutcome}
 use Rattle.tn_command.specs.Ranged.{TellsRanges}
-use Rattle.tn_command.specs.Solved.{Solves, SolvesInRows}
+use Rattle.tn_command.specs.Solved.{Solves}
 use Rattle.tn_command.specs.Supported.{SupportsSet}
 use Rattle.tn_holding.specs.Held.{TellsHoldings}
 use Rattle.tn_run.specs.Tested.{Tests}
@@ -73,7 +73,6 @@ IsAnswerOf Range doc said = TellsRanges doc.firms doc.ends said
 IsAnswerOf Replay doc said = ReplaysExtra doc doc.extra said
 IsAnswerOf Session doc said = EditsExtra doc doc.extra said
 IsAnswerOf Solve doc said = Solves doc.firms doc.ends said
-IsAnswerOf SolveRows doc said = SolvesInRows doc.firms doc.ends said
 IsAnswerOf Support doc said = SupportsExtra doc doc.extra said
 IsAnswerOf Test doc said = Tests doc.firms doc.ends said
 

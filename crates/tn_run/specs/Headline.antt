@@ -1,14 +1,14 @@
 -- The headline: what the answer of `solve` and of `judge` is, whatever bytes they read.
 use Rattle.std.specs.Prelude.{◌≡◌, ℕ, ◌⊎◌, Bool, true, false, List, Option, Ok, Err}
 use Rattle.std.specs.Io.KnownBytes.{Consumes, IsAtEnd}
-use Rattle.tn_command.specs.Solved.{Solves, SolvesInRows}
+use Rattle.tn_command.specs.Solved.{Solves}
 use Rattle.tn_file.specs.Document.{DocumentData, reading_of}
 use Rattle.tn_io.specs.Counts.{Rose}
 use Rattle.tn_read_head.specs.Beside.{Stop}
 use Rattle.tn_plain_data.specs.declared.said.Said.{Said}
 use Rattle.tn_plain_data.specs.declared.said.Said.TheVariants.{ReadFault, NoMemory, Fault}
 use Rattle.tn_run.specs.declared.command.Command.{Command}
-use Rattle.tn_run.specs.declared.command.Command.TheVariants.{Check, Firms, Judge, Range, Replay, Session, Solve, SolveRows, Support, Test}
+use Rattle.tn_run.specs.declared.command.Command.TheVariants.{Check, Firms, Judge, Range, Replay, Session, Solve, Support, Test}
 use Rattle.tn_run.specs.Answer.{FindsTooLong, JudgesExtra}
 use Rattle.tn_run.specs.Words.{need_of}
 
@@ -21,7 +21,6 @@ is_headlined Range = false
 is_headlined Replay = false
 is_headlined Session = false
 is_headlined Solve = true
-is_headlined SolveRows = true
 is_headlined Support = false
 is_headlined Test = false
 
@@ -30,7 +29,6 @@ is_headlined Test = false
 -- no trades have more surplus and no contracts block the outcome, or contracts that block it
 abbrev pub IsPromised : Command → DocumentData → Said → Type 0
 IsPromised Solve doc said = Solves doc.firms doc.ends said
-IsPromised SolveRows doc said = SolvesInRows doc.firms doc.ends said
 IsPromised Judge doc said = JudgesExtra doc doc.extra said
 IsPromised command doc said = ⊥
 

@@ -5,6 +5,7 @@ use Rattle.tn_plain_data.specs.declared.said.Said.{Said}
 use Rattle.tn_plain_data.specs.declared.said.Said.TheVariants.{ReadFault, NoMemory}
 use Rattle.tn_names.specs.Names.{NameLists, no_names}
 use Rattle.tn_answer.specs.AnswerText.{answer_line}
+use Rattle.tn_answer.specs.declared.layout.Layout.TheVariants.{Object}
 use Rattle.tn_io.specs.Counts.{Rose}
 use Rattle.tn_io.specs.Lines.{TakesLines}
 use Rattle.tn_io.specs.Sink.{Grows}
@@ -39,9 +40,9 @@ pub record AreAnswered (command : Command) (entries : List Entry) : Type 0 where
 abbrev pub lines_of : List Entry → List (List ℕ)
 lines_of entries = map (λ entry. entry.line) entries
 
--- the texts of what was said of them, one after another
+-- the texts of what was said of them, as objects, one after another
 abbrev pub texts_of : List Entry → List ℕ
-texts_of entries = flat_map (λ entry. answer_line entry.names entry.said) entries
+texts_of entries = flat_map (λ entry. answer_line Object entry.names entry.said) entries
 
 -- whether an answer has this status
 abbrev pub has_status : ℕ → List Entry → Bool
@@ -71,14 +72,14 @@ pub record StopsAtRead (command : Command) (told : Option (List ℕ)) (before af
   pub entries : List Entry
   pub first : AnswersFirst command told entries
   pub cause : Rose before after
-  pub written : Grows old new (texts_of entries ++ answer_line no_names ReadFault)
+  pub written : Grows old new (texts_of entries ++ answer_line Object no_names ReadFault)
   pub status_is : status ≡ 3
 
 -- the text that comes after those of the entries: the next line's answer, or that a read failed
 abbrev pub IsNextText : Command → Option (List ℕ) → ℕ → ℕ → List Entry → List ℕ → Type 0
 IsNextText command told before after entries text =
-    ((entry : Entry) × AnswersFirst command told (entries ++ entry ∷ []) × (text ≡ answer_line entry.names entry.said))
-    ⊎ (Rose before after × (text ≡ answer_line no_names ReadFault))
+    ((entry : Entry) × AnswersFirst command told (entries ++ entry ∷ []) × (text ≡ answer_line Object entry.names entry.said))
+    ⊎ (Rose before after × (text ≡ answer_line Object no_names ReadFault))
 
 -- a write failed after the whole answers to the first lines, and at most a prefix of the next text was written after them
 pub record StopsAtWrite (command : Command) (told : Option (List ℕ)) (before after : ℕ) (old new : Option (List ℕ)) (faults_old faults_new status : ℕ) : Type 0 where

@@ -1,16 +1,18 @@
--- Which words are a command, and what a command reads.
-use Rattle.std.specs.Prelude.{ℕ, List, [], ◌∷◌, length, codes, Bool, false, not, ◌==◌, ◌&&◌, ◌||◌, nat_le, get_or, Option, Some, None, if◌then◌else◌}
+-- Which words are a command, how its answer is written, and what a command reads.
+use Rattle.std.specs.Prelude.{ℕ, List, [], ◌∷◌, length, codes, Bool, false, not, ◌==◌, ◌&&◌, ◌||◌, nat_le, get_or, Option, Some, None, option_and_then, unwrap_or, if◌then◌else◌}
 use Rattle.std.specs.List.{list_all}
 use Rattle.std.specs.Char.{is_ascii_digit}
 use Rattle.std.specs.Str.{bytes_eq}
 use Rattle.std.specs.Str.Parse.{digits_value}
+use Rattle.tn_answer.specs.declared.layout.Layout.{Layout}
+use Rattle.tn_answer.specs.declared.layout.Layout.TheVariants.{Object, Rows, WideRows}
 use Rattle.tn_drill.specs.Draws.{most_drilled, most_start}
 use Rattle.tn_file.specs.declared.need.Need.{Need}
 use Rattle.tn_file.specs.declared.need.Need.TheVariants.{Market, Raw, Arrangement, RawArrangement, On, Outcome, Edits, Claim}
 use Rattle.tn_plain_data.specs.declared.said.Page.{Page}
 use Rattle.tn_plain_data.specs.declared.said.Page.TheVariants.{Help, Version}
 use Rattle.tn_run.specs.declared.command.Command.{Command}
-use Rattle.tn_run.specs.declared.command.Command.TheVariants.{Check, Firms, Judge, Range, Replay, Session, Solve, SolveRows, Support, Test}
+use Rattle.tn_run.specs.declared.command.Command.TheVariants.{Check, Firms, Judge, Range, Replay, Session, Solve, Support, Test}
 
 -- the command that reads a document and is one word
 abbrev pub word_command : List ℕ → Option Command
@@ -26,21 +28,44 @@ word_command word =
     else if bytes_eq word (codes "test") then Some Test
     else None
 
+-- the layout that a word behind a command asks for, none where the command has no such layout
+abbrev pub rows_layout : List ℕ → Option Layout
+rows_layout word = if bytes_eq word (codes "--csv") then Some Rows else None
+
+abbrev pub word_layout : Command → List ℕ → Option Layout
+word_layout Firms word = rows_layout word
+word_layout Range word = rows_layout word
+word_layout Solve word = if bytes_eq word (codes "--csv=wide") then Some WideRows else rows_layout word
+word_layout Support word = rows_layout word
+word_layout command word = None
+
+-- and that of two words, none where they are no command with its layout
+abbrev pub layout_with : List ℕ → List ℕ → Option Layout
+layout_with word next = option_and_then (λ command. word_layout command next) (word_command word)
+
 -- the command that reads a document, by its words
 abbrev pub command_of : List (List ℕ) → Option Command
 command_of [] = None
 command_of (word ∷ []) = word_command word
-command_of (word ∷ next ∷ []) = if bytes_eq word (codes "solve") && bytes_eq next (codes "--csv") then Some SolveRows else None
+command_of (word ∷ next ∷ []) = option_and_then (λ layout. word_command word) (layout_with word next)
 command_of (word ∷ next ∷ third ∷ words) = None
+
+-- how its answer is written, by the words: an object, unless they ask for another layout
+abbrev pub layout_of : List (List ℕ) → Layout
+layout_of (word ∷ next ∷ []) = unwrap_or (layout_with word next) Object
+layout_of words = Object
 
 -- the command that answers line by line, by its words
 abbrev pub lines_command_of : List (List ℕ) → Option Command
 lines_command_of (word ∷ next ∷ []) = if bytes_eq next (codes "--lines") then word_command word else None
 lines_command_of words = None
 
--- the command of a case, whose text has a blank between two words
+-- the command of a case, whose text has a blank between two words, and how its answer is written
 abbrev pub case_command : List ℕ → Option Command
-case_command text = if bytes_eq text (codes "solve --csv") then Some SolveRows else word_command text
+case_command text = if bytes_eq text (codes "solve --csv") then Some Solve else word_command text
+
+abbrev pub case_layout : List ℕ → Layout
+case_layout text = if bytes_eq text (codes "solve --csv") then Rows else Object
 
 abbrev pub need_of : Command → Need
 need_of Check = Arrangement
@@ -50,7 +75,6 @@ need_of Range = Market
 need_of Replay = Claim
 need_of Session = Edits
 need_of Solve = Market
-need_of SolveRows = Market
 need_of Support = On
 need_of Test = Raw
 

@@ -17,8 +17,7 @@ use std::alloc::Global;
 use tn_answer::Names;
 use tn_base::{FaultKind, OutOfMemory};
 use tn_command::{
-    check, judge_outcome, price_ranges, prices_for, replay_claim, solve, solve_in_rows,
-    states_after,
+    check, judge_outcome, price_ranges, prices_for, replay_claim, solve, states_after,
 };
 use tn_file::{Content, DocRefusal, Document, Extra, Need, RawExtra, read_doc};
 use tn_firm::FirmValue;
@@ -42,7 +41,6 @@ fn answer_network(
 {
     match command {
         Command::Range => price_ranges(alloc, market),
-        Command::SolveRows => solve_in_rows(alloc, market),
         // No other command but `solve` reads a network alone.
         _ => solve(alloc, market),
     }

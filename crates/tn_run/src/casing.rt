@@ -10,10 +10,10 @@ ghost use Rattle.tn_run.specs.Run.{status_of};
 ghost use Rattle.tn_run.specs.Words.{case_command};
 
 use crate::answer::answer_bytes;
-use crate::command::case_command;
+use crate::command::{case_command, case_layout};
 use crate::top::status_of;
 use std::alloc::Global;
-use tn_answer::{Names, answer_text};
+use tn_answer::{Layout, Names, answer_text};
 use tn_base::OutOfMemory;
 use tn_cases::{Case, CaseBook, book};
 use tn_market::{Numbers, Said};
@@ -29,21 +29,22 @@ fn answer_case(alloc: Global, case: &Case) -> Result<(Said, Names), OutOfMemory>
     }
 }
 
-/// Whether an answer over some names has the status and the text of the case at index `k`.
+/// Whether an answer in a layout over some names has the status and the text of the case at index `k`.
 fn is_told<const N: usize>(
     alloc: Global,
     book: &CaseBook<N>,
     k: usize,
     names: &Names,
     said: &Said,
+    layout: Layout,
 ) -> Result<bool, OutOfMemory>
     requires few { N ≤ 64 }
     requires inside { k < N }
     requires within { IsWithinClaims said.now }
     ensures { IfOk result (λ same. Some same
-        ≡ option_map (agrees_with (status_of said.now) (answer_line names.now said.now)) (slice_get book.now k)) }
+        ≡ option_map (agrees_with (status_of said.now) (answer_line layout names.now said.now)) (slice_get book.now k)) }
 {
-    let text = answer_text(alloc, names, said)?;
+    let text = answer_text(alloc, names, said, layout)?;
     Ok(book.agrees(k, status_of(said), &text))
 }
 
@@ -53,8 +54,9 @@ fn passes<const N: usize>(alloc: Global, book: &CaseBook<N>, k: usize) -> Result
     requires inside { k < N }
     ensures { IfOk result (λ passes. IfSome (slice_get book.now k) (IsPassed passes)) }
 {
-    let (said, names) = answer_case(alloc, book.case(k))?;
-    is_told(alloc, book, k, &names, &said)
+    let one = book.case(k);
+    let (said, names) = answer_case(alloc, one)?;
+    is_told(alloc, book, k, &names, &said, case_layout(one.command))
 }
 
 /// Runs each case's command on its document, and lists the numbers, from 1, of the cases that fail, ascending. What isn't

@@ -1,8 +1,9 @@
 ghost use Rattle.std.specs.Prelude.{◌≡◌, ◌≤◌, map, string_bytes, IfSome};
 ghost use Rattle.tn_drill.specs.Draws.{most_drilled, most_start};
-ghost use Rattle.tn_run.specs.Words.{asks_for_cases, case_command, command_of, drill_of, lines_command_of, need_of, page_of, two_numbers, word_command};
+ghost use Rattle.tn_run.specs.Words.{asks_for_cases, case_command, case_layout, command_of, drill_of, layout_of, layout_with, lines_command_of, need_of, page_of, rows_layout, two_numbers, word_command, word_layout};
 
 use crate::numbers::number_within;
+use tn_answer::Layout;
 use tn_file::Need;
 use tn_market::Page;
 use tn_shape::value_of_word;
@@ -30,8 +31,6 @@ pub enum Command {
     Session,
     /// To find an equilibrium of a document's network.
     Solve,
-    /// To find one, and to write it as rows.
-    SolveRows,
     /// To find prices for the trades of a document's arrangement that are on.
     Support,
     /// To test whether the firms of a document meet the exchange property.
@@ -58,6 +57,45 @@ fn word_command(word: &str) -> Option<Command>
     )
 }
 
+/// Rows, if a word asks for them.
+fn rows_layout(word: &str) -> Option<Layout>
+    ensures { result ≡ rows_layout word.now }
+{
+    if word == "--csv" {
+        Some(Layout::Rows)
+    } else {
+        None
+    }
+}
+
+/// The layout that a word behind a command asks for, none where the command has no such layout.
+fn word_layout(command: Command, word: &str) -> Option<Layout>
+    ensures { result ≡ word_layout command word.now }
+{
+    match command {
+        Command::Firms | Command::Range | Command::Support => rows_layout(word),
+        Command::Solve => {
+            if word == "--csv=wide" {
+                Some(Layout::WideRows)
+            } else {
+                rows_layout(word)
+            }
+        }
+        Command::Check | Command::Judge | Command::Replay | Command::Session | Command::Test =>
+            None,
+    }
+}
+
+/// The layout of two words, none where they are no command with its layout.
+fn layout_with(word: &str, next: &str) -> Option<Layout>
+    ensures { result ≡ layout_with word.now next.now }
+{
+    match word_command(word) {
+        None => None,
+        Some(command) => word_layout(command, next),
+    }
+}
+
 /// The command that the words are, none where they are no command.
 pub fn command_of(words: &[String]) -> Option<Command>
     ensures { result ≡ command_of (map string_bytes words.now) }
@@ -65,14 +103,24 @@ pub fn command_of(words: &[String]) -> Option<Command>
     match words {
         [] => None,
         [word] => word_command(word),
-        [word, next] => {
-            if word.as_str() == "solve" && next.as_str() == "--csv" {
-                Some(Command::SolveRows)
-            } else {
-                None
-            }
-        }
+        [word, next] => match layout_with(word, next) {
+            None => None,
+            Some(_) => word_command(word),
+        },
         [_, _, _, ..] => None,
+    }
+}
+
+/// How the answer to the words is written: as an object, unless they ask for another layout of their command.
+pub fn layout_of(words: &[String]) -> Layout
+    ensures { result ≡ layout_of (map string_bytes words.now) }
+{
+    match words {
+        [word, next] => match layout_with(word, next) {
+            None => Layout::Object,
+            Some(layout) => layout,
+        },
+        [] | [_] | [_, _, _, ..] => Layout::Object,
     }
 }
 
@@ -97,9 +145,20 @@ pub fn case_command(text: &str) -> Option<Command>
     ensures { result ≡ case_command text.now }
 {
     if text == "solve --csv" {
-        Some(Command::SolveRows)
+        Some(Command::Solve)
     } else {
         word_command(text)
+    }
+}
+
+/// How the answer of a case is written.
+pub fn case_layout(text: &str) -> Layout
+    ensures { result ≡ case_layout text.now }
+{
+    if text == "solve --csv" {
+        Layout::Rows
+    } else {
+        Layout::Object
     }
 }
 
@@ -111,7 +170,7 @@ pub fn need_of(command: Command) -> Need
         Command::Check => Need::Arrangement,
         Command::Firms => Need::RawArrangement,
         Command::Judge => Need::Outcome,
-        Command::Range | Command::Solve | Command::SolveRows => Need::Market,
+        Command::Range | Command::Solve => Need::Market,
         Command::Replay => Need::Claim,
         Command::Session => Need::Edits,
         Command::Support => Need::On,

@@ -13,7 +13,7 @@ ghost use Rattle.tn_run.specs.Headline.{IsHeadline, is_headlined};
 ghost use Rattle.tn_run.specs.Lined.{AnswersLines, IsLinedRun};
 ghost use Rattle.tn_run.specs.Run.{IsWritten};
 ghost use Rattle.tn_run.specs.Drilled.{MayBeDrilled};
-ghost use Rattle.tn_run.specs.Words.{asks_for_cases, command_of, drill_of, lines_command_of, page_of};
+ghost use Rattle.tn_run.specs.Words.{asks_for_cases, command_of, drill_of, layout_of, lines_command_of, page_of};
 ghost use Rattle.tn_run.specs.declared.command.Command.{Command};
 
 use crate::command::lines_command_of;
@@ -45,9 +45,9 @@ pub fn run_to_exit<S: Source, K: Sink>(
         → IsHeadline command (S.left source.old) (S.left source.new) (S.faults source.old) (S.faults source.new) said)
         × ((command : Command) (all : List ℕ) → command_of (map string_bytes words.now) ≡ Some command → S.left source.old ≡ Some all
         → NoneCounted (S.faults source.old) (S.faults source.new) → NoneCounted (K.faults sink.old) (K.faults sink.new)
-        → AnswersAll command all (K.written sink.old) (K.written sink.new) names said (exit_status result))
+        → AnswersAll command (layout_of (map string_bytes words.now)) all (K.written sink.old) (K.written sink.new) names said (exit_status result))
         × IsWithinClaims said
-        × IsWritten (K.written sink.old) (K.written sink.new) (K.faults sink.old) (K.faults sink.new) names said (exit_status result) }
+        × IsWritten (K.written sink.old) (K.written sink.new) (K.faults sink.old) (K.faults sink.new) (layout_of (map string_bytes words.now)) names said (exit_status result) }
     // Line by line: the answers to the first lines of the source, in order, each whole, and the status of all; or a failed read
     // was told after them; or a write failed, and at most a prefix of one more text was written.
     ensures lines { (command : Command) → lines_command_of (map string_bytes words.now) ≡ Some command

@@ -1,4 +1,4 @@
-//! The run that answers its source line by line.
+//! The run that answers its source line by line, each answer as an object.
 
 ghost use Rattle.std.specs.Prelude.{◌≡◌, ◌≤◌, ◌⊎◌, ◌||◌, ◌==◌, ℕ, List, ◌∷◌, [], length, if◌then◌else◌, IfOk, IfSome, IfNone, OnErr};
 ghost use Rattle.std.specs.Io.KnownBytes.{IsAtEnd, prepend_known};
@@ -14,7 +14,7 @@ use crate::answer::{DOCUMENT_LIMIT, answer_bytes, too_long};
 use crate::command::Command;
 use crate::top::{tell, write_line};
 use std::alloc::Global;
-use tn_answer::{Names, read_fault_text};
+use tn_answer::{Layout, Names, read_fault_text};
 use tn_base::OutOfMemory;
 use tn_io::{LineReader, LineStop, ReadFailed, Sink, Source};
 use tn_market::Said;
@@ -87,7 +87,7 @@ pub(crate) fn run_lines<S: Source, K: Sink>(
         match next_answer(alloc, command, &mut reader, source) {
             Ok(None) => return status,
             Ok(Some((said, names))) => {
-                let answer = tell(alloc, &names, said, sink).status;
+                let answer = tell(alloc, &names, said, Layout::Object, sink).status;
                 if answer == WRITE_FAILED {
                     return WRITE_FAILED;
                 }

@@ -2,6 +2,7 @@
 
 ghost use Rattle.std.specs.Prelude.{◌≡◌, ◌≢◌, ◌≤◌, ◌⊎◌, ℕ, true, false, List, None, Some, map, string_bytes};
 ghost use Rattle.tn_answer.specs.AnswerText.{answer_line};
+ghost use Rattle.tn_answer.specs.declared.layout.Layout.{Layout};
 ghost use Rattle.tn_plain_data.specs.declared.said.Page.{Page};
 ghost use Rattle.tn_names.specs.Names.{NameLists};
 ghost use Rattle.tn_answer.specs.Kept.{IsWithinClaims};
@@ -13,14 +14,16 @@ ghost use Rattle.tn_run.specs.Complete.{AnswersAll, NoneCounted};
 ghost use Rattle.tn_run.specs.Headline.{IsHeadline, is_headlined};
 ghost use Rattle.tn_run.specs.Run.{IsWritten, IsWrittenWhole, status_of};
 ghost use Rattle.tn_run.specs.Drilled.{MayBeDrilled};
-ghost use Rattle.tn_run.specs.Words.{asks_for_cases, command_of, drill_of, page_of};
+ghost use Rattle.tn_run.specs.Words.{asks_for_cases, command_of, drill_of, layout_of, page_of};
 ghost use Rattle.tn_run.specs.declared.command.Command.{Command};
 
 use crate::answer::answer_source;
 use crate::casing::cases;
-use crate::command::{asks_for_cases, command_of, drill_of, page_of};
+use crate::command::{asks_for_cases, command_of, drill_of, layout_of, page_of};
 use std::alloc::Global;
-use tn_answer::{Names, answer_text, no_memory_text, page_text, read_fault_text, usage_text};
+use tn_answer::{
+    Layout, Names, answer_text, no_memory_text, page_text, read_fault_text, usage_text,
+};
 use tn_base::OutOfMemory;
 use tn_command::drill_surplus;
 use tn_io::{Sink, Source, SteadySink, SteadySource, WriteFailed, write_all};
@@ -43,7 +46,6 @@ pub fn status_of(said: &Said) -> u8
         | Said::Accepted
         | Said::Supported { .. }
         | Said::Solved { .. }
-        | Said::Rows { .. }
         | Said::Drill { .. }
         | Said::Ranges { .. }
         | Said::Session { .. }
@@ -75,8 +77,8 @@ pub fn status_of(said: &Said) -> u8
 /// Writes the text of an answer.
 pub(crate) fn write_line<K: Sink>(sink: &mut K, line: &[u8], said: Said) -> Run
     ensures said { result.said ≡ said }
-    ensures written { (names : NameLists) → line.now ≡ answer_line names said
-        → IsWritten (K.written sink.old) (K.written sink.new) (K.faults sink.old) (K.faults sink.new) names said result.status }
+    ensures written { (layout : Layout) (names : NameLists) → line.now ≡ answer_line layout names said
+        → IsWritten (K.written sink.old) (K.written sink.new) (K.faults sink.old) (K.faults sink.new) layout names said result.status }
     ensures later { K.faults sink.old ≤ K.faults sink.new }
 {
     match write_all(sink, line) {
@@ -88,19 +90,25 @@ pub(crate) fn write_line<K: Sink>(sink: &mut K, line: &[u8], said: Said) -> Run
     }
 }
 
-/// Writes an answer, or that memory ran out before its text was whole.
-pub(crate) fn tell<K: Sink>(alloc: Global, names: &Names, said: Said, sink: &mut K) -> Run
+/// Writes an answer in a layout, or that memory ran out before its text was whole.
+pub(crate) fn tell<K: Sink>(
+    alloc: Global,
+    names: &Names,
+    said: Said,
+    layout: Layout,
+    sink: &mut K,
+) -> Run
     requires { IsWithinClaims said }
     ensures said { (result.said ≡ said) ⊎ (result.said ≡ Said.NoMemory) }
     ensures within { IsWithinClaims result.said }
-    ensures written { IsWritten (K.written sink.old) (K.written sink.new) (K.faults sink.old) (K.faults sink.new) names.now result.said result.status }
+    ensures written { IsWritten (K.written sink.old) (K.written sink.new) (K.faults sink.old) (K.faults sink.new) layout names.now result.said result.status }
     ensures later { K.faults sink.old ≤ K.faults sink.new }
 {
     match said {
         Said::Usage => write_line(sink, usage_text(), said),
         Said::ReadFault => write_line(sink, read_fault_text(), said),
         Said::NoMemory => write_line(sink, no_memory_text(), said),
-        said => match answer_text(alloc, names, &said) {
+        said => match answer_text(alloc, names, &said, layout) {
             Ok(text) => write_line(sink, &text, said),
             Err(OutOfMemory) => write_line(sink, no_memory_text(), Said::NoMemory),
         },
@@ -122,18 +130,24 @@ fn drilled(alloc: Global, size: u32, start: u32) -> Said
 }
 
 /// The run on words that ask for no document: a drill, the program's own cases, a page, or no command.
-fn run_without_reading<K: Sink>(alloc: Global, words: &[String], sink: &mut K, names: &Names) -> Run
+fn run_without_reading<K: Sink>(
+    alloc: Global,
+    words: &[String],
+    sink: &mut K,
+    names: &Names,
+    layout: Layout,
+) -> Run
     ensures usage { drill_of (map string_bytes words.now) ≡ None → asks_for_cases (map string_bytes words.now) ≡ false → page_of (map string_bytes words.now) ≡ None
         → result.said ≡ Said.Usage }
     ensures page { (page : Page) → page_of (map string_bytes words.now) ≡ Some page → result.said ≡ Said.Page page }
     ensures cases { asks_for_cases (map string_bytes words.now) ≡ true → MayBeCases result.said }
     ensures drill { (size start : ℕ) → drill_of (map string_bytes words.now) ≡ Some (size, start) → MayBeDrilled size start result.said }
     ensures within { IsWithinClaims result.said }
-    ensures written { IsWritten (K.written sink.old) (K.written sink.new) (K.faults sink.old) (K.faults sink.new) names.now result.said result.status }
+    ensures written { IsWritten (K.written sink.old) (K.written sink.new) (K.faults sink.old) (K.faults sink.new) layout names.now result.said result.status }
 {
     if asks_for_cases(words) {
         let said = cases(alloc);
-        return tell(alloc, names, said, sink);
+        return tell(alloc, names, said, layout, sink);
     }
     if let Some(page) = page_of(words) {
         return write_line(sink, page_text(page), Said::Page(page));
@@ -142,7 +156,7 @@ fn run_without_reading<K: Sink>(alloc: Global, words: &[String], sink: &mut K, n
         None => write_line(sink, usage_text(), Said::Usage),
         Some((size, start)) => {
             let said = drilled(alloc, size, start);
-            tell(alloc, names, said, sink)
+            tell(alloc, names, said, layout, sink)
         }
     }
 }
@@ -162,16 +176,18 @@ fn run_with<S: Source, K: Sink>(
     ensures answer { (command : Command) → command_of (map string_bytes words.now) ≡ Some command
         → MayBeSaid command (S.left source.old) (S.left source.new) (S.faults source.old) (S.faults source.new) result.1 result.0.said }
     ensures within { IsWithinClaims result.0.said }
-    ensures written { IsWritten (K.written sink.old) (K.written sink.new) (K.faults sink.old) (K.faults sink.new) result.1 result.0.said result.0.status }
+    ensures written { IsWritten (K.written sink.old) (K.written sink.new) (K.faults sink.old) (K.faults sink.new) (layout_of (map string_bytes words.now)) result.1 result.0.said result.0.status }
 {
+    let layout = layout_of(words);
     match command_of(words) {
         None => {
             let names = Names::empty(alloc);
-            (run_without_reading(alloc, words, sink, &names), names)
+            let run = run_without_reading(alloc, words, sink, &names, layout);
+            (run, names)
         }
         Some(command) => {
             let (said, names) = answer_source(alloc, command, source);
-            (tell(alloc, &names, said, sink), names)
+            (tell(alloc, &names, said, layout, sink), names)
         }
     }
 }
@@ -197,8 +213,8 @@ pub fn run_market<S: Source, K: Sink>(
         → MayBeSaid command (S.left source.old) (S.left source.new) (S.faults source.old) (S.faults source.new) names result.said)
         × ((command : Command) (all : List ℕ) → command_of (map string_bytes words.now) ≡ Some command → S.left source.old ≡ Some all
         → NoneCounted (S.faults source.old) (S.faults source.new) → NoneCounted (K.faults sink.old) (K.faults sink.new)
-        → AnswersAll command all (K.written sink.old) (K.written sink.new) names result.said result.status)
-        × IsWritten (K.written sink.old) (K.written sink.new) (K.faults sink.old) (K.faults sink.new) names result.said result.status }
+        → AnswersAll command (layout_of (map string_bytes words.now)) all (K.written sink.old) (K.written sink.new) names result.said result.status)
+        × IsWritten (K.written sink.old) (K.written sink.new) (K.faults sink.old) (K.faults sink.new) (layout_of (map string_bytes words.now)) names result.said result.status }
     // The headline, of `solve` and `judge`: whatever bytes they read, the answer is what is promised, or a fault that the input
     // or the source shows, or want of memory. (That the sink shows a fault is in `answer`.)
     ensures headline { (command : Command) → command_of (map string_bytes words.now) ≡ Some command → is_headlined command ≡ true
@@ -227,8 +243,8 @@ pub fn run_steadily(
         × ((command : Command) → command_of (map string_bytes words.now) ≡ Some command
         → MayBeSaid command (Some source.old.unread) (Some source.new.unread) 0 0 names result.said)
         × ((command : Command) → command_of (map string_bytes words.now) ≡ Some command
-        → AnswersAll command source.old.unread sink.old.told sink.new.told names result.said result.status)
-        × IsWrittenWhole sink.old.told sink.new.told names result.said result.status }
+        → AnswersAll command (layout_of (map string_bytes words.now)) source.old.unread sink.old.told sink.new.told names result.said result.status)
+        × IsWrittenWhole sink.old.told sink.new.told (layout_of (map string_bytes words.now)) names result.said result.status }
     ensures within { IsWithinClaims result.said }
     ensures read { result.status ≢ 3 }
     ensures written { result.status ≢ 4 }

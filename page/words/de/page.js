@@ -74,6 +74,8 @@ export const PAGE = {
         support: "Preise für diese Geschäfte?", judge: "hält, was unterschrieben ist?",
         session: "Geschäfte, die kommen und gehen", test: "erfüllen alle Firmen die Tauscheigenschaft?",
         replay: "trifft die Behauptung zu?", rows: "ein Gleichgewicht als Zeilen",
+        rows_wide: "dasselbe mit Verkäufer und Käufer", rows_range: "wie weit sich jeder Preis bewegen kann, als Zeilen",
+        rows_firms: "was jede Firma hat, als Zeilen", rows_support: "Preise für diese Geschäfte, als Zeilen",
         cases: "die Fälle, die das Programm mit sich trägt", help: "alle Befehle", other: "andere Wörter",
     },
     status: {

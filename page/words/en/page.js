@@ -64,6 +64,8 @@ export const PAGE = {
         firms: "what each firm has, and would rather have", check: "is the arrangement an equilibrium?",
         support: "prices for these trades?", judge: "will what is signed last?", session: "trades that come and go",
         test: "do all firms meet the exchange property?", replay: "is the claim so?", rows: "an equilibrium as rows",
+        rows_wide: "the same with who sells and who buys", rows_range: "how far each price may move, as rows",
+        rows_firms: "what each firm has, as rows", rows_support: "prices for these trades, as rows",
         cases: "the cases that the program carries", help: "all commands", other: "other words",
     },
     status: {

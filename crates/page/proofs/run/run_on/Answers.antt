@@ -1,6 +1,7 @@
 use Rattle.std.proofs.Common.{◌≡◌, ℕ, List, ◌++◌, map, string_bytes, refl, ap, subst, arith, inr, ◌∙◌}
 use Rattle.std.specs.Prelude.{Some}
 use Rattle.tn_answer.specs.AnswerText.{answer_line}
+use Rattle.tn_run.specs.Words.{layout_of}
 use Rattle.page.specs.Answered.{MayBeAnswered}
 use Rattle.page.specs.Words.{words_in}
 use Rattle.page.proofs.RunLemmas.{none_counted, whole_of}
@@ -16,7 +17,7 @@ returns-clause-answer c =
     let are_words : map string_bytes asked ≡ words_in c.args.words.now = ap (map string_bytes) c.as_slice.ensures.value ∙ c.in_ok-words.ensures in
     let is_document = ap (λ source. Some source.unread) c.new-source.ensures ∙ ap Some c.in_ok-from_slice.ensures.items in
     let quiet = none_counted c.new-sink.result.faults c.run_market.new.sink.faults (omega (arith, c.if-sink-gt0.false)) in
-    let whole = whole_of (Some c.new-sink.result.bytes.items) (Some c.run_market.new.sink.bytes.items) c.new-sink.result.faults c.run_market.new.sink.faults names said
+    let whole = whole_of (Some c.new-sink.result.bytes.items) (Some c.run_market.new.sink.bytes.items) c.new-sink.result.faults c.run_market.new.sink.faults (layout_of (map string_bytes asked)) names said
     c.run_market.result.status quiet run.answer.3 in
     let may : MayBeAnswered (map string_bytes asked) document names said = record {
       usage = λ no_command no_drill no_cases no_page. inr (run.usage no_command no_drill no_cases no_page).0;
@@ -28,6 +29,6 @@ returns-clause-answer c =
       names,
       said,
       subst (λ (words : List (List ℕ)). MayBeAnswered words document names said) are_words may,
-      whole.grown ∙ ap (λ (bytes : List ℕ). bytes ++ answer_line names said) c.new-sink.ensures.bytes,
+      whole.grown ∙ ap (λ (bytes : List ℕ). bytes ++ answer_line (layout_of (map string_bytes asked)) names said) c.new-sink.ensures.bytes ∙ ap (λ (words : List (List ℕ)). answer_line (layout_of words) names said) are_words,
       c.status_of_run-status.ensures ∙ whole.status_is,
     )

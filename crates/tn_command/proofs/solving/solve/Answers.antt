@@ -14,9 +14,11 @@ surplus-surplus-requires-clause-possible c =
 pub returns-clause-answer : goal.returns-clause-answer
 returns-clause-answer c =
     let within = c.surplus-surplus.ensures.within in
-    let same : to_z w128 (of_z w128 c.surplus-surplus.result) ≡ c.surplus-surplus.result = omega (arith, ints, within.low, within.high) in
-    solved_from c.args.market.now.firms c.args.market.now.trades c.in_ok-at.at.on c.in_ok-trades_on.field-0 c.in_ok-at.at.prices c.surplus-surplus.result _ c.trades.result
-    c.trades.ensures.network c.trades.ensures.count c.in_ok-trades_on.ensures c.in_ok-at.ensures.one_each same c.in_ok-at.ensures.equilibrium c.surplus-surplus.ensures.surplus
+    let same : to_z w128 (of_z w128 c.surplus-surplus.result) ≡ c.surplus-surplus.result = omega (arith, ints, within.low, within.high) in (
+      solved_from c.args.market.now.firms c.args.market.now.trades c.in_ok-at.at.on c.in_ok-trades_on.field-0 c.in_ok-at.at.prices c.surplus-surplus.result _ c.trades.result
+          c.trades.ensures.network c.trades.ensures.count c.in_ok-trades_on.ensures c.in_ok-at.ensures.one_each same c.in_ok-at.ensures.equilibrium c.surplus-surplus.ensures.surplus,
+      c.in_ok-ends.ensures,
+    )
 
 pub returns-clause-within : goal.returns-clause-within
 returns-clause-within c =

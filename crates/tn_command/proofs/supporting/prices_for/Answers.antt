@@ -1,21 +1,29 @@
-use Rattle.std.proofs.Common.{◌*◌, length, map, subst, arith}
+use Rattle.std.proofs.Common.{◌*◌, length, map, refl, subst, arith}
 use Rattle.tn_firm.specs.Firms.{firm_of}
+use Rattle.tn_plain_data.specs.Network.{trades_on}
 use Rattle.tn_price.specs.Supports.{Supports, IsPricedWithin}
 use Rattle.tn_command.proofs.SolveLemmas.{small_prices}
-use Rattle.tn_command.proofs.SupportedLemmas.{supports_imply, cycle_fits, cost_fits}
+use Rattle.tn_plain_data.specs.declared.said.Said.TheVariants.{Supported}
+use Rattle.tn_answer.specs.Kept.{IsWithinClaims}
+use Rattle.tn_command.specs.Supported.{SupportsSet}
+use Rattle.tn_command.proofs.SupportedLemmas.{supports_imply, cycle_fits, cost_fits, if_ok}
 use Rattle.tn_market.specs.Widths.{most_worth}
 use Rattle.tn_command.proofs.supporting.prices_for.Goals as goal
 
 pub returns-in-Supported-clause-answer : goal.returns-in-Supported-clause-answer
 returns-in-Supported-clause-answer c =
     let firms = map firm_of c.args.market.now.firms in
-    supports_imply firms c.args.market.now.trades c.args.on.now c.in-Supported.prices c.trades-count.ensures.network
-    (subst (Supports firms c.args.market.now.trades c.args.on.now) c.in-Supported.is c.in_ok-prices.ensures.answer)
+    let supports = supports_imply firms c.args.market.now.trades c.args.on.now c.in-Supported.prices c.trades-count.ensures.network
+    (subst (Supports firms c.args.market.now.trades c.args.on.now) c.in-Supported.is c.in_ok-prices.ensures.answer) in
+    let trades = c.args.market.now.trades in
+    if_ok (SupportsSet firms trades c.args.on.now) c.supported.result (Supported (trades_on c.args.on.now (length trades)) c.in-Supported.prices trades) (supports.0, supports.1, refl, refl) c.supported.ensures
 
 pub returns-in-Supported-clause-within : goal.returns-in-Supported-clause-within
 returns-in-Supported-clause-within c =
-    small_prices (length c.args.market.now.trades) c.in-Supported.prices c.requires.wide
-    (subst (IsPricedWithin (2 * most_worth * length c.args.market.now.trades)) c.in-Supported.is (c.in_ok-prices.ensures.prices most_worth (λ f v is. omega arith)))
+    let trades = c.args.market.now.trades in
+    let small = small_prices (length trades) c.in-Supported.prices c.requires.wide
+    (subst (IsPricedWithin (2 * most_worth * length trades)) c.in-Supported.is (c.in_ok-prices.ensures.prices most_worth (λ f v is. omega arith))) in
+    if_ok IsWithinClaims c.supported.result (Supported (trades_on c.args.on.now (length trades)) c.in-Supported.prices trades) small c.supported.ensures
 
 pub returns-clause-within : goal.returns-clause-within
 returns-clause-within c =

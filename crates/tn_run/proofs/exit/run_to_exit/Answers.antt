@@ -1,4 +1,5 @@
-use Rattle.std.proofs.Common.{ℕ, sym, subst, ◌∙◌}
+use Rattle.std.proofs.Common.{ℕ, sym, subst, ◌∙◌, map, string_bytes}
+use Rattle.tn_run.specs.Words.{layout_of}
 use Rattle.tn_run.specs.Complete.{AnswersAll}
 use Rattle.tn_run.specs.Run.{IsWritten}
 use Rattle.tn_run.proofs.LinedLemmas.{complete_lines, lined_as_asked}
@@ -34,10 +35,10 @@ returns-in-None-clause-answer g c =
       answers.1,
       c.run_market.ensures.headline,
       λ command all is told quiet_source quiet_sink.
-          subst (λ (status : ℕ). AnswersAll command all (g.K.Sink.written c.args.sink.now) (g.K.Sink.written c.run_market.new.sink) answers.0 run.said status) (sym c.from-in-None.ensures)
+          subst (λ (status : ℕ). AnswersAll command (layout_of (map string_bytes c.args.words.now)) all (g.K.Sink.written c.args.sink.now) (g.K.Sink.written c.run_market.new.sink) answers.0 run.said status) (sym c.from-in-None.ensures)
           (answers.2 command all is told quiet_source quiet_sink),
       c.run_market.ensures.within,
       subst
-          (λ (status : ℕ). IsWritten (g.K.Sink.written c.args.sink.now) (g.K.Sink.written c.run_market.new.sink) (g.K.Sink.faults c.args.sink.now) (g.K.Sink.faults c.run_market.new.sink) answers.0 run.said status)
+          (λ (status : ℕ). IsWritten (g.K.Sink.written c.args.sink.now) (g.K.Sink.written c.run_market.new.sink) (g.K.Sink.faults c.args.sink.now) (g.K.Sink.faults c.run_market.new.sink) (layout_of (map string_bytes c.args.words.now)) answers.0 run.said status)
           (sym c.from-in-None.ensures) answers.3,
     )

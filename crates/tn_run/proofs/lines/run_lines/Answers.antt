@@ -1,4 +1,5 @@
 use Rattle.std.proofs.Common.{ap, arith, ◌∙◌, inl}
+use Rattle.tn_answer.specs.declared.layout.Layout.TheVariants.{Object}
 use Rattle.tn_names.specs.Names.{no_names}
 use Rattle.tn_run.proofs.LinedLemmas.{Rose_later, all_turns, may_run_out, one_more, read_failed, whole_answer, with_status, write_failed}
 use Rattle.tn_run.proofs.lines.run_lines.Goals as goal
@@ -26,7 +27,7 @@ returns-in-Err g c = read_failed c.args.command _ _ _ _ _ _ _ _
       sink_last = g.K.Sink.faults c.write_line.new.sink;
     })
     c.loop-turn.invariant.so_far (Rose_later _ _ _ c.loop-turn.invariant.source_later c.in-Err.ensures.failed) c.loop-turn.invariant.sink_later
-    (c.write_line.ensures.written no_names (c.read_fault_text.ensures no_names))
+    (c.write_line.ensures.written Object no_names (c.read_fault_text.ensures Object no_names))
 
 pub loop-turn-preserved : goal.loop-turn-preserved
 loop-turn-preserved g c =

@@ -1,3 +1,5 @@
+use Rattle.std.proofs.Common.{map, string_bytes}
+use Rattle.tn_run.specs.Words.{layout_of}
 use Rattle.tn_run.proofs.CompleteLemmas.{complete_run}
 use Rattle.tn_run.proofs.HeadlineLemmas.{headline}
 use Rattle.tn_run.proofs.top.run_market.Goals as goal
@@ -7,7 +9,7 @@ returns-clause-answer g c = (
   c.run_with-run.result.1,
   c.run_with-run.ensures.answer,
   λ command all is told quiet_source quiet_sink.
-      complete_run command all (g.S.Source.left c.args.source.now) (g.S.Source.left c.run_with-run.new.source) (g.K.Sink.written c.args.sink.now) (g.K.Sink.written c.run_with-run.new.sink)
+      complete_run command (layout_of (map string_bytes c.args.words.now)) all (g.S.Source.left c.args.source.now) (g.S.Source.left c.run_with-run.new.source) (g.K.Sink.written c.args.sink.now) (g.K.Sink.written c.run_with-run.new.sink)
       (record {
         source_before = g.S.Source.faults c.args.source.now;
         source_after = g.S.Source.faults c.run_with-run.new.source;

@@ -1,9 +1,9 @@
 use Rattle.std.proofs.Common.{◌∷◌, Some, take}
 use Rattle.csv.specs.Writing.{fields_written, has_written, text_written, writer_setup}
-use Rattle.tn_answer.specs.Rows.{IsBetweenRows, each_from, first_row, row_of, rows_text}
-use Rattle.tn_answer.proofs.rows.rows_text.Given as goal
+use Rattle.tn_answer.specs.Rows.{IsBetweenRows, each_from, deal_head, deal_row, rows_text}
+use Rattle.tn_answer.proofs.rows.deal_rows.Given as goal
 
 abbrev pub invariant-loop-k : goal.invariant-loop-k
 invariant-loop-k l =
     IsBetweenRows (text_written (λ v. Some v.items) l.writer) (writer_setup l.writer) (fields_written l.writer) (has_written l.writer)
-    (rows_text (first_row ∷ take l.k (each_from (row_of l.names.trades l.on) 0 l.prices)))
+    (rows_text (deal_head ∷ take l.k (each_from (deal_row l.names l.on l.ends) 0 l.prices)))

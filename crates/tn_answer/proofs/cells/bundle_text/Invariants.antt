@@ -1,0 +1,6 @@
+use Rattle.std.proofs.Common.{◌≡◌, take, string_bytes}
+use Rattle.tn_answer.specs.Rows.{bundle_text}
+use Rattle.tn_answer.proofs.cells.bundle_text.Given as goal
+
+abbrev pub invariant-loop-k : goal.invariant-loop-k
+invariant-loop-k l = string_bytes l.text ≡ bundle_text l.names.trades (take l.k l.trades)
