@@ -32,6 +32,9 @@ COMMANDS = ("check", "test", "support", "solve", "solve --csv", "judge", "range"
 NO = ("better", "impossible", "exchange_fails", "cycle", "drops", "blocks", "invalid")
 STATUS = dict(fault=1, usage=2, read_fault=3, no_memory=5, **{answer: 6 for answer in NO})  # and 0 for all others
 CLAIMS = ("equilibrium", "accepted", "prices", "solved", "completes", *NO[:-1])
+# the head of what a layout writes
+LAYOUTS = {"solve --csv": "trade,on,price", "solve --csv=wide": "trade,seller,buyer,on,price", "support --csv": "trade,seller,buyer,on,price",
+           "range --csv": "trade,seller,buyer,on,low,high", "firms --csv": "firm,content,worth,utility,best_utility,gain,has,best"}
 NUMBERS = dict(equilibrium="surplus", better="gain", cycle="cost", solved="surplus", drops="gain")
 MOST_TRADES = 9  # of networks of which all sets are tried
 MOST_BUNDLES = 24  # of tables of which all triples are tried
@@ -68,8 +71,9 @@ class Program:
         status, output, errors = self.start(words, text)
         self.runs += 1
         want(errors == b"", "text on standard error", words, errors)
-        if output.startswith(b"trade,on,price\n"):
-            want(status == 0, "the status of rows", words, status)
+        if output.startswith((b"trade,", b"firm,")):
+            want(output.startswith(LAYOUTS[words].encode() + b"\n"), "the head of rows", words, output)
+            want(status == 0 or words == "firms --csv" and status == 6, "the status of rows", words, status)
             hold_fault(words, text, {"answer": "rows"})
             self.counts[words, "rows"] += 1
             return output.decode()
@@ -542,15 +546,32 @@ def hold_blocks(network, over, signed, said):
         want(takes is not False, "a firm leaves a contract that blocks", firm["name"], said)
 
 
-def hold_rows(program, document, answer):
-    said = program.ask("solve --csv", document)
-    if isinstance(answer, dict) and answer["answer"] == "solved":
-        rows = list(csv.reader(said.splitlines()))[1:]
-        want(rows == [[name, str(int(name in answer["on"])), str(price)] for name, price in answer["prices"]], "rows", said, answer)
-        said = program.ask("solve --csv=wide", document)
-        ends = [[trade["seller"], trade["buyer"]] for trade in document["trades"]]
-        wide = [[row[0], *pair, *row[1:]] for row, pair in zip(rows, ends)]
-        want(list(csv.reader(said.splitlines()))[1:] == wide, "wide rows", said, answer)
+def entries_of(document, answer):
+    """What rows may say of an answer, entry by entry; none of an answer that has no rows."""
+    if answer["answer"] == "firms":
+        return [{**firm, "content": firm["gain"] == 0} for firm in answer["firms"]]
+    prices = [dict(trade=name, price=price) for name, price in answer.get("prices", [])]
+    ends = {trade["name"]: trade for trade in document["trades"]}
+    on = answer.get("on", document["arrangement"]["on"])
+    return [{**ends[entry["trade"]], **entry, "on": entry["trade"] in on} for entry in answer.get("ranges", prices)]
+
+
+def field_of(value):
+    """A field: nothing, 1 or 0, names with a blank between two, or a name or number as it is."""
+    if isinstance(value, list):
+        return " ".join(value)
+    return "" if value is None else str(int(value)) if isinstance(value, bool) else str(value)
+
+
+def hold_rows(program, document):
+    """In each layout the same is said as in the object."""
+    for words, head in LAYOUTS.items():
+        answer, said = (program.ask(asked, document) for asked in (words.split()[0], words))
+        if answer["answer"] in ("solved", "prices", "ranges", "firms"):
+            rows = [[field_of(entry[column]) for column in head.split(",")] for entry in entries_of(document, answer)]
+            want(isinstance(said, str) and list(csv.reader(said.splitlines()))[1:] == rows, "rows", words, said, answer)
+        else:
+            want(said == answer, "no rows", words, said, answer)
 
 
 def hold_all(program, document, draw):
@@ -564,7 +585,7 @@ def hold_all(program, document, draw):
     hold_claim(program, document, solved)
     add_parts(draw, document, solved["on"], dict(solved["prices"]))
     if draw.random() < 0.1:
-        hold_rows(program, document, solved)
+        hold_rows(program, document)
     if len(document["trades"]) > MOST_TRADES:
         for words in ("check", "support", "judge", "session", "range"):
             hold_claim(program, document, program.ask(words, document))  # (too many sets to try them all)
