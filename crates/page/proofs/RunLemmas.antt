@@ -13,15 +13,23 @@ use Rattle.page.specs.Answered.{MayBeAnswered}
 
 -- a count that is 0 after a call didn't rise in it
 pub none_counted : (before after : ℕ) → after ≡ 0 → NoneCounted before after
-none_counted before after none rose = elim rose [ inl less ↦ absurd (omega (arith, none, less)) | inr last ↦ absurd (omega (arith, none, last)) ]
+none_counted before after none rose = elim rose [
+  | inl less ↦ absurd (omega (arith, none, less))
+  | inr last ↦
+      absurd (omega (arith, none, last))
+]
 
 -- where no write failed, the text was written whole
-pub whole_of : (old new : Option (List ℕ)) (before after : ℕ) (layout : Layout) (names : NameLists) (said : Said) (status : ℕ)
-    → NoneCounted before after → IsWritten old new before after layout names said status → IsWrittenWhole old new layout names said status
-whole_of old new before after layout names said status none written = elim written [ inl whole ↦ whole | inr cut ↦ absurd (none cut.cause) ]
+pub whole_of : (old new : Option (List ℕ)) (before after : ℕ) (layout : Layout) (names : NameLists) (said : Said)
+    (status : ℕ)
+    → NoneCounted before after → IsWritten old new before after layout names said status
+    → IsWrittenWhole old new layout names said status
+whole_of old new before after layout names said status none written =
+    elim written [ inl whole ↦ whole | inr cut ↦ absurd (none cut.cause) ]
 
 -- want of memory may be answered to all words
-pub may_want_memory : (words : List (List ℕ)) (document : List ℕ) (names : NameLists) → MayBeAnswered words document names NoMemory
+pub may_want_memory : (words : List (List ℕ)) (document : List ℕ) (names : NameLists)
+    → MayBeAnswered words document names NoMemory
 may_want_memory words document names = record {
   usage = λ _ _ _ _. inl refl;
   page = λ _ _. inl refl;

@@ -12,8 +12,10 @@ use Rattle.tn_run.specs.declared.command.Command.{Command}
 
 -- the defined answer to the words and all bytes of a document, or want of memory
 pub record MayBeAnswered (words : List (List ℕ)) (document : List ℕ) (names : NameLists) (said : Said) : Type 0 where
-  pub usage : command_of words ≡ None → drill_of words ≡ None → asks_for_cases words ≡ false → page_of words ≡ None → (said ≡ NoMemory) ⊎ (said ≡ Usage)
+  pub usage : command_of words ≡ None → drill_of words ≡ None → asks_for_cases words ≡ false → page_of words ≡ None
+      → (said ≡ NoMemory) ⊎ (said ≡ Usage)
   pub page : (page : Page) → page_of words ≡ Some page → (said ≡ NoMemory) ⊎ (said ≡ PageIs page)
   pub cases : asks_for_cases words ≡ true → MayBeCases said
   pub drill : (size start : ℕ) → drill_of words ≡ Some (size, start) → MayBeDrilled size start said
-  pub command : (command : Command) → command_of words ≡ Some command → (said ≡ NoMemory) ⊎ IsAnswerToAll command document names said
+  pub command : (command : Command) → command_of words ≡ Some command → (said ≡ NoMemory)
+      ⊎ IsAnswerToAll command document names said

@@ -1,3 +1,4 @@
+-- The files of definitions of this crate.
 pub mod Answered
 pub mod Told
 pub mod Words

@@ -25,11 +25,12 @@ use tn_base::OutOfMemory;
 /// The exit status of a run in which memory ran out.
 const NO_MEMORY: u8 = 5;
 
-/// Runs the program on words, which bytes 0 part, and on the bytes of a document. The text that it writes comes to stand at the
-/// start of `out`; what stands beyond it stays.
+/// Runs the program on words, which bytes 0 part, and on the bytes of a document. The text that it writes comes to
+/// stand at the start of `out`; what stands beyond it stays.
 ///
-/// The answer is 256 times the length of that text in bytes, and the exit status. Where `out` is shorter than the text, it stays as
-/// it was, and 4 stands in place of the status, which is none of those that come otherwise. Words that aren't UTF-8 are none.
+/// The answer is 256 times the length of that text in bytes, and the exit status. Where `out` is shorter than the text,
+/// it stays as it was, and 4 stands in place of the status, which is none of those that come otherwise. Words that
+/// aren't UTF-8 are none.
 #[unsafe(no_mangle)]
 pub extern "C" fn page_answer(alloc: Global, words: &[u8], document: &[u8], out: &mut [u8]) -> u64
     // The defined answer to these words and this document, or want of memory: its text and its status.

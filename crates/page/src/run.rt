@@ -35,8 +35,10 @@ fn status_of_run(run: Run) -> u8
 
 /// Runs the program. Want of memory, or of room for the text, comes as that.
 pub fn run_on(alloc: Global, words: &[u8], document: &[u8]) -> Result<Whole, OutOfMemory>
-    ensures answer { IfOk result (λ whole. (names : NameLists) × (said : Said) × MayBeAnswered (words_in words.now) document.now names said
-        × (whole.text.items ≡ answer_line (layout_of (words_in words.now)) names said) × (whole.status ≡ status_of said)) }
+    ensures answer { IfOk result (λ whole. (names : NameLists) × (said : Said)
+        × MayBeAnswered (words_in words.now) document.now names said
+        × (whole.text.items ≡ answer_line (layout_of (words_in words.now)) names said)
+        × (whole.status ≡ status_of said)) }
     ensures few { IfOk result (λ whole. length whole.text.items ≤ 4294967296) }
 {
     let words = words_of(alloc, words)?;

@@ -94,7 +94,8 @@ same_integer : (y z : ℤ) → integer_data y ≡ integer_data z → y ≡ z
 same_integer y z e = same_Some y z (sym (integer_back y) ∙ ap integer_in e ∙ integer_back z)
 
 -- the prices stand in their data, whatever the names
-same_prices : (names : List (List ℕ)) (k : ℕ) (xs ys : List ℤ) → array (items_of (prices_from names k xs)) ≡ array (items_of (prices_from names k ys)) → xs ≡ ys
+same_prices : (names : List (List ℕ)) (k : ℕ) (xs ys : List ℤ)
+    → array (items_of (prices_from names k xs)) ≡ array (items_of (prices_from names k ys)) → xs ≡ ys
 same_prices names k [] [] e = refl
 same_prices names k [] (y ∷ ys) e = absurd (omega (arith, ap (λ d. items_len (items_in d)) e))
 same_prices names k (x ∷ xs) [] e = absurd (omega (arith, ap (λ d. items_len (items_in d)) e))
@@ -107,7 +108,9 @@ same_prices names k (x ∷ xs) (y ∷ ys) e =
 
 -- each kind at its number
 kinds : List FaultKind
-kinds = NotJson ∷ NotJson ∷ TooLong ∷ Shape ∷ BadName ∷ SameName ∷ UnknownFirm ∷ SelfTrade ∷ UnknownTrade ∷ Limit ∷ AmountRange ∷ NotOwnTrade ∷ SameBundle ∷ NoEmpty ∷ NotLaminar ∷ NotConcave ∷ FailsExchange ∷ SameTrade ∷ PriceMissing ∷ BadOver ∷ SamePair ∷ []
+kinds = NotJson ∷ NotJson ∷ TooLong ∷ Shape ∷ BadName ∷ SameName ∷ UnknownFirm ∷ SelfTrade ∷ UnknownTrade ∷ Limit ∷
+    AmountRange ∷ NotOwnTrade ∷ SameBundle ∷ NoEmpty ∷ NotLaminar ∷ NotConcave ∷ FailsExchange ∷ SameTrade ∷
+    PriceMissing ∷ BadOver ∷ SamePair ∷ []
 
 kind_back : (kind : FaultKind) → get_or kinds (fault_number kind) NotJson ≡ kind
 unfolding kinds
@@ -118,7 +121,9 @@ same_kind : (first second : FaultKind) → fault_number first ≡ fault_number s
 same_kind first second e = sym (kind_back first) ∙ ap (λ n. get_or kinds n NotJson) e ∙ kind_back second
 
 words : List Word
-words = Version ∷ Firms ∷ Trades ∷ Arrangement ∷ Outcome ∷ Claim ∷ Note ∷ Edits ∷ Name ∷ Seller ∷ Buyer ∷ Kind ∷ Rows ∷ Amounts ∷ Sets ∷ From ∷ Values ∷ Costs ∷ Gains ∷ Keep ∷ Pairs ∷ On ∷ Prices ∷ Over ∷ Contracts ∷ Answer ∷ SurplusWord ∷ Firm ∷ Bundle ∷ Gain ∷ X ∷ Y ∷ At ∷ Nodes ∷ Cost ∷ Keeps ∷ Plan ∷ []
+words = Version ∷ Firms ∷ Trades ∷ Arrangement ∷ Outcome ∷ Claim ∷ Note ∷ Edits ∷ Name ∷ Seller ∷ Buyer ∷ Kind ∷ Rows ∷
+    Amounts ∷ Sets ∷ From ∷ Values ∷ Costs ∷ Gains ∷ Keep ∷ Pairs ∷ On ∷ Prices ∷ Over ∷ Contracts ∷ Answer ∷
+    SurplusWord ∷ Firm ∷ Bundle ∷ Gain ∷ X ∷ Y ∷ At ∷ Nodes ∷ Cost ∷ Keeps ∷ Plan ∷ []
 
 abbrev word_of : List ℕ → Option Word
 word_of text = find (λ word. bytes_eq text (word_text word)) words
@@ -138,9 +143,11 @@ module _ (names : List (List ℕ)) (kept : IsNameList names) where
   name_there k there = slice_get-get_or names k [] there ∙ ap Some (sym (unwrap_or-slice_get names k []))
 
   same_name : (j k : ℕ) → IsNamed names j → IsNamed names k → name_data names j ≡ name_data names k → j ≡ k
-  same_name j k there_j there_k e = kept.once j k _ (name_there j there_j ∙ ap (λ d. Some (text_in d)) e) (name_there k there_k)
+  same_name j k there_j there_k e =
+      kept.once j k _ (name_there j there_j ∙ ap (λ d. Some (text_in d)) e) (name_there k there_k)
 
-  same_names : (xs ys : List ℕ) → All (IsNamed names) xs → All (IsNamed names) ys → names_data names xs ≡ names_data names ys → xs ≡ ys
+  same_names : (xs ys : List ℕ) → All (IsNamed names) xs → All (IsNamed names) ys
+      → names_data names xs ≡ names_data names ys → xs ≡ ys
   same_names [] [] h k e = refl
   same_names [] (y ∷ ys) h k e = absurd (omega (arith, ap (λ d. items_len (items_in d)) e))
   same_names (x ∷ xs) [] h k e = absurd (omega (arith, ap (λ d. items_len (items_in d)) e))
@@ -149,13 +156,15 @@ module _ (names : List (List ℕ)) (kept : IsNameList names) where
       let rest = same_names xs ys (All-tail (IsNamed names) x xs h) (All-tail (IsNamed names) y ys k) (ap rest_in e) in
       λ i. first i ∷ rest i
 
-  same_option : (first second : Option ℕ) → IfSome first (IsNamed names) → IfSome second (IsNamed names) → option_data names first ≡ option_data names second → first ≡ second
+  same_option : (first second : Option ℕ) → IfSome first (IsNamed names) → IfSome second (IsNamed names)
+      → option_data names first ≡ option_data names second → first ≡ second
   same_option None None h k e = refl
   same_option None (Some y) h k e = absurd (clash 0 3 refl (ap shape e))
   same_option (Some x) None h k e = absurd (clash 3 0 refl (ap shape e))
   same_option (Some x) (Some y) h k e = ap Some (same_name x y h k e)
 
-  same_nodes : (xs ys : List (Option ℕ)) → All (λ node. IfSome node (IsNamed names)) xs → All (λ node. IfSome node (IsNamed names)) ys → nodes_data names xs ≡ nodes_data names ys → xs ≡ ys
+  same_nodes : (xs ys : List (Option ℕ)) → All (λ node. IfSome node (IsNamed names)) xs
+      → All (λ node. IfSome node (IsNamed names)) ys → nodes_data names xs ≡ nodes_data names ys → xs ≡ ys
   same_nodes [] [] h k e = refl
   same_nodes [] (y ∷ ys) h k e = absurd (omega (arith, ap (λ d. items_len (items_in d)) e))
   same_nodes (x ∷ xs) [] h k e = absurd (omega (arith, ap (λ d. items_len (items_in d)) e))
@@ -165,13 +174,15 @@ module _ (names : List (List ℕ)) (kept : IsNameList names) where
       let rest = same_nodes xs ys (All-tail named x xs h) (All-tail named y ys k) (ap rest_in e) in
       λ i. first i ∷ rest i
 
-  same_contracts : (xs ys : List Contract) → All (λ contract. IsNamed names contract.trade) xs → All (λ contract. IsNamed names contract.trade) ys → contracts_data names xs ≡ contracts_data names ys → xs ≡ ys
+  same_contracts : (xs ys : List Contract) → All (λ contract. IsNamed names contract.trade) xs
+      → All (λ contract. IsNamed names contract.trade) ys → contracts_data names xs ≡ contracts_data names ys → xs ≡ ys
   same_contracts [] [] h k e = refl
   same_contracts [] (y ∷ ys) h k e = absurd (omega (arith, ap (λ d. items_len (items_in d)) e))
   same_contracts (x ∷ xs) [] h k e = absurd (omega (arith, ap (λ d. items_len (items_in d)) e))
   same_contracts (x ∷ xs) (y ∷ ys) h k e =
       let named = λ (contract : Contract). IsNamed names contract.trade in
-      let trade = same_name x.trade y.trade (All-head named x xs h) (All-head named y ys k) (ap (λ d. first_in (first_in d)) e) in
+      let trade = same_name x.trade y.trade (All-head named x xs h) (All-head named y ys k)
+      (ap (λ d. first_in (first_in d)) e) in
       let price = same_integer x.price y.price (ap (λ d. first_in (rest_in (first_in d))) e) in
       let rest = same_contracts xs ys (All-tail named x xs h) (All-tail named y ys k) (ap rest_in e) in
       λ i. record { trade = trade i; price = price i } ∷ rest i
@@ -182,7 +193,8 @@ module _ (names : List (List ℕ)) (kept : IsNameList names) where
   same_bound (Some x) None e = absurd (clash 2 0 refl (ap shape e))
   same_bound (Some x) (Some y) e = ap Some (same_integer x y e)
 
-  same_range : (k : ℕ) (x y : Range) → HasNamedPaths names x → HasNamedPaths names y → range_data names k x ≡ range_data names k y → x ≡ y
+  same_range : (k : ℕ) (x y : Range) → HasNamedPaths names x → HasNamedPaths names y
+      → range_data names k x ≡ range_data names k y → x ≡ y
   same_range k x y h i e =
       let high = same_bound x.high y.high (ap (part (codes "high")) e) in
       let high_path = same_nodes x.high_path y.high_path h.high i.high (ap (part (codes "high_path")) e) in
@@ -191,32 +203,40 @@ module _ (names : List (List ℕ)) (kept : IsNameList names) where
       λ j. record { low = low j; low_path = low_path j; high = high j; high_path = high_path j }
 
   same_ranges : (k : ℕ) (xs ys : List Range) → All (HasNamedPaths names) xs → All (HasNamedPaths names) ys
-      → array (items_of (each_from (range_data names) k xs)) ≡ array (items_of (each_from (range_data names) k ys)) → xs ≡ ys
+      → array (items_of (each_from (range_data names) k xs)) ≡ array (items_of (each_from (range_data names) k ys))
+      → xs ≡ ys
   same_ranges k [] [] h i e = refl
   same_ranges k [] (y ∷ ys) h i e = absurd (omega (arith, ap (λ d. items_len (items_in d)) e))
   same_ranges k (x ∷ xs) [] h i e = absurd (omega (arith, ap (λ d. items_len (items_in d)) e))
   same_ranges k (x ∷ xs) (y ∷ ys) h i e =
-      let first = same_range k x y (All-head (HasNamedPaths names) x xs h) (All-head (HasNamedPaths names) y ys i) (ap first_in e) in
-      let rest = same_ranges (suc k) xs ys (All-tail (HasNamedPaths names) x xs h) (All-tail (HasNamedPaths names) y ys i) (ap rest_in e) in
+      let first = same_range k x y (All-head (HasNamedPaths names) x xs h) (All-head (HasNamedPaths names) y ys i)
+      (ap first_in e) in
+      let rest = same_ranges (suc k) xs ys (All-tail (HasNamedPaths names) x xs h)
+      (All-tail (HasNamedPaths names) y ys i) (ap rest_in e) in
       λ j. first j ∷ rest j
 
-  same_state : (x y : State) → IsNamedState names x → IsNamedState names y → state_data names x ≡ state_data names y → x ≡ y
+  same_state : (x y : State) → IsNamedState names x → IsNamedState names y → state_data names x ≡ state_data names y
+      → x ≡ y
   same_state x y h k e =
       let on = same_names x.on y.on h.on k.on (ap (part (codes "on")) e) in
       let prices = same_contracts x.prices y.prices h.prices k.prices (ap (part (codes "prices")) e) in
       let surplus = same_integer x.surplus y.surplus (ap (part (codes "surplus")) e) in
       λ j. record { on = on j; prices = prices j; surplus = surplus j }
 
-  same_states : (xs ys : List State) → All (IsNamedState names) xs → All (IsNamedState names) ys → states_data names xs ≡ states_data names ys → xs ≡ ys
+  same_states : (xs ys : List State) → All (IsNamedState names) xs → All (IsNamedState names) ys
+      → states_data names xs ≡ states_data names ys → xs ≡ ys
   same_states [] [] h k e = refl
   same_states [] (y ∷ ys) h k e = absurd (omega (arith, ap (λ d. items_len (items_in d)) e))
   same_states (x ∷ xs) [] h k e = absurd (omega (arith, ap (λ d. items_len (items_in d)) e))
   same_states (x ∷ xs) (y ∷ ys) h k e =
-      let first = same_state x y (All-head (IsNamedState names) x xs h) (All-head (IsNamedState names) y ys k) (ap first_in e) in
-      let rest = same_states xs ys (All-tail (IsNamedState names) x xs h) (All-tail (IsNamedState names) y ys k) (ap rest_in e) in
+      let first = same_state x y (All-head (IsNamedState names) x xs h) (All-head (IsNamedState names) y ys k)
+      (ap first_in e) in
+      let rest = same_states xs ys (All-tail (IsNamedState names) x xs h) (All-tail (IsNamedState names) y ys k)
+      (ap rest_in e) in
       λ j. first j ∷ rest j
 
-  same_step : (first second : PlaceStep) → IsNamedStep names first → IsNamedStep names second → step_data names first ≡ step_data names second → IsSameStep names first second
+  same_step : (first second : PlaceStep) → IsNamedStep names first → IsNamedStep names second
+      → step_data names first ≡ step_data names second → IsSameStep names first second
   same_step (Member v) (Member w) h k e = ap Member (same_word v w (ap text_in e))
   same_step (Member v) (Index n) h k e = absurd (clash 3 2 refl (ap shape e))
   same_step (Member v) (Trade t) h k e = name_there t k ∙ ap (λ d. Some (text_in d)) (sym e)
@@ -227,7 +247,8 @@ module _ (names : List (List ℕ)) (kept : IsNameList names) where
   same_step (Trade t) (Index n) h k e = absurd (clash 3 2 refl (ap shape e))
   same_step (Trade t) (Trade u) h k e = ap Trade (same_name t u h k e)
 
-  same_place : (first second : List PlaceStep) → All (IsNamedStep names) first → All (IsNamedStep names) second → place_data names first ≡ place_data names second → AllZip (IsSameStep names) first second
+  same_place : (first second : List PlaceStep) → All (IsNamedStep names) first → All (IsNamedStep names) second
+      → place_data names first ≡ place_data names second → AllZip (IsSameStep names) first second
   same_place [] [] h k e = tt
   same_place [] (t ∷ ts) h k e = absurd (omega (arith, ap (λ d. items_len (items_in d)) e))
   same_place (s ∷ ss) [] h k e = absurd (omega (arith, ap (λ d. items_len (items_in d)) e))
@@ -237,11 +258,13 @@ module _ (names : List (List ℕ)) (kept : IsNameList names) where
   )
 
   -- only beside a triple stands a trade or none
-  shown_is_not : (first second : Fault) (shown : Shown) → fault_data names first None ≡ fault_data names second (Some shown) → ⊥
+  shown_is_not : (first second : Fault) (shown : Shown)
+      → fault_data names first None ≡ fault_data names second (Some shown) → ⊥
   shown_is_not first second shown e = true≢false (sym (ap (λ d. is_some (get (codes "at") d)) e))
 
   same_fault : (first second : Fault) (shown other : Option Shown) → first.shown ≡ shown → second.shown ≡ other
-      → All (IsNamedStep names) first.place → All (IsNamedStep names) second.place → IfSome shown (IsNamedTriple names) → IfSome other (IsNamedTriple names)
+      → All (IsNamedStep names) first.place → All (IsNamedStep names) second.place → IfSome shown (IsNamedTriple names)
+      → IfSome other (IsNamedTriple names)
       → fault_data names first shown ≡ fault_data names second other → IsSameFault names first second
   same_fault first second None None is_first is_second h k m n e = record {
     kind = same_kind first.kind second.kind (ap (λ d. natural_in (part (codes "fault") d)) e);
@@ -249,7 +272,8 @@ module _ (names : List (List ℕ)) (kept : IsNameList names) where
     shown = is_first ∙ sym is_second;
   }
   same_fault first second None (Some other) is_first is_second h k m n e = absurd (shown_is_not first second other e)
-  same_fault first second (Some shown) None is_first is_second h k m n e = absurd (shown_is_not second first shown (sym e))
+  same_fault first second (Some shown) None is_first is_second h k m n e =
+      absurd (shown_is_not second first shown (sym e))
   same_fault first second (Some shown) (Some other) is_first is_second h k m n e =
       let at = same_option shown.at other.at m.at n.at (ap (part (codes "at")) e) in
       let x = same_names shown.x other.x m.x n.x (ap (part (codes "x")) e) in
@@ -305,11 +329,13 @@ answer_text (FirmsIs content firms surplus) = codes "firms"
 abbrev mark : List ℕ → ℕ
 mark text = 65536 * get_or text 0 0 + 256 * get_or text 1 0 + get_or text 2 0
 
-fault_says : (names : List (List ℕ)) (fault : Fault) (shown : Option Shown) → text_in (part (codes "answer") (fault_data names fault shown)) ≡ codes "fault"
+fault_says : (names : List (List ℕ)) (fault : Fault) (shown : Option Shown)
+    → text_in (part (codes "answer") (fault_data names fault shown)) ≡ codes "fault"
 fault_says names fault None = refl
 fault_says names fault (Some shown) = refl
 
-answer_says : (names : NameLists) (said : Said) → text_in (part (codes "answer") (answer_data names said)) ≡ answer_text said
+answer_says : (names : NameLists) (said : Said) → text_in (part (codes "answer") (answer_data names said))
+    ≡ answer_text said
 answer_says names Usage = refl
 answer_says names ReadFault = refl
 answer_says names NoMemory = refl
@@ -366,30 +392,43 @@ reason_text (Shares firm) = codes "shares"
 reason_text (Balance trade) = codes "balance"
 reason_text (Whole on surplus) = codes "whole"
 
-reason_says : (names : NameLists) (reason : Reason) → text_in (part (codes "reason") (invalid names reason)) ≡ reason_text reason
+reason_says : (names : NameLists) (reason : Reason)
+    → text_in (part (codes "reason") (invalid names reason)) ≡ reason_text reason
 reason_says names Holds = refl
 reason_says names reason = refl
 
 module _ (names : NameLists) (firms : IsNameList names.firms) (trades : IsNameList names.trades) where
-  same_reason_mark : (first second : Reason) → invalid names first ≡ invalid names second → mark (reason_text first) ≡ mark (reason_text second)
-  same_reason_mark first second e = ap mark (sym (reason_says names first) ∙ ap (λ d. text_in (part (codes "reason") d)) e ∙ reason_says names second)
+  same_reason_mark : (first second : Reason) → invalid names first ≡ invalid names second
+      → mark (reason_text first) ≡ mark (reason_text second)
+  same_reason_mark first second e =
+      ap mark (sym (reason_says names first) ∙ ap (λ d. text_in (part (codes "reason") d)) e ∙ reason_says names second)
 
-  same_firm : (firm other : ℕ) → IsNamed names.firms firm → IsNamed names.firms other → (first second : Reason) → invalid names first ≡ invalid names second
-      → part (codes "firm") (invalid names first) ≡ name_data names.firms firm → part (codes "firm") (invalid names second) ≡ name_data names.firms other → firm ≡ other
-  same_firm firm other h k first second e is is' = same_name names.firms firms firm other h k (sym is ∙ ap (part (codes "firm")) e ∙ is')
+  same_firm : (firm other : ℕ) → IsNamed names.firms firm → IsNamed names.firms other → (first second : Reason)
+      → invalid names first ≡ invalid names second
+      → part (codes "firm") (invalid names first) ≡ name_data names.firms firm
+      → part (codes "firm") (invalid names second) ≡ name_data names.firms other → firm ≡ other
+  same_firm firm other h k first second e is is' =
+      same_name names.firms firms firm other h k (sym is ∙ ap (part (codes "firm")) e ∙ is')
 
-  same_trade : (trade other : ℕ) → IsNamed names.trades trade → IsNamed names.trades other → (first second : Reason) → invalid names first ≡ invalid names second
-      → part (codes "trade") (invalid names first) ≡ name_data names.trades trade → part (codes "trade") (invalid names second) ≡ name_data names.trades other → trade ≡ other
-  same_trade trade other h k first second e is is' = same_name names.trades trades trade other h k (sym is ∙ ap (part (codes "trade")) e ∙ is')
+  same_trade : (trade other : ℕ) → IsNamed names.trades trade → IsNamed names.trades other → (first second : Reason)
+      → invalid names first ≡ invalid names second
+      → part (codes "trade") (invalid names first) ≡ name_data names.trades trade
+      → part (codes "trade") (invalid names second) ≡ name_data names.trades other → trade ≡ other
+  same_trade trade other h k first second e is is' =
+      same_name names.trades trades trade other h k (sym is ∙ ap (part (codes "trade")) e ∙ is')
 
-  same_reason : (first second : Reason) → IsNamedReason names first → IsNamedReason names second → invalid names first ≡ invalid names second → first ≡ second
-  same_reason (ImpossibleIs firm) (ImpossibleIs other) h k e = ap ImpossibleIs (same_firm firm other h k (ImpossibleIs firm) (ImpossibleIs other) e refl refl)
+  same_reason : (first second : Reason) → IsNamedReason names first → IsNamedReason names second
+      → invalid names first ≡ invalid names second → first ≡ second
+  same_reason (ImpossibleIs firm) (ImpossibleIs other) h k e =
+      ap ImpossibleIs (same_firm firm other h k (ImpossibleIs firm) (ImpossibleIs other) e refl refl)
   same_reason (BetterIs firm bundle) (BetterIs other bundle') h k e =
       let firm_is = same_firm firm other h.0 k.0 (BetterIs firm bundle) (BetterIs other bundle') e refl refl in
       let bundle_is = same_names names.trades trades bundle bundle' h.1 k.1 (ap (part (codes "bundle")) e) in
       λ i. BetterIs (firm_is i) (bundle_is i)
-  same_reason (Possible firm) (Possible other) h k e = ap Possible (same_firm firm other h k (Possible firm) (Possible other) e refl refl)
-  same_reason (SurplusIs surplus) (SurplusIs other) h k e = ap SurplusIs (same_integer surplus other (ap (part (codes "surplus")) e))
+  same_reason (Possible firm) (Possible other) h k e =
+      ap Possible (same_firm firm other h k (Possible firm) (Possible other) e refl refl)
+  same_reason (SurplusIs surplus) (SurplusIs other) h k e =
+      ap SurplusIs (same_integer surplus other (ap (part (codes "surplus")) e))
   same_reason (GainIs firm gain) (GainIs other gain') h k e =
       let firm_is = same_firm firm other h k (GainIs firm gain) (GainIs other gain') e refl refl in
       let gain_is = same_bound names.trades trades gain gain' (ap (part (codes "gain")) e) in
@@ -403,26 +442,33 @@ module _ (names : NameLists) (firms : IsNameList names.firms) (trades : IsNameLi
   same_reason Holds Holds h k e = refl
   same_reason (Arc index) (Arc other) h k e = ap Arc (ap (λ d. natural_in (part (codes "index") d)) e)
   same_reason (CostIs cost) (CostIs other) h k e = ap CostIs (same_integer cost other (ap (part (codes "cost")) e))
-  same_reason (ContractIs trade) (ContractIs other) h k e = ap ContractIs (same_trade trade other h k (ContractIs trade) (ContractIs other) e refl refl)
+  same_reason (ContractIs trade) (ContractIs other) h k e =
+      ap ContractIs (same_trade trade other h k (ContractIs trade) (ContractIs other) e refl refl)
   same_reason (OverIs over) (OverIs other) h k e = ap OverIs (same_integer over other (ap (part (codes "over")) e))
-  same_reason (Price trade) (Price other) h k e = ap Price (same_trade trade other h k (Price trade) (Price other) e refl refl)
+  same_reason (Price trade) (Price other) h k e =
+      ap Price (same_trade trade other h k (Price trade) (Price other) e refl refl)
   same_reason Empty Empty h k e = refl
-  same_reason (Signed trade) (Signed other) h k e = ap Signed (same_trade trade other h k (Signed trade) (Signed other) e refl refl)
+  same_reason (Signed trade) (Signed other) h k e =
+      ap Signed (same_trade trade other h k (Signed trade) (Signed other) e refl refl)
   same_reason (Choice firm trade) (Choice other trade') h k e =
       let firm_is = same_firm firm other h.0 k.0 (Choice firm trade) (Choice other trade') e refl refl in
       let trade_is = same_trade trade trade' h.1 k.1 (Choice firm trade) (Choice other trade') e refl refl in
       λ i. Choice (firm_is i) (trade_is i)
-  same_reason (Shares firm) (Shares other) h k e = ap Shares (same_firm firm other h k (Shares firm) (Shares other) e refl refl)
-  same_reason (Balance trade) (Balance other) h k e = ap Balance (same_trade trade other h k (Balance trade) (Balance other) e refl refl)
+  same_reason (Shares firm) (Shares other) h k e =
+      ap Shares (same_firm firm other h k (Shares firm) (Shares other) e refl refl)
+  same_reason (Balance trade) (Balance other) h k e =
+      ap Balance (same_trade trade other h k (Balance trade) (Balance other) e refl refl)
   same_reason (Whole on surplus) (Whole on' surplus') h k e =
       let on_is = same_names names.trades trades on on' h k (ap (part (codes "on")) e) in
       let surplus_is = same_integer surplus surplus' (ap (part (codes "surplus")) e) in
       λ i. Whole (on_is i) (surplus_is i)
-  same_reason first second h k e = absurd (clash (mark (reason_text first)) (mark (reason_text second)) refl (same_reason_mark first second e))
+  same_reason first second h k e =
+      absurd (clash (mark (reason_text first)) (mark (reason_text second)) refl (same_reason_mark first second e))
 
 -- what firms have
 module _ (names : NameLists) (trades : IsNameList names.trades) where
-  same_holding : (k : ℕ) (x y : Holding) → IsNamedHolding names.trades x → IsNamedHolding names.trades y → holding_data names k x ≡ holding_data names k y → x ≡ y
+  same_holding : (k : ℕ) (x y : Holding) → IsNamedHolding names.trades x → IsNamedHolding names.trades y
+      → holding_data names k x ≡ holding_data names k y → x ≡ y
   same_holding k x y h i e =
       let best = same_names names.trades trades x.best y.best h.best i.best (ap (part (codes "best")) e) in
       let best_utility = same_integer x.best_utility y.best_utility (ap (part (codes "best_utility")) e) in
@@ -430,10 +476,20 @@ module _ (names : NameLists) (trades : IsNameList names.trades) where
       let has = same_names names.trades trades x.has y.has h.has i.has (ap (part (codes "has")) e) in
       let utility = same_bound names.trades trades x.utility y.utility (ap (part (codes "utility")) e) in
       let worth = same_bound names.trades trades x.worth y.worth (ap (part (codes "worth")) e) in
-      λ j. record { has = has j; worth = worth j; utility = utility j; best = best j; best_utility = best_utility j; gain = gain j }
+      λ j. record {
+        has = has j;
+        worth = worth j;
+        utility = utility j;
+        best = best j;
+        best_utility =
+            best_utility j;
+        gain = gain j;
+      }
 
-  same_holdings : (k : ℕ) (xs ys : List Holding) → All (IsNamedHolding names.trades) xs → All (IsNamedHolding names.trades) ys
-      → array (items_of (each_from (holding_data names) k xs)) ≡ array (items_of (each_from (holding_data names) k ys)) → xs ≡ ys
+  same_holdings : (k : ℕ) (xs ys : List Holding) → All (IsNamedHolding names.trades) xs
+      → All (IsNamedHolding names.trades) ys
+      → array (items_of (each_from (holding_data names) k xs)) ≡ array (items_of (each_from (holding_data names) k ys))
+      → xs ≡ ys
   same_holdings k [] [] h i e = refl
   same_holdings k [] (y ∷ ys) h i e = absurd (omega (arith, ap (λ d. items_len (items_in d)) e))
   same_holdings k (x ∷ xs) [] h i e = absurd (omega (arith, ap (λ d. items_len (items_in d)) e))
@@ -444,23 +500,30 @@ module _ (names : NameLists) (trades : IsNameList names.trades) where
       λ j. first j ∷ rest j
 
 module _ (names : NameLists) (firms : IsNameList names.firms) (trades : IsNameList names.trades) where
-  same_mark : (first second : Said) → answer_data names first ≡ answer_data names second → mark (answer_text first) ≡ mark (answer_text second)
-  same_mark first second e = ap mark (sym (answer_says names first) ∙ ap (λ d. text_in (part (codes "answer") d)) e ∙ answer_says names second)
+  same_mark : (first second : Said) → answer_data names first ≡ answer_data names second
+      → mark (answer_text first) ≡ mark (answer_text second)
+  same_mark first second e =
+      ap mark (sym (answer_says names first) ∙ ap (λ d. text_in (part (codes "answer") d)) e ∙ answer_says names second)
 
   -- of pages the text is told, of others the data
-  same_object : (first second : Said) → IsNamedAnswer names first → IsNamedAnswer names second → HasShortNumbers first → HasShortNumbers second
-      → form_text (answer_form names first) ≡ form_text (answer_form names second) → answer_data names first ≡ answer_data names second → IsSameObject names first second
+  same_object : (first second : Said) → IsNamedAnswer names first → IsNamedAnswer names second → HasShortNumbers first
+      → HasShortNumbers second
+      → form_text (answer_form names first) ≡ form_text (answer_form names second)
+      → answer_data names first ≡ answer_data names second → IsSameObject names first second
   same_object Usage Usage h k short short' line e = refl
   same_object ReadFault ReadFault h k short short' line e = refl
   same_object NoMemory NoMemory h k short short' line e = refl
-  same_object (FaultIs first) (FaultIs second) h k short short' line e = same_fault names.trades trades first second first.shown second.shown refl refl h.0 k.0 h.1 k.1 e
-  same_object (Equilibrium y) (Equilibrium z) h k short short' line e = ap Equilibrium (same_integer y z (ap (part (codes "surplus")) e))
+  same_object (FaultIs first) (FaultIs second) h k short short' line e =
+      same_fault names.trades trades first second first.shown second.shown refl refl h.0 k.0 h.1 k.1 e
+  same_object (Equilibrium y) (Equilibrium z) h k short short' line e =
+      ap Equilibrium (same_integer y z (ap (part (codes "surplus")) e))
   same_object (Better firm bundle gain) (Better other bundle' gain') h k short short' line e =
       let same_bundle = same_names names.trades trades bundle bundle' h.1 k.1 (ap (part (codes "bundle")) e) in
       let same_firm = same_name names.firms firms firm other h.0 k.0 (ap (part (codes "firm")) e) in
       let same_gain = same_integer gain gain' (ap (part (codes "gain")) e) in
       λ i. Better (same_firm i) (same_bundle i) (same_gain i)
-  same_object (Impossible firm) (Impossible other) h k short short' line e = ap Impossible (same_name names.firms firms firm other h k (ap (part (codes "firm")) e))
+  same_object (Impossible firm) (Impossible other) h k short short' line e =
+      ap Impossible (same_name names.firms firms firm other h k (ap (part (codes "firm")) e))
   same_object Accepted Accepted h k short short' line e = refl
   same_object (ExchangeFails firm x y at) (ExchangeFails other x' y' at') h k short short' line e =
       let same_at = same_option names.trades trades at at' h.1.at k.1.at (ap (part (codes "at")) e) in
@@ -468,7 +531,8 @@ module _ (names : NameLists) (firms : IsNameList names.firms) (trades : IsNameLi
       let same_x = same_names names.trades trades x x' h.1.x k.1.x (ap (part (codes "x")) e) in
       let same_y = same_names names.trades trades y y' h.1.y k.1.y (ap (part (codes "y")) e) in
       λ i. ExchangeFails (same_firm i) (same_x i) (same_y i) (same_at i)
-  same_object (Supported on prices ends) (Supported on' prices' ends') h k short short' line e = same_prices names.trades 0 prices prices' (ap (part (codes "prices")) e)
+  same_object (Supported on prices ends) (Supported on' prices' ends') h k short short' line e =
+      same_prices names.trades 0 prices prices' (ap (part (codes "prices")) e)
   same_object (Cycle nodes cost) (Cycle others cost') h k short short' line e =
       let same_cost = same_integer cost cost' (ap (part (codes "cost")) e) in
       let same_list = same_nodes names.trades trades nodes others h k (ap (part (codes "nodes")) e) in
@@ -488,7 +552,8 @@ module _ (names : NameLists) (firms : IsNameList names.firms) (trades : IsNameLi
       let same_on = same_names names.trades trades on others h.0 k.0 (ap (part (codes "on")) e) in
       let same_list = same_ranges names.trades trades 0 ranges other_ranges h.2 k.2 (ap (part (codes "ranges")) e) in
       (same_on, same_list)
-  same_object (Session edits) (Session others) h k short short' line e = ap Session (same_states names.trades trades edits others h k (ap (part (codes "edits")) e))
+  same_object (Session edits) (Session others) h k short short' line e =
+      ap Session (same_states names.trades trades edits others h k (ap (part (codes "edits")) e))
   same_object (Drops firm keeps gain over) (Drops other keeps' gain' over') h k short short' line e =
       let same_firm = same_name names.firms firms firm other h.0 k.0 (ap (part (codes "firm")) e) in
       let same_keeps = same_names names.trades trades keeps keeps' h.1 k.1 (ap (part (codes "keeps")) e) in
@@ -504,7 +569,8 @@ module _ (names : NameLists) (firms : IsNameList names.firms) (trades : IsNameLi
       let same_over = same_integer over over' (ap (part (codes "over")) e) in
       λ i. Blocks (same_list i) (same_over i)
   same_object Valid Valid h k short short' line e = refl
-  same_object (Invalid reason) (Invalid other) h k short short' line e = ap Invalid (same_reason names firms trades reason other h k e)
+  same_object (Invalid reason) (Invalid other) h k short short' line e =
+      ap Invalid (same_reason names firms trades reason other h k e)
   same_object (Cases count failed) (Cases count' failed') h k short short' line e =
       let same_count = ap (λ d. natural_in (part (codes "count") d)) e in
       let same_failed = same_numbers failed failed' (ap (part (codes "failed")) e) in
@@ -516,9 +582,12 @@ module _ (names : NameLists) (firms : IsNameList names.firms) (trades : IsNameLi
       λ i. FirmsIs (same_content i) (same_list i) (same_surplus i)
   same_object (PageIs Help) (PageIs Help) h k short short' line e = refl
   same_object (PageIs VersionPage) (PageIs VersionPage) h k short short' line e = refl
-  same_object (PageIs Help) (PageIs VersionPage) h k short short' line e = absurd (clash 102 49 refl (ap eighth_byte line))
-  same_object (PageIs VersionPage) (PageIs Help) h k short short' line e = absurd (clash 49 102 refl (ap eighth_byte line))
-  same_object first second h k short short' line e = absurd (clash (mark (answer_text first)) (mark (answer_text second)) refl (same_mark first second e))
+  same_object (PageIs Help) (PageIs VersionPage) h k short short' line e =
+      absurd (clash 102 49 refl (ap eighth_byte line))
+  same_object (PageIs VersionPage) (PageIs Help) h k short short' line e =
+      absurd (clash 49 102 refl (ap eighth_byte line))
+  same_object first second h k short short' line e =
+      absurd (clash (mark (answer_text first)) (mark (answer_text second)) refl (same_mark first second e))
 
 -- ---- forms
 
@@ -527,7 +596,8 @@ abbrev beginning : Form → ℕ
 beginning (json value) = 123
 beginning (lines texts) = 109
 
-begins : (names : NameLists) (said : Said) → first_byte (form_text (answer_form names said)) ≡ beginning (answer_form names said)
+begins : (names : NameLists) (said : Said) → first_byte (form_text (answer_form names said))
+    ≡ beginning (answer_form names said)
 begins names (PageIs page) = page_begins page
 begins names (FaultIs fault) = by fault.shown
   where
@@ -541,170 +611,259 @@ module _ (names : NameLists) (first second : Said) where
   starts said l e = subst (λ l. first_byte (form_text l) ≡ beginning l) e (begins names said)
 
   -- equal texts begin alike
-  same_beginning : (l m : Form) → answer_form names first ≡ l → answer_form names second ≡ m → form_text l ≡ form_text m → beginning l ≡ beginning m
+  same_beginning : (l m : Form) → answer_form names first ≡ l → answer_form names second ≡ m → form_text l ≡ form_text m
+      → beginning l ≡ beginning m
   same_beginning l m p q same = sym (starts first l p) ∙ ap first_byte same ∙ starts second m q
 
-  same_data : (l m : Form) → answer_form names first ≡ l → answer_form names second ≡ m → IsPlain (data_in l) → IsPlain (data_in m) → form_text l ≡ form_text m → data_in l ≡ data_in m
-  same_data (json d) (json e) p q plain_d plain_e same = compact_text-tells d e 10 plain_d plain_e (λ h. omega (arith, h)) same
-  same_data (json d) (lines t) p q plain_d plain_e same = absurd (clash 123 109 refl (same_beginning (json d) (lines t) p q same))
-  same_data (lines t) (json e) p q plain_d plain_e same = absurd (clash 109 123 refl (same_beginning (lines t) (json e) p q same))
+  same_data : (l m : Form) → answer_form names first ≡ l → answer_form names second ≡ m → IsPlain (data_in l)
+      → IsPlain (data_in m) → form_text l ≡ form_text m → data_in l ≡ data_in m
+  same_data (json d) (json e) p q plain_d plain_e same =
+      compact_text-tells d e 10 plain_d plain_e (λ h. omega (arith, h)) same
+  same_data (json d) (lines t) p q plain_d plain_e same =
+      absurd (clash 123 109 refl (same_beginning (json d) (lines t) p q same))
+  same_data (lines t) (json e) p q plain_d plain_e same =
+      absurd (clash 109 123 refl (same_beginning (lines t) (json e) p q same))
   same_data (lines t) (lines u) p q plain_d plain_e same = refl
 
 -- ---- rows
 
 module _ (names : NameLists) (firms : IsNameList names.firms) (trades : IsNameList names.trades) where
   -- answers of one text are written alike as objects
-  told_apart : (first second : Said) → IsNamedAnswer names first → IsNamedAnswer names second → HasShortNumbers first → HasShortNumbers second
+  told_apart : (first second : Said) → IsNamedAnswer names first → IsNamedAnswer names second → HasShortNumbers first
+      → HasShortNumbers second
       → form_text (answer_form names first) ≡ form_text (answer_form names second) → IsSameObject names first second
   told_apart first second h k short short' same =
       let plain_first = answer_is_plain names firms trades first short in
       let plain_second = answer_is_plain names firms trades second short' in
       same_object names firms trades first second h k short short' same
-      (same_data names first second (answer_form names first) (answer_form names second) refl refl plain_first plain_second same)
+      (same_data names first second (answer_form names first) (answer_form names second) refl refl plain_first
+      plain_second same)
 
   -- the first byte of an answer that isn't rows
   abbrev start : Said → ℕ
   start said = beginning (answer_form names said)
 
   same_ends : (ends others : List Ends) → AreNamedEnds names ends → AreNamedEnds names others
-      → ((t : ℕ) → t < length names.trades → (seller_text names.firms (slice_get ends t) ≡ seller_text names.firms (slice_get others t)) × (buyer_text names.firms (slice_get ends t) ≡ buyer_text names.firms (slice_get others t)))
+      → ((t : ℕ) → t < length names.trades
+      → (seller_text names.firms (slice_get ends t) ≡ seller_text names.firms (slice_get others t))
+      × (buyer_text names.firms (slice_get ends t) ≡ buyer_text names.firms (slice_get others t)))
       → AreSameEnds ends others
   same_ends ends others named other_named h =
       let one_each = named.one_each in
       let counted = one_each ∙ sym other_named.one_each in
       record {
         same_sellers = same_places (λ trade. trade.seller) ends others counted
-            (λ t x y at at'. same_name_text names.firms firms x.seller y.seller (there (λ trade. IsNamed names.firms trade.seller) ends t x named.sellers at) (there (λ trade. IsNamed names.firms trade.seller) others t y other_named.sellers at')
-            (sym (ap (seller_text names.firms) at) ∙ (h t (inside t x at one_each)).0 ∙ ap (seller_text names.firms) at'));
+            (λ t x y at at'. same_name_text names.firms firms x.seller y.seller
+            (there (λ trade. IsNamed names.firms trade.seller) ends t x named.sellers at)
+            (there (λ trade. IsNamed names.firms trade.seller) others t y other_named.sellers at')
+            (sym (ap (seller_text names.firms) at) ∙ (h t (inside t x at one_each)).0
+            ∙ ap (seller_text names.firms) at'));
         same_buyers = same_places (λ trade. trade.buyer) ends others counted
-            (λ t x y at at'. same_name_text names.firms firms x.buyer y.buyer (there (λ trade. IsNamed names.firms trade.buyer) ends t x named.buyers at) (there (λ trade. IsNamed names.firms trade.buyer) others t y other_named.buyers at')
-            (sym (ap (buyer_text names.firms) at) ∙ (h t (inside t x at one_each)).1 ∙ ap (buyer_text names.firms) at'));
+            (λ t x y at at'. same_name_text names.firms firms x.buyer y.buyer
+            (there (λ trade. IsNamed names.firms trade.buyer) ends t x named.buyers at)
+            (there (λ trade. IsNamed names.firms trade.buyer) others t y other_named.buyers at')
+            (sym (ap (buyer_text names.firms) at) ∙ (h t (inside t x at one_each)).1
+            ∙ ap (buyer_text names.firms) at'));
       }
     where
-      inside : (t : ℕ) (x : Ends) → slice_get ends t ≡ Some x → length ends ≡ length names.trades → t < length names.trades
+      inside : (t : ℕ) (x : Ends) → slice_get ends t ≡ Some x → length ends ≡ length names.trades
+          → t < length names.trades
       inside t x at counted = let below = slice_get_within ends t x at in omega (arith, below, counted)
 
   -- rows that stand at each trade of a table agree at each trade
-  at_each : {A : Type 0} (xs ys : List A) (row other : ℕ → A → List (List ℕ)) → length xs ≡ length names.trades → length ys ≡ length names.trades
-      → ((k : ℕ) (x y : A) → slice_get xs k ≡ Some x → slice_get ys k ≡ Some y → read_back (row k x) ≡ read_back (other k y))
+  at_each : {A : Type 0} (xs ys : List A) (row other : ℕ → A → List (List ℕ)) → length xs ≡ length names.trades
+      → length ys ≡ length names.trades
+      → ((k : ℕ) (x y : A) → slice_get xs k ≡ Some x → slice_get ys k ≡ Some y
+      → read_back (row k x) ≡ read_back (other k y))
       → (t : ℕ) → t < length names.trades → (x : A) × (y : A) × (read_back (row t x) ≡ read_back (other t y))
   at_each xs ys row other counted other_counted rows t below =
       let x = item_at xs t (omega (arith, below, counted)) in
       let y = item_at ys t (omega (arith, below, other_counted)) in
       (x.0, y.0, rows t x.0 y.0 x.1 y.1)
 
-  same_prices_in_rows : (i : ℕ) (xs ys : List ℤ) (row other : ℕ → ℤ → List (List ℕ)) → length xs ≡ length ys → All (FitsSigned w64) xs → All (FitsSigned w64) ys
-      → ((k : ℕ) (x : ℤ) → get_or (read_back (row k x)) i [] ≡ signed_decimal x) → ((k : ℕ) (y : ℤ) → get_or (read_back (other k y)) i [] ≡ signed_decimal y)
-      → ((k : ℕ) (x y : ℤ) → slice_get xs k ≡ Some x → slice_get ys k ≡ Some y → read_back (row k x) ≡ read_back (other k y)) → xs ≡ ys
+  same_prices_in_rows : (i : ℕ) (xs ys : List ℤ) (row other : ℕ → ℤ → List (List ℕ)) → length xs ≡ length ys
+      → All (FitsSigned w64) xs → All (FitsSigned w64) ys
+      → ((k : ℕ) (x : ℤ) → get_or (read_back (row k x)) i [] ≡ signed_decimal x)
+      → ((k : ℕ) (y : ℤ) → get_or (read_back (other k y)) i [] ≡ signed_decimal y)
+      → ((k : ℕ) (x y : ℤ) → slice_get xs k ≡ Some x → slice_get ys k ≡ Some y
+      → read_back (row k x) ≡ read_back (other k y)) → xs ≡ ys
   same_prices_in_rows i xs ys row other counted short short' is other_is rows = same_items xs ys counted
-      (λ k x y at at'. same_decimal x y (there (FitsSigned w64) xs k x short at) (there (FitsSigned w64) ys k y short' at')
+      (λ k x y at at'. same_decimal x y (there (FitsSigned w64) xs k x short at)
+      (there (FitsSigned w64) ys k y short' at')
       (sym (is k x) ∙ ap (λ r. get_or r i []) (rows k x y at at') ∙ other_is k y))
 
   same_deals : (on : List ℕ) (prices : List ℤ) (ends : List Ends) (on' : List ℕ) (prices' : List ℤ) (ends' : List Ends)
-      → All (IsNamed names.trades) on → All (IsNamed names.trades) on' → length prices ≡ length names.trades → length prices' ≡ length names.trades
+      → All (IsNamed names.trades) on → All (IsNamed names.trades) on' → length prices ≡ length names.trades
+      → length prices' ≡ length names.trades
       → AreNamedEnds names ends → AreNamedEnds names ends' → All (FitsSigned w64) prices → All (FitsSigned w64) prices'
-      → rows_text (table deal_head (deal_row names on ends) prices) ≡ rows_text (table deal_head (deal_row names on' ends') prices')
+      → rows_text (table deal_head (deal_row names on ends) prices)
+      ≡ rows_text (table deal_head (deal_row names on' ends') prices')
       → AreSameOn on on' × (prices ≡ prices') × AreSameEnds ends ends'
   same_deals on prices ends on' prices' ends' named named' one_each one_each' ends_named ends_named' short short' e =
       let counted = one_each ∙ sym one_each' in
       let rows = same_tables (deal_row names on ends) (deal_row names on' ends') deal_head prices prices' counted e in
       let each = at_each prices prices' (deal_row names on ends) (deal_row names on' ends') one_each one_each' rows in (
         same_on (length names.trades) on on' named named' (λ t below. ap (λ r. get_or r 3 []) (each t below).2),
-        same_prices_in_rows 4 prices prices' (deal_row names on ends) (deal_row names on' ends') counted short short' (λ k x. refl) (λ k y. refl) rows,
-        same_ends ends ends' ends_named ends_named' (λ t below. (ap (λ r. get_or r 1 []) (each t below).2, ap (λ r. get_or r 2 []) (each t below).2)),
+        same_prices_in_rows 4 prices prices' (deal_row names on ends) (deal_row names on' ends') counted short short'
+            (λ k x. refl) (λ k y. refl) rows,
+        same_ends ends ends' ends_named ends_named' (λ t below. (
+          ap (λ r. get_or r 1 []) (each t below).2,
+          ap (λ r. get_or r 2 []) (each t below).2,
+        )),
       )
 
   same_prices_alone : (on : List ℕ) (prices : List ℤ) (on' : List ℕ) (prices' : List ℤ)
-      → All (IsNamed names.trades) on → All (IsNamed names.trades) on' → length prices ≡ length names.trades → length prices' ≡ length names.trades → All (FitsSigned w64) prices → All (FitsSigned w64) prices'
-      → rows_text (table price_head (price_row names on) prices) ≡ rows_text (table price_head (price_row names on') prices') → AreSameOn on on' × (prices ≡ prices')
+      → All (IsNamed names.trades) on → All (IsNamed names.trades) on' → length prices ≡ length names.trades
+      → length prices' ≡ length names.trades → All (FitsSigned w64) prices → All (FitsSigned w64) prices'
+      → rows_text (table price_head (price_row names on) prices)
+      ≡ rows_text (table price_head (price_row names on') prices') → AreSameOn on on' × (prices ≡ prices')
   same_prices_alone on prices on' prices' named named' one_each one_each' short short' e =
       let counted = one_each ∙ sym one_each' in
       let rows = same_tables (price_row names on) (price_row names on') price_head prices prices' counted e in
       let each = at_each prices prices' (price_row names on) (price_row names on') one_each one_each' rows in (
         same_on (length names.trades) on on' named named' (λ t below. ap (λ r. get_or r 1 []) (each t below).2),
-        same_prices_in_rows 2 prices prices' (price_row names on) (price_row names on') counted short short' (λ k x. refl) (λ k y. refl) rows,
+        same_prices_in_rows 2 prices prices' (price_row names on) (price_row names on') counted short short'
+            (λ k x. refl) (λ k y. refl) rows,
       )
 
-  same_range_rows : (on : List ℕ) (ranges : List Range) (ends : List Ends) (on' : List ℕ) (ranges' : List Range) (ends' : List Ends)
-      → All (IsNamed names.trades) on → All (IsNamed names.trades) on' → length ranges ≡ length names.trades → length ranges' ≡ length names.trades
+  same_range_rows : (on : List ℕ) (ranges : List Range) (ends : List Ends) (on' : List ℕ) (ranges' : List Range)
+      (ends' : List Ends)
+      → All (IsNamed names.trades) on → All (IsNamed names.trades) on' → length ranges ≡ length names.trades
+      → length ranges' ≡ length names.trades
       → AreNamedEnds names ends → AreNamedEnds names ends' → All HasShortBounds ranges → All HasShortBounds ranges'
-      → rows_text (table range_head (range_row names on ends) ranges) ≡ rows_text (table range_head (range_row names on' ends') ranges')
+      → rows_text (table range_head (range_row names on ends) ranges)
+      ≡ rows_text (table range_head (range_row names on' ends') ranges')
       → AreSameOn on on' × AreSameBounds ranges ranges' × AreSameEnds ends ends'
-  same_range_rows on ranges ends on' ranges' ends' named named' one_each one_each' ends_named ends_named' short short' e =
+  same_range_rows on ranges ends on' ranges' ends' named named' one_each one_each' ends_named ends_named' short short'
+      e =
       let counted = one_each ∙ sym one_each' in
-      let rows = same_tables (range_row names on ends) (range_row names on' ends') range_head ranges ranges' counted e in
+      let rows = same_tables (range_row names on ends) (range_row names on' ends') range_head ranges ranges' counted e
+      in
       let each = at_each ranges ranges' (range_row names on ends) (range_row names on' ends') one_each one_each' rows in
       let bounds : AreSameBounds ranges ranges' = record {
         same_lows = same_places (λ range. range.low) ranges ranges' counted
-            (λ t x y at at'. same_bound_text x.low y.low (there HasShortBounds ranges t x short at).low (there HasShortBounds ranges' t y short' at').low (ap (λ r. get_or r 4 []) (rows t x y at at')));
+            (λ t x y at at'. same_bound_text x.low y.low (there HasShortBounds ranges t x short at).low
+            (there HasShortBounds ranges' t y short' at').low (ap (λ r. get_or r 4 []) (rows t x y at at')));
         same_highs = same_places (λ range. range.high) ranges ranges' counted
-            (λ t x y at at'. same_bound_text x.high y.high (there HasShortBounds ranges t x short at).high (there HasShortBounds ranges' t y short' at').high (ap (λ r. get_or r 5 []) (rows t x y at at')));
+            (λ t x y at at'. same_bound_text x.high y.high (there HasShortBounds ranges t x short at).high
+            (there HasShortBounds ranges' t y short' at').high (ap (λ r. get_or r 5 []) (rows t x y at at')));
       } in (
         same_on (length names.trades) on on' named named' (λ t below. ap (λ r. get_or r 3 []) (each t below).2),
         bounds,
-        same_ends ends ends' ends_named ends_named' (λ t below. (ap (λ r. get_or r 1 []) (each t below).2, ap (λ r. get_or r 2 []) (each t below).2)),
+        same_ends ends ends' ends_named ends_named' (λ t below. (
+          ap (λ r. get_or r 1 []) (each t below).2,
+          ap (λ r. get_or r 2 []) (each t below).2,
+        )),
       )
 
-  same_firm_row : (k : ℕ) (x y : Holding) → IsNamedHolding names.trades x → IsNamedHolding names.trades y → IsShortHolding x → IsShortHolding y
+  same_firm_row : (k : ℕ) (x y : Holding) → IsNamedHolding names.trades x → IsNamedHolding names.trades y
+      → IsShortHolding x → IsShortHolding y
       → read_back (firm_row names k x) ≡ read_back (firm_row names k y) → x ≡ y
   same_firm_row k x y h i short short' e =
       let worth = same_bound_text x.worth y.worth short.worth short'.worth (ap (λ r. get_or r 2 []) e) in
       let utility = same_bound_text x.utility y.utility short.utility short'.utility (ap (λ r. get_or r 3 []) e) in
-      let best_utility = same_decimal x.best_utility y.best_utility short.best_utility short'.best_utility (ap (λ r. get_or r 4 []) e) in
+      let best_utility =
+      same_decimal x.best_utility y.best_utility short.best_utility short'.best_utility (ap (λ r. get_or r 4 []) e)
+      in
       let gain = same_bound_text x.gain y.gain short.gain short'.gain (ap (λ r. get_or r 5 []) e) in
       let has = same_bundle names.trades trades x.has y.has h.has i.has (ap (λ r. get_or r 6 []) e) in
       let best = same_bundle names.trades trades x.best y.best h.best i.best (ap (λ r. get_or r 7 []) e) in
-      λ j. record { has = has j; worth = worth j; utility = utility j; best = best j; best_utility = best_utility j; gain = gain j }
+      λ j. record {
+        has = has j;
+        worth = worth j;
+        utility = utility j;
+        best = best j;
+        best_utility =
+            best_utility j;
+        gain = gain j;
+      }
 
-  same_firm_rows : (xs ys : List Holding) → length xs ≡ length ys → All (IsNamedHolding names.trades) xs → All (IsNamedHolding names.trades) ys → All IsShortHolding xs → All IsShortHolding ys
+  same_firm_rows : (xs ys : List Holding) → length xs ≡ length ys → All (IsNamedHolding names.trades) xs
+      → All (IsNamedHolding names.trades) ys → All IsShortHolding xs → All IsShortHolding ys
       → rows_text (table firm_head (firm_row names) xs) ≡ rows_text (table firm_head (firm_row names) ys) → xs ≡ ys
   same_firm_rows xs ys counted h i short short' e = same_items xs ys counted
-      (λ k x y at at'. same_firm_row k x y (there (IsNamedHolding names.trades) xs k x h at) (there (IsNamedHolding names.trades) ys k y i at') (there IsShortHolding xs k x short at) (there IsShortHolding ys k y short' at')
+      (λ k x y at at'. same_firm_row k x y (there (IsNamedHolding names.trades) xs k x h at)
+      (there (IsNamedHolding names.trades) ys k y i at') (there IsShortHolding xs k x short at)
+      (there IsShortHolding ys k y short' at')
       (same_tables (firm_row names) (firm_row names) firm_head xs ys counted e k x y at at'))
 
   abbrev byte : ℕ → List ℕ → ℕ
   byte k text = get_or text k 0
 
   -- heads of different tables differ in a byte, and rows begin with another byte than other answers
-  same_in_rows : (first second : Said) → IsNamedAnswer names first → IsNamedAnswer names second → HasShortNumbers first → HasShortNumbers second
-      → text_of (table_of names first AsRows) (answer_form names first) ≡ text_of (table_of names second AsRows) (answer_form names second) → IsSameInRows names first second
+  same_in_rows : (first second : Said) → IsNamedAnswer names first → IsNamedAnswer names second → HasShortNumbers first
+      → HasShortNumbers second
+      → text_of (table_of names first AsRows) (answer_form names first)
+      ≡ text_of (table_of names second AsRows) (answer_form names second) → IsSameInRows names first second
   unfolding fields_text
-  same_in_rows (Supported on prices ends) (Supported on' prices' ends') h k short short' e = same_deals on prices ends on' prices' ends' h.0 k.0 h.1 k.1 h.2 k.2 short short' e
-  same_in_rows (Solved on prices surplus ends) (Solved on' prices' surplus' ends') h k short short' e = same_prices_alone on prices on' prices' h.0 k.0 h.1 k.1 short.0 short'.0 e
-  same_in_rows (Ranges on ranges ends) (Ranges on' ranges' ends') h k short short' e = same_range_rows on ranges ends on' ranges' ends' h.0 k.0 h.1 k.1 h.3 k.3 short short' e
-  same_in_rows (FirmsIs content holdings surplus) (FirmsIs content' holdings' surplus') h k short short' e = same_firm_rows holdings holdings' (h.0 ∙ sym k.0) h.1 k.1 short.1 short'.1 e
-  same_in_rows (Supported on prices ends) (Solved on' prices' surplus' ends') h k short short' e = absurd (clash 115 111 refl (ap (byte 6) e))
-  same_in_rows (Supported on prices ends) (Ranges on' ranges' ends') h k short short' e = absurd (clash 112 108 refl (ap (byte 22) e))
-  same_in_rows (Supported on prices ends) (FirmsIs content' holdings' surplus') h k short short' e = absurd (clash 116 102 refl (ap (byte 0) e))
-  same_in_rows (Solved on prices surplus ends) (Supported on' prices' ends') h k short short' e = absurd (clash 111 115 refl (ap (byte 6) e))
-  same_in_rows (Solved on prices surplus ends) (Ranges on' ranges' ends') h k short short' e = absurd (clash 111 115 refl (ap (byte 6) e))
-  same_in_rows (Solved on prices surplus ends) (FirmsIs content' holdings' surplus') h k short short' e = absurd (clash 116 102 refl (ap (byte 0) e))
-  same_in_rows (Ranges on ranges ends) (Supported on' prices' ends') h k short short' e = absurd (clash 108 112 refl (ap (byte 22) e))
-  same_in_rows (Ranges on ranges ends) (Solved on' prices' surplus' ends') h k short short' e = absurd (clash 115 111 refl (ap (byte 6) e))
-  same_in_rows (Ranges on ranges ends) (FirmsIs content' holdings' surplus') h k short short' e = absurd (clash 116 102 refl (ap (byte 0) e))
-  same_in_rows (FirmsIs content holdings surplus) (Supported on' prices' ends') h k short short' e = absurd (clash 102 116 refl (ap (byte 0) e))
-  same_in_rows (FirmsIs content holdings surplus) (Solved on' prices' surplus' ends') h k short short' e = absurd (clash 102 116 refl (ap (byte 0) e))
-  same_in_rows (FirmsIs content holdings surplus) (Ranges on' ranges' ends') h k short short' e = absurd (clash 102 116 refl (ap (byte 0) e))
-  same_in_rows (Supported on prices ends) second h k short short' e = absurd (clash 116 (start second) refl (ap (byte 0) e ∙ begins names second))
-  same_in_rows (Solved on prices surplus ends) second h k short short' e = absurd (clash 116 (start second) refl (ap (byte 0) e ∙ begins names second))
-  same_in_rows (Ranges on ranges ends) second h k short short' e = absurd (clash 116 (start second) refl (ap (byte 0) e ∙ begins names second))
-  same_in_rows (FirmsIs content holdings surplus) second h k short short' e = absurd (clash 102 (start second) refl (ap (byte 0) e ∙ begins names second))
-  same_in_rows first (Supported on prices ends) h k short short' e = absurd (clash 116 (start first) refl (ap (byte 0) (sym e) ∙ begins names first))
-  same_in_rows first (Solved on prices surplus ends) h k short short' e = absurd (clash 116 (start first) refl (ap (byte 0) (sym e) ∙ begins names first))
-  same_in_rows first (Ranges on ranges ends) h k short short' e = absurd (clash 116 (start first) refl (ap (byte 0) (sym e) ∙ begins names first))
-  same_in_rows first (FirmsIs content holdings surplus) h k short short' e = absurd (clash 102 (start first) refl (ap (byte 0) (sym e) ∙ begins names first))
+  same_in_rows (Supported on prices ends) (Supported on' prices' ends') h k short short' e =
+      same_deals on prices ends on' prices' ends' h.0 k.0 h.1 k.1 h.2 k.2 short short' e
+  same_in_rows (Solved on prices surplus ends) (Solved on' prices' surplus' ends') h k short short' e =
+      same_prices_alone on prices on' prices' h.0 k.0 h.1 k.1 short.0 short'.0 e
+  same_in_rows (Ranges on ranges ends) (Ranges on' ranges' ends') h k short short' e =
+      same_range_rows on ranges ends on' ranges' ends' h.0 k.0 h.1 k.1 h.3 k.3 short short' e
+  same_in_rows (FirmsIs content holdings surplus) (FirmsIs content' holdings' surplus') h k short short' e =
+      same_firm_rows holdings holdings' (h.0 ∙ sym k.0) h.1 k.1 short.1 short'.1 e
+  same_in_rows (Supported on prices ends) (Solved on' prices' surplus' ends') h k short short' e =
+      absurd (clash 115 111 refl (ap (byte 6) e))
+  same_in_rows (Supported on prices ends) (Ranges on' ranges' ends') h k short short' e =
+      absurd (clash 112 108 refl (ap (byte 22) e))
+  same_in_rows (Supported on prices ends) (FirmsIs content' holdings' surplus') h k short short' e =
+      absurd (clash 116 102 refl (ap (byte 0) e))
+  same_in_rows (Solved on prices surplus ends) (Supported on' prices' ends') h k short short' e =
+      absurd (clash 111 115 refl (ap (byte 6) e))
+  same_in_rows (Solved on prices surplus ends) (Ranges on' ranges' ends') h k short short' e =
+      absurd (clash 111 115 refl (ap (byte 6) e))
+  same_in_rows (Solved on prices surplus ends) (FirmsIs content' holdings' surplus') h k short short' e =
+      absurd (clash 116 102 refl (ap (byte 0) e))
+  same_in_rows (Ranges on ranges ends) (Supported on' prices' ends') h k short short' e =
+      absurd (clash 108 112 refl (ap (byte 22) e))
+  same_in_rows (Ranges on ranges ends) (Solved on' prices' surplus' ends') h k short short' e =
+      absurd (clash 115 111 refl (ap (byte 6) e))
+  same_in_rows (Ranges on ranges ends) (FirmsIs content' holdings' surplus') h k short short' e =
+      absurd (clash 116 102 refl (ap (byte 0) e))
+  same_in_rows (FirmsIs content holdings surplus) (Supported on' prices' ends') h k short short' e =
+      absurd (clash 102 116 refl (ap (byte 0) e))
+  same_in_rows (FirmsIs content holdings surplus) (Solved on' prices' surplus' ends') h k short short' e =
+      absurd (clash 102 116 refl (ap (byte 0) e))
+  same_in_rows (FirmsIs content holdings surplus) (Ranges on' ranges' ends') h k short short' e =
+      absurd (clash 102 116 refl (ap (byte 0) e))
+  same_in_rows (Supported on prices ends) second h k short short' e =
+      absurd (clash 116 (start second) refl (ap (byte 0) e ∙ begins names second))
+  same_in_rows (Solved on prices surplus ends) second h k short short' e =
+      absurd (clash 116 (start second) refl (ap (byte 0) e ∙ begins names second))
+  same_in_rows (Ranges on ranges ends) second h k short short' e =
+      absurd (clash 116 (start second) refl (ap (byte 0) e ∙ begins names second))
+  same_in_rows (FirmsIs content holdings surplus) second h k short short' e =
+      absurd (clash 102 (start second) refl (ap (byte 0) e ∙ begins names second))
+  same_in_rows first (Supported on prices ends) h k short short' e =
+      absurd (clash 116 (start first) refl (ap (byte 0) (sym e) ∙ begins names first))
+  same_in_rows first (Solved on prices surplus ends) h k short short' e =
+      absurd (clash 116 (start first) refl (ap (byte 0) (sym e) ∙ begins names first))
+  same_in_rows first (Ranges on ranges ends) h k short short' e =
+      absurd (clash 116 (start first) refl (ap (byte 0) (sym e) ∙ begins names first))
+  same_in_rows first (FirmsIs content holdings surplus) h k short short' e =
+      absurd (clash 102 (start first) refl (ap (byte 0) (sym e) ∙ begins names first))
   same_in_rows first second h k short short' e = told_apart first second h k short short' e
 
-  same_in_wide_rows : (first second : Said) → IsNamedAnswer names first → IsNamedAnswer names second → HasShortNumbers first → HasShortNumbers second
-      → text_of (table_of names first AsWideRows) (answer_form names first) ≡ text_of (table_of names second AsWideRows) (answer_form names second) → IsSameInWideRows names first second
-  same_in_wide_rows (Solved on prices surplus ends) (Solved on' prices' surplus' ends') h k short short' e = same_deals on prices ends on' prices' ends' h.0 k.0 h.1 k.1 h.2 k.2 short.0 short'.0 e
-  same_in_wide_rows (Solved on prices surplus ends) second h k short short' e = absurd (clash 116 (start second) refl (ap (byte 0) e ∙ begins names second))
-  same_in_wide_rows first (Solved on prices surplus ends) h k short short' e = absurd (clash 116 (start first) refl (ap (byte 0) (sym e) ∙ begins names first))
+  same_in_wide_rows : (first second : Said) → IsNamedAnswer names first → IsNamedAnswer names second
+      → HasShortNumbers first → HasShortNumbers second
+      → text_of (table_of names first AsWideRows) (answer_form names first)
+      ≡ text_of (table_of names second AsWideRows) (answer_form names second) → IsSameInWideRows names first second
+  same_in_wide_rows (Solved on prices surplus ends) (Solved on' prices' surplus' ends') h k short short' e =
+      same_deals on prices ends on' prices' ends' h.0 k.0 h.1 k.1 h.2 k.2 short.0 short'.0 e
+  same_in_wide_rows (Solved on prices surplus ends) second h k short short' e =
+      absurd (clash 116 (start second) refl (ap (byte 0) e ∙ begins names second))
+  same_in_wide_rows first (Solved on prices surplus ends) h k short short' e =
+      absurd (clash 116 (start first) refl (ap (byte 0) (sym e) ∙ begins names first))
   same_in_wide_rows first second h k short short' e = told_apart first second h k short short' e
 
 pub answers_told_apart : AnswersAreToldApart
 unfolding answer_line
 answers_told_apart AsObject names first second firms trades h k short short' same =
-    told_apart names firms trades first second h k short short' (object_line names first ∙ same ∙ sym (object_line names second))
-answers_told_apart AsRows names first second firms trades h k short short' same = same_in_rows names firms trades first second h k short short' same
-answers_told_apart AsWideRows names first second firms trades h k short short' same = same_in_wide_rows names firms trades first second h k short short' same
+    told_apart names firms trades first second h k short short' (object_line names first ∙ same
+    ∙ sym (object_line names second))
+answers_told_apart AsRows names first second firms trades h k short short' same =
+    same_in_rows names firms trades first second h k short short' same
+answers_told_apart AsWideRows names first second firms trades h k short short' same =
+    same_in_wide_rows names firms trades first second h k short short' same

@@ -20,15 +20,18 @@ module _ (names : List (List ℕ)) where
   abbrev blank : ℕ → List ℕ
   blank k = if k == 0 then [] else 32 ∷ []
 
-  pub bundle-more : (ks : List ℕ) (k j : ℕ) → slice_get ks k ≡ Some j → (bundle_text names (take k ks) ++ blank k) ++ name_text names j ≡ bundle_text names (take (k + 1) ks)
+  pub bundle-more : (ks : List ℕ) (k j : ℕ) → slice_get ks k ≡ Some j
+      → (bundle_text names (take k ks) ++ blank k) ++ name_text names j ≡ bundle_text names (take (k + 1) ks)
   bundle-more [] k j at = absurd (none-some j at)
   bundle-more (i ∷ ks) zero j at = ap (name_text names) (sym (same_Some i j at)) ∙ sym (append-nil (name_text names i))
   bundle-more (i ∷ ks) (suc k) j at = rw (ne_eqb (suc k) 0 (λ same. omega (arith, same)))
       (ap (λ l. l ++ name_text names j) (append_assoc (name_text names i) (after (take k ks)) (32 ∷ []))
       ∙ append_assoc (name_text names i) (after (take k ks) ++ 32 ∷ []) (name_text names j)
       ∙ ap (λ l. name_text names i ++ l)
-      (append_assoc (after (take k ks)) (32 ∷ []) (name_text names j) ∙ ap (λ l. after (take k ks) ++ 32 ∷ l) (sym (append-nil (name_text names j)))
-      ∙ sym (flat_map-append (λ j. 32 ∷ name_text names j) (take k ks) (j ∷ [])) ∙ ap after (sym (take-suc-at ks k j at)))
+      (append_assoc (after (take k ks)) (32 ∷ []) (name_text names j)
+      ∙ ap (λ l. after (take k ks) ++ 32 ∷ l) (sym (append-nil (name_text names j)))
+      ∙ sym (flat_map-append (λ j. 32 ∷ name_text names j) (take k ks) (j ∷ []))
+      ∙ ap after (sym (take-suc-at ks k j at)))
       ∙ ap (λ n. bundle_text names (take n (i ∷ ks))) (sym (add-one (suc k))))
 
 -- ---- names that are told apart
@@ -69,18 +72,22 @@ module _ (names : List (List ℕ)) (kept : IsNameList names) where
   a_name k there = kept.named k (name_text names k) (name_there k there)
 
   pub same_name_text : (j k : ℕ) → IsNamed names j → IsNamed names k → name_text names j ≡ name_text names k → j ≡ k
-  same_name_text j k there_j there_k e = kept.once j k (name_text names k) (name_there j there_j ∙ ap Some e) (name_there k there_k)
+  same_name_text j k there_j there_k e =
+      kept.once j k (name_text names k) (name_there j there_j ∙ ap Some e) (name_there k there_k)
 
-  same_by_names : (xs ys : List ℕ) → All (IsNamed names) xs → All (IsNamed names) ys → map (name_text names) xs ≡ map (name_text names) ys → xs ≡ ys
+  same_by_names : (xs ys : List ℕ) → All (IsNamed names) xs → All (IsNamed names) ys
+      → map (name_text names) xs ≡ map (name_text names) ys → xs ≡ ys
   same_by_names [] [] h k e = refl
   same_by_names [] (y ∷ ys) h k e = absurd (omega (arith, ap length e))
   same_by_names (x ∷ xs) [] h k e = absurd (omega (arith, ap length e))
   same_by_names (x ∷ xs) (y ∷ ys) h k e =
-      let first = same_name_text x y (All-head (IsNamed names) x xs h) (All-head (IsNamed names) y ys k) (ap (λ l. get_or l 0 []) e) in
+      let first = same_name_text x y (All-head (IsNamed names) x xs h) (All-head (IsNamed names) y ys k)
+      (ap (λ l. get_or l 0 []) e) in
       let rest = same_by_names xs ys (All-tail (IsNamed names) x xs h) (All-tail (IsNamed names) y ys k) (ap tail e) in
       λ i. first i ∷ rest i
 
-  parted_names : (w : List ℕ) (ks : List ℕ) → list_all is_name_byte w ≡ true → All (IsNamed names) ks → parted (w ++ flat_map (λ j. 32 ∷ name_text names j) ks) ≡ w ∷ map (name_text names) ks
+  parted_names : (w : List ℕ) (ks : List ℕ) → list_all is_name_byte w ≡ true → All (IsNamed names) ks
+      → parted (w ++ flat_map (λ j. 32 ∷ name_text names j) ks) ≡ w ∷ map (name_text names) ks
   parted_names w [] h named = ap parted (append-nil w) ∙ parted-one w h
   parted_names w (k ∷ ks) h named =
       let name = and_parts _ _ (a_name k (All-head (IsNamed names) k ks named)) in
@@ -91,10 +98,12 @@ module _ (names : List (List ℕ)) (kept : IsNameList names) where
   some_name k ks named e =
       let here = All-head (IsNamed names) k ks named in
       let name = and_parts _ _ (a_name k here) in
-      let none = ap (λ l. get_or (parted l) 0 []) e ∙ ap (λ l. get_or l 0 []) (parted_names (name_text names k) ks name.1 (All-tail (IsNamed names) k ks named)) in
+      let none = ap (λ l. get_or (parted l) 0 []) e ∙ ap (λ l. get_or l 0 [])
+      (parted_names (name_text names k) ks name.1 (All-tail (IsNamed names) k ks named)) in
       true≢false (sym (a_name k here) ∙ ap is_name (sym none))
 
-  pub same_bundle : (xs ys : List ℕ) → All (IsNamed names) xs → All (IsNamed names) ys → bundle_text names xs ≡ bundle_text names ys → xs ≡ ys
+  pub same_bundle : (xs ys : List ℕ) → All (IsNamed names) xs → All (IsNamed names) ys
+      → bundle_text names xs ≡ bundle_text names ys → xs ≡ ys
   same_bundle [] [] h k e = refl
   same_bundle [] (y ∷ ys) h k e = absurd (some_name y ys k e)
   same_bundle (x ∷ xs) [] h k e = absurd (some_name x xs h (sym e))

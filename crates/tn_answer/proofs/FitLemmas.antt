@@ -9,7 +9,8 @@ use mir.Val.{SFits}
 pub wide : (z : ℤ) → FitsSigned w64 z → SFits w128 z
 wide z h = omega (arith, ints, h)
 
-pub fits : (prices : List ℤ) (k : ℕ) (price : ℤ) → All (FitsSigned w64) prices → slice_get prices k ≡ Some price → SFits w128 price
+pub fits : (prices : List ℤ) (k : ℕ) (price : ℤ) → All (FitsSigned w64) prices → slice_get prices k ≡ Some price
+    → SFits w128 price
 fits prices k price short at =
     let here = short k price (slice_get_within prices k price at) in
     let same = get_or_from_slice_get prices k price price at in

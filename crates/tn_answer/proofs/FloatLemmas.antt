@@ -40,7 +40,8 @@ module _ (names : List (List ℕ)) where
 
   prices_have_no_float : (k : ℕ) (prices : List ℤ) → has_float (array (items_of (prices_from names k prices))) ≡ false
   prices_have_no_float k [] = refl
-  prices_have_no_float k (price ∷ prices) = neither _ _ (neither _ _ (integer_is_no_float price) refl) (prices_have_no_float (suc k) prices)
+  prices_have_no_float k (price ∷ prices) =
+      neither _ _ (neither _ _ (integer_is_no_float price) refl) (prices_have_no_float (suc k) prices)
 
   nodes_have_no_float : (nodes : List (Option ℕ)) → has_float (nodes_data names nodes) ≡ false
   nodes_have_no_float [] = refl
@@ -48,7 +49,8 @@ module _ (names : List (List ℕ)) where
 
   contracts_have_no_float : (contracts : List Contract) → has_float (contracts_data names contracts) ≡ false
   contracts_have_no_float [] = refl
-  contracts_have_no_float (contract ∷ contracts) = neither _ _ (neither _ _ (integer_is_no_float contract.price) refl) (contracts_have_no_float contracts)
+  contracts_have_no_float (contract ∷ contracts) =
+      neither _ _ (neither _ _ (integer_is_no_float contract.price) refl) (contracts_have_no_float contracts)
 
   bound_has_no_float : (bound : Option ℤ) → has_float (bound_data bound) ≡ false
   bound_has_no_float None = refl
@@ -57,16 +59,20 @@ module _ (names : List (List ℕ)) where
   range_has_no_float : (k : ℕ) (range : Range) → has_float (range_data names k range) ≡ false
   range_has_no_float k range =
       neither _ _ (bound_has_no_float range.high)
-      (neither _ _ (nodes_have_no_float range.high_path) (neither _ _ (bound_has_no_float range.low) (neither _ _ (nodes_have_no_float range.low_path) refl)))
+      (neither _ _ (nodes_have_no_float range.high_path) (neither _ _ (bound_has_no_float range.low)
+      (neither _ _ (nodes_have_no_float range.low_path) refl)))
 
-  ranges_have_no_float : (k : ℕ) (ranges : List Range) → has_float (array (items_of (each_from (range_data names) k ranges))) ≡ false
+  ranges_have_no_float : (k : ℕ) (ranges : List Range)
+      → has_float (array (items_of (each_from (range_data names) k ranges))) ≡ false
   ranges_have_no_float k [] = refl
-  ranges_have_no_float k (range ∷ ranges) = neither _ _ (range_has_no_float k range) (ranges_have_no_float (suc k) ranges)
+  ranges_have_no_float k (range ∷ ranges) =
+      neither _ _ (range_has_no_float k range) (ranges_have_no_float (suc k) ranges)
 
   states_have_no_float : (states : List State) → has_float (states_data names states) ≡ false
   states_have_no_float [] = refl
   states_have_no_float (state ∷ states) =
-      neither _ _ (neither _ _ (names_have_no_float state.on) (neither _ _ (contracts_have_no_float state.prices) (neither _ _ (integer_is_no_float state.surplus) refl)))
+      neither _ _ (neither _ _ (names_have_no_float state.on)
+      (neither _ _ (contracts_have_no_float state.prices) (neither _ _ (integer_is_no_float state.surplus) refl)))
       (states_have_no_float states)
 
   step_has_no_float : (step : PlaceStep) → has_float (step_data names step) ≡ false
@@ -82,19 +88,25 @@ module _ (names : List (List ℕ)) where
   fault_has_no_float fault None = neither _ _ (place_has_no_float fault.place) refl
   fault_has_no_float fault (Some shown) =
       neither _ _ (option_has_no_float shown.at)
-      (neither _ _ (place_has_no_float fault.place) (neither _ _ (names_have_no_float shown.x) (neither _ _ (names_have_no_float shown.y) refl)))
+      (neither _ _ (place_has_no_float fault.place) (neither _ _ (names_have_no_float shown.x)
+      (neither _ _ (names_have_no_float shown.y) refl)))
 
-reason_has_no_float : (names : NameLists) (reason : Reason) → has_float (answer (codes "invalid") (reason_members names reason)) ≡ false
+reason_has_no_float : (names : NameLists) (reason : Reason)
+    → has_float (answer (codes "invalid") (reason_members names reason)) ≡ false
 reason_has_no_float names (Surplus surplus) = neither _ _ (integer_is_no_float surplus) refl
 reason_has_no_float names (Gain firm gain) = neither _ _ (bound_has_no_float names.trades gain) refl
 reason_has_no_float names (Cost cost) = neither _ _ (integer_is_no_float cost) refl
 reason_has_no_float names (Over over) = neither _ _ (integer_is_no_float over) refl
 reason_has_no_float names (BetterIs firm bundle) = neither _ _ (names_have_no_float names.trades bundle) refl
-reason_has_no_float names (Exchange firm x y at) = neither _ _ (option_has_no_float names.trades at) (neither _ _ (names_have_no_float names.trades x) (neither _ _ (names_have_no_float names.trades y) refl))
-reason_has_no_float names (Whole on surplus) = neither _ _ (names_have_no_float names.trades on) (neither _ _ (integer_is_no_float surplus) refl)
+reason_has_no_float names (Exchange firm x y at) =
+    neither _ _ (option_has_no_float names.trades at) (neither _ _ (names_have_no_float names.trades x)
+    (neither _ _ (names_have_no_float names.trades y) refl))
+reason_has_no_float names (Whole on surplus) =
+    neither _ _ (names_have_no_float names.trades on) (neither _ _ (integer_is_no_float surplus) refl)
 reason_has_no_float names reason = refl
 
-holdings_have_no_float : (names : NameLists) (k : ℕ) (holdings : List Holding) → has_float (array (items_of (each_from (holding_data names) k holdings))) ≡ false
+holdings_have_no_float : (names : NameLists) (k : ℕ) (holdings : List Holding)
+    → has_float (array (items_of (each_from (holding_data names) k holdings))) ≡ false
 holdings_have_no_float names k [] = refl
 holdings_have_no_float names k (holding ∷ holdings) = neither _ _ here (holdings_have_no_float names (suc k) holdings)
   where
@@ -104,7 +116,8 @@ holdings_have_no_float names k (holding ∷ holdings) = neither _ _ here (holdin
         (neither _ _ (integer_is_no_float holding.best_utility)
         (neither _ _ (bound_has_no_float names.trades holding.gain)
         (neither _ _ (names_have_no_float names.trades holding.has)
-        (neither _ _ (bound_has_no_float names.trades holding.utility) (neither _ _ (bound_has_no_float names.trades holding.worth) refl)))))
+        (neither _ _ (bound_has_no_float names.trades holding.utility)
+        (neither _ _ (bound_has_no_float names.trades holding.worth) refl)))))
 
 numbers_have_no_float : (numbers : List ℕ) → has_float (numbers_data numbers) ≡ false
 numbers_have_no_float [] = refl
@@ -116,22 +129,33 @@ answer_has_no_float names ReadFault = refl
 answer_has_no_float names NoMemory = refl
 answer_has_no_float names (FaultIs fault) = fault_has_no_float names.trades fault fault.shown
 answer_has_no_float names (Equilibrium surplus) = neither _ _ (integer_is_no_float surplus) refl
-answer_has_no_float names (Better firm bundle gain) = neither _ _ (names_have_no_float names.trades bundle) (neither _ _ (integer_is_no_float gain) refl)
+answer_has_no_float names (Better firm bundle gain) =
+    neither _ _ (names_have_no_float names.trades bundle) (neither _ _ (integer_is_no_float gain) refl)
 answer_has_no_float names (Impossible firm) = refl
 answer_has_no_float names Accepted = refl
-answer_has_no_float names (ExchangeFails firm x y at) = neither _ _ (option_has_no_float names.trades at) (neither _ _ (names_have_no_float names.trades x) (neither _ _ (names_have_no_float names.trades y) refl))
+answer_has_no_float names (ExchangeFails firm x y at) =
+    neither _ _ (option_has_no_float names.trades at) (neither _ _ (names_have_no_float names.trades x)
+    (neither _ _ (names_have_no_float names.trades y) refl))
 answer_has_no_float names (Supported on prices ends) = neither _ _ (prices_have_no_float names.trades 0 prices) refl
-answer_has_no_float names (Cycle nodes cost) = neither _ _ (integer_is_no_float cost) (neither _ _ (nodes_have_no_float names.trades nodes) refl)
+answer_has_no_float names (Cycle nodes cost) =
+    neither _ _ (integer_is_no_float cost) (neither _ _ (nodes_have_no_float names.trades nodes) refl)
 answer_has_no_float names (Solved on prices surplus ends) =
-    neither _ _ (names_have_no_float names.trades on) (neither _ _ (prices_have_no_float names.trades 0 prices) (neither _ _ (integer_is_no_float surplus) refl))
+    neither _ _ (names_have_no_float names.trades on) (neither _ _ (prices_have_no_float names.trades 0 prices)
+    (neither _ _ (integer_is_no_float surplus) refl))
 answer_has_no_float names (Drill size start firms surplus) = neither _ _ (integer_is_no_float surplus) refl
-answer_has_no_float names (Ranges on ranges ends) = neither _ _ (names_have_no_float names.trades on) (neither _ _ (ranges_have_no_float names.trades 0 ranges) refl)
+answer_has_no_float names (Ranges on ranges ends) =
+    neither _ _ (names_have_no_float names.trades on) (neither _ _ (ranges_have_no_float names.trades 0 ranges) refl)
 answer_has_no_float names (Session edits) = neither _ _ (states_have_no_float names.trades edits) refl
-answer_has_no_float names (Drops firm keeps gain over) = neither _ _ (bound_has_no_float names.trades gain) (neither _ _ (names_have_no_float names.trades keeps) (neither _ _ (integer_is_no_float over) refl))
-answer_has_no_float names (Completes prices over) = neither _ _ (integer_is_no_float over) (neither _ _ (prices_have_no_float names.trades 0 prices) refl)
+answer_has_no_float names (Drops firm keeps gain over) =
+    neither _ _ (bound_has_no_float names.trades gain) (neither _ _ (names_have_no_float names.trades keeps)
+    (neither _ _ (integer_is_no_float over) refl))
+answer_has_no_float names (Completes prices over) =
+    neither _ _ (integer_is_no_float over) (neither _ _ (prices_have_no_float names.trades 0 prices) refl)
 answer_has_no_float names Valid = refl
 answer_has_no_float names (PageIs page) = refl
-answer_has_no_float names (Firms content firms surplus) = neither _ _ (holdings_have_no_float names 0 firms) (neither _ _ (bound_has_no_float names.trades surplus) refl)
+answer_has_no_float names (Firms content firms surplus) =
+    neither _ _ (holdings_have_no_float names 0 firms) (neither _ _ (bound_has_no_float names.trades surplus) refl)
 answer_has_no_float names (Invalid reason) = reason_has_no_float names reason
 answer_has_no_float names (Cases count failed) = neither _ _ (numbers_have_no_float failed) refl
-answer_has_no_float names (Blocks contracts over) = neither _ _ (contracts_have_no_float names.trades contracts) (neither _ _ (integer_is_no_float over) refl)
+answer_has_no_float names (Blocks contracts over) =
+    neither _ _ (contracts_have_no_float names.trades contracts) (neither _ _ (integer_is_no_float over) refl)

@@ -31,67 +31,83 @@ both : (a b : Bool) → (a && b) ≡ true → (a ≡ true) × (b ≡ true)
 both true b e = (refl, e)
 both false b e = absurd (true≢false (sym e))
 
-same_names : (trades others : List (List ℕ)) (ks : List ℕ) → are_none ks ≡ true → names_data trades ks ≡ names_data others ks
+same_names : (trades others : List (List ℕ)) (ks : List ℕ) → are_none ks ≡ true
+    → names_data trades ks ≡ names_data others ks
 same_names trades others [] e = refl
 same_names trades others (k ∷ ks) e = absurd (true≢false (sym e))
 
-same_option : (trades others : List (List ℕ)) (o : Option ℕ) → is_none o ≡ true → option_data trades o ≡ option_data others o
+same_option : (trades others : List (List ℕ)) (o : Option ℕ) → is_none o ≡ true
+    → option_data trades o ≡ option_data others o
 same_option trades others None e = refl
 same_option trades others (Some k) e = absurd (true≢false (sym e))
 
-same_prices : (trades others : List (List ℕ)) (prices : List ℤ) → is_empty prices ≡ true → prices_data trades prices ≡ prices_data others prices
+same_prices : (trades others : List (List ℕ)) (prices : List ℤ) → is_empty prices ≡ true
+    → prices_data trades prices ≡ prices_data others prices
 same_prices trades others [] e = refl
 same_prices trades others (price ∷ prices) e = absurd (true≢false (sym e))
 
-same_contracts : (trades others : List (List ℕ)) (contracts : List Contract) → is_empty contracts ≡ true → contracts_data trades contracts ≡ contracts_data others contracts
+same_contracts : (trades others : List (List ℕ)) (contracts : List Contract) → is_empty contracts ≡ true
+    → contracts_data trades contracts ≡ contracts_data others contracts
 same_contracts trades others [] e = refl
 same_contracts trades others (contract ∷ contracts) e = absurd (true≢false (sym e))
 
-same_options : (trades others : List (List ℕ)) (nodes : List (Option ℕ)) → list_all is_none nodes ≡ true → map (option_data trades) nodes ≡ map (option_data others) nodes
+same_options : (trades others : List (List ℕ)) (nodes : List (Option ℕ)) → list_all is_none nodes ≡ true
+    → map (option_data trades) nodes ≡ map (option_data others) nodes
 same_options trades others [] e = refl
 same_options trades others (node ∷ nodes) e =
     let parts = both (is_none node) (list_all is_none nodes) e in
     λ j. same_option trades others node parts.0 j ∷ same_options trades others nodes parts.1 j
 
-same_nodes : (trades others : List (List ℕ)) (nodes : List (Option ℕ)) → list_all is_none nodes ≡ true → nodes_data trades nodes ≡ nodes_data others nodes
+same_nodes : (trades others : List (List ℕ)) (nodes : List (Option ℕ)) → list_all is_none nodes ≡ true
+    → nodes_data trades nodes ≡ nodes_data others nodes
 same_nodes trades others nodes e = ap (λ ds. array (items_of ds)) (same_options trades others nodes e)
 
-same_state : (trades others : List (List ℕ)) (state : State) → state_names_nothing state ≡ true → state_data trades state ≡ state_data others state
+same_state : (trades others : List (List ℕ)) (state : State) → state_names_nothing state ≡ true
+    → state_data trades state ≡ state_data others state
 same_state trades others state e =
     let parts = both (are_none state.on) (is_empty state.prices) e in
     λ j. object
     (member (codes "on") (same_names trades others state.on parts.0 j)
-    (member (codes "prices") (same_contracts trades others state.prices parts.1 j) (member (codes "surplus") (integer_data state.surplus) no_members)))
+    (member (codes "prices") (same_contracts trades others state.prices parts.1 j)
+    (member (codes "surplus") (integer_data state.surplus) no_members)))
 
-same_states : (trades others : List (List ℕ)) (states : List State) → list_all state_names_nothing states ≡ true → map (state_data trades) states ≡ map (state_data others) states
+same_states : (trades others : List (List ℕ)) (states : List State) → list_all state_names_nothing states ≡ true
+    → map (state_data trades) states ≡ map (state_data others) states
 same_states trades others [] e = refl
 same_states trades others (state ∷ states) e =
     let parts = both (state_names_nothing state) (list_all state_names_nothing states) e in
     λ j. same_state trades others state parts.0 j ∷ same_states trades others states parts.1 j
 
-same_step : (trades others : List (List ℕ)) (step : PlaceStep) → names_no_trade_at step ≡ true → step_data trades step ≡ step_data others step
+same_step : (trades others : List (List ℕ)) (step : PlaceStep) → names_no_trade_at step ≡ true
+    → step_data trades step ≡ step_data others step
 same_step trades others (Word word) e = refl
 same_step trades others (Index k) e = refl
 same_step trades others (Trade t) e = absurd (true≢false (sym e))
 
-same_steps : (trades others : List (List ℕ)) (place : List PlaceStep) → list_all names_no_trade_at place ≡ true → map (step_data trades) place ≡ map (step_data others) place
+same_steps : (trades others : List (List ℕ)) (place : List PlaceStep) → list_all names_no_trade_at place ≡ true
+    → map (step_data trades) place ≡ map (step_data others) place
 same_steps trades others [] e = refl
 same_steps trades others (step ∷ place) e =
     let parts = both (names_no_trade_at step) (list_all names_no_trade_at place) e in
     λ j. same_step trades others step parts.0 j ∷ same_steps trades others place parts.1 j
 
-same_fault : (trades others : List (List ℕ)) (fault : Fault) (shown : Option Shown) → list_all names_no_trade_at fault.place ≡ true → names_no_trade_in shown ≡ true
+same_fault : (trades others : List (List ℕ)) (fault : Fault) (shown : Option Shown)
+    → list_all names_no_trade_at fault.place ≡ true → names_no_trade_in shown ≡ true
     → fault_data trades fault shown ≡ fault_data others fault shown
-same_fault trades others fault None place e = λ j. answer (codes "fault") (fault_members fault.kind (array (items_of (same_steps trades others fault.place place j))) no_members)
+same_fault trades others fault None place e =
+    λ j. answer (codes "fault") (fault_members fault.kind
+    (array (items_of (same_steps trades others fault.place place j))) no_members)
 same_fault trades others fault (Some shown) place e =
     let parts = both (are_none shown.x && are_none shown.y) (is_none shown.at) e in
     let lists = both (are_none shown.x) (are_none shown.y) parts.0 in
     λ j. answer (codes "fault")
     (member (codes "at") (same_option trades others shown.at parts.1 j)
     (fault_members fault.kind (array (items_of (same_steps trades others fault.place place j)))
-    (member (codes "x") (same_names trades others shown.x lists.0 j) (member (codes "y") (same_names trades others shown.y lists.1 j) no_members))))
+    (member (codes "x") (same_names trades others shown.x lists.0 j)
+    (member (codes "y") (same_names trades others shown.y lists.1 j) no_members))))
 
-same_reason : (reason : Reason) (names others : NameLists) → reason_names_nothing reason ≡ true → reason_members names reason ≡ reason_members others reason
+same_reason : (reason : Reason) (names others : NameLists) → reason_names_nothing reason ≡ true
+    → reason_members names reason ≡ reason_members others reason
 same_reason (Surplus surplus) names others e = refl
 same_reason Holds names others e = refl
 same_reason (Arc index) names others e = refl
@@ -100,7 +116,8 @@ same_reason (Over over) names others e = refl
 same_reason Empty names others e = refl
 same_reason reason names others e = absurd (true≢false (sym e))
 
-same_form : (said : Said) (names others : NameLists) → names_nothing said ≡ true → answer_form names said ≡ answer_form others said
+same_form : (said : Said) (names others : NameLists) → names_nothing said ≡ true
+    → answer_form names said ≡ answer_form others said
 same_form Usage names others e = refl
 same_form ReadFault names others e = refl
 same_form NoMemory names others e = refl
@@ -112,43 +129,64 @@ same_form (Better firm bundle gain) names others e = absurd (true≢false (sym e
 same_form (Impossible firm) names others e = absurd (true≢false (sym e))
 same_form Accepted names others e = refl
 same_form (ExchangeFails firm x y at) names others e = absurd (true≢false (sym e))
-same_form (Supported on prices ends) names others e = ap (λ d. json (answer (codes "prices") (member (codes "prices") d no_members))) (same_prices names.trades others.trades prices e)
-same_form (Cycle nodes cost) names others e = ap (λ d. json (answer (codes "cycle") (member (codes "cost") (integer_data cost) (member (codes "nodes") d no_members)))) (same_nodes names.trades others.trades nodes e)
+same_form (Supported on prices ends) names others e =
+    ap (λ d. json (answer (codes "prices") (member (codes "prices") d no_members)))
+    (same_prices names.trades others.trades prices e)
+same_form (Cycle nodes cost) names others e =
+    ap (λ d. json
+    (answer (codes "cycle") (member (codes "cost") (integer_data cost) (member (codes "nodes") d no_members))))
+    (same_nodes names.trades others.trades nodes e)
 same_form (Solved on prices surplus ends) names others e =
     let parts = both (are_none on) (is_empty prices) e in
     λ j. json (answer (codes "solved")
     (member (codes "on") (same_names names.trades others.trades on parts.0 j)
-    (member (codes "prices") (same_prices names.trades others.trades prices parts.1 j) (member (codes "surplus") (integer_data surplus) no_members))))
+    (member (codes "prices") (same_prices names.trades others.trades prices parts.1 j)
+    (member (codes "surplus") (integer_data surplus) no_members))))
 same_form (Drill size start firms surplus) names others e = refl
 same_form (Ranges on [] ends) names others e =
     let parts = both (are_none on) true e in
-    ap (λ d. json (answer (codes "ranges") (member (codes "on") d (member (codes "ranges") (array (items_of [])) no_members)))) (same_names names.trades others.trades on parts.0)
+    ap (λ d. json
+    (answer (codes "ranges") (member (codes "on") d (member (codes "ranges") (array (items_of [])) no_members))))
+    (same_names names.trades others.trades on parts.0)
 same_form (Ranges on (range ∷ ranges) ends) names others e = absurd (true≢false (sym (both (are_none on) false e).1))
-same_form (Session edits) names others e = ap (λ ds. json (answer (codes "session") (member (codes "edits") (array (items_of ds)) no_members))) (same_states names.trades others.trades edits e)
+same_form (Session edits) names others e =
+    ap (λ ds. json (answer (codes "session") (member (codes "edits") (array (items_of ds)) no_members)))
+    (same_states names.trades others.trades edits e)
 same_form (Drops firm keeps gain over) names others e = absurd (true≢false (sym e))
-same_form (Completes prices over) names others e = ap (λ d. json (answer (codes "completes") (member (codes "over") (integer_data over) (member (codes "prices") d no_members)))) (same_prices names.trades others.trades prices e)
-same_form (Blocks contracts over) names others e = ap (λ d. json (answer (codes "blocks") (member (codes "contracts") d (member (codes "over") (integer_data over) no_members)))) (same_contracts names.trades others.trades contracts e)
+same_form (Completes prices over) names others e =
+    ap (λ d. json
+    (answer (codes "completes") (member (codes "over") (integer_data over) (member (codes "prices") d no_members))))
+    (same_prices names.trades others.trades prices e)
+same_form (Blocks contracts over) names others e =
+    ap (λ d. json
+    (answer (codes "blocks") (member (codes "contracts") d (member (codes "over") (integer_data over) no_members))))
+    (same_contracts names.trades others.trades contracts e)
 same_form Valid names others e = refl
-same_form (Invalid reason) names others e = ap (λ ms. json (answer (codes "invalid") ms)) (same_reason reason names others e)
+same_form (Invalid reason) names others e =
+    ap (λ ms. json (answer (codes "invalid") ms)) (same_reason reason names others e)
 same_form (Cases count failed) names others e = refl
 same_form (PageIs page) names others e = refl
 same_form (Firms content [] surplus) names others e = refl
 same_form (Firms content (holding ∷ holdings) surplus) names others e = absurd (true≢false (sym e))
 
-same_rows : (said : Said) (names others : NameLists) → names_nothing said ≡ true → table_of names said Rows ≡ table_of others said Rows
+same_rows : (said : Said) (names others : NameLists) → names_nothing said ≡ true
+    → table_of names said Rows ≡ table_of others said Rows
 same_rows (Supported on [] ends) names others e = refl
 same_rows (Supported on (price ∷ prices) ends) names others e = absurd (true≢false (sym e))
 same_rows (Solved on [] surplus ends) names others e = refl
-same_rows (Solved on (price ∷ prices) surplus ends) names others e = absurd (true≢false (sym (both (are_none on) false e).1))
+same_rows (Solved on (price ∷ prices) surplus ends) names others e =
+    absurd (true≢false (sym (both (are_none on) false e).1))
 same_rows (Ranges on [] ends) names others e = refl
 same_rows (Ranges on (range ∷ ranges) ends) names others e = absurd (true≢false (sym (both (are_none on) false e).1))
 same_rows (Firms content [] surplus) names others e = refl
 same_rows (Firms content (holding ∷ holdings) surplus) names others e = absurd (true≢false (sym e))
 same_rows said names others e = refl
 
-same_wide_rows : (said : Said) (names others : NameLists) → names_nothing said ≡ true → table_of names said WideRows ≡ table_of others said WideRows
+same_wide_rows : (said : Said) (names others : NameLists) → names_nothing said ≡ true
+    → table_of names said WideRows ≡ table_of others said WideRows
 same_wide_rows (Solved on [] surplus ends) names others e = refl
-same_wide_rows (Solved on (price ∷ prices) surplus ends) names others e = absurd (true≢false (sym (both (are_none on) false e).1))
+same_wide_rows (Solved on (price ∷ prices) surplus ends) names others e =
+    absurd (true≢false (sym (both (are_none on) false e).1))
 same_wide_rows said names others e = refl
 
 -- no answer has rows as an object
@@ -163,14 +201,17 @@ pub object_line : (names : NameLists) (said : Said) → form_text (answer_form n
 unfolding answer_line
 object_line names said = ap (λ o. text_of o (answer_form names said)) (sym (no_table names said))
 
-same_table : (layout : Layout) (said : Said) (names others : NameLists) → names_nothing said ≡ true → table_of names said layout ≡ table_of others said layout
+same_table : (layout : Layout) (said : Said) (names others : NameLists) → names_nothing said ≡ true
+    → table_of names said layout ≡ table_of others said layout
 same_table Object said names others e = no_table names said ∙ sym (no_table others said)
 same_table Rows said names others e = same_rows said names others e
 same_table WideRows said names others e = same_wide_rows said names others e
 
-pub same_line : (layout : Layout) (said : Said) (names others : NameLists) → names_nothing said ≡ true → answer_line layout names said ≡ answer_line layout others said
+pub same_line : (layout : Layout) (said : Said) (names others : NameLists) → names_nothing said ≡ true
+    → answer_line layout names said ≡ answer_line layout others said
 unfolding answer_line
-same_line layout said names others e = λ j. text_of (same_table layout said names others e j) (same_form said names others e j)
+same_line layout said names others e =
+    λ j. text_of (same_table layout said names others e j) (same_form said names others e j)
 
 -- ---- within the limits of claims
 
@@ -244,17 +285,27 @@ within_sayable (ExchangeFails firm x y at) within = tt
 within_sayable (Supported on prices ends) within = prices_fit prices within
 within_sayable (Cycle nodes cost) within = fits_from_within cost within
 within_sayable (Solved on prices surplus ends) within = (prices_fit prices within.0, fits_from_within surplus within.1)
-within_sayable (Drill size start firms surplus) within = (omega (arith, within.0), omega (arith, within.1), omega (arith, within.2), fits_from_within surplus within.3)
+within_sayable (Drill size start firms surplus) within =
+    (omega (arith, within.0), omega (arith, within.1), omega (arith, within.2), fits_from_within surplus within.3)
 within_sayable (Ranges on ranges ends) within = λ k d below. range_fits (get_or ranges k d) (within k d below)
 within_sayable (Session edits) within = λ k d below. state_fits (get_or edits k d) (within k d below)
 within_sayable (Drops firm keeps gain over) within = (gain_fits gain within.0, fits_from_within over within.1)
-within_sayable (Completes prices over) within = ((λ k d below. fits_from_within (get_or prices k d) (within.0 k d below)), fits_from_within over within.1)
+within_sayable (Completes prices over) within =
+    ((λ k d below. fits_from_within (get_or prices k d) (within.0 k d below)), fits_from_within over within.1)
 within_sayable Valid within = tt
 within_sayable (PageIs page) within = tt
-within_sayable (Firms content firms surplus) within = (omega (arith, within.0), (λ k d below. holding_fits (get_or firms k d) (within.1 k d below)), gain_fits surplus within.2)
+within_sayable (Firms content firms surplus) within = (
+  omega (arith, within.0),
+  (λ k d below. holding_fits (get_or firms k d) (within.1 k d below)),
+  gain_fits surplus within.2,
+)
 within_sayable (Invalid reason) within = reason_fits reason within
-within_sayable (Cases count failed) within = (omega (arith, within.0), λ k d below. wide (get_or failed k d) (within.1 k d below))
+within_sayable (Cases count failed) within = (
+  omega (arith, within.0),
+  λ k d below. wide (get_or failed k d) (within.1 k d below),
+)
   where
     wide : (n : ℕ) → n < 2 ^ 32 → n < 2 ^ 64
     wide n small = omega (arith, small)
-within_sayable (Blocks contracts over) within = ((λ k d below. fits_from_within (get_or contracts k d).price (within.0 k d below)), fits_from_within over within.1)
+within_sayable (Blocks contracts over) within =
+    ((λ k d below. fits_from_within (get_or contracts k d).price (within.0 k d below)), fits_from_within over within.1)

@@ -13,8 +13,10 @@ module _ {B : Type 0} where
   pub take-whole : (xs : List B) (k : ℕ) → length xs ≤ k → take k xs ≡ xs
   take-whole xs k h = grind (arith, common_steps)
 
-module _ {A B C : Type 0} (v : A → C) (f : B → C) (done : List A) (xs : List B) (k : ℕ) (so_far : map v done ≡ map f (take k xs)) where
-  pub map-push : (next : A) (x : B) → slice_get xs k ≡ Some x → v next ≡ f x → map v (done ++ next ∷ []) ≡ map f (take (k + 1) xs)
+module _ {A B C : Type 0} (v : A → C) (f : B → C) (done : List A) (xs : List B) (k : ℕ) (so_far : map v done
+    ≡ map f (take k xs)) where
+  pub map-push : (next : A) (x : B) → slice_get xs k ≡ Some x → v next ≡ f x
+      → map v (done ++ next ∷ []) ≡ map f (take (k + 1) xs)
   map-push next x at same =
       map-append v done (next ∷ []) ∙ (λ j. so_far j ++ same j ∷ []) ∙ sym (map-append f (take k xs) (x ∷ []))
       ∙ ap (map f) (sym (take-suc-at xs k x at)) ∙ ap (λ n. map f (take n xs)) (sym (add-one k))

@@ -54,7 +54,8 @@ module _ (names : List (List ℕ)) (kept : IsNameList names) where
   name_is_plain : (k : ℕ) → IsPlain (name_data names k)
   name_is_plain k = found (slice_get names k) (λ name at. kept.named k name at)
     where
-      found : (o : Option (List ℕ)) → ((name : List ℕ) → o ≡ Some name → is_name name ≡ true) → HasNameBytes (unwrap_or o [])
+      found : (o : Option (List ℕ)) → ((name : List ℕ) → o ≡ Some name → is_name name ≡ true)
+          → HasNameBytes (unwrap_or o [])
       found None h = refl
       found (Some name) h = (and_parts _ _ (h name refl)).1
 
@@ -66,7 +67,8 @@ module _ (names : List (List ℕ)) (kept : IsNameList names) where
   option_is_plain None = tt
   option_is_plain (Some k) = name_is_plain k
 
-  prices_are_plain : (k : ℕ) (prices : List ℤ) → All (FitsSigned w64) prices → ItemsArePlain (items_of (prices_from names k prices))
+  prices_are_plain : (k : ℕ) (prices : List ℤ) → All (FitsSigned w64) prices
+      → ItemsArePlain (items_of (prices_from names k prices))
   prices_are_plain k [] h = tt
   prices_are_plain k (price ∷ prices) h = (
     (name_is_plain k, (integer_is_short price (All-head (FitsSigned w64) price prices h), tt)),
@@ -77,43 +79,77 @@ module _ (names : List (List ℕ)) (kept : IsNameList names) where
   nodes_are_plain [] = tt
   nodes_are_plain (node ∷ nodes) = (option_is_plain node, nodes_are_plain nodes)
 
-  contracts_are_plain : (contracts : List Contract) → All (λ contract. FitsSigned w64 contract.price) contracts → ItemsArePlain (items_of (map (contract_data names) contracts))
+  contracts_are_plain : (contracts : List Contract) → All (λ contract. FitsSigned w64 contract.price) contracts
+      → ItemsArePlain (items_of (map (contract_data names) contracts))
   contracts_are_plain [] h = tt
   contracts_are_plain (contract ∷ contracts) h =
-      let short = λ (contract : Contract). FitsSigned w64 contract.price in
-      ((name_is_plain contract.trade, (integer_is_short contract.price (All-head short contract contracts h), tt)), contracts_are_plain contracts (All-tail short contract contracts h))
+      let short = λ (contract : Contract). FitsSigned w64 contract.price in (
+        (name_is_plain contract.trade, (integer_is_short contract.price (All-head short contract contracts h), tt)),
+        contracts_are_plain contracts (All-tail short contract contracts h),
+      )
 
   bound_is_plain : (bound : Option ℤ) → IfSome bound (FitsSigned w64) → IsPlain (bound_data bound)
   bound_is_plain None h = tt
   bound_is_plain (Some price) h = integer_is_short price h
 
   range_is_plain : (k : ℕ) (range : Range) → HasShortBounds range → IsPlain (range_data names k range)
-  range_is_plain k range h =
-      (refl, bound_is_plain range.high h.high, (refl, nodes_are_plain range.high_path, (refl, bound_is_plain range.low h.low, (refl, nodes_are_plain range.low_path, (refl, name_is_plain k, tt)))))
+  range_is_plain k range h = (
+    refl,
+    bound_is_plain range.high h.high,
+    (
+      refl,
+      nodes_are_plain range.high_path,
+      (refl, bound_is_plain range.low h.low, (refl, nodes_are_plain range.low_path, (refl, name_is_plain k, tt))),
+    ),
+  )
 
-  ranges_are_plain : (k : ℕ) (ranges : List Range) → All HasShortBounds ranges → ItemsArePlain (items_of (each_from (range_data names) k ranges))
+  ranges_are_plain : (k : ℕ) (ranges : List Range) → All HasShortBounds ranges
+      → ItemsArePlain (items_of (each_from (range_data names) k ranges))
   ranges_are_plain k [] h = tt
-  ranges_are_plain k (range ∷ ranges) h = (range_is_plain k range (All-head HasShortBounds range ranges h), ranges_are_plain (suc k) ranges (All-tail HasShortBounds range ranges h))
+  ranges_are_plain k (range ∷ ranges) h = (
+    range_is_plain k range (All-head HasShortBounds range ranges h),
+    ranges_are_plain (suc k) ranges (All-tail HasShortBounds range ranges h),
+  )
 
   state_is_plain : (state : State) → IsShortState state → IsPlain (state_data names state)
-  state_is_plain state h = (refl, names_are_plain state.on, (refl, contracts_are_plain state.prices h.prices, (refl, integer_is_short state.surplus h.surplus, tt)))
+  state_is_plain state h = (
+    refl,
+    names_are_plain state.on,
+    (refl, contracts_are_plain state.prices h.prices, (refl, integer_is_short state.surplus h.surplus, tt)),
+  )
 
-  states_are_plain : (states : List State) → All IsShortState states → ItemsArePlain (items_of (map (state_data names) states))
+  states_are_plain : (states : List State) → All IsShortState states
+      → ItemsArePlain (items_of (map (state_data names) states))
   states_are_plain [] h = tt
-  states_are_plain (state ∷ states) h = (state_is_plain state (All-head IsShortState state states h), states_are_plain states (All-tail IsShortState state states h))
+  states_are_plain (state ∷ states) h = (
+    state_is_plain state (All-head IsShortState state states h),
+    states_are_plain states (All-tail IsShortState state states h),
+  )
 
   step_is_plain : (step : PlaceStep) → HasShortIndex step → IsPlain (step_data names step)
   step_is_plain (Member word) h = word_text_is_plain word
   step_is_plain (Index k) h = h
   step_is_plain (Trade t) h = name_is_plain t
 
-  place_is_plain : (place : List PlaceStep) → All HasShortIndex place → ItemsArePlain (items_of (map (step_data names) place))
+  place_is_plain : (place : List PlaceStep) → All HasShortIndex place
+      → ItemsArePlain (items_of (map (step_data names) place))
   place_is_plain [] h = tt
-  place_is_plain (step ∷ place) h = (step_is_plain step (All-head HasShortIndex step place h), place_is_plain place (All-tail HasShortIndex step place h))
+  place_is_plain (step ∷ place) h = (
+    step_is_plain step (All-head HasShortIndex step place h),
+    place_is_plain place (All-tail HasShortIndex step place h),
+  )
 
-  fault_is_plain : (fault : Fault) (shown : Option Shown) → All HasShortIndex fault.place → IsPlain (fault_data names fault shown)
-  fault_is_plain fault None h =
-      (refl, refl, (refl, fault_number_is_short fault.kind, (refl, kind_name_is_plain fault.kind, (refl, place_is_plain fault.place h, tt))))
+  fault_is_plain : (fault : Fault) (shown : Option Shown) → All HasShortIndex fault.place
+      → IsPlain (fault_data names fault shown)
+  fault_is_plain fault None h = (
+    refl,
+    refl,
+    (
+      refl,
+      fault_number_is_short fault.kind,
+      (refl, kind_name_is_plain fault.kind, (refl, place_is_plain fault.place h, tt)),
+    ),
+  )
   fault_is_plain fault (Some shown) h = (
     refl,
     refl,
@@ -136,14 +172,39 @@ module _ (names : NameLists) (firms : IsNameList names.firms) (trades : IsNameLi
   firm_is_plain : (firm : ℕ) → IsPlain (name_data names.firms firm)
   firm_is_plain = name_is_plain names.firms firms
 
-  reason_is_plain : (reason : Reason) → IsShortReason reason → IsPlain (answer (codes "invalid") (reason_members names reason))
+  reason_is_plain : (reason : Reason) → IsShortReason reason
+      → IsPlain (answer (codes "invalid") (reason_members names reason))
   reason_is_plain (ImpossibleIs firm) h = (refl, refl, (refl, firm_is_plain firm, (refl, refl, tt)))
-  reason_is_plain (BetterIs firm bundle) h = (refl, refl, (refl, names_are_plain names.trades trades bundle, (refl, firm_is_plain firm, (refl, refl, tt))))
+  reason_is_plain (BetterIs firm bundle) h = (
+    refl,
+    refl,
+    (refl, names_are_plain names.trades trades bundle, (refl, firm_is_plain firm, (refl, refl, tt))),
+  )
   reason_is_plain (Possible firm) h = (refl, refl, (refl, firm_is_plain firm, (refl, refl, tt)))
   reason_is_plain (Surplus surplus) h = (refl, refl, (refl, refl, (refl, integer_is_short surplus h, tt)))
-  reason_is_plain (Gain firm gain) h = (refl, refl, (refl, firm_is_plain firm, (refl, bound_is_plain names.trades trades gain h, (refl, refl, tt))))
-  reason_is_plain (Exchange firm x y at) h =
-      (refl, refl, (refl, option_is_plain names.trades trades at, (refl, firm_is_plain firm, (refl, refl, (refl, names_are_plain names.trades trades x, (refl, names_are_plain names.trades trades y, tt))))))
+  reason_is_plain (Gain firm gain) h =
+      (refl, refl, (refl, firm_is_plain firm, (refl, bound_is_plain names.trades trades gain h, (refl, refl, tt))))
+  reason_is_plain (Exchange firm x y at) h = (
+    refl,
+    refl,
+    (
+      refl,
+      option_is_plain names.trades trades at,
+      (
+        refl,
+        firm_is_plain firm,
+        (
+          refl,
+          refl,
+          (
+            refl,
+            names_are_plain names.trades trades x,
+            (refl, names_are_plain names.trades trades y, tt),
+          ),
+        ),
+      ),
+    ),
+  )
   reason_is_plain Holds h = (refl, refl, (refl, refl, tt))
   reason_is_plain (Arc index) h = (refl, refl, (refl, h, (refl, refl, tt)))
   reason_is_plain (Cost cost) h = (refl, refl, (refl, integer_is_short cost h, (refl, refl, tt)))
@@ -152,10 +213,18 @@ module _ (names : NameLists) (firms : IsNameList names.firms) (trades : IsNameLi
   reason_is_plain (Price trade) h = (refl, refl, (refl, refl, (refl, name_is_plain names.trades trades trade, tt)))
   reason_is_plain Empty h = (refl, refl, (refl, refl, tt))
   reason_is_plain (Signed trade) h = (refl, refl, (refl, refl, (refl, name_is_plain names.trades trades trade, tt)))
-  reason_is_plain (Choice firm trade) h = (refl, refl, (refl, firm_is_plain firm, (refl, refl, (refl, name_is_plain names.trades trades trade, tt))))
+  reason_is_plain (Choice firm trade) h = (
+    refl,
+    refl,
+    (refl, firm_is_plain firm, (refl, refl, (refl, name_is_plain names.trades trades trade, tt))),
+  )
   reason_is_plain (Shares firm) h = (refl, refl, (refl, firm_is_plain firm, (refl, refl, tt)))
   reason_is_plain (Balance trade) h = (refl, refl, (refl, refl, (refl, name_is_plain names.trades trades trade, tt)))
-  reason_is_plain (Whole on surplus) h = (refl, refl, (refl, names_are_plain names.trades trades on, (refl, refl, (refl, integer_is_short surplus h, tt))))
+  reason_is_plain (Whole on surplus) h = (
+    refl,
+    refl,
+    (refl, names_are_plain names.trades trades on, (refl, refl, (refl, integer_is_short surplus h, tt))),
+  )
 
 module _ (names : NameLists) (firms : IsNameList names.firms) (trades : IsNameList names.trades) where
   holding_is_plain : (k : ℕ) (holding : Holding) → IsShortHolding holding → IsPlain (holding_data names k holding)
@@ -174,49 +243,126 @@ module _ (names : NameLists) (firms : IsNameList names.firms) (trades : IsNameLi
           (
             refl,
             names_are_plain names.trades trades holding.has,
-            (refl, bound_is_plain names.trades trades holding.utility h.utility, (refl, bound_is_plain names.trades trades holding.worth h.worth, tt)),
+            (
+              refl,
+              bound_is_plain names.trades trades holding.utility h.utility,
+              (refl, bound_is_plain names.trades trades holding.worth h.worth, tt),
+            ),
           ),
         ),
       ),
     ),
   )
 
-  holdings_are_plain : (k : ℕ) (holdings : List Holding) → All IsShortHolding holdings → ItemsArePlain (items_of (each_from (holding_data names) k holdings))
+  holdings_are_plain : (k : ℕ) (holdings : List Holding) → All IsShortHolding holdings
+      → ItemsArePlain (items_of (each_from (holding_data names) k holdings))
   holdings_are_plain k [] h = tt
-  holdings_are_plain k (holding ∷ holdings) h =
-      (holding_is_plain k holding (All-head IsShortHolding holding holdings h), holdings_are_plain (suc k) holdings (All-tail IsShortHolding holding holdings h))
+  holdings_are_plain k (holding ∷ holdings) h = (
+    holding_is_plain k holding (All-head IsShortHolding holding holdings h),
+    holdings_are_plain (suc k) holdings (All-tail IsShortHolding holding holdings h),
+  )
 
-numbers_are_plain : (numbers : List ℕ) → All (λ n. n < 2 ^ 64) numbers → ItemsArePlain (items_of (map (λ n. number (unsigned n)) numbers))
+numbers_are_plain : (numbers : List ℕ) → All (λ n. n < 2 ^ 64) numbers
+    → ItemsArePlain (items_of (map (λ n. number (unsigned n)) numbers))
 numbers_are_plain [] h = tt
-numbers_are_plain (n ∷ numbers) h = (All-head (λ n. n < 2 ^ 64) n numbers h, numbers_are_plain numbers (All-tail (λ n. n < 2 ^ 64) n numbers h))
+numbers_are_plain (n ∷ numbers) h = (
+  All-head (λ n. n < 2 ^ 64) n numbers h,
+  numbers_are_plain numbers (All-tail (λ n. n < 2 ^ 64) n numbers h),
+)
 
-pub answer_is_plain : (names : NameLists) → IsNameList names.firms → IsNameList names.trades → (said : Said) → HasShortNumbers said → IsPlain (answer_data names said)
+pub answer_is_plain : (names : NameLists) → IsNameList names.firms → IsNameList names.trades → (said : Said)
+    → HasShortNumbers said → IsPlain (answer_data names said)
 answer_is_plain names firms trades Usage h = (refl, refl, tt)
 answer_is_plain names firms trades ReadFault h = (refl, refl, tt)
 answer_is_plain names firms trades NoMemory h = (refl, refl, tt)
 answer_is_plain names firms trades (FaultIs fault) h = fault_is_plain names.trades trades fault fault.shown h
 answer_is_plain names firms trades (Equilibrium surplus) h = (refl, refl, (refl, integer_is_short surplus h, tt))
-answer_is_plain names firms trades (Better firm bundle gain) h =
-    (refl, refl, (refl, names_are_plain names.trades trades bundle, (refl, name_is_plain names.firms firms firm, (refl, integer_is_short gain h, tt))))
+answer_is_plain names firms trades (Better firm bundle gain) h = (
+  refl,
+  refl,
+  (
+    refl,
+    names_are_plain names.trades trades bundle,
+    (refl, name_is_plain names.firms firms firm, (refl, integer_is_short gain h, tt)),
+  ),
+)
 answer_is_plain names firms trades (Impossible firm) h = (refl, refl, (refl, name_is_plain names.firms firms firm, tt))
 answer_is_plain names firms trades Accepted h = (refl, refl, tt)
-answer_is_plain names firms trades (ExchangeFails firm x y at) h =
-    (refl, refl, (refl, option_is_plain names.trades trades at, (refl, name_is_plain names.firms firms firm, (refl, names_are_plain names.trades trades x, (refl, names_are_plain names.trades trades y, tt)))))
-answer_is_plain names firms trades (Supported on prices ends) h = (refl, refl, (refl, prices_are_plain names.trades trades 0 prices h, tt))
-answer_is_plain names firms trades (Cycle nodes cost) h = (refl, refl, (refl, integer_is_short cost h, (refl, nodes_are_plain names.trades trades nodes, tt)))
-answer_is_plain names firms trades (Solved on prices surplus ends) h =
-    (refl, refl, (refl, names_are_plain names.trades trades on, (refl, prices_are_plain names.trades trades 0 prices h.0, (refl, integer_is_short surplus h.1, tt))))
+answer_is_plain names firms trades (ExchangeFails firm x y at) h = (
+  refl,
+  refl,
+  (
+    refl,
+    option_is_plain names.trades trades at,
+    (
+      refl,
+      name_is_plain names.firms firms firm,
+      (
+        refl,
+        names_are_plain names.trades trades x,
+        (refl, names_are_plain names.trades trades y, tt),
+      ),
+    ),
+  ),
+)
+answer_is_plain names firms trades (Supported on prices ends) h =
+    (refl, refl, (refl, prices_are_plain names.trades trades 0 prices h, tt))
+answer_is_plain names firms trades (Cycle nodes cost) h =
+    (refl, refl, (refl, integer_is_short cost h, (refl, nodes_are_plain names.trades trades nodes, tt)))
+answer_is_plain names firms trades (Solved on prices surplus ends) h = (
+  refl,
+  refl,
+  (
+    refl,
+    names_are_plain names.trades trades on,
+    (refl, prices_are_plain names.trades trades 0 prices h.0, (refl, integer_is_short surplus h.1, tt)),
+  ),
+)
 answer_is_plain names firms trades (Drill size start count surplus) h =
     (refl, refl, (refl, h.2, (refl, h.0, (refl, h.1, (refl, integer_is_short surplus h.3, tt)))))
-answer_is_plain names firms trades (Ranges on ranges ends) h = (refl, refl, (refl, names_are_plain names.trades trades on, (refl, ranges_are_plain names.trades trades 0 ranges h, tt)))
-answer_is_plain names firms trades (Session edits) h = (refl, refl, (refl, states_are_plain names.trades trades edits h, tt))
-answer_is_plain names firms trades (Drops firm keeps gain over) h =
-    (refl, refl, (refl, name_is_plain names.firms firms firm, (refl, bound_is_plain names.trades trades gain h.0, (refl, names_are_plain names.trades trades keeps, (refl, integer_is_short over h.1, tt)))))
-answer_is_plain names firms trades (Completes prices over) h = (refl, refl, (refl, integer_is_short over h.1, (refl, prices_are_plain names.trades trades 0 prices h.0, tt)))
+answer_is_plain names firms trades (Ranges on ranges ends) h = (
+  refl,
+  refl,
+  (
+    refl,
+    names_are_plain names.trades trades on,
+    (refl, ranges_are_plain names.trades trades 0 ranges h, tt),
+  ),
+)
+answer_is_plain names firms trades (Session edits) h =
+    (refl, refl, (refl, states_are_plain names.trades trades edits h, tt))
+answer_is_plain names firms trades (Drops firm keeps gain over) h = (
+  refl,
+  refl,
+  (
+    refl,
+    name_is_plain names.firms firms firm,
+    (
+      refl,
+      bound_is_plain names.trades trades gain h.0,
+      (refl, names_are_plain names.trades trades keeps, (refl, integer_is_short over h.1, tt)),
+    ),
+  ),
+)
+answer_is_plain names firms trades (Completes prices over) h =
+    (refl, refl, (refl, integer_is_short over h.1, (refl, prices_are_plain names.trades trades 0 prices h.0, tt)))
 answer_is_plain names firms trades Valid h = (refl, refl, tt)
 answer_is_plain names firms trades (PageIs page) h = tt
-answer_is_plain names firms trades (Firms content holdings surplus) h =
-    (refl, refl, (refl, h.0, (refl, holdings_are_plain names firms trades 0 holdings h.1, (refl, bound_is_plain names.trades trades surplus h.2, tt))))
+answer_is_plain names firms trades (Firms content holdings surplus) h = (
+  refl,
+  refl,
+  (
+    refl,
+    h.0,
+    (
+      refl,
+      holdings_are_plain names firms trades 0 holdings h.1,
+      (refl, bound_is_plain names.trades trades surplus h.2, tt),
+    ),
+  ),
+)
 answer_is_plain names firms trades (Invalid reason) h = reason_is_plain names firms trades reason h
-answer_is_plain names firms trades (Cases count failed) h = (refl, refl, (refl, h.0, (refl, numbers_are_plain failed h.1, tt)))
-answer_is_plain names firms trades (Blocks contracts over) h = (refl, refl, (refl, contracts_are_plain names.trades trades contracts h.0, (refl, integer_is_short over h.1, tt)))
+answer_is_plain names firms trades (Cases count failed) h =
+    (refl, refl, (refl, h.0, (refl, numbers_are_plain failed h.1, tt)))
+answer_is_plain names firms trades (Blocks contracts over) h =
+    (refl, refl, (refl, contracts_are_plain names.trades trades contracts h.0, (refl, integer_is_short over h.1, tt)))

@@ -21,9 +21,11 @@ use Rattle.tn_answer.proofs.MapLemmas.{take-suc-at, take-whole}
 
 -- ---- fields
 
-row_front : (a b : List (List ℕ)) (r s : List ℕ) → row_text default_writer a ++ r ≡ row_text default_writer b ++ s → (read_back a ≡ read_back b) × (r ≡ s)
+row_front : (a b : List (List ℕ)) (r s : List ℕ) → row_text default_writer a ++ r ≡ row_text default_writer b ++ s
+    → (read_back a ≡ read_back b) × (r ≡ s)
 row_front a b r s e =
-    let same = same_Some _ _ (sym (read-write a r) ∙ ap (next_record default_config st.StartRecord [] []) e ∙ read-write b s) in
+    let same = same_Some _ _ (sym (read-write a r) ∙ ap (next_record default_config st.StartRecord [] []) e
+    ∙ read-write b s) in
     (ap (λ p. p.0) same, ap (λ p. p.2) same)
 
 abbrev front : List ℕ → ℕ
@@ -61,7 +63,8 @@ no_digit (pos m) h e =
     omega (arith, digit.0, nothing)
 no_digit (negsuc m) h e = clash 45 0 refl (ap front e)
 
-pub same_bound_text : (x y : Option ℤ) → IfSome x (FitsSigned w64) → IfSome y (FitsSigned w64) → bound_text x ≡ bound_text y → x ≡ y
+pub same_bound_text : (x y : Option ℤ) → IfSome x (FitsSigned w64) → IfSome y (FitsSigned w64)
+    → bound_text x ≡ bound_text y → x ≡ y
 same_bound_text None None h k e = refl
 same_bound_text None (Some z) h k e = absurd (no_digit z k (sym e))
 same_bound_text (Some z) None h k e = absurd (no_digit z h e)
@@ -70,23 +73,31 @@ same_bound_text (Some y) (Some z) h k e = ap Some (same_decimal y z h k e)
 -- ---- rows of one text
 
 module _ {A B : Type 0} (row : ℕ → A → List (List ℕ)) (other : ℕ → B → List (List ℕ)) where
-  same_from : (from : ℕ) (xs : List A) (ys : List B) → length xs ≡ length ys → rows_text (each_from row from xs) ≡ rows_text (each_from other from ys)
-      → (k : ℕ) (x : A) (y : B) → slice_get xs k ≡ Some x → slice_get ys k ≡ Some y → read_back (row (from + k) x) ≡ read_back (other (from + k) y)
+  same_from : (from : ℕ) (xs : List A) (ys : List B) → length xs ≡ length ys
+      → rows_text (each_from row from xs) ≡ rows_text (each_from other from ys)
+      → (k : ℕ) (x : A) (y : B) → slice_get xs k ≡ Some x → slice_get ys k ≡ Some y
+      → read_back (row (from + k) x) ≡ read_back (other (from + k) y)
   same_from from [] ys l e k x y at there = absurd (none-some x at)
   same_from from (v ∷ xs) [] l e k x y at there = absurd (none-some y there)
   same_from from (v ∷ xs) (w ∷ ys) l e zero x y at there =
-      let parts = row_front (row from v) (other from w) (rows_text (each_from row (suc from) xs)) (rows_text (each_from other (suc from) ys)) e in
+      let parts = row_front (row from v) (other from w) (rows_text (each_from row (suc from) xs))
+      (rows_text (each_from other (suc from) ys)) e in
       let none_more : from ≡ from + 0 = omega arith in
       subst (λ n. read_back (row n x) ≡ read_back (other n y)) none_more
-      (ap (λ z. read_back (row from z)) (sym (same_Some v x at)) ∙ parts.0 ∙ ap (λ z. read_back (other from z)) (same_Some w y there))
+      (ap (λ z. read_back (row from z)) (sym (same_Some v x at)) ∙ parts.0
+      ∙ ap (λ z. read_back (other from z)) (same_Some w y there))
   same_from from (v ∷ xs) (w ∷ ys) l e (suc k) x y at there =
-      let parts = row_front (row from v) (other from w) (rows_text (each_from row (suc from) xs)) (rows_text (each_from other (suc from) ys)) e in
+      let parts = row_front (row from v) (other from w) (rows_text (each_from row (suc from) xs))
+      (rows_text (each_from other (suc from) ys)) e in
       let one_more : suc from + k ≡ from + suc k = omega arith in
-      subst (λ n. read_back (row n x) ≡ read_back (other n y)) one_more (same_from (suc from) xs ys (omega (arith, l)) parts.1 k x y at there)
+      subst (λ n. read_back (row n x) ≡ read_back (other n y)) one_more
+      (same_from (suc from) xs ys (omega (arith, l)) parts.1 k x y at there)
 
   -- the rows of two tables of one text agree row by row
-  pub same_tables : (head : List (List ℕ)) (xs : List A) (ys : List B) → length xs ≡ length ys → rows_text (table head row xs) ≡ rows_text (table head other ys)
-      → (k : ℕ) (x : A) (y : B) → slice_get xs k ≡ Some x → slice_get ys k ≡ Some y → read_back (row k x) ≡ read_back (other k y)
+  pub same_tables : (head : List (List ℕ)) (xs : List A) (ys : List B) → length xs ≡ length ys
+      → rows_text (table head row xs) ≡ rows_text (table head other ys)
+      → (k : ℕ) (x : A) (y : B) → slice_get xs k ≡ Some x → slice_get ys k ≡ Some y
+      → read_back (row k x) ≡ read_back (other k y)
   same_tables head xs ys l e k x y at there =
       let parts = row_front head head (rows_text (each_from row 0 xs)) (rows_text (each_from other 0 ys)) e in
       let none_before : 0 + k ≡ k = omega arith in
@@ -94,7 +105,8 @@ module _ {A B : Type 0} (row : ℕ → A → List (List ℕ)) (other : ℕ → B
 
 -- lists that agree place by place in what a function gives
 module _ {A B : Type 0} (f : A → B) where
-  pub same_places : (xs ys : List A) → length xs ≡ length ys → ((k : ℕ) (x y : A) → slice_get xs k ≡ Some x → slice_get ys k ≡ Some y → f x ≡ f y) → map f xs ≡ map f ys
+  pub same_places : (xs ys : List A) → length xs ≡ length ys
+      → ((k : ℕ) (x y : A) → slice_get xs k ≡ Some x → slice_get ys k ≡ Some y → f x ≡ f y) → map f xs ≡ map f ys
   same_places [] [] l h = refl
   same_places [] (y ∷ ys) l h = absurd (omega (arith, l))
   same_places (x ∷ xs) [] l h = absurd (omega (arith, l))
@@ -103,7 +115,8 @@ module _ {A B : Type 0} (f : A → B) where
       let rest = same_places xs ys (omega (arith, l)) (λ k v w at there. h (suc k) v w at there) in
       λ j. first j ∷ rest j
 
-pub same_items : {A : Type 0} (xs ys : List A) → length xs ≡ length ys → ((k : ℕ) (x y : A) → slice_get xs k ≡ Some x → slice_get ys k ≡ Some y → x ≡ y) → xs ≡ ys
+pub same_items : {A : Type 0} (xs ys : List A) → length xs ≡ length ys
+    → ((k : ℕ) (x y : A) → slice_get xs k ≡ Some x → slice_get ys k ≡ Some y → x ≡ y) → xs ≡ ys
 same_items [] [] l h = refl
 same_items [] (y ∷ ys) l h = absurd (omega (arith, l))
 same_items (x ∷ xs) [] l h = absurd (omega (arith, l))
@@ -139,7 +152,8 @@ below_or_past (suc t) (suc n) = elim (below_or_past t n) [
 ]
 
 -- the same trades are on where the flags of all trades are the same
-pub same_on : (n : ℕ) (on others : List ℕ) → All (λ k. k < n) on → All (λ k. k < n) others → ((t : ℕ) → t < n → flag_text (is_listed on t) ≡ flag_text (is_listed others t)) → AreSameOn on others
+pub same_on : (n : ℕ) (on others : List ℕ) → All (λ k. k < n) on → All (λ k. k < n) others
+    → ((t : ℕ) → t < n → flag_text (is_listed on t) ≡ flag_text (is_listed others t)) → AreSameOn on others
 same_on n on others named other_named flags t = elim (below_or_past t n) [
   | inl below ↦ same_flag (is_listed on t) (is_listed others t) (flags t below)
   | inr past ↦ unlisted n t on named past ∙ sym (unlisted n t others other_named past)
@@ -151,7 +165,8 @@ module _ (ks : List ℕ) (k at : ℕ) where
   pub listed-here : (j : ℕ) → slice_get ks at ≡ Some j → j ≡ k → true ≡ is_listed ks k
   listed-here j e same = sym (any_passes_from_place (λ j. j == k) ks at j e (eq-eqb j k same))
 
-  pub not-yet : (j : ℕ) → slice_get ks at ≡ Some j → (j ≡ k → ⊥) → is_listed (take at ks) k ≡ false → is_listed (take (at + 1) ks) k ≡ false
+  pub not-yet : (j : ℕ) → slice_get ks at ≡ Some j → (j ≡ k → ⊥) → is_listed (take at ks) k ≡ false
+      → is_listed (take (at + 1) ks) k ≡ false
   not-yet j e other before =
       ap (λ n. is_listed (take n ks) k) (add-one at) ∙ ap (λ l. is_listed l k) (take-suc-at ks at j e)
       ∙ list_any-append (λ j. j == k) (take at ks) (j ∷ []) ∙ rw (before, ne_eqb j k other) refl
@@ -163,10 +178,12 @@ module _ (ks : List ℕ) (k at : ℕ) where
 
 module _ {A : Type 0} (head : List (List ℕ)) (row : ℕ → A → List (List ℕ)) (xs : List A) (k : ℕ) where
   pub rows-more : (x : A) (written : List (List ℕ)) → slice_get xs k ≡ Some x → written ≡ row k x
-      → rows_text (head ∷ take k (each_from row 0 xs)) ++ row_text default_writer written ≡ rows_text (head ∷ take (k + 1) (each_from row 0 xs))
+      → rows_text (head ∷ take k (each_from row 0 xs)) ++ row_text default_writer written
+      ≡ rows_text (head ∷ take (k + 1) (each_from row 0 xs))
   rows-more x written at same =
       let done = take k (each_from row 0 xs) in
-      ap (λ r. rows_text (head ∷ done) ++ r) (ap (row_text default_writer) same ∙ sym (append-nil (row_text default_writer (row k x))))
+      ap (λ r. rows_text (head ∷ done) ++ r) (ap (row_text default_writer) same
+      ∙ sym (append-nil (row_text default_writer (row k x))))
       ∙ sym (flat_map-append (row_text default_writer) (head ∷ done) (row k x ∷ []))
       ∙ ap (λ rows. rows_text (head ∷ rows)) (sym (each-more row xs k x at))
 

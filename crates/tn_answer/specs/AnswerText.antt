@@ -1,5 +1,5 @@
--- What is written for an answer: rows where its layout has them; else compact JSON, the members of an object in byte order,
--- and one line end; or a page.
+-- What is written for an answer: rows where its layout has them; else compact JSON, the members of an object in byte
+-- order, and one line end; or a page.
 use Rattle.std.specs.Prelude.{ℕ, ℤ, List, [], ◌∷◌, ◌++◌, map, Option, None, Some, codes}
 use Rattle.serde_json.specs.Data.{Data, null, number, string, array, object, unsigned, no_items, item, Members, no_members, member}
 use Rattle.serde_json.specs.View.{items_of}
@@ -48,21 +48,34 @@ nodes_data names nodes = array (items_of (map (option_data names) nodes))
 
 -- the prices that a trade may have, with its name, and those of all trades
 abbrev pub range_data : List (List ℕ) → ℕ → Range → Data
-range_data names k range = object (member (codes "high") (bound_data range.high) (member (codes "high_path") (nodes_data names range.high_path) (member (codes "low") (bound_data range.low) (member (codes "low_path") (nodes_data names range.low_path) (member (codes "trade") (name_data names k) no_members)))))
+range_data names k range =
+    object (member (codes "high") (bound_data range.high)
+    (member (codes "high_path") (nodes_data names range.high_path)
+    (member (codes "low") (bound_data range.low) (member (codes "low_path") (nodes_data names range.low_path)
+    (member (codes "trade") (name_data names k) no_members)))))
 
 abbrev pub ranges_data : List (List ℕ) → List Range → Data
 ranges_data names ranges = array (items_of (each_from (range_data names) 0 ranges))
 
 -- an equilibrium of the admitted trades, and those after each of some changes
 abbrev pub state_data : List (List ℕ) → State → Data
-state_data names state = object (member (codes "on") (names_data names state.on) (member (codes "prices") (contracts_data names state.prices) (member (codes "surplus") (integer_data state.surplus) no_members)))
+state_data names state =
+    object (member (codes "on") (names_data names state.on)
+    (member (codes "prices") (contracts_data names state.prices)
+    (member (codes "surplus") (integer_data state.surplus) no_members)))
 
 abbrev pub states_data : List (List ℕ) → List State → Data
 states_data names states = array (items_of (map (state_data names) states))
 
 -- what a firm has, with its name, and what each firm has
 abbrev pub holding_data : NameLists → ℕ → Holding → Data
-holding_data names k holding = object (member (codes "best") (names_data names.trades holding.best) (member (codes "best_utility") (integer_data holding.best_utility) (member (codes "firm") (name_data names.firms k) (member (codes "gain") (bound_data holding.gain) (member (codes "has") (names_data names.trades holding.has) (member (codes "utility") (bound_data holding.utility) (member (codes "worth") (bound_data holding.worth) no_members)))))))
+holding_data names k holding =
+    object (member (codes "best") (names_data names.trades holding.best)
+    (member (codes "best_utility") (integer_data holding.best_utility)
+    (member (codes "firm") (name_data names.firms k) (member (codes "gain") (bound_data holding.gain)
+    (member (codes "has") (names_data names.trades holding.has)
+    (member (codes "utility") (bound_data holding.utility)
+    (member (codes "worth") (bound_data holding.worth) no_members)))))))
 
 abbrev pub holdings_data : NameLists → List Holding → Data
 holdings_data names holdings = array (items_of (each_from (holding_data names) 0 holdings))
@@ -81,12 +94,18 @@ answer kind members = object (member (codes "answer") (string kind) members)
 
 -- the members of every fault at a place, with those that follow
 abbrev pub fault_members : FaultKind → Data → Members → Members
-fault_members kind place rest = member (codes "fault") (number (unsigned (fault_number kind))) (member (codes "name") (string (kind_name kind)) (member (codes "place") place rest))
+fault_members kind place rest =
+    member (codes "fault") (number (unsigned (fault_number kind)))
+    (member (codes "name") (string (kind_name kind)) (member (codes "place") place rest))
 
 -- a failing triple stands around them
 abbrev pub fault_data : List (List ℕ) → Fault → Option Shown → Data
-fault_data trades fault None = answer (codes "fault") (fault_members fault.kind (place_data trades fault.place) no_members)
-fault_data trades fault (Some shown) = answer (codes "fault") (member (codes "at") (option_data trades shown.at) (fault_members fault.kind (place_data trades fault.place) (member (codes "x") (names_data trades shown.x) (member (codes "y") (names_data trades shown.y) no_members))))
+fault_data trades fault None =
+    answer (codes "fault") (fault_members fault.kind (place_data trades fault.place) no_members)
+fault_data trades fault (Some shown) =
+    answer (codes "fault") (member (codes "at") (option_data trades shown.at)
+    (fault_members fault.kind (place_data trades fault.place)
+    (member (codes "x") (names_data trades shown.x) (member (codes "y") (names_data trades shown.y) no_members))))
 
 -- the form of an answer without rows: one JSON value, or lines of text
 pub data Form : Type 0 where
@@ -98,25 +117,55 @@ answer_form names Usage = json (answer (codes "usage") no_members)
 answer_form names ReadFault = json (answer (codes "read_fault") no_members)
 answer_form names NoMemory = json (answer (codes "no_memory") no_members)
 answer_form names (FaultIs fault) = json (fault_data names.trades fault fault.shown)
-answer_form names (Equilibrium surplus) = json (answer (codes "equilibrium") (member (codes "surplus") (integer_data surplus) no_members))
-answer_form names (Better firm bundle gain) = json (answer (codes "better") (member (codes "bundle") (names_data names.trades bundle) (member (codes "firm") (name_data names.firms firm) (member (codes "gain") (integer_data gain) no_members))))
-answer_form names (Impossible firm) = json (answer (codes "impossible") (member (codes "firm") (name_data names.firms firm) no_members))
+answer_form names (Equilibrium surplus) =
+    json (answer (codes "equilibrium") (member (codes "surplus") (integer_data surplus) no_members))
+answer_form names (Better firm bundle gain) =
+    json (answer (codes "better") (member (codes "bundle") (names_data names.trades bundle)
+    (member (codes "firm") (name_data names.firms firm) (member (codes "gain") (integer_data gain) no_members))))
+answer_form names (Impossible firm) =
+    json (answer (codes "impossible") (member (codes "firm") (name_data names.firms firm) no_members))
 answer_form names Accepted = json (answer (codes "accepted") no_members)
-answer_form names (ExchangeFails firm x y at) = json (answer (codes "exchange_fails") (member (codes "at") (option_data names.trades at) (member (codes "firm") (name_data names.firms firm) (member (codes "x") (names_data names.trades x) (member (codes "y") (names_data names.trades y) no_members)))))
-answer_form names (Supported on prices ends) = json (answer (codes "prices") (member (codes "prices") (prices_data names.trades prices) no_members))
-answer_form names (Cycle nodes cost) = json (answer (codes "cycle") (member (codes "cost") (integer_data cost) (member (codes "nodes") (nodes_data names.trades nodes) no_members)))
-answer_form names (Solved on prices surplus ends) = json (answer (codes "solved") (member (codes "on") (names_data names.trades on) (member (codes "prices") (prices_data names.trades prices) (member (codes "surplus") (integer_data surplus) no_members))))
-answer_form names (Drill size start firms surplus) = json (answer (codes "drill") (member (codes "firms") (number (unsigned firms)) (member (codes "size") (number (unsigned size)) (member (codes "start") (number (unsigned start)) (member (codes "surplus") (integer_data surplus) no_members)))))
-answer_form names (Ranges on ranges ends) = json (answer (codes "ranges") (member (codes "on") (names_data names.trades on) (member (codes "ranges") (ranges_data names.trades ranges) no_members)))
-answer_form names (Session edits) = json (answer (codes "session") (member (codes "edits") (states_data names.trades edits) no_members))
-answer_form names (Drops firm keeps gain over) = json (answer (codes "drops") (member (codes "firm") (name_data names.firms firm) (member (codes "gain") (bound_data gain) (member (codes "keeps") (names_data names.trades keeps) (member (codes "over") (integer_data over) no_members)))))
-answer_form names (Completes prices over) = json (answer (codes "completes") (member (codes "over") (integer_data over) (member (codes "prices") (prices_data names.trades prices) no_members)))
-answer_form names (Blocks contracts over) = json (answer (codes "blocks") (member (codes "contracts") (contracts_data names.trades contracts) (member (codes "over") (integer_data over) no_members)))
+answer_form names (ExchangeFails firm x y at) =
+    json (answer (codes "exchange_fails") (member (codes "at") (option_data names.trades at)
+    (member (codes "firm") (name_data names.firms firm)
+    (member (codes "x") (names_data names.trades x) (member (codes "y") (names_data names.trades y) no_members)))))
+answer_form names (Supported on prices ends) =
+    json (answer (codes "prices") (member (codes "prices") (prices_data names.trades prices) no_members))
+answer_form names (Cycle nodes cost) =
+    json (answer (codes "cycle") (member (codes "cost") (integer_data cost)
+    (member (codes "nodes") (nodes_data names.trades nodes) no_members)))
+answer_form names (Solved on prices surplus ends) =
+    json (answer (codes "solved") (member (codes "on") (names_data names.trades on)
+    (member (codes "prices") (prices_data names.trades prices)
+    (member (codes "surplus") (integer_data surplus) no_members))))
+answer_form names (Drill size start firms surplus) =
+    json (answer (codes "drill") (member (codes "firms") (number (unsigned firms))
+    (member (codes "size") (number (unsigned size)) (member (codes "start") (number (unsigned start))
+    (member (codes "surplus") (integer_data surplus) no_members)))))
+answer_form names (Ranges on ranges ends) =
+    json (answer (codes "ranges") (member (codes "on") (names_data names.trades on)
+    (member (codes "ranges") (ranges_data names.trades ranges) no_members)))
+answer_form names (Session edits) =
+    json (answer (codes "session") (member (codes "edits") (states_data names.trades edits) no_members))
+answer_form names (Drops firm keeps gain over) =
+    json (answer (codes "drops") (member (codes "firm") (name_data names.firms firm)
+    (member (codes "gain") (bound_data gain) (member (codes "keeps") (names_data names.trades keeps)
+    (member (codes "over") (integer_data over) no_members)))))
+answer_form names (Completes prices over) =
+    json (answer (codes "completes") (member (codes "over") (integer_data over)
+    (member (codes "prices") (prices_data names.trades prices) no_members)))
+answer_form names (Blocks contracts over) =
+    json (answer (codes "blocks") (member (codes "contracts") (contracts_data names.trades contracts)
+    (member (codes "over") (integer_data over) no_members)))
 answer_form names Valid = json (answer (codes "valid") no_members)
 answer_form names (Invalid reason) = json (answer (codes "invalid") (reason_members names reason))
-answer_form names (Cases count failed) = json (answer (codes "cases") (member (codes "count") (number (unsigned count)) (member (codes "failed") (numbers_data failed) no_members)))
+answer_form names (Cases count failed) =
+    json (answer (codes "cases") (member (codes "count") (number (unsigned count))
+    (member (codes "failed") (numbers_data failed) no_members)))
 answer_form names (PageIs page) = lines (page_lines page)
-answer_form names (Firms content firms surplus) = json (answer (codes "firms") (member (codes "content") (number (unsigned content)) (member (codes "firms") (holdings_data names firms) (member (codes "surplus") (bound_data surplus) no_members))))
+answer_form names (Firms content firms surplus) =
+    json (answer (codes "firms") (member (codes "content") (number (unsigned content))
+    (member (codes "firms") (holdings_data names firms) (member (codes "surplus") (bound_data surplus) no_members))))
 
 -- the JSON value of a form, null where it is lines
 abbrev pub data_in : Form → Data

@@ -44,17 +44,22 @@ abbrev pub IsNamedAnswer : NameLists → Said → Type 0
 IsNamedAnswer names Usage = Unit {0}
 IsNamedAnswer names ReadFault = Unit {0}
 IsNamedAnswer names NoMemory = Unit {0}
-IsNamedAnswer names (FaultIs fault) = All (IsNamedStep names.trades) fault.place × IfSome fault.shown (IsNamedTriple names.trades)
+IsNamedAnswer names (FaultIs fault) = All (IsNamedStep names.trades) fault.place
+    × IfSome fault.shown (IsNamedTriple names.trades)
 IsNamedAnswer names (Equilibrium surplus) = Unit {0}
 IsNamedAnswer names (Better firm bundle gain) = IsNamed names.firms firm × All (IsNamed names.trades) bundle
 IsNamedAnswer names (Impossible firm) = IsNamed names.firms firm
 IsNamedAnswer names Accepted = Unit {0}
-IsNamedAnswer names (ExchangeFails firm x y at) = IsNamed names.firms firm × IsNamedTriple names.trades (record { x = x; y = y; at = at })
-IsNamedAnswer names (Supported on prices ends) = All (IsNamed names.trades) on × (length prices ≡ length names.trades) × AreNamedEnds names ends
+IsNamedAnswer names (ExchangeFails firm x y at) = IsNamed names.firms firm
+    × IsNamedTriple names.trades (record { x = x; y = y; at = at })
+IsNamedAnswer names (Supported on prices ends) = All (IsNamed names.trades) on × (length prices ≡ length names.trades)
+    × AreNamedEnds names ends
 IsNamedAnswer names (Cycle nodes cost) = All (λ node. IfSome node (IsNamed names.trades)) nodes
-IsNamedAnswer names (Solved on prices surplus ends) = All (IsNamed names.trades) on × (length prices ≡ length names.trades) × AreNamedEnds names ends
+IsNamedAnswer names (Solved on prices surplus ends) = All (IsNamed names.trades) on
+    × (length prices ≡ length names.trades) × AreNamedEnds names ends
 IsNamedAnswer names (Drill size start firms surplus) = Unit {0}
-IsNamedAnswer names (Ranges on ranges ends) = All (IsNamed names.trades) on × (length ranges ≡ length names.trades) × All (HasNamedPaths names.trades) ranges × AreNamedEnds names ends
+IsNamedAnswer names (Ranges on ranges ends) = All (IsNamed names.trades) on × (length ranges ≡ length names.trades)
+    × All (HasNamedPaths names.trades) ranges × AreNamedEnds names ends
 IsNamedAnswer names (Session edits) = All (IsNamedState names.trades) edits
 IsNamedAnswer names (Drops firm keeps gain over) = IsNamed names.firms firm × All (IsNamed names.trades) keeps
 IsNamedAnswer names (Completes prices over) = length prices ≡ length names.trades
@@ -63,7 +68,8 @@ IsNamedAnswer names Valid = Unit {0}
 IsNamedAnswer names (Invalid reason) = IsNamedReason names reason
 IsNamedAnswer names (Cases count failed) = Unit {0}
 IsNamedAnswer names (PageIs page) = Unit {0}
-IsNamedAnswer names (Firms content firms surplus) = (length firms ≡ length names.firms) × All (IsNamedHolding names.trades) firms
+IsNamedAnswer names (Firms content firms surplus) = (length firms ≡ length names.firms)
+    × All (IsNamedHolding names.trades) firms
 
 -- the numbers of an answer fit 64 bits, and so do the indices of a fault's place
 abbrev pub HasShortNumbers : Said → Type 0
@@ -82,13 +88,15 @@ pub record IsSameFault (trades : List (List ℕ)) (first second : Fault) : Type 
   pub place : AllZip (IsSameStep trades) first.place second.place
   pub shown : first.shown ≡ second.shown
 
--- answers are written alike as objects: two faults that are, or equal answers, but that an object doesn't tell the ends of
--- trades, nor a support its set
+-- answers are written alike as objects: two faults that are, or equal answers, but that an object doesn't tell the ends
+-- of trades, nor a support its set
 abbrev pub IsSameObject : NameLists → Said → Said → Type 0
 IsSameObject names (FaultIs first) (FaultIs second) = IsSameFault names.trades first second
 IsSameObject names (Supported on prices ends) (Supported others other_prices other_ends) = prices ≡ other_prices
-IsSameObject names (Solved on prices surplus ends) (Solved others other_prices other_surplus other_ends) = (on ≡ others) × (prices ≡ other_prices) × (surplus ≡ other_surplus)
-IsSameObject names (Ranges on ranges ends) (Ranges others other_ranges other_ends) = (on ≡ others) × (ranges ≡ other_ranges)
+IsSameObject names (Solved on prices surplus ends) (Solved others other_prices other_surplus other_ends) = (on ≡ others)
+    × (prices ≡ other_prices) × (surplus ≡ other_surplus)
+IsSameObject names (Ranges on ranges ends) (Ranges others other_ranges other_ends) = (on ≡ others)
+    × (ranges ≡ other_ranges)
 IsSameObject names first second = first ≡ second
 
 -- the same trades are on
@@ -105,18 +113,22 @@ pub record AreSameBounds (ranges others : List Range) : Type 0 where
   pub same_lows : map (λ range. range.low) ranges ≡ map (λ range. range.low) others
   pub same_highs : map (λ range. range.high) ranges ≡ map (λ range. range.high) others
 
--- answers are written alike as rows: they agree in what their columns say, or are written alike as objects. Rows don't tell
--- a surplus, nor the paths of a range, and of the ends of trades only those of a support and a range do
+-- answers are written alike as rows: they agree in what their columns say, or are written alike as objects. Rows don't
+-- tell a surplus, nor the paths of a range, and of the ends of trades only those of a support and a range do
 abbrev pub IsSameInRows : NameLists → Said → Said → Type 0
-IsSameInRows names (Supported on prices ends) (Supported others other_prices other_ends) = AreSameOn on others × (prices ≡ other_prices) × AreSameEnds ends other_ends
-IsSameInRows names (Solved on prices surplus ends) (Solved others other_prices other_surplus other_ends) = AreSameOn on others × (prices ≡ other_prices)
-IsSameInRows names (Ranges on ranges ends) (Ranges others other_ranges other_ends) = AreSameOn on others × AreSameBounds ranges other_ranges × AreSameEnds ends other_ends
+IsSameInRows names (Supported on prices ends) (Supported others other_prices other_ends) = AreSameOn on others
+    × (prices ≡ other_prices) × AreSameEnds ends other_ends
+IsSameInRows names (Solved on prices surplus ends) (Solved others other_prices other_surplus other_ends) =
+    AreSameOn on others × (prices ≡ other_prices)
+IsSameInRows names (Ranges on ranges ends) (Ranges others other_ranges other_ends) = AreSameOn on others
+    × AreSameBounds ranges other_ranges × AreSameEnds ends other_ends
 IsSameInRows names (Firms content firms surplus) (Firms other_content other_firms other_surplus) = firms ≡ other_firms
 IsSameInRows names first second = IsSameObject names first second
 
 -- and as wide rows, which tell the ends of trades too
 abbrev pub IsSameInWideRows : NameLists → Said → Said → Type 0
-IsSameInWideRows names (Solved on prices surplus ends) (Solved others other_prices other_surplus other_ends) = AreSameOn on others × (prices ≡ other_prices) × AreSameEnds ends other_ends
+IsSameInWideRows names (Solved on prices surplus ends) (Solved others other_prices other_surplus other_ends) =
+    AreSameOn on others × (prices ≡ other_prices) × AreSameEnds ends other_ends
 IsSameInWideRows names first second = IsSameObject names first second
 
 -- answers are written alike in a layout
@@ -128,5 +140,6 @@ IsSameAnswer WideRows names first second = IsSameInWideRows names first second
 -- answers of one text in one layout over the same names are written alike
 abbrev pub AnswersAreToldApart : Type 0
 AnswersAreToldApart =
-    (layout : Layout) (names : NameLists) (first second : Said) → IsNameList names.firms → IsNameList names.trades → IsNamedAnswer names first → IsNamedAnswer names second → HasShortNumbers first → HasShortNumbers second
+    (layout : Layout) (names : NameLists) (first second : Said) → IsNameList names.firms → IsNameList names.trades
+    → IsNamedAnswer names first → IsNamedAnswer names second → HasShortNumbers first → HasShortNumbers second
     → answer_line layout names first ≡ answer_line layout names second → IsSameAnswer layout names first second

@@ -48,7 +48,8 @@ IsWithinClaims (ExchangeFails firm x y at) = Unit {0}
 IsWithinClaims (Supported on prices ends) = All IsWithinPrices prices
 IsWithinClaims (Cycle nodes cost) = IsWithinClaim cost
 IsWithinClaims (Solved on prices surplus ends) = All IsWithinPrices prices × IsWithinClaim surplus
-IsWithinClaims (Drill size start firms surplus) = (size < 2 ^ 32) × (start < 2 ^ 32) × (firms < 2 ^ 32) × IsWithinClaim surplus
+IsWithinClaims (Drill size start firms surplus) = (size < 2 ^ 32) × (start < 2 ^ 32) × (firms < 2 ^ 32)
+    × IsWithinClaim surplus
 IsWithinClaims (Ranges on ranges ends) = All HasWithinBounds ranges
 IsWithinClaims (Session edits) = All IsWithinState edits
 IsWithinClaims (Drops firm keeps gain over) = IfSome gain IsWithinClaim × IsWithinClaim over
@@ -58,7 +59,8 @@ IsWithinClaims Valid = Unit {0}
 IsWithinClaims (Invalid reason) = IsReasonWithin reason
 IsWithinClaims (Cases count failed) = (count < 2 ^ 32) × All (λ n. n < 2 ^ 32) failed
 IsWithinClaims (PageIs page) = Unit {0}
-IsWithinClaims (Firms content firms surplus) = (content < 2 ^ 32) × All IsWithinHolding firms × IfSome surplus IsWithinClaim
+IsWithinClaims (Firms content firms surplus) = (content < 2 ^ 32) × All IsWithinHolding firms
+    × IfSome surplus IsWithinClaim
 
 -- the trades of a state that are on, and those that have a price, ascend strictly
 pub record IsAscendingState (state : State) : Type 0 where

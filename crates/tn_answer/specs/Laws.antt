@@ -62,7 +62,8 @@ names_nothing (Firms content firms surplus) = is_empty firms
 
 -- the text of such an answer is the same over any names, in each layout
 abbrev pub NeedsNoNames : Type 0
-NeedsNoNames = (layout : Layout) (said : Said) (names others : NameLists) → names_nothing said ≡ true → answer_line layout names said ≡ answer_line layout others said
+NeedsNoNames = (layout : Layout) (said : Said) (names others : NameLists) → names_nothing said ≡ true
+    → answer_line layout names said ≡ answer_line layout others said
 
 -- an answer within the limits of claims can be written
 abbrev pub IsSayableWithinClaims : Type 0

@@ -22,23 +22,36 @@ firm_because names firm name rest = member (codes "firm") (name_data names.firms
 -- the members of an answer with a reason, in byte order
 abbrev pub reason_members : NameLists → Reason → Members
 reason_members names (Impossible firm) = firm_because names firm (codes "impossible") no_members
-reason_members names (Better firm bundle) = member (codes "bundle") (names_data names.trades bundle) (firm_because names firm (codes "better") no_members)
+reason_members names (Better firm bundle) =
+    member (codes "bundle") (names_data names.trades bundle) (firm_because names firm (codes "better") no_members)
 reason_members names (Possible firm) = firm_because names firm (codes "possible") no_members
-reason_members names (Surplus surplus) = because (codes "surplus") (member (codes "surplus") (integer_data surplus) no_members)
-reason_members names (Gain firm gain) = member (codes "firm") (name_data names.firms firm) (member (codes "gain") (bound_data gain) (because (codes "gain") no_members))
-reason_members names (Exchange firm x y at) = member (codes "at") (option_data names.trades at) (firm_because names firm (codes "exchange") (member (codes "x") (names_data names.trades x) (member (codes "y") (names_data names.trades y) no_members)))
+reason_members names (Surplus surplus) =
+    because (codes "surplus") (member (codes "surplus") (integer_data surplus) no_members)
+reason_members names (Gain firm gain) =
+    member (codes "firm") (name_data names.firms firm) (member (codes "gain") (bound_data gain)
+    (because (codes "gain") no_members))
+reason_members names (Exchange firm x y at) =
+    member (codes "at") (option_data names.trades at) (firm_because names firm (codes "exchange")
+    (member (codes "x") (names_data names.trades x) (member (codes "y") (names_data names.trades y) no_members)))
 reason_members names Holds = because (codes "holds") no_members
 reason_members names (Arc index) = member (codes "index") (number (unsigned index)) (because (codes "arc") no_members)
 reason_members names (Cost cost) = member (codes "cost") (integer_data cost) (because (codes "cost") no_members)
-reason_members names (Contract trade) = because (codes "contract") (member (codes "trade") (name_data names.trades trade) no_members)
+reason_members names (Contract trade) =
+    because (codes "contract") (member (codes "trade") (name_data names.trades trade) no_members)
 reason_members names (Over over) = member (codes "over") (integer_data over) (because (codes "over") no_members)
-reason_members names (Price trade) = because (codes "price") (member (codes "trade") (name_data names.trades trade) no_members)
+reason_members names (Price trade) =
+    because (codes "price") (member (codes "trade") (name_data names.trades trade) no_members)
 reason_members names Empty = because (codes "empty") no_members
-reason_members names (Signed trade) = because (codes "signed") (member (codes "trade") (name_data names.trades trade) no_members)
-reason_members names (Choice firm trade) = firm_because names firm (codes "choice") (member (codes "trade") (name_data names.trades trade) no_members)
+reason_members names (Signed trade) =
+    because (codes "signed") (member (codes "trade") (name_data names.trades trade) no_members)
+reason_members names (Choice firm trade) =
+    firm_because names firm (codes "choice") (member (codes "trade") (name_data names.trades trade) no_members)
 reason_members names (Shares firm) = firm_because names firm (codes "shares") no_members
-reason_members names (Balance trade) = because (codes "balance") (member (codes "trade") (name_data names.trades trade) no_members)
-reason_members names (Whole on surplus) = member (codes "on") (names_data names.trades on) (because (codes "whole") (member (codes "surplus") (integer_data surplus) no_members))
+reason_members names (Balance trade) =
+    because (codes "balance") (member (codes "trade") (name_data names.trades trade) no_members)
+reason_members names (Whole on surplus) =
+    member (codes "on") (names_data names.trades on) (because (codes "whole")
+    (member (codes "surplus") (integer_data surplus) no_members))
 
 -- a number of a reason keeps a limit
 abbrev pub KeepsNumbers : (ℤ → Type 0) → ℕ → Reason → Type 0
@@ -75,7 +88,8 @@ IsNamedReason names (Better firm bundle) = IsNamed names.firms firm × All (IsNa
 IsNamedReason names (Possible firm) = IsNamed names.firms firm
 IsNamedReason names (Surplus surplus) = Unit {0}
 IsNamedReason names (Gain firm gain) = IsNamed names.firms firm
-IsNamedReason names (Exchange firm x y at) = IsNamed names.firms firm × IsNamedTriple names.trades (record { x = x; y = y; at = at })
+IsNamedReason names (Exchange firm x y at) = IsNamed names.firms firm
+    × IsNamedTriple names.trades (record { x = x; y = y; at = at })
 IsNamedReason names Holds = Unit {0}
 IsNamedReason names (Arc index) = Unit {0}
 IsNamedReason names (Cost cost) = Unit {0}

@@ -68,7 +68,8 @@ deal_head = codes "trade" ∷ codes "seller" ∷ codes "buyer" ∷ codes "on" �
 
 abbrev pub deal_row : NameLists → List ℕ → List Ends → ℕ → ℤ → List (List ℕ)
 deal_row names on ends k price =
-    name_text names.trades k ∷ seller_text names.firms (slice_get ends k) ∷ buyer_text names.firms (slice_get ends k) ∷ flag_text (is_listed on k) ∷ signed_decimal price ∷ []
+    name_text names.trades k ∷ seller_text names.firms (slice_get ends k) ∷ buyer_text names.firms (slice_get ends k) ∷
+    flag_text (is_listed on k) ∷ signed_decimal price ∷ []
 
 -- with the lowest and the highest price
 abbrev pub range_head : List (List ℕ)
@@ -76,15 +77,18 @@ range_head = codes "trade" ∷ codes "seller" ∷ codes "buyer" ∷ codes "on" �
 
 abbrev pub range_row : NameLists → List ℕ → List Ends → ℕ → Range → List (List ℕ)
 range_row names on ends k range =
-    name_text names.trades k ∷ seller_text names.firms (slice_get ends k) ∷ buyer_text names.firms (slice_get ends k) ∷ flag_text (is_listed on k) ∷ bound_text range.low ∷ bound_text range.high ∷ []
+    name_text names.trades k ∷ seller_text names.firms (slice_get ends k) ∷ buyer_text names.firms (slice_get ends k) ∷
+    flag_text (is_listed on k) ∷ bound_text range.low ∷ bound_text range.high ∷ []
 
 -- and the row of a firm: its name, whether it is content, and what it has
 abbrev pub firm_head : List (List ℕ)
-firm_head = codes "firm" ∷ codes "content" ∷ codes "worth" ∷ codes "utility" ∷ codes "best_utility" ∷ codes "gain" ∷ codes "has" ∷ codes "best" ∷ []
+firm_head = codes "firm" ∷ codes "content" ∷ codes "worth" ∷ codes "utility" ∷ codes "best_utility" ∷ codes "gain" ∷
+    codes "has" ∷ codes "best" ∷ []
 
 abbrev pub firm_row : NameLists → ℕ → Holding → List (List ℕ)
 firm_row names k holding =
-    name_text names.firms k ∷ flag_text (is_nothing holding.gain) ∷ bound_text holding.worth ∷ bound_text holding.utility ∷ signed_decimal holding.best_utility ∷ bound_text holding.gain
+    name_text names.firms k ∷ flag_text (is_nothing holding.gain) ∷ bound_text holding.worth ∷ bound_text
+    holding.utility ∷ signed_decimal holding.best_utility ∷ bound_text holding.gain
     ∷ bundle_text names.trades holding.has ∷ bundle_text names.trades holding.best ∷ []
 
 -- ---- tables
@@ -98,7 +102,8 @@ abbrev pub rows_text : List (List (List ℕ)) → List ℕ
 rows_text rows = flat_map (row_text default_writer) rows
 
 -- a csv writer has written this text, and is about to begin a row
-pub record IsBetweenRows (written : Option (List ℕ)) (setup : WriterBuilder) (fields : ℕ) (wrote : Bool) (text : List ℕ) : Type 0 where
+pub record IsBetweenRows (written : Option (List ℕ)) (setup : WriterBuilder) (fields : ℕ) (wrote : Bool)
+    (text : List ℕ) : Type 0 where
   pub text_is : written ≡ Some text
   pub default : setup ≡ default_writer
   pub no_field : fields ≡ 0

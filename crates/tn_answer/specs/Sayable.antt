@@ -36,7 +36,8 @@ IsSayable (ExchangeFails firm x y at) = Unit {0}
 IsSayable (Supported on prices ends) = All (FitsSigned w64) prices
 IsSayable (Cycle nodes cost) = FitsSigned w64 cost
 IsSayable (Solved on prices surplus ends) = All (FitsSigned w64) prices × FitsSigned w64 surplus
-IsSayable (Drill size start firms surplus) = (size < 2 ^ 64) × (start < 2 ^ 64) × (firms < 2 ^ 64) × FitsSigned w64 surplus
+IsSayable (Drill size start firms surplus) = (size < 2 ^ 64) × (start < 2 ^ 64) × (firms < 2 ^ 64)
+    × FitsSigned w64 surplus
 IsSayable (Ranges on ranges ends) = All HasShortBounds ranges
 IsSayable (Session edits) = All IsShortState edits
 IsSayable (Drops firm keeps gain over) = IfSome gain (FitsSigned w64) × FitsSigned w64 over
@@ -46,4 +47,5 @@ IsSayable Valid = Unit {0}
 IsSayable (Invalid reason) = IsShortReason reason
 IsSayable (Cases count failed) = (count < 2 ^ 64) × All (λ n. n < 2 ^ 64) failed
 IsSayable (PageIs page) = Unit {0}
-IsSayable (Firms content firms surplus) = (content < 2 ^ 64) × All IsShortHolding firms × IfSome surplus (FitsSigned w64)
+IsSayable (Firms content firms surplus) = (content < 2 ^ 64) × All IsShortHolding firms
+    × IfSome surplus (FitsSigned w64)

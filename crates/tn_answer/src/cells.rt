@@ -103,8 +103,11 @@ pub(crate) fn write_row(
     cells: &[Cell],
 ) -> Result<(), OutOfMemory>
     requires { All IsShortCell cells.now }
-    ensures { (text : List ℕ) → IsBetweenRows (text_written (λ v. Some v.items) writer.old) (writer_setup writer.old) (fields_written writer.old) (has_written writer.old) text
-        → OnOk result (IsBetweenRows (text_written (λ v. Some v.items) writer.new) (writer_setup writer.new) (fields_written writer.new) (has_written writer.new)
+    ensures { (text : List ℕ)
+        → IsBetweenRows (text_written (λ v. Some v.items) writer.old) (writer_setup writer.old)
+        (fields_written writer.old) (has_written writer.old) text
+        → OnOk result (IsBetweenRows (text_written (λ v. Some v.items) writer.new) (writer_setup writer.new)
+        (fields_written writer.new) (has_written writer.new)
         (text ++ row_text default_writer (map (cell_text names.now) cells.now))) }
 {
     let row = record_of(alloc, names, cells)?;
@@ -121,7 +124,8 @@ pub(crate) fn begin(
     head: &[Cell],
 ) -> Result<Writer<Vec<u8>>, OutOfMemory>
     requires { All IsShortCell head.now }
-    ensures { IfOk result (λ writer. IsBetweenRows (text_written (λ v. Some v.items) writer) (writer_setup writer) (fields_written writer) (has_written writer)
+    ensures { IfOk result (λ writer. IsBetweenRows (text_written (λ v. Some v.items) writer) (writer_setup writer)
+        (fields_written writer) (has_written writer)
         (row_text default_writer (map (cell_text names.now) head.now))) }
 {
     let mut writer = Writer::from_writer(Vec::new(alloc));
@@ -131,7 +135,9 @@ pub(crate) fn begin(
 
 /// The text that a writer of rows has written.
 pub(crate) fn finish(writer: Writer<Vec<u8>>) -> Result<Vec<u8>, OutOfMemory>
-    ensures { (text : List ℕ) → IsBetweenRows (text_written (λ v. Some v.items) writer) (writer_setup writer) (fields_written writer) (has_written writer) text
+    ensures { (text : List ℕ)
+        → IsBetweenRows (text_written (λ v. Some v.items) writer) (writer_setup writer) (fields_written writer)
+        (has_written writer) text
         → IfOk result (λ written. written.items ≡ text) }
 {
     match writer.into_inner() {

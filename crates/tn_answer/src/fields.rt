@@ -1,5 +1,7 @@
-// Objects of an answer, from data. One loop makes the values: a function that makes them member by member, with one more
-// way out at each, takes several times as long to prove.
+//! Members of an answer's object: each key with what stands beside it.
+
+// Objects of an answer, from data. One loop makes the values: a function that makes them member by member, with one
+// more way out at each, takes several times as long to prove.
 ghost use Rattle.std.specs.Prelude.{◌≡◌, All, IfOk, IfSome, FitsSigned};
 ghost use Rattle.std.specs.Int.{w64};
 ghost use Rattle.serde_json.specs.Data.{object};

@@ -1,3 +1,5 @@
+//! What firms have, as JSON values.
+
 // What firms have in an arrangement, as JSON values.
 ghost use Rattle.std.specs.Prelude.{◌≡◌, [], All, IfOk, IfSome, FitsSigned, slice_get, unwrap_or};
 ghost use Rattle.std.specs.Int.{w64};

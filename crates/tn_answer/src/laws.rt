@@ -1,10 +1,12 @@
+//! Laws of the lines that answers have: how far a line tells its answer.
+
 ghost use Rattle.tn_answer.specs.Apart.{AnswersAreToldApart};
 ghost use Rattle.tn_answer.specs.Laws.{IsSayableWithinClaims, NeedsNoNames};
 
 /// Two answers of one text in one layout over the same names, which speak of named firms and trades alone and whose
-/// numbers fit 64 bits, are equal; but for a step of a fault's place that is a member in the one and a trade of the same
-/// name in the other, and for what the layout doesn't tell: two answers with the same rows agree in all that the columns
-/// say.
+/// numbers fit 64 bits, are equal; but for a step of a fault's place that is a member in the one and a trade of the
+/// same name in the other, and for what the layout doesn't tell: two answers with the same rows agree in all that the
+/// columns say.
 pub fn answers_are_told_apart()
     ensures { AnswersAreToldApart }
 {}

@@ -1,3 +1,5 @@
+//! Layouts of an answer.
+
 /// How an answer is written.
 #[derive(Clone, Copy, Debug, PartialEq, Eq)]
 pub enum Layout {

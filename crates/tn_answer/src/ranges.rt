@@ -1,3 +1,5 @@
+//! Ranges of prices, as JSON values.
+
 // The prices that trades may have, as JSON values.
 ghost use Rattle.std.specs.Prelude.{◌≡◌, All, IfOk};
 ghost use Rattle.serde_json.specs.View.{view};

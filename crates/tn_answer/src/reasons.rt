@@ -1,3 +1,5 @@
+//! Why a claim isn't valid, as a JSON value.
+
 // Reasons against a claim, and the numbers of cases, as JSON values.
 ghost use Rattle.std.specs.Prelude.{◌≡◌, codes, IfOk, IfSome, FitsSigned};
 ghost use Rattle.std.specs.Int.{w64};
@@ -183,7 +185,8 @@ fn exchange_value<'a>(
     at: Option<u32>,
 ) -> Result<Value, AllocError>
     ensures { IfOk result
-        (λ value. view value ≡ answer (codes "invalid") (reason_members names.now (Reason.Exchange firm x.now y.now at))) }
+        (λ value. view value
+        ≡ answer (codes "invalid") (reason_members names.now (Reason.Exchange firm x.now y.now at))) }
 {
     let fields = [
         ("answer", Field::Word("invalid")),

@@ -69,8 +69,11 @@ fn write_price(
     price: i128,
 ) -> Result<(), OutOfMemory>
     requires { FitsSigned w64 price }
-    ensures { (text : List ℕ) → IsBetweenRows (text_written (λ v. Some v.items) writer.old) (writer_setup writer.old) (fields_written writer.old) (has_written writer.old) text
-        → OnOk result (IsBetweenRows (text_written (λ v. Some v.items) writer.new) (writer_setup writer.new) (fields_written writer.new) (has_written writer.new)
+    ensures { (text : List ℕ)
+        → IsBetweenRows (text_written (λ v. Some v.items) writer.old) (writer_setup writer.old)
+        (fields_written writer.old) (has_written writer.old) text
+        → OnOk result (IsBetweenRows (text_written (λ v. Some v.items) writer.new) (writer_setup writer.new)
+        (fields_written writer.new) (has_written writer.new)
         (text ++ row_text default_writer (price_row names.now on.now k price))) }
 {
     let row = [
@@ -110,8 +113,11 @@ fn write_deal(
     price: i128,
 ) -> Result<(), OutOfMemory>
     requires { FitsSigned w64 price }
-    ensures { (text : List ℕ) → IsBetweenRows (text_written (λ v. Some v.items) writer.old) (writer_setup writer.old) (fields_written writer.old) (has_written writer.old) text
-        → OnOk result (IsBetweenRows (text_written (λ v. Some v.items) writer.new) (writer_setup writer.new) (fields_written writer.new) (has_written writer.new)
+    ensures { (text : List ℕ)
+        → IsBetweenRows (text_written (λ v. Some v.items) writer.old) (writer_setup writer.old)
+        (fields_written writer.old) (has_written writer.old) text
+        → OnOk result (IsBetweenRows (text_written (λ v. Some v.items) writer.new) (writer_setup writer.new)
+        (fields_written writer.new) (has_written writer.new)
         (text ++ row_text default_writer (deal_row names.now on.now ends.now k price))) }
 {
     let row = [
@@ -133,7 +139,8 @@ pub(crate) fn deal_rows(
     ends: &TradeEnds,
 ) -> Result<Vec<u8>, OutOfMemory>
     requires { All (FitsSigned w64) prices.now }
-    ensures { IfOk result (λ text. text.items ≡ rows_text (table deal_head (deal_row names.now on.now ends.now) prices.now)) }
+    ensures { IfOk result (λ text. text.items ≡ rows_text
+        (table deal_head (deal_row names.now on.now ends.now) prices.now)) }
 {
     let head = [
         Cell::Name("trade"),
@@ -160,8 +167,11 @@ fn write_range(
     range: &Range,
 ) -> Result<(), OutOfMemory>
     requires { HasShortBounds range.now }
-    ensures { (text : List ℕ) → IsBetweenRows (text_written (λ v. Some v.items) writer.old) (writer_setup writer.old) (fields_written writer.old) (has_written writer.old) text
-        → OnOk result (IsBetweenRows (text_written (λ v. Some v.items) writer.new) (writer_setup writer.new) (fields_written writer.new) (has_written writer.new)
+    ensures { (text : List ℕ)
+        → IsBetweenRows (text_written (λ v. Some v.items) writer.old) (writer_setup writer.old)
+        (fields_written writer.old) (has_written writer.old) text
+        → OnOk result (IsBetweenRows (text_written (λ v. Some v.items) writer.new) (writer_setup writer.new)
+        (fields_written writer.new) (has_written writer.new)
         (text ++ row_text default_writer (range_row names.now on.now ends.now k range.now))) }
 {
     let row = [
@@ -184,7 +194,8 @@ pub(crate) fn range_rows(
     ends: &TradeEnds,
 ) -> Result<Vec<u8>, OutOfMemory>
     requires { All HasShortBounds ranges.now }
-    ensures { IfOk result (λ text. text.items ≡ rows_text (table range_head (range_row names.now on.now ends.now) ranges.now)) }
+    ensures { IfOk result (λ text. text.items ≡ rows_text
+        (table range_head (range_row names.now on.now ends.now) ranges.now)) }
 {
     let head = [
         Cell::Name("trade"),
@@ -210,8 +221,11 @@ fn write_firm<'a>(
     holding: &'a Holding,
 ) -> Result<(), OutOfMemory>
     requires { IsShortHolding holding.now }
-    ensures { (text : List ℕ) → IsBetweenRows (text_written (λ v. Some v.items) writer.old) (writer_setup writer.old) (fields_written writer.old) (has_written writer.old) text
-        → OnOk result (IsBetweenRows (text_written (λ v. Some v.items) writer.new) (writer_setup writer.new) (fields_written writer.new) (has_written writer.new)
+    ensures { (text : List ℕ)
+        → IsBetweenRows (text_written (λ v. Some v.items) writer.old) (writer_setup writer.old)
+        (fields_written writer.old) (has_written writer.old) text
+        → OnOk result (IsBetweenRows (text_written (λ v. Some v.items) writer.new) (writer_setup writer.new)
+        (fields_written writer.new) (has_written writer.new)
         (text ++ row_text default_writer (firm_row names.now k holding.now))) }
 {
     let row = [

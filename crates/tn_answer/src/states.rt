@@ -1,3 +1,5 @@
+//! The states of a session, as JSON values.
+
 // Contracts, and the states after changes of the admitted trades, as JSON values.
 ghost use Rattle.std.specs.Prelude.{◌≡◌, All, IfOk, FitsSigned};
 ghost use Rattle.std.specs.Int.{w64};

@@ -1,3 +1,5 @@
+//! The text of an answer.
+
 ghost use Rattle.std.specs.Prelude.{◌≡◌, ◌++◌, ◌∷◌, [], IfOk};
 ghost use Rattle.serde_json.specs.Written.{compact_text};
 ghost use Rattle.tn_answer.specs.AnswerText.{answer_data, answer_form, answer_line, form_text, table_of, text_of};
@@ -14,8 +16,9 @@ use tn_base::OutOfMemory;
 use tn_names::Names;
 use tn_plain_data::Said;
 
-/// The text of an answer in a layout over some names. A firm or a trade without a name has an empty one. The numbers of the
-/// answer fit 64 bits, and a fault shows a triple exactly where exchange fails. It fails only where memory runs out.
+/// The text of an answer in a layout over some names. A firm or a trade without a name has an empty one. The numbers of
+/// the answer fit 64 bits, and a fault shows a triple exactly where exchange fails. It fails only where memory runs
+/// out.
 #[tactic(auto, using(crate::proofs::LawLemmas::object_line), unfolding(crate::specs::AnswerText::answer_line))]
 pub fn answer_text(
     alloc: Global,

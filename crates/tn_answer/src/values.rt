@@ -1,3 +1,5 @@
+//! Each answer as a JSON value.
+
 // Answers as JSON values, null for a page. An object has its members in byte order, whatever order
 // they are put in.
 ghost use Rattle.std.specs.Prelude.{◌≡◌, [], All, unwrap_or, slice_get, IfOk, IfSome, FitsSigned};

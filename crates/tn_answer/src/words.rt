@@ -1,3 +1,5 @@
+//! The words for kinds of faults and for steps of a place.
+
 ghost use Rattle.std.specs.Prelude.{◌≡◌};
 ghost use Rattle.tn_answer.specs.Words.{kind_name, word_text};
 

@@ -33,7 +33,9 @@ buys_same sides k b sold is =
 
 -- then all positions are looked at
 pub buys_all : (sides : List Side) → set_of (has (buys_of sides)) (length sides) ≡ buys_of sides
-buys_all sides = same_set _ _ (λ k. has-set_of (has (buys_of sides)) (length sides) k ∙ elim (cases_lt k (length sides)) [
-  | inl h ↦ ap (λ b. b && has (buys_of sides) k) (lt-ltb k _ h)
-  | inr h ↦ ap (λ b. b && has (buys_of sides) k) (le-ltb k _ h) ∙ sym (has_above (buys_of sides) (length sides) k (buys_of_within sides) h)
-])
+buys_all sides =
+    same_set _ _ (λ k. has-set_of (has (buys_of sides)) (length sides) k ∙ elim (cases_lt k (length sides)) [
+      | inl h ↦ ap (λ b. b && has (buys_of sides) k) (lt-ltb k _ h)
+      | inr h ↦ ap (λ b. b && has (buys_of sides) k) (le-ltb k _ h)
+          ∙ sym (has_above (buys_of sides) (length sides) k (buys_of_within sides) h)
+    ])

@@ -22,7 +22,8 @@ cases_worth None = inr refl
 pub up_within : (buys x y n : ℕ) → x < 2 ^ n → y < 2 ^ n → up buys x y < 2 ^ n
 unfolding up
 up_within buys x y n x_below y_below =
-    union_within _ _ n (meet_within _ buys n (minus_within x y n x_below)) (minus_within _ buys n (minus_within y x n y_below))
+    union_within _ _ n (meet_within _ buys n (minus_within x y n x_below))
+    (minus_within _ buys n (minus_within y x n y_below))
 
 -- whether two bundles are enough
 pub enough_or_not : (firm : Firm) (x y : ℕ) (total : ℤ) → IsDecided (AreEnough firm x y total)
@@ -39,7 +40,8 @@ enough_or_not firm x y total = elim (cases_worth (firm.worth x)) [
     impossible : (z : ℕ) → firm.worth z ≡ None → (a : ℤ) → firm.worth z ≡ Some a → ⊥
     impossible z none a some = cc
 
-    too_small : (a b : ℤ) → (a +ℤ b) <ℤ total → firm.worth x ≡ Some a → firm.worth y ≡ Some b → AreEnough firm x y total → ⊥
+    too_small : (a b : ℤ) → (a +ℤ b) <ℤ total → firm.worth x ≡ Some a → firm.worth y ≡ Some b → AreEnough firm x y total
+        → ⊥
     too_small a b less p q e =
         let first : a ≡ e.first = same_Some _ _ (sym p ∙ e.first_is) in
         let second : b ≡ e.second = same_Some _ _ (sym q ∙ e.second_is) in
@@ -47,7 +49,8 @@ enough_or_not firm x y total = elim (cases_worth (firm.worth x)) [
         absurd (omega (arith, ints, first, second, less, most))
 
 -- whether a number below n has a fact, where each number's is decided
-search_below : (P : ℕ → Type 0) → ((k : ℕ) → IsDecided (P k)) → (n : ℕ) → ((k : ℕ) × (k < n) × P k) ⊎ ((k : ℕ) → k < n → P k → ⊥)
+search_below : (P : ℕ → Type 0) → ((k : ℕ) → IsDecided (P k)) → (n : ℕ) → ((k : ℕ) × (k < n) × P k)
+    ⊎ ((k : ℕ) → k < n → P k → ⊥)
 search_below P each zero = inr (λ k h p. absurd (omega (arith, h)))
 search_below P each (suc n) = elim (search_below P each n) [
   | inl found ↦ let below : found.0 < n = found.1 in inl (found.0, omega (arith, below), found.2)
@@ -81,7 +84,8 @@ swaps_or_not firm x y x' y' total x_below y_below =
     elim (search_below (SwapsAt firm x y x' y' total) (swaps_at_or_not firm x y x' y' total) firm.count) [
       | inl found ↦ inl (record { at = found.0; is_down = found.2.is_down; enough = found.2.enough })
       | inr none ↦ inr (λ s. none s.at
-          (has_below (down firm.buys x y) firm.count s.at (up_within firm.buys y x firm.count y_below x_below) s.is_down)
+          (has_below (down firm.buys x y) firm.count s.at (up_within firm.buys y x firm.count y_below x_below)
+          s.is_down)
           (record { is_down = s.is_down; enough = s.enough }))
     ]
 
@@ -116,16 +120,34 @@ exchange_from_none_fails firm own none = record {
   one = λ x y a b x_is y_is i is_up.
       elim (exchanges_or_not firm x y (a +ℤ b) i (own x a x_is) (own y b y_is)) [
         | inl e ↦ e
-        | inr wrong ↦ absurd (none x y (Some i) (record { first = a; second = b; first_is = x_is; second_is = y_is; wrong = (is_up, wrong) }))
+        | inr wrong ↦
+            absurd (none x y (Some i) (record {
+              first = a;
+              second = b;
+              first_is = x_is;
+              second_is = y_is;
+              wrong =
+                  (is_up, wrong);
+            }))
       ];
   net_count = λ x y a b x_is y_is less.
       elim (swaps_or_not firm x y x y (a +ℤ b) (own x a x_is) (own y b y_is)) [
         | inl s ↦ s
-        | inr wrong ↦ absurd (none x y None (record { first = a; second = b; first_is = x_is; second_is = y_is; wrong = (less, wrong) }))
+        | inr wrong ↦
+            absurd (none x y None (record {
+              first = a;
+              second = b;
+              first_is = x_is;
+              second_is = y_is;
+              wrong =
+                  (less, wrong);
+            }))
       ];
 }
 
 -- where exchange holds, no triple fails
 pub none_fails_from_exchange : (firm : Firm) → MeetsExchange firm → NoneFails firm
-none_fails_from_exchange firm meets x y (Some i) f = f.wrong.1 (meets.one x y f.first f.second f.first_is f.second_is i f.wrong.0)
-none_fails_from_exchange firm meets x y None f = f.wrong.1 (meets.net_count x y f.first f.second f.first_is f.second_is f.wrong.0)
+none_fails_from_exchange firm meets x y (Some i) f =
+    f.wrong.1 (meets.one x y f.first f.second f.first_is f.second_is i f.wrong.0)
+none_fails_from_exchange firm meets x y None f =
+    f.wrong.1 (meets.net_count x y f.first f.second f.first_is f.second_is f.wrong.0)

@@ -8,7 +8,8 @@ use Rattle.tn_base.proofs.SetLemmas.{same_set, has-zero, has-union, has-meet, ha
 use Rattle.tn_base.proofs.SizeLemmas.{size_at, size-toggle_in}
 
 -- the up side: purchases in x and not in y, and sales in y and not in x
-pub has-up : (buys x y k : ℕ) → has (up buys x y) k ≡ (if has buys k then has x k && not (has y k) else has y k && not (has x k))
+pub has-up : (buys x y k : ℕ) → has (up buys x y) k ≡ (if has buys k then has x k && not (has y k)
+    else has y k && not (has x k))
 unfolding up
 has-up buys x y k = simp (has-union, has-meet, has-minus) (by_side (has buys k) (has x k) (has y k))
   where
@@ -23,7 +24,8 @@ has-up buys x y k = simp (has-union, has-meet, has-minus) (by_side (has buys k) 
     by_side false false false = refl
 
 -- the net count, from the positions below n
-pub net_at : (n buys x : ℕ) → x < 2 ^ n → net buys x ≡ pos (size_below n (meet x buys)) -ℤ pos (size_below n (minus x buys))
+pub net_at : (n buys x : ℕ) → x < 2 ^ n → net buys x ≡ pos (size_below n (meet x buys))
+    -ℤ pos (size_below n (minus x buys))
 unfolding net
 net_at n buys x below =
     let within = size_at n (meet x buys) (meet_within x buys n below) in
@@ -34,8 +36,10 @@ net_at n buys x below =
 pub net-zero : (buys : ℕ) → net buys 0 ≡ pos 0
 unfolding net
 net-zero buys =
-    let within : meet 0 buys ≡ 0 = same_set _ _ (λ k. has-meet 0 buys k ∙ ap (λ b. b && has buys k) (has-zero k) ∙ sym (has-zero k)) in
-    let outside : minus 0 buys ≡ 0 = same_set _ _ (λ k. has-minus 0 buys k ∙ ap (λ b. b && not (has buys k)) (has-zero k) ∙ sym (has-zero k)) in
+    let within : meet 0 buys ≡ 0 =
+    same_set _ _ (λ k. has-meet 0 buys k ∙ ap (λ b. b && has buys k) (has-zero k) ∙ sym (has-zero k)) in
+    let outside : minus 0 buys ≡ 0 =
+    same_set _ _ (λ k. has-minus 0 buys k ∙ ap (λ b. b && not (has buys k)) (has-zero k) ∙ sym (has-zero k)) in
     let bought : size (meet 0 buys) ≡ size 0 = ap size within in
     let sold : size (minus 0 buys) ≡ size 0 = ap size outside in
     omega (arith, ints, bought, sold)
@@ -76,7 +80,8 @@ pub minus-toggle_in : (x y i : ℕ) → has y i ≡ false → minus (toggle x i)
 minus-toggle_in x y i absent = same_set _ _ (λ k.
     elim (cases_eq k i) [
       | inl e ↦ subst (λ (j : ℕ). has (minus (toggle x i) y) j ≡ has (toggle (minus x y) i) j) (sym e)
-          (has-minus (toggle x i) y i ∙ ap (λ b. b && not (has y i)) (has-toggle_same x i) ∙ here (has x i) (has y i) absent
+          (has-minus (toggle x i) y i ∙ ap (λ b. b && not (has y i)) (has-toggle_same x i)
+          ∙ here (has x i) (has y i) absent
           ∙ ap not (sym (has-minus x y i)) ∙ sym (has-toggle_same (minus x y) i))
       | inr d ↦ has-minus (toggle x i) y k ∙ ap (λ b. b && not (has y k)) (has-toggle_other x i k d)
           ∙ sym (has-minus x y k) ∙ sym (has-toggle_other (minus x y) i k d)
@@ -92,7 +97,8 @@ minus-toggle_out x y i present = same_set _ _ (λ k.
     elim (cases_eq k i) [
       | inl e ↦ subst (λ (j : ℕ). has (minus (toggle x i) y) j ≡ has (minus x y) j) (sym e)
           (has-minus (toggle x i) y i ∙ here (has (toggle x i) i) (has x i) (has y i) present ∙ sym (has-minus x y i))
-      | inr d ↦ has-minus (toggle x i) y k ∙ ap (λ b. b && not (has y k)) (has-toggle_other x i k d) ∙ sym (has-minus x y k)
+      | inr d ↦ has-minus (toggle x i) y k ∙ ap (λ b. b && not (has y k)) (has-toggle_other x i k d)
+          ∙ sym (has-minus x y k)
     ])
   where
     none : (p q : Bool) → q ≡ true → (p && not q) ≡ false
@@ -119,7 +125,8 @@ has_sold buys x i sold = has-minus x buys i ∙ kept (has x i) (has buys i) sold
     kept false q h = refl
 
 -- a purchase moved in raises the net count
-pub net-toggle_buy_in : (buys x i : ℕ) → has buys i ≡ true → has x i ≡ false → net buys (toggle x i) ≡ net buys x +ℤ pos 1
+pub net-toggle_buy_in : (buys x i : ℕ) → has buys i ≡ true → has x i ≡ false
+    → net buys (toggle x i) ≡ net buys x +ℤ pos 1
 unfolding net
 net-toggle_buy_in buys x i bought absent =
     let within : size (meet (toggle x i) buys) ≡ size (meet x buys) + 1 =
@@ -128,14 +135,16 @@ net-toggle_buy_in buys x i bought absent =
     omega (arith, ints, within, outside)
 
 -- a purchase moved out lowers the net count
-pub net-toggle_buy_out : (buys x i : ℕ) → has buys i ≡ true → has x i ≡ true → net buys (toggle x i) ≡ net buys x -ℤ pos 1
+pub net-toggle_buy_out : (buys x i : ℕ) → has buys i ≡ true → has x i ≡ true
+    → net buys (toggle x i) ≡ net buys x -ℤ pos 1
 net-toggle_buy_out buys x i bought present =
     let back = net-toggle_buy_in buys (toggle x i) i bought (has-toggle_same x i ∙ ap not present) in
     let same : net buys (toggle (toggle x i) i) ≡ net buys x = ap (net buys) (toggle-toggle x i) in
     omega (arith, ints, back, same)
 
 -- a sale moved in lowers the net count
-pub net-toggle_sell_in : (buys x i : ℕ) → has buys i ≡ false → has x i ≡ false → net buys (toggle x i) ≡ net buys x -ℤ pos 1
+pub net-toggle_sell_in : (buys x i : ℕ) → has buys i ≡ false → has x i ≡ false
+    → net buys (toggle x i) ≡ net buys x -ℤ pos 1
 unfolding net
 net-toggle_sell_in buys x i sold absent =
     let within : size (meet (toggle x i) buys) ≡ size (meet x buys) = ap size (meet-toggle_out x buys i sold) in
@@ -144,7 +153,8 @@ net-toggle_sell_in buys x i sold absent =
     omega (arith, ints, within, outside)
 
 -- a sale moved out raises the net count
-pub net-toggle_sell_out : (buys x i : ℕ) → has buys i ≡ false → has x i ≡ true → net buys (toggle x i) ≡ net buys x +ℤ pos 1
+pub net-toggle_sell_out : (buys x i : ℕ) → has buys i ≡ false → has x i ≡ true
+    → net buys (toggle x i) ≡ net buys x +ℤ pos 1
 net-toggle_sell_out buys x i sold present =
     let back = net-toggle_sell_in buys (toggle x i) i sold (has-toggle_same x i ∙ ap not present) in
     let same : net buys (toggle (toggle x i) i) ≡ net buys x = ap (net buys) (toggle-toggle x i) in

@@ -1,3 +1,4 @@
+-- The files of lemmas of this crate.
 pub mod SetLemmas
 pub mod SizeLemmas
 pub mod SumLemmas

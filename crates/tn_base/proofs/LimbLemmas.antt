@@ -22,13 +22,19 @@ unfolding joined
 joined_within count [] fine = let h : 0 < 2 ^ (64 * count) = pow_pos (64 * count) in h
 joined_within zero (limb ∷ limbs) fine = absurd (omega (arith, fine.counted))
 joined_within (suc count) (limb ∷ limbs) fine =
-    let rest = joined_within count limbs (record { counted = omega (arith, fine.counted); words = λ k. fine.words (suc k) }) in
+    let rest = joined_within count limbs (record {
+      counted = omega (arith, fine.counted);
+      words =
+          λ k. fine.words (suc k);
+    }) in
     let h = mul-add-lt (joined limbs) (2 ^ 64) limb (2 ^ (64 * count)) rest (fine.words 0) in
-    let e : 2 ^ 64 * 2 ^ (64 * count) ≡ 2 ^ (64 * suc count) = sym (pow-add 2 64 (64 * count)) ∙ ap (λ (n : ℕ). 2 ^ n) (omega arith) in
+    let e : 2 ^ 64 * 2 ^ (64 * count) ≡ 2 ^ (64 * suc count) =
+    sym (pow-add 2 64 (64 * count)) ∙ ap (λ (n : ℕ). 2 ^ n) (omega arith) in
     subst (λ (n : ℕ). joined (limb ∷ limbs) < n) e h
 
 -- a member stands in its own word
-pub has-joined : (limbs : List ℕ) (q r : ℕ) → ((k : ℕ) → get_or limbs k 0 < 2 ^ 64) → r < 64 → has (joined limbs) (q * 64 + r) ≡ has (get_or limbs q 0) r
+pub has-joined : (limbs : List ℕ) (q r : ℕ) → ((k : ℕ) → get_or limbs k 0 < 2 ^ 64) → r < 64
+    → has (joined limbs) (q * 64 + r) ≡ has (get_or limbs q 0) r
 unfolding joined
 has-joined [] q r words low = has-zero (q * 64 + r) ∙ sym (has-zero r)
 has-joined (limb ∷ limbs) zero r words low =
@@ -40,7 +46,8 @@ has-joined (limb ∷ limbs) (suc q) r words low =
     ∙ has-joined limbs q r (λ k. words (suc k)) low
 
 -- the same at a position
-pub has-limb : (limbs : List ℕ) (t : ℕ) → ((k : ℕ) → get_or limbs k 0 < 2 ^ 64) → has (joined limbs) t ≡ has (get_or limbs (t / 64) 0) (t % 64)
+pub has-limb : (limbs : List ℕ) (t : ℕ) → ((k : ℕ) → get_or limbs k 0 < 2 ^ 64)
+    → has (joined limbs) t ≡ has (get_or limbs (t / 64) 0) (t % 64)
 has-limb limbs t words =
     let e : t ≡ t / 64 * 64 + t % 64 = omega arith in
     ap (has (joined limbs)) e ∙ has-joined limbs (t / 64) (t % 64) words (omega arith)
@@ -55,7 +62,8 @@ joined-zeros (suc count) = let h = joined-zeros count in omega (arith, h)
 pub joined-union : (xs ys zs : List ℕ) → ((k : ℕ) → get_or xs k 0 < 2 ^ 64) → ((k : ℕ) → get_or ys k 0 < 2 ^ 64)
     → ((k : ℕ) → get_or zs k 0 ≡ union (get_or xs k 0) (get_or ys k 0)) → joined zs ≡ union (joined xs) (joined ys)
 joined-union xs ys zs x_words y_words same = same_set _ _ (λ t.
-    has-limb zs t (λ k. subst (λ (z : ℕ). z < 2 ^ 64) (sym (same k)) (union_within (get_or xs k 0) (get_or ys k 0) 64 (x_words k) (y_words k)))
+    has-limb zs t (λ k. subst (λ (z : ℕ). z < 2 ^ 64) (sym (same k))
+    (union_within (get_or xs k 0) (get_or ys k 0) 64 (x_words k) (y_words k)))
     ∙ ap (λ (z : ℕ). has z (t % 64)) (same (t / 64)) ∙ has-union (get_or xs (t / 64) 0) (get_or ys (t / 64) 0) (t % 64)
     ∙ ap (λ b. b || has (get_or ys (t / 64) 0) (t % 64)) (sym (has-limb xs t x_words))
     ∙ ap (λ b. has (joined xs) t || b) (sym (has-limb ys t y_words)) ∙ sym (has-union (joined xs) (joined ys) t))
@@ -64,7 +72,8 @@ joined-union xs ys zs x_words y_words same = same_set _ _ (λ t.
 pub joined-meet : (xs ys zs : List ℕ) → ((k : ℕ) → get_or xs k 0 < 2 ^ 64) → ((k : ℕ) → get_or ys k 0 < 2 ^ 64)
     → ((k : ℕ) → get_or zs k 0 ≡ meet (get_or xs k 0) (get_or ys k 0)) → joined zs ≡ meet (joined xs) (joined ys)
 joined-meet xs ys zs x_words y_words same = same_set _ _ (λ t.
-    has-limb zs t (λ k. subst (λ (z : ℕ). z < 2 ^ 64) (sym (same k)) (meet_within (get_or xs k 0) (get_or ys k 0) 64 (x_words k)))
+    has-limb zs t (λ k. subst (λ (z : ℕ). z < 2 ^ 64) (sym (same k))
+    (meet_within (get_or xs k 0) (get_or ys k 0) 64 (x_words k)))
     ∙ ap (λ (z : ℕ). has z (t % 64)) (same (t / 64)) ∙ has-meet (get_or xs (t / 64) 0) (get_or ys (t / 64) 0) (t % 64)
     ∙ ap (λ b. b && has (get_or ys (t / 64) 0) (t % 64)) (sym (has-limb xs t x_words))
     ∙ ap (λ b. has (joined xs) t && b) (sym (has-limb ys t y_words)) ∙ sym (has-meet (joined xs) (joined ys) t))
@@ -73,7 +82,8 @@ joined-meet xs ys zs x_words y_words same = same_set _ _ (λ t.
 pub joined-minus : (xs ys zs : List ℕ) → ((k : ℕ) → get_or xs k 0 < 2 ^ 64) → ((k : ℕ) → get_or ys k 0 < 2 ^ 64)
     → ((k : ℕ) → get_or zs k 0 ≡ minus (get_or xs k 0) (get_or ys k 0)) → joined zs ≡ minus (joined xs) (joined ys)
 joined-minus xs ys zs x_words y_words same = same_set _ _ (λ t.
-    has-limb zs t (λ k. subst (λ (z : ℕ). z < 2 ^ 64) (sym (same k)) (minus_within (get_or xs k 0) (get_or ys k 0) 64 (x_words k)))
+    has-limb zs t (λ k. subst (λ (z : ℕ). z < 2 ^ 64) (sym (same k))
+    (minus_within (get_or xs k 0) (get_or ys k 0) 64 (x_words k)))
     ∙ ap (λ (z : ℕ). has z (t % 64)) (same (t / 64)) ∙ has-minus (get_or xs (t / 64) 0) (get_or ys (t / 64) 0) (t % 64)
     ∙ ap (λ b. b && not (has (get_or ys (t / 64) 0) (t % 64))) (sym (has-limb xs t x_words))
     ∙ ap (λ b. has (joined xs) t && not b) (sym (has-limb ys t y_words)) ∙ sym (has-minus (joined xs) (joined ys) t))
@@ -84,14 +94,16 @@ same_place t i q r = omega (arith, q, r)
 
 -- a member is toggled in its own word
 pub joined-toggle : (xs zs : List ℕ) (i : ℕ) → ((k : ℕ) → get_or xs k 0 < 2 ^ 64)
-    → get_or zs (i / 64) 0 ≡ toggle (get_or xs (i / 64) 0) (i % 64) → ((k : ℕ) → k ≢ i / 64 → get_or zs k 0 ≡ get_or xs k 0)
+    → get_or zs (i / 64) 0 ≡ toggle (get_or xs (i / 64) 0) (i % 64)
+    → ((k : ℕ) → k ≢ i / 64 → get_or zs k 0 ≡ get_or xs k 0)
     → joined zs ≡ toggle (joined xs) i
 joined-toggle xs zs i words here there = same_set _ _ (λ t. has-limb zs t z_words ∙ at_place t)
   where
     z_words : (k : ℕ) → get_or zs k 0 < 2 ^ 64
     z_words k = elim (cases_eq k (i / 64)) [
       | inl e ↦ subst (λ (j : ℕ). get_or zs j 0 < 2 ^ 64) (sym e)
-          (subst (λ (z : ℕ). z < 2 ^ 64) (sym here) (toggle_within (get_or xs (i / 64) 0) (i % 64) 64 (words (i / 64)) (omega arith)))
+          (subst (λ (z : ℕ). z < 2 ^ 64) (sym here) (toggle_within (get_or xs (i / 64) 0) (i % 64) 64 (words (i / 64))
+          (omega arith)))
       | inr d ↦ subst (λ (z : ℕ). z < 2 ^ 64) (sym (there k d)) (words k)
     ]
 
@@ -125,7 +137,8 @@ ones-joined (limb ∷ limbs) words =
 pub size-joined : (count : ℕ) (limbs : List ℕ) → AreLimbs count limbs → sum_by ones limbs ≡ size (joined limbs)
 size-joined count limbs fine =
     let below = joined_within count limbs fine in
-    sym (ones-joined limbs fine.words) ∙ ones_is (64 * count) (joined limbs) below ∙ sym (size_at (64 * count) (joined limbs) below)
+    sym (ones-joined limbs fine.words) ∙ ones_is (64 * count) (joined limbs) below
+    ∙ sym (size_at (64 * count) (joined limbs) below)
 
 -- the words below k are worked on, and the others are as they were
 pub record AreDone (work : ℕ → ℕ → ℕ) (xs ys zs : List ℕ) (k : ℕ) : Type 0 where
@@ -147,14 +160,16 @@ pub one_done : (work : ℕ → ℕ → ℕ) (xs ys zs : List ℕ) (k : ℕ) → 
 one_done work xs ys zs k before inside = record {
   counted = length-set zs k (work (get_or zs k 0) (get_or ys k 0)) ∙ before.counted;
   below = below;
-  above = λ j h. get_or-set_other zs k j (work (get_or zs k 0) (get_or ys k 0)) 0 (omega (arith, h)) ∙ before.above j (omega (arith, h));
+  above = λ j h. get_or-set_other zs k j (work (get_or zs k 0) (get_or ys k 0)) 0 (omega (arith, h))
+      ∙ before.above j (omega (arith, h));
 }
   where
     new : ℕ
     new = work (get_or zs k 0) (get_or ys k 0)
 
     here : get_or (set zs k new) k 0 ≡ work (get_or xs k 0) (get_or ys k 0)
-    here = get_or-set_same zs k new 0 (omega (arith, before.counted, inside)) ∙ ap (λ (x : ℕ). work x (get_or ys k 0)) (before.above k (omega arith))
+    here = get_or-set_same zs k new 0 (omega (arith, before.counted, inside))
+        ∙ ap (λ (x : ℕ). work x (get_or ys k 0)) (before.above k (omega arith))
 
     below : (j : ℕ) → j < k + 1 → get_or (set zs k new) j 0 ≡ work (get_or xs j 0) (get_or ys j 0)
     below j h = elim (cases_eq j k) [
@@ -163,7 +178,8 @@ one_done work xs ys zs k before inside = record {
     ]
 
 -- all is done
-pub all_done : (work : ℕ → ℕ → ℕ) (xs ys zs : List ℕ) (k : ℕ) → AreDone work xs ys zs k → work 0 0 ≡ 0 → length xs ≤ k → length ys ≤ k
+pub all_done : (work : ℕ → ℕ → ℕ) (xs ys zs : List ℕ) (k : ℕ) → AreDone work xs ys zs k → work 0 0 ≡ 0 → length xs ≤ k
+    → length ys ≤ k
     → (j : ℕ) → get_or zs j 0 ≡ work (get_or xs j 0) (get_or ys j 0)
 all_done work xs ys zs k done nothing x_short y_short j = elim (cases_lt j k) [
   | inl h ↦ done.below j h
@@ -182,7 +198,8 @@ pub none_counted : (limbs : List ℕ) → AreCounted limbs 0 0
 none_counted limbs = record { counted = refl; few = omega arith }
 
 -- one word more is counted
-pub one_counted : (limbs : List ℕ) (k count : ℕ) → ((j : ℕ) → get_or limbs j 0 < 2 ^ 64) → k < length limbs → AreCounted limbs k count
+pub one_counted : (limbs : List ℕ) (k count : ℕ) → ((j : ℕ) → get_or limbs j 0 < 2 ^ 64) → k < length limbs
+    → AreCounted limbs k count
     → AreCounted limbs (k + 1) (count + ones (get_or limbs k 0))
 one_counted limbs k count words inside before =
     let step = sum_by_more ones limbs k 0 inside in
@@ -193,45 +210,58 @@ one_counted limbs k count words inside before =
     }
 
 -- all words are counted
-pub all_counted : (limbs : List ℕ) (k count : ℕ) → AreCounted limbs k count → k ≡ length limbs → count ≡ sum_by ones limbs
+pub all_counted : (limbs : List ℕ) (k count : ℕ) → AreCounted limbs k count → k ≡ length limbs
+    → count ≡ sum_by ones limbs
 all_counted limbs k count done all =
     done.counted ∙ ap (λ (n : ℕ). sum_by ones (take n limbs)) all ∙ ap (sum_by ones) (take-length limbs)
 
 -- words that are worked on one by one make as many words
-limbs_done : (work : ℕ → ℕ → ℕ) → ((x y : ℕ) → x < 2 ^ 64 → y < 2 ^ 64 → work x y < 2 ^ 64) → (count : ℕ) (xs ys zs : List ℕ)
-    → AreLimbs count xs → AreLimbs count ys → length zs ≡ length xs → ((j : ℕ) → get_or zs j 0 ≡ work (get_or xs j 0) (get_or ys j 0))
+limbs_done : (work : ℕ → ℕ → ℕ) → ((x y : ℕ) → x < 2 ^ 64 → y < 2 ^ 64 → work x y < 2 ^ 64)
+    → (count : ℕ) (xs ys zs : List ℕ)
+    → AreLimbs count xs → AreLimbs count ys → length zs ≡ length xs
+    → ((j : ℕ) → get_or zs j 0 ≡ work (get_or xs j 0) (get_or ys j 0))
     → AreLimbs count zs
 limbs_done work fits count xs ys zs x_fine y_fine same_length same = record {
   counted = same_length ∙ x_fine.counted;
-  words = λ j. subst (λ (z : ℕ). z < 2 ^ 64) (sym (same j)) (fits (get_or xs j 0) (get_or ys j 0) (x_fine.words j) (y_fine.words j));
+  words = λ j. subst (λ (z : ℕ). z < 2 ^ 64) (sym (same j))
+      (fits (get_or xs j 0) (get_or ys j 0) (x_fine.words j) (y_fine.words j));
 }
 
 -- once all words are joined, they make the union
-pub union_done : (count : ℕ) (xs ys zs : List ℕ) (k : ℕ) → AreLimbs count xs → AreLimbs count ys → AreDone union xs ys zs k → count ≤ k
+pub union_done : (count : ℕ) (xs ys zs : List ℕ) (k : ℕ) → AreLimbs count xs → AreLimbs count ys
+    → AreDone union xs ys zs k → count ≤ k
     → AreLimbs count zs × (joined zs ≡ union (joined xs) (joined ys))
 unfolding union
 union_done count xs ys zs k x_fine y_fine done all =
     let same : (j : ℕ) → get_or zs j 0 ≡ union (get_or xs j 0) (get_or ys j 0) =
-    all_done union xs ys zs k done refl (omega (arith, x_fine.counted, all)) (omega (arith, y_fine.counted, all)) in
-    (limbs_done union (λ x y. union_within x y 64) count xs ys zs x_fine y_fine done.counted same, joined-union xs ys zs x_fine.words y_fine.words same)
+    all_done union xs ys zs k done refl (omega (arith, x_fine.counted, all)) (omega (arith, y_fine.counted, all)) in (
+      limbs_done union (λ x y. union_within x y 64) count xs ys zs x_fine y_fine done.counted same,
+      joined-union xs ys zs x_fine.words y_fine.words same,
+    )
 
 -- once all words are met, they make the intersection
-pub meet_done : (count : ℕ) (xs ys zs : List ℕ) (k : ℕ) → AreLimbs count xs → AreLimbs count ys → AreDone meet xs ys zs k → count ≤ k
+pub meet_done : (count : ℕ) (xs ys zs : List ℕ) (k : ℕ) → AreLimbs count xs → AreLimbs count ys
+    → AreDone meet xs ys zs k → count ≤ k
     → AreLimbs count zs × (joined zs ≡ meet (joined xs) (joined ys))
 unfolding meet
 meet_done count xs ys zs k x_fine y_fine done all =
     let same : (j : ℕ) → get_or zs j 0 ≡ meet (get_or xs j 0) (get_or ys j 0) =
-    all_done meet xs ys zs k done refl (omega (arith, x_fine.counted, all)) (omega (arith, y_fine.counted, all)) in
-    (limbs_done meet (λ x y x_fits y_fits. meet_within x y 64 x_fits) count xs ys zs x_fine y_fine done.counted same, joined-meet xs ys zs x_fine.words y_fine.words same)
+    all_done meet xs ys zs k done refl (omega (arith, x_fine.counted, all)) (omega (arith, y_fine.counted, all)) in (
+      limbs_done meet (λ x y x_fits y_fits. meet_within x y 64 x_fits) count xs ys zs x_fine y_fine done.counted same,
+      joined-meet xs ys zs x_fine.words y_fine.words same,
+    )
 
 -- once all words are without the other's, they make the difference
-pub minus_done : (count : ℕ) (xs ys zs : List ℕ) (k : ℕ) → AreLimbs count xs → AreLimbs count ys → AreDone minus xs ys zs k → count ≤ k
+pub minus_done : (count : ℕ) (xs ys zs : List ℕ) (k : ℕ) → AreLimbs count xs → AreLimbs count ys
+    → AreDone minus xs ys zs k → count ≤ k
     → AreLimbs count zs × (joined zs ≡ minus (joined xs) (joined ys))
 unfolding minus
 minus_done count xs ys zs k x_fine y_fine done all =
     let same : (j : ℕ) → get_or zs j 0 ≡ minus (get_or xs j 0) (get_or ys j 0) =
-    all_done minus xs ys zs k done refl (omega (arith, x_fine.counted, all)) (omega (arith, y_fine.counted, all)) in
-    (limbs_done minus (λ x y x_fits y_fits. minus_within x y 64 x_fits) count xs ys zs x_fine y_fine done.counted same, joined-minus xs ys zs x_fine.words y_fine.words same)
+    all_done minus xs ys zs k done refl (omega (arith, x_fine.counted, all)) (omega (arith, y_fine.counted, all)) in (
+      limbs_done minus (λ x y x_fits y_fits. minus_within x y 64 x_fits) count xs ys zs x_fine y_fine done.counted same,
+      joined-minus xs ys zs x_fine.words y_fine.words same,
+    )
 
 -- the words with t moved in or out
 abbrev pub toggled : List ℕ → ℕ → List ℕ
@@ -240,8 +270,10 @@ toggled limbs t = set limbs (t / 64) (toggle (get_or limbs (t / 64) 0) (t % 64))
 -- they are as many words, and make the set with t moved
 pub toggle_done : (count : ℕ) (limbs : List ℕ) (t : ℕ) → AreLimbs count limbs → t < 64 * count
     → AreLimbs count (toggled limbs t) × (joined (toggled limbs t) ≡ toggle (joined limbs) t)
-toggle_done count limbs t fine inside =
-    (record { counted = length-set limbs (t / 64) new ∙ fine.counted; words = words }, joined-toggle limbs (toggled limbs t) t fine.words here there)
+toggle_done count limbs t fine inside = (
+  record { counted = length-set limbs (t / 64) new ∙ fine.counted; words = words },
+  joined-toggle limbs (toggled limbs t) t fine.words here there,
+)
   where
     new : ℕ
     new = toggle (get_or limbs (t / 64) 0) (t % 64)
@@ -255,12 +287,14 @@ toggle_done count limbs t fine inside =
     words : (k : ℕ) → get_or (set limbs (t / 64) new) k 0 < 2 ^ 64
     words k = elim (cases_eq k (t / 64)) [
       | inl e ↦ subst (λ (j : ℕ). get_or (set limbs (t / 64) new) j 0 < 2 ^ 64) (sym e)
-          (subst (λ (z : ℕ). z < 2 ^ 64) (sym here) (toggle_within (get_or limbs (t / 64) 0) (t % 64) 64 (fine.words (t / 64)) (omega arith)))
+          (subst (λ (z : ℕ). z < 2 ^ 64) (sym here) (toggle_within (get_or limbs (t / 64) 0) (t % 64) 64
+          (fine.words (t / 64)) (omega arith)))
       | inr d ↦ subst (λ (z : ℕ). z < 2 ^ 64) (sym (there k d)) (fine.words k)
     ]
 
 -- words are equal exactly where the numbers are
-pub same_words : (count : ℕ) (xs ys : List ℕ) → AreLimbs count xs → AreLimbs count ys → pointwise nat_eq xs ys ≡ nat_eq (joined xs) (joined ys)
+pub same_words : (count : ℕ) (xs ys : List ℕ) → AreLimbs count xs → AreLimbs count ys
+    → pointwise nat_eq xs ys ≡ nat_eq (joined xs) (joined ys)
 same_words count xs ys x_fine y_fine = elim (cases_Bool (pointwise nat_eq xs ys)) [
   | inl e ↦ e ∙ sym (eq-eqb (joined xs) (joined ys) (ap joined (same_text xs ys (sym e))))
   | inr e ↦ e ∙ sym (ne_eqb (joined xs) (joined ys) (λ same. other_text xs ys (sym e) (words_from same)))

@@ -10,7 +10,11 @@ use Rattle.tn_base.specs.Sets.{has, toggle, union, meet, minus, set_of}
 
 -- a binary digit is 0 or 1
 pub digit : (x k : ℕ) → (bit_at x k ≡ 0) ⊎ (bit_at x k ≡ 1)
-digit x k = let h = bit_at-lt x k in elim (cases_eq (bit_at x k) 0) [ inl e ↦ inl e | inr e ↦ inr (omega (arith, h, e)) ]
+digit x k = let h = bit_at-lt x k in elim (cases_eq (bit_at x k) 0) [
+  | inl e ↦ inl e
+  | inr e ↦
+      inr (omega (arith, h, e))
+]
 
 pub has_from_one : (x k : ℕ) → bit_at x k ≡ 1 → has x k ≡ true
 unfolding has
@@ -24,8 +28,16 @@ has_from_zero x k e = ap (λ (d : ℕ). d == 1) e
 digit_from_has : (x y k : ℕ) → has x k ≡ has y k → bit_at x k ≡ bit_at y k
 digit_from_has x y k e =
     elim (digit x k) [
-      | inl p ↦ elim (digit y k) [ inl q ↦ p ∙ sym q | inr q ↦ elim (false≢true (sym (has_from_zero x k p) ∙ e ∙ has_from_one y k q)) [ ] ]
-      | inr p ↦ elim (digit y k) [ inl q ↦ elim (false≢true (sym (has_from_zero y k q) ∙ sym e ∙ has_from_one x k p)) [ ] | inr q ↦ p ∙ sym q ]
+      | inl p ↦ elim (digit y k) [
+        | inl q ↦ p ∙ sym q
+        | inr q ↦
+            elim (false≢true (sym (has_from_zero x k p) ∙ e ∙ has_from_one y k q)) [ ]
+      ]
+      | inr p ↦ elim (digit y k) [
+        | inl q ↦
+            elim (false≢true (sym (has_from_zero y k q) ∙ sym e ∙ has_from_one x k p)) [ ]
+        | inr q ↦ p ∙ sym q
+      ]
     ]
 
 -- sets with the same members are equal
@@ -71,7 +83,8 @@ has-toggle_same x k =
 pub has-toggle_other : (x k i : ℕ) → i ≢ k → has (toggle x k) i ≡ has x i
 unfolding has toggle
 has-toggle_other x k i different =
-    ap (λ (d : ℕ). d == 1) (bit_at_xor x (2 ^ k) i ∙ ap (λ (d : ℕ). (bit_at x i + d) % 2) (bit_at-pow_other k i different)) ∙
+    ap (λ (d : ℕ). d == 1) (bit_at_xor x (2 ^ k) i ∙ ap (λ (d : ℕ). (bit_at x i + d) % 2)
+    (bit_at-pow_other k i different)) ∙
     elim (digit x i) [ inl p ↦ rw p refl | inr p ↦ rw p refl ]
 
 -- a set of numbers below n has nothing from n on
@@ -86,7 +99,11 @@ has_below x n k below e =
 -- sets of numbers below n with the same members below n are equal
 pub same_below : (x y n : ℕ) → x < 2 ^ n → y < 2 ^ n → ((k : ℕ) → k < n → has x k ≡ has y k) → x ≡ y
 same_below x y n x_below y_below same =
-    same_set x y (λ k. elim (cases_lt k n) [ inl h ↦ same k h | inr h ↦ has_above x n k x_below h ∙ sym (has_above y n k y_below h) ])
+    same_set x y (λ k. elim (cases_lt k n) [
+      | inl h ↦ same k h
+      | inr h ↦
+          has_above x n k x_below h ∙ sym (has_above y n k y_below h)
+    ])
 
 pub union_within : (x y n : ℕ) → x < 2 ^ n → y < 2 ^ n → union x y < 2 ^ n
 unfolding union
@@ -107,7 +124,8 @@ toggle_within x k n below k_below = xor_lt n x (2 ^ k) below (pow_below k n k_be
 pub toggle-toggle : (x k : ℕ) → toggle (toggle x k) k ≡ x
 toggle-toggle x k = same_set _ _ (λ i.
     elim (cases_eq i k) [
-      | inl e ↦ subst (λ (j : ℕ). has (toggle (toggle x k) k) j ≡ has x j) (sym e) (has-toggle_same (toggle x k) k ∙ ap not (has-toggle_same x k) ∙ not_not (has x k))
+      | inl e ↦ subst (λ (j : ℕ). has (toggle (toggle x k) k) j ≡ has x j) (sym e) (has-toggle_same (toggle x k) k
+          ∙ ap not (has-toggle_same x k) ∙ not_not (has x k))
       | inr d ↦ has-toggle_other (toggle x k) k i d ∙ has-toggle_other x k i d
     ])
   where
@@ -129,7 +147,8 @@ toggle_comm x i j = elim (cases_eq i j) [
       | inr p ↦ elim (cases_eq k j) [
         | inl e ↦ rw e (has-toggle_same (toggle x i) j ∙ ap not (has-toggle_other x i j (λ q. d (sym q)))
             ∙ sym (has-toggle_same x j) ∙ sym (has-toggle_other (toggle x j) i j (λ q. d (sym q))))
-        | inr q ↦ has-toggle_other (toggle x i) j k q ∙ has-toggle_other x i k p ∙ sym (has-toggle_other x j k q) ∙ sym (has-toggle_other (toggle x j) i k p)
+        | inr q ↦ has-toggle_other (toggle x i) j k q ∙ has-toggle_other x i k p ∙ sym (has-toggle_other x j k q)
+            ∙ sym (has-toggle_other (toggle x j) i k p)
       ]
     ]
 
@@ -200,7 +219,8 @@ within_from x n none =
 
 -- where all of x is allowed, nothing is left without what is allowed
 pub minus-zero_from : (x allowed : ℕ) → ((k : ℕ) → has x k ≡ true → has allowed k ≡ true) → minus x allowed ≡ 0
-minus-zero_from x allowed inside = same_set _ _ (λ k. has-minus x allowed k ∙ gone (has x k) (has allowed k) (inside k) ∙ sym (has-zero k))
+minus-zero_from x allowed inside =
+    same_set _ _ (λ k. has-minus x allowed k ∙ gone (has x k) (has allowed k) (inside k) ∙ sym (has-zero k))
   where
     gone : (a b : Bool) → (a ≡ true → b ≡ true) → (a && not b) ≡ false
     gone true b h = ap not (h refl)
@@ -231,7 +251,8 @@ has-double_one_lowest x = has_from_one (1 + 2 * x) 0 (bit_at_lowest (1 + 2 * x) 
 -- the higher digits of an even number
 pub has-double : (x k : ℕ) → has (2 * x) (suc k) ≡ has x k
 unfolding has
-has-double x k = let half : 2 * x / 2 ≡ x = omega arith in ap (λ (d : ℕ). d == 1) (bit_at-suc (2 * x) k ∙ ap (λ (y : ℕ). bit_at y k) half)
+has-double x k = let half : 2 * x / 2 ≡ x = omega arith in
+    ap (λ (d : ℕ). d == 1) (bit_at-suc (2 * x) k ∙ ap (λ (y : ℕ). bit_at y k) half)
 
 -- the higher digits of an odd number
 pub has-double_one : (x k : ℕ) → has (1 + 2 * x) (suc k) ≡ has x k

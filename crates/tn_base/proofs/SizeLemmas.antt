@@ -36,7 +36,11 @@ size_below-above x n m below above =
 
 -- a digit as a count
 digit_as_count : (x k : ℕ) → bit_at x k ≡ (if has x k then 1 else 0)
-digit_as_count x k = elim (digit x k) [ inl p ↦ p ∙ sym (ap (λ b. cond b 1 0) (has_from_zero x k p)) | inr p ↦ p ∙ sym (ap (λ b. cond b 1 0) (has_from_one x k p)) ]
+digit_as_count x k = elim (digit x k) [
+  | inl p ↦ p ∙ sym (ap (λ b. cond b 1 0) (has_from_zero x k p))
+  | inr p ↦
+      p ∙ sym (ap (λ b. cond b 1 0) (has_from_one x k p))
+]
 
 ones_of_digit : (a : ℕ) → a < 2 → ones a ≡ a
 unfolding ones
@@ -57,12 +61,16 @@ ones_is (suc n) x below =
     let positive : 0 < 2 ^ n = pow_pos n in
     let e : x / 2 ^ n * 2 ^ n + x % 2 ^ n ≡ x = div-add-mod' x (2 ^ n) in
     let low : x % 2 ^ n < 2 ^ n = mod-lt x positive in
-    let high : x / 2 ^ n < 2 = (div-lt_iff_lt-mul {k = 2 ^ n} {x = x} {y = 2} positive).1 (omega (arith, below, pow-suc 2 n)) in
+    let high : x / 2 ^ n < 2 =
+    (div-lt_iff_lt-mul {k = 2 ^ n} {x = x} {y = 2} positive).1 (omega (arith, below, pow-suc 2 n)) in
     let digit_is : bit_at x n ≡ x / 2 ^ n = mod-eq_of_lt high in
-    let lower : size_below n (x % 2 ^ n) ≡ size_below n x = size_below-same (x % 2 ^ n) x n (λ k h. same_digit (x % 2 ^ n) x k
+    let lower : size_below n (x % 2 ^ n) ≡ size_below n x =
+    size_below-same (x % 2 ^ n) x n (λ k h. same_digit (x % 2 ^ n) x k
     (sym (bit_at_cat_low (x / 2 ^ n) n (x % 2 ^ n) k h) ∙ ap (λ (y : ℕ). bit_at y k) e)) in
-    let parts : ones x ≡ ones (x / 2 ^ n) + ones (x % 2 ^ n) = ap ones (sym e) ∙ ones_cat n (x / 2 ^ n) (x % 2 ^ n) low in
-    let top : ones (x / 2 ^ n) ≡ (if has x n then 1 else 0) = ones_of_digit (x / 2 ^ n) high ∙ sym digit_is ∙ digit_as_count x n in
+    let parts : ones x ≡ ones (x / 2 ^ n) + ones (x % 2 ^ n) = ap ones (sym e) ∙ ones_cat n (x / 2 ^ n) (x % 2 ^ n) low
+    in
+    let top : ones (x / 2 ^ n) ≡ (if has x n then 1 else 0) =
+    ones_of_digit (x / 2 ^ n) high ∙ sym digit_is ∙ digit_as_count x n in
     let rest : ones (x % 2 ^ n) ≡ size_below n x = ones_is n (x % 2 ^ n) low ∙ lower in
     parts ∙ omega (arith, top, rest)
 
@@ -80,11 +88,13 @@ size_at n x below = elim (cases_lt n x) [
 ]
 
 pub size_le : (n x : ℕ) → x < 2 ^ n → size x ≤ n
-size_le n x below = let e : ones x ≡ size x = ones_is n x below ∙ sym (size_at n x below) in let h = ones-le n x below in omega (arith, e, h)
+size_le n x below = let e : ones x ≡ size x = ones_is n x below ∙ sym (size_at n x below) in let h = ones-le n x below
+    in omega (arith, e, h)
 
 -- what is toggled at n or above doesn't count
 pub size_below-toggle_above : (n x i : ℕ) → n ≤ i → size_below n (toggle x i) ≡ size_below n x
-size_below-toggle_above n x i above = size_below-same (toggle x i) x n (λ k h. has-toggle_other x i k (omega (arith, h, above)))
+size_below-toggle_above n x i above =
+    size_below-same (toggle x i) x n (λ k h. has-toggle_other x i k (omega (arith, h, above)))
 
 -- one, if it counts
 abbrev one_if : Bool → ℕ
@@ -103,15 +113,18 @@ size_below-toggle_in (suc n) x i below absent =
           let old : one_if (has x n) ≡ 0 = subst (λ (k : ℕ). one_if (has x k) ≡ 0) e (ap one_if absent) in
           omega (arith, rest, new, old)
       | inr d ↦
-          let rest : size_below n (toggle x i) ≡ size_below n x + 1 = size_below-toggle_in n x i (omega (arith, below, d)) absent in
-          let here : one_if (has (toggle x i) n) ≡ one_if (has x n) = ap one_if (has-toggle_other x i n (λ e. d (sym e))) in
+          let rest : size_below n (toggle x i) ≡ size_below n x + 1 =
+          size_below-toggle_in n x i (omega (arith, below, d)) absent in
+          let here : one_if (has (toggle x i) n) ≡ one_if (has x n) =
+          ap one_if (has-toggle_other x i n (λ e. d (sym e))) in
           omega (arith, rest, here)
     ]
 
 -- one member less after one is moved out
 pub size_below-toggle_out : (n x i : ℕ) → i < n → has x i ≡ true → size_below n x ≡ size_below n (toggle x i) + 1
 size_below-toggle_out n x i below present =
-    ap (size_below n) (sym (toggle-toggle x i)) ∙ size_below-toggle_in n (toggle x i) i below (has-toggle_same x i ∙ ap not present)
+    ap (size_below n) (sym (toggle-toggle x i)) ∙ size_below-toggle_in n (toggle x i) i below (has-toggle_same x i
+    ∙ ap not present)
 
 -- a set and a number have a bound that serves both
 within_both : (x i : ℕ) → x < 2 ^ (x + suc i)
@@ -129,7 +142,8 @@ size-toggle_in x i absent =
 
 -- one member less after one is moved out
 pub size-toggle_out : (x i : ℕ) → has x i ≡ true → size x ≡ size (toggle x i) + 1
-size-toggle_out x i present = ap size (sym (toggle-toggle x i)) ∙ size-toggle_in (toggle x i) i (has-toggle_same x i ∙ ap not present)
+size-toggle_out x i present = ap size (sym (toggle-toggle x i))
+    ∙ size-toggle_in (toggle x i) i (has-toggle_same x i ∙ ap not present)
 
 -- the empty set has no member
 pub size-zero : size 0 ≡ 0

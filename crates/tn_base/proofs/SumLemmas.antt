@@ -30,7 +30,8 @@ sum_over-same c x y (suc n) same =
     omega (arith, ints, rest, here)
 
 -- only the terms of members below n count
-pub sum_over-same_terms : (c d : ℕ → ℤ) (x n : ℕ) → ((k : ℕ) → k < n → has x k ≡ true → c k ≡ d k) → sum_over c n x ≡ sum_over d n x
+pub sum_over-same_terms : (c d : ℕ → ℤ) (x n : ℕ) → ((k : ℕ) → k < n → has x k ≡ true → c k ≡ d k)
+    → sum_over c n x ≡ sum_over d n x
 unfolding sum_over
 sum_over-same_terms c d x zero same = refl
 sum_over-same_terms c d x (suc n) same =
@@ -48,7 +49,8 @@ unfolding sum_over
 all_above c x n zero below = let e : n + 0 ≡ n = omega arith in ap (λ (k : ℕ). sum_over c k x) e
 all_above c x n (suc d) below =
     let rest : sum_over c (n + d) x ≡ sum_over c n x = all_above c x n d below in
-    let here : term (has x (n + d)) (c (n + d)) ≡ pos 0 = ap (λ b. term b (c (n + d))) (has_above x n (n + d) below (omega arith)) in
+    let here : term (has x (n + d)) (c (n + d)) ≡ pos 0 =
+    ap (λ b. term b (c (n + d))) (has_above x n (n + d) below (omega arith)) in
     let step : sum_over c (suc (n + d)) x ≡ sum_over c n x = omega (arith, ints, rest, here) in
     let e : n + suc d ≡ suc (n + d) = omega arith in
     ap (λ (k : ℕ). sum_over c k x) e ∙ step
@@ -64,7 +66,8 @@ pub sum_over-toggle_above : (c : ℕ → ℤ) (n x i : ℕ) → n ≤ i → sum_
 sum_over-toggle_above c n x i above = sum_over-same c _ _ n (λ k h. has-toggle_other x i k (omega (arith, h, above)))
 
 -- with i moved in, the sum has the term at i more
-pub sum_over-toggle_in : (c : ℕ → ℤ) (n x i : ℕ) → i < n → has x i ≡ false → sum_over c n (toggle x i) ≡ sum_over c n x +ℤ c i
+pub sum_over-toggle_in : (c : ℕ → ℤ) (n x i : ℕ) → i < n → has x i ≡ false
+    → sum_over c n (toggle x i) ≡ sum_over c n x +ℤ c i
 unfolding sum_over
 sum_over-toggle_in c zero x i below absent = absurd (omega (arith, below))
 sum_over-toggle_in c (suc n) x i below absent =
@@ -72,18 +75,22 @@ sum_over-toggle_in c (suc n) x i below absent =
       | inl e ↦
           let rest : sum_over c n (toggle x i) ≡ sum_over c n x = sum_over-toggle_above c n x i (omega (arith, e)) in
           let new : term (has (toggle x i) n) (c n) ≡ c i =
-          subst (λ (k : ℕ). term (has (toggle x i) k) (c k) ≡ c i) e (ap (λ b. term b (c i)) (has-toggle_same x i ∙ ap not absent)) in
-          let old : term (has x n) (c n) ≡ pos 0 = subst (λ (k : ℕ). term (has x k) (c k) ≡ pos 0) e (ap (λ b. term b (c i)) absent) in
+          subst (λ (k : ℕ). term (has (toggle x i) k) (c k) ≡ c i) e
+          (ap (λ b. term b (c i)) (has-toggle_same x i ∙ ap not absent)) in
+          let old : term (has x n) (c n) ≡ pos 0 =
+          subst (λ (k : ℕ). term (has x k) (c k) ≡ pos 0) e (ap (λ b. term b (c i)) absent) in
           omega (arith, ints, rest, new, old)
       | inr d ↦
-          let rest : sum_over c n (toggle x i) ≡ sum_over c n x +ℤ c i = sum_over-toggle_in c n x i (omega (arith, below, d)) absent in
+          let rest : sum_over c n (toggle x i) ≡ sum_over c n x +ℤ c i =
+          sum_over-toggle_in c n x i (omega (arith, below, d)) absent in
           let here : term (has (toggle x i) n) (c n) ≡ term (has x n) (c n) =
           ap (λ b. term b (c n)) (has-toggle_other x i n (λ e. d (sym e))) in
           omega (arith, ints, rest, here)
     ]
 
 -- with i moved out, the sum has the term at i less
-pub sum_over-toggle_out : (c : ℕ → ℤ) (n x i : ℕ) → i < n → has x i ≡ true → sum_over c n (toggle x i) ≡ sum_over c n x -ℤ c i
+pub sum_over-toggle_out : (c : ℕ → ℤ) (n x i : ℕ) → i < n → has x i ≡ true
+    → sum_over c n (toggle x i) ≡ sum_over c n x -ℤ c i
 sum_over-toggle_out c n x i below present =
     let back = sum_over-toggle_in c n (toggle x i) i below (has-toggle_same x i ∙ ap not present) in
     let same : sum_over c n (toggle (toggle x i) i) ≡ sum_over c n x = ap (sum_over c n) (toggle-toggle x i) in
@@ -95,7 +102,8 @@ unfolding sum_over
 sum_over-plus c d zero x = refl
 sum_over-plus c d (suc n) x =
     let rest : sum_over (λ k. c k +ℤ d k) n x ≡ sum_over c n x +ℤ sum_over d n x = sum_over-plus c d n x in
-    let here : term (has x n) (c n +ℤ d n) ≡ term (has x n) (c n) +ℤ term (has x n) (d n) = split (has x n) (c n) (d n) in
+    let here : term (has x n) (c n +ℤ d n) ≡ term (has x n) (c n) +ℤ term (has x n) (d n) = split (has x n) (c n) (d n)
+    in
     omega (arith, ints, rest, here)
   where
     split : (b : Bool) (u v : ℤ) → term b (u +ℤ v) ≡ term b u +ℤ term b v
@@ -128,10 +136,12 @@ times-plus a u v = ℤ_ind (λ m. m *ℤ (u +ℤ v) ≡ m *ℤ u +ℤ m *ℤ v) 
     one_less : (m w : ℤ) → (m -ℤ pos 1) *ℤ w ≡ m *ℤ w -ℤ w
     one_less m w = ap (λ (z : ℤ). z *ℤ w) (-ℤ_one m) ∙ pred_ℤ-*ℤ m w
 
-    more : (m : ℤ) → m *ℤ (u +ℤ v) ≡ m *ℤ u +ℤ m *ℤ v → (m +ℤ pos 1) *ℤ (u +ℤ v) ≡ (m +ℤ pos 1) *ℤ u +ℤ (m +ℤ pos 1) *ℤ v
+    more : (m : ℤ) → m *ℤ (u +ℤ v) ≡ m *ℤ u +ℤ m *ℤ v → (m +ℤ pos 1) *ℤ (u +ℤ v) ≡ (m +ℤ pos 1) *ℤ u
+        +ℤ (m +ℤ pos 1) *ℤ v
     more m h = omega (arith, ints, h, one_more m (u +ℤ v), one_more m u, one_more m v)
 
-    less : (m : ℤ) → m *ℤ (u +ℤ v) ≡ m *ℤ u +ℤ m *ℤ v → (m -ℤ pos 1) *ℤ (u +ℤ v) ≡ (m -ℤ pos 1) *ℤ u +ℤ (m -ℤ pos 1) *ℤ v
+    less : (m : ℤ) → m *ℤ (u +ℤ v) ≡ m *ℤ u +ℤ m *ℤ v → (m -ℤ pos 1) *ℤ (u +ℤ v) ≡ (m -ℤ pos 1) *ℤ u
+        +ℤ (m -ℤ pos 1) *ℤ v
     less m h = omega (arith, ints, h, one_less m (u +ℤ v), one_less m u, one_less m v)
 
 -- the sum of a multiple of the terms

@@ -14,8 +14,10 @@ use Rattle.tn_base.proofs.SetLemmas.{has-zero, has-double, has-double_lowest, ha
 -- the positions are below the number of sides
 pub buys_of_within : (sides : List Side) → buys_of sides < 2 ^ length sides
 buys_of_within [] = lit< tt
-buys_of_within (Buy ∷ sides) = let rest = buys_of_within sides in let step = pow-suc 2 (length sides) in omega (arith, rest, step)
-buys_of_within (Sell ∷ sides) = let rest = buys_of_within sides in let step = pow-suc 2 (length sides) in omega (arith, rest, step)
+buys_of_within (Buy ∷ sides) = let rest = buys_of_within sides in let step = pow-suc 2 (length sides) in
+    omega (arith, rest, step)
+buys_of_within (Sell ∷ sides) = let rest = buys_of_within sides in let step = pow-suc 2 (length sides) in
+    omega (arith, rest, step)
 
 -- a position of a purchase is bought
 pub bought_from : (sides : List Side) (k : ℕ) → slice_get sides k ≡ Some Buy → has (buys_of sides) k ≡ true
@@ -47,7 +49,8 @@ row_isnt : (row : ℕ × ℤ) (rows : List (ℕ × ℤ)) (x : ℕ) → row.0 ≢
 row_isnt row rows x other = ap (λ (b : Bool). if b then Some row.1 else row_of rows x) (ne_eqb row.0 x other)
 
 -- a row before the others is not of x
-later : (row : ℕ × ℤ) (rows : List (ℕ × ℤ)) (x : ℕ) (amount : ℤ) → row.0 ≢ x → IsFirstRow rows x amount → IsFirstRow (row ∷ rows) x amount
+later : (row : ℕ × ℤ) (rows : List (ℕ × ℤ)) (x : ℕ) (amount : ℤ) → row.0 ≢ x → IsFirstRow rows x amount
+    → IsFirstRow (row ∷ rows) x amount
 later row rows x amount other found = record { at = suc found.at; is = found.is; first = before }
   where
     before : (i : ℕ) (one : ℕ × ℤ) → i < suc found.at → slice_get (row ∷ rows) i ≡ Some one → one.0 ≢ x
@@ -59,7 +62,8 @@ first_row [] x amount is = absurd (cc is)
 first_row (row ∷ rows) x amount is = elim (cases_eq row.0 x) [
   | inl same ↦ record {
     at = 0;
-    is = ap (λ (r : ℕ × ℤ). Some r) (ap₂ (λ (y : ℕ) (z : ℤ). (y, z)) same (same_Some _ _ (sym (row_is row rows x same) ∙ is)));
+    is = ap (λ (r : ℕ × ℤ). Some r) (ap₂ (λ (y : ℕ) (z : ℤ). (y, z)) same
+        (same_Some _ _ (sym (row_is row rows x same) ∙ is)));
     first = λ i one inside there. absurd (omega (arith, inside));
   }
   | inr other ↦ later row rows x amount other (first_row rows x amount (sym (row_isnt row rows x other) ∙ is))
@@ -77,7 +81,10 @@ number_of_first (row ∷ rows) x amount (suc at) is first =
 
 -- a bundle has the number of its first row
 pub listed_row : (rows : List (ℕ × ℤ)) (x : ℕ) (amount : ℤ) → (row_of rows x ≡ Some amount) ↔ IsFirstRow rows x amount
-listed_row rows x amount = (first_row rows x amount, λ found. number_of_first rows x amount found.at found.is found.first)
+listed_row rows x amount = (
+  first_row rows x amount,
+  λ found. number_of_first rows x amount found.at found.is found.first,
+)
 
 none_listed : (rows : List (ℕ × ℤ)) (x : ℕ) → row_of rows x ≡ None → HasNoRow rows x
 none_listed [] x none i row is = absurd (cc is)
@@ -92,7 +99,8 @@ none_listed (first ∷ rows) x none i row is = elim (cases_eq first.0 x) [
 
 no_number : (rows : List (ℕ × ℤ)) (x : ℕ) → HasNoRow rows x → row_of rows x ≡ None
 no_number [] x none = refl
-no_number (row ∷ rows) x none = row_isnt row rows x (none 0 row refl) ∙ no_number rows x (λ i one is. none (suc i) one is)
+no_number (row ∷ rows) x none = row_isnt row rows x (none 0 row refl)
+    ∙ no_number rows x (λ i one is. none (suc i) one is)
 
 -- and none where it has no row
 pub unlisted_row : (rows : List (ℕ × ℤ)) (x : ℕ) → (row_of rows x ≡ None) ↔ HasNoRow rows x

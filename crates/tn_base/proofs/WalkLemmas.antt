@@ -16,13 +16,21 @@ pub record AreParts (o p : Option ℤ) (sum : ℤ) : Type 0 where
 pub both_parts : (o p : Option ℤ) (sum : ℤ) → both o p ≡ Some sum → AreParts o p sum
 both_parts None p sum e = absurd (cc e)
 both_parts (Some a) None sum e = absurd (cc e)
-both_parts (Some a) (Some b) sum e = record { first = a; second = b; first_is = refl; second_is = refl; sum_is = sym (same_Some _ _ e) }
+both_parts (Some a) (Some b) sum e = record {
+  first = a;
+  second = b;
+  first_is = refl;
+  second_is = refl;
+  sum_is =
+      sym (same_Some _ _ e);
+}
 
 pub both_are : (o p : Option ℤ) (a b : ℤ) → o ≡ Some a → p ≡ Some b → both o p ≡ Some (a +ℤ b)
 both_are o p a b first second = ap₂ both first second
 
 -- the first arc of a walk, and the rest
-pub walk_parts : (arc : ℕ → ℕ → Option ℤ) (u v : ℕ) (vs : List ℕ) (w : ℕ) (cost : ℤ) → walk_cost arc u (v ∷ vs) w ≡ Some cost
+pub walk_parts : (arc : ℕ → ℕ → Option ℤ) (u v : ℕ) (vs : List ℕ) (w : ℕ) (cost : ℤ)
+    → walk_cost arc u (v ∷ vs) w ≡ Some cost
     → AreParts (arc u v) (walk_cost arc v vs w) cost
 walk_parts arc u v vs w cost is = both_parts (arc u v) (walk_cost arc v vs w) cost is
 
@@ -44,7 +52,8 @@ walk-joined arc u (x ∷ us) v vs w a b first second =
 abbrev pub SameArcs : (ℕ → ℕ → Option ℤ) → (ℕ → ℕ → Option ℤ) → Type 0
 SameArcs one other = (u v : ℕ) → one u v ≡ other u v
 
-pub walk-same : (one other : ℕ → ℕ → Option ℤ) → SameArcs one other → (u : ℕ) (vs : List ℕ) (w : ℕ) → walk_cost one u vs w ≡ walk_cost other u vs w
+pub walk-same : (one other : ℕ → ℕ → Option ℤ) → SameArcs one other → (u : ℕ) (vs : List ℕ) (w : ℕ)
+    → walk_cost one u vs w ≡ walk_cost other u vs w
 walk-same one other same u [] w = same u w
 walk-same one other same u (v ∷ vs) w = ap₂ both (same u v) (walk-same one other same v vs w)
 
@@ -55,12 +64,16 @@ least_cycle-same one other same t vs cost cycle = record {
   shortest = λ ws avoids walk. cycle.shortest ws avoids (sym (walk-same one other same t ws t) ∙ walk);
 }
 
-pub cycles-same : (one other : ℕ → ℕ → Option ℤ) → SameArcs one other → (t : ℕ) (least : ℤ) → CyclesCostAtLeast other t least → CyclesCostAtLeast one t least
-cycles-same one other same t least all vs cost avoids walk = all vs cost avoids (sym (walk-same one other same t vs t) ∙ walk)
+pub cycles-same : (one other : ℕ → ℕ → Option ℤ) → SameArcs one other → (t : ℕ) (least : ℤ)
+    → CyclesCostAtLeast other t least → CyclesCostAtLeast one t least
+cycles-same one other same t least all vs cost avoids walk =
+    all vs cost avoids (sym (walk-same one other same t vs t) ∙ walk)
 
-pub none_negative-same : (one other : ℕ → ℕ → Option ℤ) → SameArcs one other → HasNoNegativeCycle other → HasNoNegativeCycle one
+pub none_negative-same : (one other : ℕ → ℕ → Option ℤ) → SameArcs one other → HasNoNegativeCycle other
+    → HasNoNegativeCycle one
 none_negative-same one other same none u vs cost walk = none u vs cost (sym (walk-same one other same u vs u) ∙ walk)
 
 -- the arcs among some nodes of graphs with the same arcs are the same
-pub among-same : (test : ℕ → Bool) (one other : ℕ → ℕ → Option ℤ) → SameArcs one other → SameArcs (arcs_among test one) (arcs_among test other)
+pub among-same : (test : ℕ → Bool) (one other : ℕ → ℕ → Option ℤ) → SameArcs one other
+    → SameArcs (arcs_among test one) (arcs_among test other)
 among-same test one other same u v = ap (λ (o : Option ℤ). if test u && test v then o else None) (same u v)

@@ -25,7 +25,8 @@ pub record MovesAlone (firm : Firm) (x y x' y' : ℕ) (total : ℤ) : Type 0 whe
 
 -- position i of the up side can be toggled in both, alone or with a position of the down side
 abbrev pub Exchanges : Firm → ℕ → ℕ → ℤ → ℕ → Type 0
-Exchanges firm x y total i = SwapsDown firm x y (toggle x i) (toggle y i) total ⊎ MovesAlone firm x y (toggle x i) (toggle y i) total
+Exchanges firm x y total i = SwapsDown firm x y (toggle x i) (toggle y i) total
+    ⊎ MovesAlone firm x y (toggle x i) (toggle y i) total
 
 -- a firm meets exchange: for all possible bundles x and y
 pub record MeetsExchange (firm : Firm) : Type 0 where

@@ -1,3 +1,4 @@
+-- The numbers of the kinds of faults.
 use Rattle.std.specs.Prelude.{ℕ}
 use Rattle.tn_base.specs.declared.fault.FaultKind.{FaultKind}
 use Rattle.tn_base.specs.declared.fault.FaultKind.TheVariants.{NotJson, TooLong, Shape, BadName, SameName, UnknownFirm, SelfTrade, UnknownTrade, Limit, AmountRange, NotOwnTrade, SameBundle, NoEmpty, NotLaminar, NotConcave, ExchangeFails, SameTrade, PriceMissing, BadOver, SamePair}

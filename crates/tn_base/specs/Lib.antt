@@ -1,3 +1,4 @@
+-- The files of definitions of this crate.
 pub mod Sets
 pub mod Firm
 pub mod Exchange

@@ -5,7 +5,8 @@ use Rattle.std.proofs.lemmas.Nat.{mod_low, shr_high}
 use Rattle.tn_base.specs.Limbs.{joined, limbs_of}
 
 -- a number gives the words back that it was made of
-pub limbs_of-joined : (count : ℕ) (limbs : List ℕ) → length limbs ≡ count → ((k : ℕ) → get_or limbs k 0 < 2 ^ 64) → limbs_of count (joined limbs) ≡ limbs
+pub limbs_of-joined : (count : ℕ) (limbs : List ℕ) → length limbs ≡ count → ((k : ℕ) → get_or limbs k 0 < 2 ^ 64)
+    → limbs_of count (joined limbs) ≡ limbs
 unfolding limbs_of joined
 limbs_of-joined zero [] counted words = refl
 limbs_of-joined zero (limb ∷ limbs) counted words = absurd (omega (arith, counted))

@@ -17,7 +17,8 @@ pub record AreSets : Type 0 where
   -- the number of a set of numbers below n is below 2^n, and its members may be counted up to n
   pub counted : (n x : ℕ) → x < 2 ^ n → size x ≡ size_below n x
   -- the set that words of 64 bits make together has the members of each word, 64 apart
-  pub worded : (limbs : List ℕ) (k : ℕ) → ((i : ℕ) → get_or limbs i 0 < 2 ^ 64) → has (joined limbs) k ≡ has (get_or limbs (k / 64) 0) (k % 64)
+  pub worded : (limbs : List ℕ) (k : ℕ) → ((i : ℕ) → get_or limbs i 0 < 2 ^ 64)
+      → has (joined limbs) k ≡ has (get_or limbs (k / 64) 0) (k % 64)
 
 -- A toggle moves one member in or out, and the count of members with it.
 pub record TogglesAreCounted : Type 0 where

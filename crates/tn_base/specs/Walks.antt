@@ -30,7 +30,8 @@ Avoids t vs = All (λ v. v ≢ t) vs
 
 -- a closed walk that meets t at its two ends alone costs at least this
 abbrev pub CyclesCostAtLeast : (ℕ → ℕ → Option ℤ) → ℕ → ℤ → Type 0
-CyclesCostAtLeast arc t least = (vs : List ℕ) (cost : ℤ) → Avoids t vs → walk_cost arc t vs t ≡ Some cost → least ≤ℤ cost
+CyclesCostAtLeast arc t least = (vs : List ℕ) (cost : ℤ) → Avoids t vs → walk_cost arc t vs t ≡ Some cost
+    → least ≤ℤ cost
 
 -- no closed walk has a negative cost
 abbrev pub HasNoNegativeCycle : (ℕ → ℕ → Option ℤ) → Type 0

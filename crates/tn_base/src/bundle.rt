@@ -1,3 +1,5 @@
+//! Bundles: sets of a firm's own trades by position.
+
 ghost use Rattle.std.specs.Prelude.{◌≡◌, ℕ, ◌^◌, ◌<◌, ◌≤◌};
 ghost use Rattle.tn_base.specs.Sets.{has, toggle, union, meet, minus, size};
 ghost use Rattle.tn_base.specs.Firm.{net};

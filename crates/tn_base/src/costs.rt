@@ -1,3 +1,5 @@
+//! Directed graphs by the costs of their arcs.
+
 ghost use Rattle.std.specs.Prelude.{◌≡◌, ℕ, ◌<◌, ℤ, Option};
 ghost use Rattle.tn_base.specs.Arcs.{AreBetweenNodes, AreSmall};
 ghost use Rattle.tn_base.specs.Widths.{most_cost};

@@ -1,3 +1,5 @@
+//! Kinds of faults.
+
 ghost use Rattle.std.specs.Prelude.{◌≡◌};
 ghost use Rattle.tn_base.specs.Faults.{fault_number};
 

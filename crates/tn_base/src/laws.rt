@@ -1,3 +1,5 @@
+//! Laws of sets, tables and the exchange property.
+
 ghost use Rattle.tn_base.specs.ExchangeLaw.{ExchangeIsNoFailure};
 ghost use Rattle.tn_base.specs.SetLaws.{AreSets, TogglesAreCounted, TogglesAreSummed};
 ghost use Rattle.tn_base.specs.TableLaws.{AreTables};

@@ -1,3 +1,5 @@
+//! Sides of a trade.
+
 ghost use Rattle.std.specs.Prelude.{◌≡◌, ◌≤◌, length};
 ghost use Rattle.tn_base.specs.Table.{buys_of};
 

@@ -1,3 +1,5 @@
+//! Counters of steps, which take no bytes at run time.
+
 ghost use Rattle.std.specs.Prelude.{◌≡◌, ◌+◌};
 
 use std::marker::Model;

@@ -1,3 +1,5 @@
+//! Tests of sets and of counters.
+
 use super::*;
 use std::process::Abort;
 

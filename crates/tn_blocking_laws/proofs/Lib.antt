@@ -1,3 +1,4 @@
+-- The files of lemmas of this crate.
 pub mod TaxLemmas
 pub mod CycleLemmas
 pub mod ScaleLemmas

@@ -22,32 +22,42 @@ pub record IsCover (firm : Firm) (cover : ℕ → Option ℤ) (given : ℕ) : Ty
   pub covers : (y : ℕ) (u : ℤ) → firm.worth y ≡ Some u → (v : ℤ) × (cover (minus y given) ≡ Some v) × (u ≤ℤ v)
   pub reached : (x : ℕ) (v : ℤ) → cover x ≡ Some v → (y : ℕ) × (minus y given ≡ x) × (firm.worth y ≡ Some v)
 
-pub cover_of : (firm : Firm) (over scale : ℤ) (all inside outside : ℕ → ℤ) (given : ℕ) → HasOwnBundles firm → pos 0 ≤ℤ scale
+pub cover_of : (firm : Firm) (over scale : ℤ) (all inside outside : ℕ → ℤ) (given : ℕ) → HasOwnBundles firm
+    → pos 0 ≤ℤ scale
     → AreSplit firm.count given all (λ k. scale *ℤ inside k) outside
-    → IsCover (plus_sum (over *ℤ scale) all firm) (plus_sum scale outside (adding given (plus_sum over inside firm))).worth given
+    → IsCover (plus_sum (over *ℤ scale) all firm) (plus_sum scale outside
+    (adding given (plus_sum over inside firm))).worth given
 cover_of firm over scale all inside outside given own from_zero split = record {
   covers = λ y u is.
       let worth = option_map-some (λ w. (over *ℤ scale) *ℤ w +ℤ sum_over all firm.count y) (firm.worth y) u is in
-      let there = adding_most given (plus_sum over inside firm) (own_priced over inside firm own) (minus y given) y (over *ℤ worth.0 +ℤ sum_over inside firm.count y) refl
+      let there = adding_most given (plus_sum over inside firm) (own_priced over inside firm own) (minus y given) y
+      (over *ℤ worth.0 +ℤ sum_over inside firm.count y) refl
       (ap (option_map (λ w. over *ℤ w +ℤ sum_over inside firm.count y)) worth.1) in (
         scale *ℤ there.0 +ℤ sum_over outside firm.count (minus y given),
         ap (option_map (λ w. scale *ℤ w +ℤ sum_over outside firm.count (minus y given))) there.1,
-        at_most _ _ _ _ u _ _ worth.2 (sums y) (times-times over scale worth.0) (times-plus scale (over *ℤ worth.0) (sum_over inside firm.count y))
+        at_most _ _ _ _ u _ _ worth.2 (sums y) (times-times over scale worth.0)
+            (times-plus scale (over *ℤ worth.0) (sum_over inside firm.count y))
             (times-le scale (over *ℤ worth.0 +ℤ sum_over inside firm.count y) there.0 from_zero there.2),
       );
   reached = λ x v is.
-      let worth = option_map-some (λ w. scale *ℤ w +ℤ sum_over outside firm.count x) ((adding given (plus_sum over inside firm)).worth x) v is in
+      let worth = option_map-some (λ w. scale *ℤ w +ℤ sum_over outside firm.count x)
+      ((adding given (plus_sum over inside firm)).worth x) v is in
       let there = adding_one given (plus_sum over inside firm) x worth.0 worth.1 in
-      let own_worth = option_map-some (λ w. over *ℤ w +ℤ sum_over inside firm.count there.0) (firm.worth there.0) worth.0 there.2 in (
+      let own_worth =
+      option_map-some (λ w. over *ℤ w +ℤ sum_over inside firm.count there.0) (firm.worth there.0) worth.0 there.2 in (
         there.0,
         there.1,
         ap (option_map (λ w. (over *ℤ scale) *ℤ w +ℤ sum_over all firm.count there.0)) own_worth.1
-            ∙ ap (λ (z : ℤ). Some z) (equal _ _ _ _ _ _ v (sums there.0 ∙ ap (λ (z : ℕ). scale *ℤ sum_over inside firm.count there.0 +ℤ sum_over outside firm.count z) there.1)
-            (times-times over scale own_worth.0) (sym (times-plus scale (over *ℤ own_worth.0) (sum_over inside firm.count there.0)) ∙ ap (λ (z : ℤ). scale *ℤ z) own_worth.2) worth.2),
+            ∙ ap (λ (z : ℤ). Some z) (equal _ _ _ _ _ _ v (sums there.0
+            ∙ ap (λ (z : ℕ). scale *ℤ sum_over inside firm.count there.0 +ℤ sum_over outside firm.count z) there.1)
+            (times-times over scale own_worth.0)
+            (sym (times-plus scale (over *ℤ own_worth.0) (sum_over inside firm.count there.0))
+            ∙ ap (λ (z : ℤ). scale *ℤ z) own_worth.2) worth.2),
       );
 }
   where
-    sums : (y : ℕ) → sum_over all firm.count y ≡ scale *ℤ sum_over inside firm.count y +ℤ sum_over outside firm.count (minus y given)
+    sums : (y : ℕ) → sum_over all firm.count y ≡ scale *ℤ sum_over inside firm.count y
+        +ℤ sum_over outside firm.count (minus y given)
     sums y = sum_over-split firm.count given y all (λ k. scale *ℤ inside k) outside split
         ∙ ap (λ (z : ℤ). z +ℤ sum_over outside firm.count (minus y given)) (sum_over-times scale inside firm.count y)
 
@@ -62,20 +72,26 @@ abbrev pub scaled_price : List Contract → ℤ → (ℕ → ℤ) → ℕ → �
 scaled_price contracts scale prices t = if is_signed contracts t then scale *ℤ signed_price contracts t else prices t
 
 -- a firm at these prices is covered by its reduced worth at the given prices
-pub firm_cover : (firms : List Firm) (trades : List Ends) → IsNetwork firms trades → (over : ℤ) (contracts : List Contract) (scale : ℤ) → pos 0 ≤ℤ scale → (prices : ℕ → ℤ)
+pub firm_cover : (firms : List Firm) (trades : List Ends) → IsNetwork firms trades
+    → (over : ℤ) (contracts : List Contract) (scale : ℤ) → pos 0 ≤ℤ scale → (prices : ℕ → ℤ)
     → (f : ℕ) (firm : Firm) → slice_get firms f ≡ Some firm → HasOwnBundles firm
-    → IsCover (plus_sum (over *ℤ scale) (payments firm.buys (prices_at trades (scaled_price contracts scale prices) f)) firm)
-    (plus_sum scale (payments firm.buys (prices_at trades prices f)) (reduced trades over contracts f firm)).worth (signed_bundle trades contracts f firm)
+    → IsCover (plus_sum (over *ℤ scale) (payments firm.buys (prices_at trades (scaled_price contracts scale prices) f))
+    firm)
+    (plus_sum scale (payments firm.buys (prices_at trades prices f)) (reduced trades over contracts f firm)).worth
+    (signed_bundle trades contracts f firm)
 firm_cover firms trades network over contracts scale from_zero prices f firm is has_own =
-    cover_of firm over scale (payments firm.buys (prices_at trades (scaled_price contracts scale prices) f)) (payments firm.buys (prices_at trades (signed_price contracts) f))
+    cover_of firm over scale (payments firm.buys (prices_at trades (scaled_price contracts scale prices) f))
+    (payments firm.buys (prices_at trades (signed_price contracts) f))
     (payments firm.buys (prices_at trades prices f)) (signed_bundle trades contracts f firm) has_own from_zero (record {
       on = λ k below there.
           let signed = sym (has-signed_bundle firms trades network contracts f k firm is below) ∙ there in
-          ap (pays k) (ap (λ (b : Bool). if b then scale *ℤ signed_price contracts (own_trade k) else prices (own_trade k)) signed) ∙ by_side (has firm.buys k) (signed_price contracts (own_trade k));
+          ap (pays k) (ap (λ (b : Bool). if b then scale *ℤ signed_price contracts (own_trade k)
+          else prices (own_trade k)) signed) ∙ by_side (has firm.buys k) (signed_price contracts (own_trade k));
       off = λ k below away.
           let unsigned = sym (has-signed_bundle firms trades network contracts f k firm is below) ∙ away in (
             ap (λ (z : ℤ). scale *ℤ pays k z) (no_price contracts (own_trade k) unsigned) ∙ nothing (has firm.buys k),
-            ap (pays k) (ap (λ (b : Bool). if b then scale *ℤ signed_price contracts (own_trade k) else prices (own_trade k)) unsigned),
+            ap (pays k) (ap (λ (b : Bool). if b then scale *ℤ signed_price contracts (own_trade k)
+                else prices (own_trade k)) unsigned),
           );
     })
   where

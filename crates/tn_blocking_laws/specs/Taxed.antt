@@ -21,12 +21,15 @@ taxed_firms firms trades over contracts scale = map (taxed scale) (reduced_firms
 
 -- some of the allowed trades, and prices, that are an equilibrium of the market which the allowed trades make for firms
 -- with taxed reduced worths
-pub record IsTaxedEquilibrium (firms : List Firm) (trades : List Ends) (over : ℤ) (contracts : List Contract) (scale : ℤ) (allowed on : ℕ) (prices : ℕ → ℤ) : Type 0 where
+pub record IsTaxedEquilibrium (firms : List Firm) (trades : List Ends) (over : ℤ) (contracts : List Contract)
+    (scale : ℤ) (allowed on : ℕ) (prices : ℕ → ℤ) : Type 0 where
   pub inside : IsSubset on allowed
-  pub equilibrium : IsEquilibrium (admitted trades allowed (taxed_firms firms trades over contracts scale)) trades (pos 1) on prices
+  pub equilibrium : IsEquilibrium (admitted trades allowed (taxed_firms firms trades over contracts scale)) trades
+      (pos 1) on prices
 
 -- contracts on unsigned trades, one for each trade of a set, at given prices
-pub record AreOffers (trades : List Ends) (contracts : List Contract) (on : ℕ) (prices : ℕ → ℤ) (offers : List Contract) : Type 0 where
+pub record AreOffers (trades : List Ends) (contracts : List Contract) (on : ℕ) (prices : ℕ
+    → ℤ) (offers : List Contract) : Type 0 where
   pub some : 0 < length offers
   pub feasible : IsFeasible trades offers
   pub unsigned : (k : ℕ) (offer : Contract) → slice_get offers k ≡ Some offer → is_signed contracts offer.trade ≡ false

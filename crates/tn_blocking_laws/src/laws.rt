@@ -1,8 +1,10 @@
+//! Laws of the contracts that block an outcome.
+
 ghost use Rattle.tn_blocking_laws.specs.Laws.{AllOnBlock, NoneOnIsNoCycle, SomeOnIsCycle};
 
-/// Where a taxed equilibrium has no trade on, at a scale of more than twice the number of allowed trades, no cycle of the
-/// reduced graph on these is negative: the taxes on a cycle are fewer than the scale, so its cost, a whole number, isn't
-/// below 0.
+/// Where a taxed equilibrium has no trade on, at a scale of more than twice the number of allowed trades, no cycle of
+/// the reduced graph on these is negative: the taxes on a cycle are fewer than the scale, so its cost, a whole number,
+/// isn't below 0.
 pub fn none_on_is_no_cycle()
     ensures { NoneOnIsNoCycle }
 {}

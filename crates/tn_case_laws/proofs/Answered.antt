@@ -13,13 +13,17 @@ use Rattle.tn_run.specs.Words.{case_command, case_layout, need_of}
 use Rattle.tn_run.specs.declared.command.Command.{Command}
 use Rattle.tn_case_laws.specs.Laws.{HasOneAnswer}
 
-pub one_answer : (case : CaseData) (command : Command) (doc : DocumentData) (said : Said) → case_command case.command ≡ Some command → reading_of (need_of command) case.document ≡ Ok doc
-    → IsAnswerOf command doc said → ((other : Said) → IsAnswerOf command doc other → other ≡ said) → case.status ≡ status_of said → case.text ≡ answer_line (case_layout case.command) doc.names said → HasOneAnswer case
+pub one_answer : (case : CaseData) (command : Command) (doc : DocumentData) (said : Said)
+    → case_command case.command ≡ Some command → reading_of (need_of command) case.document ≡ Ok doc
+    → IsAnswerOf command doc said → ((other : Said) → IsAnswerOf command doc other → other ≡ said)
+    → case.status ≡ status_of said → case.text ≡ answer_line (case_layout case.command) doc.names said
+    → HasOneAnswer case
 one_answer case command doc said command_is reading_is answers only_said status_is text_is = record {
   allowed = record {
     names = doc.names;
     said = said;
-    answer = subst (λ c. IsCaseAnswer c case.document doc.names said) (sym command_is) (subst (λ r. IsAnswerTo command r doc.names said) (sym reading_is) (answers, refl));
+    answer = subst (λ c. IsCaseAnswer c case.document doc.names said) (sym command_is)
+        (subst (λ r. IsAnswerTo command r doc.names said) (sym reading_is) (answers, refl));
     status_is = status_is;
     text_is = text_is;
   };
@@ -28,16 +32,19 @@ one_answer case command doc said command_is reading_is answers only_said status_
   where
     only : (status : ℕ) (text : List ℕ) → IsAllowed case status text → (status ≡ case.status) × (text ≡ case.text)
     only status text allowed =
-        let on_document = subst (λ c. IsCaseAnswer c case.document allowed.names allowed.said) command_is allowed.answer in
+        let on_document = subst (λ c. IsCaseAnswer c case.document allowed.names allowed.said) command_is allowed.answer
+        in
         let on_read = subst (λ r. IsAnswerTo command r allowed.names allowed.said) reading_is on_document in
         let same = only_said allowed.said on_read.0 in
         let same_names = on_read.1 in
         let layout = case_layout case.command in
-        let lines : answer_line layout allowed.names allowed.said ≡ answer_line layout doc.names said = λ i. answer_line layout (same_names i) (same i) in
+        let lines : answer_line layout allowed.names allowed.said ≡ answer_line layout doc.names said =
+        λ i. answer_line layout (same_names i) (same i) in
         (allowed.status_is ∙ ap status_of same ∙ sym status_is, allowed.text_is ∙ lines ∙ sym text_is)
 
 -- what holds of the elements one after the other holds of each
-pub each_in : {X : Type 0} (P : X → Type 0) (xs : List X) → AllByRecursion P xs → (k : ℕ) (y : X) → slice_get xs k ≡ Some y → P y
+pub each_in : {X : Type 0} (P : X → Type 0) (xs : List X) → AllByRecursion P xs → (k : ℕ) (y : X)
+    → slice_get xs k ≡ Some y → P y
 each_in P [] all k y e = absurd (none-some y e)
 each_in P (x ∷ xs) all zero y e = subst P (same_Some x y e) all.0
 each_in P (x ∷ xs) all (suc k) y e = each_in P xs all.1 k y e

@@ -36,15 +36,21 @@ surplus_2 = refl
 -- an equilibrium
 case_1 : HasOneAnswer (Trees.numbered 1)
 unfolding answer_line escape_byte digits
-case_1 = one_answer (Trees.numbered 1) Check (Readings.deal_document asks_3 Readings.extra_1) (Equilibrium (pos 2)) refl Readings.reading_1
-    ((equilibrium_at_4, surplus_2), λ surplus e. implied_by (deal_firms asks_3) deal_trades 1 (price_at (pos 4 ∷ [])) (documents_are_networks Arrangement Trees.bytes_1 _ Readings.reading_1).network equilibrium_at_4)
-    (λ other answers. only_equilibrium (deal_firms asks_3) deal_trades 1 (price_at (pos 4 ∷ [])) (pos 2) equilibrium_at_4 surplus_2 other answers.0)
+case_1 = one_answer (Trees.numbered 1) Check (Readings.deal_document asks_3 Readings.extra_1) (Equilibrium (pos 2)) refl
+    Readings.reading_1 (
+      (equilibrium_at_4, surplus_2),
+      λ surplus e. implied_by (deal_firms asks_3) deal_trades 1 (price_at (pos 4 ∷ []))
+          (documents_are_networks Arrangement Trees.bytes_1 _ Readings.reading_1).network equilibrium_at_4,
+    )
+    (λ other answers. only_equilibrium (deal_firms asks_3) deal_trades 1 (price_at (pos 4 ∷ [])) (pos 2)
+    equilibrium_at_4 surplus_2 other answers.0)
     refl refl
 
 -- a better bundle
 case_2 : HasOneAnswer (Trees.numbered 2)
 unfolding answer_line escape_byte digits
-case_2 = one_answer (Trees.numbered 2) Check (Readings.deal_document asks_3 Readings.extra_2) (Better 1 [] (pos 1)) refl Readings.reading_2
+case_2 = one_answer (Trees.numbered 2) Check (Readings.deal_document asks_3 Readings.extra_2) (Better 1 [] (pos 1)) refl
+    Readings.reading_2
     (is_better, λ surplus e. absurd (cc e))
     (λ other answers. only_better other answers.0)
     refl refl
@@ -60,13 +66,15 @@ case_3 = one_answer (Trees.numbered 3) Solve Readings.idle_document (Solved [] [
 -- complements
 case_4 : HasOneAnswer (Trees.numbered 4)
 unfolding answer_line escape_byte digits has
-case_4 = one_answer (Trees.numbered 4) Test Readings.document_4 (failure both_trades 1 2 both_triple) refl Readings.reading_4
+case_4 = one_answer (Trees.numbered 4) Test Readings.document_4 (failure both_trades 1 2 both_triple) refl
+    Readings.reading_4
     (is_failure both_firms both_trades 1 both_table both_triple fails)
     (only_failure both_firms both_trades 1 both_table both_triple fails)
     refl refl
   where
     fails : FailsFirst both_firms 1 both_table both_triple
-    fails = both_fail ((documents_are_networks Raw Trees.bytes_4 Readings.document_4 Readings.reading_4).own_bundles 0 _ refl)
+    fails = both_fail ((documents_are_networks Raw Trees.bytes_4 Readings.document_4 Readings.reading_4).own_bundles 0 _
+        refl)
 
 -- a dealer
 case_5 : HasOneAnswer (Trees.numbered 5)
@@ -79,55 +87,70 @@ case_5 = one_answer (Trees.numbered 5) Test Readings.document_5 Accepted refl Re
 -- tied pairs
 case_6 : HasOneAnswer (Trees.numbered 6)
 unfolding answer_line escape_byte digits has
-case_6 = one_answer (Trees.numbered 6) Test Readings.document_6 (failure tied_trades 1 4 tied_triple) refl Readings.reading_6
+case_6 = one_answer (Trees.numbered 6) Test Readings.document_6 (failure tied_trades 1 4 tied_triple) refl
+    Readings.reading_6
     (is_failure tied_firms tied_trades 1 tied_table tied_triple fails)
     (only_failure tied_firms tied_trades 1 tied_table tied_triple fails)
     refl refl
   where
     fails : FailsFirst tied_firms 1 tied_table tied_triple
-    fails = tied_fail ((documents_are_networks Raw Trees.bytes_6 Readings.document_6 Readings.reading_6).own_bundles 0 _ refl)
+    fails = tied_fail ((documents_are_networks Raw Trees.bytes_6 Readings.document_6 Readings.reading_6).own_bundles 0 _
+        refl)
 
 -- an impossible bundle
 case_7 : HasOneAnswer (Trees.numbered 7)
 unfolding answer_line escape_byte digits
-case_7 = one_answer (Trees.numbered 7) Support (Readings.deal_document None Readings.extra_7) (Impossible 0) refl Readings.reading_7 is_unable only_impossible refl refl
+case_7 = one_answer (Trees.numbered 7) Support (Readings.deal_document None Readings.extra_7) (Impossible 0) refl
+    Readings.reading_7 is_unable only_impossible refl refl
 
 -- prices that complete no contracts
 case_8 : HasOneAnswer (Trees.numbered 8)
 unfolding answer_line escape_byte digits
-case_8 = one_answer (Trees.numbered 8) Judge (Readings.deal_document asks_5 Readings.extra_8) (Completes (pos 5 ∷ []) (pos 1)) refl Readings.reading_8
+case_8 = one_answer (Trees.numbered 8) Judge (Readings.deal_document asks_5 Readings.extra_8)
+    (Completes (pos 5 ∷ []) (pos 1)) refl Readings.reading_8
     (rational_5, completed_5, refl, lasts (documents_are_networks Outcome Trees.bytes_8 _ Readings.reading_8))
     (only_completes (deal_firms asks_5) deal_trades (pos 1) [] (pos 5 ∷ []) rational_5 completed_5 only_5)
     refl refl
   where
-    lasts : IsDocument Outcome (Readings.deal_document asks_5 Readings.extra_8) → IsLastingOutcome (deal_firms asks_5) deal_trades (pos 1) []
-    lasts is = completed_lasts (deal_firms asks_5) deal_trades (pos 1) [] (price_at (pos 5 ∷ [])) is.network is.extra completed_5.completes
+    lasts : IsDocument Outcome (Readings.deal_document asks_5 Readings.extra_8)
+        → IsLastingOutcome (deal_firms asks_5) deal_trades (pos 1) []
+    lasts is = completed_lasts (deal_firms asks_5) deal_trades (pos 1) [] (price_at (pos 5 ∷ [])) is.network is.extra
+        completed_5.completes
 
 -- a contract that its seller would drop
 case_9 : HasOneAnswer (Trees.numbered 9)
 unfolding answer_line escape_byte digits
-case_9 = one_answer (Trees.numbered 9) Judge (Readings.deal_document asks_3 Readings.extra_9) (Drops 0 [] (Some (pos 1)) (pos 1)) refl Readings.reading_9 is_drop only_drop refl refl
+case_9 = one_answer (Trees.numbered 9) Judge (Readings.deal_document asks_3 Readings.extra_9)
+    (Drops 0 [] (Some (pos 1)) (pos 1)) refl Readings.reading_9 is_drop only_drop refl refl
 
 -- a price between whole numbers
 case_10 : HasOneAnswer (Trees.numbered 10)
 unfolding answer_line escape_byte digits
-case_10 = one_answer (Trees.numbered 10) Judge (Readings.deal_document asks_3 Readings.extra_10) (Completes (pos 9 ∷ []) (pos 2)) refl Readings.reading_10
+case_10 = one_answer (Trees.numbered 10) Judge (Readings.deal_document asks_3 Readings.extra_10)
+    (Completes (pos 9 ∷ []) (pos 2)) refl Readings.reading_10
     (rational_9, completed_9, refl, lasts (documents_are_networks Outcome Trees.bytes_10 _ Readings.reading_10))
     (only_completes (deal_firms asks_3) deal_trades (pos 2) at_9 (pos 9 ∷ []) rational_9 completed_9 only_9)
     refl refl
   where
-    lasts : IsDocument Outcome (Readings.deal_document asks_3 Readings.extra_10) → IsLastingOutcome (deal_firms asks_3) deal_trades (pos 2) at_9
-    lasts is = completed_lasts (deal_firms asks_3) deal_trades (pos 2) at_9 (price_at (pos 9 ∷ [])) is.network is.extra completed_9.completes
+    lasts : IsDocument Outcome (Readings.deal_document asks_3 Readings.extra_10)
+        → IsLastingOutcome (deal_firms asks_3) deal_trades (pos 2) at_9
+    lasts is = completed_lasts (deal_firms asks_3) deal_trades (pos 2) at_9 (price_at (pos 9 ∷ [])) is.network is.extra
+        completed_9.completes
 
 -- a negative cycle
 case_11 : HasOneAnswer (Trees.numbered 11)
 unfolding answer_line escape_byte digits
-case_11 = one_answer (Trees.numbered 11) Support (Readings.deal_document asks_3 Readings.extra_11) (Cycle (None ∷ Some 0 ∷ []) (negsuc 1)) refl Readings.reading_11 is_cyclic only_cyclic refl refl
+case_11 = one_answer (Trees.numbered 11) Support (Readings.deal_document asks_3 Readings.extra_11)
+    (Cycle (None ∷ Some 0 ∷ []) (negsuc 1)) refl Readings.reading_11 is_cyclic only_cyclic refl refl
 
 -- a claim that doesn't hold
 case_12 : HasOneAnswer (Trees.numbered 12)
 unfolding answer_line escape_byte digits
-case_12 = one_answer (Trees.numbered 12) Replay (Readings.deal_document asks_3 Readings.extra_12) (Invalid (Choice 0 0)) refl Readings.reading_12 is_left only_left refl refl
+case_12 = one_answer (Trees.numbered 12) Replay (Readings.deal_document asks_3 Readings.extra_12) (Invalid (Choice 0 0))
+    refl Readings.reading_12 is_left only_left refl refl
 
 pub each_case_has_one_answer : EachCaseHasOneAnswer
-each_case_has_one_answer = each_in HasOneAnswer cases_of_the_book (case_1, (case_2, (case_3, (case_4, (case_5, (case_6, (case_7, (case_8, (case_9, (case_10, (case_11, (case_12, tt))))))))))))
+each_case_has_one_answer = each_in HasOneAnswer cases_of_the_book (
+  case_1,
+  (case_2, (case_3, (case_4, (case_5, (case_6, (case_7, (case_8, (case_9, (case_10, (case_11, (case_12, tt))))))))))),
+)

@@ -57,7 +57,8 @@ pub meets_none : MeetsExchange (seller None)
 unfolding all_below some_below worth_in has toggle union meet minus size size_below up net
 meets_none = meets (seller None) (own_bundles (seller_table None)) refl
 
-pub seller_below : (row : Option ℤ) (scale : ℤ) (prices : ℕ → ℤ) → AreBelow 2 (utility_at deal_trades scale prices 0 (seller row))
+pub seller_below : (row : Option ℤ) (scale : ℤ) (prices : ℕ → ℤ)
+    → AreBelow 2 (utility_at deal_trades scale prices 0 (seller row))
 seller_below row scale prices = own_utilities deal_trades scale prices 0 (seller row) (own_bundles (seller_table row))
 
 pub buyer_below : (scale : ℤ) (prices : ℕ → ℤ) → AreBelow 2 (utility_at deal_trades scale prices 1 buyer)
@@ -66,12 +67,20 @@ buyer_below scale prices = own_utilities deal_trades scale prices 1 buyer (own_b
 -- at the price 4 the trade is an equilibrium
 pub equilibrium_at_4 : IsEquilibrium (deal_firms asks_3) deal_trades (pos 1) 1 (price_at (pos 4 ∷ []))
 unfolding all_below has sum_over set_of worth_in toggle
-equilibrium_at_4 = two_firms (λ f firm. HasBest deal_trades (pos 1) 1 (price_at (pos 4 ∷ [])) f firm) (seller asks_3) buyer
-    (pos 1, best_by 2 (utility_at deal_trades (pos 1) (price_at (pos 4 ∷ [])) 0 (seller asks_3)) (seller_below asks_3 (pos 1) (price_at (pos 4 ∷ []))) 1 (pos 1) refl refl)
-    (pos 1, best_by 2 (utility_at deal_trades (pos 1) (price_at (pos 4 ∷ [])) 1 buyer) (buyer_below (pos 1) (price_at (pos 4 ∷ []))) 1 (pos 1) refl refl)
+equilibrium_at_4 =
+    two_firms (λ f firm. HasBest deal_trades (pos 1) 1 (price_at (pos 4 ∷ [])) f firm) (seller asks_3) buyer (
+      pos 1,
+      best_by 2 (utility_at deal_trades (pos 1) (price_at (pos 4 ∷ [])) 0 (seller asks_3))
+          (seller_below asks_3 (pos 1) (price_at (pos 4 ∷ []))) 1 (pos 1) refl refl,
+    ) (
+      pos 1,
+      best_by 2 (utility_at deal_trades (pos 1) (price_at (pos 4 ∷ [])) 1 buyer)
+          (buyer_below (pos 1) (price_at (pos 4 ∷ []))) 1 (pos 1) refl refl,
+    )
 
 -- where the trade is off, a price below its worth to the buyer is no equilibrium, nor is one above what the seller asks
-pub off_at_least_5 : (row : Option ℤ) (prices : ℕ → ℤ) → IsEquilibrium (deal_firms row) deal_trades (pos 1) 0 prices → pos 5 ≤ℤ prices 0
+pub off_at_least_5 : (row : Option ℤ) (prices : ℕ → ℤ) → IsEquilibrium (deal_firms row) deal_trades (pos 1) 0 prices
+    → pos 5 ≤ℤ prices 0
 unfolding has sum_over set_of worth_in
 off_at_least_5 row prices equilibrium =
     let held = equilibrium 1 buyer refl in
@@ -79,7 +88,8 @@ off_at_least_5 row prices equilibrium =
     let most = held.1.most 1 _ refl in
     omega (arith, ints, value, most)
 
-pub off_at_most_3 : (prices : ℕ → ℤ) → IsEquilibrium (deal_firms asks_3) deal_trades (pos 1) 0 prices → prices 0 ≤ℤ pos 3
+pub off_at_most_3 : (prices : ℕ → ℤ) → IsEquilibrium (deal_firms asks_3) deal_trades (pos 1) 0 prices
+    → prices 0 ≤ℤ pos 3
 unfolding has sum_over set_of worth_in
 off_at_most_3 prices equilibrium =
     let held = equilibrium 0 (seller asks_3) refl in
@@ -87,7 +97,8 @@ off_at_most_3 prices equilibrium =
     let most = held.1.most 1 _ refl in
     omega (arith, ints, value, most)
 
-pub off_at_most_5 : (prices : ℕ → ℤ) → IsEquilibrium (deal_firms asks_5) deal_trades (pos 1) 0 prices → prices 0 ≤ℤ pos 5
+pub off_at_most_5 : (prices : ℕ → ℤ) → IsEquilibrium (deal_firms asks_5) deal_trades (pos 1) 0 prices
+    → prices 0 ≤ℤ pos 5
 unfolding has sum_over set_of worth_in
 off_at_most_5 prices equilibrium =
     let held = equilibrium 0 (seller asks_5) refl in

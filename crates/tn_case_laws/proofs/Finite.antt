@@ -33,9 +33,11 @@ best_by n value_of below x value is e = record {
 
 -- the one bundle whose value is above all others is the only best one
 pub only_best : (n : ℕ) (value_of : ℕ → Option ℤ) → AreBelow n value_of → (x : ℕ) (value : ℤ) → value_of x ≡ Some value
-    → all_below (λ y. (y == x) || is_less value (value_of y)) n ≡ true → (y : ℕ) (other : ℤ) → IsBest value_of y other → (y ≡ x) × (other ≡ value)
+    → all_below (λ y. (y == x) || is_less value (value_of y)) n ≡ true → (y : ℕ) (other : ℤ) → IsBest value_of y other
+    → (y ≡ x) × (other ≡ value)
 only_best n value_of below x value is e y other best =
-    elim (or_cases (y == x) (is_less value (value_of y)) (each_below (λ y. (y == x) || is_less value (value_of y)) n e y (below y other best.is))) [
+    elim (or_cases (y == x) (is_less value (value_of y))
+    (each_below (λ y. (y == x) || is_less value (value_of y)) n e y (below y other best.is))) [
       | inl same ↦
           let here : y ≡ x = eqb-true y x same in
           (here, same_Some other value (sym best.is ∙ ap value_of here ∙ is))
@@ -46,19 +48,24 @@ only_best n value_of below x value is e y other best =
     ]
 
 -- a utility is one of an own bundle
-pub own_utilities : (trades : List Ends) (scale : ℤ) (prices : ℕ → ℤ) (f : ℕ) (firm : Firm) → HasOwnBundles firm → AreBelow (2 ^ firm.count) (utility_at trades scale prices f firm)
+pub own_utilities : (trades : List Ends) (scale : ℤ) (prices : ℕ → ℤ) (f : ℕ) (firm : Firm) → HasOwnBundles firm
+    → AreBelow (2 ^ firm.count) (utility_at trades scale prices f firm)
 own_utilities trades scale prices f firm own y other e = by (firm.worth y) refl e
   where
-    by : (o : Option ℤ) → firm.worth y ≡ o → option_map (λ a. scale *ℤ a +ℤ sum_over (payments firm.buys (prices_at trades prices f)) firm.count y) o ≡ Some other → y < 2 ^ firm.count
+    by : (o : Option ℤ) → firm.worth y ≡ o
+        → option_map (λ a. scale *ℤ a +ℤ sum_over (payments firm.buys (prices_at trades prices f)) firm.count y) o
+        ≡ Some other → y < 2 ^ firm.count
     by (Some a) is e = own y a is
     by None is e = absurd (none-some other e)
 
-pub two_firms : (P : ℕ → Firm → Type 0) (a b : Firm) → P 0 a → P 1 b → (f : ℕ) (firm : Firm) → slice_get (a ∷ b ∷ []) f ≡ Some firm → P f firm
+pub two_firms : (P : ℕ → Firm → Type 0) (a b : Firm) → P 0 a → P 1 b → (f : ℕ) (firm : Firm)
+    → slice_get (a ∷ b ∷ []) f ≡ Some firm → P f firm
 two_firms P a b p q zero firm e = subst (P 0) (same_Some _ _ e) p
 two_firms P a b p q (suc zero) firm e = subst (P 1) (same_Some _ _ e) q
 two_firms P a b p q (suc (suc f)) firm e = absurd (none-some firm e)
 
-pub three_firms : (P : ℕ → Firm → Type 0) (a b c : Firm) → P 0 a → P 1 b → P 2 c → (f : ℕ) (firm : Firm) → slice_get (a ∷ b ∷ c ∷ []) f ≡ Some firm → P f firm
+pub three_firms : (P : ℕ → Firm → Type 0) (a b c : Firm) → P 0 a → P 1 b → P 2 c → (f : ℕ) (firm : Firm)
+    → slice_get (a ∷ b ∷ c ∷ []) f ≡ Some firm → P f firm
 three_firms P a b c p q r zero firm e = subst (P 0) (same_Some _ _ e) p
 three_firms P a b c p q r (suc zero) firm e = subst (P 1) (same_Some _ _ e) q
 three_firms P a b c p q r (suc (suc zero)) firm e = subst (P 2) (same_Some _ _ e) r

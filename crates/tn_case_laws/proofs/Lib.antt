@@ -1,3 +1,4 @@
+-- The files of lemmas of this crate.
 pub mod Decided
 pub mod Finite
 pub mod Deal

@@ -26,10 +26,12 @@ no_case_fails (number ∷ numbers) failed =
     let least : 1 ≤ number = within.0 in
     let most : number ≤ 12 = within.1 in
     let below : number - 1 < 12 = omega (arith, least, most) in
-    let here : slice_get cases_of_the_book (number - 1) ≡ Some (get_or cases_of_the_book (number - 1) no_case) = slice_get-get_or cases_of_the_book (number - 1) no_case below in
+    let here : slice_get cases_of_the_book (number - 1) ≡ Some (get_or cases_of_the_book (number - 1) no_case) =
+    slice_get-get_or cases_of_the_book (number - 1) no_case below in
     let same : number ≡ number - 1 + 1 = omega (arith, least) in
     let listed : Contains (number ∷ numbers) (number - 1 + 1) = (0, omega arith, same) in
-    absurd (never_differs (get_or cases_of_the_book (number - 1) no_case) (each_case_has_one_answer (number - 1) (get_or cases_of_the_book (number - 1) no_case) here)
+    absurd (never_differs (get_or cases_of_the_book (number - 1) no_case)
+    (each_case_has_one_answer (number - 1) (get_or cases_of_the_book (number - 1) no_case) here)
     (failed.failing (number - 1) (get_or cases_of_the_book (number - 1) no_case) below here listed))
 
 tells_none : (said : Said) → TellsCases said → said ≡ Cases 12 []

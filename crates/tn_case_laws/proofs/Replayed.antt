@@ -30,7 +30,8 @@ blocks_claim = BlocksIs unsigned at_9 (pos 3)
 -- at the price 3 the seller may as well leave the contract
 leaves : IsChoice deal_trades (pos 1 *ℤ pos 3) 0 (seller asks_3) (together (pos 3) at_9 (pos 1) []) 0
 unfolding all_below has sum_over set_of worth_in toggle
-leaves = choice_by deal_trades (pos 3) 0 (seller asks_3) at_9 0 (pos 0) (one_part deal_trades 0 (record { trade = 0; price = pos 9 }) refl 0 (omega arith)) refl refl
+leaves = choice_by deal_trades (pos 3) 0 (seller asks_3) at_9 0 (pos 0)
+    (one_part deal_trades 0 (record { trade = 0; price = pos 9 }) refl 0 (omega arith)) refl refl
 
 abbrev offer : Contract
 offer = record { trade = 0; price = pos 9 }
@@ -64,15 +65,18 @@ trade_is (suc k) other e = absurd (none-some other e)
 
 first_left : (f t : ℕ) → IsFirstToLeave (deal_firms asks_3) deal_trades unsigned (pos 3) at_9 f t → (f ≡ 0) × (t ≡ 0)
 first_left zero t first = (refl, sym first.trade ∙ trade_is first.at first.offer first.offered)
-first_left (suc f) t first = absurd (taken (first.before 0 (seller asks_3) 0 offer (omega arith) refl refl refl 0 leaves))
+first_left (suc f) t first =
+    absurd (taken (first.before 0 (seller asks_3) 0 offer (omega arith) refl refl refl 0 leaves))
 
 only_reason : (reason : Reason) → Refutes (deal_firms asks_3) deal_trades blocks_claim reason → reason ≡ Choice 0 0
 only_reason Empty none = let lengths = ap length none in absurd (omega (arith, lengths))
 only_reason (Signed t) signed = absurd (none-some signed.same.contract signed.same.is)
-only_reason (Choice f t) refuted = let known = first_left f t refuted.2 in let f_is = known.0 in let t_is = known.1 in λ i. Choice (f_is i) (t_is i)
+only_reason (Choice f t) refuted = let known = first_left f t refuted.2 in let f_is = known.0 in let t_is = known.1 in
+    λ i. Choice (f_is i) (t_is i)
 only_reason reason refuted = absurd refuted
 
-pub only_left : (said : Said) → DecidesClaim (deal_firms asks_3) deal_trades blocks_claim said → said ≡ Invalid (Choice 0 0)
+pub only_left : (said : Said) → DecidesClaim (deal_firms asks_3) deal_trades blocks_claim said
+    → said ≡ Invalid (Choice 0 0)
 only_left Valid valid = absurd (taken (valid.0.chosen 0 (seller asks_3) 0 refl leaves 0 offer refl refl))
 only_left (Invalid reason) refuted = ap (λ r. Invalid r) (only_reason reason refuted)
 only_left said decides = absurd decides

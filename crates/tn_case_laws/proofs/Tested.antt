@@ -28,7 +28,11 @@ use Rattle.tn_case_laws.proofs.Finite.{three_firms}
 -- ---- a firm has one first failing triple
 
 before_or_after : (a b : Option ℕ) → (a ≡ b) ⊎ (IsBefore a b ⊎ IsBefore b a)
-before_or_after (Some i) (Some j) = elim (cases_order i j) [ inl e ↦ inl (ap (λ (k : ℕ). Some k) e) | inr other ↦ inr other ]
+before_or_after (Some i) (Some j) = elim (cases_order i j) [
+  | inl e ↦ inl (ap (λ (k : ℕ). Some k) e)
+  | inr other ↦
+      inr other
+]
 before_or_after (Some i) None = inr (inl tt)
 before_or_after None (Some j) = inr (inr tt)
 before_or_after None None = inl refl
@@ -36,7 +40,8 @@ before_or_after None None = inl refl
 earlier_or_later : (s t : Triple) → (s ≡ t) ⊎ (IsEarlier s t ⊎ IsEarlier t s)
 earlier_or_later s t = by_x (cases_order s.x t.x)
   where
-    by_at : s.x ≡ t.x → s.y ≡ t.y → (s.at ≡ t.at) ⊎ (IsBefore s.at t.at ⊎ IsBefore t.at s.at) → (s ≡ t) ⊎ (IsEarlier s t ⊎ IsEarlier t s)
+    by_at : s.x ≡ t.x → s.y ≡ t.y → (s.at ≡ t.at) ⊎ (IsBefore s.at t.at ⊎ IsBefore t.at s.at) → (s ≡ t)
+        ⊎ (IsEarlier s t ⊎ IsEarlier t s)
     by_at same_x same_y (inl same) = inl (λ i. record { x = same_x i; y = same_y i; at = same i })
     by_at same_x same_y (inr (inl before)) = inr (inl (inr (same_x, inr (same_y, before))))
     by_at same_x same_y (inr (inr after)) = inr (inr (inr (sym same_x, inr (sym same_y, after))))
@@ -69,10 +74,12 @@ AllMeet firms = (f : ℕ) (firm : Firm) → slice_get firms f ≡ Some firm → 
 pub is_accepted : (firms : List Firm) (trades : List Ends) → AllMeet firms → Tests firms trades Accepted
 is_accepted firms trades all f firm below is = all f firm is
 
-pub only_accepted : (firms : List Firm) (trades : List Ends) → AllMeet firms → (said : Said) → Tests firms trades said → said ≡ Accepted
+pub only_accepted : (firms : List Firm) (trades : List Ends) → AllMeet firms → (said : Said) → Tests firms trades said
+    → said ≡ Accepted
 only_accepted firms trades all Accepted tests = refl
 only_accepted firms trades all (ExchangeFails f x y at) tests =
-    absurd (never_meets tests.firm tests.triple (triple_fails tests.firm tests.triple tests.first) (all f tests.firm tests.is))
+    absurd (never_meets tests.firm tests.triple (triple_fails tests.firm tests.triple tests.first)
+    (all f tests.firm tests.is))
 only_accepted firms trades all said tests = absurd tests
 
 -- ---- firm f is a small table that fails exchange, and the firms before it meet it
@@ -84,9 +91,12 @@ pub record FailsFirst (firms : List Firm) (f : ℕ) (table : TableRows) (triple 
   pub first : IsFirstFailure (firm_of_table table) triple
 
 abbrev pub failure : List Ends → ℕ → ℕ → Triple → Said
-failure trades f count triple = ExchangeFails f (trades_of trades f count triple.x) (trades_of trades f count triple.y) (option_map (own trades f) triple.at)
+failure trades f count triple =
+    ExchangeFails f (trades_of trades f count triple.x) (trades_of trades f count triple.y)
+    (option_map (own trades f) triple.at)
 
-pub is_failure : (firms : List Firm) (trades : List Ends) (f : ℕ) (table : TableRows) (triple : Triple) → FailsFirst firms f table triple → Tests firms trades (failure trades f (length table.sides) triple)
+pub is_failure : (firms : List Firm) (trades : List Ends) (f : ℕ) (table : TableRows) (triple : Triple)
+    → FailsFirst firms f table triple → Tests firms trades (failure trades f (length table.sides) triple)
 is_failure firms trades f table triple fails = record {
   before = fails.before;
   firm = firm_of_table table;
@@ -98,25 +108,35 @@ is_failure firms trades f table triple fails = record {
   at_is = refl;
 }
 
-same_failure : (firms : List Firm) (trades : List Ends) (f : ℕ) (table : TableRows) (triple : Triple) → FailsFirst firms f table triple → (x y : List ℕ) (at : Option ℕ) → IsFirstToFail firms trades f x y at
+same_failure : (firms : List Firm) (trades : List Ends) (f : ℕ) (table : TableRows) (triple : Triple)
+    → FailsFirst firms f table triple → (x y : List ℕ) (at : Option ℕ) → IsFirstToFail firms trades f x y at
     → ExchangeFails f x y at ≡ failure trades f (length table.sides) triple
 same_failure firms trades f table triple fails x y at told =
     let same : told.firm ≡ firm_of_table table = same_Some _ _ (sym told.is ∙ fails.is) in
-    let first : IsFirstTriple (firm_of_table table) told.triple = subst (λ firm. IsFirstTriple firm told.triple) same told.first in
-    let one : told.triple ≡ triple = same_first (firm_of_table table) told.triple triple (first.small fails.small) fails.first in
+    let first : IsFirstTriple (firm_of_table table) told.triple =
+    subst (λ firm. IsFirstTriple firm told.triple) same told.first in
+    let one : told.triple ≡ triple =
+    same_first (firm_of_table table) told.triple triple (first.small fails.small) fails.first in
     let x_is = told.x_is ∙ (λ i. trades_of trades f (same i).count (one i).x) in
     let y_is = told.y_is ∙ (λ i. trades_of trades f (same i).count (one i).y) in
     let at_is = told.at_is ∙ (λ i. option_map (own trades f) (one i).at) in
     λ i. ExchangeFails f (x_is i) (y_is i) (at_is i)
 
-pub only_failure : (firms : List Firm) (trades : List Ends) (f : ℕ) (table : TableRows) (triple : Triple) → FailsFirst firms f table triple → (said : Said) → Tests firms trades said
+pub only_failure : (firms : List Firm) (trades : List Ends) (f : ℕ) (table : TableRows) (triple : Triple)
+    → FailsFirst firms f table triple → (said : Said) → Tests firms trades said
     → said ≡ failure trades f (length table.sides) triple
 only_failure firms trades f table triple fails Accepted tests =
-    absurd (never_meets (firm_of_table table) triple fails.first.fails (tests f (firm_of_table table) (slice_get_within firms f (firm_of_table table) fails.is) fails.is))
+    absurd (never_meets (firm_of_table table) triple fails.first.fails
+    (tests f (firm_of_table table) (slice_get_within firms f (firm_of_table table) fails.is) fails.is))
 only_failure firms trades f table triple fails (ExchangeFails g x y at) tests = elim (cases_order g f) [
-  | inl e ↦ ap (λ (h : ℕ). ExchangeFails h x y at) e ∙ same_failure firms trades f table triple fails x y at (subst (λ h. IsFirstToFail firms trades h x y at) e tests)
-  | inr (inl earlier) ↦ absurd (never_meets tests.firm tests.triple (triple_fails tests.firm tests.triple tests.first) (fails.before g tests.firm earlier tests.is))
-  | inr (inr later) ↦ absurd (never_meets (firm_of_table table) triple fails.first.fails (tests.before f (firm_of_table table) later fails.is))
+  | inl e ↦ ap (λ (h : ℕ). ExchangeFails h x y at) e ∙ same_failure firms trades f table triple fails x y at
+      (subst (λ h. IsFirstToFail firms trades h x y at) e tests)
+  | inr (inl earlier) ↦
+      absurd (never_meets tests.firm tests.triple (triple_fails tests.firm tests.triple tests.first)
+      (fails.before g tests.firm earlier tests.is))
+  | inr (inr later) ↦
+      absurd (never_meets (firm_of_table table) triple fails.first.fails
+      (tests.before f (firm_of_table table) later fails.is))
 ]
 only_failure firms trades f table triple fails said tests = absurd tests
 
@@ -132,7 +152,13 @@ abbrev pub both_firms : List Firm
 both_firms = both_seller ∷ firm_of_table both_table ∷ []
 
 abbrev pub both_trades : List Ends
-both_trades = record { seller = 0; buyer = 1; at_seller = 0; at_buyer = 0 } ∷ record { seller = 0; buyer = 1; at_seller = 1; at_buyer = 1 } ∷ []
+both_trades = record { seller = 0; buyer = 1; at_seller = 0; at_buyer = 0 } ∷ record {
+  seller = 0;
+  buyer =
+      1;
+  at_seller = 1;
+  at_buyer = 1;
+} ∷ []
 
 abbrev pub both_triple : Triple
 both_triple = record { x = 3; y = 0; at = Some 0 }
@@ -141,7 +167,8 @@ seller_meets : HasOwnBundles both_seller → MeetsExchange both_seller
 unfolding all_below some_below sum_over has toggle union meet minus size size_below up net
 seller_meets own = meets both_seller own refl
 
-both_worths : ((firm_of_table both_table).worth 3 ≡ Some (pos 10)) × ((firm_of_table both_table).worth 0 ≡ Some (pos 0)) × ((firm_of_table both_table).worth 2 ≡ Some (pos 0)) × ((firm_of_table both_table).worth 1 ≡ Some (pos 0))
+both_worths : ((firm_of_table both_table).worth 3 ≡ Some (pos 10)) × ((firm_of_table both_table).worth 0 ≡ Some (pos 0))
+    × ((firm_of_table both_table).worth 2 ≡ Some (pos 0)) × ((firm_of_table both_table).worth 1 ≡ Some (pos 0))
 unfolding worth_in
 both_worths = (refl, refl, refl, refl)
 
@@ -182,7 +209,14 @@ both_fail own = record {
   is = refl;
   small = omega arith;
   first = record {
-    fails = record { first = pos 10; second = pos 0; first_is = both_worths.0; second_is = both_worths.1; wrong = (both_up, both_wrong) };
+    fails = record {
+      first = pos 10;
+      second = pos 0;
+      first_is = both_worths.0;
+      second_is = both_worths.1;
+      wrong =
+          (both_up, both_wrong);
+    };
     first = none_before;
   };
 }
@@ -206,11 +240,19 @@ abbrev pub dealer_firms : List Firm
 dealer_firms = firm_of_table source_table ∷ firm_of_table middle_table ∷ firm_of_table target_table ∷ []
 
 abbrev pub dealer_trades : List Ends
-dealer_trades = record { seller = 0; buyer = 1; at_seller = 0; at_buyer = 0 } ∷ record { seller = 1; buyer = 2; at_seller = 1; at_buyer = 0 } ∷ []
+dealer_trades = record { seller = 0; buyer = 1; at_seller = 0; at_buyer = 0 } ∷ record {
+  seller = 1;
+  buyer =
+      2;
+  at_seller = 1;
+  at_buyer = 0;
+} ∷ []
 
 pub dealers_meet : AllMeet dealer_firms
 unfolding all_below some_below worth_in has toggle union meet minus size size_below up net
-dealers_meet = three_firms (λ f firm. MeetsExchange firm) (firm_of_table source_table) (firm_of_table middle_table) (firm_of_table target_table)
+dealers_meet =
+    three_firms (λ f firm. MeetsExchange firm) (firm_of_table source_table) (firm_of_table middle_table)
+    (firm_of_table target_table)
     (meets (firm_of_table source_table) (own_bundles source_table) refl)
     (meets (firm_of_table middle_table) (own_bundles middle_table) refl)
     (meets (firm_of_table target_table) (own_bundles target_table) refl)
@@ -220,7 +262,8 @@ dealers_meet = three_firms (λ f firm. MeetsExchange firm) (firm_of_table source
 abbrev pub tied_table : TableRows
 tied_table = record {
   sides = Buy ∷ Buy ∷ Sell ∷ Sell ∷ [];
-  rows = None ∷ None ∷ None ∷ None ∷ None ∷ Some (pos 5) ∷ None ∷ None ∷ None ∷ None ∷ Some (pos 5) ∷ None ∷ None ∷ None ∷ None ∷ None ∷ [];
+  rows = None ∷ None ∷ None ∷ None ∷ None ∷ Some (pos 5) ∷ None ∷ None ∷ None ∷ None ∷ Some (pos 5) ∷ None ∷ None ∷ None
+      ∷ None ∷ None ∷ [];
 }
 
 abbrev tied : Firm
@@ -236,8 +279,20 @@ abbrev pub tied_firms : List Firm
 tied_firms = free_seller ∷ tied ∷ free_buyer ∷ []
 
 abbrev pub tied_trades : List Ends
-tied_trades = record { seller = 0; buyer = 1; at_seller = 0; at_buyer = 0 } ∷ record { seller = 0; buyer = 1; at_seller = 1; at_buyer = 1 }
-    ∷ record { seller = 1; buyer = 2; at_seller = 2; at_buyer = 0 } ∷ record { seller = 1; buyer = 2; at_seller = 3; at_buyer = 1 } ∷ []
+tied_trades = record { seller = 0; buyer = 1; at_seller = 0; at_buyer = 0 } ∷ record {
+  seller = 0;
+  buyer =
+      1;
+  at_seller = 1;
+  at_buyer = 1;
+}
+    ∷ record { seller = 1; buyer = 2; at_seller = 2; at_buyer = 0 } ∷ record {
+      seller = 1;
+      buyer = 2;
+      at_seller =
+          3;
+      at_buyer = 1;
+    } ∷ []
 
 abbrev pub tied_triple : Triple
 tied_triple = record { x = 10; y = 5; at = Some 1 }
@@ -259,7 +314,8 @@ unfolding has up union meet minus
 tied_up = refl
 
 -- where a2 goes from the second pair to the first, no other trade that goes with it leaves both bundles possible
-no_swap : (at : ℕ) → has (down 3 10 5) at ≡ true → AreEnough tied (toggle (toggle 10 1) at) (toggle (toggle 5 1) at) (pos 10) → at < 4 → ⊥
+no_swap : (at : ℕ) → has (down 3 10 5) at ≡ true
+    → AreEnough tied (toggle (toggle 10 1) at) (toggle (toggle 5 1) at) (pos 10) → at < 4 → ⊥
 unfolding has up union meet minus toggle worth_in
 no_swap zero is_down enough within = none-some enough.first enough.first_is
 no_swap (suc zero) is_down enough within = false≢true is_down
@@ -276,14 +332,16 @@ unfolding toggle worth_in
 no_move enough = none-some enough.first enough.first_is
 
 tied_wrong : Exchanges tied 10 5 (pos 10) 1 → ⊥
-tied_wrong (inl swap) = no_swap swap.at swap.is_down swap.enough (has_below (down 3 10 5) 4 swap.at down_within swap.is_down)
+tied_wrong (inl swap) =
+    no_swap swap.at swap.is_down swap.enough (has_below (down 3 10 5) 4 swap.at down_within swap.is_down)
 tied_wrong (inr alone) = no_move alone.enough
 
 -- no bundle above 10 is possible
 tied_above : (x : ℕ) (a : ℤ) → tied.worth x ≡ Some a → 10 < x → ⊥
 unfolding all_below worth_in
 tied_above x a is above =
-    let test = each_below (λ x. not (nat_lt 10 x) || is_none (tied.worth x)) 16 refl x (own_bundles tied_table x a is) in
+    let test = each_below (λ x. not (nat_lt 10 x) || is_none (tied.worth x)) 16 refl x (own_bundles tied_table x a is)
+    in
     elim (or_cases (not (nat_lt 10 x)) (is_none (tied.worth x)) test) [
       | inl at_most ↦ false≢true (sym (ap not (lt-ltb 10 x above)) ∙ at_most)
       | inr none ↦ false≢true (sym (ap (λ o. is_none o) is) ∙ none)
@@ -299,11 +357,15 @@ first_holds = refl
 
 none_earlier : (s : Triple) → IsEarlier s tied_triple → TripleFails tied s → ⊥
 none_earlier s (inl above) f = tied_above s.x f.first f.first_is above
-none_earlier s (inr (same, inl below)) f = never_fails_at tied (own_bundles tied_table) 10 s.y (pairs_hold s.y below) s.at (subst (λ x. Fails tied x s.y s.at) same f)
-none_earlier s (inr (same, inr (same_y, before))) f = by s.at before (subst (λ y. Fails tied 10 y s.at) same_y (subst (λ x. Fails tied x s.y s.at) same f))
+none_earlier s (inr (same, inl below)) f =
+    never_fails_at tied (own_bundles tied_table) 10 s.y (pairs_hold s.y below) s.at
+    (subst (λ x. Fails tied x s.y s.at) same f)
+none_earlier s (inr (same, inr (same_y, before))) f =
+    by s.at before (subst (λ y. Fails tied 10 y s.at) same_y (subst (λ x. Fails tied x s.y s.at) same f))
   where
     by : (at : Option ℕ) → IsBefore at (Some 1) → Fails tied 10 5 at → ⊥
-    by (Some zero) below fails = never_at tied (own_bundles tied_table) 10 5 0 (pos 5) (pos 5) tied_ten tied_five first_holds fails
+    by (Some zero) below fails =
+        never_at tied (own_bundles tied_table) 10 5 0 (pos 5) (pos 5) tied_ten tied_five first_holds fails
     by (Some (suc i)) below fails = omega (arith, below)
     by None never fails = never
 
@@ -313,7 +375,14 @@ tied_fail own = record {
   is = refl;
   small = omega arith;
   first = record {
-    fails = record { first = pos 5; second = pos 5; first_is = tied_ten; second_is = tied_five; wrong = (tied_up, tied_wrong) };
+    fails = record {
+      first = pos 5;
+      second = pos 5;
+      first_is = tied_ten;
+      second_is = tied_five;
+      wrong =
+          (tied_up, tied_wrong);
+    };
     first = none_earlier;
   };
 }

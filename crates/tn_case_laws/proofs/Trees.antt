@@ -39,13 +39,16 @@ abbrev pub entry : Data → Data → Data
 entry name amount = list (name ∷ amount ∷ [])
 
 abbrev pub table : Data → List Data → Data
-table name rows = object (member (codes "kind") (text (codes "table")) (member (codes "name") name (member (codes "rows") (list rows) no_members)))
+table name rows =
+    object (member (codes "kind") (text (codes "table"))
+    (member (codes "name") name (member (codes "rows") (list rows) no_members)))
 
 abbrev pub laminar : Data → Members → Data
 laminar name rest = object (member (codes "kind") (text (codes "laminar")) (member (codes "name") name rest))
 
 abbrev pub trade : Data → Data → Data → Data
-trade name seller buyer = object (member (codes "buyer") buyer (member (codes "name") name (member (codes "seller") seller no_members)))
+trade name seller buyer =
+    object (member (codes "buyer") buyer (member (codes "name") name (member (codes "seller") seller no_members)))
 
 abbrev pub firms_with : List Data → Members → Members
 firms_with firms rest = member (codes "firms") (list firms) rest
@@ -78,7 +81,9 @@ abbrev pub asks : ℤ → List Data
 asks z = row (name_a ∷ []) (below_zero z) ∷ []
 
 abbrev pub arranged : Members → List Data → Data
-arranged part rows = object (member (codes "arrangement") (object part) (firms_with (deal_firms_data rows) (trades_with deal_trades_data)))
+arranged part rows =
+    object (member (codes "arrangement") (object part) (firms_with (deal_firms_data rows)
+    (trades_with deal_trades_data)))
 
 abbrev pub on_with : List Data → Members → Members
 on_with names rest = member (codes "on") (list names) rest
@@ -87,10 +92,13 @@ abbrev pub prices_with : Data → Members
 prices_with price = member (codes "prices") (list (entry name_a price ∷ [])) no_members
 
 abbrev pub signed_with : Data → List Data → Data
-signed_with over contracts = object (member (codes "contracts") (list contracts) (member (codes "over") over no_members))
+signed_with over contracts =
+    object (member (codes "contracts") (list contracts) (member (codes "over") over no_members))
 
 abbrev pub judged : Data → List Data → List Data → Data
-judged over contracts rows = object (firms_with (deal_firms_data rows) (member (codes "outcome") (signed_with over contracts) (trades_with deal_trades_data)))
+judged over contracts rows =
+    object (firms_with (deal_firms_data rows) (member (codes "outcome") (signed_with over contracts)
+    (trades_with deal_trades_data)))
 
 abbrev pub top_1 : Data
 top_1 = arranged (on_with (name_a ∷ []) (prices_with (whole 4))) (asks (negsuc 2))
@@ -102,8 +110,11 @@ abbrev pub top_3 : Data
 top_3 = object (firms_with (table name_S (row [] (whole 7) ∷ []) ∷ table name_B [] ∷ []) (trades_with []))
 
 abbrev pub firms_4 : List Data
-firms_4 = object (member (codes "amounts") (list (entry name_a (below_zero (negsuc 0)) ∷ entry name_b (below_zero (negsuc 0)) ∷ [])) (member (codes "kind") (text (codes "laminar")) (member (codes "name") name_S no_members)))
-    ∷ table name_B (row (name_a ∷ []) (whole 0) ∷ row (name_b ∷ []) (whole 0) ∷ row (name_a ∷ name_b ∷ []) (whole 10) ∷ [])
+firms_4 = object
+    (member (codes "amounts") (list (entry name_a (below_zero (negsuc 0)) ∷ entry name_b (below_zero (negsuc 0)) ∷ []))
+    (member (codes "kind") (text (codes "laminar")) (member (codes "name") name_S no_members)))
+    ∷ table name_B (row (name_a ∷ []) (whole 0) ∷ row (name_b ∷ []) (whole 0) ∷ row (name_a ∷ name_b ∷ []) (whole 10) ∷
+    [])
     ∷ []
 
 abbrev pub top_4 : Data
@@ -120,12 +131,16 @@ top_5 = object (firms_with firms_5 (trades_with (trade name_a name_S name_M ∷ 
 
 abbrev pub firms_6 : List Data
 firms_6 = laminar name_S no_members
-    ∷ table name_M (row (text (codes "a1") ∷ text (codes "b1") ∷ []) (whole 5) ∷ row (text (codes "a2") ∷ text (codes "b2") ∷ []) (whole 5) ∷ [])
+    ∷ table name_M (row (text (codes "a1") ∷ text (codes "b1") ∷ []) (whole 5) ∷ row
+    (text (codes "a2") ∷ text (codes "b2") ∷ []) (whole 5) ∷ [])
     ∷ laminar name_B no_members
     ∷ []
 
 abbrev pub top_6 : Data
-top_6 = object (firms_with firms_6 (trades_with (trade (text (codes "a1")) name_S name_M ∷ trade (text (codes "a2")) name_S name_M ∷ trade (text (codes "b1")) name_M name_B ∷ trade (text (codes "b2")) name_M name_B ∷ [])))
+top_6 = object
+    (firms_with firms_6
+    (trades_with (trade (text (codes "a1")) name_S name_M ∷ trade (text (codes "a2")) name_S name_M ∷ trade
+    (text (codes "b1")) name_M name_B ∷ trade (text (codes "b2")) name_M name_B ∷ [])))
 
 abbrev pub top_7 : Data
 top_7 = arranged (on_with (name_a ∷ []) no_members) []
@@ -143,8 +158,12 @@ abbrev pub top_11 : Data
 top_11 = arranged (on_with [] no_members) (asks (negsuc 2))
 
 abbrev pub top_12 : Data
-top_12 = object (member (codes "claim") (object (member (codes "answer") (text (codes "blocks")) (member (codes "contracts") (list (entry name_a (whole 9) ∷ [])) (member (codes "over") (whole 3) no_members))))
-    (firms_with (deal_firms_data (asks (negsuc 2))) (member (codes "outcome") (signed_with (whole 1) []) (trades_with deal_trades_data))))
+top_12 = object
+    (member (codes "claim")
+    (object (member (codes "answer") (text (codes "blocks"))
+    (member (codes "contracts") (list (entry name_a (whole 9) ∷ [])) (member (codes "over") (whole 3) no_members))))
+    (firms_with (deal_firms_data (asks (negsuc 2))) (member (codes "outcome") (signed_with (whole 1) [])
+    (trades_with deal_trades_data))))
 
 abbrev pub bytes_1 : List ℕ
 bytes_1 = (numbered 1).document

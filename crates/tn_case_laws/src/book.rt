@@ -1,3 +1,5 @@
+//! Laws of the book of cases: each case has one allowed answer.
+
 ghost use Rattle.tn_case_laws.specs.Laws.{CasesArePassed, EachCaseHasOneAnswer, NoCaseFails};
 
 /// Of each case of the book the stated status and text are allowed by the definitions, and no others are: its document

@@ -11,7 +11,13 @@ pub record CaseData : Type 0 where
   pub text : List ℕ
 
 abbrev pub case_data : Case → CaseData
-case_data case = record { command = case.command.now; document = case.document.now; status = case.status; text = case.text.now }
+case_data case = record {
+  command = case.command.now;
+  document = case.document.now;
+  status = case.status;
+  text =
+      case.text.now;
+}
 
 -- whether a status and a text are those of a case
 abbrev pub agrees_with : ℕ → List ℕ → CaseData → Bool

@@ -1,3 +1,5 @@
+//! A case, and a book of cases.
+
 ghost use Rattle.std.specs.Prelude.{◌≡◌, ◌<◌, ◌≤◌, Some, length, map, option_map, slice_get};
 ghost use Rattle.tn_cases.specs.Case.{agrees_with, case_data};
 

@@ -1,3 +1,5 @@
+//! The book of cases that the program runs on itself.
+
 ghost use Rattle.std.specs.Prelude.{◌≡◌};
 ghost use Rattle.tn_cases.specs.Book.{cases_of_the_book};
 

@@ -1,3 +1,5 @@
+//! Tests of the book of cases.
+
 use crate::{Case, CaseBook, book};
 use std::test::Fail;
 

@@ -14,9 +14,12 @@ pub agreed : (contracts : List Contract) (prices : ℕ → ℤ) → AgreeBefore 
     → (k : ℕ) (contract : Contract) → slice_get contracts k ≡ Some contract → prices contract.trade ≡ contract.price
 agreed contracts prices agree k contract is = agree k contract (slice_get_within contracts k contract is) is
 
--- the first firm without a best bundle refutes the claim, once the denominator and the prices of the contracts are right
-pub lack_refutes : (firms : List Firm) (trades : List Ends) (outcome : Outcome) (prices : ℕ → ℤ) (over : ℤ) (reason : Reason) → over ≡ outcome.over
-    → AgreeBefore outcome.contracts prices (length outcome.contracts) → LacksBest firms trades over (signed (length trades) outcome.contracts) prices reason
+-- the first firm without a best bundle refutes the claim, once the denominator and the prices of the contracts are
+-- right
+pub lack_refutes : (firms : List Firm) (trades : List Ends) (outcome : Outcome) (prices : ℕ
+    → ℤ) (over : ℤ) (reason : Reason) → over ≡ outcome.over
+    → AgreeBefore outcome.contracts prices (length outcome.contracts)
+    → LacksBest firms trades over (signed (length trades) outcome.contracts) prices reason
     → RefutesCompletes firms trades outcome prices over reason
 lack_refutes firms trades outcome prices over (Impossible f) over_is agree lacks = (over_is, agree, lacks)
 lack_refutes firms trades outcome prices over (Better f bundle) over_is agree lacks = (over_is, agree, lacks)

@@ -14,59 +14,83 @@ use Rattle.tn_plain_data.specs.Choices.{counted, together}
 use Rattle.tn_network.proofs.PoolLemmas.{counted_at}
 
 -- the contracts counted so far, with one more
-pub counted_more : (times : ℤ) (contracts items now : List Contract) (k : ℕ) (contract next : Contract) → now ≡ items ++ counted times (take k contracts) → slice_get contracts k ≡ Some contract
-    → next.trade ≡ contract.trade → next.price ≡ times *ℤ contract.price → now ++ (next ∷ []) ≡ items ++ counted times (take (k + 1) contracts)
+pub counted_more : (times : ℤ) (contracts items now : List Contract) (k : ℕ) (contract next : Contract)
+    → now ≡ items ++ counted times (take k contracts) → slice_get contracts k ≡ Some contract
+    → next.trade ≡ contract.trade → next.price ≡ times *ℤ contract.price
+    → now ++ (next ∷ []) ≡ items ++ counted times (take (k + 1) contracts)
 counted_more times contracts items now k contract next before is trade price =
     ap (λ (xs : List Contract). xs ++ (next ∷ [])) before
     ∙ assoc items (counted times (take k contracts)) (next ∷ [])
-    ∙ ap (λ (c : Contract). items ++ (counted times (take k contracts) ++ (c ∷ []))) (ap₂ (λ (t : ℕ) (p : ℤ). record { trade = t; price = p }) trade price)
-    ∙ ap (λ (xs : List Contract). items ++ xs) (sym (ap (counted times) taken ∙ map-append (λ (c : Contract). record { trade = c.trade; price = times *ℤ c.price }) (take k contracts) (contract ∷ [])))
+    ∙ ap (λ (c : Contract). items ++ (counted times (take k contracts) ++ (c ∷ [])))
+    (ap₂ (λ (t : ℕ) (p : ℤ). record { trade = t; price = p }) trade price)
+    ∙ ap (λ (xs : List Contract). items ++ xs) (sym (ap (counted times) taken
+    ∙ map-append (λ (c : Contract). record { trade = c.trade; price = times *ℤ c.price }) (take k contracts)
+    (contract ∷ [])))
   where
     taken : take (k + 1) contracts ≡ take k contracts ++ (contract ∷ [])
-    taken = take_more contracts k contract (slice_get_within contracts k contract is) ∙ ap (λ (c : Contract). take k contracts ++ (c ∷ [])) (get_or_from_slice_get contracts k contract contract is)
+    taken = take_more contracts k contract (slice_get_within contracts k contract is)
+        ∙ ap (λ (c : Contract). take k contracts ++ (c ∷ [])) (get_or_from_slice_get contracts k contract contract is)
 
     assoc : (xs ys zs : List Contract) → (xs ++ ys) ++ zs ≡ xs ++ (ys ++ zs)
     assoc [] ys zs = refl
     assoc (x ∷ xs) ys zs = ap (λ (ws : List Contract). x ∷ ws) (assoc xs ys zs)
 
 -- what holds of each counted contract
-counted_all : (P Q : Contract → Type 0) (times : ℤ) (contracts : List Contract) → ((contract : Contract) → Q contract → P (record { trade = contract.trade; price = times *ℤ contract.price }))
-    → ((k : ℕ) (contract : Contract) → slice_get contracts k ≡ Some contract → Q contract) → All P (counted times contracts)
+counted_all : (P Q : Contract → Type 0) (times : ℤ) (contracts : List Contract)
+    → ((contract : Contract) → Q contract → P (record { trade = contract.trade; price = times *ℤ contract.price }))
+    → ((k : ℕ) (contract : Contract) → slice_get contracts k ≡ Some contract → Q contract)
+    → All P (counted times contracts)
 counted_all P Q times contracts step each = λ k d below.
     let found = counted_at times contracts k _ (slice_get-get_or (counted times contracts) k d below) in
     subst P (sym found.2) (step found.0 (each k found.0 found.1))
 
-pub all_at : (P : Contract → Type 0) (contracts : List Contract) → All P contracts → (k : ℕ) (contract : Contract) → slice_get contracts k ≡ Some contract → P contract
-all_at P contracts each k contract is = subst P (get_or_from_slice_get contracts k contract contract is) (each k contract (slice_get_within contracts k contract is))
+pub all_at : (P : Contract → Type 0) (contracts : List Contract) → All P contracts → (k : ℕ) (contract : Contract)
+    → slice_get contracts k ≡ Some contract → P contract
+all_at P contracts each k contract is =
+    subst P (get_or_from_slice_get contracts k contract contract is)
+    (each k contract (slice_get_within contracts k contract is))
 
 -- the trades of the pool are known
-pub pool_known : (count : ℕ) (e d : ℤ) (offers contracts : List Contract) → ((k : ℕ) (offer : Contract) → slice_get offers k ≡ Some offer → offer.trade < count)
-    → All (λ contract. contract.trade < count) contracts → All (λ contract. contract.trade < count) (together e offers d contracts)
+pub pool_known : (count : ℕ) (e d : ℤ) (offers contracts : List Contract)
+    → ((k : ℕ) (offer : Contract) → slice_get offers k ≡ Some offer → offer.trade < count)
+    → All (λ contract. contract.trade < count) contracts
+    → All (λ contract. contract.trade < count) (together e offers d contracts)
 pool_known count e d offers contracts known outcome_known =
     All-append (λ contract. contract.trade < count) (counted d offers) (counted e contracts)
-    (counted_all (λ contract. contract.trade < count) (λ contract. contract.trade < count) d offers (λ contract below. below) known)
-    (counted_all (λ contract. contract.trade < count) (λ contract. contract.trade < count) e contracts (λ contract below. below) (all_at (λ contract. contract.trade < count) contracts outcome_known))
+    (counted_all (λ contract. contract.trade < count) (λ contract. contract.trade < count) d offers
+    (λ contract below. below) known)
+    (counted_all (λ contract. contract.trade < count) (λ contract. contract.trade < count) e contracts
+    (λ contract below. below) (all_at (λ contract. contract.trade < count) contracts outcome_known))
 
-product_small : (times price : ℤ) (most limit whole : ℕ) → pos 0 ≤ℤ times → times ≤ℤ pos most → IsAtMost price limit → most * limit ≤ whole → IsAtMost (times *ℤ price) whole
+product_small : (times price : ℤ) (most limit whole : ℕ) → pos 0 ≤ℤ times → times ≤ℤ pos most → IsAtMost price limit
+    → most * limit ≤ whole → IsAtMost (times *ℤ price) whole
 product_small times price most limit whole least above small fits =
-    let product = times_small times price most limit (record { low = omega (arith, ints, least); high = above }) small in
+    let product = times_small times price most limit (record { low = omega (arith, ints, least); high = above }) small
+    in
     record { low = omega (arith, ints, product.low, fits); high = omega (arith, ints, product.high, fits) }
 
 -- and its prices are within the limit of the search for best bundles
-pub pool_small : (e d : ℤ) (offers contracts : List Contract) → pos 0 ≤ℤ e → e ≤ℤ pos most_claimed_over → pos 0 ≤ℤ d → d ≤ℤ pos most_over
-    → All (λ contract. IsAtMost contract.price most_number) offers → All (λ contract. IsAtMost contract.price most_numerator) contracts
+pub pool_small : (e d : ℤ) (offers contracts : List Contract) → pos 0 ≤ℤ e → e ≤ℤ pos most_claimed_over → pos 0 ≤ℤ d
+    → d ≤ℤ pos most_over
+    → All (λ contract. IsAtMost contract.price most_number) offers
+    → All (λ contract. IsAtMost contract.price most_numerator) contracts
     → All (λ contract. IsAtMost contract.price most_asked_price) (together e offers d contracts)
 pool_small e d offers contracts e_least e_most d_least d_most small_offers small_contracts =
     All-append (λ contract. IsAtMost contract.price most_asked_price) (counted d offers) (counted e contracts)
-    (counted_all (λ contract. IsAtMost contract.price most_asked_price) (λ contract. IsAtMost contract.price most_number) d offers
-    (λ contract small. product_small d contract.price most_over most_number most_asked_price d_least d_most small (omega arith)) (all_at (λ contract. IsAtMost contract.price most_number) offers small_offers))
-    (counted_all (λ contract. IsAtMost contract.price most_asked_price) (λ contract. IsAtMost contract.price most_numerator) e contracts
-    (λ contract small. product_small e contract.price most_claimed_over most_numerator most_asked_price e_least e_most small (omega arith)) (all_at (λ contract. IsAtMost contract.price most_numerator) contracts small_contracts))
+    (counted_all (λ contract. IsAtMost contract.price most_asked_price)
+    (λ contract. IsAtMost contract.price most_number) d offers
+    (λ contract small. product_small d contract.price most_over most_number most_asked_price d_least d_most small
+    (omega arith)) (all_at (λ contract. IsAtMost contract.price most_number) offers small_offers))
+    (counted_all (λ contract. IsAtMost contract.price most_asked_price)
+    (λ contract. IsAtMost contract.price most_numerator) e contracts
+    (λ contract small. product_small e contract.price most_claimed_over most_numerator most_asked_price e_least e_most
+    small (omega arith)) (all_at (λ contract. IsAtMost contract.price most_numerator) contracts small_contracts))
 
 -- the offers are its first contracts
 pub offers_first : (e d : ℤ) (offers contracts : List Contract) → length offers ≤ length (together e offers d contracts)
 offers_first e d offers contracts =
-    let wide : length (counted d offers) ≡ length offers = length-map offers (λ (c : Contract). record { trade = c.trade; price = d *ℤ c.price }) in
+    let wide : length (counted d offers) ≡ length offers =
+    length-map offers (λ (c : Contract). record { trade = c.trade; price = d *ℤ c.price }) in
     let front = longer (counted d offers) (counted e contracts) in
     omega (arith, wide, front)
   where

@@ -20,7 +20,8 @@ pub least_none : (trade : ℕ → ℕ) (Fails Passes : ℕ → Type 0) → Finds
 least_none trade Fails Passes = λ k below. absurd (omega (arith, below))
 
 -- one more number that passes
-pub least_passes : (n : ℕ) (trade : ℕ → ℕ) (Fails Passes : ℕ → Type 0) (found : Option ℕ) → FindsLeast n trade Fails Passes found → Passes n
+pub least_passes : (n : ℕ) (trade : ℕ → ℕ) (Fails Passes : ℕ → Type 0) (found : Option ℕ)
+    → FindsLeast n trade Fails Passes found → Passes n
     → FindsLeast (n + 1) trade Fails Passes found
 least_passes n trade Fails Passes None before passes = λ k below. elim (cases_eq k n) [
   | inl e ↦ subst Passes (sym e) passes
@@ -40,7 +41,8 @@ least_passes n trade Fails Passes (Some t) before passes =
     }
 
 -- and one that fails
-pub least_fails : (n : ℕ) (trade : ℕ → ℕ) (Fails Passes : ℕ → Type 0) (found : Option ℕ) → FindsLeast n trade Fails Passes found → Fails n
+pub least_fails : (n : ℕ) (trade : ℕ → ℕ) (Fails Passes : ℕ → Type 0) (found : Option ℕ)
+    → FindsLeast n trade Fails Passes found → Fails n
     → FindsLeast (n + 1) trade Fails Passes (Some (earlier found (trade n)))
 least_fails n trade Fails Passes None before fails = record {
   at = n;
@@ -55,7 +57,8 @@ least_fails n trade Fails Passes None before fails = record {
 least_fails n trade Fails Passes (Some t) before fails = elim (cases_lt t (trade n)) [
   | inl less ↦
       let inside = before.below in
-      subst (IsLeast (n + 1) trade Fails Passes) (sym (ap (λ (b : Bool). if b then t else trade n) (lt-ltb t (trade n) less))) (record {
+      subst (IsLeast (n + 1) trade Fails Passes) (sym (ap (λ (b : Bool). if b then t
+      else trade n) (lt-ltb t (trade n) less))) (record {
         at = before.at;
         below = omega (arith, inside);
         is = before.is;
@@ -66,7 +69,8 @@ least_fails n trade Fails Passes (Some t) before fails = elim (cases_lt t (trade
         ];
       })
   | inr more ↦
-      subst (IsLeast (n + 1) trade Fails Passes) (sym (ap (λ (b : Bool). if b then t else trade n) (le-ltb t (trade n) more))) (record {
+      subst (IsLeast (n + 1) trade Fails Passes) (sym (ap (λ (b : Bool). if b then t
+      else trade n) (le-ltb t (trade n) more))) (record {
         at = n;
         below = omega arith;
         is = refl;

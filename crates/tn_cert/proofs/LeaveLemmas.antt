@@ -19,7 +19,8 @@ nothing_out : (x : ℕ) → LeavesOut None x
 nothing_out x = λ k member same. cc same
 
 -- with and without a contract the greatest utility is the same: a choice lacks it
-leaves : (trades : List Ends) (scale : ℤ) (f : ℕ) (firm : Firm) (contracts : List Contract) (k : ℕ) (best : ℤ) → IsGreatest trades scale f firm contracts None best
+leaves : (trades : List Ends) (scale : ℤ) (f : ℕ) (firm : Firm) (contracts : List Contract) (k : ℕ) (best : ℤ)
+    → IsGreatest trades scale f firm contracts None best
     → IsGreatest trades scale f firm contracts (Some k) best → MayLeave trades scale f firm contracts k
 leaves trades scale f firm contracts k best greatest without = record {
   choice = without.part;
@@ -36,36 +37,48 @@ leaves trades scale f firm contracts k best greatest without = record {
 }
 
 -- it isn't: each choice has it
-takes : (trades : List Ends) (scale : ℤ) (f : ℕ) (firm : Firm) (contracts : List Contract) (k : ℕ) (best other : ℤ) → IsGreatest trades scale f firm contracts None best
-    → IsGreatest trades scale f firm contracts (Some k) other → best ≢ other → (x : ℕ) → IsChoice trades scale f firm contracts x → has x k ≡ true
+takes : (trades : List Ends) (scale : ℤ) (f : ℕ) (firm : Firm) (contracts : List Contract) (k : ℕ) (best other : ℤ)
+    → IsGreatest trades scale f firm contracts None best
+    → IsGreatest trades scale f firm contracts (Some k) other → best ≢ other → (x : ℕ)
+    → IsChoice trades scale f firm contracts x → has x k ≡ true
 takes trades scale f firm contracts k best other greatest without apart x choice = elim (cases_Bool (has x k)) [
   | inl there ↦ there
   | inr away ↦
-      let lacks : LeavesOut (Some k) x = λ j member same. true≢false (sym member ∙ ap (has x) (sym (same_Some k j same)) ∙ away) in
+      let lacks : LeavesOut (Some k) x =
+      λ j member same. true≢false (sym member ∙ ap (has x) (sym (same_Some k j same)) ∙ away) in
       let high = without.most x choice.value choice.part lacks choice.is in
       let most = choice.most greatest.part best greatest.signs greatest.is in
       let low = greatest.most without.part other without.signs (nothing_out without.part) without.is in
       absurd (apart (omega (arith, ints, high, most, low)))
 ]
 
-pub decides_leave : (trades : List Ends) (scale : ℤ) (f : ℕ) (firm : Firm) (contracts : List Contract) (k : ℕ) (best other : ℤ) (same : Bool) → IsGreatest trades scale f firm contracts None best
-    → IsGreatest trades scale f firm contracts (Some k) other → (same ≡ true → best ≡ other) → (same ≡ false → best ≢ other) → DecidesLeave trades scale f firm contracts k same
+pub decides_leave : (trades : List Ends) (scale : ℤ) (f : ℕ) (firm : Firm) (contracts : List Contract) (k : ℕ)
+    (best other : ℤ) (same : Bool) → IsGreatest trades scale f firm contracts None best
+    → IsGreatest trades scale f firm contracts (Some k) other → (same ≡ true → best ≡ other)
+    → (same ≡ false → best ≢ other) → DecidesLeave trades scale f firm contracts k same
 decides_leave trades scale f firm contracts k best other true greatest without equal apart =
-    leaves trades scale f firm contracts k best greatest (subst (IsGreatest trades scale f firm contracts (Some k)) (sym (equal refl)) without)
-decides_leave trades scale f firm contracts k best other false greatest without equal apart = takes trades scale f firm contracts k best other greatest without (apart refl)
+    leaves trades scale f firm contracts k best greatest
+    (subst (IsGreatest trades scale f firm contracts (Some k)) (sym (equal refl)) without)
+decides_leave trades scale f firm contracts k best other false greatest without equal apart =
+    takes trades scale f firm contracts k best other greatest without (apart refl)
 
 -- ---- contract by contract
 
 abbrev pub trade_at : List Contract → ℕ → ℕ
 trade_at contracts k = unwrap_or (option_map (λ (contract : Contract). contract.trade) (slice_get contracts k)) 0
 
-pub trade_is : (contracts : List Contract) (k : ℕ) (contract : Contract) → slice_get contracts k ≡ Some contract → trade_at contracts k ≡ contract.trade
-trade_is contracts k contract is = ap (λ (o : Option Contract). unwrap_or (option_map (λ (c : Contract). c.trade) o) 0) is
+pub trade_is : (contracts : List Contract) (k : ℕ) (contract : Contract) → slice_get contracts k ≡ Some contract
+    → trade_at contracts k ≡ contract.trade
+trade_is contracts k contract is =
+    ap (λ (o : Option Contract). unwrap_or (option_map (λ (c : Contract). c.trade) o) 0) is
 
 abbrev pub FindsLeaving : List Ends → ℤ → ℕ → Firm → List Contract → ℕ → Option ℕ → Type 0
-FindsLeaving trades scale f firm contracts n found = FindsLeast n (trade_at contracts) (λ k. DecidesOwn trades scale f firm contracts k true) (λ k. DecidesOwn trades scale f firm contracts k false) found
+FindsLeaving trades scale f firm contracts n found =
+    FindsLeast n (trade_at contracts) (λ k. DecidesOwn trades scale f firm contracts k true)
+    (λ k. DecidesOwn trades scale f firm contracts k false) found
 
-pub finds_left : (trades : List Ends) (scale : ℤ) (f : ℕ) (firm : Firm) (contracts : List Contract) (n : ℕ) (found : Option ℕ) → FindsLeaving trades scale f firm contracts n found
+pub finds_left : (trades : List Ends) (scale : ℤ) (f : ℕ) (firm : Firm) (contracts : List Contract) (n : ℕ)
+    (found : Option ℕ) → FindsLeaving trades scale f firm contracts n found
     → FindsLeft trades scale f firm contracts n found
 finds_left trades scale f firm contracts n None finds = λ k contract below is own. finds k below contract is own
 finds_left trades scale f firm contracts n (Some t) finds = record {
@@ -82,32 +95,45 @@ finds_left trades scale f firm contracts n (Some t) finds = record {
 }
 
 -- whether a contract is one of the firm, by the ends of its trade
-pub own_by_ends : (trades : List Ends) (f : ℕ) (contract : Contract) (trade : Ends) → slice_get trades contract.trade ≡ Some trade → is_of trades f contract ≡ is_end f trade
+pub own_by_ends : (trades : List Ends) (f : ℕ) (contract : Contract) (trade : Ends)
+    → slice_get trades contract.trade ≡ Some trade → is_of trades f contract ≡ is_end f trade
 own_by_ends trades f contract trade is = ap (λ (o : Option Ends). unwrap_or (option_map (is_end f) o) false) is
 
 -- whether the contract is one of the firm, and if so whether some choice lacks it
-pub decides_own : (trades : List Ends) (scale : ℤ) (f : ℕ) (firm : Firm) (contracts : List Contract) (k : ℕ) (contract : Contract) (left : Bool) → slice_get contracts k ≡ Some contract
-    → is_of trades f contract ≡ true → DecidesLeave trades scale f firm contracts k left → DecidesOwn trades scale f firm contracts k left
+pub decides_own : (trades : List Ends) (scale : ℤ) (f : ℕ) (firm : Firm) (contracts : List Contract) (k : ℕ)
+    (contract : Contract) (left : Bool) → slice_get contracts k ≡ Some contract
+    → is_of trades f contract ≡ true → DecidesLeave trades scale f firm contracts k left
+    → DecidesOwn trades scale f firm contracts k left
 decides_own trades scale f firm contracts k contract true is own left = (contract, is, own, left)
 decides_own trades scale f firm contracts k contract false is own taken = λ other other_is other_own. taken
 
-pub decides_other : (trades : List Ends) (scale : ℤ) (f : ℕ) (firm : Firm) (contracts : List Contract) (k : ℕ) (contract : Contract) → slice_get contracts k ≡ Some contract
+pub decides_other : (trades : List Ends) (scale : ℤ) (f : ℕ) (firm : Firm) (contracts : List Contract) (k : ℕ)
+    (contract : Contract) → slice_get contracts k ≡ Some contract
     → is_of trades f contract ≡ false → DecidesOwn trades scale f firm contracts k false
 decides_other trades scale f firm contracts k contract is away = λ other other_is own.
     absurd (true≢false (sym own ∙ ap (is_of trades f) (same_Some other contract (sym other_is ∙ is)) ∙ away))
 
-pub leaving_none : (trades : List Ends) (scale : ℤ) (f : ℕ) (firm : Firm) (contracts : List Contract) → FindsLeaving trades scale f firm contracts 0 None
+pub leaving_none : (trades : List Ends) (scale : ℤ) (f : ℕ) (firm : Firm) (contracts : List Contract)
+    → FindsLeaving trades scale f firm contracts 0 None
 leaving_none trades scale f firm contracts =
-    least_none (trade_at contracts) (λ k. DecidesOwn trades scale f firm contracts k true) (λ k. DecidesOwn trades scale f firm contracts k false)
+    least_none (trade_at contracts) (λ k. DecidesOwn trades scale f firm contracts k true)
+    (λ k. DecidesOwn trades scale f firm contracts k false)
 
-pub leaving_more : (trades : List Ends) (scale : ℤ) (f : ℕ) (firm : Firm) (contracts : List Contract) (n : ℕ) (found : Option ℕ) (contract : Contract)
-    → FindsLeaving trades scale f firm contracts n found → slice_get contracts n ≡ Some contract → DecidesOwn trades scale f firm contracts n true
+pub leaving_more : (trades : List Ends) (scale : ℤ) (f : ℕ) (firm : Firm) (contracts : List Contract) (n : ℕ)
+    (found : Option ℕ) (contract : Contract)
+    → FindsLeaving trades scale f firm contracts n found → slice_get contracts n ≡ Some contract
+    → DecidesOwn trades scale f firm contracts n true
     → FindsLeaving trades scale f firm contracts (n + 1) (Some (earlier found contract.trade))
 leaving_more trades scale f firm contracts n found contract before is left =
-    subst (λ (t : ℕ). FindsLeaving trades scale f firm contracts (n + 1) (Some (earlier found t))) (trade_is contracts n contract is)
-    (least_fails n (trade_at contracts) (λ k. DecidesOwn trades scale f firm contracts k true) (λ k. DecidesOwn trades scale f firm contracts k false) found before left)
+    subst (λ (t : ℕ). FindsLeaving trades scale f firm contracts (n + 1) (Some (earlier found t)))
+    (trade_is contracts n contract is)
+    (least_fails n (trade_at contracts) (λ k. DecidesOwn trades scale f firm contracts k true)
+    (λ k. DecidesOwn trades scale f firm contracts k false) found before left)
 
-pub leaving_same : (trades : List Ends) (scale : ℤ) (f : ℕ) (firm : Firm) (contracts : List Contract) (n : ℕ) (found : Option ℕ)
-    → FindsLeaving trades scale f firm contracts n found → DecidesOwn trades scale f firm contracts n false → FindsLeaving trades scale f firm contracts (n + 1) found
+pub leaving_same : (trades : List Ends) (scale : ℤ) (f : ℕ) (firm : Firm) (contracts : List Contract) (n : ℕ)
+    (found : Option ℕ)
+    → FindsLeaving trades scale f firm contracts n found → DecidesOwn trades scale f firm contracts n false
+    → FindsLeaving trades scale f firm contracts (n + 1) found
 leaving_same trades scale f firm contracts n found before taken =
-    least_passes n (trade_at contracts) (λ k. DecidesOwn trades scale f firm contracts k true) (λ k. DecidesOwn trades scale f firm contracts k false) found before taken
+    least_passes n (trade_at contracts) (λ k. DecidesOwn trades scale f firm contracts k true)
+    (λ k. DecidesOwn trades scale f firm contracts k false) found before taken

@@ -1,3 +1,4 @@
+-- The files of lemmas of this crate.
 mod RoundLemmas
 mod RefutedLemmas
 pub mod ExchangeLemmas

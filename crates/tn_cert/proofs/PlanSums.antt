@@ -35,13 +35,16 @@ one_part term f plan k p is = ap (λ (n : ℕ). over_parts term f (take n plan))
     regroup : (a b c d : ℤ) → b ≡ c +ℤ d → a +ℤ b ≡ (a +ℤ c) +ℤ d
     regroup a b c d e = omega (arith, ints, e)
 
-    more : (plan : List Part) (k : ℕ) → slice_get plan k ≡ Some p → over_parts term f (take (suc k) plan) ≡ over_parts term f (take k plan) +ℤ (if p.firm == f then term p else pos 0)
+    more : (plan : List Part) (k : ℕ) → slice_get plan k ≡ Some p
+        → over_parts term f (take (suc k) plan) ≡ over_parts term f (take k plan) +ℤ (if p.firm == f then term p
+        else pos 0)
     more [] k is = absurd (none-some p is)
     more (q ∷ plan) zero is = last _ _ (ap (λ (r : Part). if r.firm == f then term r else pos 0) (same_Some q p is))
     more (q ∷ plan) (suc k) is = regroup _ _ _ _ (more plan k is)
 
 -- all parts
-pub all_parts : (term : Part → ℤ) (f : ℕ) (plan : List Part) (k : ℕ) → k ≡ length plan → over_parts term f (take k plan) ≡ over_parts term f plan
+pub all_parts : (term : Part → ℤ) (f : ℕ) (plan : List Part) (k : ℕ) → k ≡ length plan
+    → over_parts term f (take k plan) ≡ over_parts term f plan
 all_parts term f plan k end = ap (over_parts term f) (ap (λ (n : ℕ). take n plan) end ∙ take-length plan)
 
 -- the weights of the first k parts, of those that count
@@ -53,8 +56,10 @@ pub record IsWeight (term : Part → ℤ) (f : ℕ) (plan : List Part) (k : ℕ)
 pub none_weighed : (term : Part → ℤ) (f : ℕ) (plan : List Part) → IsWeight term f plan 0 (pos 0)
 none_weighed term f plan = record { is = refl; low = omega (arith, ints); high = omega (arith, ints) }
 
-pub one_weighed : (term : Part → ℤ) (f : ℕ) (plan : List Part) (k : ℕ) (p : Part) (sum more : ℤ) → IsWeight term f plan k sum → slice_get plan k ≡ Some p
-    → more ≡ (if p.firm == f then term p else pos 0) → pos 0 ≤ℤ more → more ≤ℤ pos most_claimed_over → IsWeight term f plan (k + 1) (sum +ℤ more)
+pub one_weighed : (term : Part → ℤ) (f : ℕ) (plan : List Part) (k : ℕ) (p : Part) (sum more : ℤ)
+    → IsWeight term f plan k sum → slice_get plan k ≡ Some p
+    → more ≡ (if p.firm == f then term p else pos 0) → pos 0 ≤ℤ more → more ≤ℤ pos most_claimed_over
+    → IsWeight term f plan (k + 1) (sum +ℤ more)
 one_weighed term f plan k p sum more weight is more_is least most =
     let low = weight.low in
     let high = weight.high in
@@ -80,19 +85,26 @@ abbrev pub added_by : Firm → ℕ → Part → Option ℤ
 added_by firm f p = if p.firm == f then option_map (λ worth. p.weight *ℤ worth) (firm.worth p.bundle) else Some (pos 0)
 
 pub none_valued : (firm : Firm) (f : ℕ) (plan : List Part) → IsWorth firm f plan 0 (pos 0)
-none_valued firm f plan = record { is = refl; possible = λ j p below. absurd (omega (arith, below)); small = record { low = omega (arith, ints); high = omega (arith, ints) } }
+none_valued firm f plan = record {
+  is = refl;
+  possible = λ j p below. absurd (omega (arith, below));
+  small =
+      record { low = omega (arith, ints); high = omega (arith, ints) };
+}
 
 added_is : (firm : Firm) (f : ℕ) (p : Part) (more : ℤ) → Some more ≡ added_by firm f p
     → (more ≡ (if p.firm == f then worth_term firm p else pos 0)) × (p.firm ≡ f → IsSome (firm.worth p.bundle))
 added_is firm f p more added = by_case (p.firm == f) refl (firm.worth p.bundle) refl added
   where
-    by_case : (b : Bool) → (p.firm == f) ≡ b → (o : Option ℤ) → firm.worth p.bundle ≡ o → Some more ≡ (if b then option_map (λ worth. p.weight *ℤ worth) o else Some (pos 0))
+    by_case : (b : Bool) → (p.firm == f) ≡ b → (o : Option ℤ) → firm.worth p.bundle ≡ o
+        → Some more ≡ (if b then option_map (λ worth. p.weight *ℤ worth) o else Some (pos 0))
         → (more ≡ (if b then p.weight *ℤ unwrap_or o (pos 0) else pos 0)) × (p.firm ≡ f → IsSome o)
     by_case true e (Some a) there is = (same_Some _ _ is, (λ own. cc))
     by_case true e None there is = absurd (none-some more (sym is))
     by_case false e o there is = (same_Some _ _ is, (λ own. absurd (cc (e, eq-eqb p.firm f own))))
 
-pub one_valued : (firm : Firm) (f : ℕ) (plan : List Part) (k : ℕ) (p : Part) (sum more : ℤ) → IsWorth firm f plan k sum → slice_get plan k ≡ Some p
+pub one_valued : (firm : Firm) (f : ℕ) (plan : List Part) (k : ℕ) (p : Part) (sum more : ℤ) → IsWorth firm f plan k sum
+    → slice_get plan k ≡ Some p
     → Some more ≡ added_by firm f p → IsAtMost more most_weighed_worth → IsWorth firm f plan (k + 1) (sum +ℤ more)
 one_valued firm f plan k p sum more worth is added small =
     let term = added_is firm f p more added in
@@ -111,7 +123,8 @@ one_valued firm f plan k p sum more worth is added small =
       small = record { low = omega (arith, ints, low, more_low); high = omega (arith, ints, high, more_high) };
     }
 
-pub all_valued : (firm : Firm) (f : ℕ) (plan : List Part) (k : ℕ) (sum : ℤ) → IsWorth firm f plan k sum → k ≡ length plan
+pub all_valued : (firm : Firm) (f : ℕ) (plan : List Part) (k : ℕ) (sum : ℤ) → IsWorth firm f plan k sum
+    → k ≡ length plan
     → HasPossibleParts plan f firm × (sum ≡ over_parts (worth_term firm) f plan)
 all_valued firm f plan k sum worth end = (
   (λ j p is own. let inside = slice_get_within plan j p is in worth.possible j p (omega (arith, inside, end)) is own),
@@ -119,12 +132,14 @@ all_valued firm f plan k sum worth end = (
 )
 
 -- where nothing can be added, the part is impossible
-pub none_is_impossible : (firm : Firm) (f : ℕ) (plan : List Part) (k : ℕ) (p : Part) → slice_get plan k ≡ Some p → None ≡ added_by firm f p → HasImpossiblePart plan f firm
+pub none_is_impossible : (firm : Firm) (f : ℕ) (plan : List Part) (k : ℕ) (p : Part) → slice_get plan k ≡ Some p
+    → None ≡ added_by firm f p → HasImpossiblePart plan f firm
 none_is_impossible firm f plan k p is none =
     let found = by_case (p.firm == f) refl (firm.worth p.bundle) refl none in
     record { at = k; part = p; is = is; own = found.0; impossible = found.1 }
   where
-    by_case : (b : Bool) → (p.firm == f) ≡ b → (o : Option ℤ) → firm.worth p.bundle ≡ o → None ≡ (if b then option_map (λ worth. p.weight *ℤ worth) o else Some (pos 0))
+    by_case : (b : Bool) → (p.firm == f) ≡ b → (o : Option ℤ) → firm.worth p.bundle ≡ o
+        → None ≡ (if b then option_map (λ worth. p.weight *ℤ worth) o else Some (pos 0))
         → (p.firm ≡ f) × (firm.worth p.bundle ≡ None)
     by_case true e None there is = (eqb-true p.firm f e, there)
     by_case true e (Some a) there is = absurd (none-some _ is)
@@ -138,7 +153,8 @@ pub record IsPlanned (firms : List Firm) (plan : List Part) (over : ℤ) (f : �
   pub possible : ArePossibleParts firms plan f
   pub small : IsAtMost sum (f * most_planned_worth)
 
-planned_from-append : (plan : List Part) (over : ℤ) (s : ℕ) (firms : List Firm) (firm : Firm) (f : ℕ) → f ≡ s + length firms
+planned_from-append : (plan : List Part) (over : ℤ) (s : ℕ) (firms : List Firm) (firm : Firm) (f : ℕ)
+    → f ≡ s + length firms
     → planned_from plan over s (firms ++ firm ∷ []) ≡ planned_from plan over s firms +ℤ planned_worth plan over f firm
 planned_from-append plan over s [] firm f at =
     let here : f ≡ s = omega (arith, at) in
@@ -146,16 +162,23 @@ planned_from-append plan over s [] firm f at =
   where
     turned : (a b : ℤ) → a ≡ b → a +ℤ pos 0 ≡ pos 0 +ℤ b
     turned a b e = omega (arith, ints, e)
-planned_from-append plan over s (first ∷ firms) firm f at = regroup _ _ _ _ (planned_from-append plan over (s + 1) firms firm f (omega (arith, at)))
+planned_from-append plan over s (first ∷ firms) firm f at =
+    regroup _ _ _ _ (planned_from-append plan over (s + 1) firms firm f (omega (arith, at)))
   where
     regroup : (a b c d : ℤ) → b ≡ c +ℤ d → a +ℤ b ≡ (a +ℤ c) +ℤ d
     regroup a b c d e = omega (arith, ints, e)
 
 pub none_planned : (firms : List Firm) (plan : List Part) (over : ℤ) → IsPlanned firms plan over 0 (pos 0)
-none_planned firms plan over = record { is = refl; possible = λ f firm below. absurd (omega (arith, below)); small = record { low = omega (arith, ints); high = omega (arith, ints) } }
+none_planned firms plan over = record {
+  is = refl;
+  possible = λ f firm below. absurd (omega (arith, below));
+  small =
+      record { low = omega (arith, ints); high = omega (arith, ints) };
+}
 
 -- one firm more has possible bundles
-pub one_possible : (firms : List Firm) (plan : List Part) (f : ℕ) (firm : Firm) → ArePossibleParts firms plan f → slice_get firms f ≡ Some firm → HasPossibleParts plan f firm
+pub one_possible : (firms : List Firm) (plan : List Part) (f : ℕ) (firm : Firm) → ArePossibleParts firms plan f
+    → slice_get firms f ≡ Some firm → HasPossibleParts plan f firm
     → ArePossibleParts firms plan (f + 1)
 one_possible firms plan f firm before is possible g other below there = elim (cases_eq g f) [
   | inl e ↦
@@ -164,8 +187,10 @@ one_possible firms plan f firm before is possible g other below there = elim (ca
   | inr d ↦ before g other (omega (arith, below, d)) there
 ]
 
-pub one_planned : (firms : List Firm) (plan : List Part) (over : ℤ) (f : ℕ) (firm : Firm) (sum more : ℤ) → IsPlanned firms plan over f sum → slice_get firms f ≡ Some firm
-    → HasPossibleParts plan f firm → more ≡ planned_worth plan over f firm → IsAtMost more most_planned_worth → IsPlanned firms plan over (f + 1) (sum +ℤ more)
+pub one_planned : (firms : List Firm) (plan : List Part) (over : ℤ) (f : ℕ) (firm : Firm) (sum more : ℤ)
+    → IsPlanned firms plan over f sum → slice_get firms f ≡ Some firm
+    → HasPossibleParts plan f firm → more ≡ planned_worth plan over f firm → IsAtMost more most_planned_worth
+    → IsPlanned firms plan over (f + 1) (sum +ℤ more)
 one_planned firms plan over f firm sum more planned is possible more_is small =
     let inside = slice_get_within firms f firm is in
     let low = planned.small.low in
@@ -177,7 +202,8 @@ one_planned firms plan over f firm sum more planned is possible more_is small =
     ∙ ap (λ (x : Firm). take f firms ++ x ∷ []) (get_or_from_slice_get firms f firm firm is) in
     record {
       is = ap₂ (λ (x y : ℤ). x +ℤ y) planned.is more_is
-          ∙ sym (ap (planned_from plan over 0) longer ∙ planned_from-append plan over 0 (take f firms) firm f (omega (arith, length-take-le f firms (omega (arith, inside)))));
+          ∙ sym (ap (planned_from plan over 0) longer ∙ planned_from-append plan over 0 (take f firms) firm f
+          (omega (arith, length-take-le f firms (omega (arith, inside)))));
       possible = one_possible firms plan f firm planned.possible is possible;
       small = record { low = omega (arith, ints, low, more_low); high = omega (arith, ints, high, more_high) };
     }
@@ -186,10 +212,13 @@ one_planned firms plan over f firm sum more planned is possible more_is small =
 
 -- the plan is worth more than each set of trades before a number
 abbrev pub IsWorthMoreBefore : List Firm → List Ends → ℤ → ℤ → ℕ → Type 0
-IsWorthMoreBefore firms trades over worth n = (on : ℕ) (surplus : ℤ) → on < n → surplus_of firms trades on ≡ Some surplus → (over *ℤ surplus) <ℤ worth
+IsWorthMoreBefore firms trades over worth n = (on : ℕ) (surplus : ℤ) → on < n
+    → surplus_of firms trades on ≡ Some surplus → (over *ℤ surplus) <ℤ worth
 
-pub one_more : (firms : List Firm) (trades : List Ends) (over worth : ℤ) (n : ℕ) → IsWorthMoreBefore firms trades over worth n
-    → ((surplus : ℤ) → surplus_of firms trades n ≡ Some surplus → (over *ℤ surplus) <ℤ worth) → IsWorthMoreBefore firms trades over worth (n + 1)
+pub one_more : (firms : List Firm) (trades : List Ends) (over worth : ℤ) (n : ℕ)
+    → IsWorthMoreBefore firms trades over worth n
+    → ((surplus : ℤ) → surplus_of firms trades n ≡ Some surplus → (over *ℤ surplus) <ℤ worth)
+    → IsWorthMoreBefore firms trades over worth (n + 1)
 one_more firms trades over worth n before here on surplus below is = elim (cases_eq on n) [
   | inl e ↦ here surplus (ap (surplus_of firms trades) (sym e) ∙ is)
   | inr d ↦ before on surplus (omega (arith, below, d)) is
@@ -197,20 +226,23 @@ one_more firms trades over worth n before here on surplus below is = elim (cases
 
 -- ---- one firm or one trade more
 
-pub one_shared : (plan : List Part) (over : ℤ) (f : ℕ) → HaveShares plan over f → share_of plan f ≤ℤ over → HaveShares plan over (f + 1)
+pub one_shared : (plan : List Part) (over : ℤ) (f : ℕ) → HaveShares plan over f → share_of plan f ≤ℤ over
+    → HaveShares plan over (f + 1)
 one_shared plan over f before here g below = elim (cases_eq g f) [
   | inl e ↦ subst (λ (h : ℕ). share_of plan h ≤ℤ over) (sym e) here
   | inr d ↦ before g (omega (arith, below, d))
 ]
 
-pub one_balanced : (trades : List Ends) (plan : List Part) (t : ℕ) (trade : Ends) → AreBalanced trades plan t → slice_get trades t ≡ Some trade → IsBalanced plan trade
+pub one_balanced : (trades : List Ends) (plan : List Part) (t : ℕ) (trade : Ends) → AreBalanced trades plan t
+    → slice_get trades t ≡ Some trade → IsBalanced plan trade
     → AreBalanced trades plan (t + 1)
 one_balanced trades plan t trade before is balanced s other below there = elim (cases_eq s t) [
   | inl e ↦ subst (IsBalanced plan) (same_Some trade other (sym is ∙ ap (slice_get trades) (sym e) ∙ there)) balanced
   | inr d ↦ before s other (omega (arith, below, d)) there
 ]
 
-pub all_balanced : (trades : List Ends) (plan : List Part) (t : ℕ) → length trades ≤ t → AreBalanced trades plan t → AreBalanced trades plan (length trades)
+pub all_balanced : (trades : List Ends) (plan : List Part) (t : ℕ) → length trades ≤ t → AreBalanced trades plan t
+    → AreBalanced trades plan (length trades)
 all_balanced trades plan t end before s other below there = before s other (omega (arith, end, below)) there
 
 -- ---- firms that are read raw
@@ -222,7 +254,8 @@ raw_abstains (Laminar firm) = (firm_laws (LaminarValue firm)).empty_is_possible
 raw_abstains (Middle firm) = (firm_laws (MiddleValue firm)).empty_is_possible
 raw_abstains (Dealer firm) = (firm_laws (DealerValue firm)).empty_is_possible
 
-pub all_abstain : (firms : List RawFirm) (f : ℕ) (firm : Firm) → slice_get (map raw_firm_of firms) f ≡ Some firm → MayAbstain firm
+pub all_abstain : (firms : List RawFirm) (f : ℕ) (firm : Firm) → slice_get (map raw_firm_of firms) f ≡ Some firm
+    → MayAbstain firm
 all_abstain firms f firm is = of_some (slice_get firms f) (sym (slice_get-map raw_firm_of firms f) ∙ is)
   where
     of_some : (o : Option RawFirm) → option_map raw_firm_of o ≡ Some firm → MayAbstain firm
@@ -237,10 +270,16 @@ pub record IsSurplus (firms : List Firm) (trades : List Ends) (on f : ℕ) (sum 
   pub small : IsAtMost sum (f * most_worth)
 
 pub no_surplus : (firms : List Firm) (trades : List Ends) (on : ℕ) → IsSurplus firms trades on 0 (pos 0)
-no_surplus firms trades on = record { is = refl; small = record { low = omega (arith, ints); high = omega (arith, ints) } }
+no_surplus firms trades on = record {
+  is = refl;
+  small =
+      record { low = omega (arith, ints); high = omega (arith, ints) };
+}
 
-pub one_surplus : (firms : List Firm) (trades : List Ends) (on f : ℕ) (sum worth : ℤ) (firm : Firm) → IsSurplus firms trades on f sum → slice_get firms f ≡ Some firm
-    → firm.worth (part trades f firm.count on) ≡ Some worth → IsAtMost worth most_worth → IsSurplus firms trades on (f + 1) (sum +ℤ worth)
+pub one_surplus : (firms : List Firm) (trades : List Ends) (on f : ℕ) (sum worth : ℤ) (firm : Firm)
+    → IsSurplus firms trades on f sum → slice_get firms f ≡ Some firm
+    → firm.worth (part trades f firm.count on) ≡ Some worth → IsAtMost worth most_worth
+    → IsSurplus firms trades on (f + 1) (sum +ℤ worth)
 one_surplus firms trades on f sum worth firm surplus is worth_is small =
     let low = surplus.small.low in
     let high = surplus.small.high in
@@ -248,11 +287,17 @@ one_surplus firms trades on f sum worth firm surplus is worth_is small =
     let more_high = small.high in
     record {
       is = sum_more firms trades on f sum worth firm surplus.is is worth_is;
-      small = record { low = omega (arith, ints, low, high, more_low, more_high); high = omega (arith, ints, low, high, more_low, more_high) };
+      small = record {
+        low = omega (arith, ints, low, high, more_low, more_high);
+        high =
+            omega (arith, ints, low, high, more_low, more_high);
+      };
     }
 
-pub all_surplus : (firms : List Firm) (trades : List Ends) (on f : ℕ) (sum : ℤ) → IsSurplus firms trades on f sum → f ≡ length firms → Some sum ≡ surplus_of firms trades on
-all_surplus firms trades on f sum surplus end = sym (ap (surplus_from trades on 0) (sym (ap (λ (n : ℕ). take n firms) end ∙ take-length firms)) ∙ surplus.is)
+pub all_surplus : (firms : List Firm) (trades : List Ends) (on f : ℕ) (sum : ℤ) → IsSurplus firms trades on f sum
+    → f ≡ length firms → Some sum ≡ surplus_of firms trades on
+all_surplus firms trades on f sum surplus end =
+    sym (ap (surplus_from trades on 0) (sym (ap (λ (n : ℕ). take n firms) end ∙ take-length firms)) ∙ surplus.is)
 
 -- the empty bundle isn't impossible
 pub not_impossible : (firm : Firm) (x : ℕ) → MayAbstain firm → x ≡ 0 → None ≡ firm.worth x → ⊥

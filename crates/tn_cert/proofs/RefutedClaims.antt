@@ -12,14 +12,20 @@ use Rattle.tn_cert.proofs.RefutedLemmas.{lack_refuted, equilibrium_refuted, bett
 use Rattle.tn_cert.proofs.PlanRefuted.{plan_refuted}
 use Rattle.tn_cert.proofs.OutcomeRefuted.{drops_refuted, completes_refuted, blocks_refuted}
 
-pub refuted : (firms : List Firm) (trades : List Ends) (claim : Claim) (reason : Reason) → Refutes firms trades claim reason → IsValid firms trades claim → ⊥
-refuted firms trades (Equilibrium at surplus) reason = equilibrium_refuted firms trades at.on (price_at at.prices) surplus reason
-refuted firms trades (Solved at surplus) reason = equilibrium_refuted firms trades at.on (price_at at.prices) surplus reason
+pub refuted : (firms : List Firm) (trades : List Ends) (claim : Claim) (reason : Reason)
+    → Refutes firms trades claim reason → IsValid firms trades claim → ⊥
+refuted firms trades (Equilibrium at surplus) reason =
+    equilibrium_refuted firms trades at.on (price_at at.prices) surplus reason
+refuted firms trades (Solved at surplus) reason =
+    equilibrium_refuted firms trades at.on (price_at at.prices) surplus reason
 refuted firms trades (Supported on prices) reason = lack_refuted firms trades (pos 1) on (price_at prices) reason
-refuted firms trades (Better at f x gain) reason = better_refuted firms trades at.on (price_at at.prices) f x gain reason
+refuted firms trades (Better at f x gain) reason =
+    better_refuted firms trades at.on (price_at at.prices) f x gain reason
 refuted firms trades (Impossible on f) reason = impossible_refuted firms trades on f reason
-refuted firms trades (Cycle on nodes cost) reason = cycle_refuted firms trades on (map (node_of (length trades)) nodes) cost reason
-refuted firms trades (Drops outcome f keeps gain over) reason = drops_refuted firms trades outcome f keeps gain over reason
+refuted firms trades (Cycle on nodes cost) reason =
+    cycle_refuted firms trades on (map (node_of (length trades)) nodes) cost reason
+refuted firms trades (Drops outcome f keeps gain over) reason =
+    drops_refuted firms trades outcome f keeps gain over reason
 refuted firms trades (Completes outcome prices over) reason = completes_refuted firms trades outcome prices over reason
 refuted firms trades (Blocks outcome contracts over) reason = blocks_refuted firms trades outcome contracts over reason
 refuted firms trades Accepted reason = accepted_refuted firms trades reason

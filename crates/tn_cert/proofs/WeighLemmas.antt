@@ -12,12 +12,19 @@ use Rattle.tn_price.proofs.JudgeLemmas.{firm_is, some_item}
 use Rattle.tn_cert.specs.Reasons.{LacksBest}
 
 -- a firm of a mapped list is one of the list
-pub within_firms : {V : Type 0} (firm_of : V → Firm) (firms : List V) (f : ℕ) (firm : Firm) → slice_get (map firm_of firms) f ≡ Some firm → f < length firms
-within_firms firm_of firms f firm is = omega (arith, length-map firms firm_of, slice_get_within (map firm_of firms) f firm is)
+pub within_firms : {V : Type 0} (firm_of : V → Firm) (firms : List V) (f : ℕ) (firm : Firm)
+    → slice_get (map firm_of firms) f ≡ Some firm → f < length firms
+within_firms firm_of firms f firm is = omega (
+  arith,
+  length-map firms firm_of,
+  slice_get_within (map firm_of firms) f firm is,
+)
 
 -- the first firm that could do better, with the trades of a best bundle
-pub better_lacks : {V : Type 0} (firm_of : V → Firm) (firms : List V) (trades : List Ends) (scale : ℤ) (on : ℕ) (prices : ℕ → ℤ) (f x : ℕ) (gain : ℤ) (bundle : List ℕ)
-    → IsFirstBettered (map firm_of firms) trades scale on prices f x gain → ((v : V) → slice_get firms f ≡ Some v → bundle ≡ trades_of trades f (firm_of v).count x)
+pub better_lacks : {V : Type 0} (firm_of : V → Firm) (firms : List V) (trades : List Ends) (scale : ℤ) (on : ℕ)
+    (prices : ℕ → ℤ) (f x : ℕ) (gain : ℤ) (bundle : List ℕ)
+    → IsFirstBettered (map firm_of firms) trades scale on prices f x gain
+    → ((v : V) → slice_get firms f ≡ Some v → bundle ≡ trades_of trades f (firm_of v).count x)
     → LacksBest (map firm_of firms) trades scale on prices (Better f bundle)
 better_lacks firm_of firms trades scale on prices f x gain bundle first bundle_is =
     let item = some_item firms f (within_firms firm_of firms f first.firm first.is) in

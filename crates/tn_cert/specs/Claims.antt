@@ -18,7 +18,8 @@ use Rattle.tn_cert.specs.Plans.{IsPlanAgainst}
 use Rattle.tn_market.specs.Signed.{is_signed, signed_bundle, signed_price, Completes}
 
 -- what firm f gains where it has x in place of y, both possible
-pub record Gains (trades : List Ends) (scale : ℤ) (prices : ℕ → ℤ) (f : ℕ) (firm : Firm) (x y : ℕ) (gain : ℤ) : Type 0 where
+pub record Gains (trades : List Ends) (scale : ℤ) (prices : ℕ
+    → ℤ) (f : ℕ) (firm : Firm) (x y : ℕ) (gain : ℤ) : Type 0 where
   pub value : ℤ
   pub value_is : utility_at trades scale prices f firm x ≡ Some value
   pub other : ℤ
@@ -28,8 +29,11 @@ pub record Gains (trades : List Ends) (scale : ℤ) (prices : ℕ → ℤ) (f : 
 -- what firm f gains where it keeps a bundle of its contracts and drops the others: none where they are an impossible
 -- bundle together
 abbrev pub GainsByKeeping : List Ends → Outcome → ℕ → Firm → ℕ → Option ℤ → Type 0
-GainsByKeeping trades outcome f firm keeps (Some gain) = Gains trades outcome.over (signed_price outcome.contracts) f firm keeps (signed_bundle trades outcome.contracts f firm) gain
-GainsByKeeping trades outcome f firm keeps None = IsSome (firm.worth keeps) × (firm.worth (signed_bundle trades outcome.contracts f firm) ≡ None)
+GainsByKeeping trades outcome f firm keeps (Some gain) =
+    Gains trades outcome.over (signed_price outcome.contracts) f firm keeps
+    (signed_bundle trades outcome.contracts f firm) gain
+GainsByKeeping trades outcome f firm keeps None = IsSome (firm.worth keeps)
+    × (firm.worth (signed_bundle trades outcome.contracts f firm) ≡ None)
 
 abbrev pub IsPositive : ℤ → Type 0
 IsPositive gain = pos 0 <ℤ gain
@@ -52,12 +56,17 @@ abbrev pub IsValid : List Firm → List Ends → Claim → Type 0
 IsValid firms trades (Equilibrium at surplus) = IsEquilibrium firms trades (pos 1) at.on (price_at at.prices) × (surplus_of firms trades at.on ≡ Some surplus)
 IsValid firms trades (Solved at surplus) = IsEquilibrium firms trades (pos 1) at.on (price_at at.prices) × (surplus_of firms trades at.on ≡ Some surplus)
 IsValid firms trades (Supported on prices) = IsEquilibrium firms trades (pos 1) on (price_at prices)
-IsValid firms trades (Better at f x gain) = IsFirmWith firms f (λ firm. Gains trades (pos 1) (price_at at.prices) f firm x (part trades f firm.count at.on) gain) × IsPositive gain
+IsValid firms trades (Better at f x gain) =
+    IsFirmWith firms f (λ firm. Gains trades (pos 1) (price_at at.prices) f firm x (part trades f firm.count at.on)
+    gain) × IsPositive gain
 IsValid firms trades (Impossible on f) = IsFirmWith firms f (λ firm. firm.worth (part trades f firm.count on) ≡ None)
 IsValid firms trades (Cycle on nodes cost) = ArePossible firms trades on × GoesRound (exchange_arc firms trades on) (map (node_of (length trades)) nodes) cost × (cost <ℤ pos 0)
-IsValid firms trades (Drops outcome f keeps gain over) = (over ≡ outcome.over) × AreSigned trades outcome f keeps × IsFirmWith firms f (λ firm. GainsByKeeping trades outcome f firm keeps gain) × IfSome gain IsPositive
-IsValid firms trades (CompletesIs outcome prices over) = (over ≡ outcome.over) × Completes firms trades over outcome.contracts (price_at prices)
-IsValid firms trades (BlocksIs outcome contracts over) = Blocks firms trades outcome.over outcome.contracts over contracts
+IsValid firms trades (Drops outcome f keeps gain over) = (over ≡ outcome.over) × AreSigned trades outcome f keeps
+    × IsFirmWith firms f (λ firm. GainsByKeeping trades outcome f firm keeps gain) × IfSome gain IsPositive
+IsValid firms trades (CompletesIs outcome prices over) = (over ≡ outcome.over)
+    × Completes firms trades over outcome.contracts (price_at prices)
+IsValid firms trades (BlocksIs outcome contracts over) =
+    Blocks firms trades outcome.over outcome.contracts over contracts
 IsValid firms trades Accepted = (f : ℕ) (firm : Firm) → slice_get firms f ≡ Some firm → MeetsExchange firm
 IsValid firms trades (ExchangeFails f x y at) = IsFirmWith firms f (λ firm. Fails firm x y at)
 IsValid firms trades (NoPrices plan over) = IsPlanAgainst firms trades plan over

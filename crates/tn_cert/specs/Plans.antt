@@ -30,7 +30,8 @@ worth_in firm x = unwrap_or (firm.worth x) (pos 0)
 
 -- the weighted worths of firm f's parts, and of the empty bundle for the rest of the denominator
 abbrev pub planned_worth : List Part → ℤ → ℕ → Firm → ℤ
-planned_worth plan over f firm = over_parts (λ part. part.weight *ℤ worth_in firm part.bundle) f plan +ℤ (over -ℤ share_of plan f) *ℤ worth_in firm 0
+planned_worth plan over f firm = over_parts (λ part. part.weight *ℤ worth_in firm part.bundle) f plan
+    +ℤ (over -ℤ share_of plan f) *ℤ worth_in firm 0
 
 -- the sum of these for the firms from number f on
 abbrev pub planned_from : List Part → ℤ → ℕ → List Firm → ℤ
@@ -54,11 +55,13 @@ pub record HasImpossiblePart (plan : List Part) (f : ℕ) (firm : Firm) : Type 0
 
 -- each bundle of firm f's parts is possible
 abbrev pub HasPossibleParts : List Part → ℕ → Firm → Type 0
-HasPossibleParts plan f firm = (k : ℕ) (part : Part) → slice_get plan k ≡ Some part → part.firm ≡ f → IsSome (firm.worth part.bundle)
+HasPossibleParts plan f firm = (k : ℕ) (part : Part) → slice_get plan k ≡ Some part → part.firm ≡ f
+    → IsSome (firm.worth part.bundle)
 
 -- the same of each firm before number n
 abbrev pub ArePossibleParts : List Firm → List Part → ℕ → Type 0
-ArePossibleParts firms plan n = (f : ℕ) (firm : Firm) → f < n → slice_get firms f ≡ Some firm → HasPossibleParts plan f firm
+ArePossibleParts firms plan n = (f : ℕ) (firm : Firm) → f < n → slice_get firms f ≡ Some firm
+    → HasPossibleParts plan f firm
 
 -- the trade weighs the same at its seller and at its buyer
 abbrev pub IsBalanced : List Part → Ends → Type 0
@@ -70,10 +73,12 @@ AreBalanced trades plan n = (t : ℕ) (trade : Ends) → t < n → slice_get tra
 
 -- the plan is worth more than every set of trades: than the denominator times its surplus
 abbrev pub IsWorthMore : List Firm → List Ends → ℤ → ℤ → Type 0
-IsWorthMore firms trades over worth = (on : ℕ) (surplus : ℤ) → on < 2 ^ length trades → surplus_of firms trades on ≡ Some surplus → (over *ℤ surplus) <ℤ worth
+IsWorthMore firms trades over worth = (on : ℕ) (surplus : ℤ) → on < 2 ^ length trades
+    → surplus_of firms trades on ≡ Some surplus → (over *ℤ surplus) <ℤ worth
 
 -- the trades of a list, ascending, are a set with this surplus, and the denominator times it is at least so much
-pub record IsWholeAsGreat (firms : List Firm) (trades : List Ends) (over worth : ℤ) (listed : List ℕ) (surplus : ℤ) : Type 0 where
+pub record IsWholeAsGreat (firms : List Firm) (trades : List Ends) (over worth : ℤ) (listed : List ℕ)
+    (surplus : ℤ) : Type 0 where
   pub on : ℕ
   pub within : on < 2 ^ length trades
   pub listed_is : listed ≡ trades_on on (length trades)
@@ -92,25 +97,31 @@ pub record IsPlanAgainst (firms : List Firm) (trades : List Ends) (plan : List P
 -- the shares first, then the bundles, then the trades; at last a set of trades that is worth as much
 abbrev pub RefutesPlan : List Firm → List Ends → List Part → ℤ → Reason → Type 0
 RefutesPlan firms trades plan over (Shares f) = (f < length firms) × HaveShares plan over f × (over <ℤ share_of plan f)
-RefutesPlan firms trades plan over (Impossible f) = HaveShares plan over (length firms) × ArePossibleParts firms plan f × IsFirmWith firms f (HasImpossiblePart plan f)
-RefutesPlan firms trades plan over (Balance t) = HaveShares plan over (length firms) × ArePossibleParts firms plan (length firms) × AreBalanced trades plan t
+RefutesPlan firms trades plan over (Impossible f) = HaveShares plan over (length firms) × ArePossibleParts firms plan f
+    × IsFirmWith firms f (HasImpossiblePart plan f)
+RefutesPlan firms trades plan over (Balance t) = HaveShares plan over (length firms)
+    × ArePossibleParts firms plan (length firms) × AreBalanced trades plan t
     × (trade : Ends) × (slice_get trades t ≡ Some trade) × (IsBalanced plan trade → ⊥)
-RefutesPlan firms trades plan over (Whole on surplus) = HaveShares plan over (length firms) × ArePossibleParts firms plan (length firms) × AreBalanced trades plan (length trades)
+RefutesPlan firms trades plan over (Whole on surplus) = HaveShares plan over (length firms)
+    × ArePossibleParts firms plan (length firms) × AreBalanced trades plan (length trades)
     × IsWholeAsGreat firms trades over (worth_of_plan firms plan over) on surplus
 RefutesPlan firms trades plan over reason = ⊥
 
 -- no prices over any denominator make a set of trades an equilibrium
 abbrev pub HaveNoPrices : List Firm → List Ends → Type 0
-HaveNoPrices firms trades = (scale : ℤ) (on : ℕ) (prices : ℕ → ℤ) → pos 1 ≤ℤ scale → IsEquilibrium firms trades scale on prices → ⊥
+HaveNoPrices firms trades = (scale : ℤ) (on : ℕ) (prices : ℕ → ℤ) → pos 1 ≤ℤ scale
+    → IsEquilibrium firms trades scale on prices → ⊥
 
 -- where a plan in parts is worth more than every set of trades, there are no prices
 pub record PlansBarPrices : Type 0 where
-  pub bars : (firms : List Firm) (trades : List Ends) (plan : List Part) (over : ℤ) → IsNetwork firms trades → All (λ part. pos 0 ≤ℤ part.weight) plan
+  pub bars : (firms : List Firm) (trades : List Ends) (plan : List Part) (over : ℤ) → IsNetwork firms trades
+      → All (λ part. pos 0 ≤ℤ part.weight) plan
       → IsPlanAgainst firms trades plan over → HaveNoPrices firms trades
 
 -- what the parts of a firm are worth, or that one of them is impossible
 abbrev pub FindsWorth : List Part → ℕ → Firm → Option ℤ → Type 0
-FindsWorth plan f firm (Some worth) = HasPossibleParts plan f firm × (worth ≡ over_parts (λ part. part.weight *ℤ worth_in firm part.bundle) f plan)
+FindsWorth plan f firm (Some worth) = HasPossibleParts plan f firm
+    × (worth ≡ over_parts (λ part. part.weight *ℤ worth_in firm part.bundle) f plan)
 FindsWorth plan f firm None = HasImpossiblePart plan f firm
 
 -- what a firm's part of the plan is worth, or that one of its bundles is impossible
@@ -120,7 +131,8 @@ FindsPlanned plan over f firm None = HasImpossiblePart plan f firm
 
 -- what the plan is worth, or the first firm with an impossible bundle
 abbrev pub WeighsPlan : List Firm → List Part → ℤ → Result ℤ ℕ → Type 0
-WeighsPlan firms plan over (Ok worth) = ArePossibleParts firms plan (length firms) × (worth ≡ worth_of_plan firms plan over)
+WeighsPlan firms plan over (Ok worth) = ArePossibleParts firms plan (length firms)
+    × (worth ≡ worth_of_plan firms plan over)
 WeighsPlan firms plan over (Err f) = ArePossibleParts firms plan f × IsFirmWith firms f (HasImpossiblePart plan f)
 
 -- the first firm with too great a share
@@ -131,9 +143,11 @@ FindsShares plan over n (Some f) = (f < n) × HaveShares plan over f × (over <�
 -- the first trade that isn't balanced
 abbrev pub FindsUnbalanced : List Ends → List Part → Option ℕ → Type 0
 FindsUnbalanced trades plan None = AreBalanced trades plan (length trades)
-FindsUnbalanced trades plan (Some t) = AreBalanced trades plan t × (trade : Ends) × (slice_get trades t ≡ Some trade) × (IsBalanced plan trade → ⊥)
+FindsUnbalanced trades plan (Some t) = AreBalanced trades plan t × (trade : Ends) × (slice_get trades t ≡ Some trade)
+    × (IsBalanced plan trade → ⊥)
 
 -- a set of trades that is worth as much, with its surplus
 abbrev pub FindsWhole : List Firm → List Ends → ℤ → ℤ → Option (ℕ × ℤ) → Type 0
 FindsWhole firms trades over worth None = IsWorthMore firms trades over worth
-FindsWhole firms trades over worth (Some (on, surplus)) = (on < 2 ^ length trades) × (surplus_of firms trades on ≡ Some surplus) × (worth ≤ℤ (over *ℤ surplus))
+FindsWhole firms trades over worth (Some (on, surplus)) = (on < 2 ^ length trades)
+    × (surplus_of firms trades on ≡ Some surplus) × (worth ≤ℤ (over *ℤ surplus))

@@ -9,4 +9,5 @@ use Rattle.tn_cert.specs.Reasons.{Refutes}
 
 -- a claim with a reason against it isn't valid
 pub record RefutedIsNotValid : Type 0 where
-  pub never : (firms : List Firm) (trades : List Ends) (claim : Claim) (reason : Reason) → Refutes firms trades claim reason → IsValid firms trades claim → ⊥
+  pub never : (firms : List Firm) (trades : List Ends) (claim : Claim) (reason : Reason)
+      → Refutes firms trades claim reason → IsValid firms trades claim → ⊥

@@ -39,7 +39,8 @@ is_raw (NoPrices plan over) = true
 
 -- the reason with the trades at the firm's positions in place of the positions
 abbrev pub reason_in : List Ends → Reason → Reason
-reason_in trades (Exchange f x y at) = Exchange f (map (own trades f) x) (map (own trades f) y) (option_map (own trades f) at)
+reason_in trades (Exchange f x y at) =
+    Exchange f (map (own trades f) x) (map (own trades f) y) (option_map (own trades f) at)
 reason_in trades reason = reason
 
 abbrev pub in_trades : List Ends → Replayed → Replayed
@@ -53,7 +54,8 @@ HasSmallSurplus replayed = Unit {0}
 
 -- an equilibrium with its surplus, or the first firm without a best bundle
 abbrev pub Weighs : List Firm → List Ends → ℤ → ℕ → (ℕ → ℤ) → Result ℤ Reason → Type 0
-Weighs firms trades scale on prices (Ok surplus) = IsEquilibrium firms trades scale on prices × (surplus_of firms trades on ≡ Some surplus)
+Weighs firms trades scale on prices (Ok surplus) = IsEquilibrium firms trades scale on prices
+    × (surplus_of firms trades on ≡ Some surplus)
 Weighs firms trades scale on prices (Err reason) = LacksBest firms trades scale on prices reason
 
 -- the first firm without a best bundle, none at an equilibrium
@@ -63,8 +65,10 @@ FindsLack firms trades scale on prices (Some reason) = LacksBest firms trades sc
 
 -- what firm f gains where it has x in place of its bundle, none where one of the two is impossible
 abbrev pub TellsGain : List Firm → List Ends → ℕ → (ℕ → ℤ) → ℕ → ℕ → Option ℤ → Type 0
-TellsGain firms trades on prices f x (Some gain) = IsFirmWith firms f (λ firm. Gains trades (pos 1) prices f firm x (part trades f firm.count on) gain)
-TellsGain firms trades on prices f x None = IsFirmWith firms f (λ firm. (firm.worth (part trades f firm.count on) ≡ None) ⊎ (firm.worth x ≡ None))
+TellsGain firms trades on prices f x (Some gain) =
+    IsFirmWith firms f (λ firm. Gains trades (pos 1) prices f firm x (part trades f firm.count on) gain)
+TellsGain firms trades on prices f x None =
+    IsFirmWith firms f (λ firm. (firm.worth (part trades f firm.count on) ≡ None) ⊎ (firm.worth x ≡ None))
 
 -- what it costs to go round, or the first node without an arc to the one after it
 abbrev pub Rounds : (ℕ → ℕ → Option ℤ) → List ℕ → Result ℤ ℕ → Type 0

@@ -31,24 +31,30 @@ pub record IsOffered (contracts : List Contract) (left_out : Option ℕ) (t k : 
   pub kept : left_out ≢ Some k
 
 -- of the first n contracts that one with index `at` has the best price for trade t
-pub record IsTerm (contracts : List Contract) (left_out : Option ℕ) (t : ℕ) (buys : Bool) (n : ℕ) (price : ℤ) (at : ℕ) : Type 0 where
+pub record IsTerm (contracts : List Contract) (left_out : Option ℕ) (t : ℕ) (buys : Bool) (n : ℕ) (price : ℤ)
+    (at : ℕ) : Type 0 where
   pub below : at < n
   pub contract : Contract
   pub offered : IsOffered contracts left_out t at contract
   pub price_is : contract.price ≡ price
-  pub best : (k : ℕ) (other : Contract) → k < n → IsOffered contracts left_out t k other → IsAsGood buys price other.price
+  pub best : (k : ℕ) (other : Contract) → k < n → IsOffered contracts left_out t k other
+      → IsAsGood buys price other.price
 
 -- the best price for trade t among the first n contracts, none where none of them is on it
 abbrev pub FindsTerm : List Contract → Option ℕ → ℕ → Bool → ℕ → Option ℤ → Type 0
 FindsTerm contracts left_out t buys n (Some price) = (at : ℕ) × IsTerm contracts left_out t buys n price at
-FindsTerm contracts left_out t buys n None = (k : ℕ) (other : Contract) → k < n → IsOffered contracts left_out t k other → ⊥
+FindsTerm contracts left_out t buys n None = (k : ℕ) (other : Contract) → k < n → IsOffered contracts left_out t k other
+    → ⊥
 
 -- the first n positions of firm f at which a contract is offered, with the best price at each of them, 0 elsewhere
-pub record HasTerms (trades : List Ends) (contracts : List Contract) (left_out : Option ℕ) (f n free : ℕ) (prices : List ℤ) : Type 0 where
+pub record HasTerms (trades : List Ends) (contracts : List Contract) (left_out : Option ℕ) (f n free : ℕ)
+    (prices : List ℤ) : Type 0 where
   pub within : free < 2 ^ n
   pub counted : length prices ≡ most_own
   pub small : All (λ price. IsAtMost price most_asked_price) prices
   pub at : ℕ → ℕ
   pub terms : (k : ℕ) → k < n → has free k ≡ true
-      → IsTerm contracts left_out (own trades f k) (is_bought trades f (own trades f k)) (length contracts) (price_at prices k) (at k)
-  pub none : (k : ℕ) → k < n → has free k ≡ false → (j : ℕ) (other : Contract) → IsOffered contracts left_out (own trades f k) j other → ⊥
+      → IsTerm contracts left_out (own trades f k) (is_bought trades f (own trades f k)) (length contracts)
+      (price_at prices k) (at k)
+  pub none : (k : ℕ) → k < n → has free k ≡ false → (j : ℕ) (other : Contract)
+      → IsOffered contracts left_out (own trades f k) j other → ⊥

@@ -13,8 +13,8 @@ use crate::least::earlier;
 use crate::terms::terms_of;
 use tn_market::{Contracts, Ends, Market, Oracle, Room};
 
-/// The greatest utility that firm `f` has by a part of the contracts without the one that is left out. The search begins
-/// at all of these. It takes no memory.
+/// The greatest utility that firm `f` has by a part of the contracts without the one that is left out. The search
+/// begins at all of these. It takes no memory.
 fn greatest_utility<V: Oracle>(
     market: &Market<V>,
     contracts: &Contracts,
@@ -29,7 +29,8 @@ fn greatest_utility<V: Oracle>(
     requires small { All (λ contract. IsAtMost contract.price most_asked_price) contracts.now }
     requires from_one { pos 1 ≤ℤ scale }
     requires small_scale { scale ≤ℤ pos most_scale }
-    ensures greatest { (v : V) → slice_get market.now.firms f ≡ Some v → IsGreatest market.now.trades scale f (V.firm v) contracts.now left_out result }
+    ensures greatest { (v : V) → slice_get market.now.firms f ≡ Some v
+        → IsGreatest market.now.trades scale f (V.firm v) contracts.now left_out result }
     ensures size { IsAtMost result most_utility }
 {
     let terms = terms_of(market, contracts, left_out, f);
@@ -54,7 +55,8 @@ fn may_leave<V: Oracle>(
     requires small { All (λ contract. IsAtMost contract.price most_asked_price) contracts.now }
     requires from_one { pos 1 ≤ℤ scale }
     requires small_scale { scale ≤ℤ pos most_scale }
-    ensures { (v : V) → slice_get market.now.firms f ≡ Some v → DecidesLeave market.now.trades scale f (V.firm v) contracts.now k result }
+    ensures { (v : V) → slice_get market.now.firms f ≡ Some v
+        → DecidesLeave market.now.trades scale f (V.firm v) contracts.now k result }
 {
     let best = greatest_utility(market, contracts, scale, None, f, room);
     best == greatest_utility(market, contracts, scale, Some(k), f, room)
@@ -84,14 +86,15 @@ fn leaves<V: Oracle>(
     requires inside { k < length contracts.now }
     requires from_one { pos 1 ≤ℤ scale }
     requires small_scale { scale ≤ℤ pos most_scale }
-    ensures { (v : V) → slice_get market.now.firms f ≡ Some v → DecidesOwn market.now.trades scale f (V.firm v) contracts.now k result }
+    ensures { (v : V) → slice_get market.now.firms f ≡ Some v
+        → DecidesOwn market.now.trades scale f (V.firm v) contracts.now k result }
 {
     let trade = contracts.at(k).trade;
     is_end(f, market.ends(trade)) && may_leave(market, contracts, scale, k, f, room)
 }
 
-/// The first trade of those of the first `n` contracts that are contracts of firm `f` and that some choice of it lacks. It
-/// takes no memory.
+/// The first trade of those of the first `n` contracts that are contracts of firm `f` and that some choice of it lacks.
+/// It takes no memory.
 pub(crate) fn first_left<V: Oracle>(
     market: &Market<V>,
     contracts: &Contracts,
@@ -108,7 +111,8 @@ pub(crate) fn first_left<V: Oracle>(
     requires first { n ≤ length contracts.now }
     requires from_one { pos 1 ≤ℤ scale }
     requires small_scale { scale ≤ℤ pos most_scale }
-    ensures { (v : V) → slice_get market.now.firms f ≡ Some v → FindsLeft market.now.trades scale f (V.firm v) contracts.now n result }
+    ensures { (v : V) → slice_get market.now.firms f ≡ Some v
+        → FindsLeft market.now.trades scale f (V.firm v) contracts.now n result }
 {
     let mut first = None;
     for k in 0..n {

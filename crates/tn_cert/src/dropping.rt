@@ -62,9 +62,11 @@ fn utility_held<V: Oracle>(
     requires limits { IsWithinLimits V.firm V.limit market.now }
     requires outcome { IsOutcomeOf market.now.trades outcome.now.over outcome.now.contracts }
     requires firm { f < length market.now.firms }
-    requires held { (v : V) → slice_get market.now.firms f ≡ Some v → HoldsSigned market.now.trades outcome.now.contracts f (V.firm v).count held.now.signed held.now.prices }
+    requires held { (v : V) → slice_get market.now.firms f ≡ Some v
+        → HoldsSigned market.now.trades outcome.now.contracts f (V.firm v).count held.now.signed held.now.prices }
     requires own { (v : V) → slice_get market.now.firms f ≡ Some v → x < 2 ^ (V.firm v).count }
-    ensures value { (v : V) → slice_get market.now.firms f ≡ Some v → result ≡ contract_utility market.now.trades outcome.now.over outcome.now.contracts f (V.firm v) x }
+    ensures value { (v : V) → slice_get market.now.firms f ≡ Some v
+        → result ≡ contract_utility market.now.trades outcome.now.over outcome.now.contracts f (V.firm v) x }
     ensures small { IfSome result (λ value. IsAtMost value most_utility) }
 {
     let firm = market.firm(f);

@@ -15,8 +15,8 @@ use tn_base::{OutOfMemory, TradeSet};
 use tn_market::{Arrangement, Claim, Market, Oracle, Prices, Reason, Room};
 use tn_price::{Check, judge_at, trades_in};
 
-/// The surplus of an equilibrium at a scale, or the first firm without a best bundle, as the reason against one. It fails
-/// only where memory runs out.
+/// The surplus of an equilibrium at a scale, or the first firm without a best bundle, as the reason against one. It
+/// fails only where memory runs out.
 fn weigh<V: Oracle>(
     alloc: Global,
     market: &Market<V>,

@@ -34,7 +34,8 @@ pub(crate) fn positions_in(alloc: Global, bundle: Bundle, count: u32) -> Result<
 pub(crate) fn replay_accepted(alloc: Global, firms: &[RawFirm]) -> Result<Replayed, OutOfMemory>
     requires few_firms { length firms.now ≤ most_firms }
     requires testable { All CanBeTested firms.now }
-    ensures replays { IfOk result (λ replayed. (trades : List Ends) → Replays (map raw_firm_of firms.now) trades Claim.Accepted (in_trades trades replayed)) }
+    ensures replays { IfOk result (λ replayed. (trades : List Ends)
+        → Replays (map raw_firm_of firms.now) trades Claim.Accepted (in_trades trades replayed)) }
     ensures small { IfOk result HasSmallSurplus }
 {
     for (f, firm) in firms.iter().enumerate() {
@@ -52,7 +53,8 @@ pub(crate) fn replay_accepted(alloc: Global, firms: &[RawFirm]) -> Result<Replay
     Ok(Replayed::Valid)
 }
 
-/// Whether two bundles of a firm fail exchange at a position, or at none. Laminar firms, middlemen and dealers never do.
+/// Whether two bundles of a firm fail exchange at a position, or at none. Laminar firms, middlemen and dealers never
+/// do.
 fn fails(firm: &RawFirm, x: Bundle, y: Bundle, at: Option<u32>) -> bool
     requires x_own { x < 2 ^ (raw_firm_of firm.now).count }
     requires y_own { y < 2 ^ (raw_firm_of firm.now).count }
@@ -73,8 +75,10 @@ pub(crate) fn replay_failure(
     y: Bundle,
     at: Option<u32>,
 ) -> Replayed
-    requires own { IsFirmWith (map raw_firm_of firms.now) firm (λ it. (x < 2 ^ it.count) × (y < 2 ^ it.count) × IfSome at (λ k. k < it.count)) }
-    ensures replays { (trades : List Ends) → Replays (map raw_firm_of firms.now) trades (Claim.ExchangeFails firm x y at) (in_trades trades result) }
+    requires own { IsFirmWith (map raw_firm_of firms.now) firm (λ it. (x < 2 ^ it.count) × (y < 2 ^ it.count)
+        × IfSome at (λ k. k < it.count)) }
+    ensures replays { (trades : List Ends)
+        → Replays (map raw_firm_of firms.now) trades (Claim.ExchangeFails firm x y at) (in_trades trades result) }
     ensures small { HasSmallSurplus result }
 {
     if fails(&firms[firm as usize], x, y, at) {

@@ -1,3 +1,5 @@
+//! What a firm gains by another bundle.
+
 ghost use Rattle.std.specs.Prelude.{◌≡◌, ◌-ℤ◌, IfSome, option_map};
 ghost use Rattle.tn_base.specs.Arcs.{IsAtMost};
 ghost use Rattle.tn_cert.specs.Outcomes.{DecidesGain};

@@ -1,3 +1,5 @@
+//! Laws of claims: what refutes one, and what a plan in parts says of prices.
+
 ghost use Rattle.tn_cert.specs.Plans.{PlansBarPrices};
 ghost use Rattle.tn_cert.specs.RefutedLaw.{RefutedIsNotValid};
 

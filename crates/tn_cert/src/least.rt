@@ -1,3 +1,5 @@
+//! The least of trades that are found one after another.
+
 ghost use Rattle.std.specs.Prelude.{◌≡◌};
 ghost use Rattle.tn_cert.specs.Least.{earlier};
 

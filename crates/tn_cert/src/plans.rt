@@ -62,12 +62,13 @@ fn first_above(count: u32, plan: &Parts, over: i128) -> Option<u32>
     None
 }
 
-/// What a part adds to the worth of firm `f`: its weight times the worth of its bundle, and nothing for a part of another
-/// firm. None where its bundle is impossible.
+/// What a part adds to the worth of firm `f`: its weight times the worth of its bundle, and nothing for a part of
+/// another firm. None where its bundle is impossible.
 fn part_worth(firm: &RawFirm, part: Part, f: u32) -> Option<i128>
     requires weighed { IsOverWithin part.weight }
     requires own { part.firm ≡ f → part.bundle < 2 ^ (raw_firm_of firm.now).count }
-    ensures worth { result ≡ (if part.firm == f then option_map (λ worth. part.weight *ℤ worth) ((raw_firm_of firm.now).worth part.bundle) else Some (pos 0)) }
+    ensures worth { result ≡ (if part.firm == f
+        then option_map (λ worth. part.weight *ℤ worth) ((raw_firm_of firm.now).worth part.bundle) else Some (pos 0)) }
     ensures small { IfSome result (λ worth. IsAtMost worth most_weighed_worth) }
 {
     if part.firm != f {
@@ -83,7 +84,8 @@ fn part_worth(firm: &RawFirm, part: Part, f: u32) -> Option<i128>
 fn parts_worth(firm: &RawFirm, plan: &Parts, f: u32) -> Option<i128>
     requires few { length plan.now ≤ most_parts }
     requires weighed { All (λ part. IsOverWithin part.weight) plan.now }
-    requires own { (k : ℕ) (part : Part) → slice_get plan.now k ≡ Some part → part.firm ≡ f → part.bundle < 2 ^ (raw_firm_of firm.now).count }
+    requires own { (k : ℕ) (part : Part) → slice_get plan.now k ≡ Some part → part.firm ≡ f
+        → part.bundle < 2 ^ (raw_firm_of firm.now).count }
     ensures worth { FindsWorth plan.now f (raw_firm_of firm.now) result }
     ensures small { IfSome result (λ worth. IsAtMost worth (most_parts * most_weighed_worth)) }
 {
@@ -143,7 +145,8 @@ fn rest_worth(firm: &RawFirm, plan: &Parts, f: u32, over: i128) -> i128
 fn planned_worth(firm: &RawFirm, plan: &Parts, f: u32, over: i128) -> Option<i128>
     requires few { length plan.now ≤ most_parts }
     requires weighed { All (λ part. IsOverWithin part.weight) plan.now }
-    requires own { (k : ℕ) (part : Part) → slice_get plan.now k ≡ Some part → part.firm ≡ f → part.bundle < 2 ^ (raw_firm_of firm.now).count }
+    requires own { (k : ℕ) (part : Part) → slice_get plan.now k ≡ Some part → part.firm ≡ f
+        → part.bundle < 2 ^ (raw_firm_of firm.now).count }
     requires over { IsOverWithin over }
     ensures worth { FindsPlanned plan.now over f (raw_firm_of firm.now) result }
     ensures small { IfSome result (λ worth. IsAtMost worth most_planned_worth) }
@@ -316,7 +319,8 @@ pub(crate) fn replay_plan(
     requires few { length plan.now ≤ most_parts }
     requires within { All (IsPartWithin (map raw_firm_of firms.now)) plan.now }
     requires over { IsOverWithin over }
-    ensures replays { IfOk result (λ replayed. Replays (map raw_firm_of firms.now) ends.now (Claim.NoPrices plan.now over) (in_trades ends.now replayed)) }
+    ensures replays { IfOk result (λ replayed. Replays (map raw_firm_of firms.now) ends.now
+        (Claim.NoPrices plan.now over) (in_trades ends.now replayed)) }
     ensures small { IfOk result HasSmallSurplus }
 {
     if let Some(firm) = first_above(firms.len() as u32, plan, over) {

@@ -1,3 +1,5 @@
+//! Contracts of a claim and of an outcome over one denominator.
+
 ghost use Rattle.std.specs.Prelude.{◌≡◌, ◌++◌, ◌≤◌, pos, ◌*ℤ◌, ◌≤ℤ◌, length, All, IfOk};
 ghost use Rattle.tn_base.specs.Arcs.{IsAtMost};
 ghost use Rattle.tn_plain_data.specs.Choices.{counted, together};

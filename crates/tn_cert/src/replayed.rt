@@ -1,3 +1,5 @@
+//! What the replay of a claim says.
+
 use tn_market::Reason;
 
 /// What the replay of a claim says.

@@ -36,9 +36,9 @@ pub fn is_raw(claim: &Claim) -> bool
     )
 }
 
-/// Replays a claim on a market: it is valid exactly where no condition of it fails, and otherwise this is the first that
-/// does. It fails only where memory runs out. The claim is none on firms that aren't tested yet and within the limits of
-/// claims, and the market is within the limits of firms and has at most 128 trades.
+/// Replays a claim on a market: it is valid exactly where no condition of it fails, and otherwise this is the first
+/// that does. It fails only where memory runs out. The claim is none on firms that aren't tested yet and within the
+/// limits of claims, and the market is within the limits of firms and has at most 128 trades.
 pub fn replay<V: Oracle>(
     alloc: Global,
     market: &Market<V>,
@@ -87,8 +87,8 @@ pub fn replay<V: Oracle>(
 
 /// Replays a claim on firms that aren't tested yet, of which a table of more than 10 trades has every bundle: of their
 /// exchange property, or that there are no prices. Trades of a triple in its reason are positions of the firm. It fails
-/// only where memory runs out. There are at most 1,024 firms, which fit together with the trades, and the claim is within
-/// the limits of claims: where it is a plan, there are at most 20 trades.
+/// only where memory runs out. There are at most 1,024 firms, which fit together with the trades, and the claim is
+/// within the limits of claims: where it is a plan, there are at most 20 trades.
 pub fn replay_raw(
     alloc: Global,
     firms: &[RawFirm],
@@ -100,7 +100,8 @@ pub fn replay_raw(
     requires network { IsNetwork (map raw_firm_of firms.now) ends.now }
     requires within { IsClaimWithin (map raw_firm_of firms.now) ends.now claim.now }
     requires kind { is_raw claim.now ≡ true }
-    ensures replays { IfOk result (λ replayed. Replays (map raw_firm_of firms.now) ends.now claim.now (in_trades ends.now replayed)) }
+    ensures replays { IfOk result (λ replayed. Replays (map raw_firm_of firms.now) ends.now claim.now
+        (in_trades ends.now replayed)) }
     ensures small { IfOk result HasSmallSurplus }
 {
     match claim {

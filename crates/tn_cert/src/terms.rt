@@ -51,7 +51,8 @@ pub(crate) fn terms_of<V: Valuation>(
     requires limits { IsWithinLimits V.firm V.limit market.now }
     requires firm { f < length market.now.firms }
     requires small { All (λ contract. IsAtMost contract.price most_asked_price) contracts.now }
-    ensures { (v : V) → slice_get market.now.firms f ≡ Some v → HasTerms market.now.trades contracts.now left_out f (V.firm v).count result.free result.prices }
+    ensures { (v : V) → slice_get market.now.firms f ≡ Some v
+        → HasTerms market.now.trades contracts.now left_out f (V.firm v).count result.free result.prices }
 {
     let mut free = Bundle::empty();
     let mut prices = [0; MOST_OWN];

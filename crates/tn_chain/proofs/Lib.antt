@@ -1,3 +1,4 @@
+-- The files of lemmas of this crate.
 pub mod MoveLemmas
 pub mod CostLemmas
 pub mod SeenLemmas

@@ -40,34 +40,47 @@ both_sizes contracts (suc n) = by_case (is_signed contracts n) (both_sizes contr
   where
     by_case : (s : Bool) → size (signed n contracts) + size (unsigned n contracts) ≡ n
         → size (if s then toggle (set_of (is_signed contracts) n) n else set_of (is_signed contracts) n)
-        + size (if not s then toggle (set_of (λ t. not (is_signed contracts t)) n) n else set_of (λ t. not (is_signed contracts t)) n) ≡ suc n
+        + size (if not s then toggle (set_of (λ t. not (is_signed contracts t)) n) n
+        else set_of (λ t. not (is_signed contracts t)) n) ≡ suc n
     by_case true rest =
-        let more = size-toggle_in (set_of (is_signed contracts) n) n (has_above (set_of (is_signed contracts) n) n n (set_of_within (is_signed contracts) n) (omega arith)) in
+        let more = size-toggle_in (set_of (is_signed contracts) n) n
+        (has_above (set_of (is_signed contracts) n) n n (set_of_within (is_signed contracts) n) (omega arith)) in
         omega (arith, rest, more)
     by_case false rest =
-        let more = size-toggle_in (set_of (λ t. not (is_signed contracts t)) n) n (has_above (set_of (λ t. not (is_signed contracts t)) n) n n (set_of_within (λ t. not (is_signed contracts t)) n) (omega arith)) in
+        let more = size-toggle_in (set_of (λ t. not (is_signed contracts t)) n) n
+        (has_above (set_of (λ t. not (is_signed contracts t)) n) n n
+        (set_of_within (λ t. not (is_signed contracts t)) n) (omega arith)) in
         omega (arith, rest, more)
 
 -- there are at most as many contracts as signed trades
-contracts_signed : (trades : List Ends) (contracts : List Contract) → IsFeasible trades contracts → length contracts ≤ size (signed (length trades) contracts)
+contracts_signed : (trades : List Ends) (contracts : List Contract) → IsFeasible trades contracts
+    → length contracts ≤ size (signed (length trades) contracts)
 contracts_signed trades contracts feasible =
-    let counted = few (length trades) (map (λ (c : Contract). c.trade) contracts) (signed (length trades) contracts) different (λ k v is below. member k v is) in
+    let counted =
+    few (length trades) (map (λ (c : Contract). c.trade) contracts) (signed (length trades) contracts) different
+    (λ k v is below. member k v is) in
     let all = visits-all (length trades) (map (λ (c : Contract). c.trade) contracts) (λ k v is. (found k v is).2) in
-    let mapped : length (map (λ (c : Contract). c.trade) contracts) ≡ length contracts = length-map contracts (λ (c : Contract). c.trade) in
+    let mapped : length (map (λ (c : Contract). c.trade) contracts) ≡ length contracts =
+    length-map contracts (λ (c : Contract). c.trade) in
     omega (arith, counted, all, mapped)
   where
-    found : (k v : ℕ) → slice_get (map (λ (c : Contract). c.trade) contracts) k ≡ Some v → (contract : Contract) × (slice_get contracts k ≡ Some contract) × (v < length trades) × (contract.trade ≡ v)
+    found : (k v : ℕ) → slice_get (map (λ (c : Contract). c.trade) contracts) k ≡ Some v → (contract : Contract)
+        × (slice_get contracts k ≡ Some contract) × (v < length trades) × (contract.trade ≡ v)
     found k v is = by (slice_get contracts k) refl (sym (slice_get-map (λ (c : Contract). c.trade) contracts k) ∙ is)
       where
         by : (o : Option Contract) → slice_get contracts k ≡ o → option_map (λ (c : Contract). c.trade) o ≡ Some v
-            → (contract : Contract) × (slice_get contracts k ≡ Some contract) × (v < length trades) × (contract.trade ≡ v)
+            → (contract : Contract) × (slice_get contracts k ≡ Some contract) × (v < length trades)
+            × (contract.trade ≡ v)
         by None there e = absurd (cc e)
-        by (Some contract) there e = let same = same_Some contract.trade v e in let known = feasible.known k contract there in (contract, there, omega (arith, same, known), same)
+        by (Some contract) there e = let same = same_Some contract.trade v e in let known =
+            feasible.known k contract there in (contract, there, omega (arith, same, known), same)
 
     different : AreDifferent (map (λ (c : Contract). c.trade) contracts)
-    different j k v j_is k_is = let one = found j v j_is in let other = found k v k_is in feasible.once j k one.0 other.0 one.1 other.1 (one.3 ∙ sym other.3)
+    different j k v j_is k_is = let one = found j v j_is in let other = found k v k_is in
+        feasible.once j k one.0 other.0 one.1 other.1 (one.3 ∙ sym other.3)
 
-    member : (k v : ℕ) → slice_get (map (λ (c : Contract). c.trade) contracts) k ≡ Some v → has (signed (length trades) contracts) v ≡ true
+    member : (k v : ℕ) → slice_get (map (λ (c : Contract). c.trade) contracts) k ≡ Some v
+        → has (signed (length trades) contracts) v ≡ true
     member k v is =
         let one = found k v is in
         has-set_of (is_signed contracts) (length trades) v
@@ -86,37 +99,58 @@ made_few g trades contracts feasible =
     omega (arith, parts, halves, free, counted, both, some)
 
 -- its worths are small enough to solve it
-pub made_small : (over : ℤ) (g : ℕ) (trades : List Ends) (contracts : List Contract) → IsFeasible trades contracts → length trades ≤ most_judged_trades → pos 1 ≤ℤ over → over ≤ℤ pos most_over
-    → 2 * residual_limit (over *ℤ chain_scale (length trades) contracts) * (length (residual_trades g trades contracts) + 1) < most_cost
+pub made_small : (over : ℤ) (g : ℕ) (trades : List Ends) (contracts : List Contract) → IsFeasible trades contracts
+    → length trades ≤ most_judged_trades → pos 1 ≤ℤ over → over ≤ℤ pos most_over
+    → 2 * residual_limit (over *ℤ chain_scale (length trades) contracts) * (length (residual_trades g trades contracts)
+    + 1) < most_cost
 made_small over g trades contracts feasible few_trades low high =
-    by (unsigned_abs (over *ℤ chain_scale (length trades) contracts)) (size (unsigned (length trades) contracts)) (length (residual_trades g trades contracts))
-    (made_few g trades contracts feasible) (let both = both_sizes contracts (length trades) in omega (arith, both, few_trades))
-    (abs_small (over *ℤ chain_scale (length trades) contracts) (100 * (2 * size (unsigned (length trades) contracts) + 1))
+    by (unsigned_abs (over *ℤ chain_scale (length trades) contracts)) (size (unsigned (length trades) contracts))
+    (length (residual_trades g trades contracts))
+    (made_few g trades contracts feasible) (let both = both_sizes contracts (length trades) in
+    omega (arith, both, few_trades))
+    (abs_small (over *ℤ chain_scale (length trades) contracts)
+    (100 * (2 * size (unsigned (length trades) contracts) + 1))
     (times_small over (chain_scale (length trades) contracts) 100 (2 * size (unsigned (length trades) contracts) + 1)
-    (record { low = omega (arith, ints, low); high = high }) (record { low = omega (arith, ints); high = omega (arith, ints) })))
+    (record { low = omega (arith, ints, low); high = high }) (record {
+      low = omega (arith, ints);
+      high =
+          omega (arith, ints);
+    })))
   where
-    by : (s m l : ℕ) → l + m ≤ 2 * length trades → m ≤ most_judged_trades → s ≤ 100 * (2 * m + 1) → 2 * (s * most_worth + 64) * (l + 1) < most_cost
+    by : (s m l : ℕ) → l + m ≤ 2 * length trades → m ≤ most_judged_trades → s ≤ 100 * (2 * m + 1)
+        → 2 * (s * most_worth + 64) * (l + 1) < most_cost
     by s m l made most scale = elim (cases_lt m 65) [
       | inl low_m ↦
-          let product = mul-le (2 * (s * most_worth + 64)) (l + 1) (2 * (12900 * most_worth + 64)) 257 (omega (arith, scale, low_m)) (omega (arith, made, few_trades)) in
+          let product =
+          mul-le (2 * (s * most_worth + 64)) (l + 1) (2 * (12900 * most_worth + 64)) 257
+          (omega (arith, scale, low_m)) (omega (arith, made, few_trades)) in
           omega (arith, product)
       | inr high_m ↦
-          let product = mul-le (2 * (s * most_worth + 64)) (l + 1) (2 * (25700 * most_worth + 64)) 192 (omega (arith, scale, most)) (omega (arith, made, few_trades, high_m)) in
+          let product =
+          mul-le (2 * (s * most_worth + 64)) (l + 1) (2 * (25700 * most_worth + 64)) 192
+          (omega (arith, scale, most)) (omega (arith, made, few_trades, high_m)) in
           omega (arith, product)
     ]
 
 -- a price of a list of small prices
-pub price_small : (prices : List ℤ) (bound : ℕ) → AreSmallPrices bound prices → bound < most_cost → (t : ℕ) → IsAtMost (price_at prices t) (most_number - 1)
+pub price_small : (prices : List ℤ) (bound : ℕ) → AreSmallPrices bound prices → bound < most_cost → (t : ℕ)
+    → IsAtMost (price_at prices t) (most_number - 1)
 price_small prices bound small below t = elim (slice_get_cases prices t).1 [
   | inl found ↦ wider (get_or prices t (pos 0)) (small t (pos 0) found.1)
-  | inr past ↦ subst (λ (z : ℤ). IsAtMost z (most_number - 1)) (sym (get_or_past prices t (pos 0) past.0)) (record { low = omega (arith, ints); high = omega (arith, ints) })
+  | inr past ↦
+      subst (λ (z : ℤ). IsAtMost z (most_number - 1)) (sym (get_or_past prices t (pos 0) past.0)) (record {
+        low =
+            omega (arith, ints);
+        high = omega (arith, ints);
+      })
 ]
   where
     wider : (z : ℤ) → IsAtMost z bound → IsAtMost z (most_number - 1)
     wider z h = record { low = omega (arith, ints, h.low, below); high = omega (arith, ints, h.high, below) }
 
 -- and it has at least the unsigned trades
-pub made_more : (g : ℕ) (trades : List Ends) (contracts : List Contract) → size (unsigned (length trades) contracts) ≤ length (residual_trades g trades contracts)
+pub made_more : (g : ℕ) (trades : List Ends) (contracts : List Contract)
+    → size (unsigned (length trades) contracts) ≤ length (residual_trades g trades contracts)
 made_more g trades contracts =
     let parts = length-append (unsigned_from contracts 0 trades) (halves_from trades g contracts) in
     let free = numbers_all contracts 0 trades in
@@ -124,33 +158,49 @@ made_more g trades contracts =
     omega (arith, parts, free, counted)
 
 -- the scale is small
-pub scale_bound : (over : ℤ) (n : ℕ) (contracts : List Contract) → n ≤ most_judged_trades → pos 1 ≤ℤ over → over ≤ℤ pos most_over → IsAtMost (over *ℤ chain_scale n contracts) (most_over * (2 * most_judged_trades + 1))
+pub scale_bound : (over : ℤ) (n : ℕ) (contracts : List Contract) → n ≤ most_judged_trades → pos 1 ≤ℤ over
+    → over ≤ℤ pos most_over → IsAtMost (over *ℤ chain_scale n contracts) (most_over * (2 * most_judged_trades + 1))
 scale_bound over n contracts few_trades low high =
     let both = both_sizes contracts n in
-    times_small over (chain_scale n contracts) most_over (2 * most_judged_trades + 1) (record { low = omega (arith, ints, low); high = high })
+    times_small over (chain_scale n contracts) most_over (2 * most_judged_trades + 1) (record {
+      low =
+          omega (arith, ints, low);
+      high = high;
+    })
     (record { low = omega (arith, ints); high = omega (arith, ints, both, few_trades) })
 
-pub scale_small : (over : ℤ) (n : ℕ) (contracts : List Contract) → n ≤ most_judged_trades → pos 1 ≤ℤ over → over ≤ℤ pos most_over → (over *ℤ chain_scale n contracts) ≤ℤ pos most_claimed_over
-scale_small over n contracts few_trades low high = let most = (scale_bound over n contracts few_trades low high).high in omega (arith, ints, most)
+pub scale_small : (over : ℤ) (n : ℕ) (contracts : List Contract) → n ≤ most_judged_trades → pos 1 ≤ℤ over
+    → over ≤ℤ pos most_over → (over *ℤ chain_scale n contracts) ≤ℤ pos most_claimed_over
+scale_small over n contracts few_trades low high = let most = (scale_bound over n contracts few_trades low high).high in
+    omega (arith, ints, most)
 
 -- a residual market of an outcome within the limits is one that can be solved
-pub is_residual : {P : Type 0} (firm_of : P → Firm) (limit_of : P → ℕ) (firms : List Firm) (count : ℕ) (trades : List Ends) (over : ℤ) (contracts : List Contract) (scale : ℤ) → count ≡ length firms
-    → length trades ≤ most_judged_trades → IsOutcomeOf trades over contracts → scale ≡ chain_scale (length trades) contracts → (residual : Traded P)
-    → map firm_of residual.firms ≡ residual_of firms trades over contracts scale (pos 1) → residual.trades ≡ residual_trades count trades contracts
-    → All (λ party. limit_of party ≤ residual_limit (over *ℤ scale)) residual.firms → IsResidual firm_of limit_of firms trades over contracts residual
-is_residual {P} firm_of limit_of firms count trades over contracts scale count_is few_trades outcome scale_is residual parties ends limits = record {
-  parties = parties ∙ ap (λ (s : ℤ). residual_of firms trades over contracts s (pos 1)) scale_is;
-  ends = all_ends;
-  limits = λ f party is.
-      subst (λ (s : ℤ). limit_of party ≤ residual_limit (over *ℤ s)) scale_is
-      (subst (λ (p : P). limit_of p ≤ residual_limit (over *ℤ scale)) (get_or_from_slice_get residual.firms f party party is) (limits f party (slice_get_within residual.firms f party is)));
-  few =
-      let size_is = ap length all_ends in
-      let most = made_few (length firms) trades contracts feasible in
-      omega (arith, size_is, most, few_trades);
-  small = subst (λ (ts : List Ends). 2 * residual_limit (over *ℤ chain_scale (length trades) contracts) * (length ts + 1) < most_cost) (sym all_ends)
-      (made_small over (length firms) trades contracts feasible few_trades outcome.least outcome.most);
-}
+pub is_residual : {P : Type 0} (firm_of : P → Firm) (limit_of : P
+    → ℕ) (firms : List Firm) (count : ℕ) (trades : List Ends) (over : ℤ) (contracts : List Contract) (scale : ℤ)
+    → count ≡ length firms
+    → length trades ≤ most_judged_trades → IsOutcomeOf trades over contracts
+    → scale ≡ chain_scale (length trades) contracts → (residual : Traded P)
+    → map firm_of residual.firms ≡ residual_of firms trades over contracts scale (pos 1)
+    → residual.trades ≡ residual_trades count trades contracts
+    → All (λ party. limit_of party ≤ residual_limit (over *ℤ scale)) residual.firms
+    → IsResidual firm_of limit_of firms trades over contracts residual
+is_residual {P} firm_of limit_of firms count trades over contracts scale count_is few_trades outcome scale_is residual
+    parties ends limits = record {
+      parties = parties ∙ ap (λ (s : ℤ). residual_of firms trades over contracts s (pos 1)) scale_is;
+      ends = all_ends;
+      limits = λ f party is.
+          subst (λ (s : ℤ). limit_of party ≤ residual_limit (over *ℤ s)) scale_is
+          (subst (λ (p : P). limit_of p ≤ residual_limit (over *ℤ scale))
+          (get_or_from_slice_get residual.firms f party party is)
+          (limits f party (slice_get_within residual.firms f party is)));
+      few =
+          let size_is = ap length all_ends in
+          let most = made_few (length firms) trades contracts feasible in
+          omega (arith, size_is, most, few_trades);
+      small = subst (λ (ts : List Ends). 2 * residual_limit (over *ℤ chain_scale (length trades) contracts) * (length ts
+          + 1) < most_cost) (sym all_ends)
+          (made_small over (length firms) trades contracts feasible few_trades outcome.least outcome.most);
+    }
   where
     feasible : IsFeasible trades contracts
     feasible = outcome_feasible trades over contracts outcome

@@ -21,24 +21,31 @@ use Rattle.tn_chain.proofs.SeenLemmas.{seen}
 use Rattle.tn_chain.proofs.NumberLemmas.{numbers_admit, numbers_all, unsigned_size}
 use Rattle.tn_chain.proofs.SizeLemmas.{price_small}
 
-pub free_is : (trades : List Ends) (contracts : List Contract) (free : ℕ) → free ≡ size (unsigned (length trades) contracts) → free ≡ free_count trades contracts
+pub free_is : (trades : List Ends) (contracts : List Contract) (free : ℕ)
+    → free ≡ size (unsigned (length trades) contracts) → free ≡ free_count trades contracts
 free_is trades contracts free is = is ∙ unsigned_size contracts (length trades) ∙ numbers_all contracts 0 trades
 
 -- what is admitted is one of the trades
-pub admitted_below : (contracts : List Contract) (set n numbers from to all : ℕ) → AreNumbers contracts set n numbers → AreNumbersUpTo numbers from to all → from ≤ to
+pub admitted_below : (contracts : List Contract) (set n numbers from to all : ℕ) → AreNumbers contracts set n numbers
+    → AreNumbersUpTo numbers from to all → from ≤ to
     → ((s : ℕ) → from ≤ s → has numbers s ≡ false) → (t : ℕ) → has all t ≡ true → t < to
 admitted_below contracts set n numbers from to all are up order none t there = elim (cases_lt t to) [
   | inl below ↦ below
   | inr past ↦ absurd (true≢false (sym there ∙ up.none t (omega (arith, order, past)) past))
 ]
 
-pub solved_among : {P : Type 0} (firm_of : P → Firm) (limit_of : P → ℕ) (firms : List Firm) (trades : List Ends) (over : ℤ) (contracts : List Contract) (residual : Traded P)
+pub solved_among : {P : Type 0} (firm_of : P → Firm) (limit_of : P
+    → ℕ) (firms : List Firm) (trades : List Ends) (over : ℤ) (contracts : List Contract) (residual : Traded P)
     (allowed free numbers all : ℕ) (solution : Solution) → IsNetwork firms trades → IsFeasible trades contracts → ((f : ℕ) (firm : Firm) → slice_get firms f ≡ Some firm → HasOwnBundles firm)
-    → IsResidual firm_of limit_of firms trades over contracts residual → free ≡ size (unsigned (length trades) contracts) → AreNumbers contracts allowed (length trades) numbers
-    → AreNumbersUpTo numbers free (length residual.trades) all → IsSolution (map firm_of residual.firms) residual.trades all solution
-    → ((bound : ℕ) → ((f : ℕ) (party : P) → slice_get residual.firms f ≡ Some party → limit_of party ≤ bound) → AreSmallPrices (2 * bound * length residual.trades) solution.prices)
+    → IsResidual firm_of limit_of firms trades over contracts residual
+    → free ≡ size (unsigned (length trades) contracts) → AreNumbers contracts allowed (length trades) numbers
+    → AreNumbersUpTo numbers free (length residual.trades) all
+    → IsSolution (map firm_of residual.firms) residual.trades all solution
+    → ((bound : ℕ) → ((f : ℕ) (party : P) → slice_get residual.firms f ≡ Some party → limit_of party ≤ bound)
+    → AreSmallPrices (2 * bound * length residual.trades) solution.prices)
     → IsSolvedAmong firms trades over contracts allowed solution
-solved_among firm_of limit_of firms trades over contracts residual allowed free numbers all solution network feasible own_bundles is_residual free_size are up is_solution within =
+solved_among firm_of limit_of firms trades over contracts residual allowed free numbers all solution network feasible
+    own_bundles is_residual free_size are up is_solution within =
     let z : Setting = record {
       firms = firms;
       trades = trades;
@@ -50,16 +57,22 @@ solved_among firm_of limit_of firms trades over contracts residual allowed free 
       feasible = feasible;
       own_bundles = own_bundles;
     } in
-    let first = subst (λ (fs : List Firm). IsSolution fs residual.trades all solution) is_residual.parties is_solution in
-    let second : IsSolution (parties z) (made z) all solution = subst (λ (ts : List Ends). IsSolution (parties z) ts all solution) is_residual.ends first in
+    let first = subst (λ (fs : List Firm). IsSolution fs residual.trades all solution) is_residual.parties is_solution
+    in
+    let second : IsSolution (parties z) (made z) all solution =
+    subst (λ (ts : List Ends). IsSolution (parties z) ts all solution) is_residual.ends first in
     let halves : AreNumbersUpTo numbers (free_count trades contracts) (length (made z)) all =
     subst (λ (n : ℕ). AreNumbersUpTo numbers n (length (made z)) all) (free_is trades contracts free free_size)
     (subst (λ (ts : List Ends). AreNumbersUpTo numbers free (length ts) all) is_residual.ends up) in
     let limit = residual_limit (over *ℤ chain_scale (length trades) contracts) in
-    let product = mul-le (2 * limit) (length residual.trades) (2 * limit) (length residual.trades + 1) (omega arith) (omega arith) in
+    let product =
+    mul-le (2 * limit) (length residual.trades) (2 * limit) (length residual.trades + 1) (omega arith) (omega arith)
+    in
     let small = is_residual.small in
     record {
-      taxed = seen z refl (omega (arith, ints)) allowed all solution.on (price_at solution.prices) (numbers_admit z allowed numbers all are halves) second.inside second.equilibrium;
+      taxed = seen z refl (omega (arith, ints)) allowed all solution.on (price_at solution.prices)
+          (numbers_admit z allowed numbers all are halves) second.inside second.equilibrium;
       sized = second.one_each;
-      small = price_small solution.prices (2 * limit * length residual.trades) (within limit is_residual.limits) (omega (arith, product, small));
+      small = price_small solution.prices (2 * limit * length residual.trades) (within limit is_residual.limits)
+          (omega (arith, product, small));
     }

@@ -11,9 +11,12 @@ pub record HasNodes (null : ℕ) (listed : List ℕ) (k set : ℕ) : Type 0 wher
   pub only : (t : ℕ) → has set t ≡ true → (t < null) × (j : ℕ) × (j < k) × (slice_get listed j ≡ Some t)
 
 -- one contract for each node from one place on, up to another, at the price of its number
-pub record AreAtNodes (contracts : List Contract) (prices : List ℤ) (listed : List ℕ) (first k : ℕ) (offers : List Contract) : Type 0 where
+pub record AreAtNodes (contracts : List Contract) (prices : List ℤ) (listed : List ℕ) (first k : ℕ)
+    (offers : List Contract) : Type 0 where
   pub counted : first + length offers ≡ k
-  pub each : (j : ℕ) (offer : Contract) → slice_get offers j ≡ Some offer → (slice_get listed (first + j) ≡ Some offer.trade) × (offer.price ≡ price_at prices (number_from contracts 0 offer.trade))
+  pub each : (j : ℕ) (offer : Contract) → slice_get offers j ≡ Some offer
+      → (slice_get listed (first + j) ≡ Some offer.trade)
+      × (offer.price ≡ price_at prices (number_from contracts 0 offer.trade))
 
 -- where the trades of a cycle begin: after null, where it has that
 pub record IsBegin (null : ℕ) (listed : List ℕ) (first : ℕ) : Type 0 where

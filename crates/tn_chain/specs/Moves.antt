@@ -10,7 +10,8 @@ use Rattle.tn_graph.specs.Matrix.{Matrix, arcs_of}
 -- the firm that buys the one trade and sells the other, with the bundle of the two; none where these are two firms, and
 -- for the null node there is nothing to buy or to sell
 abbrev pub move_between : Option Ends → Option Ends → Option (ℕ × ℕ)
-move_between (Some bought) (Some sold) = if bought.buyer == sold.seller then Some (bought.buyer, toggle (toggle 0 bought.at_buyer) sold.at_seller) else None
+move_between (Some bought) (Some sold) = if bought.buyer == sold.seller
+    then Some (bought.buyer, toggle (toggle 0 bought.at_buyer) sold.at_seller) else None
 move_between (Some bought) None = Some (bought.buyer, toggle 0 bought.at_buyer)
 move_between None (Some sold) = Some (sold.seller, toggle 0 sold.at_seller)
 move_between None None = None
@@ -25,6 +26,8 @@ pub record AreWritten (arc : ℕ → ℕ → Option ℤ) (nodes u v : ℕ) (grap
   pub written : (a b : ℕ) → b < nodes → (a < u) ⊎ ((a ≡ u) × (b < v)) → arcs_of graph a b ≡ arc a b
 
 -- the reduced worth of no unsigned trade of each firm
-pub record AreKeptWorths (firms : List Firm) (trades : List Ends) (over : ℤ) (contracts : List Contract) (kept : List (Option ℤ)) : Type 0 where
+pub record AreKeptWorths (firms : List Firm) (trades : List Ends) (over : ℤ) (contracts : List Contract)
+    (kept : List (Option ℤ)) : Type 0 where
   pub counted : length kept ≡ length firms
-  pub each : (f : ℕ) (firm : Firm) → slice_get firms f ≡ Some firm → slice_index_or kept f None ≡ (reduced trades over contracts f firm).worth 0
+  pub each : (f : ℕ) (firm : Firm) → slice_get firms f ≡ Some firm
+      → slice_index_or kept f None ≡ (reduced trades over contracts f firm).worth 0

@@ -34,8 +34,11 @@ fn find_cycle(finder: &mut Finder, graph: &Graph, null: u32, left: &TradeSet<2>)
     requires few { null ≤ most_judged_trades }
     requires graph_sized { graph.now.nodes ≡ null + 1 }
     requires finder_sized { finder.old.nodes ≡ null + 1 }
-    requires broken { (label : ℕ → ℤ) → KeepsArcs (arcs_among (is_admitted null left.now) (arcs_of graph.now)) label → ⊥ }
-    ensures cycle { (cost : ℤ) × IsNegative (null + 1) (arcs_among (is_admitted null left.now) (arcs_of graph.now)) finder.new.listed cost result }
+    requires broken { (label : ℕ → ℤ) → KeepsArcs (arcs_among (is_admitted null left.now) (arcs_of graph.now)) label
+        → ⊥ }
+    ensures cycle { (cost : ℤ)
+        × IsNegative (null + 1) (arcs_among (is_admitted null left.now) (arcs_of graph.now)) finder.new.listed cost
+        result }
     ensures sized { finder.new.nodes ≡ null + 1 }
 {
     let among = Admitted {
@@ -67,7 +70,8 @@ fn solve_among<'a, V: Oracle>(
         outcome.now.over outcome.now.contracts residual.now }
     requires free { free ≡ size (unsigned (length market.now.trades) outcome.now.contracts) }
     requires made_for { length solver.old.prices ≡ length residual.now.trades }
-    ensures solved { network_of V.firm market.now IsSolvedAmong outcome.now.over outcome.now.contracts allowed.now solver.new }
+    ensures solved { network_of V.firm market.now IsSolvedAmong outcome.now.over outcome.now.contracts allowed.now
+        solver.new }
 {
     let count = market.trades();
     let mut numbers = numbers_of(&outcome.contracts, count, allowed);
@@ -94,10 +98,12 @@ fn search<'a, V: Oracle>(
     requires rational { network_of V.firm market.now IsRationalOutcome outcome.now.over outcome.now.contracts }
     requires residual { network_of V.firm market.now (IsResidual ⟦<Party<'a, V> as Valuation>⟧.firm ⟦<Party<'a, V> as Valuation>⟧.limit)
         outcome.now.over outcome.now.contracts residual.now }
-    requires graph { IsExchangeGraph (reduced_firms market.now.trades outcome.now.over outcome.now.contracts (map V.firm market.now.firms)) market.now.trades 0 graph.now }
+    requires graph { IsExchangeGraph (reduced_firms market.now.trades outcome.now.over outcome.now.contracts
+        (map V.firm market.now.firms)) market.now.trades 0 graph.now }
     requires finder_sized { finder.old.nodes ≡ length market.now.trades + 1 }
     requires made_for { length solver.old.prices ≡ length residual.now.trades }
-    requires broken { network_of V.firm market.now HasCycle outcome.now.over outcome.now.contracts (unsigned (length market.now.trades) outcome.now.contracts) }
+    requires broken { network_of V.firm market.now HasCycle outcome.now.over outcome.now.contracts
+        (unsigned (length market.now.trades) outcome.now.contracts) }
     ensures { IfOk result (network_of V.firm market.now IsBlockingChain outcome.now.over outcome.now.contracts) }
 {
     let null = market.trades();
@@ -116,8 +122,8 @@ fn search<'a, V: Oracle>(
     }
 }
 
-/// Twice the number of unsigned trades, and one: the scale at which the taxes on a chain are less than a whole number. It
-/// takes no memory.
+/// Twice the number of unsigned trades, and one: the scale at which the taxes on a chain are less than a whole number.
+/// It takes no memory.
 pub fn chain_scale(contracts: &Contracts, count: u32) -> i128
     requires few { count ≤ most_judged_trades }
     ensures { result ≡ chain_scale count contracts.now }
@@ -157,7 +163,8 @@ pub fn chain_of<V: Oracle>(
     requires few { length market.now.trades ≤ most_judged_trades }
     requires outcome { IsOutcomeOf market.now.trades outcome.now.over outcome.now.contracts }
     requires rational { network_of V.firm market.now IsIndividuallyRational outcome.now.over outcome.now.contracts }
-    requires incomplete { (prices : ℕ → ℤ) → network_of V.firm market.now Completes outcome.now.over outcome.now.contracts prices → ⊥ }
+    requires incomplete { (prices : ℕ → ℤ)
+        → network_of V.firm market.now Completes outcome.now.over outcome.now.contracts prices → ⊥ }
     ensures { IfOk result (network_of V.firm market.now IsBlockingChain outcome.now.over outcome.now.contracts) }
 {
     let residual = taxed_residual(alloc, market, outcome)?;

@@ -68,7 +68,8 @@ pub fn contracts_at(
     requires order { first ≤ count }
     requires few { (k v : ℕ) → first ≤ k → slice_get finder.now.listed k ≡ Some v → v < most_judged_trades }
     requires free { (k v : ℕ) → first ≤ k → slice_get finder.now.listed k ≡ Some v → is_signed contracts.now v ≡ false }
-    requires priced { (k v : ℕ) → first ≤ k → slice_get finder.now.listed k ≡ Some v → number_from contracts.now 0 v < length solver.now.prices }
+    requires priced { (k v : ℕ) → first ≤ k → slice_get finder.now.listed k ≡ Some v
+        → number_from contracts.now 0 v < length solver.now.prices }
     ensures { IfOk result (AreAtNodes contracts.now solver.now.prices finder.now.listed first count) }
 {
     let mut made = Vec::with_capacity(alloc, (count - first) as usize)?;

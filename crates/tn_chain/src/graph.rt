@@ -63,7 +63,8 @@ fn kept_worth<V: Oracle>(
     requires limits { IsWithinLimits V.firm V.limit market.now }
     requires outcome { IsOutcomeOf market.now.trades outcome.now.over outcome.now.contracts }
     requires firm { f < length market.now.firms }
-    ensures worth { (v : V) → slice_get market.now.firms f ≡ Some v → result ≡ (reduced market.now.trades outcome.now.over outcome.now.contracts f (V.firm v)).worth 0 }
+    ensures worth { (v : V) → slice_get market.now.firms f ≡ Some v
+        → result ≡ (reduced market.now.trades outcome.now.over outcome.now.contracts f (V.firm v)).worth 0 }
 {
     let (_, worth) = reduced_best(market, f, outcome, Bundle::empty(), room)?;
     Some(worth)
@@ -78,7 +79,8 @@ fn kept_worths<V: Oracle>(
 ) -> Result<Vec<Option<i128>>, OutOfMemory>
     requires limits { IsWithinLimits V.firm V.limit market.now }
     requires outcome { IsOutcomeOf market.now.trades outcome.now.over outcome.now.contracts }
-    ensures { IfOk result (λ kept. network_of V.firm market.now AreKeptWorths outcome.now.over outcome.now.contracts kept.items) }
+    ensures { IfOk result (λ kept. network_of V.firm market.now AreKeptWorths outcome.now.over outcome.now.contracts
+        kept.items) }
 {
     let mut kept = Vec::with_capacity(alloc, market.firms() as usize)?;
     for f in 0..market.firms() {
@@ -100,9 +102,12 @@ fn reduced_loss<V: Oracle>(
     requires outcome { IsOutcomeOf market.now.trades outcome.now.over outcome.now.contracts }
     requires firm { f < length market.now.firms }
     requires own { (v : V) → slice_get market.now.firms f ≡ Some v → bundle < 2 ^ (V.firm v).count }
-    requires before { (v : V) → slice_get market.now.firms f ≡ Some v → before ≡ (reduced market.now.trades outcome.now.over outcome.now.contracts f (V.firm v)).worth 0 }
-    requires unsigned { (v : V) → slice_get market.now.firms f ≡ Some v → meet bundle (signed_bundle market.now.trades outcome.now.contracts f (V.firm v)) ≡ 0 }
-    ensures loss { (v : V) → slice_get market.now.firms f ≡ Some v → result ≡ loss (reduced market.now.trades outcome.now.over outcome.now.contracts f (V.firm v)) 0 bundle }
+    requires before { (v : V) → slice_get market.now.firms f ≡ Some v
+        → before ≡ (reduced market.now.trades outcome.now.over outcome.now.contracts f (V.firm v)).worth 0 }
+    requires unsigned { (v : V) → slice_get market.now.firms f ≡ Some v
+        → meet bundle (signed_bundle market.now.trades outcome.now.contracts f (V.firm v)) ≡ 0 }
+    ensures loss { (v : V) → slice_get market.now.firms f ≡ Some v
+        → result ≡ loss (reduced market.now.trades outcome.now.over outcome.now.contracts f (V.firm v)) 0 bundle }
 {
     let before = before?;
     let (_, after) = reduced_best(market, f, outcome, bundle, room)?;
@@ -155,8 +160,10 @@ fn write_row<V: Oracle>(
     requires outcome { IsOutcomeOf market.now.trades outcome.now.over outcome.now.contracts }
     requires kept { network_of V.firm market.now AreKeptWorths outcome.now.over outcome.now.contracts kept.now }
     requires from { u ≤ length market.now.trades }
-    requires written { AreWritten (network_of V.firm market.now reduced_arc outcome.now.over outcome.now.contracts) (length market.now.trades + 1) u 0 graph.old }
-    ensures { AreWritten (network_of V.firm market.now reduced_arc outcome.now.over outcome.now.contracts) (length market.now.trades + 1) (u + 1) 0 graph.new }
+    requires written { AreWritten (network_of V.firm market.now reduced_arc outcome.now.over outcome.now.contracts)
+        (length market.now.trades + 1) u 0 graph.old }
+    ensures { AreWritten (network_of V.firm market.now reduced_arc outcome.now.over outcome.now.contracts)
+        (length market.now.trades + 1) (u + 1) 0 graph.new }
 {
     for v in 0..market.trades() + 1 {
         let cost = reduced_cost(market, outcome, kept, u, v, room);
@@ -164,9 +171,9 @@ fn write_row<V: Oracle>(
     }
 }
 
-/// The exchange graph of an outcome's reduced worths, where no unsigned trade is on: trade t is node t, and the null node
-/// is the last one. No cost is above 2.64 * 10^13 in size. It fails only where memory runs out. The limits of firms and
-/// outcomes hold.
+/// The exchange graph of an outcome's reduced worths, where no unsigned trade is on: trade t is node t, and the null
+/// node is the last one. No cost is above 2.64 * 10^13 in size. It fails only where memory runs out. The limits of
+/// firms and outcomes hold.
 pub fn reduced_graph<V: Oracle>(
     alloc: Global,
     market: &Market<V>,
@@ -174,7 +181,9 @@ pub fn reduced_graph<V: Oracle>(
 ) -> Result<Graph, OutOfMemory>
     requires limits { IsWithinLimits V.firm V.limit market.now }
     requires outcome { IsOutcomeOf market.now.trades outcome.now.over outcome.now.contracts }
-    ensures graph { IfOk result (IsExchangeGraph (reduced_firms market.now.trades outcome.now.over outcome.now.contracts (map V.firm market.now.firms)) market.now.trades 0) }
+    ensures graph { IfOk result
+        (IsExchangeGraph (reduced_firms market.now.trades outcome.now.over outcome.now.contracts
+        (map V.firm market.now.firms)) market.now.trades 0) }
     ensures small { IfOk result (λ graph. AreSmall (arcs_of graph) most_reduced_cost) }
 {
     let nodes = market.trades() + 1;

@@ -20,20 +20,26 @@ never_both true other = refl
 never_both false other = refl
 
 -- a trade of a firm that is away can't be used
-unusable : (edits : List Edit) (t : ℕ) (trade : Ends) (f k : ℕ) → stands_at trade f k ≡ true → is_away_after edits f ≡ true → is_usable_after edits t trade ≡ false
-unusable edits t trade f k stands away = elim (or_cases (trade.seller == f && trade.at_seller == k) (trade.buyer == f && trade.at_buyer == k) stands) [
-  | inl sells ↦
-      let same : trade.seller ≡ f = eqb-true trade.seller f (and_parts (trade.seller == f) (trade.at_seller == k) sells).0 in
-      ap (λ (b : Bool). (is_admitted_after edits t && not b) && not (is_away_after edits trade.buyer)) (ap (is_away_after edits) same ∙ away)
-      ∙ never_both (is_admitted_after edits t) (not (is_away_after edits trade.buyer))
-  | inr buys ↦
-      let same : trade.buyer ≡ f = eqb-true trade.buyer f (and_parts (trade.buyer == f) (trade.at_buyer == k) buys).0 in
-      ap (λ (b : Bool). (is_admitted_after edits t && not (is_away_after edits trade.seller)) && not b) (ap (is_away_after edits) same ∙ away)
-      ∙ never (is_admitted_after edits t && not (is_away_after edits trade.seller))
-]
+unusable : (edits : List Edit) (t : ℕ) (trade : Ends) (f k : ℕ) → stands_at trade f k ≡ true
+    → is_away_after edits f ≡ true → is_usable_after edits t trade ≡ false
+unusable edits t trade f k stands away =
+    elim (or_cases (trade.seller == f && trade.at_seller == k) (trade.buyer == f && trade.at_buyer == k) stands) [
+      | inl sells ↦
+          let same : trade.seller ≡ f =
+          eqb-true trade.seller f (and_parts (trade.seller == f) (trade.at_seller == k) sells).0 in
+          ap (λ (b : Bool). (is_admitted_after edits t && not b) && not (is_away_after edits trade.buyer))
+          (ap (is_away_after edits) same ∙ away)
+          ∙ never_both (is_admitted_after edits t) (not (is_away_after edits trade.buyer))
+      | inr buys ↦
+          let same : trade.buyer ≡ f = eqb-true trade.buyer f (and_parts (trade.buyer == f) (trade.at_buyer == k) buys).0 in
+          ap (λ (b : Bool). (is_admitted_after edits t && not (is_away_after edits trade.seller)) && not b)
+          (ap (is_away_after edits) same ∙ away)
+          ∙ never (is_admitted_after edits t && not (is_away_after edits trade.seller))
+    ]
 
 pub firms_away_have_nothing : FirmsAwayHaveNothing
-firms_away_have_nothing firms trades edits state at network f firm is away = same_set _ _ (λ k. none k ∙ sym (has-zero k))
+firms_away_have_nothing firms trades edits state at network f firm is away =
+    same_set _ _ (λ k. none k ∙ sym (has-zero k))
   where
     none : (k : ℕ) → has (part trades f firm.count at.is.set) k ≡ false
     none k = elim (cases_Bool (has (part trades f firm.count at.is.set) k)) [
@@ -41,6 +47,7 @@ firms_away_have_nothing firms trades edits state at network f firm is away = sam
           let there = (member_of_part trades f firm.count at.is.set k).0 member in
           let stands = own_stands trades f k (network.whole f k firm is there.0) in
           let used = at.is.inside (own trades f k) there.1 in
-          absurd (true≢false (sym used ∙ at.allowed_is (own trades f k) stands.trade stands.is ∙ unusable edits (own trades f k) stands.trade f k stands.stands away))
+          absurd (true≢false (sym used ∙ at.allowed_is (own trades f k) stands.trade stands.is
+          ∙ unusable edits (own trades f k) stands.trade f k stands.stands away))
       | inr out ↦ out
     ]

@@ -12,13 +12,19 @@ use Rattle.tn_plain_data.specs.Network.{IsNetwork}
 use Rattle.tn_network.proofs.WelfareLemmas.{equilibrium_is_efficient}
 use Rattle.tn_command.specs.Drilled.{IsDrilled}
 
-pub drilled_from : (size start : ℕ) (firms : List FirmValue) (trades : List Ends) (set : ℕ) (prices : ℕ → ℤ) (count : ℕ) (surplus told : ℤ) → map firm_of firms ≡ firms_of start size
-    → trades ≡ trades_of start size → IsNetwork (map firm_of firms) trades → count ≡ length firms → told ≡ surplus → IsEquilibrium (map firm_of firms) trades (pos 1) set prices
+pub drilled_from : (size start : ℕ) (firms : List FirmValue) (trades : List Ends) (set : ℕ) (prices : ℕ
+    → ℤ) (count : ℕ) (surplus told : ℤ) → map firm_of firms ≡ firms_of start size
+    → trades ≡ trades_of start size → IsNetwork (map firm_of firms) trades → count ≡ length firms → told ≡ surplus
+    → IsEquilibrium (map firm_of firms) trades (pos 1) set prices
     → surplus_of (map firm_of firms) trades set ≡ Some surplus → IsDrilled size start count told
-drilled_from size start firms trades set prices count surplus told firms_is trades_is network counted same equilibrium surplus_is = record {
-  firms_are = counted ∙ sym (length-map firms firm_of) ∙ ap (λ (list : List Firm). length list) firms_is;
-  set = set;
-  surplus_is = sym (ap₂ (λ (list : List Firm) (ends : List Ends). surplus_of list ends set) firms_is trades_is) ∙ surplus_is ∙ ap Some (sym same);
-  efficient = subst (λ (ends : List Ends). IsEfficient (firms_of start size) ends set) trades_is
-      (subst (λ (list : List Firm). IsEfficient list trades set) firms_is (equilibrium_is_efficient (map firm_of firms) trades (pos 1) set prices network (omega (arith, ints)) equilibrium));
-}
+drilled_from size start firms trades set prices count surplus told firms_is trades_is network counted same equilibrium
+    surplus_is = record {
+      firms_are = counted ∙ sym (length-map firms firm_of) ∙ ap (λ (list : List Firm). length list) firms_is;
+      set = set;
+      surplus_is = sym (ap₂ (λ (list : List Firm) (ends : List Ends). surplus_of list ends set) firms_is trades_is)
+          ∙ surplus_is ∙ ap Some (sym same);
+      efficient = subst (λ (ends : List Ends). IsEfficient (firms_of start size) ends set) trades_is
+          (subst (λ (list : List Firm). IsEfficient list trades set) firms_is
+          (equilibrium_is_efficient (map firm_of firms) trades (pos 1) set prices network (omega (arith, ints))
+          equilibrium));
+    }

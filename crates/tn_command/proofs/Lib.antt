@@ -1,3 +1,4 @@
+-- The files of lemmas of this crate.
 pub mod NumberLemmas
 pub mod CheckLemmas
 pub mod OutcomeLemmas

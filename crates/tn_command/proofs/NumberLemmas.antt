@@ -22,17 +22,24 @@ AreSmallFirms [] = Unit {0}
 AreSmallFirms (firm ∷ firms) = IsWorthAtMost most_worth firm × AreSmallFirms firms
 
 -- a surplus is at most 10^11 for each firm
-pub surplus_small : (trades : List Ends) (on f : ℕ) (firms : List Firm) (s : ℤ) → AreSmallFirms firms → surplus_from trades on f firms ≡ Some s → IsAtMost s (length firms * most_worth)
-surplus_small trades on f [] s small is = let e : pos 0 ≡ s = same_Some (pos 0) s is in record { low = omega (arith, ints, e); high = omega (arith, ints, e) }
-surplus_small trades on f (firm ∷ firms) s small is = with_worth (λ rest e. surplus_small trades on (f + 1) firms rest small.1 e) (firm.worth (part trades f firm.count on)) refl
+pub surplus_small : (trades : List Ends) (on f : ℕ) (firms : List Firm) (s : ℤ) → AreSmallFirms firms
+    → surplus_from trades on f firms ≡ Some s → IsAtMost s (length firms * most_worth)
+surplus_small trades on f [] s small is = let e : pos 0 ≡ s = same_Some (pos 0) s is in
+    record { low = omega (arith, ints, e); high = omega (arith, ints, e) }
+surplus_small trades on f (firm ∷ firms) s small is =
+    with_worth (λ rest e. surplus_small trades on (f + 1) firms rest small.1 e)
+    (firm.worth (part trades f firm.count on)) refl
   where
     sum : ℤ → Option ℤ
     sum w = option_map (λ rest. w +ℤ rest) (surplus_from trades on (f + 1) firms)
 
-    with_worth : ((rest : ℤ) → surplus_from trades on (f + 1) firms ≡ Some rest → IsAtMost rest (length firms * most_worth)) → (o : Option ℤ) → firm.worth (part trades f firm.count on) ≡ o → IsAtMost s (length (firm ∷ firms) * most_worth)
+    with_worth : ((rest : ℤ) → surplus_from trades on (f + 1) firms ≡ Some rest
+        → IsAtMost rest (length firms * most_worth)) → (o : Option ℤ) → firm.worth (part trades f firm.count on) ≡ o
+        → IsAtMost s (length (firm ∷ firms) * most_worth)
     with_worth later None e = absurd (none-some s (sym (ap (option_and_then sum) e) ∙ is))
     with_worth later (Some w) e =
-        let rest = option_map-some (λ rest. w +ℤ rest) (surplus_from trades on (f + 1) firms) s (sym (ap (option_and_then sum) e) ∙ is) in
+        let rest = option_map-some (λ rest. w +ℤ rest) (surplus_from trades on (f + 1) firms) s
+        (sym (ap (option_and_then sum) e) ∙ is) in
         let below = later rest.0 rest.1 in
         let here = small.0 (part trades f firm.count on) w e in
         let total = rest.2 in
@@ -42,12 +49,15 @@ surplus_small trades on f (firm ∷ firms) s small is = with_worth (λ rest e. s
         }
 
 -- the utility of a bundle at prices of an arrangement
-pub utility_small : (firm : Firm) (prices : ℕ → ℤ) (x : ℕ) (value : ℤ) → firm.count ≤ most_own → IsWorthAtMost most_worth firm → ((k : ℕ) → IsAtMost (prices k) most_price)
+pub utility_small : (firm : Firm) (prices : ℕ → ℤ) (x : ℕ) (value : ℤ) → firm.count ≤ most_own
+    → IsWorthAtMost most_worth firm → ((k : ℕ) → IsAtMost (prices k) most_price)
     → utility (pos 1) prices firm x ≡ Some value → IsAtMost value (4 * 10 ^ 15)
 utility_small firm prices x value few worths small is =
-    let worth = option_map-some (λ a. pos 1 *ℤ a +ℤ sum_over (payments firm.buys prices) firm.count x) (firm.worth x) value is in
+    let worth = option_map-some (λ a. pos 1 *ℤ a +ℤ sum_over (payments firm.buys prices) firm.count x) (firm.worth x)
+    value is in
     let amount = worths x worth.0 worth.1 in
-    let paid = sum_over_small (payments firm.buys prices) firm.count x most_price (λ k below. payment_small firm.buys prices k most_price (small k)) in
+    let paid = sum_over_small (payments firm.buys prices) firm.count x most_price
+    (λ k below. payment_small firm.buys prices k most_price (small k)) in
     let total = worth.2 in
     record {
       low = omega (arith, ints, total, few, amount.low, paid.low);

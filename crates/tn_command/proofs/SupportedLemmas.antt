@@ -22,29 +22,37 @@ use Rattle.tn_market.specs.Widths.{most_worth}
 use Rattle.tn_command.proofs.CheckLemmas.{implied_by, value_at}
 
 -- what holds of one answer holds of a result that is that answer, if it is any
-pub if_ok : {E : Type 0} (P : Said → Type 0) (result : Result Said E) (one : Said) → P one → IfOk result (λ said. said ≡ one) → IfOk result P
+pub if_ok : {E : Type 0} (P : Said → Type 0) (result : Result Said E) (one : Said) → P one
+    → IfOk result (λ said. said ≡ one) → IfOk result P
 if_ok P (Ok said) one holds same = subst P (sym same) holds
 if_ok P (Err e) one holds same = tt
 
 -- supporting prices are those of an equilibrium
-pub supports_imply : (firms : List Firm) (trades : List Ends) (on : ℕ) (prices : List ℤ) → IsNetwork firms trades → AreSupports firms trades on prices
+pub supports_imply : (firms : List Firm) (trades : List Ends) (on : ℕ) (prices : List ℤ) → IsNetwork firms trades
+    → AreSupports firms trades on prices
     → AreSupports firms trades on prices × IsEfficientAndStable firms trades on (price_at prices)
-supports_imply firms trades on prices network supports = (supports, implied_by firms trades on (price_at prices) network supports.equilibrium)
+supports_imply firms trades on prices network supports =
+    (supports, implied_by firms trades on (price_at prices) network supports.equilibrium)
 
 -- the worths of firms of any kind are small
-pub small_firms : (firms : List FirmValue) (f : ℕ) (firm : Firm) → slice_get (map firm_of firms) f ≡ Some firm → IsWorthAtMost most_worth firm
+pub small_firms : (firms : List FirmValue) (f : ℕ) (firm : Firm) → slice_get (map firm_of firms) f ≡ Some firm
+    → IsWorthAtMost most_worth firm
 small_firms firms f firm is =
     let there = value_at firms f firm is in subst (IsWorthAtMost most_worth) there.2 (firm_laws there.0).within
 
 -- a cycle's cost fits an answer
-pub cycle_fits : (firms : List FirmValue) (trades : List Ends) (on : ℕ) (nodes : List (Option ℕ)) (cost : ℤ) → IsNetwork (map firm_of firms) trades → length trades ≤ most_answered_trades
+pub cycle_fits : (firms : List FirmValue) (trades : List Ends) (on : ℕ) (nodes : List (Option ℕ)) (cost : ℤ)
+    → IsNetwork (map firm_of firms) trades → length trades ≤ most_answered_trades
     → IsNegativeCycle (map firm_of firms) trades on nodes cost → IsAtMost cost most_price
 cycle_fits firms trades on nodes cost network few cycle =
-    wider (length trades) cost few (cycle_small (map firm_of firms) trades on nodes cost network most_worth (small_firms firms) cycle)
+    wider (length trades) cost few (cycle_small (map firm_of firms) trades on nodes cost network most_worth
+    (small_firms firms) cycle)
   where
     wider : (n : ℕ) (z : ℤ) → n ≤ most_answered_trades → IsAtMost z ((n + 1) * (2 * most_worth)) → IsAtMost z most_price
-    wider n z few small = let low = small.low in let high = small.high in record { low = omega (arith, ints, few, low, high); high = omega (arith, ints, few, low, high) }
+    wider n z few small = let low = small.low in let high = small.high in
+        record { low = omega (arith, ints, few, low, high); high = omega (arith, ints, few, low, high) }
 
 -- and so it does as it is stored
 pub cost_fits : (cost : ℤ) → IsAtMost cost most_price → IsAtMost (to_z w128 (of_z w128 cost)) most_number
-cost_fits cost small = let low = small.low in let high = small.high in record { low = omega (arith, ints, low, high); high = omega (arith, ints, low, high) }
+cost_fits cost small = let low = small.low in let high = small.high in
+    record { low = omega (arith, ints, low, high); high = omega (arith, ints, low, high) }

@@ -13,5 +13,6 @@ pub record IsDrilled (size start firms : ℕ) (surplus : ℤ) : Type 0 where
   pub efficient : IsEfficient (firms_of start size) (trades_of start size) set
 
 abbrev pub TellsDrill : ℕ → ℕ → Said → Type 0
-TellsDrill size start (Drill its_size its_start firms surplus) = (its_size ≡ size) × (its_start ≡ start) × IsDrilled size start firms surplus
+TellsDrill size start (Drill its_size its_start firms surplus) = (its_size ≡ size) × (its_start ≡ start)
+    × IsDrilled size start firms surplus
 TellsDrill size start said = ⊥

@@ -54,10 +54,11 @@ is_away_after edits f = after (is_away_by f) edits false
 
 -- a trade can be used where it is admitted and neither of its firms is away
 abbrev pub is_usable_after : List Edit → ℕ → Ends → Bool
-is_usable_after edits t trade = (is_admitted_after edits t && not (is_away_after edits trade.seller)) && not (is_away_after edits trade.buyer)
+is_usable_after edits t trade = (is_admitted_after edits t && not (is_away_after edits trade.seller))
+    && not (is_away_after edits trade.buyer)
 
--- the trades of a set of admitted trades, ascending, and the admitted trades at prices at which the set is an equilibrium
--- of the market that they make, with its surplus, which no set of admitted trades exceeds
+-- the trades of a set of admitted trades, ascending, and the admitted trades at prices at which the set is an
+-- equilibrium of the market that they make, with its surplus, which no set of admitted trades exceeds
 pub record IsStateOf (firms : List Firm) (trades : List Ends) (allowed : ℕ) (state : State) : Type 0 where
   pub set : ℕ
   pub inside : IsSubset set allowed
@@ -67,23 +68,29 @@ pub record IsStateOf (firms : List Firm) (trades : List Ends) (allowed : ℕ) (s
   pub prices_are : state.prices ≡ contracts_of allowed (price_at prices) (length trades)
   pub equilibrium : IsEquilibrium (admitted trades allowed firms) trades (pos 1) set (price_at prices)
   pub surplus_is : surplus_of firms trades set ≡ Some state.surplus
-  pub most : (other : ℕ) (surplus : ℤ) → IsSubset other allowed → surplus_of firms trades other ≡ Some surplus → surplus ≤ℤ state.surplus
+  pub most : (other : ℕ) (surplus : ℤ) → IsSubset other allowed → surplus_of firms trades other ≡ Some surplus
+      → surplus ≤ℤ state.surplus
 
 -- a state of the trades that can be used after edits
 pub record IsStateAfter (firms : List Firm) (trades : List Ends) (edits : List Edit) (state : State) : Type 0 where
   pub allowed : ℕ
-  pub allowed_is : (t : ℕ) (trade : Ends) → slice_get trades t ≡ Some trade → has allowed t ≡ is_usable_after edits t trade
+  pub allowed_is : (t : ℕ) (trade : Ends) → slice_get trades t ≡ Some trade
+      → has allowed t ≡ is_usable_after edits t trade
   pub is : IsStateOf firms trades allowed state
 
 -- in a state each firm that is away has its empty bundle
 abbrev pub FirmsAwayHaveNothing : Type 0
-FirmsAwayHaveNothing = (firms : List Firm) (trades : List Ends) (edits : List Edit) (state : State) (at : IsStateAfter firms trades edits state) → IsNetwork firms trades
-    → (f : ℕ) (firm : Firm) → slice_get firms f ≡ Some firm → is_away_after edits f ≡ true → part trades f firm.count at.is.set ≡ 0
+FirmsAwayHaveNothing =
+    (firms : List Firm) (trades : List Ends) (edits : List Edit) (state : State)
+    (at : IsStateAfter firms trades edits state) → IsNetwork firms trades
+    → (f : ℕ) (firm : Firm) → slice_get firms f ≡ Some firm → is_away_after edits f ≡ true
+    → part trades f firm.count at.is.set ≡ 0
 
 -- one state for each edit, the k-th one after the first k edits
 pub record AreStates (firms : List Firm) (trades : List Ends) (edits : List Edit) (states : List State) : Type 0 where
   pub one_each : length states ≡ length edits
-  pub each : (k : ℕ) (state : State) → slice_get states k ≡ Some state → IsStateAfter firms trades (take (k + 1) edits) state
+  pub each : (k : ℕ) (state : State) → slice_get states k ≡ Some state
+      → IsStateAfter firms trades (take (k + 1) edits) state
 
 abbrev pub TellsStates : List Firm → List Ends → List Edit → Said → Type 0
 TellsStates firms trades edits (Session states) = AreStates firms trades edits states
@@ -103,6 +110,7 @@ pub record IsAfter (edits : List Edit) (t : ℕ) (trade : Ends) (kept : Kept) (u
   pub usable : has used t ≡ is_usable_after edits t trade
 
 -- all that is kept, and the session, are as after some edits
-pub record StandsAfter (firms : List FirmValue) (trades : List Ends) (edits : List Edit) (kept : Kept) (session : Standing FirmValue) : Type 0 where
+pub record StandsAfter (firms : List FirmValue) (trades : List Ends) (edits : List Edit) (kept : Kept)
+    (session : Standing FirmValue) : Type 0 where
   pub stands : StandsOn firms trades session
   pub each : (t : ℕ) (trade : Ends) → slice_get trades t ≡ Some trade → IsAfter edits t trade kept session.admitted

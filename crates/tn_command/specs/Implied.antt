@@ -18,7 +18,8 @@ pub record IsEfficientAndStable (firms : List Firm) (trades : List Ends) (on : �
   pub stable : IsStable firms trades (pos 1) (contracts_of on prices (length trades))
 
 -- no set of trades has a greater surplus than the signed ones, and no contracts over any denominator block the outcome
-pub record IsLastingOutcome (firms : List Firm) (trades : List Ends) (over : ℤ) (contracts : List Contract) : Type 0 where
+pub record IsLastingOutcome (firms : List Firm) (trades : List Ends) (over : ℤ) (contracts : List Contract) : Type
+    0 where
   pub efficient : IsEfficient firms trades (signed (length trades) contracts)
   pub stable : IsStable firms trades over contracts
 

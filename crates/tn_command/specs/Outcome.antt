@@ -11,10 +11,13 @@ use Rattle.tn_plain_data.specs.Choices.{IsIndividuallyRational}
 use Rattle.tn_plain_data.specs.Network.{trades_of}
 use Rattle.tn_command.specs.Implied.{IsLastingOutcome}
 
--- the first firm that would drop contracts, where there is one; otherwise prices that complete the outcome, where there are
--- any, and what that implies; otherwise a chain of contracts that blocks it
+-- the first firm that would drop contracts, where there is one; otherwise prices that complete the outcome, where there
+-- are any, and what that implies; otherwise a chain of contracts that blocks it
 abbrev pub JudgesOutcome : List Firm → List Ends → ℤ → List Contract → Said → Type 0
-JudgesOutcome firms trades over contracts (Drops f keeps gain told) = (x : ℕ) × (first : IsFirstDrop firms trades over contracts f x gain) × (keeps ≡ trades_of trades f first.firm.count x) × (told ≡ over)
-JudgesOutcome firms trades over contracts (Completes prices told) = IsIndividuallyRational firms trades over contracts × IsCompletedBy firms trades over contracts prices × (told ≡ over) × IsLastingOutcome firms trades over contracts
+JudgesOutcome firms trades over contracts (Drops f keeps gain told) = (x : ℕ)
+    × (first : IsFirstDrop firms trades over contracts f x gain) × (keeps ≡ trades_of trades f first.firm.count x)
+    × (told ≡ over)
+JudgesOutcome firms trades over contracts (Completes prices told) = IsIndividuallyRational firms trades over contracts
+    × IsCompletedBy firms trades over contracts prices × (told ≡ over) × IsLastingOutcome firms trades over contracts
 JudgesOutcome firms trades over contracts (Blocks offers told) = IsBlockedBy firms trades over contracts offers told
 JudgesOutcome firms trades over contracts said = ⊥

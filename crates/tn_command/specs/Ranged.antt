@@ -9,8 +9,8 @@ use Rattle.tn_market.specs.Equilibrium.{IsEfficient}
 use Rattle.tn_plain_data.specs.Network.{trades_on}
 use Rattle.tn_market.specs.Ranges.{AreRanges}
 
--- the trades of an efficient set, ascending, and the lowest and the highest price of each trade over all equilibria, with
--- the paths of the exchange graph at that set that show them
+-- the trades of an efficient set, ascending, and the lowest and the highest price of each trade over all equilibria,
+-- with the paths of the exchange graph at that set that show them
 pub record IsRanged (firms : List Firm) (trades : List Ends) (on : List ℕ) (ranges : List Range) : Type 0 where
   pub set : ℕ
   pub on_is : on ≡ trades_on set (length trades)

@@ -11,7 +11,8 @@ use Rattle.tn_command.specs.Implied.{IsEfficientAndStable}
 
 -- the trades of some set, ascending, with a price for each trade, at which the set is an equilibrium; its surplus; and
 -- what that implies
-pub record IsSolved (firms : List Firm) (trades : List Ends) (on : List ℕ) (prices : List ℤ) (surplus : ℤ) : Type 0 where
+pub record IsSolved (firms : List Firm) (trades : List Ends) (on : List ℕ) (prices : List ℤ) (surplus : ℤ) : Type
+    0 where
   pub set : ℕ
   pub on_is : on ≡ trades_on set (length trades)
   pub one_each : length prices ≡ length trades

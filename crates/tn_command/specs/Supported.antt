@@ -10,11 +10,13 @@ use Rattle.tn_market.specs.Supported.{AreSupports, IsFirstUnable, IsNegativeCycl
 use Rattle.tn_price.specs.Supports.{IsUnsupported}
 use Rattle.tn_command.specs.Implied.{IsEfficientAndStable}
 
--- the set's trades, ascending, with supporting prices, what they imply, and the ends of the trades; or the first firm whose bundle is impossible, or a negative cycle, and then no
--- prices support the set
+-- the set's trades, ascending, with supporting prices, what they imply, and the ends of the trades; or the first firm
+-- whose bundle is impossible, or a negative cycle, and then no prices support the set
 abbrev pub SupportsSet : List Firm → List Ends → ℕ → Said → Type 0
 SupportsSet firms trades on (Impossible f) = IsFirstUnable firms trades on f × IsUnsupported firms trades on
 SupportsSet firms trades on (Supported listed prices ends) =
-    AreSupports firms trades on prices × IsEfficientAndStable firms trades on (price_at prices) × (listed ≡ trades_on on (length trades)) × (ends ≡ trades)
-SupportsSet firms trades on (Cycle nodes cost) = IsNegativeCycle firms trades on nodes cost × IsUnsupported firms trades on
+    AreSupports firms trades on prices × IsEfficientAndStable firms trades on (price_at prices)
+    × (listed ≡ trades_on on (length trades)) × (ends ≡ trades)
+SupportsSet firms trades on (Cycle nodes cost) = IsNegativeCycle firms trades on nodes cost
+    × IsUnsupported firms trades on
 SupportsSet firms trades on said = ⊥

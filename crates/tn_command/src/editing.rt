@@ -28,7 +28,8 @@ fn admitted_prices(
 ) -> Result<Contracts, OutOfMemory>
     requires few { count ≤ most_answered_trades }
     requires counted { count ≡ length session.now.market.trades }
-    ensures { IfOk result (λ contracts. contracts ≡ contracts_of session.now.admitted (price_at session.now.solution.prices) count) }
+    ensures { IfOk result (λ contracts. contracts ≡ contracts_of session.now.admitted
+        (price_at session.now.solution.prices) count) }
 {
     let mut contracts = Vec::new(alloc);
     for t in 0..count {
@@ -123,7 +124,8 @@ fn put(set: &mut TradeSet<2>, t: u32, is_in: bool)
 /// Whether trade `t` can be used.
 fn is_usable(kept: &Kept, t: u32) -> bool
     requires { t < most_answered_trades }
-    ensures { result ≡ ((has kept.now.admitted t && not (has kept.now.seller_away t)) && not (has kept.now.buyer_away t)) }
+    ensures { result ≡ ((has kept.now.admitted t && not (has kept.now.seller_away t))
+        && not (has kept.now.buyer_away t)) }
 {
     kept.admitted.has(t) && !kept.seller_away.has(t) && !kept.buyer_away.has(t)
 }
@@ -158,7 +160,8 @@ fn make_at(
     ensures stands { (firms : _) (trades : _) → StandsOn firms trades session.old → StandsOn firms trades session.new }
     ensures here { (edits : List Edit) → IsAfter edits t trade kept.old session.old.admitted
         → IsAfter (edits ++ edit ∷ []) t trade kept.new session.new.admitted }
-    ensures elsewhere { (edits : List Edit) (k : ℕ) (other : _) → k ≢ t → IsAfter edits k other kept.old session.old.admitted
+    ensures elsewhere { (edits : List Edit) (k : ℕ) (other : _) → k ≢ t
+        → IsAfter edits k other kept.old session.old.admitted
         → IsAfter edits k other kept.new session.new.admitted }
 {
     let is_admitted = is_admitted_by(t, edit, kept.admitted.has(t));

@@ -1,3 +1,5 @@
+//! A law of sessions: firms that are away have nothing.
+
 ghost use Rattle.tn_command.specs.Edited.{FirmsAwayHaveNothing};
 
 /// In a state each firm that is away has its empty bundle.

@@ -23,7 +23,8 @@ fn supported(
     prices: Prices,
 ) -> Result<Said, OutOfMemory>
     requires { length market.now.trades ≤ most_answered_trades }
-    ensures { IfOk result (λ said. said ≡ Said.Supported (trades_on on.now (length market.now.trades)) prices market.now.trades) }
+    ensures { IfOk result (λ said. said ≡ Said.Supported (trades_on on.now (length market.now.trades)) prices
+        market.now.trades) }
 {
     let listed = trades_on(alloc, on, market.trades())?;
     let ends = ends_of(alloc, market)?;

@@ -14,7 +14,8 @@ use Rattle.tn_cycle.proofs.OrderLemmas.{parts}
 use Rattle.tn_cycle.proofs.WalkLemmas.{walk_cost-same_off}
 
 -- where two graphs agree off t, and one has no negative cycle, the other has none off t
-pub none_off : (arc other : ℕ → ℕ → Option ℤ) (t : ℕ) → ((a b : ℕ) → a ≢ t → b ≢ t → arc a b ≡ other a b) → HasNoNegativeCycle other → HasNoNegativeCycleOff arc t
+pub none_off : (arc other : ℕ → ℕ → Option ℤ) (t : ℕ) → ((a b : ℕ) → a ≢ t → b ≢ t → arc a b ≡ other a b)
+    → HasNoNegativeCycle other → HasNoNegativeCycleOff arc t
 none_off arc other t same none u vs cost passes avoids walk =
     none u vs cost (sym (walk_cost-same_off arc other t same u vs u passes avoids passes) ∙ walk)
 
@@ -22,22 +23,27 @@ none_off arc other t same none u vs cost passes avoids walk =
 pub looked_off : (null node allowed : ℕ) (arc : ℕ → ℕ → Option ℤ) (u v : ℕ) → u ≢ node → v ≢ node
     → arcs_among (is_looked_at null node allowed) arc u v ≡ arcs_among (is_admitted null allowed) arc u v
 looked_off null node allowed arc u v p q =
-    ap (λ (s : Bool). if (s || is_admitted null allowed u) && is_looked_at null node allowed v then arc u v else None) (ne_eqb u node p)
-    ∙ ap (λ (s : Bool). if is_admitted null allowed u && (s || is_admitted null allowed v) then arc u v else None) (ne_eqb v node q)
+    ap (λ (s : Bool). if (s || is_admitted null allowed u) && is_looked_at null node allowed v then arc u v
+    else None) (ne_eqb u node p)
+    ∙ ap (λ (s : Bool). if is_admitted null allowed u && (s || is_admitted null allowed v) then arc u v
+    else None) (ne_eqb v node q)
 
 -- labels that keep the arcs of the one keep those of the other that avoid t
-pub keeps_avoiding : (arc other : ℕ → ℕ → Option ℤ) (t : ℕ) (label : ℕ → ℤ) → ((a b : ℕ) → a ≢ t → b ≢ t → arc a b ≡ other a b) → KeepsArcs other label
+pub keeps_avoiding : (arc other : ℕ → ℕ → Option ℤ) (t : ℕ) (label : ℕ → ℤ)
+    → ((a b : ℕ) → a ≢ t → b ≢ t → arc a b ≡ other a b) → KeepsArcs other label
     → KeepsArcsAvoiding arc t label
 keeps_avoiding arc other t label same keeps u v cost p q is = keeps u v cost (sym (same u v p q) ∙ is)
 
 -- an arc to the sink
 pub to_sink : (nodes : ℕ) (arc : ℕ → ℕ → Option ℤ) (v : ℕ) → v < nodes → with_sink nodes arc v nodes ≡ Some (pos 0)
 to_sink nodes arc v inside =
-    ap (λ (s : Bool). if s then (if nodes == nodes then Some (pos 0) else arc v nodes) else None) (lt-ltb v nodes inside)
+    ap (λ (s : Bool). if s then (if nodes == nodes then Some (pos 0) else arc v nodes)
+    else None) (lt-ltb v nodes inside)
     ∙ ap (λ (s : Bool). if s then Some (pos 0) else arc v nodes) (eq-eqb nodes nodes refl)
 
 -- off the sink the graph is as it was
-pub off_sink : (nodes : ℕ) (arc : ℕ → ℕ → Option ℤ) → AreBetweenNodes nodes arc → (a b : ℕ) → a ≢ nodes → b ≢ nodes → with_sink nodes arc a b ≡ arc a b
+pub off_sink : (nodes : ℕ) (arc : ℕ → ℕ → Option ℤ) → AreBetweenNodes nodes arc → (a b : ℕ) → a ≢ nodes → b ≢ nodes
+    → with_sink nodes arc a b ≡ arc a b
 off_sink nodes arc between a b p q = elim (cases_lt a nodes) [
   | inl inside ↦
       ap (λ (s : Bool). if s then (if b == nodes then Some (pos 0) else arc a b) else None) (lt-ltb a nodes inside)
@@ -49,10 +55,12 @@ off_sink nodes arc between a b p q = elim (cases_lt a nodes) [
   where
     by : (o : Option ℤ) → arc a b ≡ o → nodes ≤ a → None ≡ arc a b
     by None e outside = sym e
-    by (Some cost) e outside = let inside : a < nodes = (between a b cost e).0 in absurd (omega (arith, inside, outside))
+    by (Some cost) e outside = let inside : a < nodes = (between a b cost e).0 in
+        absurd (omega (arith, inside, outside))
 
 -- where no cycle is negative, none off the sink is
-pub none_off_sink : (nodes : ℕ) (arc : ℕ → ℕ → Option ℤ) → AreBetweenNodes nodes arc → HasNoNegativeCycle arc → HasNoNegativeCycleOff (with_sink nodes arc) nodes
+pub none_off_sink : (nodes : ℕ) (arc : ℕ → ℕ → Option ℤ) → AreBetweenNodes nodes arc → HasNoNegativeCycle arc
+    → HasNoNegativeCycleOff (with_sink nodes arc) nodes
 none_off_sink nodes arc between = none_off (with_sink nodes arc) arc nodes (off_sink nodes arc between)
 
 -- a walk among some nodes is a walk
@@ -69,7 +77,8 @@ walk_among test arc u (v ∷ vs) w cost walk =
 pub walk_passes : (test : ℕ → Bool) (arc : ℕ → ℕ → Option ℤ) (u : ℕ) (vs : List ℕ) (w : ℕ) (cost : ℤ)
     → walk_cost (arcs_among test arc) u vs w ≡ Some cost → All (λ v. test v ≡ true) (u ∷ vs)
 walk_passes test arc u [] w cost walk =
-    All-cons (λ v. test v ≡ true) u [] (and_parts (test u) (test w) (some_if (test u && test w) (arc u w) cost walk).0).0 (All-nil (λ v. test v ≡ true))
+    All-cons (λ v. test v ≡ true) u [] (and_parts (test u) (test w)
+    (some_if (test u && test w) (arc u w) cost walk).0).0 (All-nil (λ v. test v ≡ true))
 walk_passes test arc u (v ∷ vs) w cost walk =
     let two = parts (arcs_among test arc u v) (walk_cost (arcs_among test arc) v vs w) cost walk in
     All-cons (λ x. test x ≡ true) u (v ∷ vs)
@@ -92,11 +101,15 @@ off_null null arc between a b p q = by (arc a b) refl
 
     by : (o : Option ℤ) → arc a b ≡ o → arc a b ≡ arcs_among (is_between 0 null) arc a b
     by (Some cost) e = let two = between a b cost e in sym (kept two.0 two.1)
-    by None e = e ∙ sym (cond_both (is_between 0 null a && is_between 0 null b) (arc a b) None (λ z. z ≡ None) (λ _. e) (λ _. refl))
+    by None e = e
+        ∙ sym (cond_both (is_between 0 null a && is_between 0 null b) (arc a b) None (λ z. z ≡ None) (λ _. e)
+        (λ _. refl))
 
 -- arcs among admitted trades and the null node lead between marked nodes, where these are marked
-pub admitted_marked : (null allowed : ℕ) (arc : ℕ → ℕ → Option ℤ) (mark : ℕ → Bool) → AreBetweenNodes (null + 1) arc → ((v : ℕ) → v ≤ null → mark v ≡ is_admitted null allowed v)
-    → (u v : ℕ) (cost : ℤ) → arcs_among (is_admitted null allowed) arc u v ≡ Some cost → (mark u ≡ true) × (mark v ≡ true)
+pub admitted_marked : (null allowed : ℕ) (arc : ℕ → ℕ → Option ℤ) (mark : ℕ → Bool) → AreBetweenNodes (null + 1) arc
+    → ((v : ℕ) → v ≤ null → mark v ≡ is_admitted null allowed v)
+    → (u v : ℕ) (cost : ℤ) → arcs_among (is_admitted null allowed) arc u v ≡ Some cost → (mark u ≡ true)
+    × (mark v ≡ true)
 admitted_marked null allowed arc mark between marks u v cost is =
     let inside = some_if (is_admitted null allowed u && is_admitted null allowed v) (arc u v) cost is in
     let passes = and_parts (is_admitted null allowed u) (is_admitted null allowed v) inside.0 in

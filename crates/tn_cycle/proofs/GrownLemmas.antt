@@ -20,14 +20,17 @@ near_more reach more labels within near v inside =
     record { low = omega (arith, ints, within, own.low); high = omega (arith, ints, within, own.high) }
 
 -- labels keep the arcs among all trades, and so those of the graph that avoid the null node
-pub null_avoiding : (nodes null first : ℕ) (arc : ℕ → ℕ → Option ℤ) (label : ℕ → ℤ) → nodes ≡ null + 1 → first ≡ 0 → AreBetweenNodes nodes arc
+pub null_avoiding : (nodes null first : ℕ) (arc : ℕ → ℕ → Option ℤ) (label : ℕ → ℤ) → nodes ≡ null + 1 → first ≡ 0
+    → AreBetweenNodes nodes arc
     → KeepsArcs (arcs_among (is_between first null) arc) label → KeepsArcsAvoiding arc null label
 null_avoiding nodes null first arc label last e between keeps =
-    keeps_avoiding arc (arcs_among (is_between 0 null) arc) null label (off_null null arc (subst (λ (k : ℕ). AreBetweenNodes k arc) last between))
+    keeps_avoiding arc (arcs_among (is_between 0 null) arc) null label
+    (off_null null arc (subst (λ (k : ℕ). AreBetweenNodes k arc) last between))
     (subst (λ (k : ℕ). KeepsArcs (arcs_among (is_between k null) arc) label) e keeps)
 
 -- labels keep all arcs where those that end at the node find its own label
-entered_keeps : (arc : ℕ → ℕ → Option ℤ) (node : ℕ) (label : ℕ → ℤ) → KeepsArcsEntering arc node (label node +ℤ pos 0) label → KeepsArcs arc label
+entered_keeps : (arc : ℕ → ℕ → Option ℤ) (node : ℕ) (label : ℕ → ℤ)
+    → KeepsArcsEntering arc node (label node +ℤ pos 0) label → KeepsArcs arc label
 entered_keeps arc node label entering u v cost is = elim (cases_eq v node) [
   | inl same ↦
       let enters = entering.enters u cost (subst (λ (z : ℕ). arc u z ≡ Some cost) same is) in
@@ -37,14 +40,18 @@ entered_keeps arc node label entering u v cost is = elim (cases_eq v node) [
 ]
 
 -- where no cycle is answered, the labels keep all arcs
-pub none_keeps : (arc : ℕ → ℕ → Option ℤ) (node : ℕ) (label : ℕ → ℤ) (listed : List ℕ) (found : Path) → AnswersCycle arc node listed found
+pub none_keeps : (arc : ℕ → ℕ → Option ℤ) (node : ℕ) (label : ℕ → ℤ) (listed : List ℕ) (found : Path)
+    → AnswersCycle arc node listed found
     → KeepsArcsEntering arc node (label node +ℤ cost_of found) label → arc_count found ≤ 0 → KeepsArcs arc label
 none_keeps arc node label listed path.None answer entering few = entered_keeps arc node label entering
-none_keeps arc node label listed (path.Cycle cost count) answer entering few = absurd (omega (arith, few, answer.counted, ap length answer.nodes_are))
+none_keeps arc node label listed (path.Cycle cost count) answer entering few =
+    absurd (omega (arith, few, answer.counted, ap length answer.nodes_are))
 
 -- a cycle among the trades from one on begins with the lowest
-pub part_grown : (nodes null first : ℕ) (arc : ℕ → ℕ → Option ℤ) (listed : List ℕ) (labels : List ℤ) (found : Path) → null + 1 ≡ nodes
-    → AnswersCycle (arcs_among (is_between first null) arc) first listed found → 0 < arc_count found → AnswersGrown nodes arc listed labels found
+pub part_grown : (nodes null first : ℕ) (arc : ℕ → ℕ → Option ℤ) (listed : List ℕ) (labels : List ℤ) (found : Path)
+    → null + 1 ≡ nodes
+    → AnswersCycle (arcs_among (is_between first null) arc) first listed found → 0 < arc_count found
+    → AnswersGrown nodes arc listed labels found
 part_grown nodes null first arc listed labels path.None last answer some = absurd (omega (arith, some))
 part_grown nodes null first arc listed labels (path.Cycle cost count) last answer some =
     let walk = answer.least.cycle.walk in
@@ -55,17 +62,25 @@ part_grown nodes null first arc listed labels (path.Cycle cost count) last answe
       nodes_are = answer.nodes_are;
       counted = answer.counted;
       negative = answer.negative;
-      cycle = record { walk = walk_among (is_between first null) arc first answer.rest first cost walk; different = answer.least.cycle.different };
+      cycle = record {
+        walk = walk_among (is_between first null) arc first answer.rest first cost walk;
+        different =
+            answer.least.cycle.different;
+      };
       begins = inr (subst (All (λ v. (first ≤ v) × (v + 1 < nodes))) (sym answer.nodes_are)
           (All-weaker (λ v. is_between first null v ≡ true) (λ v. (first ≤ v) × (v + 1 < nodes))
-          (λ v h. let two = and_parts (nat_le first v) (nat_lt v null) h in (leb-true first v two.0, omega (arith, ltb-true v null two.1, last)))
+          (λ v h. let two = and_parts (nat_le first v) (nat_lt v null) h in
+          (leb-true first v two.0, omega (arith, ltb-true v null two.1, last)))
           (first ∷ answer.rest) passes));
     }
 
 -- a cycle through the null node begins with it, and where there is none, the labels keep all arcs
-pub whole_grown : (nodes null : ℕ) (arc : ℕ → ℕ → Option ℤ) (listed : List ℕ) (labels : List ℤ) (found : Path) → null + 1 ≡ nodes → AnswersCycle arc null listed found
-    → KeepsArcsEntering arc null (label_in labels null +ℤ cost_of found) (label_in labels) → AreNear most_label labels → AnswersGrown nodes arc listed labels found
-whole_grown nodes null arc listed labels path.None last answer entering near = (entered_keeps arc null (label_in labels) entering, near)
+pub whole_grown : (nodes null : ℕ) (arc : ℕ → ℕ → Option ℤ) (listed : List ℕ) (labels : List ℤ) (found : Path)
+    → null + 1 ≡ nodes → AnswersCycle arc null listed found
+    → KeepsArcsEntering arc null (label_in labels null +ℤ cost_of found) (label_in labels) → AreNear most_label labels
+    → AnswersGrown nodes arc listed labels found
+whole_grown nodes null arc listed labels path.None last answer entering near =
+    (entered_keeps arc null (label_in labels) entering, near)
 whole_grown nodes null arc listed labels (path.Cycle cost count) last answer entering near = record {
   first = null;
   rest = answer.rest;
@@ -77,7 +92,8 @@ whole_grown nodes null arc listed labels (path.Cycle cost count) last answer ent
 }
 
 -- where no cycle is negative, none is answered
-pub grown_none : (nodes : ℕ) (arc : ℕ → ℕ → Option ℤ) (listed : List ℕ) (labels : List ℤ) (found : Path) → HasNoNegativeCycle arc
+pub grown_none : (nodes : ℕ) (arc : ℕ → ℕ → Option ℤ) (listed : List ℕ) (labels : List ℤ) (found : Path)
+    → HasNoNegativeCycle arc
     → AnswersGrown nodes arc listed labels found → KeepsArcs arc (label_in labels) × AreNear most_label labels
 grown_none nodes arc listed labels path.None none grown = grown
 grown_none nodes arc listed labels (path.Cycle cost count) none grown =

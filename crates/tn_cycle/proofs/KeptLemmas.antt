@@ -47,40 +47,48 @@ waiting_same : (n : ℕ) (waits now : ℕ → Bool) → ((v : ℕ) → v < n →
 unfolding waiting
 waiting_same zero waits now same = refl
 waiting_same (suc n) waits now same =
-    let rest : waiting n now ≡ waiting n waits = waiting_same n waits now (λ v inside. same v (omega (arith, inside))) in
+    let rest : waiting n now ≡ waiting n waits = waiting_same n waits now (λ v inside. same v (omega (arith, inside)))
+    in
     let e : one_if (now n) ≡ one_if (waits n) = ap one_if (same n (omega arith)) in
     omega (arith, rest, e)
 
 -- one waits no more
-pub waiting_less : (n : ℕ) (waits now : ℕ → Bool) (u : ℕ) → u < n → waits u ≡ true → now u ≡ false → ((v : ℕ) → v ≢ u → now v ≡ waits v) → waiting n now + 1 ≡ waiting n waits
+pub waiting_less : (n : ℕ) (waits now : ℕ → Bool) (u : ℕ) → u < n → waits u ≡ true → now u ≡ false
+    → ((v : ℕ) → v ≢ u → now v ≡ waits v) → waiting n now + 1 ≡ waiting n waits
 unfolding waiting
 waiting_less zero waits now u inside was shut same = absurd (omega (arith, inside))
 waiting_less (suc n) waits now u inside was shut same = elim (cases_eq u n) [
   | inl here ↦
-      let rest : waiting n now ≡ waiting n waits = waiting_same n waits now (λ v below. same v (λ e. omega (arith, e, here, below))) in
+      let rest : waiting n now ≡ waiting n waits =
+      waiting_same n waits now (λ v below. same v (λ e. omega (arith, e, here, below))) in
       let one : one_if (waits n) ≡ 1 = ap one_if (subst (λ (z : ℕ). waits z ≡ true) here was) in
       let none : one_if (now n) ≡ 0 = ap one_if (subst (λ (z : ℕ). now z ≡ false) here shut) in
       omega (arith, rest, one, none)
   | inr other ↦
-      let rest : waiting n now + 1 ≡ waiting n waits = waiting_less n waits now u (omega (arith, inside, other)) was shut same in
+      let rest : waiting n now + 1 ≡ waiting n waits =
+      waiting_less n waits now u (omega (arith, inside, other)) was shut same in
       let e : one_if (now n) ≡ one_if (waits n) = ap one_if (same n (λ q. other (sym q))) in
       omega (arith, rest, e)
 ]
 
 -- the trail of a cell stays where the cells along it do
-pub trail_same : (cell new : ℕ → Cell) (k v : ℕ) → new v ≡ cell v → All (λ x. new x ≡ cell x) (trail cell k v) → trail new k v ≡ trail cell k v
+pub trail_same : (cell new : ℕ → Cell) (k v : ℕ) → new v ≡ cell v → All (λ x. new x ≡ cell x) (trail cell k v)
+    → trail new k v ≡ trail cell k v
 trail_same cell new zero v here all = refl
 trail_same cell new (suc k) v here all =
     let next : (new v).next ≡ (cell v).next = ap (λ (own : Cell). own.next) here in
     ap (λ (u : ℕ). u ∷ trail new k u) next
     ∙ ap (λ (us : List ℕ). (cell v).next ∷ us) (trail_same cell new k (cell v).next
-    (All-head (λ x. new x ≡ cell x) (cell v).next (trail cell k (cell v).next) all) (All-tail (λ x. new x ≡ cell x) (cell v).next (trail cell k (cell v).next) all))
+    (All-head (λ x. new x ≡ cell x) (cell v).next (trail cell k (cell v).next) all)
+    (All-tail (λ x. new x ≡ cell x) (cell v).next (trail cell k (cell v).next) all))
 
 -- the cells of the arcs to the end
-pub begun : (nodes : ℕ) (arc : ℕ → ℕ → Option ℤ) (end : ℕ) (label : ℕ → ℤ) (cell : ℕ → Cell) (waits : ℕ → Bool) → AreBetweenNodes nodes arc → waits end ≡ false
+pub begun : (nodes : ℕ) (arc : ℕ → ℕ → Option ℤ) (end : ℕ) (label : ℕ → ℤ) (cell : ℕ → Cell) (waits : ℕ → Bool)
+    → AreBetweenNodes nodes arc → waits end ≡ false
     → ((v u : ℕ) (cost : ℤ) → v ≢ end → u ≢ end → arc v u ≡ Some cost → waits v ≡ true)
     → ((v u : ℕ) (cost last : ℤ) → u ≢ end → arc v u ≡ Some cost → arc u end ≡ Some last → waits u ≡ true)
-    → ((v : ℕ) → v < nodes → cell v ≡ record { cost = arc v end; round = 0; next = end }) → IsUnderWay nodes arc end label cell waits 0
+    → ((v : ℕ) → v < nodes → cell v ≡ record { cost = arc v end; round = 0; next = end })
+    → IsUnderWay nodes arc end label cell waits 0
 begun nodes arc end label cell waits between shut begins passes made = record {
   shut = shut;
   first = λ v cost inside is. record {
@@ -90,13 +98,17 @@ begun nodes arc end label cell waits between shut begins passes made = record {
   };
   over = λ v u cost w off u_shut is u_is.
       absurd (false≢true (sym u_shut ∙ passes v u cost w off is (sym (cost_is u (between v u cost is).1) ∙ u_is)));
-  order = λ v u w x inside node off leads v_shut u_waits v_is u_is. absurd (false≢true (sym v_shut ∙ begins v leads.0 leads.1 off leads.2 leads.3));
+  order = λ v u w x inside node off leads v_shut u_waits v_is u_is. absurd
+      (false≢true (sym v_shut ∙ begins v leads.0 leads.1 off leads.2 leads.3));
   reached = λ v u cost off v_shut is. elim (cases_eq u end) [
     | inl same ↦ (cost, cost_is v (between v u cost is).0 ∙ subst (λ (z : ℕ). arc v z ≡ Some cost) same is)
     | inr other ↦ absurd (false≢true (sym v_shut ∙ begins v u cost off other is))
   ];
-  leads = λ v inside. subst (λ (k : ℕ). walk_cost arc v (trail cell k v) end ≡ (cell v).cost) (sym (round_is v inside)) (sym (cost_is v inside));
-  passes = λ v inside. subst (λ (k : ℕ). All (λ x. (x < nodes) × (x ≢ end) × (waits x ≡ false)) (trail cell k v)) (sym (round_is v inside)) (All-nil (λ x. (x < nodes) × (x ≢ end) × (waits x ≡ false)));
+  leads = λ v inside. subst (λ (k : ℕ). walk_cost arc v (trail cell k v) end ≡ (cell v).cost) (sym (round_is v inside))
+      (sym (cost_is v inside));
+  passes = λ v inside. subst (λ (k : ℕ). All (λ x. (x < nodes) × (x ≢ end)
+      × (waits x ≡ false)) (trail cell k v)) (sym (round_is v inside)) (All-nil (λ x. (x < nodes) × (x ≢ end)
+      × (waits x ≡ false)));
   none = λ v inside _. round_is v inside;
   few = λ v inside. omega (arith, round_is v inside);
 }
@@ -107,7 +119,8 @@ begun nodes arc end label cell waits between shut begins passes made = record {
     round_is : (v : ℕ) → v < nodes → (cell v).round ≡ 0
     round_is v inside = ap (λ (own : Cell). own.round) (made v inside)
 
-module _ (nodes : ℕ) (arc : ℕ → ℕ → Option ℤ) (end : ℕ) (label : ℕ → ℤ) (between : AreBetweenNodes nodes arc) (keeps : KeepsArcsOff arc end label)
+module _ (nodes : ℕ) (arc : ℕ → ℕ → Option ℤ) (end : ℕ) (label : ℕ
+    → ℤ) (between : AreBetweenNodes nodes arc) (keeps : KeepsArcsOff arc end label)
     (cell new : ℕ → Cell) (waits now : ℕ → Bool) (settled u : ℕ) (key : ℤ) (round : ℕ)
     (known : IsUnderWay nodes arc end label cell waits settled) (chosen : ComesFirst nodes label cell waits u key round)
     (closed : now u ≡ false) (others : (v : ℕ) → v ≢ u → now v ≡ waits v)
@@ -140,12 +153,14 @@ module _ (nodes : ℕ) (arc : ℕ → ℕ → Option ℤ) (end : ℕ) (label : �
     | inl waiting ↦ ((after v inside).0 (inl waiting)).by_own x is
     | inr shut ↦ elim (cases_eq v end) [
       | inl same ↦ ((after v inside).0 (inr same)).by_own x is
-      | inr off ↦ subst (λ (own : Cell). HasBy own x (cell v).round) (sym (unchanged v inside shut off)) (has_by_own (cell v) x is)
+      | inr off ↦ subst (λ (own : Cell). HasBy own x (cell v).round) (sym (unchanged v inside shut off))
+          (has_by_own (cell v) x is)
     ]
   ]
 
   has_still : (v : ℕ) → v < nodes → (cost : ℤ) (inner : ℕ) → HasBy (cell v) cost inner → HasBy (new v) cost inner
-  has_still v inside cost inner has = has_by-more (new v) has.least (cell v).round cost inner (bettered v inside has.least has.is) has.before
+  has_still v inside cost inner has =
+      has_by-more (new v) has.least (cell v).round cost inner (bettered v inside has.least has.is) has.before
 
   -- a cell stays, or goes on over u
   stepped : (v : ℕ) → v < nodes → (new v ≡ cell v) ⊎ GoesOver (arc v u) (cell u) u (new v)
@@ -158,13 +173,18 @@ module _ (nodes : ℕ) (arc : ℕ → ℕ → Option ℤ) (end : ℕ) (label : �
   ]
 
   -- no settled node is after u
-  before_own : (v : ℕ) (w : ℤ) → v < nodes → v ≢ end → LeadsOff arc end v → now v ≡ false → (cell v).cost ≡ Some w → IsNotAfter (w +ℤ label v) (cell v).round (chosen.cost +ℤ label u) (cell u).round
+  before_own : (v : ℕ) (w : ℤ) → v < nodes → v ≢ end → LeadsOff arc end v → now v ≡ false → (cell v).cost ≡ Some w
+      → IsNotAfter (w +ℤ label v) (cell v).round (chosen.cost +ℤ label u) (cell u).round
   before_own v w inside off leads shut is = elim (cases_eq v u) [
     | inl same ↦
-        let e : w ≡ chosen.cost = same_cost (cell u).cost w chosen.cost (subst (λ (z : ℕ). (cell z).cost ≡ Some w) same is) chosen.cost_is in
+        let e : w ≡ chosen.cost =
+        same_cost (cell u).cost w chosen.cost (subst (λ (z : ℕ). (cell z).cost ≡ Some w) same is) chosen.cost_is in
         subst (λ (z : ℕ). IsNotAfter (w +ℤ label z) (cell z).round (chosen.cost +ℤ label u) (cell u).round) (sym same)
-        (subst (λ (z : ℤ). IsNotAfter (w +ℤ label u) (cell u).round (z +ℤ label u) (cell u).round) e (not_after_itself (w +ℤ label u) (cell u).round))
-    | inr other ↦ known.order v u w chosen.cost inside chosen.inside off leads (sym (others v other) ∙ shut) chosen.waiting is chosen.cost_is
+        (subst (λ (z : ℤ). IsNotAfter (w +ℤ label u) (cell u).round (z +ℤ label u) (cell u).round) e
+        (not_after_itself (w +ℤ label u) (cell u).round))
+    | inr other ↦
+        known.order v u w chosen.cost inside chosen.inside off leads (sym (others v other) ∙ shut) chosen.waiting is
+        chosen.cost_is
   ]
 
   -- a settled node isn't after going on over u
@@ -173,7 +193,8 @@ module _ (nodes : ℕ) (arc : ℕ → ℕ → Option ℤ) (end : ℕ) (label : �
     | inl waiting ↦ ((after v inside).0 (inl waiting)).by_offer (cost +ℤ chosen.cost) sum
     | inr shut ↦ elim (cases_eq v end) [
       | inl same ↦ ((after v inside).0 (inr same)).by_offer (cost +ℤ chosen.cost) sum
-      | inr off ↦ subst (λ (own : Cell). HasBy own (cost +ℤ chosen.cost) ((cell u).round + 1)) (sym (unchanged v inside shut off)) (settled_by shut off)
+      | inr off ↦ subst (λ (own : Cell). HasBy own (cost +ℤ chosen.cost) ((cell u).round + 1))
+          (sym (unchanged v inside shut off)) (settled_by shut off)
     ]
   ]
     where
@@ -200,22 +221,26 @@ module _ (nodes : ℕ) (arc : ℕ → ℕ → Option ℤ) (end : ℕ) (label : �
             is = own.1;
             before = (
               omega (arith, ints, ahead_cost, kept),
-              λ back. let less : (cell v).round ≤ (cell u).round = ahead.1 (omega (arith, ints, kept, back)) in omega (arith, less),
+              λ back. let less : (cell v).round ≤ (cell u).round = ahead.1 (omega (arith, ints, kept, back)) in
+                  omega (arith, less),
             );
           }
 
   -- u isn't after a node that waits still
-  before_new : (v : ℕ) (x : ℤ) → v < nodes → now v ≡ true → (new v).cost ≡ Some x → IsNotAfter (chosen.cost +ℤ label u) (cell u).round (x +ℤ label v) (new v).round
+  before_new : (v : ℕ) (x : ℤ) → v < nodes → now v ≡ true → (new v).cost ≡ Some x
+      → IsNotAfter (chosen.cost +ℤ label u) (cell u).round (x +ℤ label v) (new v).round
   before_new v x inside waiting is = elim (stepped v inside) [
     | inl same ↦
         let was : (cell v).cost ≡ Some x = ap (λ (own : Cell). own.cost) (sym same) ∙ is in
         subst (λ (own : Cell). IsNotAfter (chosen.cost +ℤ label u) (cell u).round (x +ℤ label v) own.round) (sym same)
         (subst (λ (z : ℤ). IsNotAfter z (cell u).round (x +ℤ label v) (cell v).round) chosen.key_is
-        (subst (λ (k : ℕ). IsNotAfter key k (x +ℤ label v) (cell v).round) chosen.round_is (chosen.first v x inside (waited v waiting) was)))
+        (subst (λ (k : ℕ). IsNotAfter key k (x +ℤ label v) (cell v).round) chosen.round_is
+        (chosen.first v x inside (waited v waiting) was)))
     | inr goes ↦
         let two = parts (arc v u) (cell u).cost goes.cost goes.sum in
         let kept : label u ≤ℤ (label v +ℤ two.first) = keeps v u two.first off_end two.first_is in
-        let same : two.second ≡ chosen.cost = same_cost (cell u).cost two.second chosen.cost two.second_is chosen.cost_is in
+        let same : two.second ≡ chosen.cost =
+        same_cost (cell u).cost two.second chosen.cost two.second_is chosen.cost_is in
         let whole : goes.cost ≡ x = same_cost (new v).cost goes.cost x goes.cost_is is in
         (omega (arith, ints, kept, same, whole, two.sum_is), λ back. omega (arith, goes.round_is))
   ]
@@ -228,39 +253,53 @@ module _ (nodes : ℕ) (arc : ℕ → ℕ → Option ℤ) (end : ℕ) (label : �
     order = λ v x w y inside node off leads v_shut x_waits v_is x_is.
         let same = unchanged v inside v_shut off in
         subst (λ (own : Cell). IsNotAfter (w +ℤ label v) own.round (y +ℤ label x) (new x).round) (sym same)
-        (not_after-trans (w +ℤ label v) (cell v).round (chosen.cost +ℤ label u) (cell u).round (y +ℤ label x) (new x).round
-        (before_own v w inside off leads v_shut (ap (λ (own : Cell). own.cost) (sym same) ∙ v_is)) (before_new x y node x_waits x_is));
+        (not_after-trans (w +ℤ label v) (cell v).round (chosen.cost +ℤ label u) (cell u).round (y +ℤ label x)
+        (new x).round
+        (before_own v w inside off leads v_shut (ap (λ (own : Cell). own.cost) (sym same) ∙ v_is))
+        (before_new x y node x_waits x_is));
     reached = reached;
     leads = λ v inside. (led v inside).0;
     passes = λ v inside. (led v inside).1;
     none = λ v inside is. elim (stepped v inside) [
-      | inl same ↦ ap (λ (own : Cell). own.round) same ∙ known.none v inside (ap (λ (own : Cell). own.cost) (sym same) ∙ is)
+      | inl same ↦
+          ap (λ (own : Cell). own.round) same ∙ known.none v inside (ap (λ (own : Cell). own.cost) (sym same) ∙ is)
       | inr goes ↦ absurd (none-some goes.cost (sym is ∙ goes.cost_is))
     ];
     few = λ v inside. elim (stepped v inside) [
-      | inl same ↦ let e : (new v).round ≡ (cell v).round = ap (λ (own : Cell). own.round) same in omega (arith, e, known.few v inside)
+      | inl same ↦ let e : (new v).round ≡ (cell v).round = ap (λ (own : Cell). own.round) same in
+          omega (arith, e, known.few v inside)
       | inr goes ↦ omega (arith, goes.round_is, known.few u chosen.inside)
     ];
   }
     where
-      over : (v x : ℕ) (cost w : ℤ) → x ≢ end → now x ≡ false → arc v x ≡ Some cost → (new x).cost ≡ Some w → HasBy (new v) (cost +ℤ w) ((new x).round + 1)
+      over : (v x : ℕ) (cost w : ℤ) → x ≢ end → now x ≡ false → arc v x ≡ Some cost → (new x).cost ≡ Some w
+          → HasBy (new v) (cost +ℤ w) ((new x).round + 1)
       over v x cost w off shut is x_is =
           let two = between v x cost is in
           let same = unchanged x two.1 shut off in
           let was : (cell x).cost ≡ Some w = ap (λ (own : Cell). own.cost) (sym same) ∙ x_is in
           subst (λ (own : Cell). HasBy (new v) (cost +ℤ w) (own.round + 1)) (sym same) (elim (cases_eq x u) [
             | inl here ↦
-                let e : chosen.cost ≡ w = same_cost (cell u).cost chosen.cost w chosen.cost_is (subst (λ (z : ℕ). (cell z).cost ≡ Some w) here was) in
+                let e : chosen.cost ≡ w =
+                same_cost (cell u).cost chosen.cost w chosen.cost_is
+                (subst (λ (z : ℕ). (cell z).cost ≡ Some w) here was) in
                 subst (λ (z : ℕ). HasBy (new v) (cost +ℤ w) ((cell z).round + 1)) (sym here)
-                (subst (λ (z : ℤ). HasBy (new v) (cost +ℤ z) ((cell u).round + 1)) e (over_own v cost (subst (λ (z : ℕ). arc v z ≡ Some cost) here is)))
-            | inr other ↦ has_still v two.0 (cost +ℤ w) ((cell x).round + 1) (known.over v x cost w off (sym (others x other) ∙ shut) is was)
+                (subst (λ (z : ℤ). HasBy (new v) (cost +ℤ z) ((cell u).round + 1)) e
+                (over_own v cost (subst (λ (z : ℕ). arc v z ≡ Some cost) here is)))
+            | inr other ↦
+                has_still v two.0 (cost +ℤ w) ((cell x).round + 1) (known.over v x cost w off (sym (others x other)
+                ∙ shut) is was)
           ])
 
       reached : (v x : ℕ) (cost : ℤ) → v ≢ end → now v ≡ false → arc v x ≡ Some cost → (w : ℤ) × ((new v).cost ≡ Some w)
       reached v x cost off shut is =
           let same = unchanged v (between v x cost is).0 shut off in
           elim (cases_eq v u) [
-            | inl here ↦ (chosen.cost, ap (λ (own : Cell). own.cost) same ∙ subst (λ (z : ℕ). (cell z).cost ≡ Some chosen.cost) (sym here) chosen.cost_is)
+            | inl here ↦ (
+              chosen.cost,
+              ap (λ (own : Cell). own.cost) same ∙ subst (λ (z : ℕ). (cell z).cost ≡ Some chosen.cost)
+                  (sym here) chosen.cost_is,
+            )
             | inr other ↦
                 let was = known.reached v x cost off (sym (others v other) ∙ shut) is in
                 (was.0, ap (λ (own : Cell). own.cost) same ∙ was.1)
@@ -268,17 +307,23 @@ module _ (nodes : ℕ) (arc : ℕ → ℕ → Option ℤ) (end : ℕ) (label : �
 
       old_trail : (v : ℕ) → v < nodes → new v ≡ cell v → trail new (cell v).round v ≡ trail cell (cell v).round v
       old_trail v inside same = trail_same cell new (cell v).round v same
-          (All-weaker (λ x. (x < nodes) × (x ≢ end) × (waits x ≡ false)) (λ x. new x ≡ cell x) (λ x h. unchanged x h.0 (still_shut x h.2) h.1) (trail cell (cell v).round v) (known.passes v inside))
+          (All-weaker (λ x. (x < nodes) × (x ≢ end) × (waits x ≡ false)) (λ x. new x ≡ cell x)
+          (λ x h. unchanged x h.0 (still_shut x h.2) h.1) (trail cell (cell v).round v) (known.passes v inside))
 
-      old_passes : (v : ℕ) → v < nodes → All (λ x. (x < nodes) × (x ≢ end) × (now x ≡ false)) (trail cell (cell v).round v)
-      old_passes v inside = All-weaker (λ x. (x < nodes) × (x ≢ end) × (waits x ≡ false)) (λ x. (x < nodes) × (x ≢ end) × (now x ≡ false))
+      old_passes : (v : ℕ) → v < nodes → All (λ x. (x < nodes) × (x ≢ end)
+          × (now x ≡ false)) (trail cell (cell v).round v)
+      old_passes v inside = All-weaker (λ x. (x < nodes) × (x ≢ end) × (waits x ≡ false)) (λ x. (x < nodes) × (x ≢ end)
+          × (now x ≡ false))
           (λ x h. (h.0, h.1, still_shut x h.2)) (trail cell (cell v).round v) (known.passes v inside)
 
-      led : (v : ℕ) → v < nodes → (walk_cost arc v (trail new (new v).round v) end ≡ (new v).cost) × All (λ x. (x < nodes) × (x ≢ end) × (now x ≡ false)) (trail new (new v).round v)
+      led : (v : ℕ) → v < nodes → (walk_cost arc v (trail new (new v).round v) end ≡ (new v).cost)
+          × All (λ x. (x < nodes) × (x ≢ end) × (now x ≡ false)) (trail new (new v).round v)
       led v inside = elim (stepped v inside) [
         | inl same ↦
-            let e : trail new (new v).round v ≡ trail cell (cell v).round v = ap (λ (own : Cell). trail new own.round v) same ∙ old_trail v inside same in (
-              ap (λ (us : List ℕ). walk_cost arc v us end) e ∙ known.leads v inside ∙ ap (λ (own : Cell). own.cost) (sym same),
+            let e : trail new (new v).round v ≡ trail cell (cell v).round v =
+            ap (λ (own : Cell). trail new own.round v) same ∙ old_trail v inside same in (
+              ap (λ (us : List ℕ). walk_cost arc v us end) e ∙ known.leads v inside
+                  ∙ ap (λ (own : Cell). own.cost) (sym same),
               subst (All (λ x. (x < nodes) × (x ≢ end) × (now x ≡ false))) (sym e) (old_passes v inside),
             )
         | inr goes ↦
@@ -290,6 +335,7 @@ module _ (nodes : ℕ) (arc : ℕ → ℕ → Option ℤ) (end : ℕ) (label : �
                   ∙ ap (λ (z : Option ℤ). both (arc v u) z) (known.leads u chosen.inside)
                   ∙ goes.sum ∙ sym goes.cost_is,
               subst (All (λ x. (x < nodes) × (x ≢ end) × (now x ≡ false))) (sym e)
-                  (All-cons (λ x. (x < nodes) × (x ≢ end) × (now x ≡ false)) u (trail cell (cell u).round u) (chosen.inside, off_end, closed) (old_passes u chosen.inside)),
+                  (All-cons (λ x. (x < nodes) × (x ≢ end) × (now x ≡ false)) u (trail cell (cell u).round u)
+                  (chosen.inside, off_end, closed) (old_passes u chosen.inside)),
             )
       ]

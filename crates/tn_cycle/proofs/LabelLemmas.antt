@@ -40,26 +40,37 @@ none_negative_kept arc label keeps u vs cost walk =
     let round : label u ≤ℤ (label u +ℤ cost) = walk_kept arc label keeps u vs u cost walk in omega (arith, ints, round)
 
 -- what a search to the sink found, however the sink is written, and the room that its costs leave
-pub sunk_at : (nodes sink : ℕ) (arc : ℕ → ℕ → Option ℤ) (cell : ℕ → Cell) → AreSmall arc most_cost → nodes ≤ most_graph_nodes → sink ≡ nodes
-    → IsSettled (nodes + 1) (with_sink nodes arc) sink cell → IsSettled (nodes + 1) (with_sink nodes arc) nodes cell × HasRoom (nodes + 1) cell
+pub sunk_at : (nodes sink : ℕ) (arc : ℕ → ℕ → Option ℤ) (cell : ℕ → Cell) → AreSmall arc most_cost
+    → nodes ≤ most_graph_nodes → sink ≡ nodes
+    → IsSettled (nodes + 1) (with_sink nodes arc) sink cell → IsSettled (nodes + 1) (with_sink nodes arc) nodes cell
+    × HasRoom (nodes + 1) cell
 sunk_at nodes sink arc cell small few same settled =
-    let found : IsSettled (nodes + 1) (with_sink nodes arc) nodes cell = subst (λ (k : ℕ). IsSettled (nodes + 1) (with_sink nodes arc) k cell) same settled in
-    (found, led_room (nodes + 1) (with_sink nodes arc) nodes cell (small-with_sink nodes most_cost arc small) (omega (arith, few)) found.leads found.few)
+    let found : IsSettled (nodes + 1) (with_sink nodes arc) nodes cell =
+    subst (λ (k : ℕ). IsSettled (nodes + 1) (with_sink nodes arc) k cell) same settled in (
+      found,
+      led_room (nodes + 1) (with_sink nodes arc) nodes cell (small-with_sink nodes most_cost arc small)
+          (omega (arith, few)) found.leads found.few,
+    )
 
 -- a walk to the sink, by the number of its arcs before the last
-sunk_low : (nodes : ℕ) (arc : ℕ → ℕ → Option ℤ) (limit : ℕ) → AreSmall arc limit → (v : ℕ) (ws : List ℕ) (cost : ℤ) → Avoids nodes ws
+sunk_low : (nodes : ℕ) (arc : ℕ → ℕ → Option ℤ) (limit : ℕ) → AreSmall arc limit → (v : ℕ) (ws : List ℕ) (cost : ℤ)
+    → Avoids nodes ws
     → walk_cost (with_sink nodes arc) v ws nodes ≡ Some cost → neg_ℤ (pos (length ws * limit)) ≤ℤ cost
 sunk_low nodes arc limit small v [] cost avoids walk =
     let inside = some_if (nat_lt v nodes) (if nodes == nodes then Some (pos 0) else arc v nodes) cost walk in
-    let e : pos 0 ≡ cost = same_Some (pos 0) cost (sym (ap (λ (s : Bool). if s then Some (pos 0) else arc v nodes) (eq-eqb nodes nodes refl)) ∙ inside.1) in
+    let e : pos 0 ≡ cost =
+    same_Some (pos 0) cost (sym (ap (λ (s : Bool). if s then Some (pos 0)
+    else arc v nodes) (eq-eqb nodes nodes refl)) ∙ inside.1) in
     omega (arith, ints, e)
 sunk_low nodes arc limit small v (u ∷ us) cost avoids walk =
     let two = parts (with_sink nodes arc v u) (walk_cost (with_sink nodes arc) u us nodes) cost walk in
     let other : u ≢ nodes = avoids-head nodes u us avoids in
     let inside = some_if (nat_lt v nodes) (if u == nodes then Some (pos 0) else arc v u) two.first two.first_is in
-    let plain : arc v u ≡ Some two.first = sym (ap (λ (s : Bool). if s then Some (pos 0) else arc v u) (ne_eqb u nodes other)) ∙ inside.1 in
+    let plain : arc v u ≡ Some two.first =
+    sym (ap (λ (s : Bool). if s then Some (pos 0) else arc v u) (ne_eqb u nodes other)) ∙ inside.1 in
     let one = small v u two.first plain in
-    let rest : neg_ℤ (pos (length us * limit)) ≤ℤ two.second = sunk_low nodes arc limit small u us two.second (avoids-tail nodes u us avoids) two.second_is in
+    let rest : neg_ℤ (pos (length us * limit)) ≤ℤ two.second =
+    sunk_low nodes arc limit small u us two.second (avoids-tail nodes u us avoids) two.second_is in
     omega (arith, ints, one.low, rest, two.sum_is)
 
 module _ (nodes : ℕ) (arc : ℕ → ℕ → Option ℤ) (cell : ℕ → Cell) (between : AreBetweenNodes nodes arc)
@@ -71,37 +82,46 @@ module _ (nodes : ℕ) (arc : ℕ → ℕ → Option ℤ) (cell : ℕ → Cell) 
   -- each node has a walk to the sink, of cost 0 at most
   pub sunk : (v : ℕ) → v < nodes → (z : ℤ) × ((cell v).cost ≡ Some z) × (z ≤ℤ pos 0)
   sunk v inside =
-      by (cell v).cost refl (subst (IsUpTo (cell v).cost) (to_sink nodes arc v inside) (found.least v [] (omega (arith, inside)) (All-nil (λ u. u ≢ nodes))))
+      by (cell v).cost refl (subst (IsUpTo (cell v).cost) (to_sink nodes arc v inside)
+      (found.least v [] (omega (arith, inside)) (All-nil (λ u. u ≢ nodes))))
     where
-      by : (o : Option ℤ) → (cell v).cost ≡ o → IsUpTo o (Some (pos 0)) → (z : ℤ) × ((cell v).cost ≡ Some z) × (z ≤ℤ pos 0)
+      by : (o : Option ℤ) → (cell v).cost ≡ o → IsUpTo o (Some (pos 0)) → (z : ℤ) × ((cell v).cost ≡ Some z)
+          × (z ≤ℤ pos 0)
       by None e up = absurd up
       by (Some z) e up = (z, e, up)
 
   -- going over an arc first costs no less
-  sunk_over : (u v : ℕ) (cost : ℤ) → arc u v ≡ Some cost → (a b : ℤ) → (cell u).cost ≡ Some a → (cell v).cost ≡ Some b → a ≤ℤ (cost +ℤ b)
+  sunk_over : (u v : ℕ) (cost : ℤ) → arc u v ≡ Some cost → (a b : ℤ) → (cell u).cost ≡ Some a → (cell v).cost ≡ Some b
+      → a ≤ℤ (cost +ℤ b)
   sunk_over u v cost is a b a_is b_is =
       let two = between u v cost is in
       let second : v < nodes + 1 = omega (arith, two.1) in
       let first : u < nodes + 1 = omega (arith, two.0) in
       let passes : v ≢ nodes = λ e. omega (arith, e, two.1) in
       let start : u ≢ nodes = λ e. omega (arith, e, two.0) in
-      let least = found.least u (v ∷ trail cell (cell v).round v) first (avoids-cons nodes v (trail cell (cell v).round v) passes (found.avoids v second)) in
+      let least = found.least u (v ∷ trail cell (cell v).round v) first
+      (avoids-cons nodes v (trail cell (cell v).round v) passes (found.avoids v second)) in
       let walk : walk_cost (with_sink nodes arc) u (v ∷ trail cell (cell v).round v) nodes ≡ Some (cost +ℤ b) =
-      ap (λ (z : Option ℤ). both z (walk_cost (with_sink nodes arc) v (trail cell (cell v).round v) nodes)) (off_sink nodes arc between u v start passes ∙ is)
+      ap (λ (z : Option ℤ). both z (walk_cost (with_sink nodes arc) v (trail cell (cell v).round v) nodes))
+      (off_sink nodes arc between u v start passes ∙ is)
       ∙ ap (λ (z : Option ℤ). both (Some cost) z) (found.leads v second ∙ b_is) in
       let known : IsUpTo (Some a) (Some (cost +ℤ b)) = subst (IsUpTo (Some a)) walk
-      (subst (λ (z : Option ℤ). IsUpTo z (walk_cost (with_sink nodes arc) u (v ∷ trail cell (cell v).round v) nodes)) a_is least) in
+      (subst (λ (z : Option ℤ). IsUpTo z (walk_cost (with_sink nodes arc) u (v ∷ trail cell (cell v).round v) nodes))
+      a_is least) in
       known
 
   -- the labels keep the arcs
-  pub labels_keep : (lowest : ℤ) (label : ℕ → ℤ) → ((v : ℕ) → v < nodes → label v ≡ lowest -ℤ unwrap_or (cell v).cost (pos 0)) → KeepsArcs arc label
+  pub labels_keep : (lowest : ℤ) (label : ℕ → ℤ) → ((v : ℕ) → v < nodes
+      → label v ≡ lowest -ℤ unwrap_or (cell v).cost (pos 0)) → KeepsArcs arc label
   labels_keep lowest label labels u v cost is =
       let two = between u v cost is in
       let start = sunk u two.0 in
       let next = sunk v two.1 in
       let over : start.0 ≤ℤ (cost +ℤ next.0) = sunk_over u v cost is start.0 next.0 start.1 next.1 in
-      let first : label u ≡ lowest -ℤ start.0 = labels u two.0 ∙ ap (λ (z : Option ℤ). lowest -ℤ unwrap_or z (pos 0)) start.1 in
-      let second : label v ≡ lowest -ℤ next.0 = labels v two.1 ∙ ap (λ (z : Option ℤ). lowest -ℤ unwrap_or z (pos 0)) next.1 in
+      let first : label u ≡ lowest -ℤ start.0 = labels u two.0
+      ∙ ap (λ (z : Option ℤ). lowest -ℤ unwrap_or z (pos 0)) start.1 in
+      let second : label v ≡ lowest -ℤ next.0 = labels v two.1
+      ∙ ap (λ (z : Option ℤ). lowest -ℤ unwrap_or z (pos 0)) next.1 in
       omega (arith, ints, over, first, second)
 
   -- the least walks to the sink have few arcs before their last
@@ -119,26 +139,31 @@ module _ (nodes : ℕ) (arc : ℕ → ℕ → Option ℤ) (cell : ℕ → Cell) 
         led_apart (nodes + 1) (with_sink nodes arc) nodes cell wide off found v here.0 node here.1,
       ) in
       let all : All (λ u. u < nodes + 1) (v ∷ trail cell (cell v).round v) =
-      All-cons (λ u. u < nodes + 1) v (trail cell (cell v).round v) node (led_inside (nodes + 1) (with_sink nodes arc) nodes cell wide off found v node) in
+      All-cons (λ u. u < nodes + 1) v (trail cell (cell v).round v) node
+      (led_inside (nodes + 1) (with_sink nodes arc) nodes cell wide off found v node) in
       let few : length (v ∷ trail cell (cell v).round v) < nodes + 1 =
-      few_apart (nodes + 1) nodes (v ∷ trail cell (cell v).round v) (omega arith) all (avoids-cons nodes v (trail cell (cell v).round v) other (found.avoids v node)) apart in
+      few_apart (nodes + 1) nodes (v ∷ trail cell (cell v).round v) (omega arith) all
+      (avoids-cons nodes v (trail cell (cell v).round v) other (found.avoids v node)) apart in
       let low : neg_ℤ (pos (length (trail cell (cell v).round v) * limit)) ≤ℤ here.0 =
       sunk_low nodes arc limit small v (trail cell (cell v).round v) here.0 (found.avoids v node)
       (led_walk (nodes + 1) (with_sink nodes arc) nodes cell wide off found v here.0 node here.1) in
-      let more : length (trail cell (cell v).round v) * limit ≤ (nodes - 1) * limit = mul-le-mul_right limit (omega (arith, few)) in
+      let more : length (trail cell (cell v).round v) * limit ≤ (nodes - 1) * limit =
+      mul-le-mul_right limit (omega (arith, few)) in
       let is : unwrap_or (cell v).cost (pos 0) ≡ here.0 = ap (λ (z : Option ℤ). unwrap_or z (pos 0)) here.1 in
       omega (arith, ints, low, more, is)
 
   -- the labels answer
   pub are_labels : (lowest : ℤ) (labels : List ℤ) → IsLowest nodes cell lowest → length labels ≡ nodes
-      → ((v : ℕ) → v < nodes → label_in labels v ≡ lowest -ℤ unwrap_or (cell v).cost (pos 0)) → AreLabels nodes arc labels
+      → ((v : ℕ) → v < nodes → label_in labels v ≡ lowest -ℤ unwrap_or (cell v).cost (pos 0))
+      → AreLabels nodes arc labels
   are_labels lowest labels least sized are = record {
     one_each = sized;
     keeps = keeps;
     high = λ v inside. omega (arith, ints, are v inside, least.at_most_each v inside);
     low = λ limit v small inside.
         let bound : neg_ℤ (pos ((nodes - 1) * limit)) ≤ℤ lowest =
-        least.greatest (neg_ℤ (pos ((nodes - 1) * limit))) (omega (arith, ints)) (λ u node. depth_low none limit u small node) in
+        least.greatest (neg_ℤ (pos ((nodes - 1) * limit))) (omega (arith, ints))
+        (λ u node. depth_low none limit u small node) in
         let depth_high : unwrap_or (cell v).cost (pos 0) ≤ℤ pos 0 =
         let here = sunk v inside in subst (λ (z : Option ℤ). unwrap_or z (pos 0) ≤ℤ pos 0) (sym here.1) here.2 in
         omega (arith, ints, are v inside, bound, depth_high);
@@ -151,7 +176,8 @@ module _ (nodes : ℕ) (arc : ℕ → ℕ → Option ℤ) (cell : ℕ → Cell) 
       none = none_negative_kept arc (label_in labels) keeps
 
   -- the lowest cost is far from the limits of its type
-  pub lowest_small : (lowest : ℤ) → HasRoom (nodes + 1) cell → IsLowest nodes cell lowest → IsAtMost lowest most_walk_cost
+  pub lowest_small : (lowest : ℤ) → HasRoom (nodes + 1) cell → IsLowest nodes cell lowest
+      → IsAtMost lowest most_walk_cost
   lowest_small lowest room least = record {
     low = least.greatest (neg_ℤ (pos most_walk_cost)) (omega (arith, ints)) each;
     high = omega (arith, ints, least.at_most_none);

@@ -1,3 +1,4 @@
+-- The files of lemmas of this crate.
 pub mod CellLemmas
 pub mod ReadLemmas
 pub mod SettledLemmas

@@ -24,13 +24,21 @@ pub record Parts (a b : Option ℤ) (sum : ℤ) : Type 0 where
 pub parts : (a b : Option ℤ) (sum : ℤ) → both a b ≡ Some sum → Parts a b sum
 parts None b sum e = absurd (none-some sum e)
 parts (Some a) None sum e = absurd (none-some sum e)
-parts (Some a) (Some b) sum e = record { first = a; second = b; first_is = refl; second_is = refl; sum_is = same_Some (a +ℤ b) sum e }
+parts (Some a) (Some b) sum e = record {
+  first = a;
+  second = b;
+  first_is = refl;
+  second_is = refl;
+  sum_is =
+      same_Some (a +ℤ b) sum e;
+}
 
 pub both-assoc : (a b c : Option ℤ) → both (both a b) c ≡ both a (both b c)
 both-assoc None b c = refl
 both-assoc (Some a) None c = refl
 both-assoc (Some a) (Some b) None = refl
-both-assoc (Some a) (Some b) (Some c) = let e : (a +ℤ b) +ℤ c ≡ a +ℤ (b +ℤ c) = omega (arith, ints) in ap (λ (z : ℤ). Some z) e
+both-assoc (Some a) (Some b) (Some c) = let e : (a +ℤ b) +ℤ c ≡ a +ℤ (b +ℤ c) = omega (arith, ints) in
+    ap (λ (z : ℤ). Some z) e
 
 pub both-comm : (a b : Option ℤ) → both a b ≡ both b a
 both-comm None None = refl

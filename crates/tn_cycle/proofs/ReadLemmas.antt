@@ -26,11 +26,13 @@ listed-next cell path count k v whole fewer inside before =
     ap (λ (n : ℕ). take n (slice_set path k v) ++ onward) e
     ∙ ap (λ (xs : List ℕ). xs ++ onward) (take-suc-set path k v inside)
     ∙ append_assoc (take k path) (v ∷ []) onward
-    ∙ ap (λ (xs : List ℕ). take k path ++ (v ∷ xs)) (sym (trail-next cell v (count - k) (count - (k + 1)) (omega (arith, fewer))))
+    ∙ ap (λ (xs : List ℕ). take k path ++ (v ∷ xs)) (sym
+    (trail-next cell v (count - k) (count - (k + 1)) (omega (arith, fewer))))
     ∙ before
 
 -- the nodes that are left are inside
-pub inside-next : (cell : ℕ → Cell) (places count k v : ℕ) → k < count → All (λ u. u < places) (v ∷ trail cell (count - k) v)
+pub inside-next : (cell : ℕ → Cell) (places count k v : ℕ) → k < count
+    → All (λ u. u < places) (v ∷ trail cell (count - k) v)
     → All (λ u. u < places) ((cell v).next ∷ trail cell (count - (k + 1)) (cell v).next)
 inside-next cell places count k v fewer inside =
     subst (All (λ u. u < places)) (trail-next cell v (count - k) (count - (k + 1)) (omega (arith, fewer)))
@@ -39,12 +41,15 @@ inside-next cell places count k v fewer inside =
 -- what was written to the front of a list is read there
 pub front-written : {A : Type 0} (written rest : List A) (count places : ℕ) → count ≤ places → count ≤ length written
     → take count (take places (written ++ rest)) ≡ take count written
-front-written written rest count places within inside = take-take count places (written ++ rest) within ∙ take-append-le count written rest inside
+front-written written rest count places within inside =
+    take-take count places (written ++ rest) within ∙ take-append-le count written rest inside
 
 -- the listed walk without its end
-pub way-front : (end : ℕ) (cell : ℕ → Cell) (v : ℕ) (path : List ℕ) (count : ℕ) → count ≡ (cell v).round + 1 → take (count + 1) path ≡ way end cell v
+pub way-front : (end : ℕ) (cell : ℕ → Cell) (v : ℕ) (path : List ℕ) (count : ℕ) → count ≡ (cell v).round + 1
+    → take (count + 1) path ≡ way end cell v
     → take count path ≡ v ∷ trail cell (cell v).round v
 way-front end cell v path count counted whole =
-    let size : length (v ∷ trail cell (cell v).round v) ≡ count = omega (arith, length-trail cell (cell v).round v, counted) in
+    let size : length (v ∷ trail cell (cell v).round v) ≡ count =
+    omega (arith, length-trail cell (cell v).round v, counted) in
     let e = take-take count (count + 1) path (omega arith) in
     sym e ∙ ap (take count) whole ∙ take_at (v ∷ trail cell (cell v).round v) (end ∷ []) count size

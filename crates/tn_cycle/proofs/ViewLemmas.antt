@@ -20,12 +20,15 @@ use Rattle.tn_cycle.proofs.SettledLemmas.{led_inside}
 use Rattle.tn_cycle.proofs.TurnLemmas.{leads_along}
 
 -- a list that was lent whole and written is what was written
-pub written-back : {A : Type 0} (written old : List A) (places : ℕ) → length written ≡ places → take places (written ++ drop (length written) old) ≡ written
+pub written-back : {A : Type 0} (written old : List A) (places : ℕ) → length written ≡ places
+    → take places (written ++ drop (length written) old) ≡ written
 written-back written old places whole =
-    sym (take-all-twice written old places whole) ∙ front-written written (drop (length written) old) places places (omega arith) (omega (arith, whole)) ∙ take_all places written (omega (arith, whole))
+    sym (take-all-twice written old places whole) ∙ front-written written (drop (length written) old) places places
+    (omega arith) (omega (arith, whole)) ∙ take_all places written (omega (arith, whole))
   where
     take-all-twice : {A : Type 0} (written old : List A) (places : ℕ) → length written ≡ places
-        → take places (take places (written ++ drop (length written) old)) ≡ take places (written ++ drop (length written) old)
+        → take places (take places (written ++ drop (length written) old))
+        ≡ take places (written ++ drop (length written) old)
     take-all-twice written old places whole = take_all places (take places (written ++ drop (length written) old))
         (omega (arith, length-take places (written ++ drop (length written) old)))
 
@@ -33,10 +36,12 @@ written-back written old places whole =
 pub whole-read : {A : Type 0} (written old : List A) (count places : ℕ) → length written ≡ places → count ≡ places
     → take count (take places (written ++ drop (length written) old)) ≡ written
 whole-read written old count places whole all =
-    front-written written (drop (length written) old) count places (omega (arith, all)) (omega (arith, whole, all)) ∙ take_all count written (omega (arith, whole, all))
+    front-written written (drop (length written) old) count places (omega (arith, all)) (omega (arith, whole, all))
+    ∙ take_all count written (omega (arith, whole, all))
 
 -- all labels are read off the finder, where there is one for each place
-pub all-read : (f : Inside) (now : Reading) → reading_of f.nodes f.count f.path.items f.labelled f.labels.items f.reached f.turns f.end f.row.items ≡ now
+pub all-read : (f : Inside) (now : Reading)
+    → reading_of f.nodes f.count f.path.items f.labelled f.labels.items f.reached f.turns f.end f.row.items ≡ now
     → length f.labels.items ≤ length now.labels → now.labels ≡ f.labels.items
 all-read f now view many =
     let is : take f.labelled f.labels.items ≡ now.labels = ap (λ (reading : Reading). reading.labels) view in
@@ -48,10 +53,13 @@ pub signed_near_all : (negates : Bool) (old new : List ℤ) → length new ≡ l
     → ((v : ℕ) → v < length old → label_in new v ≡ signed negates (label_in old v)) → AreNear most_label new
 signed_near_all negates old new sized near are v inside =
     let places : v < length old = omega (arith, inside, sized) in
-    subst (λ (z : ℤ). IsAtMost z most_label) (sym (are v places)) (signed_near negates (label_in old v) most_label (near v places))
+    subst (λ (z : ℤ). IsAtMost z most_label) (sym (are v places))
+    (signed_near negates (label_in old v) most_label (near v places))
 
-pub signed_keep : (negates : Bool) (nodes : ℕ) (arc : ℕ → ℕ → Option ℤ) (old new : List ℤ) → AreBetweenNodes nodes arc → nodes ≡ length old
-    → ((v : ℕ) → v < length old → label_in new v ≡ signed negates (label_in old v)) → KeepsArcs arc (λ v. signed negates (label_in old v)) → KeepsArcs arc (label_in new)
+pub signed_keep : (negates : Bool) (nodes : ℕ) (arc : ℕ → ℕ → Option ℤ) (old new : List ℤ) → AreBetweenNodes nodes arc
+    → nodes ≡ length old
+    → ((v : ℕ) → v < length old → label_in new v ≡ signed negates (label_in old v))
+    → KeepsArcs arc (λ v. signed negates (label_in old v)) → KeepsArcs arc (label_in new)
 signed_keep negates nodes arc old new between sized are keeps u v cost is =
     let two = between u v cost is in
     let first : label_in new u ≡ signed negates (label_in old u) = are u (omega (arith, two.0, sized)) in
@@ -60,63 +68,78 @@ signed_keep negates nodes arc old new between sized are keeps u v cost is =
     omega (arith, ints, first, second, kept)
 
 -- the cost and the walk of a node
-pub distance-read : (nodes count : ℕ) (path : List ℕ) (labelled : ℕ) (labels : List ℤ) (reached : ℕ) (turns : Bool) (end : ℕ) (row : List Cell) (v : ℕ) → v < reached
+pub distance-read : (nodes count : ℕ) (path : List ℕ) (labelled : ℕ) (labels : List ℤ) (reached : ℕ) (turns : Bool)
+    (end : ℕ) (row : List Cell) (v : ℕ) → v < reached
     → distance_in (reading_of nodes count path labelled labels reached turns end row) v ≡ (cell_at row v).cost
 distance-read nodes count path labelled labels reached turns end row v inside =
     get_or-map-range_with_len (λ (u : ℕ). (cell_at row u).cost) 0 reached v v None inside (omega arith)
 
-pub walk-read : (nodes count : ℕ) (path : List ℕ) (labelled : ℕ) (labels : List ℤ) (reached : ℕ) (turns : Bool) (end : ℕ) (row : List Cell) (v : ℕ) → v < reached
-    → walk_in (reading_of nodes count path labelled labels reached turns end row) v ≡ walk_nodes turns end (cell_at row) v
+pub walk-read : (nodes count : ℕ) (path : List ℕ) (labelled : ℕ) (labels : List ℤ) (reached : ℕ) (turns : Bool)
+    (end : ℕ) (row : List Cell) (v : ℕ) → v < reached
+    → walk_in (reading_of nodes count path labelled labels reached turns end row) v
+    ≡ walk_nodes turns end (cell_at row) v
 walk-read nodes count path labelled labels reached turns end row v inside =
     get_or-map-range_with_len (walk_nodes turns end (cell_at row)) 0 reached v v _ inside (omega arith)
 
 -- how many nodes have a cost
-pub distances-count : (nodes count : ℕ) (path : List ℕ) (labelled : ℕ) (labels : List ℤ) (reached : ℕ) (turns : Bool) (end : ℕ) (row : List Cell)
+pub distances-count : (nodes count : ℕ) (path : List ℕ) (labelled : ℕ) (labels : List ℤ) (reached : ℕ) (turns : Bool)
+    (end : ℕ) (row : List Cell)
     → length (reading_of nodes count path labelled labels reached turns end row).distances ≡ reached
-distances-count nodes count path labelled labels reached turns end row = length-map-range_with_len (λ (u : ℕ). (cell_at row u).cost) 0 reached
+distances-count nodes count path labelled labels reached turns end row =
+    length-map-range_with_len (λ (u : ℕ). (cell_at row u).cost) 0 reached
 
 -- and that many are read off the finder
 pub reached-read : (f : Inside) (now : Reading)
-    → reading_of f.nodes f.count f.path.items f.labelled f.labels.items f.reached f.turns f.end f.row.items ≡ now → length now.distances ≡ f.reached
+    → reading_of f.nodes f.count f.path.items f.labelled f.labels.items f.reached f.turns f.end f.row.items ≡ now
+    → length now.distances ≡ f.reached
 reached-read f now view =
     ap (λ (reading : Reading). length reading.distances) (sym view)
     ∙ distances-count f.nodes f.count f.path.items f.labelled f.labels.items f.reached f.turns f.end f.row.items
 
 -- a settled search can be listed
-pub listable_all : (nodes : ℕ) (arc : ℕ → ℕ → Option ℤ) (end : ℕ) (row : List Cell) → AreBetweenNodes nodes arc → HasNoNegativeCycle arc
+pub listable_all : (nodes : ℕ) (arc : ℕ → ℕ → Option ℤ) (end : ℕ) (row : List Cell) → AreBetweenNodes nodes arc
+    → HasNoNegativeCycle arc
     → IsSettled nodes arc end (cell_at row) → nodes ≤ length row → (v : ℕ) → v < nodes → IsListable (nodes + 2) row v
 listable_all nodes arc end row between none found places v inside =
     let short : (cell_at row v).round < nodes = found.few v inside in
     record {
       few = omega (arith, short);
-      inside = All-weaker (λ u. u < nodes) (λ u. u < length row) (λ u h. omega (arith, h, places)) (trail (cell_at row) (cell_at row v).round v)
+      inside = All-weaker (λ u. u < nodes) (λ u. u < length row) (λ u h. omega (arith, h, places))
+          (trail (cell_at row) (cell_at row v).round v)
           (led_inside nodes arc end (cell_at row) between (λ u vs z _ _ walk. none u vs z walk) found v inside);
     }
 
 -- what is read after a search
-pub reads_along : (turns : Bool) (nodes : ℕ) (arc : ℕ → ℕ → Option ℤ) (end : ℕ) (path : List ℕ) (labels : List ℤ) (row : List Cell) → AreBetweenNodes nodes arc
+pub reads_along : (turns : Bool) (nodes : ℕ) (arc : ℕ → ℕ
+    → Option ℤ) (end : ℕ) (path : List ℕ) (labels : List ℤ) (row : List Cell) → AreBetweenNodes nodes arc
     → HasNoNegativeCycle arc → IsSettled nodes arc end (cell_at row) → (v : ℕ) → v < nodes
-    → LeadsAlong turns arc v end (walk_in (reading_of nodes 0 path 0 labels nodes turns end row) v) (distance_in (reading_of nodes 0 path 0 labels nodes turns end row) v)
+    → LeadsAlong turns arc v end (walk_in (reading_of nodes 0 path 0 labels nodes turns end row) v)
+    (distance_in (reading_of nodes 0 path 0 labels nodes turns end row) v)
 reads_along turns nodes arc end path labels row between none found v inside =
     let reading = reading_of nodes 0 path 0 labels nodes turns end row in
-    subst (λ (xs : List ℕ). LeadsAlong turns arc v end xs (distance_in reading v)) (sym (walk-read nodes 0 path 0 labels nodes turns end row v inside))
-    (subst (LeadsAlong turns arc v end (walk_nodes turns end (cell_at row) v)) (sym (distance-read nodes 0 path 0 labels nodes turns end row v inside))
+    subst (λ (xs : List ℕ). LeadsAlong turns arc v end xs (distance_in reading v))
+    (sym (walk-read nodes 0 path 0 labels nodes turns end row v inside))
+    (subst (LeadsAlong turns arc v end (walk_nodes turns end (cell_at row) v))
+    (sym (distance-read nodes 0 path 0 labels nodes turns end row v inside))
     (leads_along nodes arc end (cell_at row) between none found turns v inside))
 
 -- the finder keeps its places where others of its cells may be read
-pub places_kept : (nodes count labelled reached path labels row_places waits : ℕ) (row : List Cell) (count' labelled' reached' : ℕ) (row' : List Cell)
-    → HasPlaces nodes count labelled reached path labels row_places waits row → count' ≤ nodes + 2 → labelled' ≤ nodes → reached' ≤ nodes
+pub places_kept : (nodes count labelled reached path labels row_places waits : ℕ) (row : List Cell)
+    (count' labelled' reached' : ℕ) (row' : List Cell)
+    → HasPlaces nodes count labelled reached path labels row_places waits row → count' ≤ nodes + 2 → labelled' ≤ nodes
+    → reached' ≤ nodes
     → ((v : ℕ) → v < reached' → IsListable (nodes + 2) row' v)
     → HasPlaces nodes count' labelled' reached' path labels row_places waits row'
-places_kept nodes count labelled reached path labels row_places waits row count' labelled' reached' row' had few few_labels few_walks listable = record {
-  some = had.some;
-  not_many = had.not_many;
-  row_sized = had.row_sized;
-  waits_sized = had.waits_sized;
-  path_sized = had.path_sized;
-  labels_sized = had.labels_sized;
-  listed = few;
-  labels_read = few_labels;
-  walks_read = few_walks;
-  listable = listable;
-}
+places_kept nodes count labelled reached path labels row_places waits row count' labelled' reached' row' had few
+    few_labels few_walks listable = record {
+      some = had.some;
+      not_many = had.not_many;
+      row_sized = had.row_sized;
+      waits_sized = had.waits_sized;
+      path_sized = had.path_sized;
+      labels_sized = had.labels_sized;
+      listed = few;
+      labels_read = few_labels;
+      walks_read = few_walks;
+      listable = listable;
+    }

@@ -65,7 +65,8 @@ pub record AreLabels (nodes : ℕ) (arc : ℕ → ℕ → Option ℤ) (labels : 
 pub record IsLowest (nodes : ℕ) (cell : ℕ → Cell) (lowest : ℤ) : Type 0 where
   pub at_most_none : lowest ≤ℤ pos 0
   pub at_most_each : (v : ℕ) → v < nodes → lowest ≤ℤ unwrap_or (cell v).cost (pos 0)
-  pub greatest : (bound : ℤ) → bound ≤ℤ pos 0 → ((v : ℕ) → v < nodes → bound ≤ℤ unwrap_or (cell v).cost (pos 0)) → bound ≤ℤ lowest
+  pub greatest : (bound : ℤ) → bound ≤ℤ pos 0 → ((v : ℕ) → v < nodes → bound ≤ℤ unwrap_or (cell v).cost (pos 0))
+      → bound ≤ℤ lowest
 
 -- a cycle begins with the last node, or it lacks that and begins with its lowest node
 abbrev pub BeginsWell : ℕ → ℕ → List ℕ → Type 0
@@ -83,8 +84,10 @@ pub record IsNegative (nodes : ℕ) (arc : ℕ → ℕ → Option ℤ) (listed :
 
 -- labels, where no closed walk is negative, and otherwise a negative cycle
 abbrev pub AnswersLabels : ℕ → (ℕ → ℕ → Option ℤ) → Reading → Labels → Type 0
-AnswersLabels nodes arc reading Feasible = HasNoNegativeCycle arc × AreLabels nodes arc reading.labels × (reading.listed ≡ [])
-AnswersLabels nodes arc reading (Negative cost count) = IsNegative nodes arc reading.listed cost count × (reading.labels ≡ [])
+AnswersLabels nodes arc reading Feasible = HasNoNegativeCycle arc × AreLabels nodes arc reading.labels
+    × (reading.listed ≡ [])
+AnswersLabels nodes arc reading (Negative cost count) = IsNegative nodes arc reading.listed cost count
+    × (reading.labels ≡ [])
 
 -- the nodes of a walk from u to w of least cost, in which no node stands twice but for the two ends, where they are one
 pub record IsLeastPath (arc : ℕ → ℕ → Option ℤ) (u w : ℕ) (listed : List ℕ) (cost : ℤ) : Type 0 where

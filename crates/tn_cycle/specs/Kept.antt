@@ -41,7 +41,8 @@ KeepsArcsOff arc t label = (u v : ℕ) (cost : ℤ) → v ≢ t → arc u v ≡ 
 
 -- labels keep the arcs that neither begin nor end at t
 abbrev pub KeepsArcsAvoiding : (ℕ → ℕ → Option ℤ) → ℕ → (ℕ → ℤ) → Type 0
-KeepsArcsAvoiding arc t label = (u v : ℕ) (cost : ℤ) → u ≢ t → v ≢ t → arc u v ≡ Some cost → label v ≤ℤ (label u +ℤ cost)
+KeepsArcsAvoiding arc t label = (u v : ℕ) (cost : ℤ) → u ≢ t → v ≢ t → arc u v ≡ Some cost
+    → label v ≤ℤ (label u +ℤ cost)
 
 -- an arc leads from v, and not to the end
 abbrev pub LeadsOff : (ℕ → ℕ → Option ℤ) → ℕ → ℕ → Type 0
@@ -68,19 +69,24 @@ IsPast (seek.Cycle cap) own cost inner = HasBy own cost inner ⊎ IsCapped cap c
 
 -- which of the best node so far and another one's walk comes first
 pub record IsNearer (best : Option Near) (place : ℕ) (own : Cell) (label : ℤ) (found : Option Near) : Type 0 where
-  pub one : (found ≡ best) ⊎ ((w : ℤ) × (own.cost ≡ Some w) × (found ≡ Some (record { place = place; key = w +ℤ label; round = own.round })))
-  pub before_best : (near : Near) → best ≡ Some near → (first : Near) × (found ≡ Some first) × IsNotAfter first.key first.round near.key near.round
-  pub before_own : (w : ℤ) → own.cost ≡ Some w → (first : Near) × (found ≡ Some first) × IsNotAfter first.key first.round (w +ℤ label) own.round
+  pub one : (found ≡ best) ⊎ ((w : ℤ) × (own.cost ≡ Some w)
+      × (found ≡ Some (record { place = place; key = w +ℤ label; round = own.round })))
+  pub before_best : (near : Near) → best ≡ Some near → (first : Near) × (found ≡ Some first)
+      × IsNotAfter first.key first.round near.key near.round
+  pub before_own : (w : ℤ) → own.cost ≡ Some w → (first : Near) × (found ≡ Some first)
+      × IsNotAfter first.key first.round (w +ℤ label) own.round
 
 -- a node that waits, with its walk, before which no other one comes
-pub record ComesFirst (nodes : ℕ) (label : ℕ → ℤ) (cell : ℕ → Cell) (waits : ℕ → Bool) (u : ℕ) (key : ℤ) (round : ℕ) : Type 0 where
+pub record ComesFirst (nodes : ℕ) (label : ℕ → ℤ) (cell : ℕ → Cell) (waits : ℕ
+    → Bool) (u : ℕ) (key : ℤ) (round : ℕ) : Type 0 where
   pub inside : u < nodes
   pub waiting : waits u ≡ true
   pub cost : ℤ
   pub cost_is : (cell u).cost ≡ Some cost
   pub key_is : key ≡ cost +ℤ label u
   pub round_is : round ≡ (cell u).round
-  pub first : (v : ℕ) (w : ℤ) → v < nodes → waits v ≡ true → (cell v).cost ≡ Some w → IsNotAfter key round (w +ℤ label v) (cell v).round
+  pub first : (v : ℕ) (w : ℤ) → v < nodes → waits v ≡ true → (cell v).cost ≡ Some w
+      → IsNotAfter key round (w +ℤ label v) (cell v).round
 
 -- no node that waits has a walk
 abbrev pub NoneWaits : ℕ → (ℕ → Cell) → (ℕ → Bool) → Type 0
@@ -93,11 +99,13 @@ IsNearest nodes label cell waits (Some near) = ComesFirst nodes label cell waits
 -- no node that waits matters
 abbrev pub AllArePast : ℕ → ℤ → Sought → (ℕ → ℤ) → (ℕ → Cell) → Cell → (ℕ → Bool) → Type 0
 AllArePast nodes base sought label cell own waits =
-    (v : ℕ) (w : ℤ) → v < nodes → waits v ≡ true → (cell v).cost ≡ Some w → IsPast sought own ((w +ℤ label v) -ℤ base) (cell v).round
+    (v : ℕ) (w : ℤ) → v < nodes → waits v ≡ true → (cell v).cost ≡ Some w
+    → IsPast sought own ((w +ℤ label v) -ℤ base) (cell v).round
 
 abbrev pub IsNext : ℕ → ℤ → Sought → (ℕ → ℤ) → (ℕ → Cell) → Cell → (ℕ → Bool) → Option ℕ → Type 0
 IsNext nodes base sought label cell own waits None = AllArePast nodes base sought label cell own waits
-IsNext nodes base sought label cell own waits (Some u) = (key : ℤ) × (round : ℕ) × ComesFirst nodes label cell waits u key round
+IsNext nodes base sought label cell own waits (Some u) = (key : ℤ) × (round : ℕ)
+    × ComesFirst nodes label cell waits u key round
 
 -- a cell goes on over u, whose own cell is the one beyond
 pub record GoesOver (first : Option ℤ) (beyond : Cell) (u : ℕ) (new : Cell) : Type 0 where
@@ -119,29 +127,37 @@ AfterOffer arc end u beyond waits v own new =
     (((waits ≡ true) ⊎ (v ≡ end)) → IsOffered own (arc v u) beyond u new) × (waits ≡ false → v ≢ end → new ≡ own)
 
 -- once u is settled: the nodes of a list and the end have the better one, and all other cells stay
-pub record AreOffered (arc : ℕ → ℕ → Option ℤ) (end u : ℕ) (list : List ℕ) (count : ℕ) (cell new : ℕ → Cell) : Type 0 where
-  pub listed : (i : ℕ) → i < count → IsOffered (cell (node_at list i)) (arc (node_at list i) u) (cell u) u (new (node_at list i))
+pub record AreOffered (arc : ℕ → ℕ → Option ℤ) (end u : ℕ) (list : List ℕ) (count : ℕ) (cell new : ℕ
+    → Cell) : Type 0 where
+  pub listed : (i : ℕ) → i < count
+      → IsOffered (cell (node_at list i)) (arc (node_at list i) u) (cell u) u (new (node_at list i))
   pub last : IsOffered (cell end) (arc end u) (cell u) u (new end)
   pub others : (v : ℕ) → v ≢ end → ((i : ℕ) → i < count → node_at list i ≢ v) → new v ≡ cell v
 
 -- what holds once so many nodes are settled, which are those with a walk that don't wait
-pub record IsUnderWay (nodes : ℕ) (arc : ℕ → ℕ → Option ℤ) (end : ℕ) (label : ℕ → ℤ) (cell : ℕ → Cell) (waits : ℕ → Bool) (settled : ℕ) : Type 0 where
+pub record IsUnderWay (nodes : ℕ) (arc : ℕ → ℕ → Option ℤ) (end : ℕ) (label : ℕ → ℤ) (cell : ℕ → Cell) (waits : ℕ
+    → Bool) (settled : ℕ) : Type 0 where
   pub shut : waits end ≡ false
   -- no cell is after the arc to the end, nor after going on over a settled node
   pub first : (v : ℕ) (cost : ℤ) → v < nodes → arc v end ≡ Some cost → HasBy (cell v) cost 0
-  pub over : (v u : ℕ) (cost w : ℤ) → u ≢ end → waits u ≡ false → arc v u ≡ Some cost → (cell u).cost ≡ Some w → HasBy (cell v) (cost +ℤ w) ((cell u).round + 1)
+  pub over : (v u : ℕ) (cost w : ℤ) → u ≢ end → waits u ≡ false → arc v u ≡ Some cost → (cell u).cost ≡ Some w
+      → HasBy (cell v) (cost +ℤ w) ((cell u).round + 1)
   -- no settled node that an arc leads from, other than to the end, is after a waiting one
-  pub order : (v u : ℕ) (w x : ℤ) → v < nodes → u < nodes → v ≢ end → LeadsOff arc end v → waits v ≡ false → waits u ≡ true → (cell v).cost ≡ Some w → (cell u).cost ≡ Some x
+  pub order : (v u : ℕ) (w x : ℤ) → v < nodes → u < nodes → v ≢ end → LeadsOff arc end v → waits v ≡ false
+      → waits u ≡ true → (cell v).cost ≡ Some w → (cell u).cost ≡ Some x
       → IsNotAfter (w +ℤ label v) (cell v).round (x +ℤ label u) (cell u).round
-  pub reached : (v u : ℕ) (cost : ℤ) → v ≢ end → waits v ≡ false → arc v u ≡ Some cost → (w : ℤ) × ((cell v).cost ≡ Some w)
+  pub reached : (v u : ℕ) (cost : ℤ) → v ≢ end → waits v ≡ false → arc v u ≡ Some cost → (w : ℤ)
+      × ((cell v).cost ≡ Some w)
   -- each cell leads along a walk of its cost over settled nodes
   pub leads : (v : ℕ) → v < nodes → walk_cost arc v (trail cell (cell v).round v) end ≡ (cell v).cost
-  pub passes : (v : ℕ) → v < nodes → All (λ x. (x < nodes) × (x ≢ end) × (waits x ≡ false)) (trail cell (cell v).round v)
+  pub passes : (v : ℕ) → v < nodes → All (λ x. (x < nodes) × (x ≢ end)
+      × (waits x ≡ false)) (trail cell (cell v).round v)
   pub none : (v : ℕ) → v < nodes → (cell v).cost ≡ None → (cell v).round ≡ 0
   pub few : (v : ℕ) → v < nodes → (cell v).round ≤ settled
 
 -- a search that has stopped, as no node that waits matters
-pub record IsStopped (nodes : ℕ) (arc : ℕ → ℕ → Option ℤ) (end : ℕ) (sought : Sought) (label : ℕ → ℤ) (cell : ℕ → Cell) (waits : ℕ → Bool) : Type 0 where
+pub record IsStopped (nodes : ℕ) (arc : ℕ → ℕ → Option ℤ) (end : ℕ) (sought : Sought) (label : ℕ → ℤ) (cell : ℕ
+    → Cell) (waits : ℕ → Bool) : Type 0 where
   pub settled : ℕ
   pub fewer : settled < nodes
   pub known : IsUnderWay nodes arc end label cell waits settled
@@ -155,7 +171,8 @@ pub record IsRaised (label : ℤ) (cost : Option ℤ) (limit new : ℤ) : Type 0
 
 -- the labels of all nodes but t are raised
 abbrev pub AreRaised : ℕ → ℕ → (ℕ → ℤ) → (ℕ → Cell) → ℤ → (ℕ → ℤ) → Type 0
-AreRaised nodes t label cell limit new = (v : ℕ) → v < nodes → (v ≡ t → new v ≡ label v) × (v ≢ t → IsRaised (label v) (cell v).cost limit (new v))
+AreRaised nodes t label cell limit new = (v : ℕ) → v < nodes → (v ≡ t → new v ≡ label v)
+    × (v ≢ t → IsRaised (label v) (cell v).cost limit (new v))
 
 -- a cost is below the cap
 abbrev pub IsCounted : Option ℤ → ℤ → Type 0
@@ -165,7 +182,8 @@ IsCounted cap cost = (most : ℤ) → cap ≡ Some most → cost <ℤ most
 abbrev pub IsCycleRead : (ℕ → Cell) → ℕ → Option ℤ → List ℕ → Path → Type 0
 IsCycleRead cell t cap listed path.None = ((w : ℤ) → (cell t).cost ≡ Some w → IsCapped cap w) × (listed ≡ [])
 IsCycleRead cell t cap listed (path.Cycle cost count) =
-    ((cell t).cost ≡ Some cost) × IsCounted cap cost × (listed ≡ t ∷ trail cell (cell t).round t) × (count ≡ (cell t).round + 1)
+    ((cell t).cost ≡ Some cost) × IsCounted cap cost × (listed ≡ t ∷ trail cell (cell t).round t)
+    × (count ≡ (cell t).round + 1)
 
 -- the greater of a number so far and what a cost lacks to a label
 pub record IsLiftedBy (least : Option ℤ) (label : ℤ) (cost found : Option ℤ) : Type 0 where
@@ -175,7 +193,8 @@ pub record IsLiftedBy (least : Option ℤ) (label : ℤ) (cost found : Option �
 
 -- a number for t that keeps the arcs from t to the first so many nodes
 abbrev pub IsLifted : ℕ → (ℕ → ℕ → Option ℤ) → ℕ → (ℕ → ℤ) → Option ℤ → Type 0
-IsLifted count arc t label found = (v : ℕ) (cost : ℤ) → v < count → v ≢ t → arc t v ≡ Some cost → (p : ℤ) × (found ≡ Some p) × (label v ≤ℤ (p +ℤ cost))
+IsLifted count arc t label found = (v : ℕ) (cost : ℤ) → v < count → v ≢ t → arc t v ≡ Some cost → (p : ℤ)
+    × (found ≡ Some p) × (label v ≤ℤ (p +ℤ cost))
 
 -- a mark is that of an admitted trade or the null node, and the given node has none
 abbrev pub IsOther : ℕ → ℕ → ℕ → ℕ → Bool → Type 0

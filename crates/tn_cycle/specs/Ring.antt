@@ -5,5 +5,6 @@ use Rattle.std.specs.Prelude.{ℕ, ◌+◌, Bool, ◌&&◌, ◌==◌, nat_lt, if
 abbrev pub ring : ℕ → Bool → ℕ → ℕ → Option ℤ
 ring nodes gains a b =
     if nat_lt a nodes && nat_lt b nodes
-    then (if b == a + 1 then Some (pos 2) else (if b == 0 && a + 1 == nodes then Some (if gains then negsuc 9 else pos 1) else None))
+    then (if b == a + 1 then Some (pos 2) else (if b == 0 && a + 1 == nodes
+    then Some (if gains then negsuc 9 else pos 1) else None))
     else None

@@ -1,3 +1,5 @@
+//! What searches for cycles and for labels answer.
+
 /// What `Finder::through` and `Finder::least_through` answer.
 #[derive(Clone, Copy, Debug, PartialEq, Eq)]
 pub enum Path {

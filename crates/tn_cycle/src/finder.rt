@@ -1,3 +1,5 @@
+//! The finder: every search of a graph, and what may be read after it.
+
 ghost use Rattle.std.specs.Prelude.{◌≡◌, ℕ, ◌+◌, ◌-◌, ◌*◌, ◌<◌, ◌≤◌, pos, ◌+ℤ◌, Some, [], length, slice_get, IfOk, IsSome};
 ghost use Rattle.tn_base.specs.Walks.{arcs_among, is_admitted, is_looked_at, HasNoNegativeCycle, KeepsArcs, KeepsArcsEntering};
 ghost use Rattle.tn_cycle.specs.Kept.{signed};
@@ -18,12 +20,12 @@ use tn_base::{Costs, OutOfMemory, TradeSet};
 /// null node, the others are trades.
 ///
 /// `through` and `least_through` find a least cycle through a trade over labels, and leave labels that keep the arcs
-/// with it; `least_to` and `least_from` find least walks over labels. `label_all`, `label_graph` and `label_as` are where
-/// these begin, and `relabel` gives the labels that `labels` would give. `labels` finds labels of a graph of which nothing
-/// is known, or a negative cycle. Then `at` reads the nodes of a cycle; `label` reads labels; `distance` reads the least cost for a node, and `walk`
-/// lists the nodes of its walk, which `at` reads. A search forgets what the one before it found, but for the labels
-/// that it goes by. A graph that is searched has as many nodes as the finder was made for. No search and no reader
-/// takes memory or refuses.
+/// with it; `least_to` and `least_from` find least walks over labels. `label_all`, `label_graph` and `label_as` are
+/// where these begin, and `relabel` gives the labels that `labels` would give. `labels` finds labels of a graph of
+/// which nothing is known, or a negative cycle. Then `at` reads the nodes of a cycle; `label` reads labels; `distance`
+/// reads the least cost for a node, and `walk` lists the nodes of its walk, which `at` reads. A search forgets what the
+/// one before it found, but for the labels that it goes by. A graph that is searched has as many nodes as the finder
+/// was made for. No search and no reader takes memory or refuses.
 ///
 /// Contracts see what may be read: the nodes that `at` reads, the labels, the distances and their walks.
 #[derive(Drop)]
@@ -50,9 +52,11 @@ impl Model for Finder {
 
     ghost Value = { Reading };
 
-    ghost view = { λ f. reading_of f.nodes f.count f.path.items f.labelled f.labels.items f.reached f.turns f.end f.row.items };
+    ghost view = { λ f. reading_of f.nodes f.count f.path.items f.labelled f.labels.items f.reached f.turns f.end
+        f.row.items };
 
-    ghost invariant = { λ f. HasPlaces f.nodes f.count f.labelled f.reached (vec_len f.path) (vec_len f.labels) (vec_len f.row) (vec_len f.waits) f.row.items };
+    ghost invariant = { λ f. HasPlaces f.nodes f.count f.labelled f.reached (vec_len f.path) (vec_len f.labels)
+        (vec_len f.row) (vec_len f.waits) f.row.items };
 }
 
 impl Finder {
@@ -170,11 +174,15 @@ impl Finder {
         requires trade { node + 1 < self.old.nodes }
         requires labelled { length self.old.labels ≡ self.old.nodes }
         requires near { AreNear most_label self.old.labels }
-        requires keeps { KeepsArcs (arcs_among (is_admitted (self.old.nodes - 1) admitted.now) (C.arc costs.now)) (label_in self.old.labels) }
-        ensures answer { AnswersCycle (arcs_among (is_looked_at (self.old.nodes - 1) node admitted.now) (C.arc costs.now)) node self.new.listed result }
+        requires keeps { KeepsArcs (arcs_among (is_admitted (self.old.nodes - 1) admitted.now) (C.arc costs.now))
+            (label_in self.old.labels) }
+        ensures answer { AnswersCycle (arcs_among (is_looked_at (self.old.nodes - 1) node admitted.now)
+            (C.arc costs.now)) node self.new.listed result }
         ensures labelled { length self.new.labels ≡ self.old.nodes }
-        ensures keeps { KeepsArcsEntering (arcs_among (is_looked_at (self.old.nodes - 1) node admitted.now) (C.arc costs.now)) node (label_in self.new.labels node +ℤ cost_of result) (label_in self.new.labels) }
-        ensures near { (reach : ℕ) → AreNear reach self.old.labels → AreNear (reach + label_step self.old.nodes) self.new.labels }
+        ensures keeps { KeepsArcsEntering (arcs_among (is_looked_at (self.old.nodes - 1) node admitted.now)
+            (C.arc costs.now)) node (label_in self.new.labels node +ℤ cost_of result) (label_in self.new.labels) }
+        ensures near { (reach : ℕ) → AreNear reach self.old.labels
+            → AreNear (reach + label_step self.old.nodes) self.new.labels }
         ensures rest { ListsNoWalks self.old.nodes self.new }
     {
         self.reached = 0;
@@ -209,11 +217,15 @@ impl Finder {
         requires trade { node + 1 < self.old.nodes }
         requires labelled { length self.old.labels ≡ self.old.nodes }
         requires near { AreNear most_label self.old.labels }
-        requires keeps { KeepsArcs (arcs_among (is_looked_at (self.old.nodes - 1) node admitted.now) (C.arc costs.now)) (label_in self.old.labels) }
-        ensures answer { AnswersLeast (arcs_among (is_looked_at (self.old.nodes - 1) node admitted.now) (C.arc costs.now)) node self.new.listed result }
+        requires keeps { KeepsArcs (arcs_among (is_looked_at (self.old.nodes - 1) node admitted.now) (C.arc costs.now))
+            (label_in self.old.labels) }
+        ensures answer { AnswersLeast (arcs_among (is_looked_at (self.old.nodes - 1) node admitted.now)
+            (C.arc costs.now)) node self.new.listed result }
         ensures labelled { length self.new.labels ≡ self.old.nodes }
-        ensures keeps { KeepsArcsEntering (arcs_among (is_looked_at (self.old.nodes - 1) node admitted.now) (C.arc costs.now)) node (label_in self.new.labels node +ℤ cost_of result) (label_in self.new.labels) }
-        ensures near { (reach : ℕ) → AreNear reach self.old.labels → AreNear (reach + label_step self.old.nodes) self.new.labels }
+        ensures keeps { KeepsArcsEntering (arcs_among (is_looked_at (self.old.nodes - 1) node admitted.now)
+            (C.arc costs.now)) node (label_in self.new.labels node +ℤ cost_of result) (label_in self.new.labels) }
+        ensures near { (reach : ℕ) → AreNear reach self.old.labels
+            → AreNear (reach + label_step self.old.nodes) self.new.labels }
         ensures rest { ListsNoWalks self.old.nodes self.new }
     {
         self.reached = 0;
@@ -242,8 +254,10 @@ impl Finder {
         requires wide { self.old.nodes ≤ 64 * W + 1 }
         requires labelled { length self.old.labels ≡ self.old.nodes }
         requires near { AreNear most_label self.old.labels }
-        requires keeps { KeepsArcs (arcs_among (is_admitted (self.old.nodes - 1) admitted.now) (C.arc costs.now)) (label_in self.old.labels) }
-        ensures labels { AreLabels self.old.nodes (arcs_among (is_admitted (self.old.nodes - 1) admitted.now) (C.arc costs.now)) self.new.labels }
+        requires keeps { KeepsArcs (arcs_among (is_admitted (self.old.nodes - 1) admitted.now) (C.arc costs.now))
+            (label_in self.old.labels) }
+        ensures labels { AreLabels self.old.nodes (arcs_among (is_admitted (self.old.nodes - 1) admitted.now)
+            (C.arc costs.now)) self.new.labels }
         ensures none_listed { self.new.listed ≡ [] }
         ensures rest { ListsNoWalks self.old.nodes self.new }
     {
@@ -331,7 +345,8 @@ impl Finder {
         requires labelled { length self.old.labels ≡ self.old.nodes }
         requires near { AreNear most_label self.old.labels }
         requires keeps { KeepsArcs (C.arc costs.now) (λ v. signed turns (label_in self.old.labels v)) }
-        ensures walks { (v : ℕ) → v < self.old.nodes → LeadsAlong turns (C.arc costs.now) v node (walk_in self.new v) (distance_in self.new v) }
+        ensures walks { (v : ℕ) → v < self.old.nodes
+            → LeadsAlong turns (C.arc costs.now) v node (walk_in self.new v) (distance_in self.new v) }
         ensures rest { ReadsWalks self.old.nodes self.new }
     {
         self.count = 0;
@@ -359,7 +374,8 @@ impl Finder {
         requires labelled { length self.old.labels ≡ self.old.nodes }
         requires near { AreNear most_label self.old.labels }
         requires keeps { KeepsArcs (C.arc costs.now) (label_in self.old.labels) }
-        ensures walks { (v : ℕ) → v < self.old.nodes → LeadsLeast (C.arc costs.now) v node (walk_in self.new v) (distance_in self.new v) }
+        ensures walks { (v : ℕ) → v < self.old.nodes
+            → LeadsLeast (C.arc costs.now) v node (walk_in self.new v) (distance_in self.new v) }
         ensures rest { ReadsWalks self.old.nodes self.new }
     {
         self.least_walks(costs, node, false);
@@ -374,7 +390,8 @@ impl Finder {
         requires labelled { length self.old.labels ≡ self.old.nodes }
         requires near { AreNear most_label self.old.labels }
         requires keeps { KeepsArcs (C.arc costs.now) (label_in self.old.labels) }
-        ensures walks { (v : ℕ) → v < self.old.nodes → LeadsLeast (C.arc costs.now) node v (walk_in self.new v) (distance_in self.new v) }
+        ensures walks { (v : ℕ) → v < self.old.nodes
+            → LeadsLeast (C.arc costs.now) node v (walk_in self.new v) (distance_in self.new v) }
         ensures rest { ReadsWalks self.old.nodes self.new }
     {
         self.least_walks(&Turned { costs }, node, true);

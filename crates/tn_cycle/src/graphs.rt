@@ -1,3 +1,5 @@
+//! Graphs seen through a choice of nodes, or turned round.
+
 ghost use Rattle.std.specs.Prelude.{◌≡◌, ℕ, ◌+◌, ◌*◌, ◌^◌, ◌<◌, ◌≤◌, length};
 ghost use Rattle.tn_base.specs.Walks.{arcs_among, is_admitted, is_looked_at};
 ghost use Rattle.tn_base.specs.Widths.{most_cost};
@@ -8,8 +10,8 @@ ghost use Rattle.tn_cycle.specs.GraphLemmas.{between-arcs_among, between-turned,
 
 use tn_base::{Costs, TradeSet};
 
-/// A graph's admitted trades and its null node, with the arcs among them. Most two nodes have no arc, so that the graph is
-/// asked first, and then whether both are among these.
+/// A graph's admitted trades and its null node, with the arcs among them. Most two nodes have no arc, so that the graph
+/// is asked first, and then whether both are among these.
 #[derive(Drop)]
 pub struct Admitted<'a, C: Costs, const W: usize> {
     /// The graph.
@@ -36,7 +38,8 @@ impl<C: Costs, const W: usize> Admitted<'_, C, W> {
     /// Marks the nodes that it has.
     pub(crate) fn mark_nodes(&self, marks: &mut [bool])
         requires { self.now.null < length marks.old }
-        ensures marked { (v : ℕ) → v ≤ self.now.null → flag_at marks.new v ≡ is_admitted self.now.null self.now.admitted.now v }
+        ensures marked { (v : ℕ) → v ≤ self.now.null → flag_at marks.new v
+            ≡ is_admitted self.now.null self.now.admitted.now v }
     {
         for v in 0..self.nodes() {
             marks[v as usize] = self.admits(v);
@@ -62,9 +65,11 @@ impl<C: Costs, const W: usize> Costs for Admitted<'_, C, W> {
         }
     }
 
-    ghost between_nodes = { λ it. between-arcs_among (is_admitted it.null it.admitted.now) (C.node_count it.costs.now) (C.arc it.costs.now) (C.between_nodes it.costs.now) };
+    ghost between_nodes = { λ it. between-arcs_among (is_admitted it.null it.admitted.now) (C.node_count it.costs.now)
+        (C.arc it.costs.now) (C.between_nodes it.costs.now) };
 
-    ghost small = { λ it. small-arcs_among (is_admitted it.null it.admitted.now) most_cost (C.arc it.costs.now) (C.small it.costs.now) };
+    ghost small = { λ it. small-arcs_among (is_admitted it.null it.admitted.now) most_cost (C.arc it.costs.now)
+        (C.small it.costs.now) };
 }
 
 /// A graph's node, its admitted trades and its null node, with the arcs among them.
@@ -94,7 +99,8 @@ impl<C: Costs, const W: usize> Looked<'_, C, W> {
     /// Marks the nodes that it has but for its own one.
     pub(crate) fn mark_others(&self, marks: &mut [bool])
         requires { self.now.among.null < length marks.old }
-        ensures { (v : ℕ) → v ≤ self.now.among.null → IsOther self.now.among.null self.now.node self.now.among.admitted.now v (flag_at marks.new v) }
+        ensures { (v : ℕ) → v ≤ self.now.among.null
+            → IsOther self.now.among.null self.now.node self.now.among.admitted.now v (flag_at marks.new v) }
     {
         for v in 0..self.nodes() {
             marks[v as usize] = self.has_other(v);
@@ -120,9 +126,11 @@ impl<C: Costs, const W: usize> Costs for Looked<'_, C, W> {
         }
     }
 
-    ghost between_nodes = { λ it. between-arcs_among (is_looked_at it.among.null it.node it.among.admitted.now) (C.node_count it.among.costs.now) (C.arc it.among.costs.now) (C.between_nodes it.among.costs.now) };
+    ghost between_nodes = { λ it. between-arcs_among (is_looked_at it.among.null it.node it.among.admitted.now)
+        (C.node_count it.among.costs.now) (C.arc it.among.costs.now) (C.between_nodes it.among.costs.now) };
 
-    ghost small = { λ it. small-arcs_among (is_looked_at it.among.null it.node it.among.admitted.now) most_cost (C.arc it.among.costs.now) (C.small it.among.costs.now) };
+    ghost small = { λ it. small-arcs_among (is_looked_at it.among.null it.node it.among.admitted.now) most_cost
+        (C.arc it.among.costs.now) (C.small it.among.costs.now) };
 }
 
 /// A graph's trades from the first one on, with the arcs among them.
@@ -150,9 +158,11 @@ impl<C: Costs> Costs for Part<'_, C> {
         }
     }
 
-    ghost between_nodes = { λ it. between-arcs_among (is_between it.first it.null) (C.node_count it.costs.now) (C.arc it.costs.now) (C.between_nodes it.costs.now) };
+    ghost between_nodes = { λ it. between-arcs_among (is_between it.first it.null) (C.node_count it.costs.now)
+        (C.arc it.costs.now) (C.between_nodes it.costs.now) };
 
-    ghost small = { λ it. small-arcs_among (is_between it.first it.null) most_cost (C.arc it.costs.now) (C.small it.costs.now) };
+    ghost small = { λ it. small-arcs_among (is_between it.first it.null) most_cost (C.arc it.costs.now)
+        (C.small it.costs.now) };
 }
 
 /// A graph with one node more, to which an arc of cost 0 leads from each other node.
@@ -183,9 +193,11 @@ impl<C: Costs> Costs for Sunk<'_, C> {
         }
     }
 
-    ghost between_nodes = { λ it. between-with_sink (C.node_count it.costs.now) (C.arc it.costs.now) (C.between_nodes it.costs.now) };
+    ghost between_nodes = { λ it. between-with_sink (C.node_count it.costs.now) (C.arc it.costs.now)
+        (C.between_nodes it.costs.now) };
 
-    ghost small = { λ it. small-with_sink (C.node_count it.costs.now) most_cost (C.arc it.costs.now) (C.small it.costs.now) };
+    ghost small = { λ it. small-with_sink (C.node_count it.costs.now) most_cost (C.arc it.costs.now)
+        (C.small it.costs.now) };
 }
 
 /// A graph with its arcs turned round.
@@ -207,7 +219,8 @@ impl<C: Costs> Costs for Turned<'_, C> {
         self.costs.cost(b, a)
     }
 
-    ghost between_nodes = { λ it. between-turned (C.node_count it.costs.now) (C.arc it.costs.now) (C.between_nodes it.costs.now) };
+    ghost between_nodes = { λ it. between-turned (C.node_count it.costs.now) (C.arc it.costs.now)
+        (C.between_nodes it.costs.now) };
 
     ghost small = { λ it. small-turned most_cost (C.arc it.costs.now) (C.small it.costs.now) };
 }

@@ -1,3 +1,5 @@
+//! Labels of a graph of which nothing is known, grown node by node.
+
 ghost use Rattle.std.specs.Prelude.{◌≡◌, ℕ, ◌+◌, ◌^◌, ◌<◌, ◌≤◌, length, take};
 ghost use Rattle.tn_cycle.specs.Answers.{AnswersGrown, arc_count};
 ghost use Rattle.tn_cycle.specs.Graphs.{is_between};
@@ -37,7 +39,8 @@ pub(crate) fn grow_labels<C: Costs>(
     requires labels_sized { length labels.old ≡ C.node_count costs.now }
     requires short { length path.old ≤ 2 ^ 31 }
     requires few { C.node_count costs.now ≤ most_graph_nodes }
-    ensures answer { AnswersGrown (C.node_count costs.now) (C.arc costs.now) (take (arc_count result) path.new) labels.new result }
+    ensures answer { AnswersGrown (C.node_count costs.now) (C.arc costs.now) (take (arc_count result) path.new)
+        labels.new result }
     ensures few_arcs { arc_count result ≤ C.node_count costs.now }
 {
     let null = costs.nodes() - 1;

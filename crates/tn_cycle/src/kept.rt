@@ -1,3 +1,5 @@
+//! The search over kept labels: it settles one node after another, each once, the nearest first.
+
 ghost use Rattle.std.specs.Prelude.{◌≡◌, ◌≢◌, ℕ, ◌+◌, ◌*◌, ◌^◌, ◌<◌, ◌≤◌, ℤ, pos, ◌+ℤ◌, ◌-ℤ◌, true, false, Some, length, ◌⊎◌};
 ghost use Rattle.std.specs.Option.{ForSome};
 ghost use Rattle.tn_base.specs.Arcs.{IsAtMost};
@@ -20,8 +22,8 @@ pub enum Sought {
     Cycle(Option<i128>),
 }
 
-/// The place of a waiting node, its key, which is the cost of its walk and its label, and the number of nodes inside that
-/// walk.
+/// The place of a waiting node, its key, which is the cost of its walk and its label, and the number of nodes inside
+/// that walk.
 #[derive(Clone, Copy)]
 pub struct Near {
     pub place: u32,
@@ -125,7 +127,8 @@ fn nearest(labels: &[i128], list: &[u32], count: u32, row: &[Cell]) -> Option<Ne
     requires labelled { (i : ℕ) → i < count → node_at list.now i < length labels.now }
     requires room { HasRoom count (cell_by (cell_at row.now) list.now) }
     requires near { AreNear (2 * most_label) labels.now }
-    ensures { IsNearest count (label_by (label_in labels.now) list.now) (cell_by (cell_at row.now) list.now) every result }
+    ensures { IsNearest count (label_by (label_in labels.now) list.now) (cell_by (cell_at row.now) list.now) every
+        result }
 {
     let mut best = None;
     for i in 0..count {
@@ -175,8 +178,8 @@ fn is_past(sought: Sought, own: Cell, cost: i128, round: u32) -> bool
     }
 }
 
-/// The place of the node that is settled next: the waiting one whose key comes first. None where no waiting node matters:
-/// a cycle is sought, and its key is past that of the end or past the cap.
+/// The place of the node that is settled next: the waiting one whose key comes first. None where no waiting node
+/// matters: a cycle is sought, and its key is past that of the end or past the cap.
 fn next_place(
     end: u32,
     base: i128,
@@ -193,7 +196,8 @@ fn next_place(
     requires near { AreNear (2 * most_label) labels.now }
     requires last { end < length row.now }
     requires base { IsAtMost base (2 * most_label) }
-    ensures { IsNext count base sought (label_by (label_in labels.now) list.now) (cell_by (cell_at row.now) list.now) (cell_at row.now end) every result }
+    ensures { IsNext count base sought (label_by (label_in labels.now) list.now) (cell_by (cell_at row.now) list.now)
+        (cell_at row.now end) every result }
 {
     let near = nearest(labels, list, count, row)?;
     if is_past(sought, row[end as usize], over(near.key, base), near.round) {
@@ -292,10 +296,13 @@ pub(crate) fn search_kept<C: Costs>(
     requires labelled { (v : ℕ) → v < C.node_count costs.now → v ≢ end → v < length labels.now }
     requires near { AreNear (2 * most_label) labels.now }
     requires shut { flag_at waits.old end ≡ false }
-    requires begins { (v u : ℕ) (cost : ℤ) → v ≢ end → u ≢ end → C.arc costs.now v u ≡ Some cost → flag_at waits.old v ≡ true }
-    requires passes { (v u : ℕ) (cost last : ℤ) → u ≢ end → C.arc costs.now v u ≡ Some cost → C.arc costs.now u end ≡ Some last → flag_at waits.old u ≡ true }
+    requires begins { (v u : ℕ) (cost : ℤ) → v ≢ end → u ≢ end → C.arc costs.now v u ≡ Some cost
+        → flag_at waits.old v ≡ true }
+    requires passes { (v u : ℕ) (cost last : ℤ) → u ≢ end → C.arc costs.now v u ≡ Some cost
+        → C.arc costs.now u end ≡ Some last → flag_at waits.old u ≡ true }
     requires keeps { KeepsArcsOff (C.arc costs.now) end (label_in labels.now) }
-    ensures { IsStopped (C.node_count costs.now) (C.arc costs.now) end sought (label_in labels.now) (cell_at row.new) (flag_at waits.new) }
+    ensures { IsStopped (C.node_count costs.now) (C.arc costs.now) end sought (label_in labels.now) (cell_at row.new)
+        (flag_at waits.new) }
 {
     let nodes = costs.nodes();
     begin(costs, end, row);

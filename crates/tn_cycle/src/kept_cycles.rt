@@ -1,3 +1,5 @@
+//! Cycles and new labels, read off the search over kept labels.
+
 ghost use Rattle.std.specs.Prelude.{◌≡◌, ◌≢◌, ℕ, ◌+◌, ◌-◌, ◌*◌, ◌^◌, ◌<◌, ◌≤◌, ◌⊎◌, ℤ, pos, ◌+ℤ◌, ◌-ℤ◌, ◌≤ℤ◌, true, false, Some, None, length, take};
 ghost use Rattle.std.specs.Option.{ForSome};
 ghost use Rattle.tn_base.specs.Arcs.{IsAtMost};
@@ -124,11 +126,14 @@ fn find_kept<C: Costs>(
     requires shut { flag_at waits.old node ≡ false }
     requires covers { (v u : ℕ) (cost : ℤ) → v ≢ node → C.arc costs.now v u ≡ Some cost → flag_at waits.old v ≡ true }
     requires keeps { KeepsArcsOff (C.arc costs.now) node (label_in labels.old) }
-    ensures negative { cap ≡ Some (pos 0) → AnswersCycle (C.arc costs.now) node (take (arc_count result) path.new) result }
+    ensures negative { cap ≡ Some (pos 0)
+        → AnswersCycle (C.arc costs.now) node (take (arc_count result) path.new) result }
     ensures least { cap ≡ None → AnswersLeast (C.arc costs.now) node (take (arc_count result) path.new) result }
     ensures few_arcs { arc_count result ≤ C.node_count costs.now }
-    ensures keeps { cap ≡ Some (pos 0) ⊎ cap ≡ None → KeepsArcsEntering (C.arc costs.now) node (label_in labels.new node +ℤ cost_of result) (label_in labels.new) }
-    ensures near { (reach : ℕ) → AreNear reach labels.old → AreNear (reach + 2 * (C.node_count costs.now * most_cost)) labels.new }
+    ensures keeps { cap ≡ Some (pos 0) ⊎ cap ≡ None
+        → KeepsArcsEntering (C.arc costs.now) node (label_in labels.new node +ℤ cost_of result) (label_in labels.new) }
+    ensures near { (reach : ℕ) → AreNear reach labels.old
+        → AreNear (reach + 2 * (C.node_count costs.now * most_cost)) labels.new }
 {
     let base = labels[node as usize];
     search_kept(
@@ -173,7 +178,8 @@ fn least_number<C: Costs>(costs: &C, node: u32, labels: &[i128], negates: bool) 
     requires labels_sized { length labels.now ≡ C.node_count costs.now }
     requires inside { node < C.node_count costs.now }
     requires near { AreNear most_label labels.now }
-    ensures keeps { IsLifted (C.node_count costs.now) (C.arc costs.now) node (λ v. signed negates (label_in labels.now v)) result }
+    ensures keeps { IsLifted (C.node_count costs.now) (C.arc costs.now) node
+        (λ v. signed negates (label_in labels.now v)) result }
     ensures near { (reach : ℕ) → AreNear reach labels.now → ForSome result (λ p. IsAtMost p (reach + most_cost)) }
 {
     let mut least = None;
@@ -190,7 +196,8 @@ fn node_label<C: Costs>(costs: &C, node: u32, labels: &[i128]) -> i128
     requires labels_sized { length labels.now ≡ C.node_count costs.now }
     requires inside { node < C.node_count costs.now }
     requires near { AreNear most_label labels.now }
-    ensures keeps { (v : ℕ) (cost : ℤ) → v ≢ node → C.arc costs.now node v ≡ Some cost → label_in labels.now v ≤ℤ (result +ℤ cost) }
+    ensures keeps { (v : ℕ) (cost : ℤ) → v ≢ node → C.arc costs.now node v ≡ Some cost
+        → label_in labels.now v ≤ℤ (result +ℤ cost) }
     ensures near { (reach : ℕ) → AreNear reach labels.now → IsAtMost result (reach + most_cost) }
 {
     match least_number(costs, node, labels, false) {
@@ -226,7 +233,8 @@ fn break_into<C: Costs>(costs: &C, node: u32, labels: &[i128]) -> bool
     requires labels_sized { length labels.now ≡ C.node_count costs.now }
     requires inside { node < C.node_count costs.now }
     requires near { AreNear (most_label + most_cost) labels.now }
-    ensures { (u : ℕ) (cost : ℤ) → result ≡ false → C.arc costs.now u node ≡ Some cost → label_in labels.now node ≤ℤ (label_in labels.now u +ℤ cost) }
+    ensures { (u : ℕ) (cost : ℤ) → result ≡ false → C.arc costs.now u node ≡ Some cost
+        → label_in labels.now node ≤ℤ (label_in labels.now u +ℤ cost) }
 {
     let end = labels[node as usize];
     for v in 0..costs.nodes() {
@@ -237,9 +245,9 @@ fn break_into<C: Costs>(costs: &C, node: u32, labels: &[i128]) -> bool
     false
 }
 
-/// A least cycle through a node whose label isn't known yet, where one is negative, over labels that keep the arcs among
-/// the other nodes. The node gets a label that keeps the arcs that begin at it. Where that keeps those that end at it
-/// too, there is nothing to search for; otherwise all labels are raised.
+/// A least cycle through a node whose label isn't known yet, where one is negative, over labels that keep the arcs
+/// among the other nodes. The node gets a label that keeps the arcs that begin at it. Where that keeps those that end
+/// at it too, there is nothing to search for; otherwise all labels are raised.
 pub(crate) fn find_added<C: Costs>(
     costs: &C,
     node: u32,
@@ -261,8 +269,10 @@ pub(crate) fn find_added<C: Costs>(
     requires keeps { KeepsArcsAvoiding (C.arc costs.now) node (label_in labels.old) }
     ensures answer { AnswersCycle (C.arc costs.now) node (take (arc_count result) path.new) result }
     ensures few_arcs { arc_count result ≤ C.node_count costs.now }
-    ensures keeps { KeepsArcsEntering (C.arc costs.now) node (label_in labels.new node +ℤ cost_of result) (label_in labels.new) }
-    ensures near { (reach : ℕ) → AreNear reach labels.old → AreNear (reach + label_step (C.node_count costs.now)) labels.new }
+    ensures keeps { KeepsArcsEntering (C.arc costs.now) node (label_in labels.new node +ℤ cost_of result)
+        (label_in labels.new) }
+    ensures near { (reach : ℕ) → AreNear reach labels.old
+        → AreNear (reach + label_step (C.node_count costs.now)) labels.new }
 {
     labels[node as usize] = node_label(costs, node, labels);
     if break_into(costs, node, labels) {
@@ -289,11 +299,18 @@ pub(crate) fn negative_kept<C: Costs, const W: usize>(
     requires few { length labels.old ≤ most_graph_nodes }
     requires trade { looked.now.node < looked.now.among.null }
     requires near { AreNear most_label labels.old }
-    requires keeps { KeepsArcs (arcs_among (is_admitted looked.now.among.null looked.now.among.admitted.now) (C.arc looked.now.among.costs.now)) (label_in labels.old) }
-    ensures answer { AnswersCycle (arcs_among (is_looked_at looked.now.among.null looked.now.node looked.now.among.admitted.now) (C.arc looked.now.among.costs.now)) looked.now.node (take (arc_count result) path.new) result }
+    requires keeps { KeepsArcs (arcs_among (is_admitted looked.now.among.null looked.now.among.admitted.now)
+        (C.arc looked.now.among.costs.now)) (label_in labels.old) }
+    ensures answer { AnswersCycle
+        (arcs_among (is_looked_at looked.now.among.null looked.now.node looked.now.among.admitted.now)
+        (C.arc looked.now.among.costs.now)) looked.now.node (take (arc_count result) path.new) result }
     ensures few_arcs { arc_count result ≤ length labels.old }
-    ensures keeps { KeepsArcsEntering (arcs_among (is_looked_at looked.now.among.null looked.now.node looked.now.among.admitted.now) (C.arc looked.now.among.costs.now)) looked.now.node (label_in labels.new looked.now.node +ℤ cost_of result) (label_in labels.new) }
-    ensures near { (reach : ℕ) → AreNear reach labels.old → AreNear (reach + label_step (length labels.old)) labels.new }
+    ensures keeps { KeepsArcsEntering
+        (arcs_among (is_looked_at looked.now.among.null looked.now.node looked.now.among.admitted.now)
+        (C.arc looked.now.among.costs.now)) looked.now.node (label_in labels.new looked.now.node +ℤ cost_of result)
+        (label_in labels.new) }
+    ensures near { (reach : ℕ) → AreNear reach labels.old
+        → AreNear (reach + label_step (length labels.old)) labels.new }
 {
     looked.mark_others(waits);
     find_added(looked, looked.node, labels, waits, row, path)
@@ -315,11 +332,19 @@ pub(crate) fn least_kept<C: Costs, const W: usize>(
     requires few { length labels.old ≤ most_graph_nodes }
     requires trade { looked.now.node < looked.now.among.null }
     requires near { AreNear most_label labels.old }
-    requires keeps { KeepsArcs (arcs_among (is_looked_at looked.now.among.null looked.now.node looked.now.among.admitted.now) (C.arc looked.now.among.costs.now)) (label_in labels.old) }
-    ensures answer { AnswersLeast (arcs_among (is_looked_at looked.now.among.null looked.now.node looked.now.among.admitted.now) (C.arc looked.now.among.costs.now)) looked.now.node (take (arc_count result) path.new) result }
+    requires keeps { KeepsArcs
+        (arcs_among (is_looked_at looked.now.among.null looked.now.node looked.now.among.admitted.now)
+        (C.arc looked.now.among.costs.now)) (label_in labels.old) }
+    ensures answer { AnswersLeast
+        (arcs_among (is_looked_at looked.now.among.null looked.now.node looked.now.among.admitted.now)
+        (C.arc looked.now.among.costs.now)) looked.now.node (take (arc_count result) path.new) result }
     ensures few_arcs { arc_count result ≤ length labels.old }
-    ensures keeps { KeepsArcsEntering (arcs_among (is_looked_at looked.now.among.null looked.now.node looked.now.among.admitted.now) (C.arc looked.now.among.costs.now)) looked.now.node (label_in labels.new looked.now.node +ℤ cost_of result) (label_in labels.new) }
-    ensures near { (reach : ℕ) → AreNear reach labels.old → AreNear (reach + label_step (length labels.old)) labels.new }
+    ensures keeps { KeepsArcsEntering
+        (arcs_among (is_looked_at looked.now.among.null looked.now.node looked.now.among.admitted.now)
+        (C.arc looked.now.among.costs.now)) looked.now.node (label_in labels.new looked.now.node +ℤ cost_of result)
+        (label_in labels.new) }
+    ensures near { (reach : ℕ) → AreNear reach labels.old
+        → AreNear (reach + label_step (length labels.old)) labels.new }
 {
     looked.mark_others(waits);
     find_kept(looked, looked.node, None, labels, waits, row, path)
@@ -338,7 +363,8 @@ pub(crate) fn relabel_kept<C: Costs>(
     requires sized { C.node_count costs.now + 1 ≤ length row.old }
     requires waits_sized { length waits.old ≡ C.node_count costs.now + 1 }
     requires path_sized { C.node_count costs.now + 1 ≤ length path.old }
-    requires marked { (u v : ℕ) (cost : ℤ) → C.arc costs.now u v ≡ Some cost → (flag_at waits.old u ≡ true) × (flag_at waits.old v ≡ true) }
+    requires marked { (u v : ℕ) (cost : ℤ) → C.arc costs.now u v ≡ Some cost → (flag_at waits.old u ≡ true)
+        × (flag_at waits.old v ≡ true) }
     requires few { C.node_count costs.now ≤ most_graph_nodes }
     requires near { AreNear most_label labels.old }
     requires keeps { KeepsArcs (C.arc costs.now) (label_in labels.old) }
@@ -394,8 +420,10 @@ pub(crate) fn relabel_among<C: Costs, const W: usize>(
     requires path_sized { length labels.old + 1 ≤ length path.old }
     requires few { length labels.old ≤ most_graph_nodes }
     requires near { AreNear most_label labels.old }
-    requires keeps { KeepsArcs (arcs_among (is_admitted among.now.null among.now.admitted.now) (C.arc among.now.costs.now)) (label_in labels.old) }
-    ensures { AreLabels (among.now.null + 1) (arcs_among (is_admitted among.now.null among.now.admitted.now) (C.arc among.now.costs.now)) labels.new }
+    requires keeps { KeepsArcs (arcs_among (is_admitted among.now.null among.now.admitted.now)
+        (C.arc among.now.costs.now)) (label_in labels.old) }
+    ensures { AreLabels (among.now.null + 1) (arcs_among (is_admitted among.now.null among.now.admitted.now)
+        (C.arc among.now.costs.now)) labels.new }
 {
     among.mark_nodes(waits);
     relabel_kept(among, labels, waits, row, path);

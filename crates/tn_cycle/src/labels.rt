@@ -1,3 +1,5 @@
+//! Labels read off a search from nothing.
+
 ghost use Rattle.std.specs.Prelude.{◌≡◌, ℕ, ◌+◌, ◌<◌, ◌≤◌, ◌^◌, ℤ, pos, ◌≤ℤ◌, ◌-ℤ◌, length, unwrap_or};
 ghost use Rattle.tn_base.specs.Arcs.{IsAtMost};
 ghost use Rattle.tn_cycle.specs.Cells.{HasRoom, cell_at};
@@ -42,7 +44,8 @@ pub(crate) fn write_labels(row: &[Cell], lowest: i128, labels: &mut [i128])
     requires short { length labels.old < 2 ^ 31 }
     requires lowest { IsAtMost lowest most_walk_cost }
     requires room { HasRoom (length labels.old) (cell_at row.now) }
-    ensures { (v : ℕ) → v < length labels.old → label_in labels.new v ≡ lowest -ℤ unwrap_or (cell_at row.now v).cost (pos 0) }
+    ensures { (v : ℕ) → v < length labels.old → label_in labels.new v ≡ lowest
+        -ℤ unwrap_or (cell_at row.now v).cost (pos 0) }
 {
     for v in 0..labels.len() {
         labels[v] = label(lowest, row[v].cost.unwrap_or(0));

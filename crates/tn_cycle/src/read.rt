@@ -1,3 +1,5 @@
+//! Walks read off what a search knows of the nodes.
+
 ghost use Rattle.std.specs.Prelude.{◌≡◌, ◌+◌, ◌<◌, ◌≤◌, ◌^◌, length, take, reverse};
 ghost use Rattle.tn_cycle.specs.Cells.{cell_at};
 ghost use Rattle.tn_cycle.specs.Reading.{IsListable, walk_nodes, way};

@@ -1,3 +1,5 @@
+//! Tests of the finder on a ring.
+
 ghost use Rattle.tn_cycle.specs.Ring.{ring};
 ghost use Rattle.tn_cycle.specs.RingLemmas.{between-ring, small-ring};
 

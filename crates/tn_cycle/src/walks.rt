@@ -1,3 +1,5 @@
+//! Least walks over labels.
+
 ghost use Rattle.std.specs.Prelude.{◌≡◌, ℕ, ◌^◌, ◌<◌, ◌≤◌, length};
 ghost use Rattle.tn_base.specs.Walks.{KeepsArcs};
 ghost use Rattle.tn_cycle.specs.Answers.{AreNear, label_in};

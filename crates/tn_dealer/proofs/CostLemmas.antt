@@ -26,12 +26,14 @@ costs_none pairs = record {
   counted = length-replicate 1024 far;
   each = λ k pair below. absurd (omega (arith, below));
   only = λ buy sell p q near.
-      let is : cost_at (replicate 1024 far) buy sell ≡ far = get_or-replicate 1024 (place_of buy sell) far (pos 0) (place_inside buy sell p q) in
+      let is : cost_at (replicate 1024 far) buy sell ≡ far =
+      get_or-replicate 1024 (place_of buy sell) far (pos 0) (place_inside buy sell p q) in
       absurd (omega (arith, ints, near, is));
 }
 
 -- own pairs are near
-pub all_near : (count buys : ℕ) (pairs : List Pair) → count ≤ most_own → AreOwnPairs count buys pairs → (j : ℕ) (pair : Pair) → slice_get pairs j ≡ Some pair → IsNear pair
+pub all_near : (count buys : ℕ) (pairs : List Pair) → count ≤ most_own → AreOwnPairs count buys pairs
+    → (j : ℕ) (pair : Pair) → slice_get pairs j ≡ Some pair → IsNear pair
 all_near count buys pairs few own j pair is =
     let here = own j pair is in
     let p = here.purchase in
@@ -39,7 +41,8 @@ all_near count buys pairs few own j pair is =
     record { buy = omega (arith, few, p); sell = omega (arith, few, q) }
 
 -- with one more pair
-pub costs_more : (pairs : List Pair) (k : ℕ) (pair : Pair) (costs : List ℤ) → AreDifferent pairs → slice_get pairs k ≡ Some pair
+pub costs_more : (pairs : List Pair) (k : ℕ) (pair : Pair) (costs : List ℤ) → AreDifferent pairs
+    → slice_get pairs k ≡ Some pair
     → ((j : ℕ) (next : Pair) → slice_get pairs j ≡ Some next → IsNear next) → AreCostsBelow pairs k costs
     → AreCostsBelow pairs (k + 1) (set costs (place_of pair.buy pair.sell) pair.cost)
 costs_more pairs k pair costs different is near before = record {
@@ -89,7 +92,10 @@ costs_more pairs k pair costs different is near before = record {
   where
     there : cost_at (set costs (place_of pair.buy pair.sell) pair.cost) pair.buy pair.sell ≡ pair.cost
     there = get_or-set_same costs (place_of pair.buy pair.sell) pair.cost (pos 0)
-        (let inside = place_inside pair.buy pair.sell (near k pair is).buy (near k pair is).sell in let long = before.counted in omega (arith, inside, long))
+        (let inside = place_inside pair.buy pair.sell (near k pair is).buy (near k pair is).sell in let long =
+        before.counted in omega (arith, inside, long))
 
-    elsewhere : (buy sell : ℕ) → place_of buy sell ≢ place_of pair.buy pair.sell → cost_at (set costs (place_of pair.buy pair.sell) pair.cost) buy sell ≡ cost_at costs buy sell
-    elsewhere buy sell apart = get_or-set_other costs (place_of pair.buy pair.sell) (place_of buy sell) pair.cost (pos 0) apart
+    elsewhere : (buy sell : ℕ) → place_of buy sell ≢ place_of pair.buy pair.sell
+        → cost_at (set costs (place_of pair.buy pair.sell) pair.cost) buy sell ≡ cost_at costs buy sell
+    elsewhere buy sell apart =
+        get_or-set_other costs (place_of pair.buy pair.sell) (place_of buy sell) pair.cost (pos 0) apart

@@ -1,3 +1,4 @@
+-- The files of lemmas of this crate.
 pub mod MatchingLemmas
 pub mod RepeatLemmas
 pub mod CertificateLemmas

@@ -19,10 +19,12 @@ with_first b chosen zero = b
 with_first b chosen (suc k) = chosen k
 
 -- the same pair, counted from the pair in front or from behind it
-up : (pair : Pair) (pairs : List Pair) (chosen : ℕ → Bool) (k t : ℕ) → Matches pairs (λ j. chosen (suc j)) k t → Matches (pair ∷ pairs) chosen (suc k) t
+up : (pair : Pair) (pairs : List Pair) (chosen : ℕ → Bool) (k t : ℕ) → Matches pairs (λ j. chosen (suc j)) k t
+    → Matches (pair ∷ pairs) chosen (suc k) t
 up pair pairs chosen k t m = record { pair = m.pair; is_chosen = m.is_chosen; pair_is = m.pair_is; joins = m.joins }
 
-down : (pair : Pair) (pairs : List Pair) (chosen : ℕ → Bool) (k t : ℕ) → Matches (pair ∷ pairs) chosen (suc k) t → Matches pairs (λ j. chosen (suc j)) k t
+down : (pair : Pair) (pairs : List Pair) (chosen : ℕ → Bool) (k t : ℕ) → Matches (pair ∷ pairs) chosen (suc k) t
+    → Matches pairs (λ j. chosen (suc j)) k t
 down pair pairs chosen k t m = record { pair = m.pair; is_chosen = m.is_chosen; pair_is = m.pair_is; joins = m.joins }
 
 same_place : (j k : ℕ) → suc j ≡ suc k → j ≡ k
@@ -46,66 +48,81 @@ pub record HasBoth (pair : Pair) (x : ℕ) : Type 0 where
   pub apart : pair.buy ≢ pair.sell
 
 left_buy : (pair : Pair) (x : ℕ) → HasBoth pair x → has (left pair x) pair.buy ≡ false
-left_buy pair x both = has-toggle_other (toggle x pair.buy) pair.sell pair.buy both.apart ∙ has-toggle_same x pair.buy ∙ ap not both.has_buy
+left_buy pair x both = has-toggle_other (toggle x pair.buy) pair.sell pair.buy both.apart ∙ has-toggle_same x pair.buy
+    ∙ ap not both.has_buy
 
 left_sell : (pair : Pair) (x : ℕ) → HasBoth pair x → has (left pair x) pair.sell ≡ false
 left_sell pair x both =
-    has-toggle_same (toggle x pair.buy) pair.sell ∙ ap not (has-toggle_other x pair.buy pair.sell (λ e. both.apart (sym e)) ∙ both.has_sell)
+    has-toggle_same (toggle x pair.buy) pair.sell ∙ ap not
+    (has-toggle_other x pair.buy pair.sell (λ e. both.apart (sym e)) ∙ both.has_sell)
 
 left_other : (pair : Pair) (x t : ℕ) → t ≢ pair.buy → t ≢ pair.sell → has (left pair x) t ≡ has x t
 left_other pair x t p q = has-toggle_other (toggle x pair.buy) pair.sell t q ∙ has-toggle_other x pair.buy t p
 
 -- a trade of what is left is no trade of the pair
 left_apart : (pair : Pair) (x t : ℕ) → HasBoth pair x → has (left pair x) t ≡ true → Joins pair t → ⊥
-left_apart pair x t both there (inl e) = chosen_no (has (left pair x) t) (ap (has (left pair x)) (sym e) ∙ left_buy pair x both) there
-left_apart pair x t both there (inr e) = chosen_no (has (left pair x) t) (ap (has (left pair x)) (sym e) ∙ left_sell pair x both) there
+left_apart pair x t both there (inl e) =
+    chosen_no (has (left pair x) t) (ap (has (left pair x)) (sym e) ∙ left_buy pair x both) there
+left_apart pair x t both there (inr e) =
+    chosen_no (has (left pair x) t) (ap (has (left pair x)) (sym e) ∙ left_sell pair x both) there
 
 left_there : (pair : Pair) (x t : ℕ) → HasBoth pair x → has (left pair x) t ≡ true → has x t ≡ true
 left_there pair x t both there =
-    sym (left_other pair x t (λ e. left_apart pair x t both there (inl (sym e))) (λ e. left_apart pair x t both there (inr (sym e)))) ∙ there
+    sym (left_other pair x t (λ e. left_apart pair x t both there (inl (sym e)))
+    (λ e. left_apart pair x t both there (inr (sym e)))) ∙ there
 
 joined_there : (pair : Pair) (x t : ℕ) → HasBoth pair x → Joins pair t → has x t ≡ true
 joined_there pair x t both (inl e) = ap (has x) (sym e) ∙ both.has_buy
 joined_there pair x t both (inr e) = ap (has x) (sym e) ∙ both.has_sell
 
 -- the pair in front is the only one at its place
-first_joins : (pair : Pair) (pairs : List Pair) (chosen : ℕ → Bool) (t : ℕ) → Matches (pair ∷ pairs) chosen 0 t → Joins pair t
-first_joins pair pairs chosen t m = let same : pair ≡ m.pair = same_Some pair m.pair m.pair_is in subst (λ p. Joins p t) (sym same) m.joins
+first_joins : (pair : Pair) (pairs : List Pair) (chosen : ℕ → Bool) (t : ℕ) → Matches (pair ∷ pairs) chosen 0 t
+    → Joins pair t
+first_joins pair pairs chosen t m = let same : pair ≡ m.pair = same_Some pair m.pair m.pair_is in
+    subst (λ p. Joins p t) (sym same) m.joins
 
 -- ---- from a matching to the worth
 
-rest_without : (pair : Pair) (pairs : List Pair) (x : ℕ) (chosen : ℕ → Bool) → chosen 0 ≡ false → IsMatching (pair ∷ pairs) x chosen
+rest_without : (pair : Pair) (pairs : List Pair) (x : ℕ) (chosen : ℕ → Bool) → chosen 0 ≡ false
+    → IsMatching (pair ∷ pairs) x chosen
     → IsMatching pairs x (λ k. chosen (suc k))
 rest_without pair pairs x chosen unpicked matching = record {
   within = λ k t m. matching.within (suc k) t (up pair pairs chosen k t m);
   covered = λ t there. (let found = matching.covered t there in by t found.0 found.1);
-  once = λ j k t m n. same_place j k (matching.once (suc j) (suc k) t (up pair pairs chosen j t m) (up pair pairs chosen k t n));
+  once = λ j k t m n. same_place j k (matching.once (suc j) (suc k) t (up pair pairs chosen j t m)
+      (up pair pairs chosen k t n));
 }
   where
     by : (t k : ℕ) → Matches (pair ∷ pairs) chosen k t → (j : ℕ) × Matches pairs (λ i. chosen (suc i)) j t
     by t zero m = absurd (chosen_no (chosen 0) unpicked m.is_chosen)
     by t (suc k) m = (k, down pair pairs chosen k t m)
 
-rest_with : (pair : Pair) (pairs : List Pair) (x : ℕ) (chosen : ℕ → Bool) → chosen 0 ≡ true → HasBoth pair x → IsMatching (pair ∷ pairs) x chosen
+rest_with : (pair : Pair) (pairs : List Pair) (x : ℕ) (chosen : ℕ → Bool) → chosen 0 ≡ true → HasBoth pair x
+    → IsMatching (pair ∷ pairs) x chosen
     → IsMatching pairs (left pair x) (λ k. chosen (suc k))
 rest_with pair pairs x chosen picked both matching = record {
   within = λ k t m. (
       let there = up pair pairs chosen k t m in
-      left_other pair x t (λ e. apart k t there (inl (sym e))) (λ e. apart k t there (inr (sym e))) ∙ matching.within (suc k) t there);
+      left_other pair x t (λ e. apart k t there (inl (sym e))) (λ e. apart k t there (inr (sym e)))
+      ∙ matching.within (suc k) t there);
   covered = λ t there. (let found = matching.covered t (left_there pair x t both there) in by t there found.0 found.1);
-  once = λ j k t m n. same_place j k (matching.once (suc j) (suc k) t (up pair pairs chosen j t m) (up pair pairs chosen k t n));
+  once = λ j k t m n. same_place j k (matching.once (suc j) (suc k) t (up pair pairs chosen j t m)
+      (up pair pairs chosen k t n));
 }
   where
     apart : (k t : ℕ) → Matches (pair ∷ pairs) chosen (suc k) t → Joins pair t → ⊥
     apart k t m joins =
-        let e : zero ≡ suc k = matching.once 0 (suc k) t (record { pair = pair; is_chosen = picked; pair_is = refl; joins = joins }) m in
+        let e : zero ≡ suc k =
+        matching.once 0 (suc k) t (record { pair = pair; is_chosen = picked; pair_is = refl; joins = joins }) m in
         omega (arith, e)
 
-    by : (t : ℕ) → has (left pair x) t ≡ true → (k : ℕ) → Matches (pair ∷ pairs) chosen k t → (j : ℕ) × Matches pairs (λ i. chosen (suc i)) j t
+    by : (t : ℕ) → has (left pair x) t ≡ true → (k : ℕ) → Matches (pair ∷ pairs) chosen k t → (j : ℕ)
+        × Matches pairs (λ i. chosen (suc i)) j t
     by t there zero m = absurd (left_apart pair x t both there (first_joins pair pairs chosen t m))
     by t there (suc k) m = (k, down pair pairs chosen k t m)
 
-both_of : (count buys : ℕ) (pair : Pair) (pairs : List Pair) (x : ℕ) (chosen : ℕ → Bool) → IsOwnPair count buys pair → chosen 0 ≡ true → IsMatching (pair ∷ pairs) x chosen → HasBoth pair x
+both_of : (count buys : ℕ) (pair : Pair) (pairs : List Pair) (x : ℕ) (chosen : ℕ → Bool) → IsOwnPair count buys pair
+    → chosen 0 ≡ true → IsMatching (pair ∷ pairs) x chosen → HasBoth pair x
 both_of count buys pair pairs x chosen own picked matching = record {
   has_buy = matching.within 0 pair.buy (record { pair = pair; is_chosen = picked; pair_is = refl; joins = inl refl });
   has_sell = matching.within 0 pair.sell (record { pair = pair; is_chosen = picked; pair_is = refl; joins = inr refl });
@@ -119,7 +136,8 @@ empty_of x chosen matching = same_set x 0 (λ k. elim (cases_Bool (has x k)) [
 ])
 
 -- a bundle with a matching is worth at least minus its cost
-pub matching_worth : (count buys : ℕ) (pairs : List Pair) → AreOwnPairs count buys pairs → (x : ℕ) (chosen : ℕ → Bool) → IsMatching pairs x chosen
+pub matching_worth : (count buys : ℕ) (pairs : List Pair) → AreOwnPairs count buys pairs → (x : ℕ) (chosen : ℕ → Bool)
+    → IsMatching pairs x chosen
     → IsWorth (matched_worth pairs) x (neg_ℤ (cost_of pairs chosen))
 unfolding cost_of
 matching_worth count buys [] own x chosen matching = record {
@@ -129,17 +147,21 @@ matching_worth count buys [] own x chosen matching = record {
 }
 matching_worth count buys (pair ∷ pairs) own x chosen matching = elim (cases_Bool (chosen 0)) [
   | inr unpicked ↦
-      let rest = matching_worth count buys pairs (own_rest count buys pair pairs own) x (λ k. chosen (suc k)) (rest_without pair pairs x chosen unpicked matching) in
+      let rest = matching_worth count buys pairs (own_rest count buys pair pairs own) x (λ k. chosen (suc k))
+      (rest_without pair pairs x chosen unpicked matching) in
       let found = matched_left pair pairs x rest.value rest.is in
-      let cost : (if chosen 0 then pair.cost else pos 0) ≡ pos 0 = ap (λ (b : Bool). if b then pair.cost else pos 0) unpicked in
+      let cost : (if chosen 0 then pair.cost else pos 0) ≡ pos 0 =
+      ap (λ (b : Bool). if b then pair.cost else pos 0) unpicked in
       let p = rest.enough in
       let q = found.enough in
       record { value = found.value; is = found.is; enough = omega (arith, ints, p, q, cost) }
   | inl picked ↦
       let both = both_of count buys pair pairs x chosen (own 0 pair refl) picked matching in
-      let rest = matching_worth count buys pairs (own_rest count buys pair pairs own) (left pair x) (λ k. chosen (suc k)) (rest_with pair pairs x chosen picked both matching) in
+      let rest = matching_worth count buys pairs (own_rest count buys pair pairs own) (left pair x)
+      (λ k. chosen (suc k)) (rest_with pair pairs x chosen picked both matching) in
       let found = matched_right pair pairs x rest.value both.has_buy both.has_sell rest.is in
-      let cost : (if chosen 0 then pair.cost else pos 0) ≡ pair.cost = ap (λ (b : Bool). if b then pair.cost else pos 0) picked in
+      let cost : (if chosen 0 then pair.cost else pos 0) ≡ pair.cost =
+      ap (λ (b : Bool). if b then pair.cost else pos 0) picked in
       let p = rest.enough in
       let q = found.enough in
       record { value = found.value; is = found.is; enough = omega (arith, ints, p, q, cost) }
@@ -147,10 +169,12 @@ matching_worth count buys (pair ∷ pairs) own x chosen matching = elim (cases_B
 
 -- ---- from the worth to a matching
 
-more_without : (pair : Pair) (pairs : List Pair) (x : ℕ) (chosen : ℕ → Bool) → IsMatching pairs x chosen → IsMatching (pair ∷ pairs) x (with_first false chosen)
+more_without : (pair : Pair) (pairs : List Pair) (x : ℕ) (chosen : ℕ → Bool) → IsMatching pairs x chosen
+    → IsMatching (pair ∷ pairs) x (with_first false chosen)
 more_without pair pairs x chosen matching = record {
   within = within;
-  covered = λ t there. (let found = matching.covered t there in (suc found.0, up pair pairs (with_first false chosen) found.0 t found.1));
+  covered = λ t there. (let found = matching.covered t there in
+      (suc found.0, up pair pairs (with_first false chosen) found.0 t found.1));
   once = once;
 }
   where
@@ -158,13 +182,16 @@ more_without pair pairs x chosen matching = record {
     within zero t m = absurd (false≢true m.is_chosen)
     within (suc k) t m = matching.within k t (down pair pairs (with_first false chosen) k t m)
 
-    once : (j k t : ℕ) → Matches (pair ∷ pairs) (with_first false chosen) j t → Matches (pair ∷ pairs) (with_first false chosen) k t → j ≡ k
+    once : (j k t : ℕ) → Matches (pair ∷ pairs) (with_first false chosen) j t
+        → Matches (pair ∷ pairs) (with_first false chosen) k t → j ≡ k
     once zero k t m n = absurd (false≢true m.is_chosen)
     once (suc j) zero t m n = absurd (false≢true n.is_chosen)
     once (suc j) (suc k) t m n =
-        ap suc (matching.once j k t (down pair pairs (with_first false chosen) j t m) (down pair pairs (with_first false chosen) k t n))
+        ap suc (matching.once j k t (down pair pairs (with_first false chosen) j t m)
+        (down pair pairs (with_first false chosen) k t n))
 
-more_with : (pair : Pair) (pairs : List Pair) (x : ℕ) (chosen : ℕ → Bool) → HasBoth pair x → IsMatching pairs (left pair x) chosen
+more_with : (pair : Pair) (pairs : List Pair) (x : ℕ) (chosen : ℕ → Bool) → HasBoth pair x
+    → IsMatching pairs (left pair x) chosen
     → IsMatching (pair ∷ pairs) x (with_first true chosen)
 more_with pair pairs x chosen both matching = record { within = within; covered = covered; once = once }
   where
@@ -183,16 +210,21 @@ more_with pair pairs x chosen both matching = record { within = within; covered 
       | inl e ↦ (0, first t (inl (sym e)))
       | inr p ↦ elim (cases_eq t pair.sell) [
         | inl e ↦ (0, first t (inr (sym e)))
-        | inr q ↦ (let found = matching.covered t (left_other pair x t p q ∙ there) in (suc found.0, up pair pairs (with_first true chosen) found.0 t found.1))
+        | inr q ↦ (let found = matching.covered t (left_other pair x t p q ∙ there) in
+            (suc found.0, up pair pairs (with_first true chosen) found.0 t found.1))
       ]
     ]
 
-    once : (j k t : ℕ) → Matches (pair ∷ pairs) (with_first true chosen) j t → Matches (pair ∷ pairs) (with_first true chosen) k t → j ≡ k
+    once : (j k t : ℕ) → Matches (pair ∷ pairs) (with_first true chosen) j t
+        → Matches (pair ∷ pairs) (with_first true chosen) k t → j ≡ k
     once zero zero t m n = refl
-    once zero (suc k) t m n = absurd (left_apart pair x t both (rest k t n) (first_joins pair pairs (with_first true chosen) t m))
-    once (suc j) zero t m n = absurd (left_apart pair x t both (rest j t m) (first_joins pair pairs (with_first true chosen) t n))
+    once zero (suc k) t m n =
+        absurd (left_apart pair x t both (rest k t n) (first_joins pair pairs (with_first true chosen) t m))
+    once (suc j) zero t m n =
+        absurd (left_apart pair x t both (rest j t m) (first_joins pair pairs (with_first true chosen) t n))
     once (suc j) (suc k) t m n =
-        ap suc (matching.once j k t (down pair pairs (with_first true chosen) j t m) (down pair pairs (with_first true chosen) k t n))
+        ap suc (matching.once j k t (down pair pairs (with_first true chosen) j t m)
+        (down pair pairs (with_first true chosen) k t n))
 
 no_pairs : IsMatching [] 0 (λ k. false)
 no_pairs = record {
@@ -215,7 +247,8 @@ attained_without pair pairs x a rest = record {
   cost = (let p = rest.cost in omega (arith, ints, p));
 }
 
-attained_with : (pair : Pair) (pairs : List Pair) (x : ℕ) (a v : ℤ) → HasBoth pair x → a -ℤ pair.cost ≡ v → Attained pairs (left pair x) a → Attained (pair ∷ pairs) x v
+attained_with : (pair : Pair) (pairs : List Pair) (x : ℕ) (a v : ℤ) → HasBoth pair x → a -ℤ pair.cost ≡ v
+    → Attained pairs (left pair x) a → Attained (pair ∷ pairs) x v
 unfolding cost_of
 attained_with pair pairs x a v both less rest = record {
   chosen = with_first true rest.chosen;
@@ -234,24 +267,32 @@ attained_none x a is =
     }
 
 -- a possible bundle has a matching at minus its worth
-pub worth_matching : (count buys : ℕ) (pairs : List Pair) → AreOwnPairs count buys pairs → (x : ℕ) (a : ℤ) → matched_worth pairs x ≡ Some a → Attained pairs x a
+pub worth_matching : (count buys : ℕ) (pairs : List Pair) → AreOwnPairs count buys pairs → (x : ℕ) (a : ℤ)
+    → matched_worth pairs x ≡ Some a → Attained pairs x a
 worth_matching count buys [] own x a is = attained_none x a is
 worth_matching count buys (pair ∷ pairs) own x a is = elim (matched_from pair pairs x a is) [
   | inl p ↦ attained_without pair pairs x a (worth_matching count buys pairs (own_rest count buys pair pairs own) x a p)
   | inr q ↦
       let here = own 0 pair refl in
       attained_with pair pairs x q.value a
-      (record { has_buy = q.has_buy; has_sell = q.has_sell; apart = λ e. false≢true (sym here.sold ∙ ap (has buys) (sym e) ∙ here.bought) }) q.less
+      (record {
+        has_buy = q.has_buy;
+        has_sell = q.has_sell;
+        apart =
+            λ e. false≢true (sym here.sold ∙ ap (has buys) (sym e) ∙ here.bought);
+      }) q.less
       (worth_matching count buys pairs (own_rest count buys pair pairs own) (left pair x) q.value q.is)
 ]
 
 -- ---- the law
 
-worth_of_least : (count buys : ℕ) (pairs : List Pair) → AreOwnPairs count buys pairs → (x : ℕ) → IsWorthOfLeast pairs x (matched_worth pairs x)
+worth_of_least : (count buys : ℕ) (pairs : List Pair) → AreOwnPairs count buys pairs → (x : ℕ)
+    → IsWorthOfLeast pairs x (matched_worth pairs x)
 worth_of_least count buys pairs own x = by (matched_worth pairs x) refl
   where
     by : (o : Option ℤ) → matched_worth pairs x ≡ o → IsWorthOfLeast pairs x o
-    by None e = λ chosen matching. (let found = matching_worth count buys pairs own x chosen matching in none-some found.value (sym e ∙ found.is))
+    by None e = λ chosen matching. (let found = matching_worth count buys pairs own x chosen matching in
+        none-some found.value (sym e ∙ found.is))
     by (Some a) e =
         let found = worth_matching count buys pairs own x a e in (
           found.chosen,

@@ -24,11 +24,13 @@ pub record AreCounted (f : ℕ → ℕ) (n k : ℕ) : Type 0 where
   pub counted : size (numbers_below f k) ≡ k
   pub only : (c : ℕ) → has (numbers_below f k) c ≡ true → (i : ℕ) × (i < k) × (f i ≡ c)
 
-counted_more : (f : ℕ → ℕ) (n k : ℕ) → f k < n → ((i : ℕ) → i < k → f i ≢ f k) → AreCounted f n k → AreCounted f n (suc k)
+counted_more : (f : ℕ → ℕ) (n k : ℕ) → f k < n → ((i : ℕ) → i < k → f i ≢ f k) → AreCounted f n k
+    → AreCounted f n (suc k)
 unfolding numbers_below
 counted_more f n k below apart before = record {
   within = toggle_within (numbers_below f k) (f k) n before.within below;
-  counted = (let more = size-toggle_in (numbers_below f k) (f k) new in let p = before.counted in omega (arith, more, p));
+  counted = (let more = size-toggle_in (numbers_below f k) (f k) new in let p = before.counted in
+      omega (arith, more, p));
   only = λ c there. elim (cases_eq c (f k)) [
     | inl e ↦ (k, omega arith, sym e)
     | inr d ↦
@@ -43,9 +45,15 @@ counted_more f n k below apart before = record {
       | inr none ↦ none
     ]
 
-counted : (f : ℕ → ℕ) (n k : ℕ) → ((i : ℕ) → i < k → f i < n) → ((i j : ℕ) → i < j → j < k → f i ≢ f j) → AreCounted f n k
+counted : (f : ℕ → ℕ) (n k : ℕ) → ((i : ℕ) → i < k → f i < n) → ((i j : ℕ) → i < j → j < k → f i ≢ f j)
+    → AreCounted f n k
 unfolding numbers_below
-counted f n zero below apart = record { within = pow_pos n; counted = size-zero; only = λ c there. absurd (false≢true (sym (has-zero c) ∙ there)) }
+counted f n zero below apart = record {
+  within = pow_pos n;
+  counted = size-zero;
+  only =
+      λ c there. absurd (false≢true (sym (has-zero c) ∙ there));
+}
 counted f n (suc k) below apart =
     counted_more f n k (below k (omega arith)) (λ i h. apart i k h (omega arith))
     (counted f n k (λ i h. below i (omega (arith, h))) (λ i j h m. apart i j h (omega (arith, m))))
@@ -73,7 +81,8 @@ same_number : (a b c d : ℕ) → b < most_own → d < most_own → a * 32 + b �
 same_number a b c d p q e = (omega (arith, p, q, e), omega (arith, p, q, e))
 
 -- where no pair before a place is repeated, the place is at most 1024
-pub few_different : (pairs : List Pair) (k : ℕ) → k ≤ length pairs → All IsNear pairs → AreDifferentBelow pairs k → k ≤ 1024
+pub few_different : (pairs : List Pair) (k : ℕ) → k ≤ length pairs → All IsNear pairs → AreDifferentBelow pairs k
+    → k ≤ 1024
 few_different pairs k within near different = few_numbers (number_of pairs) 1024 k below apart
   where
     near_at : (i : ℕ) → i < k → IsNear (pair_at pairs i)
@@ -85,7 +94,8 @@ few_different pairs k within near different = few_numbers (number_of pairs) 1024
     apart : (i j : ℕ) → i < j → j < k → number_of pairs i ≢ number_of pairs j
     apart i j h m e =
         let i_below : i < k = omega (arith, h, m) in
-        let same = same_number (pair_at pairs i).buy (pair_at pairs i).sell (pair_at pairs j).buy (pair_at pairs j).sell (near_at i i_below).sell (near_at j m).sell e in
+        let same = same_number (pair_at pairs i).buy (pair_at pairs i).sell (pair_at pairs j).buy (pair_at pairs j).sell
+        (near_at i i_below).sell (near_at j m).sell e in
         different j m (record {
           at = i;
           earlier = pair_at pairs i;
@@ -97,7 +107,8 @@ few_different pairs k within near different = few_numbers (number_of pairs) 1024
           same_sell = same.1;
         })
 
-pub different_more : (pairs : List Pair) (k : ℕ) → (IsRepeated pairs k → ⊥) → AreDifferentBelow pairs k → AreDifferentBelow pairs (k + 1)
+pub different_more : (pairs : List Pair) (k : ℕ) → (IsRepeated pairs k → ⊥) → AreDifferentBelow pairs k
+    → AreDifferentBelow pairs (k + 1)
 different_more pairs k here before j below = elim (cases_eq j k) [
   | inl e ↦ subst (λ (i : ℕ). IsRepeated pairs i → ⊥) (sym e) here
   | inr other ↦ before j (omega (arith, below, other))

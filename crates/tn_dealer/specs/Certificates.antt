@@ -15,10 +15,12 @@ bound_of priced pair = if priced then pair.cost else pos 0
 
 -- the numbers of the pair's two trades sum to no more, where both are in the bundle
 abbrev pub KeepsPair : Bool → (ℕ → ℤ) → ℕ → Pair → Type 0
-KeepsPair priced number x pair = has x pair.buy ≡ true → has x pair.sell ≡ true → (number pair.buy +ℤ number pair.sell) ≤ℤ bound_of priced pair
+KeepsPair priced number x pair = has x pair.buy ≡ true → has x pair.sell ≡ true
+    → (number pair.buy +ℤ number pair.sell) ≤ℤ bound_of priced pair
 
 abbrev pub KeepsPairs : Bool → (ℕ → ℤ) → ℕ → List Pair → Type 0
-KeepsPairs priced number x pairs = (k : ℕ) (pair : Pair) → slice_get pairs k ≡ Some pair → KeepsPair priced number x pair
+KeepsPairs priced number x pairs = (k : ℕ) (pair : Pair) → slice_get pairs k ≡ Some pair
+    → KeepsPair priced number x pair
 
 -- the numbers of a purchase and a sale sum to no more than the cost at their place, or than 0, where that isn't far and
 -- the sale is one of these
@@ -30,8 +32,8 @@ KeepsAt priced costs number sales buy sell = has sales sell ≡ true → cost_at
 abbrev pub KeepsBeside : Bool → List ℤ → (ℕ → ℤ) → ℕ → ℕ → ℕ → Type 0
 KeepsBeside priced costs number sales buy n = (sell : ℕ) → sell < n → KeepsAt priced costs number sales buy sell
 
--- a bundle and a cost, with a purchase and a sale taken in at what stands at their place, where that isn't far and neither
--- is there yet
+-- a bundle and a cost, with a purchase and a sale taken in at what stands at their place, where that isn't far and
+-- neither is there yet
 pub record TakesAt (here : ℤ) (buy sell bundle : ℕ) (cost : ℤ) (next : ℕ) (next_cost : ℤ) : Type 0 where
   pub near : here <ℤ far
   pub no_buy : has bundle buy ≡ false
@@ -49,4 +51,5 @@ pub record Takes (costs : List ℤ) (bundle : ℕ) (cost : ℤ) (next : ℕ) (ne
 
 -- the same bundle and cost, or those with a pair taken in
 abbrev pub MayTake : List ℤ → ℕ → ℤ → ℕ → ℤ → Type 0
-MayTake costs bundle cost next next_cost = ((next ≡ bundle) × (next_cost ≡ cost)) ⊎ Takes costs bundle cost next next_cost
+MayTake costs bundle cost next next_cost = ((next ≡ bundle) × (next_cost ≡ cost))
+    ⊎ Takes costs bundle cost next next_cost

@@ -25,11 +25,14 @@ pub record IsListed (pairs : List Pair) (n buy sell : ℕ) (cost : ℤ) : Type 0
   pub same_sell : pair.sell ≡ sell
   pub same_cost : pair.cost ≡ cost
 
--- the cost of each of the first n pairs stands at its place, and what stands at a place is far or the cost of such a pair
+-- the cost of each of the first n pairs stands at its place, and what stands at a place is far or the cost of such a
+-- pair
 pub record AreCostsBelow (pairs : List Pair) (n : ℕ) (costs : List ℤ) : Type 0 where
   pub counted : length costs ≡ 1024
-  pub each : (k : ℕ) (pair : Pair) → k < n → slice_get pairs k ≡ Some pair → cost_at costs pair.buy pair.sell ≡ pair.cost
-  pub only : (buy sell : ℕ) → buy < most_own → sell < most_own → cost_at costs buy sell <ℤ far → IsListed pairs n buy sell (cost_at costs buy sell)
+  pub each : (k : ℕ) (pair : Pair) → k < n → slice_get pairs k ≡ Some pair
+      → cost_at costs pair.buy pair.sell ≡ pair.cost
+  pub only : (buy sell : ℕ) → buy < most_own → sell < most_own → cost_at costs buy sell <ℤ far
+      → IsListed pairs n buy sell (cost_at costs buy sell)
 
 abbrev pub AreCosts : List Pair → List ℤ → Type 0
 AreCosts pairs costs = AreCostsBelow pairs (length pairs) costs

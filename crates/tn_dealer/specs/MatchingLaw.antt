@@ -13,4 +13,5 @@ pub record IsMatched (sides : List Side) (pairs : List Pair) : Type 0 where
   pub least : (x : ℕ) → IsWorthOfLeast pairs x ((dealer_firm sides pairs).worth x)
 
 abbrev pub DealersMatch : Type 0
-DealersMatch = (sides : List Side) (pairs : List Pair) → All (IsOwnPair (length sides) (buys_of sides)) pairs → IsMatched sides pairs
+DealersMatch = (sides : List Side) (pairs : List Pair) → All (IsOwnPair (length sides) (buys_of sides)) pairs
+    → IsMatched sides pairs

@@ -32,5 +32,6 @@ pub record IsLeastMatching (pairs : List Pair) (x : ℕ) (chosen : ℕ → Bool)
 
 -- a bundle's worth is minus the cost of a least matching, none where it has no matching
 abbrev pub IsWorthOfLeast : List Pair → ℕ → Option ℤ → Type 0
-IsWorthOfLeast pairs x (Some a) = (chosen : ℕ → Bool) × IsLeastMatching pairs x chosen × (a ≡ neg_ℤ (cost_of pairs chosen))
+IsWorthOfLeast pairs x (Some a) = (chosen : ℕ → Bool) × IsLeastMatching pairs x chosen
+    × (a ≡ neg_ℤ (cost_of pairs chosen))
 IsWorthOfLeast pairs x None = (chosen : ℕ → Bool) → IsMatching pairs x chosen → ⊥

@@ -17,8 +17,8 @@ with_pair pair worth x =
     then option_map (λ a. a -ℤ pair.cost) (worth (toggle (toggle x pair.buy) pair.sell))
     else None
 
--- with no pair only the empty bundle is possible, and worth 0; with one pair more a bundle is worth the greater of what it
--- is worth without this pair and with it
+-- with no pair only the empty bundle is possible, and worth 0; with one pair more a bundle is worth the greater of what
+-- it is worth without this pair and with it
 unfoldable pub matched_worth : List Pair → ℕ → Option ℤ
 matched_worth [] x = if x == 0 then Some (pos 0) else None
 matched_worth (pair ∷ pairs) x = greater (matched_worth pairs x) (with_pair pair (matched_worth pairs) x)

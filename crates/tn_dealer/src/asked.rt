@@ -1,3 +1,5 @@
+//! A dealer as a firm that may be asked: single worths, and rows of them.
+
 ghost use Rattle.tn_market.specs.Widths.{most_worth};
 ghost use Rattle.tn_dealer.specs.Firms.{firm_of};
 ghost use Rattle.tn_dealer.specs.LawLemmas.{dealer_laws};

@@ -1,3 +1,5 @@
+//! A dealer, and which pairs make one.
+
 ghost use Rattle.std.specs.Prelude.{◌≡◌, ◌≤◌, length, All, IfOk, IfErr};
 ghost use Rattle.tn_base.specs.Table.{buys_of};
 ghost use Rattle.tn_dealer.specs.Pairs.{AreDifferent, IsDealer, IsFirstRepeated, IsOwnPair, dealer_firm};
@@ -22,8 +24,8 @@ pub struct Dealer {
 impl Dealer {
     ghost use Rattle.tn_dealer.specs.Firms.{firm_of};
 
-    /// The firm with these sides by position and these pairs, each of an own purchase and an own sale; there are at most
-    /// 32 trades, and no cost is above 10^9 in size. It takes no memory.
+    /// The firm with these sides by position and these pairs, each of an own purchase and an own sale; there are at
+    /// most 32 trades, and no cost is above 10^9 in size. It takes no memory.
     ///
     /// A list in which a pair has the purchase and the sale of an earlier one is refused with the first such pair.
     pub fn new(sides: Vec<Side>, pairs: Vec<Pair>) -> Result<Dealer, SamePair>

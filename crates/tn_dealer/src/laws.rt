@@ -1,3 +1,5 @@
+//! A law of dealers: what a bundle is worth by matchings.
+
 ghost use Rattle.tn_dealer.specs.MatchingLaw.{DealersMatch};
 
 /// A dealer's bundle is worth minus the least sum of the costs of listed pairs that match its purchases one to one with

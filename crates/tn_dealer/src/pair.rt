@@ -1,3 +1,5 @@
+//! Pairs of a purchase and a sale.
+
 use thiserror::Error;
 
 /// A purchase that may be sold on as a sale, both by position, and what that costs.

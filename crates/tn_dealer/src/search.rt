@@ -1,6 +1,6 @@
 //! The search for a least matching: trades of one side are matched one at a time, each along a path of least cost (the
-//! Hungarian method: Kuhn, 1955; Jonker and Volgenant, 1987). Nothing rests on it: what it finds is a certificate that is
-//! tested.
+//! Hungarian method: Kuhn, 1955; Jonker and Volgenant, 1987). Nothing rests on it: what it finds is a certificate that
+//! is tested.
 
 ghost use Rattle.std.specs.Prelude.{◌<◌, IfSome};
 ghost use Rattle.tn_market.specs.Widths.{most_own};
@@ -11,9 +11,9 @@ use tn_base::Bundle;
 /// The mate of a trade that has none.
 const NONE: usize = POSITIONS;
 
-/// What the search found. Where all trades are matched, `mates` has a trade of the first side for each trade of the second
-/// side, and two numbers sum to at most the cost of a pair. Otherwise two numbers sum to at most 0 where a pair is listed,
-/// and those of all trades to more.
+/// What the search found. Where all trades are matched, `mates` has a trade of the first side for each trade of the
+/// second side, and two numbers sum to at most the cost of a pair. Otherwise two numbers sum to at most 0 where a pair
+/// is listed, and those of all trades to more.
 #[derive(Drop)]
 pub(crate) struct Certificate {
     pub(crate) matched: bool,
@@ -36,8 +36,8 @@ struct Matching<'a> {
     mated: [usize; POSITIONS],
 }
 
-/// What can be reached from a trade of the first side by listed pairs and back by matched ones: how far each trade of the
-/// second side is, by what costs exceed numbers, and from which one of the first side.
+/// What can be reached from a trade of the first side by listed pairs and back by matched ones: how far each trade of
+/// the second side is, by what costs exceed numbers, and from which one of the first side.
 #[derive(Drop)]
 struct Reach {
     seconds: Bundle,
@@ -45,9 +45,9 @@ struct Reach {
     from: [usize; POSITIONS],
 }
 
-/// A matching of a bundle that has one trade more of the first side: all of the second side are matched, one of the first
-/// is left, and how far the others are from it is known, so that each bundle with one trade toggled has a least matching
-/// along one path.
+/// A matching of a bundle that has one trade more of the first side: all of the second side are matched, one of the
+/// first is left, and how far the others are from it is known, so that each bundle with one trade toggled has a least
+/// matching along one path.
 #[derive(Drop)]
 pub(crate) struct Spare<'a> {
     firsts: Bundle,
@@ -105,8 +105,8 @@ fn unmatched(more: Bundle, fewer: Bundle) -> Certificate {
 }
 
 impl Certificate {
-    /// The purchase and the sale of the pair that a position of the second side is matched in; where it has no mate, one
-    /// of them is no position.
+    /// The purchase and the sale of the pair that a position of the second side is matched in; where it has no mate,
+    /// one of them is no position.
     pub(crate) fn pair_at(&self, k: usize) -> (usize, usize)
         requires { k < most_own }
     {
@@ -178,8 +178,8 @@ impl<'a> Matching<'a> {
         }
     }
 
-    /// The certificate of a bundle that has more trades of the first side than those of the second that can be reached from
-    /// `left`.
+    /// The certificate of a bundle that has more trades of the first side than those of the second that can be reached
+    /// from `left`.
     fn unmatched(&self, left: usize, reach: &Reach) -> Certificate
         requires { left < most_own }
     {
@@ -209,8 +209,8 @@ impl<'a> Matching<'a> {
         self.numbers[second] = if number < FAR { number } else { 0 };
     }
 
-    /// Matches one trade of the first side more, with one of the second side more. Where that can't be, it hands back what
-    /// is reached.
+    /// Matches one trade of the first side more, with one of the second side more. Where that can't be, it hands back
+    /// what is reached.
     fn extend(&mut self, left: usize, seconds: Bundle) -> Option<Reach>
         requires { left < most_own }
     {
@@ -270,8 +270,8 @@ impl<'a> Matching<'a> {
         }
     }
 
-    /// Raises the numbers of what is reached of the first side within a distance, by what is left of it, and lowers those of
-    /// the second.
+    /// Raises the numbers of what is reached of the first side within a distance, by what is left of it, and lowers
+    /// those of the second.
     fn shift(&mut self, reach: &Reach, left: usize, within: i64)
         requires { left < most_own }
     {
@@ -288,8 +288,8 @@ impl<'a> Matching<'a> {
         }
     }
 
-    /// Matches the trade of the second side with that of the first that it was reached from, that one's mate with the one
-    /// before, and so on.
+    /// Matches the trade of the second side with that of the first that it was reached from, that one's mate with the
+    /// one before, and so on.
     fn rematch(&mut self, reach: &Reach, second: usize) {
         let mut s = second;
         for _ in 0..POSITIONS {
@@ -305,8 +305,8 @@ impl<'a> Matching<'a> {
 }
 
 impl<'a> Spare<'a> {
-    /// The matching of the bundle `x` of a firm that buys `buys`, and how far the others are, the wanted ones of the second
-    /// side among them; None where no such matching is found.
+    /// The matching of the bundle `x` of a firm that buys `buys`, and how far the others are, the wanted ones of the
+    /// second side among them; None where no such matching is found.
     pub(crate) fn of(
         costs: &'a [i64; CELLS],
         x: Bundle,
@@ -368,8 +368,8 @@ impl<'a> Spare<'a> {
         })
     }
 
-    /// A certificate for the bundle with position `k` toggled, which is one of the first side in the bundle, or one of the
-    /// second that was wanted.
+    /// A certificate for the bundle with position `k` toggled, which is one of the first side in the bundle, or one of
+    /// the second that was wanted.
     pub(crate) fn toggled(&self, k: usize) -> Certificate
         requires { k < most_own }
     {

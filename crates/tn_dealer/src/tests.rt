@@ -1,3 +1,5 @@
+//! Tests of dealers.
+
 use crate::{Dealer, Pair, SamePair};
 use std::test::Fail;
 use tn_base::{Asked, Bundle, Side, Steps};

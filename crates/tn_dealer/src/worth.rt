@@ -1,5 +1,5 @@
-//! What a bundle is worth. The search hands over a certificate, which is tested; where it shows nothing, the definition is
-//! followed pair by pair (certifying algorithms: McConnell, Mehlhorn, Näher and Schweitzer, 2011).
+//! What a bundle is worth. The search hands over a certificate, which is tested; where it shows nothing, the definition
+//! is followed pair by pair (certifying algorithms: McConnell, Mehlhorn, Näher and Schweitzer, 2011).
 
 ghost use Rattle.std.specs.Prelude.{◌≡◌, ◌+◌, ◌*◌, ◌^◌, ◌<◌, ◌≤◌, ◌<ℤ◌, ◌≤ℤ◌, ◌+ℤ◌, ◌-ℤ◌, ◌↔◌, IsTrue, true, false, pos, neg_ℤ, if◌then◌else◌, length, drop, option_map, IfSome};
 ghost use Rattle.tn_base.specs.Arcs.{IsAtMost};
@@ -162,7 +162,8 @@ fn keeps_beside(
     priced: bool,
 ) -> bool
     requires { buy < most_own }
-    ensures { result ≡ true → has purchases buy ≡ true → KeepsBeside priced costs.now (number_at numbers.now) sales buy most_own }
+    ensures { result ≡ true → has purchases buy ≡ true
+        → KeepsBeside priced costs.now (number_at numbers.now) sales buy most_own }
 {
     if !purchases.has(buy as u32) {
         return true;
@@ -175,8 +176,8 @@ fn keeps_beside(
     true
 }
 
-/// Whether a purchase and a sale are a listed pair, the sale is one of these, and their numbers sum to more than its cost,
-/// or than 0 where costs don't count.
+/// Whether a purchase and a sale are a listed pair, the sale is one of these, and their numbers sum to more than its
+/// cost, or than 0 where costs don't count.
 fn breaks(
     costs: &[i64; CELLS],
     buy: usize,

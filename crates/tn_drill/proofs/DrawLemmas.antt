@@ -23,7 +23,8 @@ drawn_within start i below = record {
 pub draws_more : (start size : ℕ) → draws_of start (size + 1) ≡ draws_of start size ++ drawn start size ∷ []
 draws_more start size = map-range_with_len_more (drawn start) 0 size size (omega arith)
 
-pub trades_more : (start size : ℕ) → trades_of start (size + 1) ≡ trades_of start size ++ ends_after (trades_of start size) (drawn start size) ∷ []
+pub trades_more : (start size : ℕ) → trades_of start (size + 1) ≡ trades_of start size
+    ++ ends_after (trades_of start size) (drawn start size) ∷ []
 trades_more start size = ap (trades_of start) (add-one size)
 
 pub trades_counted : (start size : ℕ) → length (trades_of start size) ≡ size

@@ -29,10 +29,12 @@ unbent numbers (suc k) concave bend =
     absurd (omega (arith, ints, middle, below, first, second, third))
 
 -- a set with a number at 0 whose list is concave is refused for want of memory alone
-pub one_set_sound : (set : LaminarSet) (refusal : LaminarRefusal) → HasEmpty set → IsConcaveList set.numbers → IsRefusedFor (set ∷ []) refusal → refusal ≡ OutOfMemory
+pub one_set_sound : (set : LaminarSet) (refusal : LaminarRefusal) → HasEmpty set → IsConcaveList set.numbers
+    → IsRefusedFor (set ∷ []) refusal → refusal ≡ OutOfMemory
 one_set_sound set (NoEmpty at) empty concave fault =
     let same = only set fault.set fault.at fault.set_is in
-    let none = (subst (λ (s : LaminarSet). listed_from s.low s.numbers (pos 0) ≡ None) (sym same.1) (none_is _ fault.fault.1)) in
+    let none = (subst (λ (s : LaminarSet). listed_from s.low s.numbers (pos 0) ≡ None) (sym same.1)
+    (none_is _ fault.fault.1)) in
     absurd (some_none _ empty none)
   where
     none_is : (o : Option ℤ) → IsNone o → o ≡ None
@@ -44,7 +46,8 @@ one_set_sound set (NoEmpty at) empty concave fault =
     some_none (Some z) is e = absurd (cc e)
 one_set_sound set (NotConcave at place) empty concave fault =
     let same = only set fault.set fault.at fault.set_is in
-    absurd (unbent set.numbers place concave (subst (λ (s : LaminarSet). IsFirstBend s.numbers place) (sym same.1) fault.fault.2))
+    absurd (unbent set.numbers place concave (subst (λ (s : LaminarSet). IsFirstBend s.numbers place) (sym same.1)
+    fault.fault.2))
 one_set_sound set (NotLaminar at) empty concave fault =
     let same = (only set fault.set fault.at fault.set_is).0 in
     let before = fault.fault.3.before in

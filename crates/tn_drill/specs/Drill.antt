@@ -1,4 +1,5 @@
--- Drill networks: producers, firms 0 to 3, sell to middlemen, firms 4 to 11, and these sell to consumers, firms 12 to 15.
+-- Drill networks: producers, firms 0 to 3, sell to middlemen, firms 4 to 11, and these sell to consumers, firms 12 to
+-- 15.
 use Rattle.std.specs.Prelude.{ℕ, zero, suc, ◌≡◌, ◌≤◌, ◌+◌, ◌-◌, ◌^◌, ◌/◌, ◌%◌, ◌==◌, nat_lt, if◌then◌else◌, ℤ, pos, negsuc, neg_ℤ, List, [], ◌∷◌, ◌++◌, length, map, All, Option, Some, None}
 use Rattle.std.specs.List.{filter_map, range_with_len}
 use Rattle.tn_base.specs.Arcs.{IsAtMost}
@@ -13,8 +14,8 @@ use Rattle.tn_drill.specs.Draws.{drawn}
 use Rattle.tn_market.specs.Widths.{most_own}
 use Rattle.tn_base.specs.Widths.{most_amount}
 
--- trades with even numbers go from a producer to a middleman, those with odd numbers from a middleman to a consumer; two
--- trades after another have the same turn
+-- trades with even numbers go from a producer to a middleman, those with odd numbers from a middleman to a consumer;
+-- two trades after another have the same turn
 abbrev pub middleman_of : Drawn → ℕ
 middleman_of draw = 4 + (draw.trade / 2 + draw.step) % 8
 
@@ -34,7 +35,8 @@ buyer_number draw = if draw.trade % 2 == 0 then pos draw.number else pos (50 + d
 
 -- what it is to firm f, if that is its seller or its buyer
 abbrev pub number_to : ℕ → Drawn → Option ℤ
-number_to f draw = if seller_of draw == f then Some (seller_number draw) else (if buyer_of draw == f then Some (buyer_number draw) else None)
+number_to f draw = if seller_of draw == f then Some (seller_number draw)
+    else (if buyer_of draw == f then Some (buyer_number draw) else None)
 
 -- a trade after others: at each of its firms it has the position after that firm's trades before it
 abbrev pub ends_after : List Ends → Drawn → Ends
@@ -57,7 +59,8 @@ trades_of start (suc size) = trades_of start size ++ ends_after (trades_of start
 -- a firm whose worth is the sum of its amounts and a number for the net count of its trades, by a list from the lowest
 -- net count on
 abbrev pub by_net_count : ℤ → List ℤ → List Side → List ℤ → Firm
-by_net_count low numbers sides amounts = laminar_firm sides amounts (record { members = 2 ^ length sides - 1; low = low; numbers = numbers } ∷ [])
+by_net_count low numbers sides amounts =
+    laminar_firm sides amounts (record { members = 2 ^ length sides - 1; low = low; numbers = numbers } ∷ [])
 
 -- a producer may sell up to 3 of its goods, and a consumer may buy up to 3: beside the amounts 1, 2 and 3 of them cost
 -- 1, 4 and 9
@@ -69,7 +72,8 @@ consumer = by_net_count (pos 0) (pos 0 ∷ negsuc 0 ∷ negsuc 3 ∷ negsuc 8 �
 
 -- firm f, by its sides and its numbers
 abbrev pub firm_by : ℕ → List Side → List ℤ → Firm
-firm_by f sides numbers = if nat_lt f 4 then producer sides numbers else (if nat_lt f 12 then middle_firm sides numbers None else consumer sides numbers)
+firm_by f sides numbers = if nat_lt f 4 then producer sides numbers
+    else (if nat_lt f 12 then middle_firm sides numbers None else consumer sides numbers)
 
 -- firm f of some trades, as they were drawn
 abbrev pub firm_in : List Ends → List Drawn → ℕ → Firm

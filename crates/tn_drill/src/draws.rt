@@ -48,7 +48,8 @@ impl Generator {
     pub fn draw(&mut self, trade: u32) -> Drawn
         requires { trade < most_drilled }
         ensures drawn { (start : ℕ) → self.old.state ≡ state_after start (3 * trade) → result ≡ drawn start trade }
-        ensures state { (start : ℕ) → self.old.state ≡ state_after start (3 * trade) → self.new.state ≡ state_after start (3 * trade + 3) }
+        ensures state { (start : ℕ) → self.old.state ≡ state_after start (3 * trade)
+            → self.new.state ≡ state_after start (3 * trade + 3) }
     {
         let step = self.below(2);
         let amount = self.below(if trade % 2 == 0 { 50 } else { 100 });

@@ -1,3 +1,5 @@
+//! Tests of drawn networks.
+
 ghost use Rattle.std.specs.Prelude.{◌<◌, length};
 
 use super::*;

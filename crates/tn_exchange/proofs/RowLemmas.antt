@@ -18,7 +18,8 @@ use Rattle.tn_base.specs.Widths.{most_amount}
 use Rattle.tn_exchange.specs.Widths.{most_table_trades}
 
 -- a bundle of own positions is worth what its row says
-pub worth_in-own : (table : TableRows) (x : ℕ) → x < 2 ^ length table.sides → worth_in table x ≡ worth_by_row (row_at table.rows x) x
+pub worth_in-own : (table : TableRows) (x : ℕ) → x < 2 ^ length table.sides
+    → worth_in table x ≡ worth_by_row (row_at table.rows x) x
 unfolding worth_in
 worth_in-own table x own = ap (λ b. if b then worth_by_row (row_at table.rows x) x else None) (lt-ltb x _ own)
 
@@ -43,12 +44,18 @@ may_abstain table = by_row (row_at table.rows 0) (worth_in-own table 0 (pow_pos 
     by_row None e = (pos 0, e)
 
 -- no number of a table is above the limit
-pub worth_is_small : (table : TableRows) → IsWithinLimits table → (x : ℕ) (a : ℤ) → worth_in table x ≡ Some a → IsAtMost a most_amount
+pub worth_is_small : (table : TableRows) → IsWithinLimits table → (x : ℕ) (a : ℤ) → worth_in table x ≡ Some a
+    → IsAtMost a most_amount
 worth_is_small table limits x a e =
     by_row (row_at table.rows x) refl (sym (worth_in-own table x (own_bundles table x a e)) ∙ e)
   where
     zero_is_small : (b : Bool) → (if b then Some (pos 0) else None) ≡ Some a → IsAtMost a most_amount
-    zero_is_small true e = let same : pos 0 ≡ a = cc in subst (λ (z : ℤ). IsAtMost z most_amount) same (record { low = omega (arith, ints); high = omega (arith, ints) })
+    zero_is_small true e = let same : pos 0 ≡ a = cc in
+        subst (λ (z : ℤ). IsAtMost z most_amount) same (record {
+          low = omega (arith, ints);
+          high =
+              omega (arith, ints);
+        })
     zero_is_small false e = absurd (none-some a e)
 
     by_row : (row : Option ℤ) → row_at table.rows x ≡ row → worth_by_row row x ≡ Some a → IsAtMost a most_amount
@@ -56,11 +63,13 @@ worth_is_small table limits x a e =
     by_row None is e = zero_is_small (x == 0) e
 
 -- what is read at a bundle's place is its row
-pub worth_from_read : (table : TableRows) → IsWithinLimits table → (x : ℕ) (row default : Option ℤ) → x < 2 ^ length table.sides
+pub worth_from_read : (table : TableRows) → IsWithinLimits table → (x : ℕ) (row default : Option ℤ)
+    → x < 2 ^ length table.sides
     → row ≡ slice_index_or table.rows x default → worth_in table x ≡ worth_by_row row x
 worth_from_read table limits x row default own read =
     let inside : x < length table.rows = omega (arith, own, limits.places) in
-    worth_in-own table x own ∙ ap (λ (r : Option ℤ). worth_by_row r x) (get_or_default table.rows x None default inside ∙ sym read)
+    worth_in-own table x own ∙ ap (λ (r : Option ℤ). worth_by_row r x) (get_or_default table.rows x None default inside
+    ∙ sym read)
 
 -- without a row for a bundle that isn't empty, nothing is worth
 pub worth_by_row-other : (row : Option ℤ) (x : ℕ) → (row ≡ None → x ≡ 0 → ⊥) → worth_by_row row x ≡ row
@@ -78,7 +87,8 @@ none_from_test (Some a) e = absurd (false≢true (sym e))
 none_from_test None e = refl
 
 -- a table keeps its limits with one row more
-pub limits_with_row : (table : TableRows) → IsWithinLimits table → (x : ℕ) (amount : ℤ) → x < 2 ^ length table.sides → IsAtMost amount most_amount
+pub limits_with_row : (table : TableRows) → IsWithinLimits table → (x : ℕ) (amount : ℤ) → x < 2 ^ length table.sides
+    → IsAtMost amount most_amount
     → IsWithinLimits (with_row table x amount)
 limits_with_row table limits x amount own small = record {
   few = limits.few;
@@ -127,7 +137,8 @@ unfolding or_row
 row_of-append [] more x = refl
 row_of-append (row ∷ rows) more x =
     let rest = row_of-append rows more x in
-    elim (row.0 == x) as (λ b. (if b then Some row.1 else row_of (rows ++ more) x) ≡ or_row (if b then Some row.1 else row_of rows x) (row_of more x)) [
+    elim (row.0 == x) as (λ b. (if b then Some row.1 else row_of (rows ++ more) x) ≡ or_row (if b then Some row.1
+    else row_of rows x) (row_of more x)) [
       | true ↦ refl
       | false ↦ rest
     ]
@@ -137,18 +148,22 @@ pub made_of_none : (sides : List Side) → IsMadeOf (without_rows sides) []
 made_of_none sides x = row_at-replicate (2 ^ length sides) x
 
 -- one row more, for a bundle that has none yet
-pub made_with_row : (table : TableRows) (rows : List (ℕ × ℤ)) (x : ℕ) (amount : ℤ) → x < length table.rows → row_of rows x ≡ None
+pub made_with_row : (table : TableRows) (rows : List (ℕ × ℤ)) (x : ℕ) (amount : ℤ) → x < length table.rows
+    → row_of rows x ≡ None
     → IsMadeOf table rows → IsMadeOf (with_row table x amount) (rows ++ (x, amount) ∷ [])
 unfolding or_row
 made_with_row table rows x amount inside none made y = elim (cases_eq y x) [
   | inl e ↦ rw e (get_or-set_same table.rows x (Some amount) None inside ∙ sym (row_of-append rows ((x, amount) ∷ []) x
-      ∙ ap (λ (o : Option ℤ). or_row o (row_of ((x, amount) ∷ []) x)) none ∙ ap (λ b. if b then Some amount else None) (eq-eqb x x refl)))
+      ∙ ap (λ (o : Option ℤ). or_row o (row_of ((x, amount) ∷ []) x)) none ∙ ap (λ b. if b then Some amount
+      else None) (eq-eqb x x refl)))
   | inr d ↦ get_or-set_other table.rows x y (Some amount) None d ∙ made y ∙ sym (row_of-append rows ((x, amount) ∷ []) y
-      ∙ ap (λ b. or_row (row_of rows y) (if b then Some amount else None)) (ne_eqb x y (λ e. d (sym e))) ∙ or_none (row_of rows y))
+      ∙ ap (λ b. or_row (row_of rows y) (if b then Some amount else None)) (ne_eqb x y (λ e. d (sym e)))
+      ∙ or_none (row_of rows y))
 ]
 
 -- a table that is made of rows is the firm of their list
-pub made_firm : (table : TableRows) (rows : List (ℕ × ℤ)) → length table.rows ≡ 2 ^ length table.sides → IsMadeOf table rows
+pub made_firm : (table : TableRows) (rows : List (ℕ × ℤ)) → length table.rows ≡ 2 ^ length table.sides
+    → IsMadeOf table rows
     → firm_of_table table ≡ table_firm table.sides rows
 made_firm table rows places made =
     let same : worth_in table ≡ table_worth rows = fun_ext at_each in
@@ -159,8 +174,10 @@ made_firm table rows places made =
       | inl own ↦ worth_in-own table x own ∙ ap (λ (o : Option ℤ). worth_by_row o x) (made x)
       | inr other ↦
           let positive : 0 < 2 ^ length table.sides = pow_pos (length table.sides) in
-          let none : row_of rows x ≡ None = sym (made x) ∙ get_or_past table.rows x None (omega (arith, other, places)) in
-          worth_in-other table x other ∙ sym (ap (λ (o : Option ℤ). worth_by_row o x) none ∙ worth_by_row-other None x (λ e z. absurd (omega (arith, z, other, positive))))
+          let none : row_of rows x ≡ None = sym (made x) ∙ get_or_past table.rows x None (omega (arith, other, places))
+          in
+          worth_in-other table x other ∙ sym (ap (λ (o : Option ℤ). worth_by_row o x) none
+          ∙ worth_by_row-other None x (λ e z. absurd (omega (arith, z, other, positive))))
     ]
 
 with_rows-sides : (table : TableRows) (rows : List (ℕ × ℤ)) → (with_rows table rows).sides ≡ table.sides
@@ -169,23 +186,28 @@ with_rows-sides table (row ∷ rows) = with_rows-sides (with_row table row.0 row
 
 with_rows-length : (table : TableRows) (rows : List (ℕ × ℤ)) → length (with_rows table rows).rows ≡ length table.rows
 with_rows-length table [] = refl
-with_rows-length table (row ∷ rows) = with_rows-length (with_row table row.0 row.1) rows ∙ length-set table.rows row.0 (Some row.1)
+with_rows-length table (row ∷ rows) = with_rows-length (with_row table row.0 row.1) rows
+    ∙ length-set table.rows row.0 (Some row.1)
 
 -- the rows of a list stand before those that were there
-with_rows-row : (count : ℕ) (table : TableRows) (rows : List (ℕ × ℤ)) → length table.rows ≡ 2 ^ count → AreApart count rows
+with_rows-row : (count : ℕ) (table : TableRows) (rows : List (ℕ × ℤ)) → length table.rows ≡ 2 ^ count
+    → AreApart count rows
     → (x : ℕ) → row_at (with_rows table rows).rows x ≡ or_row (row_of rows x) (row_at table.rows x)
 unfolding or_row
 with_rows-row count table [] places apart x = refl
 with_rows-row count table (row ∷ rows) places apart x =
-    let rest = with_rows-row count (with_row table row.0 row.1) rows (length-set table.rows row.0 (Some row.1) ∙ places) apart.2 x in
+    let rest = with_rows-row count (with_row table row.0 row.1) rows (length-set table.rows row.0 (Some row.1) ∙ places)
+    apart.2 x in
     elim (cases_eq x row.0) [
       | inl e ↦
           let inside : row.0 < length table.rows = omega (arith, places, apart.0) in
           rest ∙ rw e (ap (λ (o : Option ℤ). or_row o (row_at (slice_set table.rows row.0 (Some row.1)) row.0)) apart.1
           ∙ get_or-set_same table.rows row.0 (Some row.1) None inside
-          ∙ sym (ap (λ b. or_row (if b then Some row.1 else row_of rows row.0) (row_at table.rows row.0)) (eq-eqb row.0 row.0 refl)))
+          ∙ sym (ap (λ b. or_row (if b then Some row.1 else row_of rows row.0) (row_at table.rows row.0))
+          (eq-eqb row.0 row.0 refl)))
       | inr d ↦ rest ∙ ap (or_row (row_of rows x)) (get_or-set_other table.rows row.0 x (Some row.1) None d)
-          ∙ sym (ap (λ b. or_row (if b then Some row.1 else row_of rows x) (row_at table.rows x)) (ne_eqb row.0 x (λ e. d (sym e))))
+          ∙ sym (ap (λ b. or_row (if b then Some row.1 else row_of rows x) (row_at table.rows x))
+          (ne_eqb row.0 x (λ e. d (sym e))))
     ]
 
 -- rows that are added one by one make the firm of their list
@@ -193,7 +215,8 @@ pub rows_make_the_firm : (sides : List Side) (rows : List (ℕ × ℤ)) → AreA
     → firm_of_table (with_rows (without_rows sides) rows) ≡ table_firm sides rows
 rows_make_the_firm sides rows apart =
     let same_sides : (with_rows (without_rows sides) rows).sides ≡ sides = with_rows-sides (without_rows sides) rows in
-    let start : length (replicate {A = Option ℤ} (2 ^ length sides) None) ≡ 2 ^ length sides = length-replicate (2 ^ length sides) None in
+    let start : length (replicate {A = Option ℤ} (2 ^ length sides) None) ≡ 2 ^ length sides =
+    length-replicate (2 ^ length sides) None in
     made_firm (with_rows (without_rows sides) rows) rows
     (with_rows-length (without_rows sides) rows ∙ start ∙ ap (λ (s : List Side). 2 ^ length s) (sym same_sides))
     (λ x. with_rows-row (length sides) (without_rows sides) rows start apart x

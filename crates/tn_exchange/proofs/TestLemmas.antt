@@ -61,16 +61,22 @@ pub exchanges_alone : (firm : Firm) (positions x y x' y' : ℕ) (total : ℤ) (i
     → net firm.buys y <ℤ net firm.buys x
     → (IsTrue alone ↔ AreEnough firm x' y' total) → IsTrue alone ↔ Exchanges firm x y total i
 exchanges_alone firm positions x y x' y' total i swapped alone is x_is y_is swaps none greater moves = (
-  (λ h. inr (record { greater = greater; enough = subst₂ (λ (a b : ℕ). AreEnough firm a b total) x_is y_is (moves.0 h) })),
+  (λ h. inr (record {
+    greater = greater;
+    enough =
+        subst₂ (λ (a b : ℕ). AreEnough firm a b total) x_is y_is (moves.0 h);
+  })),
   (λ e. elim e [
-    | inl s ↦ absurd (false≢true (sym none ∙ swaps.1 (subst₂ (λ (a b : ℕ). Swaps firm positions a b total) (sym x_is) (sym y_is)
+    | inl s ↦ absurd
+        (false≢true (sym none ∙ swaps.1 (subst₂ (λ (a b : ℕ). Swaps firm positions a b total) (sym x_is) (sym y_is)
         (swaps_from_down firm positions x y (toggle x i) (toggle y i) total is s))))
     | inr m ↦ moves.1 (subst₂ (λ (a b : ℕ). AreEnough firm a b total) (sym x_is) (sym y_is) m.enough)
   ]),
 )
 
 -- a triple of possible bundles fails exactly where something is wrong with their total
-pub fails_from_wrong : (firm : Firm) (x y : ℕ) (total : ℤ) (at : Option ℕ) → HasTotal firm x y total → IsWrongAt firm x y total at → Fails firm x y at
+pub fails_from_wrong : (firm : Firm) (x y : ℕ) (total : ℤ) (at : Option ℕ) → HasTotal firm x y total
+    → IsWrongAt firm x y total at → Fails firm x y at
 fails_from_wrong firm x y total at h wrong = record {
   first = h.first;
   second = h.second;
@@ -79,17 +85,26 @@ fails_from_wrong firm x y total at h wrong = record {
   wrong = subst (λ (z : ℤ). IsWrongAt firm x y z at) h.total_is wrong;
 }
 
-pub wrong_from_fails : (firm : Firm) (x y : ℕ) (total : ℤ) (at : Option ℕ) → HasTotal firm x y total → Fails firm x y at → IsWrongAt firm x y total at
+pub wrong_from_fails : (firm : Firm) (x y : ℕ) (total : ℤ) (at : Option ℕ) → HasTotal firm x y total → Fails firm x y at
+    → IsWrongAt firm x y total at
 wrong_from_fails firm x y total at h f =
     let first : f.first ≡ h.first = same_Some _ _ (sym f.first_is ∙ h.first_is) in
     let second : f.second ≡ h.second = same_Some _ _ (sym f.second_is ∙ h.second_is) in
     let same : f.first +ℤ f.second ≡ total = omega (arith, ints, first, second, h.total_is) in
     subst (λ (z : ℤ). IsWrongAt firm x y z at) same f.wrong
 
-pub fails_iff : (firm : Firm) (x y : ℕ) (a b : ℤ) (at : Option ℕ) (wrong : Bool) → firm.worth x ≡ Some a → firm.worth y ≡ Some b
+pub fails_iff : (firm : Firm) (x y : ℕ) (a b : ℤ) (at : Option ℕ) (wrong : Bool) → firm.worth x ≡ Some a
+    → firm.worth y ≡ Some b
     → (IsTrue wrong ↔ IsWrongAt firm x y (a +ℤ b) at) → IsTrue wrong ↔ Fails firm x y at
 fails_iff firm x y a b at wrong x_is y_is iff =
-    let total : HasTotal firm x y (a +ℤ b) = record { first = a; second = b; first_is = x_is; second_is = y_is; total_is = refl } in (
+    let total : HasTotal firm x y (a +ℤ b) = record {
+      first = a;
+      second = b;
+      first_is = x_is;
+      second_is =
+          y_is;
+      total_is = refl;
+    } in (
       (λ h. fails_from_wrong firm x y (a +ℤ b) at total (iff.0 h)),
       (λ f. iff.1 (wrong_from_fails firm x y (a +ℤ b) at total f)),
     )
@@ -109,12 +124,14 @@ abbrev pub OfFirst : ℕ → Triple → Type 0
 OfFirst x t = t.x ≡ x
 
 -- what is wrong with a triple of two bundles
-wrong_of : (firm : Firm) (x y : ℕ) (total : ℤ) → HasTotal firm x y total → (s : Triple) → OfPair x y s → TripleFails firm s → IsWrongAt firm x y total s.at
+wrong_of : (firm : Firm) (x y : ℕ) (total : ℤ) → HasTotal firm x y total → (s : Triple) → OfPair x y s
+    → TripleFails firm s → IsWrongAt firm x y total s.at
 wrong_of firm x y total h s within f =
     wrong_from_fails firm x y total s.at h (subst₂ (λ (a b : ℕ). Fails firm a b s.at) within.0 within.1 f)
 
 -- no earlier position of the same two bundles is wrong
-pub pair_fails : (firm : Firm) (x y : ℕ) (total : ℤ) (at : Option ℕ) → HasTotal firm x y total → IsWrongAt firm x y total at
+pub pair_fails : (firm : Firm) (x y : ℕ) (total : ℤ) (at : Option ℕ) → HasTotal firm x y total
+    → IsWrongAt firm x y total at
     → ((earlier : Option ℕ) → IsBefore earlier at → IsWrongAt firm x y total earlier → ⊥)
     → IsFirstIn firm (OfPair x y) (record { x = x; y = y; at = at })
 pair_fails firm x y total at h wrong first = record {
@@ -130,7 +147,8 @@ pair_fails firm x y total at h wrong first = record {
 }
 
 -- no position before i is wrong, where none below i is
-pub none_before : (firm : Firm) (x y : ℕ) (total : ℤ) (i : ℕ) → ((j : ℕ) → j < i → IsWrongAt firm x y total (Some j) → ⊥)
+pub none_before : (firm : Firm) (x y : ℕ) (total : ℤ) (i : ℕ)
+    → ((j : ℕ) → j < i → IsWrongAt firm x y total (Some j) → ⊥)
     → (earlier : Option ℕ) → IsBefore earlier (Some i) → IsWrongAt firm x y total earlier → ⊥
 none_before firm x y total i none (Some j) before = none j before
 none_before firm x y total i none None before = absurd before
@@ -180,7 +198,8 @@ first_from_pair firm x y (Failed a b at) failed on none = record {
 
 -- one second bundle more: no triple of it fails
 pub none_more_y : (firm : Firm) (x k : ℕ) → ((s : Triple) → OfFirst x s → s.y < k → TripleFails firm s → ⊥)
-    → ((s : Triple) → OfPair x k s → TripleFails firm s → ⊥) → (s : Triple) → OfFirst x s → s.y < k + 1 → TripleFails firm s → ⊥
+    → ((s : Triple) → OfPair x k s → TripleFails firm s → ⊥) → (s : Triple) → OfFirst x s → s.y < k + 1
+    → TripleFails firm s → ⊥
 none_more_y firm x k none here s within below f = elim (cases_eq s.y k) [
   | inl e ↦ here s (within, e) f
   | inr d ↦ none s within (omega (arith, below, d)) f
@@ -195,7 +214,8 @@ impossible_x firm k none s within f = none-some f.first (sym none ∙ ap firm.wo
 
 -- then no triple of the first bundle fails
 pub none_of_first : (firm : Firm) (x k : ℕ) → HasOwnBundles firm → 2 ^ firm.count ≤ k
-    → ((s : Triple) → OfFirst x s → s.y < k → TripleFails firm s → ⊥) → (s : Triple) → OfFirst x s → TripleFails firm s → ⊥
+    → ((s : Triple) → OfFirst x s → s.y < k → TripleFails firm s → ⊥) → (s : Triple) → OfFirst x s → TripleFails firm s
+    → ⊥
 none_of_first firm x k own all none s within f =
     let below : s.y < 2 ^ firm.count = own s.y f.second f.second_is in
     none s within (omega (arith, below, all)) f
@@ -226,7 +246,8 @@ none_more_x firm k none here s above f = elim (cases_eq s.x k) [
 ]
 
 -- no triple has a first bundle with a position that isn't own
-pub none_above : (firm : Firm) → HasOwnBundles firm → (k : ℕ) → 2 ^ firm.count ≤ k → (s : Triple) → k ≤ s.x → TripleFails firm s → ⊥
+pub none_above : (firm : Firm) → HasOwnBundles firm → (k : ℕ) → 2 ^ firm.count ≤ k → (s : Triple) → k ≤ s.x
+    → TripleFails firm s → ⊥
 none_above firm own k all s above f =
     let below : s.x < 2 ^ firm.count = own s.x f.first f.first_is in
     absurd (omega (arith, below, all, above))
@@ -243,5 +264,6 @@ failure_is_own firm own x y at f =
     let y_own : y < 2 ^ firm.count = own y f.second f.second_is in (
       x_own,
       y_own,
-      λ k is. wrong_at_own firm x y (f.first +ℤ f.second) k x_own y_own (subst (IsWrongAt firm x y (f.first +ℤ f.second)) is f.wrong),
+      λ k is. wrong_at_own firm x y (f.first +ℤ f.second) k x_own y_own
+          (subst (IsWrongAt firm x y (f.first +ℤ f.second)) is f.wrong),
     )

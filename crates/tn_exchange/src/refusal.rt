@@ -1,3 +1,5 @@
+//! Why a row isn't added to a table.
+
 use thiserror::Error;
 
 /// Why a row isn't added.

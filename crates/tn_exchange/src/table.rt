@@ -1,3 +1,5 @@
+//! Tables by bundle number.
+
 ghost use Rattle.std.specs.Prelude.{◌≡◌, ◌^◌, ◌<◌, ◌≤◌, ◌↔◌, Some, Err, length, slice_get, IsTrue, IfOk, OnOk, OnErr, IfSome};
 ghost use Rattle.tn_base.specs.Arcs.{IsAtMost};
 ghost use Rattle.tn_base.specs.Every.{HasEveryBundle};

@@ -1,3 +1,5 @@
+//! Tests of the exchange property on small tables.
+
 use crate::{RawTable, RowRefusal, Verdict, fails_at, test};
 use std::alloc::Global;
 use std::process::Abort;

@@ -1,3 +1,5 @@
+//! The verdict on the exchange property.
+
 use tn_base::Bundle;
 
 /// Whether a table meets exchange.
@@ -5,7 +7,8 @@ use tn_base::Bundle;
 pub enum Verdict {
     /// No triple fails.
     Holds,
-    /// The first failing triple in test order: of all triples, or of those with close bundles where a test looks at these alone.
+    /// The first failing triple in test order: of all triples, or of those with close bundles where a test looks at
+    /// these alone.
     Fails {
         /// The first bundle.
         x: Bundle,

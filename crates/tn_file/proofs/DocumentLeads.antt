@@ -39,7 +39,8 @@ use Rattle.tn_read_parts.proofs.OutcomeLeads.{outcome_leads}
 use Rattle.tn_read_parts.proofs.EditLeads.{edits_lead}
 use Rattle.tn_read_head.proofs.ListingLeads.{IsListing, listed_leads}
 
-module _ (listed : Listed) (trades : AreTrades listed) (firms : List Firm) (named : length listed.names.firms ≡ length firms) (network : IsNetwork firms listed.ends) where
+module _ (listed : Listed) (trades : AreTrades listed) (firms : List Firm) (named : length listed.names.firms
+    ≡ length firms) (network : IsNetwork firms listed.ends) where
   -- what is said of the count of names is said of the count of trades
   counted : (P : ℕ → Type 0) → P (length listed.names.trades) → P (length listed.ends)
   counted P said = subst P trades.named said
@@ -51,17 +52,34 @@ module _ (listed : Listed) (trades : AreTrades listed) (firms : List Firm) (name
   unfolding extra_of
   extra_leads Market top = leads_ok IsRead nothing tt
   extra_leads Raw top = leads_ok IsRead nothing tt
-  extra_leads Arrangement top = leads_bind (IsArrangement (length listed.names.trades)) IsRead (arrangement_of listed top) _ (arrangement_leads listed trades.limits top) (λ part is. leads_ok IsRead (arrangement part) (counted (λ n. IsArrangement n part) is))
-  extra_leads RawArrangement top = leads_bind (IsArrangement (length listed.names.trades)) IsRead (arrangement_of listed top) _ (arrangement_leads listed trades.limits top) (λ part is. leads_ok IsRead (arrangement part) (counted (λ n. IsArrangement n part) is))
-  extra_leads On top = leads_bind (λ on. on < 2 ^ length listed.names.trades) IsRead (trades_on_of listed.names.trades top) _ (trades_on_leads listed.names.trades top) (λ on below. leads_ok IsRead (on_alone on) (counted (λ n. on < 2 ^ n) below))
-  extra_leads Outcome top = leads_bind (IsOutcomeWithin (length listed.names.trades)) IsRead (outcome_of listed top) _ (outcome_leads listed trades.limits top) (λ signed is. leads_ok IsRead (outcome signed) (counted (λ n. IsOutcomeWithin n signed) is))
+  extra_leads Arrangement top =
+      leads_bind (IsArrangement (length listed.names.trades)) IsRead (arrangement_of listed top) _
+      (arrangement_leads listed trades.limits top) (λ part is. leads_ok IsRead (arrangement part)
+      (counted (λ n. IsArrangement n part) is))
+  extra_leads RawArrangement top =
+      leads_bind (IsArrangement (length listed.names.trades)) IsRead (arrangement_of listed top) _
+      (arrangement_leads listed trades.limits top) (λ part is. leads_ok IsRead (arrangement part)
+      (counted (λ n. IsArrangement n part) is))
+  extra_leads On top =
+      leads_bind (λ on. on < 2 ^ length listed.names.trades) IsRead (trades_on_of listed.names.trades top) _
+      (trades_on_leads listed.names.trades top) (λ on below. leads_ok IsRead (on_alone on)
+      (counted (λ n. on < 2 ^ n) below))
+  extra_leads Outcome top =
+      leads_bind (IsOutcomeWithin (length listed.names.trades)) IsRead (outcome_of listed top) _
+      (outcome_leads listed trades.limits top) (λ signed is. leads_ok IsRead (outcome signed)
+      (counted (λ n. IsOutcomeWithin n signed) is))
   extra_leads Edits top =
-      leads_bind (AreEdits (length listed.names.firms) (length listed.names.trades)) IsRead (edits_of listed top) _ (edits_lead listed trades.limits top) (λ changes are.
-      leads_ok IsRead (edits changes) (subst (λ n. AreEdits n (length listed.ends) changes) named (counted (λ n. AreEdits (length listed.names.firms) n changes) are)))
-  extra_leads Claim top = leads_bind (IsClaimWithin firms listed.ends) IsRead (claim_of listed top) _ (claim_leads listed trades firms named network top) (λ read is. leads_ok IsRead (claim read) is)
+      leads_bind (AreEdits (length listed.names.firms) (length listed.names.trades)) IsRead (edits_of listed top) _
+      (edits_lead listed trades.limits top) (λ changes are.
+      leads_ok IsRead (edits changes) (subst (λ n. AreEdits n (length listed.ends) changes) named
+      (counted (λ n. AreEdits (length listed.names.firms) n changes) are)))
+  extra_leads Claim top =
+      leads_bind (IsClaimWithin firms listed.ends) IsRead (claim_of listed top) _
+      (claim_leads listed trades firms named network top) (λ read is. leads_ok IsRead (claim read) is)
 
 -- whether firms are tested is told before the claim is read
-accepted_leads : (need : Need) (listed : Listed) (top : Data) → Leads (λ extra. is_accepted need extra ≡ is_tested need top) (extra_of need listed top)
+accepted_leads : (need : Need) (listed : Listed) (top : Data)
+    → Leads (λ extra. is_accepted need extra ≡ is_tested need top) (extra_of need listed top)
 unfolding extra_of
 accepted_leads Market listed top = record { at = λ extra e. refl }
 accepted_leads Raw listed top = record { at = λ extra e. refl }
@@ -71,34 +89,47 @@ accepted_leads On listed top = record { at = λ extra e. refl }
 accepted_leads Outcome listed top = record { at = λ extra e. refl }
 accepted_leads Edits listed top = record { at = λ extra e. refl }
 accepted_leads Claim listed top =
-    leads_bind (λ read. claims_raw top ≡ is_raw (kind_is read)) (λ extra. is_accepted Claim extra ≡ is_tested Claim top) (claim_of listed top) _ (record { at = raw_claims_are_told listed top }) (λ read told.
+    leads_bind (λ read. claims_raw top ≡ is_raw (kind_is read)) (λ extra. is_accepted Claim extra ≡ is_tested Claim top)
+    (claim_of listed top) _ (record { at = raw_claims_are_told listed top }) (λ read told.
     leads_ok (λ extra. is_accepted Claim extra ≡ is_tested Claim top) (claim read) (ap not (sym told)))
 
-pub accepted_as_tested : (need : Need) (listed : Listed) (top : Data) (extra : ExtraData) → extra_of need listed top ≡ Ok extra → is_accepted need extra ≡ is_tested need top
+pub accepted_as_tested : (need : Need) (listed : Listed) (top : Data) (extra : ExtraData)
+    → extra_of need listed top ≡ Ok extra → is_accepted need extra ≡ is_tested need top
 accepted_as_tested need listed top extra e = (accepted_leads need listed top).at extra e
 
 -- what the content of a listing is
-record IsContent (need : Need) (top : Data) (found : Listed × Items) (listing : IsListing found) (content : List Firm × ExtraData) : Type 0 where
+record IsContent (need : Need) (top : Data) (found : Listed × Items) (listing : IsListing found) (content : List Firm
+    × ExtraData) : Type 0 where
   are : AreFirms (is_tested need top) found.0 listing.trades content.0
   count : length content.0 ≡ items_len found.1
   extra : IsExtra content.0 found.0.ends content.1
   accepted : is_accepted need content.1 ≡ is_tested need top
 
-content_leads : (need : Need) (found : Listed × Items) (listing : IsListing found) (top : Data) → Leads (IsContent need top found listing) (content_of need found.0 found.1 top)
+content_leads : (need : Need) (found : Listed × Items) (listing : IsListing found) (top : Data)
+    → Leads (IsContent need top found listing) (content_of need found.0 found.1 top)
 unfolding content_of
 content_leads need found listing top =
     let tested = is_tested need top in
-    leads_bind (λ firms. AreFirms tested found.0 listing.trades firms × (length firms ≡ items_len found.1)) (IsContent need top found listing)
+    leads_bind (λ firms. AreFirms tested found.0 listing.trades firms
+    × (length firms ≡ items_len found.1)) (IsContent need top found listing)
     (each (one_firm tested found.0) [] found.1) _
-    (leads_both _ _ _ (firms_are tested found.0 listing.trades found.1) (firms_are_counted tested found.0 listing.trades found.1)) (λ firms are.
+    (leads_both _ _ _ (firms_are tested found.0 listing.trades found.1)
+    (firms_are_counted tested found.0 listing.trades found.1)) (λ firms are.
     let count = are.1 in
     let named : length found.0.names.firms ≡ length firms = omega (arith, listing.count, count) in
     let network = network_of tested found.0 listing.trades firms are.0 named in
-    leads_bind (λ extra. IsExtra firms found.0.ends extra × (is_accepted need extra ≡ tested)) (IsContent need top found listing) (extra_of need found.0 top) _
-    (leads_both (IsExtra firms found.0.ends) (λ extra. is_accepted need extra ≡ tested) (extra_of need found.0 top) (extra_leads found.0 listing.trades firms named network need top) (accepted_leads need found.0 top)) (λ extra is.
-    leads_ok (IsContent need top found listing) (firms, extra) (record { are = are.0; count = are.1; extra = is.0; accepted = is.1 })))
+    leads_bind (λ extra. IsExtra firms found.0.ends extra
+    × (is_accepted need extra ≡ tested)) (IsContent need top found listing) (extra_of need found.0 top) _
+    (leads_both (IsExtra firms found.0.ends) (λ extra. is_accepted need extra ≡ tested) (extra_of need found.0 top)
+    (extra_leads found.0 listing.trades firms named network need top) (accepted_leads need found.0 top))
+    (λ extra is.
+    leads_ok (IsContent need top found listing) (
+      firms,
+      extra,
+    ) (record { are = are.0; count = are.1; extra = is.0; accepted = is.1 })))
 
-is_document : (need : Need) (top : Data) (found : Listed × Items) (content : List Firm × ExtraData) (listing : IsListing found) → IsContent need top found listing content
+is_document : (need : Need) (top : Data) (found : Listed × Items) (content : List Firm
+    × ExtraData) (listing : IsListing found) → IsContent need top found listing content
     → IsDocument need (record { names = found.0.names; firms = content.0; ends = found.0.ends; extra = content.1 })
 is_document need top found content listing is =
     let tested = is_tested need top in
@@ -113,10 +144,16 @@ is_document need top found content listing is =
       few_trades = omega (arith, listing.trades.few, listing.trades.limits.trades);
       listed = λ f firm at. (is.are f firm at).listed;
       network = network_of tested found.0 listing.trades content.0 is.are named;
-      ascending = λ f i j firm at before below. (positions_ascend tested found.0 listing.trades content.0 is.are f i j firm at before below);
+      ascending = λ f i j firm at before below. (positions_ascend tested found.0 listing.trades content.0 is.are f i j
+          firm at before below);
       own_bundles = λ f firm at. listed_own_bundles found.0.ends f firm (is.are f firm at).listed;
       abstain = λ f firm at. listed_may_abstain found.0.ends f firm (is.are f firm at).listed;
-      accepted = λ accepted f firm at. (record { abstains = listed_may_abstain found.0.ends f firm (is.are f firm at).listed; exchanges = (is.are f firm at).meets (sym is.accepted ∙ accepted) });
+      accepted = λ accepted f firm at. (record {
+        abstains =
+            listed_may_abstain found.0.ends f firm (is.are f firm at).listed;
+        exchanges =
+            (is.are f firm at).meets (sym is.accepted ∙ accepted);
+      });
       extra = is.extra;
     }
 
@@ -124,18 +161,29 @@ pub document_leads : (need : Need) (top : Data) → Leads (IsDocument need) (doc
 unfolding document_of
 document_leads need top =
     leads_bind IsListing (IsDocument need) (listed_of top) _ (listed_leads top) (λ found listing.
-    leads_bind (IsContent need top found listing) (IsDocument need) (with_names found.0.names (content_of need found.0 found.1 top)) _
-    (leads_beside _ found.0.names (content_of need found.0 found.1 top) (content_leads need found listing top)) (λ content is.
-    leads_ok (IsDocument need) (record { names = found.0.names; firms = content.0; ends = found.0.ends; extra = content.1 }) (is_document need top found content listing is)))
+    leads_bind (IsContent need top found listing) (IsDocument need)
+    (with_names found.0.names (content_of need found.0 found.1 top)) _
+    (leads_beside _ found.0.names (content_of need found.0 found.1 top) (content_leads need found listing top))
+    (λ content is.
+    leads_ok (IsDocument need) (record {
+      names = found.0.names;
+      firms = content.0;
+      ends = found.0.ends;
+      extra =
+          content.1;
+    }) (is_document need top found content listing is)))
 
 reading_leads : (need : Need) (bytes : List ℕ) → Leads (IsDocument need) (reading_of need bytes)
 unfolding reading_of
-reading_leads need bytes = leads_after (IsDocument need) (with_names no_names (wanted NotJson [] (json_of bytes))) _ (λ top. document_leads need top)
+reading_leads need bytes =
+    leads_after (IsDocument need) (with_names no_names (wanted NotJson [] (json_of bytes))) _
+    (λ top. document_leads need top)
 
 pub documents_are_networks : DocumentsAreNetworks
 documents_are_networks need bytes doc e = (reading_leads need bytes).at doc e
 
 -- and so is every document that was returned
-pub networks_from : (need : Need) (bytes : List ℕ) (r : Result Document DocRefusal) → Reads document_view r (reading_of need bytes) → IfOk r (λ doc. IsDocument need (document_view doc))
+pub networks_from : (need : Need) (bytes : List ℕ) (r : Result Document DocRefusal)
+    → Reads document_view r (reading_of need bytes) → IfOk r (λ doc. IsDocument need (document_view doc))
 networks_from need bytes (Ok doc) reads = documents_are_networks need bytes (document_view doc) reads
 networks_from need bytes (Err refusal) reads = tt

@@ -33,7 +33,8 @@ use Rattle.tn_read_parts.proofs.OutcomeStops.{outcome_stops}
 use Rattle.tn_read_parts.proofs.EditStops.{edits_stop}
 use Rattle.tn_read_head.proofs.ListingStops.{AreNames, no_names_are, told_stop, plain_stop, listed_stops}
 
-module _ (listed : Listed) (trades : AreTrades listed) (few : length listed.names.trades ≤ 16384) (few_own : (f : ℕ) → f < length listed.names.firms → length (sides_of listed.ends f) ≤ most_own_trades) where
+module _ (listed : Listed) (trades : AreTrades listed) (few : length listed.names.trades ≤ 16384) (few_own : (f : ℕ)
+    → f < length listed.names.firms → length (sides_of listed.ends f) ≤ most_own_trades) where
   abbrev Told : Fault → Type 0
   Told = IsTold listed.names.trades
 
@@ -41,24 +42,42 @@ module _ (listed : Listed) (trades : AreTrades listed) (few : length listed.name
   unfolding extra_of
   extra_stops Market top = stops_ok Told nothing
   extra_stops Raw top = stops_ok Told nothing
-  extra_stops Arrangement top = stops_bind Told (arrangement_of listed top) _ (arrangement_stops listed few top) (λ part. stops_ok Told (arrangement part))
-  extra_stops RawArrangement top = stops_bind Told (arrangement_of listed top) _ (arrangement_stops listed few top) (λ part. stops_ok Told (arrangement part))
-  extra_stops On top = stops_bind Told (trades_on_of listed.names.trades top) _ (told_from_plain listed.names.trades _ (trades_on_stop listed.names.trades few top)) (λ on. stops_ok Told (on_alone on))
-  extra_stops Outcome top = stops_bind Told (outcome_of listed top) _ (told_from_plain listed.names.trades _ (outcome_stops listed few top)) (λ signed. stops_ok Told (outcome signed))
-  extra_stops Edits top = stops_bind Told (edits_of listed top) _ (told_from_plain listed.names.trades _ (edits_stop listed trades.limits top)) (λ changes. stops_ok Told (edits changes))
-  extra_stops Claim top = stops_bind Told (claim_of listed top) _ (claim_stops listed trades few few_own top) (λ read. stops_ok Told (claim read))
+  extra_stops Arrangement top =
+      stops_bind Told (arrangement_of listed top) _ (arrangement_stops listed few top)
+      (λ part. stops_ok Told (arrangement part))
+  extra_stops RawArrangement top =
+      stops_bind Told (arrangement_of listed top) _ (arrangement_stops listed few top)
+      (λ part. stops_ok Told (arrangement part))
+  extra_stops On top =
+      stops_bind Told (trades_on_of listed.names.trades top) _
+      (told_from_plain listed.names.trades _ (trades_on_stop listed.names.trades few top))
+      (λ on. stops_ok Told (on_alone on))
+  extra_stops Outcome top =
+      stops_bind Told (outcome_of listed top) _ (told_from_plain listed.names.trades _ (outcome_stops listed few top))
+      (λ signed. stops_ok Told (outcome signed))
+  extra_stops Edits top =
+      stops_bind Told (edits_of listed top) _ (told_from_plain listed.names.trades _
+      (edits_stop listed trades.limits top)) (λ changes. stops_ok Told (edits changes))
+  extra_stops Claim top =
+      stops_bind Told (claim_of listed top) _ (claim_stops listed trades few few_own top)
+      (λ read. stops_ok Told (claim read))
 
-content_stops : (need : Need) (found : Listed × Items) → IsListing found → (top : Data) → Stops (IsTold found.0.names.trades) (content_of need found.0 found.1 top)
+content_stops : (need : Need) (found : Listed × Items) → IsListing found → (top : Data)
+    → Stops (IsTold found.0.names.trades) (content_of need found.0 found.1 top)
 unfolding content_of
 content_stops need found listing top =
     let told = IsTold found.0.names.trades in
     let tested = is_tested need top in
-    stops_after told (λ firms. AreFirms tested found.0 listing.trades firms × (length firms ≡ items_len found.1)) (each (one_firm tested found.0) [] found.1) _
-    (leads_both _ _ _ (firms_are tested found.0 listing.trades found.1) (firms_are_counted tested found.0 listing.trades found.1))
+    stops_after told (λ firms. AreFirms tested found.0 listing.trades firms
+    × (length firms ≡ items_len found.1)) (each (one_firm tested found.0) [] found.1) _
+    (leads_both _ _ _ (firms_are tested found.0 listing.trades found.1)
+    (firms_are_counted tested found.0 listing.trades found.1))
     (firms_stop found.0 listing.trades tested found.1 (omega (arith, listing.few))) (λ firms are.
     let count = are.1 in
     stops_bind told (extra_of need found.0 top) _
-    (extra_stops found.0 listing.trades (omega (arith, listing.trade_names.few)) (λ f known. few_own_firm tested found.0 listing.trades firms are.0 f (omega (arith, known, listing.count, count))) need top) (λ extra.
+    (extra_stops found.0 listing.trades (omega (arith, listing.trade_names.few))
+    (λ f known. few_own_firm tested found.0 listing.trades firms are.0 f
+    (omega (arith, known, listing.count, count))) need top) (λ extra.
     stops_ok told (firms, extra)))
 
 document_stops : (need : Need) (top : Data) → Stops IsStop (document_of need top)
@@ -67,13 +86,17 @@ document_stops need top =
     stops_after IsStop IsListing (listed_of top) _ (listed_leads top) (listed_stops top) (λ found listing.
     let names = found.0.names in
     let named : AreNames names = record { firms = listing.firm_names; trades = listing.trade_names } in
-    stops_bind IsStop (with_names names (content_of need found.0 found.1 top)) _ (stops_beside IsStop (IsTold names.trades) names _ (told_stop names named) (content_stops need found listing top)) (λ content.
+    stops_bind IsStop (with_names names (content_of need found.0 found.1 top)) _
+    (stops_beside IsStop (IsTold names.trades) names _ (told_stop names named)
+    (content_stops need found listing top)) (λ content.
     stops_ok IsStop (record { names = names; firms = content.0; ends = found.0.ends; extra = content.1 })))
 
 reading_stops : (need : Need) (bytes : List ℕ) → Stops IsStop (reading_of need bytes)
 unfolding reading_of
 reading_stops need bytes =
-    stops_bind IsStop (with_names no_names (wanted NotJson [] (json_of bytes))) _ (stops_beside IsStop IsPlain no_names _ (plain_stop no_names no_names_are) (plain_wanted NotJson [] (json_of bytes) refl tt)) (λ top.
+    stops_bind IsStop (with_names no_names (wanted NotJson [] (json_of bytes))) _
+    (stops_beside IsStop IsPlain no_names _ (plain_stop no_names no_names_are)
+    (plain_wanted NotJson [] (json_of bytes) refl tt)) (λ top.
     document_stops need top)
 
 pub faults_are_sayable : FaultsAreSayable

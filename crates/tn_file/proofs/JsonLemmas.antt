@@ -23,6 +23,7 @@ json_of-none bytes none = by_test (is_utf8 bytes) refl
     by_test true is = none (IsUtf8-from_is_utf8 bytes is)
     by_test false is = refl
 
-pub wanted-fails : {A : Type 0} (kind : FaultKind) (place : List PlaceStep) (e : ReadError) (found : Option A) → IsFaultAt kind place e → found ≡ None → Fails e (wanted kind place found)
+pub wanted-fails : {A : Type 0} (kind : FaultKind) (place : List PlaceStep) (e : ReadError) (found : Option A)
+    → IsFaultAt kind place e → found ≡ None → Fails e (wanted kind place found)
 wanted-fails kind place OutOfMemory found is none = tt
 wanted-fails kind place (FaultIs f) found is none = rw (none, is) refl

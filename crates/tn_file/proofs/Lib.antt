@@ -1,3 +1,4 @@
+-- The files of lemmas of this crate.
 pub mod JsonLemmas
 pub mod DocumentLeads
 pub mod DocumentStops

@@ -46,7 +46,8 @@ pub record IsDocument (need : Need) (doc : DocumentData) : Type 0 where
 
 -- every document that is read is one
 abbrev pub DocumentsAreNetworks : Type 0
-DocumentsAreNetworks = (need : Need) (bytes : List ℕ) (doc : DocumentData) → reading_of need bytes ≡ Ok doc → IsDocument need doc
+DocumentsAreNetworks = (need : Need) (bytes : List ℕ) (doc : DocumentData) → reading_of need bytes ≡ Ok doc
+    → IsDocument need doc
 
 -- wherever reading stops, its fault and the names beside it keep the rules of a stop
 abbrev pub FaultsAreSayable : Type 0
@@ -54,4 +55,5 @@ FaultsAreSayable = (need : Need) (bytes : List ℕ) (stop : Stop) → reading_of
 
 -- no byte of an input that is too long is read: wherever reading stops, it isn't for that
 abbrev pub ReadingsAreNeverTooLong : Type 0
-ReadingsAreNeverTooLong = (need : Need) (bytes : List ℕ) (stop : Stop) → reading_of need bytes ≡ Err stop → stop.fault.kind ≢ TooLong
+ReadingsAreNeverTooLong = (need : Need) (bytes : List ℕ) (stop : Stop) → reading_of need bytes ≡ Err stop
+    → stop.fault.kind ≢ TooLong

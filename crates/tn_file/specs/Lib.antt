@@ -1,3 +1,4 @@
+-- The files of definitions of this crate.
 pub mod Json
 pub mod Document
 pub mod Extra

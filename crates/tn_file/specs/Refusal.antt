@@ -11,12 +11,28 @@ use Rattle.tn_file.specs.Extra.{extra_view, raw_extra_view}
 
 -- the firms, the ends of the trades, and what was read beside them
 abbrev pub content_view : Content → ContentData
-content_view (MarketIs market extra) = record { firms = map firm_of market.firms; ends = market.trades; extra = extra_view extra }
-content_view (RawIs net extra) = record { firms = map raw_firm_of net.firms; ends = net.ends; extra = raw_extra_view extra }
+content_view (MarketIs market extra) = record {
+  firms = map firm_of market.firms;
+  ends = market.trades;
+  extra =
+      extra_view extra;
+}
+content_view (RawIs net extra) = record {
+  firms = map raw_firm_of net.firms;
+  ends = net.ends;
+  extra =
+      raw_extra_view extra;
+}
 
 -- what a document that was read stands for
 abbrev pub document_view : Document → DocumentData
-document_view doc = record { names = doc.names; firms = (content_view doc.content).firms; ends = (content_view doc.content).ends; extra = (content_view doc.content).extra }
+document_view doc = record {
+  names = doc.names;
+  firms = (content_view doc.content).firms;
+  ends =
+      (content_view doc.content).ends;
+  extra = (content_view doc.content).extra;
+}
 
 -- beside the network stands the part that the need names, and no other; and the network is a market, unless it is read
 -- raw, as it is for a claim on exchange and for the one that there are no prices

@@ -1,3 +1,5 @@
+//! A document that is read.
+
 use crate::extra::{Extra, RawExtra};
 use std::alloc::Global;
 use std::marker::Model;

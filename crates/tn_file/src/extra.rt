@@ -1,3 +1,5 @@
+//! What is read beside a network.
+
 ghost use Rattle.std.specs.Prelude.{◌≡◌, ℕ, ◌<◌, ◌≤◌, length, IfOk};
 ghost use Rattle.serde_json.specs.View.{view};
 ghost use Rattle.tn_plain_data.specs.Limits.{most_own_trades};

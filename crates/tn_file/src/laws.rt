@@ -1,3 +1,5 @@
+//! Laws of reading: what a document is, and what is told of one that is refused.
+
 ghost use Rattle.tn_file.specs.Laws.{DocumentsAreNetworks, FaultsAreSayable, ReadingsAreNeverTooLong};
 
 /// Every document that is read is a network of firms with different names. Of each firm only bundles of its own trades
@@ -6,8 +8,8 @@ pub fn documents_are_networks()
     ensures { DocumentsAreNetworks }
 {}
 
-/// A fault speaks only of trades that have a name, its numbers fit 64 bits, and it shows a failing triple exactly where a
-/// firm doesn't meet exchange. The names beside it are different and keep the rule for names.
+/// A fault speaks only of trades that have a name, its numbers fit 64 bits, and it shows a failing triple exactly where
+/// a firm doesn't meet exchange. The names beside it are different and keep the rule for names.
 pub fn faults_are_sayable()
     ensures { FaultsAreSayable }
 {}

@@ -1,3 +1,5 @@
+//! What a command reads of a document.
+
 /// What a command reads of a document.
 #[derive(Clone, Copy, Debug, PartialEq, Eq)]
 pub enum Need {

@@ -1,3 +1,5 @@
+//! Reads a document from a JSON value.
+
 ghost use Rattle.std.specs.Prelude.{◌≡◌, [], length, map, true, false, All, IfOk, Ok};
 ghost use Rattle.serde_json.specs.View.{view, items_view};
 ghost use Rattle.tn_shape.specs.Reading.{Gives, each};

@@ -1,3 +1,5 @@
+//! Reads a document from bytes.
+
 ghost use Rattle.std.specs.Prelude.{◌≡◌, [], IfOk};
 ghost use Rattle.serde_json.specs.View.{view};
 ghost use Rattle.tn_base.specs.declared.fault.FaultKind.TheVariants.{NotJson};

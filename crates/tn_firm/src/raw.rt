@@ -1,3 +1,5 @@
+//! Firms that weren't tested yet.
+
 use tn_base::{Asked, Bundle, Steps};
 use tn_dealer::Dealer;
 use tn_exchange::{RawTable, Verdict};

@@ -1,3 +1,5 @@
+//! Firms of one type, whatever their kind.
+
 use tn_base::{Asked, Bundle, Side, Steps};
 use tn_dealer::Dealer;
 use tn_laminar::Laminar;

@@ -1,2 +1,3 @@
+-- The files of lemmas of this crate.
 pub mod RoundLemmas
 pub mod SolverLemmas

@@ -34,7 +34,8 @@ use Rattle.tn_network.proofs.EachLemmas.{each_firm}
 
 -- the set along one node more
 pub along-next : (count on : ℕ) (nodes : List ℕ) (k v : ℕ) → k < length nodes → slice_get nodes k ≡ Some v
-    → (if ltb v count then toggle (along count on (take k nodes)) v else along count on (take k nodes)) ≡ along count on (take (k + 1) nodes)
+    → (if ltb v count then toggle (along count on (take k nodes)) v else along count on (take k nodes))
+    ≡ along count on (take (k + 1) nodes)
 along-next count on nodes k v below is =
     sym (along-push count on (take k nodes) v) ∙ ap (along count on) (sym next)
   where
@@ -42,26 +43,38 @@ along-next count on nodes k v below is =
     one_more = ap (λ (n : ℕ). take n nodes) (let e : k + 1 ≡ suc k = omega arith in e)
 
     next : take (k + 1) nodes ≡ take k nodes ++ v ∷ []
-    next = one_more ∙ take-suc nodes k v below ∙ ap (λ (w : ℕ). take k nodes ++ w ∷ []) (get_or_from_slice_get nodes k v v is)
+    next = one_more ∙ take-suc nodes k v below ∙ ap (λ (w : ℕ). take k nodes ++ w ∷ [])
+        (get_or_from_slice_get nodes k v v is)
 
 -- ---- what is known of a market
 
-pub kept_start : {V : Type 0} (firm_of : V → Firm) (firms : List V) (trades : List Ends) → IsNetwork (map firm_of firms) trades → ((v : V) → MayAbstain (firm_of v)) → IsKept (map firm_of firms) trades 0 0
-kept_start firm_of firms trades network abstain = one_cycle_for_each_trade.start (map firm_of firms) trades network (each_firm firm_of MayAbstain firms abstain)
+pub kept_start : {V : Type 0} (firm_of : V → Firm) (firms : List V) (trades : List Ends)
+    → IsNetwork (map firm_of firms) trades → ((v : V) → MayAbstain (firm_of v)) → IsKept (map firm_of firms) trades 0 0
+kept_start firm_of firms trades network abstain =
+    one_cycle_for_each_trade.start (map firm_of firms) trades network (each_firm firm_of MayAbstain firms abstain)
 
 -- at the set of no trade
-pub possible_at : (firms : List Firm) (trades : List Ends) (on : ℕ) → IsKept firms trades 0 0 → on ≡ 0 → ArePossible firms trades on
+pub possible_at : (firms : List Firm) (trades : List Ends) (on : ℕ) → IsKept firms trades 0 0 → on ≡ 0
+    → ArePossible firms trades on
 possible_at firms trades on kept none = subst (ArePossible firms trades) (sym none) kept.possible
 
-pub kept_at : (firms : List Firm) (trades : List Ends) (allowed on : ℕ) → IsKept firms trades 0 0 → allowed ≡ 0 → on ≡ 0 → IsKept firms trades allowed on
-kept_at firms trades allowed on kept first second = subst (λ (x : ℕ). IsKept firms trades x on) (sym first) (subst (IsKept firms trades 0) (sym second) kept)
+pub kept_at : (firms : List Firm) (trades : List Ends) (allowed on : ℕ) → IsKept firms trades 0 0 → allowed ≡ 0 → on ≡ 0
+    → IsKept firms trades allowed on
+kept_at firms trades allowed on kept first second =
+    subst (λ (x : ℕ). IsKept firms trades x on) (sym first) (subst (IsKept firms trades 0) (sym second) kept)
 
 -- labels keep the arcs among no trade, of which there is none
-pub labels_at : (firms : List Firm) (trades : List Ends) (allowed on : ℕ) (labels : List ℤ) → IsNetwork firms trades → allowed ≡ 0 → on ≡ 0 → length labels ≡ length trades + 1
+pub labels_at : (firms : List Firm) (trades : List Ends) (allowed on : ℕ) (labels : List ℤ) → IsNetwork firms trades
+    → allowed ≡ 0 → on ≡ 0 → length labels ≡ length trades + 1
     → AreKept firms trades allowed on labels
 labels_at firms trades allowed on labels network none none_on counted =
-    subst (λ (x : ℕ). AreKept firms trades x on labels) (sym none) (subst (λ (x : ℕ). AreKept firms trades 0 x labels) (sym none_on)
-    (record { one_each = counted; keeps = one_cycle_for_each_trade.start_labels firms trades network (label_in labels) }))
+    subst (λ (x : ℕ). AreKept firms trades x on labels) (sym none)
+    (subst (λ (x : ℕ). AreKept firms trades 0 x labels) (sym none_on)
+    (record {
+      one_each = counted;
+      keeps =
+          one_cycle_for_each_trade.start_labels firms trades network (label_in labels);
+    }))
 
 -- ---- a search
 
@@ -69,55 +82,73 @@ pub last_node : (nodes count : ℕ) → nodes ≡ count + 1 → nodes - 1 ≡ co
 last_node nodes count e = omega (arith, e)
 
 -- what the search asks for
-pub search_asks : (firms : List Firm) (trades : List Ends) (graph : Matrix) (finder : Reading) (allowed on null : ℕ) → AreUnderWay firms trades graph finder allowed on → null ≡ length trades
+pub search_asks : (firms : List Firm) (trades : List Ends) (graph : Matrix) (finder : Reading) (allowed on null : ℕ)
+    → AreUnderWay firms trades graph finder allowed on → null ≡ length trades
     → KeepsArcs (arcs_among (is_admitted null allowed) (arcs_of graph)) (label_in finder.labels)
 search_asks firms trades graph finder allowed on null way same =
-    subst (λ (n : ℕ). KeepsArcs (arcs_among (is_admitted n allowed) (arcs_of graph)) (label_in finder.labels)) (sym same)
-    (keeps-same _ _ (among-same (is_admitted (length trades) allowed) (arcs_of graph) (exchange_arc firms trades on) way.arcs.arcs) (label_in finder.labels) way.labels.keeps)
+    subst (λ (n : ℕ). KeepsArcs (arcs_among (is_admitted n allowed) (arcs_of graph)) (label_in finder.labels))
+    (sym same)
+    (keeps-same _ _ (among-same (is_admitted (length trades) allowed) (arcs_of graph) (exchange_arc firms trades on)
+    way.arcs.arcs) (label_in finder.labels) way.labels.keeps)
 
 -- what it answers, with the labels that it leaves
-pub search_answers : (firms : List Firm) (trades : List Ends) (graph : Matrix) (finder : Reading) (allowed on t : ℕ) (after : Reading) (answer : Path) → IsNetwork firms trades → MeetExchange firms
+pub search_answers : (firms : List Firm) (trades : List Ends) (graph : Matrix) (finder : Reading) (allowed on t : ℕ)
+    (after : Reading) (answer : Path) → IsNetwork firms trades → MeetExchange firms
     → AreUnderWay firms trades graph finder allowed on → t < length trades → has allowed t ≡ false
-    → AnswersCycle (arcs_among (is_looked_at (finder.nodes - 1) t allowed) (arcs_of graph)) t after.listed answer → length after.labels ≡ finder.nodes
-    → KeepsArcsEntering (arcs_among (is_looked_at (finder.nodes - 1) t allowed) (arcs_of graph)) t (label_in after.labels t +ℤ cost_of answer) (label_in after.labels)
+    → AnswersCycle (arcs_among (is_looked_at (finder.nodes - 1) t allowed) (arcs_of graph)) t after.listed answer
+    → length after.labels ≡ finder.nodes
+    → KeepsArcsEntering (arcs_among (is_looked_at (finder.nodes - 1) t allowed) (arcs_of graph)) t
+    (label_in after.labels t +ℤ cost_of answer) (label_in after.labels)
     → IsNext firms trades allowed on t after answer
 search_answers firms trades graph finder allowed on t after answer network meet way below out found sized keeps =
-    by answer (subst (λ (n : ℕ). AnswersCycle (arcs_among (is_looked_at n t allowed) (arcs_of graph)) t after.listed answer) (last_node finder.nodes (length trades) way.sized) found)
+    by answer (subst (λ (n : ℕ). AnswersCycle (arcs_among (is_looked_at n t allowed) (arcs_of graph)) t after.listed
+    answer) (last_node finder.nodes (length trades) way.sized) found)
     (entering-same _ _ same t (label_in after.labels t +ℤ cost_of answer) (label_in after.labels)
-    (subst (λ (n : ℕ). KeepsArcsEntering (arcs_among (is_looked_at n t allowed) (arcs_of graph)) t (label_in after.labels t +ℤ cost_of answer) (label_in after.labels))
+    (subst (λ (n : ℕ). KeepsArcsEntering (arcs_among (is_looked_at n t allowed) (arcs_of graph)) t
+    (label_in after.labels t +ℤ cost_of answer) (label_in after.labels))
     (last_node finder.nodes (length trades) way.sized) keeps))
   where
-    same : SameArcs (arcs_with firms trades allowed on t) (arcs_among (is_looked_at (length trades) t allowed) (arcs_of graph))
-    same u v = sym (among-same (is_looked_at (length trades) t allowed) (arcs_of graph) (exchange_arc firms trades on) way.arcs.arcs u v)
+    same : SameArcs (arcs_with firms trades allowed on t)
+        (arcs_among (is_looked_at (length trades) t allowed) (arcs_of graph))
+    same u v = sym (among-same (is_looked_at (length trades) t allowed) (arcs_of graph) (exchange_arc firms trades on)
+        way.arcs.arcs u v)
 
     one_each : length after.labels ≡ length trades + 1
     one_each = sized ∙ way.sized
 
-    by : (a : Path) → AnswersCycle (arcs_among (is_looked_at (length trades) t allowed) (arcs_of graph)) t after.listed a
-        → KeepsArcsEntering (arcs_with firms trades allowed on t) t (label_in after.labels t +ℤ cost_of a) (label_in after.labels) → IsNext firms trades allowed on t after a
+    by : (a : Path)
+        → AnswersCycle (arcs_among (is_looked_at (length trades) t allowed) (arcs_of graph)) t after.listed a
+        → KeepsArcsEntering (arcs_with firms trades allowed on t) t (label_in after.labels t +ℤ cost_of a)
+        (label_in after.labels) → IsNext firms trades allowed on t after a
     by path.None none kept = (
-      one_cycle_for_each_trade.still firms trades allowed on t network meet way.kept below out (cycles-same _ _ same t (pos 0) none.0),
+      one_cycle_for_each_trade.still firms trades allowed on t network meet way.kept below out
+          (cycles-same _ _ same t (pos 0) none.0),
       record {
         one_each = one_each;
         keeps = one_cycle_for_each_trade.kept firms trades allowed on t out (label_in after.labels)
-            (one_number (arcs_with firms trades allowed on t) t (label_in after.labels t +ℤ pos 0) (label_in after.labels) kept (omega (arith, ints)));
+            (one_number (arcs_with firms trades allowed on t) t (label_in after.labels t +ℤ pos 0)
+            (label_in after.labels) kept (omega (arith, ints)));
       },
     )
     by (path.Cycle cost count) cycle kept =
         let least = least_cycle-same _ _ same t cycle.rest cost cycle.least in
         let gains : cost ≤ℤ pos 0 = let n = cycle.negative in omega (arith, ints, n) in
-        let next = subst (λ (ls : List ℕ). IsKept firms trades (toggle allowed t) (along (length trades) on ls) × AreKept firms trades (toggle allowed t) (along (length trades) on ls) after.labels)
+        let next = subst (λ (ls : List ℕ). IsKept firms trades (toggle allowed t) (along (length trades) on ls)
+        × AreKept firms trades (toggle allowed t) (along (length trades) on ls) after.labels)
         (sym cycle.nodes_are) (
-          one_cycle_for_each_trade.turned firms trades allowed on t network meet way.kept below out cycle.rest cost least gains,
+          one_cycle_for_each_trade.turned firms trades allowed on t network meet way.kept below out cycle.rest cost
+              least gains,
           record {
             one_each = one_each;
-            keeps = one_cycle_for_each_trade.turned_labels firms trades allowed on t network meet way.kept below out cycle.rest cost (label_in after.labels) least gains kept;
+            keeps = one_cycle_for_each_trade.turned_labels firms trades allowed on t network meet way.kept below out
+                cycle.rest cost (label_in after.labels) least gains kept;
           },
         ) in
         (cycle.counted, next.0, next.1)
 
 -- at most as many worths are asked anew as in all
-pub changed_le : (trades : List Ends) (before on f : ℕ) (firms : List Firm) → changed_worths_from trades before on f firms ≤ graph_worths firms
+pub changed_le : (trades : List Ends) (before on f : ℕ) (firms : List Firm)
+    → changed_worths_from trades before on f firms ≤ graph_worths firms
 changed_le trades before on f [] = omega arith
 changed_le trades before on f (firm ∷ firms) =
     let rest = changed_le trades before on (f + 1) firms in
@@ -131,13 +162,19 @@ changed_le trades before on f (firm ∷ firms) =
 -- ---- labels
 
 -- the arcs among the admitted trades and null
-admitted_same : (firms : List Firm) (trades : List Ends) (graph : Matrix) (finder : Reading) (allowed on : ℕ) → AreUnderWay firms trades graph finder allowed on
-    → SameArcs (arcs_among (is_admitted (length trades) allowed) (exchange_arc firms trades on)) (arcs_among (is_admitted (length trades) allowed) (arcs_of graph))
-admitted_same firms trades graph finder allowed on way u v = sym (among-same (is_admitted (length trades) allowed) (arcs_of graph) (exchange_arc firms trades on) way.arcs.arcs u v)
+admitted_same : (firms : List Firm) (trades : List Ends) (graph : Matrix) (finder : Reading) (allowed on : ℕ)
+    → AreUnderWay firms trades graph finder allowed on
+    → SameArcs (arcs_among (is_admitted (length trades) allowed) (exchange_arc firms trades on))
+    (arcs_among (is_admitted (length trades) allowed) (arcs_of graph))
+admitted_same firms trades graph finder allowed on way u v =
+    sym (among-same (is_admitted (length trades) allowed) (arcs_of graph) (exchange_arc firms trades on) way.arcs.arcs u
+    v)
 
-pub settled_labels : (firms : List Firm) (trades : List Ends) (graph : Matrix) (finder : Reading) (allowed on count : ℕ) (labels : List ℤ) → AreUnderWay firms trades graph finder allowed on → count ≡ length trades
+pub settled_labels : (firms : List Firm) (trades : List Ends) (graph : Matrix) (finder : Reading) (allowed on count : ℕ)
+    (labels : List ℤ) → AreUnderWay firms trades graph finder allowed on → count ≡ length trades
     → AreLabels finder.nodes (arcs_among (is_admitted count allowed) (arcs_of graph)) labels
-    → AreLabels (length trades + 1) (arcs_among (is_admitted (length trades) allowed) (exchange_arc firms trades on)) labels
+    → AreLabels (length trades + 1) (arcs_among (is_admitted (length trades) allowed) (exchange_arc firms trades on))
+    labels
 settled_labels firms trades graph finder allowed on count labels way counted are =
     labels-same (length trades + 1) _ _ labels (admitted_same firms trades graph finder allowed on way)
     (subst (λ (n : ℕ). AreLabels n (arcs_among (is_admitted (length trades) allowed) (arcs_of graph)) labels) way.sized
@@ -153,23 +190,29 @@ near-wider reach more labels within near v below =
     record { low = omega (arith, ints, within, low); high = omega (arith, ints, within, high) }
 
 -- after a round for each of some trades they are far from the limits of their type
-pub rounds_near : (t count : ℕ) (labels : List ℤ) → t ≤ count → count ≤ most_market_trades → AreNear (t * label_step (count + 1)) labels → AreNear most_label labels
+pub rounds_near : (t count : ℕ) (labels : List ℤ) → t ≤ count → count ≤ most_market_trades
+    → AreNear (t * label_step (count + 1)) labels → AreNear most_label labels
 rounds_near t count labels within few = near-wider (t * label_step (count + 1)) most_label labels
-    (let first : t * label_step (count + 1) ≤ most_market_trades * label_step (count + 1) = mul-le t (label_step (count + 1)) most_market_trades (label_step (count + 1)) (omega (arith, within, few)) (omega arith) in
+    (let first : t * label_step (count + 1) ≤ most_market_trades * label_step (count + 1) =
+    mul-le t (label_step (count + 1)) most_market_trades (label_step (count + 1)) (omega (arith, within, few))
+    (omega arith) in
     omega (arith, first, few))
 
 pub near-next : (t step : ℕ) (labels : List ℤ) → AreNear (t * step + step) labels → AreNear ((t + 1) * step) labels
-near-next t step labels near = subst (λ (n : ℕ). AreNear n labels) (let e : t * step + step ≡ (t + 1) * step = grind arith in e) near
+near-next t step labels near = subst (λ (n : ℕ). AreNear n labels) (let e : t * step + step ≡ (t + 1) * step =
+    grind arith in e) near
 
 -- ---- one trade after another
 
 pub none_below : (wanted allowed : ℕ) → allowed ≡ 0 → AreAdmittedBelow wanted 0 allowed
-none_below wanted allowed none k = ap (λ (x : ℕ). has x k) none ∙ has-zero k ∙ sym (ap (λ (b : Bool). b && has wanted k) (le-ltb k 0 (omega arith)))
+none_below wanted allowed none k = ap (λ (x : ℕ). has x k) none ∙ has-zero k
+    ∙ sym (ap (λ (b : Bool). b && has wanted k) (le-ltb k 0 (omega arith)))
 
 pub not_yet : (wanted t allowed : ℕ) → AreAdmittedBelow wanted t allowed → has allowed t ≡ false
 not_yet wanted t allowed below = below t ∙ ap (λ (b : Bool). b && has wanted t) (le-ltb t t (omega arith))
 
-pub one_more_below : (wanted t allowed : ℕ) → AreAdmittedBelow wanted t allowed → AreAdmittedBelow wanted (t + 1) (if has wanted t then toggle allowed t else allowed)
+pub one_more_below : (wanted t allowed : ℕ) → AreAdmittedBelow wanted t allowed
+    → AreAdmittedBelow wanted (t + 1) (if has wanted t then toggle allowed t else allowed)
 one_more_below wanted t allowed below k = elim (cases_eq k t) [
   | inl e ↦
       let in_range : nat_lt k (t + 1) ≡ true = lt-ltb k (t + 1) (omega (arith, e)) in
@@ -191,7 +234,8 @@ one_more_below wanted t allowed below k = elim (cases_eq k t) [
     same (inr h) other = le-ltb k t h ∙ sym (le-ltb k (t + 1) (omega (arith, h, other)))
 
 -- in the end they are all trades of the set
-pub all_below : (wanted count allowed : ℕ) → ((t : ℕ) → has wanted t ≡ true → t < count) → AreAdmittedBelow wanted count allowed → allowed ≡ wanted
+pub all_below : (wanted count allowed : ℕ) → ((t : ℕ) → has wanted t ≡ true → t < count)
+    → AreAdmittedBelow wanted count allowed → allowed ≡ wanted
 all_below wanted count allowed inside below = same_set allowed wanted (λ k. below k ∙ by k (has wanted k) refl)
   where
     by : (k : ℕ) (b : Bool) → has wanted k ≡ b → (nat_lt k count && has wanted k) ≡ has wanted k
@@ -202,10 +246,13 @@ all_below wanted count allowed inside below = same_set allowed wanted (λ k. bel
         gone true = refl
         gone false = refl
 
-pub worths_step : (old before new worths t : ℕ) → before ≤ old + t * worths → new ≤ before + worths → new ≤ old + (t + 1) * worths
-worths_step old before new worths t first second = let e : (t + 1) * worths ≡ t * worths + worths = grind arith in omega (arith, first, second, e)
+pub worths_step : (old before new worths t : ℕ) → before ≤ old + t * worths → new ≤ before + worths
+    → new ≤ old + (t + 1) * worths
+worths_step old before new worths t first second = let e : (t + 1) * worths ≡ t * worths + worths = grind arith in
+    omega (arith, first, second, e)
 
-pub worths_sum : (old first new worths t count : ℕ) → first ≤ old + worths → new ≤ first + t * worths → t ≡ count → new ≤ old + (count + 1) * worths
+pub worths_sum : (old first new worths t count : ℕ) → first ≤ old + worths → new ≤ first + t * worths → t ≡ count
+    → new ≤ old + (count + 1) * worths
 worths_sum old first new worths t count begin all same =
     let e : (t + 1) * worths ≡ t * worths + worths = grind arith in
     let n = ap (λ (k : ℕ). (k + 1) * worths) same in

@@ -31,43 +31,57 @@ use Rattle.tn_flow.specs.Solved.{IsSolution, AreSmallPrices}
 -- ---- numbers
 
 pub small_bound : (limit count : ℕ) → 2 * limit * (count + 1) ≤ most_cost → 2 * limit ≤ most_cost
-small_bound limit count small = let e : 2 * limit * (count + 1) ≡ 2 * limit * count + 2 * limit = grind arith in omega (arith, small, e)
+small_bound limit count small = let e : 2 * limit * (count + 1) ≡ 2 * limit * count + 2 * limit = grind arith in
+    omega (arith, small, e)
 
 -- the labels of a graph are small
-pub labels_small : (firms : List Firm) (trades : List Ends) (graph : Matrix) (finder : Reading) (allowed on : ℕ) (labels : List ℤ) → AreUnderWay firms trades graph finder allowed on → length trades ≤ most_market_trades
-    → AreLabels (length trades + 1) (arcs_among (is_admitted (length trades) allowed) (exchange_arc firms trades on)) labels → (t : ℕ) → t < length labels → IsAtMost (label_in labels t) most_read
+pub labels_small : (firms : List Firm) (trades : List Ends) (graph : Matrix) (finder : Reading) (allowed on : ℕ)
+    (labels : List ℤ) → AreUnderWay firms trades graph finder allowed on → length trades ≤ most_market_trades
+    → AreLabels (length trades + 1) (arcs_among (is_admitted (length trades) allowed) (exchange_arc firms trades on))
+    labels → (t : ℕ) → t < length labels → IsAtMost (label_in labels t) most_read
 labels_small firms trades graph finder allowed on labels way few are =
     label_small (length trades + 1) _ labels are
-    (small-arcs_among (is_admitted (length trades) allowed) most_cost (exchange_arc firms trades on) (λ u v cost is. arcs_of-small graph u v cost (way.arcs.arcs u v ∙ is)))
+    (small-arcs_among (is_admitted (length trades) allowed) most_cost (exchange_arc firms trades on)
+    (λ u v cost is. arcs_of-small graph u v cost (way.arcs.arcs u v ∙ is)))
     (omega (arith, few))
 
 -- ---- prices
 
 -- what the rounds come to is a solution
-pub solution_from : (firms : List Firm) (trades : List Ends) (graph : Matrix) (finder : Reading) (allowed wanted on : ℕ) (labels prices : List ℤ) → IsNetwork firms trades → MeetExchange firms
+pub solution_from : (firms : List Firm) (trades : List Ends) (graph : Matrix) (finder : Reading) (allowed wanted on : ℕ)
+    (labels prices : List ℤ) → IsNetwork firms trades → MeetExchange firms
     → AreUnderWay firms trades graph finder allowed on → allowed ≡ wanted
-    → KeepsArcs (arcs_among (is_admitted (length trades) allowed) (exchange_arc firms trades on)) (label_in labels) → length prices ≡ length trades
+    → KeepsArcs (arcs_among (is_admitted (length trades) allowed) (exchange_arc firms trades on)) (label_in labels)
+    → length prices ≡ length trades
     → ((t : ℕ) → t < length trades → price_at prices t ≡ label_in labels t -ℤ label_in labels (length trades))
     → IsSolution firms trades wanted (record { on = on; prices = prices })
 solution_from firms trades graph finder allowed wanted on labels prices network meet way same keeps counted priced =
     subst (λ (x : ℕ). IsSolution firms trades x (record { on = on; prices = prices })) same (record {
       inside = way.kept.inside;
       one_each = counted;
-      equilibrium = same_prices (admitted trades allowed firms) trades (pos 1) on (price_at prices) (λ t. label_in labels t -ℤ label_in labels (length trades))
+      equilibrium =
+          same_prices (admitted trades allowed firms) trades (pos 1) on (price_at prices) (λ t. label_in labels t
+          -ℤ label_in labels (length trades))
           (admitted_network firms trades allowed network) priced
           (one_cycle_for_each_trade.ends firms trades allowed on network meet way.kept (label_in labels) keeps);
     })
 
 -- and its prices are within the bound
-pub prices_within : {V : Type 0} (firm_of : V → Firm) (limit_of : V → ℕ) (items : List V) (trades : List Ends) (allowed on : ℕ) (labels prices : List ℤ) → IsNetwork (map firm_of items) trades
+pub prices_within : {V : Type 0} (firm_of : V → Firm) (limit_of : V
+    → ℕ) (items : List V) (trades : List Ends) (allowed on : ℕ) (labels prices : List ℤ)
+    → IsNetwork (map firm_of items) trades
     → ((v : V) → IsWorthAtMost (limit_of v) (firm_of v))
-    → AreLabels (length trades + 1) (arcs_among (is_admitted (length trades) allowed) (exchange_arc (map firm_of items) trades on)) labels → length prices ≡ length trades
+    → AreLabels (length trades + 1) (arcs_among (is_admitted (length trades) allowed)
+    (exchange_arc (map firm_of items) trades on)) labels → length prices ≡ length trades
     → ((t : ℕ) → t < length trades → price_at prices t ≡ label_in labels t -ℤ label_in labels (length trades))
-    → (bound : ℕ) → ((f : ℕ) (v : V) → slice_get items f ≡ Some v → limit_of v ≤ bound) → AreSmallPrices (2 * bound * length trades) prices
-prices_within {V} firm_of limit_of items trades allowed on labels prices network within are counted priced bound limited k d below =
+    → (bound : ℕ) → ((f : ℕ) (v : V) → slice_get items f ≡ Some v → limit_of v ≤ bound)
+    → AreSmallPrices (2 * bound * length trades) prices
+prices_within {V} firm_of limit_of items trades allowed on labels prices network within are counted priced bound limited
+    k d below =
     subst (λ (z : ℤ). IsAtMost z (2 * bound * length trades)) (sym (read ∙ priced k inside))
     (difference_within (length trades) (2 * bound) _ labels are
-    (small-arcs_among (is_admitted (length trades) allowed) (2 * bound) (exchange_arc (map firm_of items) trades on) (arcs_small (map firm_of items) trades network bound on bounded)) k inside)
+    (small-arcs_among (is_admitted (length trades) allowed) (2 * bound) (exchange_arc (map firm_of items) trades on)
+    (arcs_small (map firm_of items) trades network bound on bounded)) k inside)
   where
     inside : k < length trades
     inside = omega (arith, below, counted)

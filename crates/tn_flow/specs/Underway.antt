@@ -22,20 +22,23 @@ pub record HaveRoom (count : ℕ) (graph : Matrix) (finder : Reading) : Type 0 w
 -- a label for each trade and null, which keep the arcs among the admitted trades and null
 pub record AreKept (firms : List Firm) (trades : List Ends) (allowed on : ℕ) (labels : List ℤ) : Type 0 where
   pub one_each : length labels ≡ length trades + 1
-  pub keeps : KeepsArcs (arcs_among (is_admitted (length trades) allowed) (exchange_arc firms trades on)) (label_in labels)
+  pub keeps : KeepsArcs (arcs_among (is_admitted (length trades) allowed) (exchange_arc firms trades on))
+      (label_in labels)
 
--- the graph is the exchange graph at the set that is on, the set is what a round leaves with the admitted trades, and so
--- are the labels
-pub record AreUnderWay (firms : List Firm) (trades : List Ends) (graph : Matrix) (finder : Reading) (allowed on : ℕ) : Type 0 where
+-- the graph is the exchange graph at the set that is on, the set is what a round leaves with the admitted trades, and
+-- so are the labels
+pub record AreUnderWay (firms : List Firm) (trades : List Ends) (graph : Matrix) (finder : Reading)
+    (allowed on : ℕ) : Type 0 where
   pub arcs : IsExchangeGraph firms trades on graph
   pub sized : finder.nodes ≡ length trades + 1
   pub kept : IsKept firms trades allowed on
   pub labels : AreKept firms trades allowed on finder.labels
 
--- what follows from the answer of a search: the set with the trade admitted, as it is or along the listed cycle, and the
--- labels that the search leaves
+-- what follows from the answer of a search: the set with the trade admitted, as it is or along the listed cycle, and
+-- the labels that the search leaves
 abbrev pub IsNext : List Firm → List Ends → ℕ → ℕ → ℕ → Reading → Path → Type 0
-IsNext firms trades allowed on t finder path.None = IsKept firms trades (toggle allowed t) on × AreKept firms trades (toggle allowed t) on finder.labels
+IsNext firms trades allowed on t finder path.None = IsKept firms trades (toggle allowed t) on
+    × AreKept firms trades (toggle allowed t) on finder.labels
 IsNext firms trades allowed on t finder (path.Cycle cost count) =
     (count ≡ length finder.listed) × IsKept firms trades (toggle allowed t) (along (length trades) on finder.listed)
     × AreKept firms trades (toggle allowed t) (along (length trades) on finder.listed) finder.labels

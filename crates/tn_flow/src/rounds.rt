@@ -1,4 +1,5 @@
-//! The rounds of a solver: trades are admitted one after another, and after each the set that is on is an equilibrium's.
+//! The rounds of a solver: trades are admitted one after another, and after each the set that is on is an
+//! equilibrium's.
 //!
 //! Labels are kept beside the set: numbers of the admitted trades and null that keep the arcs among them. They say most
 //! new trades' prices at once, and where they don't, the search for a cycle goes by them.
@@ -74,15 +75,16 @@ impl<const W: usize> Rounds<W> {
         })
     }
 
-    /// Begins anew on a market: no trade is admitted, none is on, and each label is 0. It asks for at most a worth for each two places of
-    /// each firm. The market has at most `64 * W` trades, as many as the rounds were made for, and twice the bound of
-    /// each firm is at most 10^18.
+    /// Begins anew on a market: no trade is admitted, none is on, and each label is 0. It asks for at most a worth for
+    /// each two places of each firm. The market has at most `64 * W` trades, as many as the rounds were made for, and
+    /// twice the bound of each firm is at most 10^18.
     pub fn begin<V: Valuation>(&mut self, market: &Market<V>, steps: &mut Steps<V::Mark>)
         requires width { W ≤ most_limbs }
         requires wide { length market.now.trades ≤ 64 * W }
         requires room { HaveRoom (length market.now.trades) self.old.graph self.old.finder }
         requires small { (f : ℕ) (v : V) → slice_get market.now.firms f ≡ Some v → 2 * V.limit v ≤ most_cost }
-        ensures under_way { network_of V.firm market.now AreUnderWay self.new.graph self.new.finder self.new.allowed self.new.on }
+        ensures under_way { network_of V.firm market.now AreUnderWay self.new.graph self.new.finder self.new.allowed
+            self.new.on }
         ensures none_admitted { self.new.allowed ≡ 0 }
         ensures none_on { self.new.on ≡ 0 }
         ensures near { AreNear 0 self.new.finder.labels }
@@ -111,32 +113,37 @@ impl<const W: usize> Rounds<W> {
     /// leaves keep the arcs once the trade is admitted.
     fn find<V: Valuation>(&mut self, market: &Market<V>, t: u32) -> Path
         requires wide { length market.now.trades ≤ 64 * W }
-        requires under_way { network_of V.firm market.now AreUnderWay self.old.graph self.old.finder self.old.allowed self.old.on }
+        requires under_way { network_of V.firm market.now AreUnderWay self.old.graph self.old.finder self.old.allowed
+            self.old.on }
         requires trade { t < length market.now.trades }
         requires out { has self.old.allowed t ≡ false }
         requires near { AreNear most_label self.old.finder.labels }
         ensures rest { self.new ≡ record self.old { finder = self.new.finder } }
         ensures sized { self.new.finder.nodes ≡ self.old.finder.nodes }
         ensures next { network_of V.firm market.now IsNext self.old.allowed self.old.on t self.new.finder result }
-        ensures near { (reach : ℕ) → AreNear reach self.old.finder.labels → AreNear (reach + label_step (length market.now.trades + 1)) self.new.finder.labels }
+        ensures near { (reach : ℕ) → AreNear reach self.old.finder.labels
+            → AreNear (reach + label_step (length market.now.trades + 1)) self.new.finder.labels }
     {
         know(market);
         self.finder.through(&self.graph, t, &self.allowed)
     }
 
-    /// Admits a trade: one round of the solver. Where a cycle of the exchange graph through it is negative, the trades are
-    /// toggled along one of least cost and then of least arcs; where none is, only labels change, and no worth is asked
-    /// for. It asks for at most a worth for each two places of each firm, and takes no memory. The rounds are under way on
-    /// this market, the trade is one of it that isn't admitted, and the labels are at most 10^26 in size.
+    /// Admits a trade: one round of the solver. Where a cycle of the exchange graph through it is negative, the trades
+    /// are toggled along one of least cost and then of least arcs; where none is, only labels change, and no worth is
+    /// asked for. It asks for at most a worth for each two places of each firm, and takes no memory. The rounds are
+    /// under way on this market, the trade is one of it that isn't admitted, and the labels are at most 10^26 in size.
     pub fn admit<V: Valuation>(&mut self, market: &Market<V>, t: u32, steps: &mut Steps<V::Mark>)
         requires wide { length market.now.trades ≤ 64 * W }
         requires small { (f : ℕ) (v : V) → slice_get market.now.firms f ≡ Some v → 2 * V.limit v ≤ most_cost }
-        requires under_way { network_of V.firm market.now AreUnderWay self.old.graph self.old.finder self.old.allowed self.old.on }
+        requires under_way { network_of V.firm market.now AreUnderWay self.old.graph self.old.finder self.old.allowed
+            self.old.on }
         requires trade { t < length market.now.trades }
         requires out { has self.old.allowed t ≡ false }
         requires near { AreNear most_label self.old.finder.labels }
-        ensures under_way { network_of V.firm market.now AreUnderWay self.new.graph self.new.finder self.new.allowed self.new.on }
-        ensures near { (reach : ℕ) → AreNear reach self.old.finder.labels → AreNear (reach + label_step (length market.now.trades + 1)) self.new.finder.labels }
+        ensures under_way { network_of V.firm market.now AreUnderWay self.new.graph self.new.finder self.new.allowed
+            self.new.on }
+        ensures near { (reach : ℕ) → AreNear reach self.old.finder.labels
+            → AreNear (reach + label_step (length market.now.trades + 1)) self.new.finder.labels }
         ensures admitted { self.new.allowed ≡ toggle self.old.allowed t }
         ensures asked { steps.new ≤ steps.old + graph_worths (map V.firm market.now.firms) }
     {
@@ -159,12 +166,15 @@ impl<const W: usize> Rounds<W> {
     )
         requires wide { length market.now.trades ≤ 64 * W }
         requires small { (f : ℕ) (v : V) → slice_get market.now.firms f ≡ Some v → 2 * V.limit v ≤ most_cost }
-        requires under_way { network_of V.firm market.now AreUnderWay self.old.graph self.old.finder self.old.allowed self.old.on }
+        requires under_way { network_of V.firm market.now AreUnderWay self.old.graph self.old.finder self.old.allowed
+            self.old.on }
         requires trade { t < length market.now.trades }
         requires out { has self.old.allowed t ≡ false }
         requires near { AreNear most_label self.old.finder.labels }
-        ensures under_way { network_of V.firm market.now AreUnderWay self.new.graph self.new.finder self.new.allowed self.new.on }
-        ensures near { (reach : ℕ) → AreNear reach self.old.finder.labels → AreNear (reach + label_step (length market.now.trades + 1)) self.new.finder.labels }
+        ensures under_way { network_of V.firm market.now AreUnderWay self.new.graph self.new.finder self.new.allowed
+            self.new.on }
+        ensures near { (reach : ℕ) → AreNear reach self.old.finder.labels
+            → AreNear (reach + label_step (length market.now.trades + 1)) self.new.finder.labels }
         ensures admitted { self.new.allowed ≡ (if wanted then toggle self.old.allowed t else self.old.allowed) }
         ensures asked { steps.new ≤ steps.old + graph_worths (map V.firm market.now.firms) }
     {
@@ -173,9 +183,9 @@ impl<const W: usize> Rounds<W> {
         }
     }
 
-    /// Begins anew on a market, and admits some of its trades, one after another. It asks for at most a worth for each two
-    /// places of each firm, once and once more for each trade. The market has at most `64 * W` trades, as many as the
-    /// rounds were made for, and twice the bound of each firm is at most 10^18.
+    /// Begins anew on a market, and admits some of its trades, one after another. It asks for at most a worth for each
+    /// two places of each firm, once and once more for each trade. The market has at most `64 * W` trades, as many as
+    /// the rounds were made for, and twice the bound of each firm is at most 10^18.
     pub fn admit_all<V: Valuation>(
         &mut self,
         market: &Market<V>,
@@ -187,10 +197,12 @@ impl<const W: usize> Rounds<W> {
         requires room { HaveRoom (length market.now.trades) self.old.graph self.old.finder }
         requires small { (f : ℕ) (v : V) → slice_get market.now.firms f ≡ Some v → 2 * V.limit v ≤ most_cost }
         requires inside { (t : ℕ) → has admitted.now t ≡ true → t < length market.now.trades }
-        ensures under_way { network_of V.firm market.now AreUnderWay self.new.graph self.new.finder self.new.allowed self.new.on }
+        ensures under_way { network_of V.firm market.now AreUnderWay self.new.graph self.new.finder self.new.allowed
+            self.new.on }
         ensures near { AreNear most_label self.new.finder.labels }
         ensures admitted { self.new.allowed ≡ admitted.now }
-        ensures asked { steps.new ≤ steps.old + (length market.now.trades + 1) * graph_worths (map V.firm market.now.firms) }
+        ensures asked { steps.new ≤ steps.old + (length market.now.trades + 1) * graph_worths
+            (map V.firm market.now.firms) }
     {
         self.begin(market, steps);
         for t in 0..market.trades() {
@@ -203,12 +215,15 @@ impl<const W: usize> Rounds<W> {
     /// trades make. The rounds are under way on this market, and the labels are at most 10^26 in size.
     pub fn settle<V: Valuation>(&mut self, market: &Market<V>)
         requires wide { length market.now.trades ≤ 64 * W }
-        requires under_way { network_of V.firm market.now AreUnderWay self.old.graph self.old.finder self.old.allowed self.old.on }
+        requires under_way { network_of V.firm market.now AreUnderWay self.old.graph self.old.finder self.old.allowed
+            self.old.on }
         requires near { AreNear most_label self.old.finder.labels }
-        ensures under_way { network_of V.firm market.now AreUnderWay self.new.graph self.new.finder self.new.allowed self.new.on }
+        ensures under_way { network_of V.firm market.now AreUnderWay self.new.graph self.new.finder self.new.allowed
+            self.new.on }
         ensures admitted { self.new.allowed ≡ self.old.allowed }
         ensures on { self.new.on ≡ self.old.on }
-        ensures labels { AreLabels (length market.now.trades + 1) (arcs_among (is_admitted (length market.now.trades) self.old.allowed)
+        ensures labels { AreLabels (length market.now.trades + 1)
+            (arcs_among (is_admitted (length market.now.trades) self.old.allowed)
             (network_of V.firm market.now exchange_arc self.old.on)) self.new.finder.labels }
     {
         self.finder.relabel(&self.graph, &self.allowed);

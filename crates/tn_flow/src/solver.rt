@@ -91,11 +91,11 @@ impl<const W: usize> Solver<W> {
     }
 
     /// Finds an equilibrium of the market that the given trades admit: trades among these, and prices of all trades, at
-    /// which each firm's bundle is best among its bundles within the admitted trades. It has no refusal, takes no memory,
-    /// and asks for at most a worth for each two places of each firm, once and once more for each trade (existence:
-    /// Hatfield, Kominers, Nichifor, Ostrovsky and Westkamp, 2013). The market has at most `64 * W` trades, as many as
-    /// the solver was made for; twice the bound of each firm, times one more than the number of trades, is at most
-    /// 10^18. The admitted trades are of the market.
+    /// which each firm's bundle is best among its bundles within the admitted trades. It has no refusal, takes no
+    /// memory, and asks for at most a worth for each two places of each firm, once and once more for each trade
+    /// (existence: Hatfield, Kominers, Nichifor, Ostrovsky and Westkamp, 2013). The market has at most `64 * W` trades,
+    /// as many as the solver was made for; twice the bound of each firm, times one more than the number of trades, is
+    /// at most 10^18. The admitted trades are of the market.
     pub fn solve_among<V: Valuation>(
         &mut self,
         market: &Market<V>,
@@ -105,11 +105,13 @@ impl<const W: usize> Solver<W> {
         requires wide { length market.now.trades ≤ 64 * W }
         requires made_for { length self.old.prices ≡ length market.now.trades }
         requires inside { (t : ℕ) → has admitted.now t ≡ true → t < length market.now.trades }
-        requires small { (f : ℕ) (v : V) → slice_get market.now.firms f ≡ Some v → 2 * V.limit v * (length market.now.trades + 1) ≤ most_cost }
+        requires small { (f : ℕ) (v : V) → slice_get market.now.firms f ≡ Some v
+            → 2 * V.limit v * (length market.now.trades + 1) ≤ most_cost }
         ensures solution { network_of V.firm market.now IsSolution admitted.now self.new }
         ensures prices { (bound : ℕ) → ((f : ℕ) (v : V) → slice_get market.now.firms f ≡ Some v → V.limit v ≤ bound)
             → AreSmallPrices (2 * bound * length market.now.trades) self.new.prices }
-        ensures asked { steps.new ≤ steps.old + (length market.now.trades + 1) * graph_worths (map V.firm market.now.firms) }
+        ensures asked { steps.new ≤ steps.old + (length market.now.trades + 1) * graph_worths
+            (map V.firm market.now.firms) }
     {
         self.rounds.admit_all(market, admitted, steps);
         self.rounds.settle(market);
@@ -122,13 +124,15 @@ impl<const W: usize> Solver<W> {
     pub fn solve_in<V: Valuation>(&mut self, market: &Market<V>, steps: &mut Steps<V::Mark>)
         requires wide { length market.now.trades ≤ 64 * W }
         requires made_for { length self.old.prices ≡ length market.now.trades }
-        requires small { (f : ℕ) (v : V) → slice_get market.now.firms f ≡ Some v → 2 * V.limit v * (length market.now.trades + 1) ≤ most_cost }
+        requires small { (f : ℕ) (v : V) → slice_get market.now.firms f ≡ Some v
+            → 2 * V.limit v * (length market.now.trades + 1) ≤ most_cost }
         ensures one_each { length self.new.prices ≡ length market.now.trades }
         ensures equilibrium { network_of V.firm market.now IsEquilibrium (pos 1) self.new.on (price_at self.new.prices) }
         ensures inside { (t : ℕ) → has self.new.on t ≡ true → t < length market.now.trades }
         ensures prices { (bound : ℕ) → ((f : ℕ) (v : V) → slice_get market.now.firms f ≡ Some v → V.limit v ≤ bound)
             → AreSmallPrices (2 * bound * length market.now.trades) self.new.prices }
-        ensures asked { steps.new ≤ steps.old + (length market.now.trades + 1) * graph_worths (map V.firm market.now.firms) }
+        ensures asked { steps.new ≤ steps.old + (length market.now.trades + 1) * graph_worths
+            (map V.firm market.now.firms) }
     {
         let _trades = market.trades();
         let all = self.all_trades();

@@ -16,21 +16,32 @@ arcs_at graph u v p q =
     (lt-ltb u graph.nodes p) (lt-ltb v graph.nodes q)
 
 -- two numbers are nodes, or there is no arc between them
-nodes_or_none : (nodes u v : ℕ) → ((u < nodes) × (v < nodes)) ⊎ ((cells : List ℤ) → arcs_of (record { nodes = nodes; cells = cells }) u v ≡ None)
+nodes_or_none : (nodes u v : ℕ) → ((u < nodes) × (v < nodes))
+    ⊎ ((cells : List ℤ) → arcs_of (record { nodes = nodes; cells = cells }) u v ≡ None)
 unfolding arcs_of
 nodes_or_none nodes u v = elim (cases_Bool (nat_lt u nodes && nat_lt v nodes)) [
-  | inl within ↦ let parts = and_parts (nat_lt u nodes) (nat_lt v nodes) within in inl (ltb-true u nodes parts.0, ltb-true v nodes parts.1)
-  | inr beyond ↦ inr (λ cells. ap (λ (b : Bool). if b then cost_at (get_or cells (u * nodes + v) (pos (2 ^ 63))) else None) beyond)
+  | inl within ↦ let parts = and_parts (nat_lt u nodes) (nat_lt v nodes) within in
+      inl (ltb-true u nodes parts.0, ltb-true v nodes parts.1)
+  | inr beyond ↦
+      inr (λ cells. ap (λ (b : Bool). if b then cost_at (get_or cells (u * nodes + v) (pos (2 ^ 63)))
+      else None) beyond)
 ]
 
 -- what is read at the place of an arc is its cost
-pub read_cost : (nodes : ℕ) (cells : List ℤ) (u v : ℕ) (number : ℤ) → u < nodes → v < nodes → number ≡ get_or cells (u * nodes + v) (pos (2 ^ 63))
+pub read_cost : (nodes : ℕ) (cells : List ℤ) (u v : ℕ) (number : ℤ) → u < nodes → v < nodes
+    → number ≡ get_or cells (u * nodes + v) (pos (2 ^ 63))
     → cost_at number ≡ arcs_of (record { nodes = nodes; cells = cells }) u v
-read_cost nodes cells u v number p q is = ap cost_at is ∙ sym (arcs_at (record { nodes = nodes; cells = cells }) u v p q)
+read_cost nodes cells u v number p q is = ap cost_at is
+    ∙ sym (arcs_at (record { nodes = nodes; cells = cells }) u v p q)
 
 -- a number that is written is the cost of its arc, and of no other
-pub one_written : (nodes : ℕ) (cells : List ℤ) (a b : ℕ) (number : ℤ) (cost : Option ℤ) → IsSquare nodes cells → a < nodes → b < nodes → cost_at number ≡ cost
-    → IsWritten (record { nodes = nodes; cells = cells }) a b cost (record { nodes = nodes; cells = set cells (a * nodes + b) number })
+pub one_written : (nodes : ℕ) (cells : List ℤ) (a b : ℕ) (number : ℤ) (cost : Option ℤ) → IsSquare nodes cells
+    → a < nodes → b < nodes → cost_at number ≡ cost
+    → IsWritten (record { nodes = nodes; cells = cells }) a b cost (record {
+      nodes = nodes;
+      cells =
+          set cells (a * nodes + b) number;
+    })
 one_written nodes cells a b number cost square p q is = record {
   nodes = refl;
   here =
@@ -56,19 +67,22 @@ none_at = refl
 -- such numbers alone are no arcs
 pub no_arcs : (nodes size : ℕ) (cells : List ℤ) → cells ≡ replicate size (pos (2 ^ 63 - 1)) → size ≡ nodes * nodes
     → IsWithoutArcs nodes (record { nodes = nodes; cells = cells })
-no_arcs nodes size cells all square = subst (λ (xs : List ℤ). IsWithoutArcs nodes (record { nodes = nodes; cells = xs })) (sym all) (record {
-  nodes = refl;
-  none = λ u v. elim (nodes_or_none nodes u v) [
-    | inl inside ↦
-        let place = mul-add-lt u nodes v nodes inside.0 inside.1 in
-        arcs_at (record { nodes = nodes; cells = replicate size (pos (2 ^ 63 - 1)) }) u v inside.0 inside.1
-        ∙ ap cost_at (get_or-replicate size (u * nodes + v) (pos (2 ^ 63 - 1)) (pos (2 ^ 63)) (omega (arith, place, square))) ∙ none_at
-    | inr none ↦ none (replicate size (pos (2 ^ 63 - 1)))
-  ];
-})
+no_arcs nodes size cells all square =
+    subst (λ (xs : List ℤ). IsWithoutArcs nodes (record { nodes = nodes; cells = xs })) (sym all) (record {
+      nodes = refl;
+      none = λ u v. elim (nodes_or_none nodes u v) [
+        | inl inside ↦
+            let place = mul-add-lt u nodes v nodes inside.0 inside.1 in
+            arcs_at (record { nodes = nodes; cells = replicate size (pos (2 ^ 63 - 1)) }) u v inside.0 inside.1
+            ∙ ap cost_at (get_or-replicate size (u * nodes + v) (pos (2 ^ 63 - 1)) (pos (2 ^ 63))
+            (omega (arith, place, square))) ∙ none_at
+        | inr none ↦ none (replicate size (pos (2 ^ 63 - 1)))
+      ];
+    })
 
 -- the place of an arc is one of the table
-pub place_inside : (nodes : ℕ) (cells : List ℤ) (u v : ℕ) → IsSquare nodes cells → u < nodes → v < nodes → u * nodes + v < length cells
+pub place_inside : (nodes : ℕ) (cells : List ℤ) (u v : ℕ) → IsSquare nodes cells → u < nodes → v < nodes
+    → u * nodes + v < length cells
 place_inside nodes cells u v square p q =
     let inside = mul-add-lt u nodes v nodes p q in
     let counted = square.counted in

@@ -24,7 +24,8 @@ use Rattle.tn_graph.specs.Reading.{IsRowRead, falling, IsWithoutArcs, IsWritten,
 pub improves-none : (arc : ℕ → ℕ → Option ℤ) (graph : Matrix) → Improves arc graph graph
 improves-none arc graph = record { nodes = refl; each = λ u v. inr refl }
 
-pub improves-trans : (arc : ℕ → ℕ → Option ℤ) (first second third : Matrix) → Improves arc first second → Improves arc second third → Improves arc first third
+pub improves-trans : (arc : ℕ → ℕ → Option ℤ) (first second third : Matrix) → Improves arc first second
+    → Improves arc second third → Improves arc first third
 improves-trans arc first second third one two = record {
   nodes = two.nodes ∙ one.nodes;
   each = λ u v. elim (two.each u v) [
@@ -37,11 +38,13 @@ improves-trans arc first second third one two = record {
 }
 
 -- what is right stays right
-pub stays_right : (arc : ℕ → ℕ → Option ℤ) (before after : Matrix) → Improves arc before after → (u v : ℕ) → arcs_of before u v ≡ arc u v → arcs_of after u v ≡ arc u v
+pub stays_right : (arc : ℕ → ℕ → Option ℤ) (before after : Matrix) → Improves arc before after → (u v : ℕ)
+    → arcs_of before u v ≡ arc u v → arcs_of after u v ≡ arc u v
 stays_right arc before after improves u v right = elim (improves.each u v) [ inl now ↦ now | inr same ↦ same ∙ right ]
 
 -- a right cost that is written improves
-pub written_improves : (arc : ℕ → ℕ → Option ℤ) (before after : Matrix) (a b : ℕ) (cost : Option ℤ) → IsWritten before a b cost after → cost ≡ arc a b
+pub written_improves : (arc : ℕ → ℕ → Option ℤ) (before after : Matrix) (a b : ℕ) (cost : Option ℤ)
+    → IsWritten before a b cost after → cost ≡ arc a b
     → Improves arc before after
 written_improves arc before after a b cost written right = record {
   nodes = written.nodes;
@@ -57,19 +60,23 @@ written_improves arc before after a b cost written right = record {
 -- ---- one firm
 
 -- what a move costs is the cost of its arc
-pub loss_is_arc : (firms : List Firm) (trades : List Ends) (on f n : ℕ) (firm : Firm) (limit x : ℕ) (worth : ℤ) → IsStand firms trades on f n firm limit x worth
+pub loss_is_arc : (firms : List Firm) (trades : List Ends) (on f n : ℕ) (firm : Firm) (limit x : ℕ) (worth : ℤ)
+    → IsStand firms trades on f n firm limit x worth
     → (i j : ℕ) → AreArcPlaces firm x i j → (cost : Option ℤ) → cost ≡ loss firm x (move n x i j)
     → cost ≡ exchange_arc firms trades on (node_at trades f n i) (node_at trades f n j)
 loss_is_arc firms trades on f n firm limit x worth stand i j places cost is =
     let counted : n ≡ firm.count = stand.counted in
     let here : x ≡ part trades f firm.count on = stand.bundle_is ∙ ap (λ (k : ℕ). part trades f k on) counted in
     is ∙ ap₂ (λ (k y : ℕ). loss firm y (move k y i j)) counted here
-    ∙ sym (arc_at firms trades stand.network on f firm stand.is i j (subst (λ (y : ℕ). AreArcPlaces firm y i j) here places))
+    ∙ sym (arc_at firms trades stand.network on f firm stand.is i j
+    (subst (λ (y : ℕ). AreArcPlaces firm y i j) here places))
     ∙ ap (λ (k : ℕ). exchange_arc firms trades on (node_at trades f k i) (node_at trades f k j)) (sym counted)
 
 -- places that can be raised and lowered
-pub arc_places : (firms : List Firm) (trades : List Ends) (on f n : ℕ) (firm : Firm) (limit x : ℕ) (worth : ℤ) → IsStand firms trades on f n firm limit x worth
-    → (i j : ℕ) → i ≤ n → j < n + 1 → j ≢ i → CanRise n (level n firm.buys x) i → CanFall n (level n firm.buys x) j → AreArcPlaces firm x i j
+pub arc_places : (firms : List Firm) (trades : List Ends) (on f n : ℕ) (firm : Firm) (limit x : ℕ) (worth : ℤ)
+    → IsStand firms trades on f n firm limit x worth
+    → (i j : ℕ) → i ≤ n → j < n + 1 → j ≢ i → CanRise n (level n firm.buys x) i → CanFall n (level n firm.buys x) j
+    → AreArcPlaces firm x i j
 arc_places firms trades on f n firm limit x worth stand i j i_within j_within apart rises falls =
     let counted : n ≡ firm.count = stand.counted in
     record {
@@ -83,13 +90,17 @@ arc_places firms trades on f n firm limit x worth stand i j i_within j_within ap
 -- what the positions that can be lowered are
 falls_at : (buys x n falls j : ℕ) → falls ≡ falling buys x n → j < n → has falls j ≡ (trade_level buys x j == 1)
 falls_at buys x n falls j is below =
-    ap (λ (z : ℕ). has z j) is ∙ has-set_of (λ k. trade_level buys x k == 1) n j ∙ ap (λ (b : Bool). b && (trade_level buys x j == 1)) (lt-ltb j n below)
+    ap (λ (z : ℕ). has z j) is ∙ has-set_of (λ k. trade_level buys x k == 1) n j
+    ∙ ap (λ (b : Bool). b && (trade_level buys x j == 1)) (lt-ltb j n below)
 
 -- a position that can be lowered, beside a place that can be raised
-pub fall_is_place : (firms : List Firm) (trades : List Ends) (on f n : ℕ) (firm : Firm) (limit x : ℕ) (worth : ℤ) → IsStand firms trades on f n firm limit x worth
-    → (i j falls : ℕ) → i ≤ n → CanRise n (level n firm.buys x) i → falls ≡ falling firm.buys x n → j < n → has falls j ≡ true → AreArcPlaces firm x i j
+pub fall_is_place : (firms : List Firm) (trades : List Ends) (on f n : ℕ) (firm : Firm) (limit x : ℕ) (worth : ℤ)
+    → IsStand firms trades on f n firm limit x worth
+    → (i j falls : ℕ) → i ≤ n → CanRise n (level n firm.buys x) i → falls ≡ falling firm.buys x n → j < n
+    → has falls j ≡ true → AreArcPlaces firm x i j
 fall_is_place firms trades on f n firm limit x worth stand i j falls i_within rises is below member =
-    let high : trade_level firm.buys x j ≡ 1 = eqb-true (trade_level firm.buys x j) 1 (sym (falls_at firm.buys x n falls j is below) ∙ member) in
+    let high : trade_level firm.buys x j ≡ 1 =
+    eqb-true (trade_level firm.buys x j) 1 (sym (falls_at firm.buys x n falls j is below) ∙ member) in
     let at : level n firm.buys x j ≡ 1 = level-trade n firm.buys x j below ∙ high in
     let apart : j ≢ i = λ e. apart_at e at in
     arc_places firms trades on f n firm limit x worth stand i j i_within (omega (arith, below)) apart rises (λ _. at)
@@ -101,19 +112,24 @@ fall_is_place firms trades on f n firm limit x worth stand i j falls i_within ri
         absurd (omega (arith, low, at, same))
 
 -- no other position can be lowered
-pub no_fall_no_place : (firms : List Firm) (trades : List Ends) (on f n : ℕ) (firm : Firm) (limit x : ℕ) (worth : ℤ) → IsStand firms trades on f n firm limit x worth
+pub no_fall_no_place : (firms : List Firm) (trades : List Ends) (on f n : ℕ) (firm : Firm) (limit x : ℕ) (worth : ℤ)
+    → IsStand firms trades on f n firm limit x worth
     → (i j falls : ℕ) → falls ≡ falling firm.buys x n → j < n → has falls j ≡ false → AreArcPlaces firm x i j → ⊥
 no_fall_no_place firms trades on f n firm limit x worth stand i j falls is below absent places =
     let counted : n ≡ firm.count = stand.counted in
-    let at : level n firm.buys x j ≡ 1 = subst (λ (k : ℕ). CanFall k (level k firm.buys x) j) (sym counted) places.falls below in
+    let at : level n firm.buys x j ≡ 1 =
+    subst (λ (k : ℕ). CanFall k (level k firm.buys x) j) (sym counted) places.falls below in
     let high : trade_level firm.buys x j ≡ 1 = sym (level-trade n firm.buys x j below) ∙ at in
-    absurd (let member : has falls j ≡ true = falls_at firm.buys x n falls j is below ∙ eq-eqb (trade_level firm.buys x j) 1 high in cc (member, absent))
+    absurd (let member : has falls j ≡ true = falls_at firm.buys x n falls j is below
+    ∙ eq-eqb (trade_level firm.buys x j) 1 high in cc (member, absent))
 
 -- a worth of the row is that of the bundle moved at the two places
-pub row_worth : (n x i j falls : ℕ) (worth_of : ℕ → Option ℤ) (worths : List (Option ℤ)) → HasToggledWorths worth_of (toggle_at n x i) falls worths
+pub row_worth : (n x i j falls : ℕ) (worth_of : ℕ → Option ℤ) (worths : List (Option ℤ))
+    → HasToggledWorths worth_of (toggle_at n x i) falls worths
     → j < n → has falls j ≡ true → get_or worths j None ≡ worth_of (move n x i j)
 unfolding move
-row_worth n x i j falls worth_of worths row below member = row j member ∙ ap worth_of (sym (toggle_at-trade n (toggle_at n x i) j below))
+row_worth n x i j falls worth_of worths row below member =
+    row j member ∙ ap worth_of (sym (toggle_at-trade n (toggle_at n x i) j below))
 
 -- so is the worth of the raised bundle, for null
 pub null_worth : (n x i raised : ℕ) → raised ≡ toggle_at n x i → raised ≡ move n x i n
@@ -127,20 +143,27 @@ row_start firms trades on f n firm x i graph = record {
   row = λ k h. absurd (omega (arith, h));
 }
 
-pub row_read : (firms : List Firm) (trades : List Ends) (on f n : ℕ) (firm : Firm) (x i : ℕ) (before : Matrix) (j : ℕ) (graph : Matrix)
-    → IsRowRead firms trades on f n firm x i before j graph → (after : Matrix) → Improves (exchange_arc firms trades on) graph after
-    → arcs_of after (node_at trades f n i) (node_at trades f n j) ≡ exchange_arc firms trades on (node_at trades f n i) (node_at trades f n j)
+pub row_read : (firms : List Firm) (trades : List Ends) (on f n : ℕ) (firm : Firm) (x i : ℕ) (before : Matrix) (j : ℕ)
+    (graph : Matrix)
+    → IsRowRead firms trades on f n firm x i before j graph → (after : Matrix)
+    → Improves (exchange_arc firms trades on) graph after
+    → arcs_of after (node_at trades f n i) (node_at trades f n j)
+    ≡ exchange_arc firms trades on (node_at trades f n i) (node_at trades f n j)
     → IsRowRead firms trades on f n firm x i before (j + 1) after
 row_read firms trades on f n firm x i before j graph read after improved right = record {
   improved = improves-trans (exchange_arc firms trades on) before graph after read.improved improved;
   row = λ k h places. elim (cases_eq k j) [
-    | inl e ↦ subst (λ (m : ℕ). arcs_of after (node_at trades f n i) (node_at trades f n m) ≡ exchange_arc firms trades on (node_at trades f n i) (node_at trades f n m)) (sym e) right
-    | inr d ↦ stays_right (exchange_arc firms trades on) graph after improved _ _ (read.row k (omega (arith, h, d)) places)
+    | inl e ↦ subst (λ (m : ℕ). arcs_of after (node_at trades f n i) (node_at trades f n m)
+        ≡ exchange_arc firms trades on (node_at trades f n i) (node_at trades f n m)) (sym e) right
+    | inr d ↦ stays_right (exchange_arc firms trades on) graph after improved _ _
+        (read.row k (omega (arith, h, d)) places)
   ];
 }
 
-pub row_skipped : (firms : List Firm) (trades : List Ends) (on f n : ℕ) (firm : Firm) (x i : ℕ) (before : Matrix) (j : ℕ) (graph : Matrix)
-    → IsRowRead firms trades on f n firm x i before j graph → (AreArcPlaces firm x i j → ⊥) → IsRowRead firms trades on f n firm x i before (j + 1) graph
+pub row_skipped : (firms : List Firm) (trades : List Ends) (on f n : ℕ) (firm : Firm) (x i : ℕ) (before : Matrix)
+    (j : ℕ) (graph : Matrix)
+    → IsRowRead firms trades on f n firm x i before j graph → (AreArcPlaces firm x i j → ⊥)
+    → IsRowRead firms trades on f n firm x i before (j + 1) graph
 row_skipped firms trades on f n firm x i before j graph read none = record {
   improved = read.improved;
   row = λ k h places. elim (cases_eq k j) [
@@ -150,18 +173,22 @@ row_skipped firms trades on f n firm x i before j graph read none = record {
 }
 
 -- the places of a row are the positions and null
-pub whole_row : (firms : List Firm) (trades : List Ends) (on f n : ℕ) (firm : Firm) (limit x : ℕ) (worth : ℤ) → IsStand firms trades on f n firm limit x worth
-    → (i : ℕ) (before graph : Matrix) → IsRowRead firms trades on f n firm x i before (n + 1) graph → HasRow firms trades on f n firm x i graph
+pub whole_row : (firms : List Firm) (trades : List Ends) (on f n : ℕ) (firm : Firm) (limit x : ℕ) (worth : ℤ)
+    → IsStand firms trades on f n firm limit x worth
+    → (i : ℕ) (before graph : Matrix) → IsRowRead firms trades on f n firm x i before (n + 1) graph
+    → HasRow firms trades on f n firm x i graph
 whole_row firms trades on f n firm limit x worth stand i before graph read j places =
     let within = places.to_within in
     let counted : n ≡ firm.count = stand.counted in
     read.row j (omega (arith, within, counted)) places
 
 -- null is beside each position, and not beside itself
-pub null_is_place : (firms : List Firm) (trades : List Ends) (on f n : ℕ) (firm : Firm) (limit x : ℕ) (worth : ℤ) → IsStand firms trades on f n firm limit x worth
+pub null_is_place : (firms : List Firm) (trades : List Ends) (on f n : ℕ) (firm : Firm) (limit x : ℕ) (worth : ℤ)
+    → IsStand firms trades on f n firm limit x worth
     → (i : ℕ) → i < n → CanRise n (level n firm.buys x) i → AreArcPlaces firm x i n
 null_is_place firms trades on f n firm limit x worth stand i below rises =
-    arc_places firms trades on f n firm limit x worth stand i n (omega (arith, below)) (omega arith) (λ e. absurd (omega (arith, below, e))) rises (λ h. absurd (omega (arith, h)))
+    arc_places firms trades on f n firm limit x worth stand i n (omega (arith, below)) (omega arith)
+    (λ e. absurd (omega (arith, below, e))) rises (λ h. absurd (omega (arith, h)))
 
 pub null_no_place : (firm : Firm) (x i n : ℕ) → i ≤ n → n ≤ i → AreArcPlaces firm x i n → ⊥
 null_no_place firm x i n within past places = places.apart (omega (arith, within, past))
@@ -173,21 +200,26 @@ falls_own buys x n falls is = subst (λ (z : ℕ). z < 2 ^ n) (sym is) (set_of_w
 pub falls_few : (buys x n falls : ℕ) → falls ≡ falling buys x n → size falls ≤ n
 falls_few buys x n falls is = size_le n falls (falls_own buys x n falls is)
 
-pub falls_fewer : (buys x n falls i : ℕ) → falls ≡ falling buys x n → i < n → CanRise n (level n buys x) i → size falls + 1 ≤ n
+pub falls_fewer : (buys x n falls i : ℕ) → falls ≡ falling buys x n → i < n → CanRise n (level n buys x) i
+    → size falls + 1 ≤ n
 falls_fewer buys x n falls i is below rises =
     let low : trade_level buys x i ≡ 0 = sym (level-trade n buys x i below) ∙ rises below in
-    let absent : has falls i ≡ false = falls_at buys x n falls i is below ∙ ne_eqb (trade_level buys x i) 1 (omega (arith, low)) in
+    let absent : has falls i ≡ false = falls_at buys x n falls i is below
+    ∙ ne_eqb (trade_level buys x i) 1 (omega (arith, low)) in
     let more : size (toggle falls i) ≡ size falls + 1 = size-toggle_in falls i absent in
-    let most : size (toggle falls i) ≤ n = size_le n (toggle falls i) (toggle_within falls i n (falls_own buys x n falls is) below) in
+    let most : size (toggle falls i) ≤ n =
+    size_le n (toggle falls i) (toggle_within falls i n (falls_own buys x n falls is) below) in
     omega (arith, more, most)
 
 -- the arcs of the rows before row i
-pub record AreRowsRead (firms : List Firm) (trades : List Ends) (on f n : ℕ) (firm : Firm) (x : ℕ) (before : Matrix) (asked_before i : ℕ) (graph : Matrix) (asked : ℕ) : Type 0 where
+pub record AreRowsRead (firms : List Firm) (trades : List Ends) (on f n : ℕ) (firm : Firm) (x : ℕ) (before : Matrix)
+    (asked_before i : ℕ) (graph : Matrix) (asked : ℕ) : Type 0 where
   pub improved : Improves (exchange_arc firms trades on) before graph
   pub rows : (k : ℕ) → k < i → HasRow firms trades on f n firm x k graph
   pub asked_most : asked ≤ asked_before + i * n
 
-pub rows_start : (firms : List Firm) (trades : List Ends) (on f n : ℕ) (firm : Firm) (x : ℕ) (graph : Matrix) (asked : ℕ)
+pub rows_start : (firms : List Firm) (trades : List Ends) (on f n : ℕ) (firm : Firm) (x : ℕ) (graph : Matrix)
+    (asked : ℕ)
     → AreRowsRead firms trades on f n firm x graph asked 0 graph asked
 rows_start firms trades on f n firm x graph asked = record {
   improved = improves-none (exchange_arc firms trades on) graph;
@@ -195,7 +227,8 @@ rows_start firms trades on f n firm x graph asked = record {
   asked_most = omega arith;
 }
 
-pub rows_read : (firms : List Firm) (trades : List Ends) (on f n : ℕ) (firm : Firm) (x : ℕ) (before : Matrix) (asked_before i : ℕ) (graph : Matrix) (asked : ℕ)
+pub rows_read : (firms : List Firm) (trades : List Ends) (on f n : ℕ) (firm : Firm) (x : ℕ) (before : Matrix)
+    (asked_before i : ℕ) (graph : Matrix) (asked : ℕ)
     → AreRowsRead firms trades on f n firm x before asked_before i graph asked → (after : Matrix) (asked_after : ℕ)
     → Improves (exchange_arc firms trades on) graph after → HasRow firms trades on f n firm x i after
     → asked_after ≤ asked + n → AreRowsRead firms trades on f n firm x before asked_before (i + 1) after asked_after
@@ -205,12 +238,14 @@ rows_read firms trades on f n firm x before asked_before i graph asked read afte
       improved = improves-trans (exchange_arc firms trades on) before graph after read.improved improved;
       rows = λ k h j places. elim (cases_eq k i) [
         | inl e ↦ subst (λ (m : ℕ). HasRow firms trades on f n firm x m after) (sym e) row j places
-        | inr d ↦ stays_right (exchange_arc firms trades on) graph after improved _ _ (read.rows k (omega (arith, h, d)) j places)
+        | inr d ↦ stays_right (exchange_arc firms trades on) graph after improved _ _
+            (read.rows k (omega (arith, h, d)) j places)
       ];
       asked_most = omega (arith, most, counted);
     }
 
-pub rows_skipped : (firms : List Firm) (trades : List Ends) (on f n : ℕ) (firm : Firm) (x : ℕ) (before : Matrix) (asked_before i : ℕ) (graph : Matrix) (asked : ℕ)
+pub rows_skipped : (firms : List Firm) (trades : List Ends) (on f n : ℕ) (firm : Firm) (x : ℕ) (before : Matrix)
+    (asked_before i : ℕ) (graph : Matrix) (asked : ℕ)
     → AreRowsRead firms trades on f n firm x before asked_before i graph asked → ((j : ℕ) → AreArcPlaces firm x i j → ⊥)
     → AreRowsRead firms trades on f n firm x before asked_before (i + 1) graph asked
 rows_skipped firms trades on f n firm x before asked_before i graph asked read none =
@@ -225,42 +260,53 @@ rows_skipped firms trades on f n firm x before asked_before i graph asked read n
     }
 
 -- all rows are all arcs of the firm
-pub all_rows : (firms : List Firm) (trades : List Ends) (on f n : ℕ) (firm : Firm) (limit x : ℕ) (worth : ℤ) → IsStand firms trades on f n firm limit x worth
-    → (graph : Matrix) → ((k : ℕ) → k < n + 1 → HasRow firms trades on f n firm x k graph) → HasArcsOf firms trades on f graph
+pub all_rows : (firms : List Firm) (trades : List Ends) (on f n : ℕ) (firm : Firm) (limit x : ℕ) (worth : ℤ)
+    → IsStand firms trades on f n firm limit x worth
+    → (graph : Matrix) → ((k : ℕ) → k < n + 1 → HasRow firms trades on f n firm x k graph)
+    → HasArcsOf firms trades on f graph
 all_rows firms trades on f n firm limit x worth stand graph rows u v is =
     let at = move_of_arc firms trades stand.network on u v f is in
     let one = same_firm firms f at.firm firm at.is stand.is in
     let counted : n ≡ firm.count = stand.counted in
     let here : part trades f firm.count on ≡ x = sym (stand.bundle_is ∙ ap (λ (k : ℕ). part trades f k on) counted) in
     let places : AreArcPlaces firm x at.from at.to =
-    subst (λ (y : ℕ). AreArcPlaces firm y at.from at.to) here (subst (λ (z : Firm). AreArcPlaces z (part trades f z.count on) at.from at.to) one at.places) in
+    subst (λ (y : ℕ). AreArcPlaces firm y at.from at.to) here
+    (subst (λ (z : Firm). AreArcPlaces z (part trades f z.count on) at.from at.to) one at.places) in
     let count_is : at.firm.count ≡ n = ap (λ (z : Firm). z.count) one ∙ sym counted in
-    let from_is : node_at trades f n at.from ≡ u = sym (ap (λ (k : ℕ). node_at trades f k at.from) count_is) ∙ at.begin in
+    let from_is : node_at trades f n at.from ≡ u = sym (ap (λ (k : ℕ). node_at trades f k at.from) count_is) ∙ at.begin
+    in
     let to_is : node_at trades f n at.to ≡ v = sym (ap (λ (k : ℕ). node_at trades f k at.to) count_is) ∙ at.end in
     let within : at.from < n + 1 = (let w = places.from_within in omega (arith, w, counted)) in
-    sym (ap₂ (arcs_of graph) from_is to_is) ∙ rows at.from within at.to places ∙ ap₂ (exchange_arc firms trades on) from_is to_is
+    sym (ap₂ (arcs_of graph) from_is to_is) ∙ rows at.from within at.to places
+    ∙ ap₂ (exchange_arc firms trades on) from_is to_is
 
 -- ---- all firms
 
 -- with the arcs of one firm more
-pub right_more : (firms : List Firm) (trades : List Ends) (on : ℕ) (done more : ℕ → Type 0) (f : ℕ) (before after : Matrix) → IsRightFor firms trades on done before
-    → Improves (exchange_arc firms trades on) before after → HasArcsOf firms trades on f after → ((g : ℕ) → more g → (g ≡ f) ⊎ done g)
+pub right_more : (firms : List Firm) (trades : List Ends) (on : ℕ) (done more : ℕ
+    → Type 0) (f : ℕ) (before after : Matrix) → IsRightFor firms trades on done before
+    → Improves (exchange_arc firms trades on) before after → HasArcsOf firms trades on f after
+    → ((g : ℕ) → more g → (g ≡ f) ⊎ done g)
     → IsRightFor firms trades on more after
 right_more firms trades on done more f before after right improved arcs split = record {
   nodes = improved.nodes ∙ right.nodes;
   right = λ u v all. by_case u v (arc_firm trades on u v) refl all;
 }
   where
-    by_case : (u v : ℕ) (o : Option ℕ) → arc_firm trades on u v ≡ o → ((g : ℕ) → arc_firm trades on u v ≡ Some g → more g)
+    by_case : (u v : ℕ) (o : Option ℕ) → arc_firm trades on u v ≡ o
+        → ((g : ℕ) → arc_firm trades on u v ≡ Some g → more g)
         → arcs_of after u v ≡ exchange_arc firms trades on u v
-    by_case u v None none all = stays_right (exchange_arc firms trades on) before after improved u v (right.right u v (λ g is. absurd (cc (none, is))))
+    by_case u v None none all =
+        stays_right (exchange_arc firms trades on) before after improved u v
+        (right.right u v (λ g is. absurd (cc (none, is))))
     by_case u v (Some g) some all = elim (split g (all g some)) [
       | inl e ↦ arcs u v (some ∙ ap (λ (k : ℕ). Some k) e)
       | inr d ↦ stays_right (exchange_arc firms trades on) before after improved u v (right.right u v (λ k is.
           let same : g ≡ k = same_Some g k (sym some ∙ is) in subst done same d))
     ]
 
-pub right_same : (firms : List Firm) (trades : List Ends) (on : ℕ) (done more : ℕ → Type 0) (graph : Matrix) → IsRightFor firms trades on done graph
+pub right_same : (firms : List Firm) (trades : List Ends) (on : ℕ) (done more : ℕ → Type 0) (graph : Matrix)
+    → IsRightFor firms trades on done graph
     → ((g : ℕ) → more g → done g) → IsRightFor firms trades on more graph
 right_same firms trades on done more graph right weaker = record {
   nodes = right.nodes;
@@ -268,20 +314,23 @@ right_same firms trades on done more graph right weaker = record {
 }
 
 -- a graph without arcs is right for no firm
-pub right_without : (firms : List Firm) (trades : List Ends) (on : ℕ) (done : ℕ → Type 0) (graph : Matrix) → IsWithoutArcs (length trades + 1) graph
+pub right_without : (firms : List Firm) (trades : List Ends) (on : ℕ) (done : ℕ → Type 0) (graph : Matrix)
+    → IsWithoutArcs (length trades + 1) graph
     → ((g : ℕ) → done g → ⊥) → IsRightFor firms trades on done graph
 right_without firms trades on done graph without never = record {
   nodes = without.nodes;
   right = λ u v all. by_case u v (arc_firm trades on u v) refl all;
 }
   where
-    by_case : (u v : ℕ) (o : Option ℕ) → arc_firm trades on u v ≡ o → ((g : ℕ) → arc_firm trades on u v ≡ Some g → done g)
+    by_case : (u v : ℕ) (o : Option ℕ) → arc_firm trades on u v ≡ o
+        → ((g : ℕ) → arc_firm trades on u v ≡ Some g → done g)
         → arcs_of graph u v ≡ exchange_arc firms trades on u v
     by_case u v None none all = without.none u v ∙ sym (no_arc firms trades on u v none)
     by_case u v (Some g) some all = absurd (never g (all g some))
 
 -- right for all firms, it is the exchange graph
-pub right_all : (firms : List Firm) (trades : List Ends) (on : ℕ) (done : ℕ → Type 0) (graph : Matrix) → IsNetwork firms trades → IsRightFor firms trades on done graph
+pub right_all : (firms : List Firm) (trades : List Ends) (on : ℕ) (done : ℕ → Type 0) (graph : Matrix)
+    → IsNetwork firms trades → IsRightFor firms trades on done graph
     → ((g : ℕ) → g < length firms → done g) → IsExchangeGraph firms trades on graph
 right_all firms trades on done graph network right all = record {
   nodes = right.nodes;
@@ -295,19 +344,24 @@ right_all firms trades on done graph network right all = record {
 pub forgotten_none : (cut : ℕ → Bool) (graph : Matrix) → ((k : ℕ) → cut k ≡ false) → AreForgotten cut graph graph
 forgotten_none cut graph never = record {
   nodes = refl;
-  gone = λ u v is. absurd (let off : (cut u || cut v) ≡ false = ap₂ (λ (a b : Bool). a || b) (never u) (never v) in cc (is, off));
+  gone = λ u v is. absurd (let off : (cut u || cut v) ≡ false = ap₂ (λ (a b : Bool). a || b) (never u) (never v) in
+      cc (is, off));
   kept = λ u v is. refl;
 }
 
 -- with one node more
-pub forgotten_more : (cut more : ℕ → Bool) (t : ℕ) (first second third : Matrix) → AreForgotten cut first second → AreForgotten (λ k. k == t) second third
+pub forgotten_more : (cut more : ℕ → Bool) (t : ℕ) (first second third : Matrix) → AreForgotten cut first second
+    → AreForgotten (λ k. k == t) second third
     → ((k : ℕ) → more k ≡ (cut k || (k == t))) → AreForgotten more first third
 forgotten_more cut more t first second third one two split = record {
   nodes = two.nodes ∙ one.nodes;
-  gone = λ u v is. gone u v (cut u) (cut v) (u == t) (v == t) refl refl refl refl (sym (ap₂ (λ (a b : Bool). a || b) (split u) (split v)) ∙ is);
+  gone = λ u v is. gone u v (cut u) (cut v) (u == t) (v == t) refl refl refl refl
+      (sym (ap₂ (λ (a b : Bool). a || b) (split u) (split v)) ∙ is);
   kept = λ u v is.
-      let parts = four (cut u) (u == t) (cut v) (v == t) (sym (ap₂ (λ (a b : Bool). a || b) (split u) (split v)) ∙ is) in
-      two.kept u v (ap₂ (λ (a b : Bool). a || b) parts.1 parts.3) ∙ one.kept u v (ap₂ (λ (a b : Bool). a || b) parts.0 parts.2);
+      let parts = four (cut u) (u == t) (cut v) (v == t) (sym (ap₂ (λ (a b : Bool). a || b) (split u) (split v)) ∙ is)
+      in
+      two.kept u v (ap₂ (λ (a b : Bool). a || b) parts.1 parts.3)
+      ∙ one.kept u v (ap₂ (λ (a b : Bool). a || b) parts.0 parts.2);
 }
   where
     four : (a b c d : Bool) → ((a || b) || (c || d)) ≡ false → (a ≡ false) × (b ≡ false) × (c ≡ false) × (d ≡ false)
@@ -320,19 +374,26 @@ forgotten_more cut more t first second third one two split = record {
     now : (u v : ℕ) (p q : Bool) → (u == t) ≡ p → (v == t) ≡ q → (p || q) ≡ true → arcs_of third u v ≡ None
     now u v p q p_is q_is e = two.gone u v (ap₂ (λ (a b : Bool). a || b) p_is q_is ∙ e)
 
-    earlier : (u v : ℕ) (a b p q : Bool) → cut u ≡ a → cut v ≡ b → (u == t) ≡ p → (v == t) ≡ q → (p || q) ≡ false → (a || b) ≡ true → arcs_of third u v ≡ None
+    earlier : (u v : ℕ) (a b p q : Bool) → cut u ≡ a → cut v ≡ b → (u == t) ≡ p → (v == t) ≡ q → (p || q) ≡ false
+        → (a || b) ≡ true → arcs_of third u v ≡ None
     earlier u v a b p q a_is b_is p_is q_is off does =
-        two.kept u v (ap₂ (λ (a b : Bool). a || b) p_is q_is ∙ off) ∙ one.gone u v (ap₂ (λ (a b : Bool). a || b) a_is b_is ∙ does)
+        two.kept u v (ap₂ (λ (a b : Bool). a || b) p_is q_is ∙ off)
+        ∙ one.gone u v (ap₂ (λ (a b : Bool). a || b) a_is b_is ∙ does)
 
-    gone : (u v : ℕ) (a b p q : Bool) → cut u ≡ a → cut v ≡ b → (u == t) ≡ p → (v == t) ≡ q → ((cut u || (u == t)) || (cut v || (v == t))) ≡ true → arcs_of third u v ≡ None
+    gone : (u v : ℕ) (a b p q : Bool) → cut u ≡ a → cut v ≡ b → (u == t) ≡ p → (v == t) ≡ q
+        → ((cut u || (u == t)) || (cut v || (v == t))) ≡ true → arcs_of third u v ≡ None
     gone u v a b true q a_is b_is p_is q_is e = now u v true q p_is q_is refl
     gone u v a b false true a_is b_is p_is q_is e = now u v false true p_is q_is refl
     gone u v true b false false a_is b_is p_is q_is e = earlier u v true b false false a_is b_is p_is q_is refl refl
-    gone u v false true false false a_is b_is p_is q_is e = earlier u v false true false false a_is b_is p_is q_is refl refl
+    gone u v false true false false a_is b_is p_is q_is e =
+        earlier u v false true false false a_is b_is p_is q_is refl refl
     gone u v false false false false a_is b_is p_is q_is e =
-        absurd (let off = ap₂ (λ (a b : Bool). a || b) (ap₂ (λ (a b : Bool). a || b) a_is p_is) (ap₂ (λ (a b : Bool). a || b) b_is q_is) in cc (e, off))
+        absurd (let off =
+        ap₂ (λ (a b : Bool). a || b) (ap₂ (λ (a b : Bool). a || b) a_is p_is)
+        (ap₂ (λ (a b : Bool). a || b) b_is q_is) in cc (e, off))
 
-pub forgotten_same : (cut more : ℕ → Bool) (first second : Matrix) → AreForgotten cut first second → ((k : ℕ) → more k ≡ cut k) → AreForgotten more first second
+pub forgotten_same : (cut more : ℕ → Bool) (first second : Matrix) → AreForgotten cut first second
+    → ((k : ℕ) → more k ≡ cut k) → AreForgotten more first second
 forgotten_same cut more first second one same = record {
   nodes = one.nodes;
   gone = λ u v is. one.gone u v (sym (ap₂ (λ (a b : Bool). a || b) (same u) (same v)) ∙ is);
@@ -355,7 +416,8 @@ cut_start t graph = record {
 }
 
 -- what is none stays none where none is written
-stays_none : (before after : Matrix) (a b : ℕ) → IsWritten before a b None after → (u v : ℕ) → arcs_of before u v ≡ None → arcs_of after u v ≡ None
+stays_none : (before after : Matrix) (a b : ℕ) → IsWritten before a b None after → (u v : ℕ) → arcs_of before u v ≡ None
+    → arcs_of after u v ≡ None
 stays_none before after a b written u v none = elim (cases_eq u a) [
   | inr d ↦ written.elsewhere u v (λ e f. d e) ∙ none
   | inl e ↦ elim (cases_eq v b) [
@@ -364,7 +426,8 @@ stays_none before after a b written u v none = elim (cases_eq u a) [
   ]
 ]
 
-pub cut_more : (t u : ℕ) (before graph middle after : Matrix) → IsCutOff t u before graph → IsWritten graph t u None middle → IsWritten middle u t None after
+pub cut_more : (t u : ℕ) (before graph middle after : Matrix) → IsCutOff t u before graph
+    → IsWritten graph t u None middle → IsWritten middle u t None after
     → IsCutOff t (u + 1) before after
 cut_more t u before graph middle after cut first second = record {
   nodes = second.nodes ∙ first.nodes ∙ cut.nodes;
@@ -374,7 +437,8 @@ cut_more t u before graph middle after cut first second = record {
   ]);
   into = λ v h. elim (cases_eq v u) [
     | inl e ↦ ap (λ (k : ℕ). arcs_of after k t) e ∙ second.here
-    | inr d ↦ stays_none middle after u t second v t (stays_none graph middle t u first v t (cut.into v (omega (arith, h, d))))
+    | inr d ↦ stays_none middle after u t second v t (stays_none graph middle t u first v t
+        (cut.into v (omega (arith, h, d))))
   ];
   kept = λ v w p q. second.elsewhere v w (λ e f. q f) ∙ first.elsewhere v w (λ e f. p e) ∙ cut.kept v w p q;
 }
@@ -389,7 +453,8 @@ beyond graph u v far = by_case (arcs_of graph u v) refl
         let within = arcs_of-between graph u v cost is in
         elim far [ inl p ↦ absurd (omega (arith, p, within.0)) | inr q ↦ absurd (omega (arith, q, within.1)) ]
 
-pub cut_all : (t u : ℕ) (before graph : Matrix) → IsCutOff t u before graph → before.nodes ≤ u → AreForgotten (λ k. k == t) before graph
+pub cut_all : (t u : ℕ) (before graph : Matrix) → IsCutOff t u before graph → before.nodes ≤ u
+    → AreForgotten (λ k. k == t) before graph
 cut_all t u before graph cut all = record {
   nodes = cut.nodes;
   gone = λ v w is. elim (or_cases (v == t) (w == t) is) [
@@ -404,7 +469,8 @@ cut_all t u before graph cut all = record {
   ];
   kept = λ v w is.
       let parts = or_parts (v == t) (w == t) is in
-      cut.kept v w (λ e. let does = eq-eqb v t e in absurd (cc (does, parts.0))) (λ e. let does = eq-eqb w t e in absurd (cc (does, parts.1)));
+      cut.kept v w (λ e. let does = eq-eqb v t e in absurd (cc (does, parts.0))) (λ e. let does = eq-eqb w t e in
+      absurd (cc (does, parts.1)));
 }
 
 -- ---- the toggled trades
@@ -446,7 +512,8 @@ below_same k t apart = elim (cases_lt k t) [
 ]
 
 -- the next trade is toggled
-pub toggled_more : (before on t : ℕ) → differs before on t ≡ true → (k : ℕ) → is_toggled (t + 1) before on k ≡ (is_toggled t before on k || (k == t))
+pub toggled_more : (before on t : ℕ) → differs before on t ≡ true → (k : ℕ)
+    → is_toggled (t + 1) before on k ≡ (is_toggled t before on k || (k == t))
 toggled_more before on t does k = elim (cases_eq k t) [
   | inl e ↦
       ap₂ (λ (a b : Bool). a && b) (lt-ltb k (t + 1) (omega (arith, e))) (ap (differs before on) e ∙ does)
@@ -465,9 +532,11 @@ toggled_more before on t does k = elim (cases_eq k t) [
     neither false = refl
 
 -- or it isn't
-pub toggled_same : (before on t : ℕ) → differs before on t ≡ false → (k : ℕ) → is_toggled (t + 1) before on k ≡ is_toggled t before on k
+pub toggled_same : (before on t : ℕ) → differs before on t ≡ false → (k : ℕ)
+    → is_toggled (t + 1) before on k ≡ is_toggled t before on k
 toggled_same before on t off k = elim (cases_eq k t) [
-  | inl e ↦ never (nat_lt k (t + 1)) (differs before on k) (ap (differs before on) e ∙ off) ∙ sym (never (nat_lt k t) (differs before on k) (ap (differs before on) e ∙ off))
+  | inl e ↦ never (nat_lt k (t + 1)) (differs before on k) (ap (differs before on) e ∙ off)
+      ∙ sym (never (nat_lt k t) (differs before on k) (ap (differs before on) e ∙ off))
   | inr d ↦ ap (λ (a : Bool). a && differs before on k) (below_same k t d)
 ]
   where
@@ -483,23 +552,31 @@ same_ends : (trades : List Ends) (before on t : ℕ) → is_toggled (length trad
     → (raised_by trades before t ≡ raised_by trades on t) × (lowered_by trades before t ≡ lowered_by trades on t)
 same_ends trades before on t off = elim (cases_lt t (length trades)) [
   | inl p ↦
-      let same = same_from_differs before on t (sym (ap (λ (a : Bool). a && differs before on t) (lt-ltb t (length trades) p)) ∙ off) in
-      (ap (λ (b : Bool). option_map (λ trade. raised trade b) (slice_get trades t)) same, ap (λ (b : Bool). option_map (λ trade. lowered trade b) (slice_get trades t)) same)
+      let same = same_from_differs before on t
+      (sym (ap (λ (a : Bool). a && differs before on t) (lt-ltb t (length trades) p)) ∙ off) in (
+        ap (λ (b : Bool). option_map (λ trade. raised trade b) (slice_get trades t)) same,
+        ap (λ (b : Bool). option_map (λ trade. lowered trade b) (slice_get trades t)) same,
+      )
   | inr p ↦
       let none = slice_get_past trades t p in (
-        ap (option_map (λ trade. raised trade (has before t))) none ∙ sym (ap (option_map (λ trade. raised trade (has on t))) none),
-        ap (option_map (λ trade. lowered trade (has before t))) none ∙ sym (ap (option_map (λ trade. lowered trade (has on t))) none),
+        ap (option_map (λ trade. raised trade (has before t))) none
+            ∙ sym (ap (option_map (λ trade. raised trade (has on t))) none),
+        ap (option_map (λ trade. lowered trade (has before t))) none
+            ∙ sym (ap (option_map (λ trade. lowered trade (has on t))) none),
       )
 ]
 
-same_arc_firm : (trades : List Ends) (before on u v : ℕ) → is_toggled (length trades) before on u ≡ false → is_toggled (length trades) before on v ≡ false
+same_arc_firm : (trades : List Ends) (before on u v : ℕ) → is_toggled (length trades) before on u ≡ false
+    → is_toggled (length trades) before on v ≡ false
     → arc_firm trades before u v ≡ arc_firm trades on u v
 same_arc_firm trades before on u v p q =
-    ap₂ (λ (a b : Option (ℕ × ℕ)). if nat_le u (length trades) && nat_le v (length trades) then common_firm a b else None)
+    ap₂ (λ (a b : Option (ℕ × ℕ)). if nat_le u (length trades) && nat_le v (length trades) then common_firm a b
+    else None)
     (same_ends trades before on u p).0 (same_ends trades before on v q).1
 
 -- a place of a firm with the same bundle isn't toggled
-place_kept : (trades : List Ends) (before on f n k : ℕ) → part trades f n before ≡ part trades f n on → is_toggled (length trades) before on (node_at trades f n k) ≡ false
+place_kept : (trades : List Ends) (before on f n k : ℕ) → part trades f n before ≡ part trades f n on
+    → is_toggled (length trades) before on (node_at trades f n k) ≡ false
 place_kept trades before on f n k same = elim (cases_lt k n) [
   | inl p ↦ ap (is_toggled (length trades) before on) (node_at-trade trades f n k p)
       ∙ never (nat_lt (own trades f k) (length trades)) _ (differs_not before on (own trades f k)
@@ -513,8 +590,10 @@ place_kept trades before on f n k same = elim (cases_lt k n) [
     never false b e = refl
 
 -- the arcs of a firm with the same bundle are the same at both sets
-same_arc : (firms : List Firm) (trades : List Ends) → IsNetwork firms trades → (before on f : ℕ) (firm : Firm) → slice_get firms f ≡ Some firm → (i j : ℕ)
-    → part trades f firm.count before ≡ part trades f firm.count on → AreArcPlaces firm (part trades f firm.count on) i j
+same_arc : (firms : List Firm) (trades : List Ends) → IsNetwork firms trades → (before on f : ℕ) (firm : Firm)
+    → slice_get firms f ≡ Some firm → (i j : ℕ)
+    → part trades f firm.count before ≡ part trades f firm.count on
+    → AreArcPlaces firm (part trades f firm.count on) i j
     → exchange_arc firms trades before (node_at trades f firm.count i) (node_at trades f firm.count j)
     ≡ exchange_arc firms trades on (node_at trades f firm.count i) (node_at trades f firm.count j)
 same_arc firms trades network before on f firm is i j same places =
@@ -523,8 +602,10 @@ same_arc firms trades network before on f firm is i j same places =
     ∙ sym (arc_at firms trades network on f firm is i j places)
 
 -- once the toggled trades are forgotten, the graph is right for the firms whose bundles are the same
-pub right_kept : (firms : List Firm) (trades : List Ends) → IsNetwork firms trades → (before on : ℕ) (graph after : Matrix) → IsExchangeGraph firms trades before graph
-    → AreForgotten (is_toggled (length trades) before on) graph after → (done : ℕ → Type 0) → ((g : ℕ) → done g → IsUnchanged firms trades before on g)
+pub right_kept : (firms : List Firm) (trades : List Ends) → IsNetwork firms trades
+    → (before on : ℕ) (graph after : Matrix) → IsExchangeGraph firms trades before graph
+    → AreForgotten (is_toggled (length trades) before on) graph after → (done : ℕ → Type 0)
+    → ((g : ℕ) → done g → IsUnchanged firms trades before on g)
     → IsRightFor firms trades on done after
 right_kept firms trades network before on graph after exchange forgotten done unchanged = record {
   nodes = forgotten.nodes ∙ exchange.nodes;
@@ -537,13 +618,15 @@ right_kept firms trades network before on graph after exchange forgotten done un
     stays : (u v : ℕ) → (cut u || cut v) ≡ false → arcs_of after u v ≡ exchange_arc firms trades before u v
     stays u v off = forgotten.kept u v off ∙ exchange.arcs u v
 
-    by_firm : (u v : ℕ) (o : Option ℕ) → arc_firm trades on u v ≡ o → ((g : ℕ) → arc_firm trades on u v ≡ Some g → done g)
+    by_firm : (u v : ℕ) (o : Option ℕ) → arc_firm trades on u v ≡ o
+        → ((g : ℕ) → arc_firm trades on u v ≡ Some g → done g)
         → arcs_of after u v ≡ exchange_arc firms trades on u v
     by_firm u v None none all = elim (cases_Bool (cut u || cut v)) [
       | inl does ↦ forgotten.gone u v does ∙ sym (no_arc firms trades on u v none)
       | inr off ↦
           let parts = or_parts (cut u) (cut v) off in
-          stays u v off ∙ no_arc firms trades before u v (same_arc_firm trades before on u v parts.0 parts.1 ∙ none) ∙ sym (no_arc firms trades on u v none)
+          stays u v off ∙ no_arc firms trades before u v (same_arc_firm trades before on u v parts.0 parts.1 ∙ none)
+          ∙ sym (no_arc firms trades on u v none)
     ]
     by_firm u v (Some f) some all =
         let at = move_of_arc firms trades network on u v f some in
@@ -565,14 +648,18 @@ worths_more (first ∷ firms) zero firm is =
     ap (λ (z : Firm). (z.count + 1) * (z.count + 1) + 0) same ∙ omega arith
 worths_more (first ∷ firms) (suc f) firm is = let rest = worths_more firms f firm is in omega (arith, rest)
 
-pub changed_more : (trades : List Ends) (before on s g : ℕ) (firms : List Firm) (f : ℕ) (firm : Firm) → g ≡ s + f → slice_get firms f ≡ Some firm
-    → changed_worths_from trades before on s (take (suc f) firms) ≡ changed_worths_from trades before on s (take f firms)
-    + (if part trades g firm.count before == part trades g firm.count on then 0 else (firm.count + 1) * (firm.count + 1))
+pub changed_more : (trades : List Ends) (before on s g : ℕ) (firms : List Firm) (f : ℕ) (firm : Firm) → g ≡ s + f
+    → slice_get firms f ≡ Some firm
+    → changed_worths_from trades before on s (take (suc f) firms)
+    ≡ changed_worths_from trades before on s (take f firms)
+    + (if part trades g firm.count before == part trades g firm.count on then 0
+    else (firm.count + 1) * (firm.count + 1))
 changed_more trades before on s g [] f firm at is = absurd (cc is)
 changed_more trades before on s g (first ∷ firms) zero firm at is =
     let same : first ≡ firm = same_Some first firm is in
     let here : s ≡ g = omega (arith, at) in
-    ap₂ (λ (z : Firm) (k : ℕ). (if part trades k z.count before == part trades k z.count on then 0 else (z.count + 1) * (z.count + 1)) + 0) same here ∙ omega arith
+    ap₂ (λ (z : Firm) (k : ℕ). (if part trades k z.count before == part trades k z.count on then 0
+    else (z.count + 1) * (z.count + 1)) + 0) same here ∙ omega arith
 changed_more trades before on s g (first ∷ firms) (suc f) firm at is =
     let rest = changed_more trades before on (s + 1) g firms f firm (omega (arith, at)) is in omega (arith, rest)
 
@@ -597,26 +684,33 @@ worths_step firms f firm start before after is most asked =
     omega (arith, most, asked, more)
 
 -- the numbers of the two bundles of a firm, as the code sees them
-pub record AreBundles (firms : List Firm) (trades : List Ends) (before on f : ℕ) (firm : Firm) (old new : ℕ) : Type 0 where
+pub record AreBundles (firms : List Firm) (trades : List Ends) (before on f : ℕ) (firm : Firm) (old new : ℕ) : Type
+    0 where
   pub is : slice_get firms f ≡ Some firm
   pub old_is : old ≡ part trades f firm.count before
   pub new_is : new ≡ part trades f firm.count on
 
-pub changed_step : (firms : List Firm) (trades : List Ends) (before on f : ℕ) (firm : Firm) (old new : ℕ) → AreBundles firms trades before on f firm old new
+pub changed_step : (firms : List Firm) (trades : List Ends) (before on f : ℕ) (firm : Firm) (old new : ℕ)
+    → AreBundles firms trades before on f firm old new
     → (start was now : ℕ) → was ≤ start + changed_worths_from trades before on 0 (take f firms)
     → now ≤ was + (if old == new then 0 else (firm.count + 1) * (firm.count + 1))
     → now ≤ start + changed_worths_from trades before on 0 (take (f + 1) firms)
 changed_step firms trades before on f firm old new bundles start was now most asked =
-    let more : changed_worths_from trades before on 0 (take (f + 1) firms) ≡ changed_worths_from trades before on 0 (take f firms)
-    + (if part trades f firm.count before == part trades f firm.count on then 0 else (firm.count + 1) * (firm.count + 1)) =
-    ap (changed_worths_from trades before on 0) (next_take firms f) ∙ changed_more trades before on 0 f firms f firm (omega arith) bundles.is in
+    let more : changed_worths_from trades before on 0 (take (f + 1) firms)
+    ≡ changed_worths_from trades before on 0 (take f firms)
+    + (if part trades f firm.count before == part trades f firm.count on then 0
+    else (firm.count + 1) * (firm.count + 1)) =
+    ap (changed_worths_from trades before on 0) (next_take firms f)
+    ∙ changed_more trades before on 0 f firms f firm (omega arith) bundles.is in
     let same : (if old == new then 0 else (firm.count + 1) * (firm.count + 1))
-    ≡ (if part trades f firm.count before == part trades f firm.count on then 0 else (firm.count + 1) * (firm.count + 1)) =
+    ≡ (if part trades f firm.count before == part trades f firm.count on then 0
+    else (firm.count + 1) * (firm.count + 1)) =
     ap₂ (λ (a b : ℕ). if a == b then 0 else (firm.count + 1) * (firm.count + 1)) bundles.old_is bundles.new_is in
     omega (arith, most, asked, more, same)
 
 -- what the test on the two bundles says
-pub asked_where_differs : (old new n was now : ℕ) (unequal : Bool) → unequal ≡ not (old == new) → unequal ≡ true → now ≤ was + (n + 1) * (n + 1)
+pub asked_where_differs : (old new n was now : ℕ) (unequal : Bool) → unequal ≡ not (old == new) → unequal ≡ true
+    → now ≤ was + (n + 1) * (n + 1)
     → now ≤ was + (if old == new then 0 else (n + 1) * (n + 1))
 asked_where_differs old new n was now unequal is holds asked = by_case (old == new) refl
   where
@@ -624,11 +718,13 @@ asked_where_differs old new n was now unequal is holds asked = by_case (old == n
     by_case true e = absurd (cc (is, holds, ap not e))
     by_case false e = asked
 
-pub unchanged_where_equal : (firms : List Firm) (trades : List Ends) (before on f : ℕ) (firm : Firm) (old new : ℕ) → AreBundles firms trades before on f firm old new
+pub unchanged_where_equal : (firms : List Firm) (trades : List Ends) (before on f : ℕ) (firm : Firm) (old new : ℕ)
+    → AreBundles firms trades before on f firm old new
     → (unequal : Bool) → unequal ≡ not (old == new) → unequal ≡ false → IsUnchanged firms trades before on f
 unchanged_where_equal firms trades before on f firm old new bundles unequal is fails other other_is =
     let one = same_firm firms f firm other bundles.is other_is in
-    subst (λ (z : Firm). part trades f z.count before ≡ part trades f z.count on) one (sym bundles.old_is ∙ same (old == new) refl ∙ bundles.new_is)
+    subst (λ (z : Firm). part trades f z.count before ≡ part trades f z.count on) one (sym bundles.old_is
+    ∙ same (old == new) refl ∙ bundles.new_is)
   where
     same : (b : Bool) → (old == new) ≡ b → old ≡ new
     same true e = eqb-true old new e

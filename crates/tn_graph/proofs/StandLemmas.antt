@@ -20,14 +20,16 @@ use Rattle.tn_graph.specs.Reading.{IsStand, falling}
 
 -- ---- places
 
-pub rises_where_low : (n buys x k : ℕ) (high : Bool) → k < n → high ≡ (trade_level buys x k == 1) → IsTrue (not high) ↔ CanRise n (level n buys x) k
+pub rises_where_low : (n buys x k : ℕ) (high : Bool) → k < n → high ≡ (trade_level buys x k == 1) → IsTrue (not high)
+    ↔ CanRise n (level n buys x) k
 rises_where_low n buys x k high below is =
     let at = level-trade n buys x k below in
     let small = trade_level-le buys x k in (
       (λ yes inside. elim (cases_Bool high) [
         | inl h ↦ absurd (let no : not high ≡ false = ap not h in cc (no, yes))
         | inr l ↦
-            let not_one : trade_level buys x k ≡ 1 → ⊥ = λ e. absurd (let h : high ≡ true = is ∙ eq-eqb (trade_level buys x k) 1 e in cc (h, l)) in
+            let not_one : trade_level buys x k ≡ 1 → ⊥ = λ e. absurd (let h : high ≡ true =
+            is ∙ eq-eqb (trade_level buys x k) 1 e in cc (h, l)) in
             omega (arith, at, small, not_one)
       ]),
       (λ rises.
@@ -41,14 +43,16 @@ unfolding set_of
 falling_none buys x = refl
 
 -- a position of level 1 is put in
-pub falling_more : (buys x k falls : ℕ) → falls ≡ falling buys x k → (trade_level buys x k == 1) ≡ true → toggle falls k ≡ falling buys x (k + 1)
+pub falling_more : (buys x k falls : ℕ) → falls ≡ falling buys x k → (trade_level buys x k == 1) ≡ true
+    → toggle falls k ≡ falling buys x (k + 1)
 unfolding set_of
 falling_more buys x k falls is high =
     let next : k + 1 ≡ suc k = omega arith in
     rw (next, high) (ap (λ (z : ℕ). toggle z k) is)
 
 -- another one isn't
-pub falling_same : (buys x k falls : ℕ) → falls ≡ falling buys x k → (trade_level buys x k == 1) ≡ false → falls ≡ falling buys x (k + 1)
+pub falling_same : (buys x k falls : ℕ) → falls ≡ falling buys x k → (trade_level buys x k == 1) ≡ false
+    → falls ≡ falling buys x (k + 1)
 unfolding set_of
 falling_same buys x k falls is low =
     let next : k + 1 ≡ suc k = omega arith in
@@ -63,25 +67,30 @@ toggle_at_within n x k below = elim (cases_lt k n) [
 ]
 
 -- a bundle of a stand has own positions alone, also once it is raised
-pub raised_own : (firms : List Firm) (trades : List Ends) (on f n : ℕ) (firm : Firm) (limit x : ℕ) (worth : ℤ) → IsStand firms trades on f n firm limit x worth
+pub raised_own : (firms : List Firm) (trades : List Ends) (on f n : ℕ) (firm : Firm) (limit x : ℕ) (worth : ℤ)
+    → IsStand firms trades on f n firm limit x worth
     → (i raised : ℕ) → raised ≡ toggle_at n x i → raised < 2 ^ firm.count
 raised_own firms trades on f n firm limit x worth stand i raised is =
-    let below : x < 2 ^ n = subst (λ (y : ℕ). y < 2 ^ n) (sym stand.bundle_is) (set_of_within (λ k. has on (own trades f k)) n) in
-    subst (λ (y : ℕ). y < 2 ^ firm.count) (sym is) (subst (λ (m : ℕ). toggle_at n x i < 2 ^ m) stand.counted (toggle_at_within n x i below))
+    let below : x < 2 ^ n =
+    subst (λ (y : ℕ). y < 2 ^ n) (sym stand.bundle_is) (set_of_within (λ k. has on (own trades f k)) n) in
+    subst (λ (y : ℕ). y < 2 ^ firm.count) (sym is) (subst (λ (m : ℕ). toggle_at n x i < 2 ^ m) stand.counted
+    (toggle_at_within n x i below))
 
 -- ---- losses
 
 pub no_loss : (firm : Firm) (x y : ℕ) (a : ℤ) → firm.worth x ≡ Some a → firm.worth y ≡ None → loss firm x y ≡ None
 no_loss firm x y a x_is y_is = ap₂ (λ (p q : Option ℤ). both p (option_map neg_ℤ q)) x_is y_is
 
-pub loss_is : (firm : Firm) (x y : ℕ) (a b : ℤ) → firm.worth x ≡ Some a → firm.worth y ≡ Some b → Some (a -ℤ b) ≡ loss firm x y
+pub loss_is : (firm : Firm) (x y : ℕ) (a b : ℤ) → firm.worth x ≡ Some a → firm.worth y ≡ Some b
+    → Some (a -ℤ b) ≡ loss firm x y
 loss_is firm x y a b x_is y_is =
     ap (λ (z : ℤ). Some z) (minus a b) ∙ sym (ap₂ (λ (p q : Option ℤ). both p (option_map neg_ℤ q)) x_is y_is)
   where
     minus : (a b : ℤ) → a -ℤ b ≡ a +ℤ neg_ℤ b
     minus a b = omega (arith, ints)
 
-pub loss_small : (firms : List Firm) (trades : List Ends) (on f n : ℕ) (firm : Firm) (limit x : ℕ) (worth : ℤ) → IsStand firms trades on f n firm limit x worth
+pub loss_small : (firms : List Firm) (trades : List Ends) (on f n : ℕ) (firm : Firm) (limit x : ℕ) (worth : ℤ)
+    → IsStand firms trades on f n firm limit x worth
     → (b : ℤ) → IsAtMost b limit → IsAtMost (worth -ℤ b) most_cost
 loss_small firms trades on f n firm limit x worth stand b within =
     apart (stand.within x worth stand.worth_is) within stand.small
@@ -93,7 +102,8 @@ loss_small firms trades on f n firm limit x worth stand b within =
     }
 
 -- a worth of the firm is small, if it is there
-pub worth_small : (firms : List Firm) (trades : List Ends) (on f n : ℕ) (firm : Firm) (limit x : ℕ) (worth : ℤ) → IsStand firms trades on f n firm limit x worth
+pub worth_small : (firms : List Firm) (trades : List Ends) (on f n : ℕ) (firm : Firm) (limit x : ℕ) (worth : ℤ)
+    → IsStand firms trades on f n firm limit x worth
     → (y : ℕ) (o : Option ℤ) → o ≡ firm.worth y → IfSome o (λ a. IsAtMost a limit)
 worth_small firms trades on f n firm limit x worth stand y None is = tt
 worth_small firms trades on f n firm limit x worth stand y (Some a) is = stand.within y a (sym is)

@@ -1,3 +1,4 @@
+-- The files of definitions of this crate.
 pub mod Matrix
 pub mod MatrixLemmas
 pub mod Reading

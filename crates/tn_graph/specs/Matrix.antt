@@ -19,4 +19,5 @@ cost_at number = if int_le (neg_ℤ (pos most_cost)) number && int_le number (po
 
 -- the cost of the arc from node u to node v, none where there is no arc
 unfoldable pub arcs_of : Matrix → ℕ → ℕ → Option ℤ
-arcs_of graph u v = if nat_lt u graph.nodes && nat_lt v graph.nodes then cost_at (get_or graph.cells (u * graph.nodes + v) (pos (2 ^ 63))) else None
+arcs_of graph u v = if nat_lt u graph.nodes && nat_lt v graph.nodes
+    then cost_at (get_or graph.cells (u * graph.nodes + v) (pos (2 ^ 63))) else None

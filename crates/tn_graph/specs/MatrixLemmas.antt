@@ -10,22 +10,26 @@ use Rattle.tn_graph.specs.Matrix.{Matrix, cost_at, arcs_of}
 
 pub cost_at-small : (number cost : ℤ) → cost_at number ≡ Some cost → (number ≡ cost) × IsAtMost cost most_cost
 unfolding cost_at
-cost_at-small number cost is = elim (cases_Bool (int_le (neg_ℤ (pos most_cost)) number && int_le number (pos most_cost))) [
-  | inl within ↦
-      let same : number ≡ cost = same_Some _ _ (sym (ap (λ (b : Bool). if b then Some number else None) within) ∙ is) in
-      let parts = and_parts (int_le (neg_ℤ (pos most_cost)) number) (int_le number (pos most_cost)) within in
-      (same, subst (λ (z : ℤ). IsAtMost z most_cost) same (small parts.0 parts.1))
-  | inr beyond ↦
-      let none : (if int_le (neg_ℤ (pos most_cost)) number && int_le number (pos most_cost) then Some number else None) ≡ None =
-      ap (λ (b : Bool). if b then Some number else None) beyond in
-      absurd (cc (none, is))
-]
+cost_at-small number cost is =
+    elim (cases_Bool (int_le (neg_ℤ (pos most_cost)) number && int_le number (pos most_cost))) [
+      | inl within ↦
+          let same : number ≡ cost = same_Some _ _ (sym (ap (λ (b : Bool). if b then Some number else None) within) ∙ is) in
+          let parts = and_parts (int_le (neg_ℤ (pos most_cost)) number) (int_le number (pos most_cost)) within in
+          (same, subst (λ (z : ℤ). IsAtMost z most_cost) same (small parts.0 parts.1))
+      | inr beyond ↦
+          let none : (if int_le (neg_ℤ (pos most_cost)) number && int_le number (pos most_cost) then Some number else None)
+          ≡ None =
+          ap (λ (b : Bool). if b then Some number else None) beyond in
+          absurd (cc (none, is))
+    ]
   where
-    small : int_le (neg_ℤ (pos most_cost)) number ≡ true → int_le number (pos most_cost) ≡ true → IsAtMost number most_cost
+    small : int_le (neg_ℤ (pos most_cost)) number ≡ true → int_le number (pos most_cost) ≡ true
+        → IsAtMost number most_cost
     small p q = record { low = grind (arith, ints); high = grind (arith, ints) }
 
 arcs_of-cases : (graph : Matrix) (u v : ℕ) (cost : ℤ) → arcs_of graph u v ≡ Some cost
-    → ((nat_lt u graph.nodes && nat_lt v graph.nodes) ≡ true) × (cost_at (get_or graph.cells (u * graph.nodes + v) (pos (2 ^ 63))) ≡ Some cost)
+    → ((nat_lt u graph.nodes && nat_lt v graph.nodes) ≡ true)
+    × (cost_at (get_or graph.cells (u * graph.nodes + v) (pos (2 ^ 63))) ≡ Some cost)
 unfolding arcs_of
 arcs_of-cases graph u v cost is = elim (cases_Bool (nat_lt u graph.nodes && nat_lt v graph.nodes)) [
   | inl within ↦ (within, sym (ap at within) ∙ is)

@@ -33,7 +33,8 @@ pub record Improves (arc : ℕ → ℕ → Option ℤ) (before after : Matrix) :
   pub each : (u v : ℕ) → (arcs_of after u v ≡ arc u v) ⊎ (arcs_of after u v ≡ arcs_of before u v)
 
 -- firm f with n own trades has the bundle x of the set, with this worth
-pub record IsStand (firms : List Firm) (trades : List Ends) (on f n : ℕ) (firm : Firm) (limit x : ℕ) (worth : ℤ) : Type 0 where
+pub record IsStand (firms : List Firm) (trades : List Ends) (on f n : ℕ) (firm : Firm) (limit x : ℕ) (worth : ℤ) : Type
+    0 where
   pub network : IsNetwork firms trades
   pub is : slice_get firms f ≡ Some firm
   pub counted : n ≡ firm.count
@@ -48,19 +49,23 @@ abbrev pub falling : ℕ → ℕ → ℕ → ℕ
 falling buys x n = set_of (λ k. trade_level buys x k == 1) n
 
 -- the arcs from place i of a firm to its places before j are read, and each other cost is as it was or right
-pub record IsRowRead (firms : List Firm) (trades : List Ends) (on f n : ℕ) (firm : Firm) (x i : ℕ) (before : Matrix) (j : ℕ) (graph : Matrix) : Type 0 where
+pub record IsRowRead (firms : List Firm) (trades : List Ends) (on f n : ℕ) (firm : Firm) (x i : ℕ) (before : Matrix)
+    (j : ℕ) (graph : Matrix) : Type 0 where
   pub improved : Improves (exchange_arc firms trades on) before graph
   pub row : (k : ℕ) → k < j → AreArcPlaces firm x i k
-      → arcs_of graph (node_at trades f n i) (node_at trades f n k) ≡ exchange_arc firms trades on (node_at trades f n i) (node_at trades f n k)
+      → arcs_of graph (node_at trades f n i) (node_at trades f n k)
+      ≡ exchange_arc firms trades on (node_at trades f n i) (node_at trades f n k)
 
 -- the costs of the arcs from place i of a firm are right
 abbrev pub HasRow : List Firm → List Ends → ℕ → ℕ → ℕ → Firm → ℕ → ℕ → Matrix → Type 0
 HasRow firms trades on f n firm x i graph = (j : ℕ) → AreArcPlaces firm x i j
-    → arcs_of graph (node_at trades f n i) (node_at trades f n j) ≡ exchange_arc firms trades on (node_at trades f n i) (node_at trades f n j)
+    → arcs_of graph (node_at trades f n i) (node_at trades f n j)
+    ≡ exchange_arc firms trades on (node_at trades f n i) (node_at trades f n j)
 
 -- the costs of the arcs of firm f are right
 abbrev pub HasArcsOf : List Firm → List Ends → ℕ → ℕ → Matrix → Type 0
-HasArcsOf firms trades on f graph = (u v : ℕ) → arc_firm trades on u v ≡ Some f → arcs_of graph u v ≡ exchange_arc firms trades on u v
+HasArcsOf firms trades on f graph = (u v : ℕ) → arc_firm trades on u v ≡ Some f
+    → arcs_of graph u v ≡ exchange_arc firms trades on u v
 
 -- whether trade t is in one of two sets alone
 abbrev pub is_toggled : ℕ → ℕ → ℕ → ℕ → Bool
@@ -73,19 +78,23 @@ pub record AreForgotten (cut : ℕ → Bool) (before after : Matrix) : Type 0 wh
   pub kept : (u v : ℕ) → (cut u || cut v) ≡ false → arcs_of after u v ≡ arcs_of before u v
 
 -- the costs of the arcs of some firms are right, and there is no arc where there can be none
-pub record IsRightFor (firms : List Firm) (trades : List Ends) (on : ℕ) (done : ℕ → Type 0) (graph : Matrix) : Type 0 where
+pub record IsRightFor (firms : List Firm) (trades : List Ends) (on : ℕ) (done : ℕ
+    → Type 0) (graph : Matrix) : Type 0 where
   pub nodes : graph.nodes ≡ length trades + 1
-  pub right : (u v : ℕ) → ((f : ℕ) → arc_firm trades on u v ≡ Some f → done f) → arcs_of graph u v ≡ exchange_arc firms trades on u v
+  pub right : (u v : ℕ) → ((f : ℕ) → arc_firm trades on u v ≡ Some f → done f)
+      → arcs_of graph u v ≡ exchange_arc firms trades on u v
 
 -- firm f has the same bundle of two sets
 abbrev pub IsUnchanged : List Firm → List Ends → ℕ → ℕ → ℕ → Type 0
-IsUnchanged firms trades before on f = (firm : Firm) → slice_get firms f ≡ Some firm → part trades f firm.count before ≡ part trades f firm.count on
+IsUnchanged firms trades before on f = (firm : Firm) → slice_get firms f ≡ Some firm
+    → part trades f firm.count before ≡ part trades f firm.count on
 
 -- how many worths the arcs of the firms from number f on are made of whose bundles of the two sets differ: for each one
 -- for each two of its places
 abbrev pub changed_worths_from : List Ends → ℕ → ℕ → ℕ → List Firm → ℕ
 changed_worths_from trades before on f [] = 0
-changed_worths_from trades before on f (firm ∷ firms) = (if part trades f firm.count before == part trades f firm.count on then 0 else (firm.count + 1) * (firm.count + 1))
+changed_worths_from trades before on f (firm ∷ firms) =
+    (if part trades f firm.count before == part trades f firm.count on then 0 else (firm.count + 1) * (firm.count + 1))
     + changed_worths_from trades before on (f + 1) firms
 
 abbrev pub changed_worths : List Firm → List Ends → ℕ → ℕ → ℕ

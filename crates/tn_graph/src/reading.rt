@@ -27,10 +27,13 @@ impl<V: Valuation, const W: usize> Stand<'_, V, W> {
         requires sized { graph.old.nodes ≡ length self.now.market.now.trades + 1 }
         requires places { AreArcPlaces (V.firm self.now.firm.now) self.now.bundle i j }
         requires worth { worth ≡ (V.firm self.now.firm.now).worth (move self.now.count self.now.bundle i j) }
-        ensures improved { Improves (network_of V.firm self.now.market.now exchange_arc self.now.on.now) graph.old graph.new }
-        ensures arc { arcs_of graph.new (node_at self.now.market.now.trades self.now.f self.now.count i) (node_at self.now.market.now.trades self.now.f self.now.count j)
+        ensures improved { Improves (network_of V.firm self.now.market.now exchange_arc self.now.on.now) graph.old
+            graph.new }
+        ensures arc { arcs_of graph.new (node_at self.now.market.now.trades self.now.f self.now.count i)
+            (node_at self.now.market.now.trades self.now.f self.now.count j)
             ≡ network_of V.firm self.now.market.now exchange_arc self.now.on.now
-            (node_at self.now.market.now.trades self.now.f self.now.count i) (node_at self.now.market.now.trades self.now.f self.now.count j) }
+            (node_at self.now.market.now.trades self.now.f self.now.count i)
+            (node_at self.now.market.now.trades self.now.f self.now.count j) }
     {
         graph.set(self.node(i), self.node(j), self.loss(worth));
     }
@@ -44,7 +47,8 @@ impl<V: Valuation, const W: usize> Stand<'_, V, W> {
         requires rises { CanRise self.now.count (level self.now.count (V.firm self.now.firm.now).buys self.now.bundle) i }
         requires falls { falls ≡ falling (V.firm self.now.firm.now).buys self.now.bundle self.now.count }
         requires room { self.now.count ≤ length worths.now }
-        requires worths { HasToggledWorths (V.firm self.now.firm.now).worth (toggle_at self.now.count self.now.bundle i) falls worths.now }
+        requires worths { HasToggledWorths (V.firm self.now.firm.now).worth (toggle_at self.now.count self.now.bundle i)
+            falls worths.now }
         ensures { network_of V.firm self.now.market.now IsRowRead self.now.on.now self.now.f self.now.count
             (V.firm self.now.firm.now) self.now.bundle i graph.old self.now.count graph.new }
     {
@@ -71,7 +75,8 @@ impl<V: Valuation, const W: usize> Stand<'_, V, W> {
         requires rises { CanRise self.now.count (level self.now.count (V.firm self.now.firm.now).buys self.now.bundle) i }
         requires falls { falls ≡ falling (V.firm self.now.firm.now).buys self.now.bundle self.now.count }
         requires room { self.now.count ≤ length worths.old }
-        ensures improved { Improves (network_of V.firm self.now.market.now exchange_arc self.now.on.now) graph.old graph.new }
+        ensures improved { Improves (network_of V.firm self.now.market.now exchange_arc self.now.on.now) graph.old
+            graph.new }
         ensures row { network_of V.firm self.now.market.now HasRow self.now.on.now self.now.f self.now.count
             (V.firm self.now.firm.now) self.now.bundle i graph.new }
         ensures asked { steps.new ≤ steps.old + self.now.count }
@@ -90,7 +95,8 @@ impl<V: Valuation, const W: usize> Stand<'_, V, W> {
         requires stand { network_of V.firm self.now.market.now IsStand self.now.on.now self.now.f self.now.count
             (V.firm self.now.firm.now) (V.limit self.now.firm.now) self.now.bundle self.now.worth }
         requires sized { graph.old.nodes ≡ length self.now.market.now.trades + 1 }
-        ensures improved { Improves (network_of V.firm self.now.market.now exchange_arc self.now.on.now) graph.old graph.new }
+        ensures improved { Improves (network_of V.firm self.now.market.now exchange_arc self.now.on.now) graph.old
+            graph.new }
         ensures arcs { network_of V.firm self.now.market.now HasArcsOf self.now.on.now self.now.f graph.new }
         ensures asked { steps.new ≤ steps.old + (self.now.count + 1) * self.now.count }
     {
@@ -121,7 +127,8 @@ impl Graph {
         requires small { (g : ℕ) (v : V) → slice_get market.now.firms g ≡ Some v → 2 * V.limit v ≤ most_cost }
         ensures improved { Improves (network_of V.firm market.now exchange_arc on.now) self.old self.new }
         ensures arcs { network_of V.firm market.now HasArcsOf on.now f self.new }
-        ensures asked { (v : V) → slice_get market.now.firms f ≡ Some v → steps.new ≤ steps.old + ((V.firm v).count + 1) * ((V.firm v).count + 1) }
+        ensures asked { (v : V) → slice_get market.now.firms f ≡ Some v
+            → steps.new ≤ steps.old + ((V.firm v).count + 1) * ((V.firm v).count + 1) }
     {
         let firm = market.firm(f);
         let bundle = market.bundle_of(f, on);
@@ -138,10 +145,10 @@ impl Graph {
         stand.read_arcs(self, steps);
     }
 
-    /// Makes it the exchange graph of a market at a set of trades (Candogan, Epitropou and Vohra, 2021): trade t is node
-    /// t, and the null node is the last one. It asks for a worth for each two places of a firm at most, and takes no
-    /// memory. The graph has one node more than the market has trades, of which there are at most `64 * W`; each firm's
-    /// bundle of the set is possible, and twice no worth is above 10^18.
+    /// Makes it the exchange graph of a market at a set of trades (Candogan, Epitropou and Vohra, 2021): trade t is
+    /// node t, and the null node is the last one. It asks for a worth for each two places of a firm at most, and takes
+    /// no memory. The graph has one node more than the market has trades, of which there are at most `64 * W`; each
+    /// firm's bundle of the set is possible, and twice no worth is above 10^18.
     pub fn fill<V: Valuation, const W: usize>(
         &mut self,
         market: &Market<V>,

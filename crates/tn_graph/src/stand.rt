@@ -68,7 +68,8 @@ impl<V: Valuation, const W: usize> Stand<'_, V, W> {
     pub fn can_rise(&self, k: u32) -> bool
         requires stand { network_of V.firm self.now.market.now IsStand self.now.on.now self.now.f self.now.count
             (V.firm self.now.firm.now) (V.limit self.now.firm.now) self.now.bundle self.now.worth }
-        ensures { IsTrue result ↔ CanRise self.now.count (level self.now.count (V.firm self.now.firm.now).buys self.now.bundle) k }
+        ensures { IsTrue result
+            ↔ CanRise self.now.count (level self.now.count (V.firm self.now.firm.now).buys self.now.bundle) k }
     {
         k >= self.count || !self.is_high(k)
     }
@@ -103,7 +104,8 @@ impl<V: Valuation, const W: usize> Stand<'_, V, W> {
         requires stand { network_of V.firm self.now.market.now IsStand self.now.on.now self.now.f self.now.count
             (V.firm self.now.firm.now) (V.limit self.now.firm.now) self.now.bundle self.now.worth }
         requires small { IfSome worth (λ a. IsAtMost a (V.limit self.now.firm.now)) }
-        ensures loss { (y : ℕ) → worth ≡ (V.firm self.now.firm.now).worth y → result ≡ loss (V.firm self.now.firm.now) self.now.bundle y }
+        ensures loss { (y : ℕ) → worth ≡ (V.firm self.now.firm.now).worth y
+            → result ≡ loss (V.firm self.now.firm.now) self.now.bundle y }
         ensures small { IfSome result (λ c. IsAtMost c most_cost) }
     {
         let worth = worth?;

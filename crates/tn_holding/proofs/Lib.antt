@@ -1,3 +1,4 @@
+-- The files of lemmas of this crate.
 pub mod StandLemmas
 pub mod TableLemmas
 pub mod ContentLemmas

@@ -20,13 +20,16 @@ use Rattle.tn_holding.specs.declared.stand.Stand.{Stand}
 use Rattle.tn_holding.specs.Stands.{IsStand}
 
 -- the firm's own bundle is best where its utility is that of a best one
-best_kept : (value_of : ℕ → Option ℤ) (own found best : ℕ) (most : ℤ) (mine : Option ℤ) → mine ≡ value_of own → IsBest value_of found most
+best_kept : (value_of : ℕ → Option ℤ) (own found best : ℕ) (most : ℤ) (mine : Option ℤ) → mine ≡ value_of own
+    → IsBest value_of found most
     → (best ≡ found) ⊎ ((best ≡ own) × (mine ≡ Some most)) → IsBest value_of best most
-best_kept value_of own found best most mine mine_is is_best (inl e) = subst (λ (x : ℕ). IsBest value_of x most) (sym e) is_best
+best_kept value_of own found best most mine mine_is is_best (inl e) =
+    subst (λ (x : ℕ). IsBest value_of x most) (sym e) is_best
 best_kept value_of own found best most mine mine_is is_best (inr (e, as_great)) =
     subst (λ (x : ℕ). IsBest value_of x most) (sym e) (record { is = sym mine_is ∙ as_great; most = is_best.most })
 
-pub stands : (firm : Firm) (prices : ℕ → ℤ) (own found : ℕ) (most : ℤ) (mine : Option ℤ) (told : Stand) → told.worth ≡ firm.worth own → told.utility ≡ mine → mine ≡ utility (pos 1) prices firm own
+pub stands : (firm : Firm) (prices : ℕ → ℤ) (own found : ℕ) (most : ℤ) (mine : Option ℤ) (told : Stand)
+    → told.worth ≡ firm.worth own → told.utility ≡ mine → mine ≡ utility (pos 1) prices firm own
     → IsBest (utility (pos 1) prices firm) found most → told.best_utility ≡ most → (mine ≡ Some most → told.best ≡ own)
     → (told.best ≡ found) ⊎ ((told.best ≡ own) × (mine ≡ Some most)) → IsStand firm prices own told
 stands firm prices own found most mine told worth_is told_mine mine_is is_best value_is kept best = record {

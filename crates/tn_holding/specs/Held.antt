@@ -13,7 +13,8 @@ use Rattle.tn_answer.specs.Rows.{is_nothing}
 
 -- what is said of firm f: its own bundle with worth and utility, a best bundle, its own where that is best, and what
 -- its utility gains by that
-pub record TellsFirm (trades : List Ends) (scale : ℤ) (on : ℕ) (prices : ℕ → ℤ) (f : ℕ) (firm : Firm) (told : Holding) : Type 0 where
+pub record TellsFirm (trades : List Ends) (scale : ℤ) (on : ℕ) (prices : ℕ
+    → ℤ) (f : ℕ) (firm : Firm) (told : Holding) : Type 0 where
   pub has_is : told.has ≡ trades_of trades f firm.count (part trades f firm.count on)
   pub worth_is : told.worth ≡ firm.worth (part trades f firm.count on)
   pub utility_is : told.utility ≡ utility_at trades scale prices f firm (part trades f firm.count on)
@@ -28,13 +29,16 @@ abbrev pub is_content : Holding → Bool
 is_content told = is_nothing told.gain
 
 -- what is said of all firms, one by one: how many are content, and the sum of the worths
-pub record TellsFirms (firms : List Firm) (trades : List Ends) (scale : ℤ) (on : ℕ) (prices : ℕ → ℤ) (content : ℕ) (told : List Holding) (surplus : Option ℤ) : Type 0 where
+pub record TellsFirms (firms : List Firm) (trades : List Ends) (scale : ℤ) (on : ℕ) (prices : ℕ
+    → ℤ) (content : ℕ) (told : List Holding) (surplus : Option ℤ) : Type 0 where
   pub one_each : length told ≡ length firms
-  pub each : (f : ℕ) (firm : Firm) (holding : Holding) → slice_get firms f ≡ Some firm → slice_get told f ≡ Some holding → TellsFirm trades scale on prices f firm holding
+  pub each : (f : ℕ) (firm : Firm) (holding : Holding) → slice_get firms f ≡ Some firm → slice_get told f ≡ Some holding
+      → TellsFirm trades scale on prices f firm holding
   pub counted : content ≡ count_by is_content told
   pub surplus_is : surplus ≡ surplus_of firms trades on
 
 -- the answer of `firms`, none of another kind
 abbrev pub TellsHoldings : List Firm → List Ends → ℤ → ℕ → (ℕ → ℤ) → Said → Type 0
-TellsHoldings firms trades scale on prices (Firms content told surplus) = TellsFirms firms trades scale on prices content told surplus
+TellsHoldings firms trades scale on prices (Firms content told surplus) =
+    TellsFirms firms trades scale on prices content told surplus
 TellsHoldings firms trades scale on prices said = ⊥

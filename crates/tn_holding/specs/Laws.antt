@@ -12,8 +12,10 @@ use Rattle.tn_holding.specs.Held.{is_content, TellsFirms}
 -- all are content exactly where the arrangement is an equilibrium of the firms as they are written
 abbrev pub AllContentIsEquilibrium : Type 0
 AllContentIsEquilibrium =
-    (firms : List Firm) (trades : List Ends) (scale : ℤ) (on : ℕ) (prices : ℕ → ℤ) (content : ℕ) (told : List Holding) (surplus : Option ℤ)
-    → TellsFirms firms trades scale on prices content told surplus → (content ≡ length firms) ↔ IsEquilibrium firms trades scale on prices
+    (firms : List Firm) (trades : List Ends) (scale : ℤ) (on : ℕ) (prices : ℕ
+    → ℤ) (content : ℕ) (told : List Holding) (surplus : Option ℤ)
+    → TellsFirms firms trades scale on prices content told surplus → (content ≡ length firms)
+    ↔ IsEquilibrium firms trades scale on prices
 
 -- firm f is the first that isn't content
 pub record IsFirstDiscontent (told : List Holding) (f : ℕ) : Type 0 where
@@ -31,5 +33,7 @@ SaysTheSame content told said = ⊥
 
 abbrev pub CheckNamesTheFirst : Type 0
 CheckNamesTheFirst =
-    (firms : List Firm) (trades : List Ends) (scale : ℤ) (on : ℕ) (prices : ℕ → ℤ) (content : ℕ) (told : List Holding) (surplus : Option ℤ) (said : Said)
-    → TellsFirms firms trades scale on prices content told surplus → Judges firms trades scale on prices said → SaysTheSame content told said
+    (firms : List Firm) (trades : List Ends) (scale : ℤ) (on : ℕ) (prices : ℕ
+    → ℤ) (content : ℕ) (told : List Holding) (surplus : Option ℤ) (said : Said)
+    → TellsFirms firms trades scale on prices content told surplus → Judges firms trades scale on prices said
+    → SaysTheSame content told said

@@ -1,3 +1,4 @@
+-- The files of definitions of this crate.
 pub mod Limits
 pub mod Stands
 pub mod Held

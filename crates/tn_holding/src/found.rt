@@ -1,3 +1,5 @@
+//! A bundle that a search found.
+
 use tn_base::Bundle;
 
 /// A bundle with its utility.

@@ -1,3 +1,5 @@
+//! Laws of what firms have: content firms are an equilibrium.
+
 ghost use Rattle.tn_holding.specs.Laws.{AllContentIsEquilibrium, CheckNamesTheFirst};
 
 /// All firms are content exactly where the arrangement is an equilibrium, whether the firms meet exchange or not.
@@ -5,7 +7,8 @@ pub fn all_content_is_equilibrium()
     ensures { AllContentIsEquilibrium }
 {}
 
-/// What `check` says of the arrangement: an equilibrium where all firms are content, and otherwise the first that isn't.
+/// What `check` says of the arrangement: an equilibrium where all firms are content, and otherwise the first that
+/// isn't.
 pub fn check_names_the_first()
     ensures { CheckNamesTheFirst }
 {}

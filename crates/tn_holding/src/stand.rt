@@ -1,3 +1,5 @@
+//! How a firm stands with what it has.
+
 ghost use Rattle.std.specs.Prelude.{◌≡◌, ◌⊎◌, Some, ◌^◌, ◌<◌, ◌≤◌, pos, All, IfSome, length};
 ghost use Rattle.tn_base.specs.Arcs.{IsAtMost};
 ghost use Rattle.tn_base.specs.Firm.{IsBest, utility};
@@ -76,8 +78,8 @@ fn stand_of_oracle<V: Oracle>(firm: &V, own: Bundle, prices: &[i128], room: &mut
     stand_beside(own, worth, utility, Found { bundle, value })
 }
 
-/// How a firm stands with its own bundle, whether it meets exchange or not: a best bundle is best of all its bundles. It
-/// takes no memory. The bundle has own positions alone; prices are at most 10^20 in size, one for each position.
+/// How a firm stands with its own bundle, whether it meets exchange or not: a best bundle is best of all its bundles.
+/// It takes no memory. The bundle has own positions alone; prices are at most 10^20 in size, one for each position.
 pub fn stand_of(firm: &RawFirm, own: Bundle, prices: &[i128], room: &mut Room) -> Stand
     requires own { own < 2 ^ (raw_firm_of firm.now).count }
     requires priced { length prices.now ≡ (raw_firm_of firm.now).count }

@@ -1,5 +1,5 @@
-//! The best bundle of a table, of which every bundle is tried: a table that doesn't meet exchange may have a bundle that
-//! is better than all close ones, and is not best.
+//! The best bundle of a table, of which every bundle is tried: a table that doesn't meet exchange may have a bundle
+//! that is better than all close ones, and is not best.
 
 ghost use Rattle.std.specs.Prelude.{◌≡◌, Some, ◌*◌, ◌^◌, ◌<◌, ◌≤◌, pos, All, IfSome, if◌then◌else◌, length};
 ghost use Rattle.tn_base.specs.Arcs.{IsAtMost};

@@ -17,7 +17,8 @@ Grows-trans None (Some v) (Some w) xs ys p q = absurd p
 Grows-trans (Some u) (Some v) (Some w) xs ys p q = q ∙ ap (λ l. l ++ ys) p ∙ append_assoc u xs ys
 
 -- the first m bytes, and then the first n of the rest
-pub Grows-more : (a b c : Option (List ℕ)) (bytes : List ℕ) (m n : ℕ) → Grows a b (take m bytes) → Grows b c (take n (drop m bytes))
+pub Grows-more : (a b c : Option (List ℕ)) (bytes : List ℕ) (m n : ℕ) → Grows a b (take m bytes)
+    → Grows b c (take n (drop m bytes))
     → Grows a c (take (m + n) bytes)
 Grows-more a b c bytes m n p q =
     subst (Grows a c) (sym (take-add m n bytes)) (Grows-trans a b c (take m bytes) (take n (drop m bytes)) p q)
@@ -32,5 +33,6 @@ pub Grows-slice : (a b c : Option (List ℕ)) (bytes : List ℕ) (m n : ℕ) →
 Grows-slice a b c bytes m n p q = Grows-more a b c bytes m n p (subst (λ l. Grows b c (take n l)) (rest-drop bytes m) q)
 
 -- a part of that slice ends within the bytes
-pub slice-within : (bytes : List ℕ) (m n : ℕ) → m ≤ length bytes → n ≤ length (take (length bytes - m) (drop m bytes)) → m + n ≤ length bytes
+pub slice-within : (bytes : List ℕ) (m n : ℕ) → m ≤ length bytes → n ≤ length (take (length bytes - m) (drop m bytes))
+    → m + n ≤ length bytes
 slice-within bytes m n start part = omega (arith, length-drop m bytes, ap length (rest-drop bytes m))

@@ -19,5 +19,6 @@ filled-Consumes into bytes n within =
     sym (take-append-drop n bytes) ∙ ap (λ l. l ++ drop n bytes) (sym (take-filled into bytes n within))
 
 -- a call moves nothing only where nothing is left, or there is no room
-pub moved-none : (chunk : ℕ) (bytes : List ℕ) (n room : ℕ) → 0 < chunk → n ≡ moved_count chunk bytes room → n ≡ 0 → 0 < room → drop n bytes ≡ []
+pub moved-none : (chunk : ℕ) (bytes : List ℕ) (n room : ℕ) → 0 < chunk → n ≡ moved_count chunk bytes room → n ≡ 0
+    → 0 < room → drop n bytes ≡ []
 moved-none chunk bytes n room some is none space = drop_of_length-le bytes (omega arith)

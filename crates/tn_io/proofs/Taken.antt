@@ -16,14 +16,22 @@ Consumes-TakesFirst (Some xs) (Some ys) bytes p = (
 )
 
 -- the bytes of earlier reads, and then the first n of what the last one gave
-pub TakesFirst-more : (a b c : Option (List ℕ)) (bytes piece : List ℕ) (n total : ℕ) → Consumes a b bytes → Consumes b c (take n piece)
+pub TakesFirst-more : (a b c : Option (List ℕ)) (bytes piece : List ℕ) (n total : ℕ) → Consumes a b bytes
+    → Consumes b c (take n piece)
     → n ≤ length piece → length bytes + n ≡ total → TakesFirst a c total
 TakesFirst-more a b c bytes piece n total earlier last within sums =
-    let all : length (bytes ++ take n piece) ≡ total = omega (arith, length-append bytes (take n piece), length-take-le n piece within, sums) in
-    subst (TakesFirst a c) all (Consumes-TakesFirst a c (bytes ++ take n piece) (Consumes-trans a b c bytes (take n piece) earlier last))
+    let all : length (bytes ++ take n piece) ≡ total = omega (
+      arith,
+      length-append bytes (take n piece),
+      length-take-le n piece within,
+      sums,
+    ) in
+    subst (TakesFirst a c) all (Consumes-TakesFirst a c (bytes ++ take n piece)
+    (Consumes-trans a b c bytes (take n piece) earlier last))
 
 -- the same, as a bound
-pub TakesAtMost-more : (a b c : Option (List ℕ)) (bytes piece : List ℕ) (n limit : ℕ) → Consumes a b bytes → Consumes b c (take n piece)
+pub TakesAtMost-more : (a b c : Option (List ℕ)) (bytes piece : List ℕ) (n limit : ℕ) → Consumes a b bytes
+    → Consumes b c (take n piece)
     → n ≤ length piece → length bytes + n ≤ limit → TakesAtMost a c limit
 TakesAtMost-more a b c bytes piece n limit earlier last within fits =
     (length bytes + n, fits, TakesFirst-more a b c bytes piece n (length bytes + n) earlier last within refl)

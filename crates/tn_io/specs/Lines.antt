@@ -10,8 +10,8 @@ most_turns = 18446744073709551615
 abbrev pub IsUnbroken : List ℕ → Type 0
 IsUnbroken bytes = All (λ byte. byte ≢ 10) bytes
 
--- the first line of the bytes, and what is left after it: a line feed ends the line, or else the end of the bytes does, where
--- the line isn't empty
+-- the first line of the bytes, and what is left after it: a line feed ends the line, or else the end of the bytes does,
+-- where the line isn't empty
 abbrev pub IsNextLine : List ℕ → List ℕ → List ℕ → Type 0
 IsNextLine all line rest = IsUnbroken line × ((all ≡ line ++ 10 ∷ rest) ⊎ ((all ≡ line) × (line ≢ []) × (rest ≡ [])))
 
@@ -26,6 +26,8 @@ TakesLines None new lines = ⊤
 TakesLines (Some all) None lines = ⊥
 TakesLines (Some all) (Some rest) lines = length all < most_turns → AreNextLines all lines rest
 
--- the known bytes lose the rest of a line, and the line feed that ends it; or they end there; or a loop took its last turn
+-- the known bytes lose the rest of a line, and the line feed that ends it; or they end there; or a loop took its last
+-- turn
 abbrev pub PassesOver : Option (List ℕ) → Option (List ℕ) → List ℕ → Type 0
-PassesOver old new line = IsUnbroken line × (Consumes old new (line ++ 10 ∷ []) ⊎ (Consumes old new line × (IsAtEnd new ⊎ (most_turns ≤ length line))))
+PassesOver old new line = IsUnbroken line × (Consumes old new (line ++ 10 ∷ [])
+    ⊎ (Consumes old new line × (IsAtEnd new ⊎ (most_turns ≤ length line))))

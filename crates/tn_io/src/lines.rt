@@ -139,8 +139,8 @@ impl LineReader {
         Ok(())
     }
 
-    /// Moves the bytes read ahead, up to the first line feed, to the end of a line, and passes over that line feed. Whether
-    /// there was one. Where they don't go there, they are passed over alone.
+    /// Moves the bytes read ahead, up to the first line feed, to the end of a line, and passes over that line feed.
+    /// Whether there was one. Where they don't go there, they are passed over alone.
     fn take_part(&mut self, line: &mut Vec<u8>, limit: usize) -> Result<bool, LineStop>
         requires { length line.old.items ≤ limit }
         ensures within { OnOk result (length line.new.items ≤ limit) }
@@ -148,7 +148,8 @@ impl LineReader {
             ≡ line.old.items ++ take (position_or_len (λ byte. byte == 10) self.old) self.old) }
         ensures ended { IfOk result (λ ended. ended
             ≡ nat_lt (position_or_len (λ byte. byte == 10) self.old) (length self.old)) }
-        ensures rest { IfOk result (λ ended. self.new ≡ drop (position_or_len (λ byte. byte == 10) self.old + 1) self.old) }
+        ensures rest { IfOk result (λ ended. self.new ≡ drop (position_or_len (λ byte. byte == 10) self.old + 1)
+            self.old) }
         ensures passed { OnErr result (self.new
             ≡ drop (position_or_len (λ byte. byte == 10) self.old) self.old) }
         ensures some { OnErr result (0 < position_or_len (λ byte. byte == 10) self.old) }
@@ -171,11 +172,11 @@ impl LineReader {
         Ok(is_ended)
     }
 
-    /// The next line of a source that this reader alone reads, of at most `limit` bytes; none at the end of input. A line feed
-    /// ends a line and isn't part of it; a last line needs none.
+    /// The next line of a source that this reader alone reads, of at most `limit` bytes; none at the end of input. A
+    /// line feed ends a line and isn't part of it; a last line needs none.
     ///
-    /// `Failed` comes only where the source's count of faults rose in this call, and `TooLong` only at a line of more than
-    /// `limit` bytes. `limit` is below 2^31.
+    /// `Failed` comes only where the source's count of faults rose in this call, and `TooLong` only at a line of more
+    /// than `limit` bytes. `limit` is below 2^31.
     pub fn next_line<S: Source>(
         &mut self,
         alloc: Global,
@@ -185,7 +186,8 @@ impl LineReader {
         requires { limit < 2 ^ 31 }
 
         ensures line { IfOk result (λ next. IfSome next (λ line. TakesLines
-            (prepend_known self.old (S.left source.old)) (prepend_known self.new (S.left source.new)) (line.items ∷ []))) }
+            (prepend_known self.old (S.left source.old)) (prepend_known self.new (S.left source.new))
+            (line.items ∷ []))) }
         ensures within { IfOk result (λ next. IfSome next (λ line. length line.items ≤ limit)) }
         ensures end { IfOk result (λ next. IfNone next (IsAtEnd (prepend_known self.old (S.left source.old)))) }
 

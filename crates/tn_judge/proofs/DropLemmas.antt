@@ -19,24 +19,29 @@ use Rattle.tn_judge.specs.Drops.{TellsDrop, FindsDrop}
 use Rattle.tn_judge.specs.Verdict.{AreKeptBefore}
 
 -- a choice with a best bundle of signed trades
-record IsChosen (trades : List Ends) (over : ℤ) (contracts : List Contract) (f : ℕ) (firm : Firm) (b : ℕ) (value : ℤ) : Type 0 where
+record IsChosen (trades : List Ends) (over : ℤ) (contracts : List Contract) (f : ℕ) (firm : Firm) (b : ℕ)
+    (value : ℤ) : Type 0 where
   part : ℕ
   choice : IsChoice trades over f firm contracts part
   value_is : choice.value ≡ value
   bundle : bundle_by trades f firm.count contracts part ≡ b
 
-choice_of : (firms : List Firm) (trades : List Ends) (over : ℤ) (contracts : List Contract) (f : ℕ) (firm : Firm) → IsSigner firms trades contracts f firm → (b : ℕ) (value : ℤ)
-    → IsBestBetween 0 (signed_bundle trades contracts f firm) (contract_utility trades over contracts f firm) b value → IsChosen trades over contracts f firm b value
+choice_of : (firms : List Firm) (trades : List Ends) (over : ℤ) (contracts : List Contract) (f : ℕ) (firm : Firm)
+    → IsSigner firms trades contracts f firm → (b : ℕ) (value : ℤ)
+    → IsBestBetween 0 (signed_bundle trades contracts f firm) (contract_utility trades over contracts f firm) b value
+    → IsChosen trades over contracts f firm b value
 choice_of firms trades over contracts f firm signer b value best = record {
   part = wanted_part trades f contracts (is_in trades f firm.count b);
   choice = record {
     part = is_part;
     value = value;
-    is = part_is_bundle firms trades over contracts f firm signer (wanted_part trades f contracts (is_in trades f firm.count b)) is_part
+    is = part_is_bundle firms trades over contracts f firm signer
+        (wanted_part trades f contracts (is_in trades f firm.count b)) is_part
         ∙ ap (contract_utility trades over contracts f firm) bundle ∙ best.is;
     most = λ y other y_part y_is.
         best.most (bundle_by trades f firm.count contracts y) other
-        (between_signed (bundle_by trades f firm.count contracts y) (signed_bundle trades contracts f firm) (bundle_signed firms trades contracts f firm signer y))
+        (between_signed (bundle_by trades f firm.count contracts y) (signed_bundle trades contracts f firm)
+        (bundle_signed firms trades contracts f firm signer y))
         (sym (part_is_bundle firms trades over contracts f firm signer y y_part) ∙ y_is);
   };
   value_is = refl;
@@ -53,7 +58,9 @@ choice_of firms trades over contracts f firm signer b value best = record {
     within = within_from b firm.count (λ k above. elim (cases_Bool (has b k)) [
       | inr out ↦ out
       | inl there ↦
-          let below = has_below (signed_bundle trades contracts f firm) firm.count k (set_of_within (λ j. has (signed (length trades) contracts) (own trades f j)) firm.count) (inside k there) in
+          let below = has_below (signed_bundle trades contracts f firm) firm.count k
+          (set_of_within (λ j. has (signed (length trades) contracts) (own trades f j)) firm.count) (inside k there)
+          in
           absurd (omega (arith, above, below))
     ])
 
@@ -63,19 +70,28 @@ choice_of firms trades over contracts f firm signer b value best = record {
 
     bundle : bundle_by trades f firm.count contracts (wanted_part trades f contracts (is_in trades f firm.count b)) ≡ b
     bundle = part_bundle firms trades contracts f firm signer (is_in trades f firm.count b) b within (λ i below.
-        with_signed (has b i) (is_signed contracts (own trades f i)) (λ there. sym (has-signed_bundle firms trades signer.network contracts f i firm signer.is below) ∙ inside i there)
-        ∙ ap (λ (h : Bool). h && is_signed contracts (own trades f i)) (sym (in_is firms trades signer.network f firm signer.is b i below)))
+        with_signed (has b i) (is_signed contracts (own trades f i))
+        (λ there. sym (has-signed_bundle firms trades signer.network contracts f i firm signer.is below)
+        ∙ inside i there)
+        ∙ ap (λ (h : Bool). h && is_signed contracts (own trades f i))
+        (sym (in_is firms trades signer.network f firm signer.is b i below)))
 
 -- the utility of all contracts is that of the signed bundle
-own_value : (firms : List Firm) (trades : List Ends) (over : ℤ) (contracts : List Contract) (f : ℕ) (firm : Firm) → IsSigner firms trades contracts f firm
-    → part_utility trades over f firm contracts (own_part trades f contracts) ≡ contract_utility trades over contracts f firm (signed_bundle trades contracts f firm)
+own_value : (firms : List Firm) (trades : List Ends) (over : ℤ) (contracts : List Contract) (f : ℕ) (firm : Firm)
+    → IsSigner firms trades contracts f firm
+    → part_utility trades over f firm contracts (own_part trades f contracts)
+    ≡ contract_utility trades over contracts f firm (signed_bundle trades contracts f firm)
 own_value firms trades over contracts f firm signer =
-    part_is_bundle firms trades over contracts f firm signer (own_part trades f contracts) (own_is_part trades contracts signer.feasible f)
+    part_is_bundle firms trades over contracts f firm signer (own_part trades f contracts)
+    (own_is_part trades contracts signer.feasible f)
     ∙ ap (contract_utility trades over contracts f firm) (own_bundle firms trades contracts f firm signer)
 
-pub finds_drop : (firms : List Firm) (trades : List Ends) (over : ℤ) (contracts : List Contract) (f : ℕ) (firm : Firm) → IsSigner firms trades contracts f firm → (keeps : ℕ) (value : ℤ)
-    → IsBestBetween 0 (signed_bundle trades contracts f firm) (contract_utility trades over contracts f firm) keeps value
-    → (own_utility : Option ℤ) → own_utility ≡ contract_utility trades over contracts f firm (signed_bundle trades contracts f firm)
+pub finds_drop : (firms : List Firm) (trades : List Ends) (over : ℤ) (contracts : List Contract) (f : ℕ) (firm : Firm)
+    → IsSigner firms trades contracts f firm → (keeps : ℕ) (value : ℤ)
+    → IsBestBetween 0 (signed_bundle trades contracts f firm) (contract_utility trades over contracts f firm) keeps
+    value
+    → (own_utility : Option ℤ)
+    → own_utility ≡ contract_utility trades over contracts f firm (signed_bundle trades contracts f firm)
     → (result : Option Kept) → TellsDrop keeps value own_utility result → FindsDrop trades over contracts f firm result
 finds_drop firms trades over contracts f firm signer keeps value best None own_is None tells = absurd tells
 finds_drop firms trades over contracts f firm signer keeps value best None own_is (Some drop) tells =
@@ -91,7 +107,8 @@ finds_drop firms trades over contracts f firm signer keeps value best None own_i
 finds_drop firms trades over contracts f firm signer keeps value best (Some own) own_is None tells =
     rational_from_bundles firms trades over contracts f firm signer own (record {
       is = sym own_is;
-      between = between_signed (signed_bundle trades contracts f firm) (signed_bundle trades contracts f firm) (λ k there. there);
+      between = between_signed (signed_bundle trades contracts f firm) (signed_bundle trades contracts f firm)
+          (λ k there. there);
       most = λ y other between y_is. (let step = best.most y other between y_is in omega (arith, ints, step, tells));
     })
 finds_drop firms trades over contracts f firm signer keeps value best (Some own) own_is (Some drop) tells =
@@ -107,14 +124,18 @@ finds_drop firms trades over contracts f firm signer keeps value best (Some own)
       kept = chosen.part;
       choice = chosen.choice;
       bundle = chosen.bundle ∙ sym tells.0;
-      gains = tells.1 ∙ ap (λ (v : ℤ). Some (v -ℤ own)) (sym chosen.value_is) ∙ sym (ap (option_map (λ own. chosen.choice.value -ℤ own)) some);
+      gains = tells.1 ∙ ap (λ (v : ℤ). Some (v -ℤ own)) (sym chosen.value_is)
+          ∙ sym (ap (option_map (λ own. chosen.choice.value -ℤ own)) some);
     }
 
 -- ---- firm by firm
 
-pub one_kept : (firms : List Firm) (trades : List Ends) (over : ℤ) (contracts : List Contract) (f : ℕ) → AreKeptBefore firms trades over contracts f
-    → ((firm : Firm) → slice_get firms f ≡ Some firm → FindsDrop trades over contracts f firm None) → AreKeptBefore firms trades over contracts (f + 1)
+pub one_kept : (firms : List Firm) (trades : List Ends) (over : ℤ) (contracts : List Contract) (f : ℕ)
+    → AreKeptBefore firms trades over contracts f
+    → ((firm : Firm) → slice_get firms f ≡ Some firm → FindsDrop trades over contracts f firm None)
+    → AreKeptBefore firms trades over contracts (f + 1)
 one_kept firms trades over contracts f before here g firm below is = elim (cases_eq g f) [
-  | inl e ↦ subst (λ (h : ℕ). IsChoice trades over h firm contracts (own_part trades h contracts)) (sym e) (here firm (ap (slice_get firms) (sym e) ∙ is))
+  | inl e ↦ subst (λ (h : ℕ). IsChoice trades over h firm contracts (own_part trades h contracts)) (sym e)
+      (here firm (ap (slice_get firms) (sym e) ∙ is))
   | inr d ↦ before g firm (omega (arith, below, d)) is
 ]

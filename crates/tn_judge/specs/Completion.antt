@@ -11,7 +11,8 @@ use Rattle.tn_judge.specs.Verdict.{IsCompletedBy, IsIncomplete}
 -- prices of the first t trades: those of the contracts, and for unsigned trades their labels less null's
 pub record ArePricesTo (contracts : List Contract) (labels : List ℤ) (null t : ℕ) (prices : List ℤ) : Type 0 where
   pub counted : length prices ≡ t
-  pub each : (i : ℕ) → i < t → price_at prices i ≡ (if is_signed contracts i then signed_price contracts i else label_in labels i -ℤ label_in labels null)
+  pub each : (i : ℕ) → i < t → price_at prices i ≡ (if is_signed contracts i then signed_price contracts i
+      else label_in labels i -ℤ label_in labels null)
 
 -- prices that complete the outcome, none where there are none
 abbrev pub AnswersCompletion : List Firm → List Ends → ℤ → List Contract → Option (List ℤ) → Type 0

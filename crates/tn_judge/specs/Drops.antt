@@ -22,4 +22,5 @@ FindsDrop trades over contracts f firm (Some drop) = WouldDrop trades over contr
 -- the first firm that would drop contracts, none where the outcome is individually rational
 abbrev pub FindsFirst : List Firm → List Ends → ℤ → List Contract → Option (ℕ × Kept) → Type 0
 FindsFirst firms trades over contracts None = IsIndividuallyRational firms trades over contracts
-FindsFirst firms trades over contracts (Some found) = IsFirstDrop firms trades over contracts found.0 found.1.keeps found.1.gain
+FindsFirst firms trades over contracts (Some found) =
+    IsFirstDrop firms trades over contracts found.0 found.1.keeps found.1.gain

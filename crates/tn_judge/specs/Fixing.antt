@@ -1,4 +1,5 @@
--- The fixed graph of an outcome, as its costs are read: the nodes with prices are raised, so that no least walk ends there.
+-- The fixed graph of an outcome, as its costs are read: the nodes with prices are raised, so that no least walk ends
+-- there.
 use Rattle.std.specs.Prelude.{◌≡◌, ℕ, ◌+◌, ℤ, pos, ◌+ℤ◌, ◌-ℤ◌, ◌≤ℤ◌, List, length, slice_index_or, Option, Some, None, option_map}
 use Rattle.tn_base.specs.Arcs.{IsAtMost, AreSmall}
 use Rattle.tn_plain_data.specs.declared.contract.Contract.{Contract}
@@ -23,7 +24,8 @@ raised_arc high arc u v = option_map (λ cost. (cost +ℤ high v) -ℤ high u) (
 
 -- a graph whose costs count so many times, with these prices fixed, and their nodes raised
 abbrev pub raised_fixed : ℤ → List (Option ℤ) → ℕ → (ℕ → ℕ → Option ℤ) → ℕ → ℕ → Option ℤ
-raised_fixed over prices null arc = raised_arc (λ v. height (price_in prices v)) (fixed_at over (price_in prices) null arc)
+raised_fixed over prices null arc =
+    raised_arc (λ v. height (price_in prices v)) (fixed_at over (price_in prices) null arc)
 
 -- the prices of the first so many nodes: those of the contracts on them
 pub record ArePriced (contracts : List Contract) (nodes : ℕ) (prices : List (Option ℤ)) : Type 0 where

@@ -36,7 +36,8 @@ fn completing_price(finder: &Finder, contracts: &Contracts, t: u32, null: u32) -
     requires node { t < length finder.now.labels }
     requires last { null < length finder.now.labels }
     requires small { (v : ℕ) → v < length finder.now.labels → IsAtMost (label_in finder.now.labels v) most_fixed_label }
-    ensures { result ≡ (if is_signed contracts.now t then signed_price contracts.now t else label_in finder.now.labels t -ℤ label_in finder.now.labels null) }
+    ensures { result ≡ (if is_signed contracts.now t then signed_price contracts.now t
+        else label_in finder.now.labels t -ℤ label_in finder.now.labels null) }
 {
     match contract_price(contracts, t) {
         Some(price) => price,
@@ -89,8 +90,10 @@ fn completion_by_labels<V: Oracle>(
 ) -> Result<Option<Prices>, OutOfMemory>
     requires limits { IsWithinLimits V.firm V.limit market.now }
     requires outcome { IsOutcomeOf market.now.trades outcome.now.over outcome.now.contracts }
-    requires possible { network_of V.firm market.now ArePossible (signed (length market.now.trades) outcome.now.contracts) }
-    requires graph { network_of V.firm market.now IsExchangeGraph (signed (length market.now.trades) outcome.now.contracts) graph.now }
+    requires possible { network_of V.firm market.now ArePossible
+        (signed (length market.now.trades) outcome.now.contracts) }
+    requires graph { network_of V.firm market.now IsExchangeGraph
+        (signed (length market.now.trades) outcome.now.contracts) graph.now }
     ensures { IfOk result (network_of V.firm market.now AnswersCompletion outcome.now.over outcome.now.contracts) }
 {
     let null = market.trades();

@@ -32,7 +32,8 @@ fn own_utility<V: Oracle>(
     requires limits { IsWithinLimits V.firm V.limit market.now }
     requires outcome { IsOutcomeOf market.now.trades outcome.now.over outcome.now.contracts }
     requires firm { f < length market.now.firms }
-    ensures value { (v : V) → slice_get market.now.firms f ≡ Some v → result ≡ contract_utility market.now.trades outcome.now.over outcome.now.contracts f (V.firm v)
+    ensures value { (v : V) → slice_get market.now.firms f ≡ Some v
+        → result ≡ contract_utility market.now.trades outcome.now.over outcome.now.contracts f (V.firm v)
         (signed_bundle market.now.trades outcome.now.contracts f (V.firm v)) }
     ensures small { IfSome result (λ value. IsAtMost value most_utility) }
 {
@@ -52,7 +53,8 @@ fn best_kept<V: Oracle>(
     requires limits { IsWithinLimits V.firm V.limit market.now }
     requires outcome { IsOutcomeOf market.now.trades outcome.now.over outcome.now.contracts }
     requires firm { f < length market.now.firms }
-    ensures best { (v : V) → slice_get market.now.firms f ≡ Some v → IsBestBetween 0 (signed_bundle market.now.trades outcome.now.contracts f (V.firm v))
+    ensures best { (v : V) → slice_get market.now.firms f ≡ Some v
+        → IsBestBetween 0 (signed_bundle market.now.trades outcome.now.contracts f (V.firm v))
         (contract_utility market.now.trades outcome.now.over outcome.now.contracts f (V.firm v)) result.0 result.1 }
     ensures small { IsAtMost result.1 most_utility }
 {
@@ -92,7 +94,8 @@ fn drop_at<V: Oracle>(
     requires outcome { IsOutcomeOf market.now.trades outcome.now.over outcome.now.contracts }
     requires network { network_of V.firm market.now IsNetwork }
     requires firm { f < length market.now.firms }
-    ensures { (firm : Firm) → slice_get (map V.firm market.now.firms) f ≡ Some firm → FindsDrop market.now.trades outcome.now.over outcome.now.contracts f firm result }
+    ensures { (firm : Firm) → slice_get (map V.firm market.now.firms) f ≡ Some firm
+        → FindsDrop market.now.trades outcome.now.over outcome.now.contracts f firm result }
 {
     let (keeps, value) = best_kept(market, f, outcome, room);
     drop_from(keeps, value, own_utility(market, f, outcome, room))

@@ -118,7 +118,8 @@ impl Fixed<'_> {
     fn unraised(&self, a: u32, b: u32) -> Option<i128>
         requires from { a ≤ self.now.null }
         requires to { b ≤ self.now.null }
-        ensures cost { result ≡ fixed_at self.now.over (price_in self.now.prices.now) self.now.null (arcs_of self.now.graph.now) a b }
+        ensures cost { result ≡ fixed_at self.now.over (price_in self.now.prices.now) self.now.null
+            (arcs_of self.now.graph.now) a b }
         ensures small { IfSome result (λ cost. IsAtMost cost (most_over * most_exchange_cost)) }
     {
         lesser(self.exchange(a, b), self.fixing(a, b))

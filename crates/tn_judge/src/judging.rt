@@ -1,3 +1,5 @@
+//! The verdict on an outcome, in three steps.
+
 ghost use Rattle.std.specs.Prelude.{◌≡◌, ◌≤◌, IfOk, length, pos, ◌*ℤ◌, ◌≤ℤ◌};
 ghost use Rattle.tn_base.specs.Sets.{size};
 ghost use Rattle.tn_chain.specs.Limits.{most_judged_trades};
@@ -51,10 +53,10 @@ fn blocking_over(outcome: &Outcome, count: u32) -> i128
 }
 
 /// Judges an outcome: prices that complete it, exactly where there are any; or else the first firm that would drop
-/// contracts; or else a chain of contracts that blocks it. It fails only where memory runs out (Hatfield, Kominers, Nichifor,
-/// Ostrovsky and Westkamp, 2013, on stable outcomes and equilibria, and 2021 on chains). The limits of firms and
-/// outcomes hold: at most 1,024 firms, 32 own trades and worths of at most 10^11 in size; the outcome's denominator is 1
-/// to 100, and its numerators are at most 10^11 in size. There are at most 128 trades.
+/// contracts; or else a chain of contracts that blocks it. It fails only where memory runs out (Hatfield, Kominers,
+/// Nichifor, Ostrovsky and Westkamp, 2013, on stable outcomes and equilibria, and 2021 on chains). The limits of firms
+/// and outcomes hold: at most 1,024 firms, 32 own trades and worths of at most 10^11 in size; the outcome's denominator
+/// is 1 to 100, and its numerators are at most 10^11 in size. There are at most 128 trades.
 pub fn judge<V: Oracle>(
     alloc: Global,
     market: &Market<V>,

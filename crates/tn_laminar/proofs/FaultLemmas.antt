@@ -21,8 +21,10 @@ concave_from numbers none k inside =
       after_first = omega arith;
       before_last = omega (arith, inside);
       below =
-          let before : get_or numbers (k + 1 - 1) (pos 0) ≡ get_or numbers k (pos 0) = ap (λ (j : ℕ). get_or numbers j (pos 0)) (omega arith) in
-          let after : get_or numbers (k + 1 + 1) (pos 0) ≡ get_or numbers (k + 2) (pos 0) = ap (λ (j : ℕ). get_or numbers j (pos 0)) (omega arith) in
+          let before : get_or numbers (k + 1 - 1) (pos 0) ≡ get_or numbers k (pos 0) =
+          ap (λ (j : ℕ). get_or numbers j (pos 0)) (omega arith) in
+          let after : get_or numbers (k + 1 + 1) (pos 0) ≡ get_or numbers (k + 2) (pos 0) =
+          ap (λ (j : ℕ). get_or numbers j (pos 0)) (omega arith) in
           omega (arith, ints, below, before, after);
     })))
     (λ above. above)
@@ -47,7 +49,12 @@ bend_from numbers place a b d after_first before_last a_is b_is d_is =
     let before : get_or numbers (place - 1) (pos 0) ≡ a = get_or_from_slice_get numbers (place - 1) a (pos 0) a_is in
     let here : get_or numbers place (pos 0) ≡ b = get_or_from_slice_get numbers place b (pos 0) b_is in
     let after : get_or numbers (place + 1) (pos 0) ≡ d = get_or_from_slice_get numbers (place + 1) d (pos 0) d_is in (
-      (λ below. record { after_first = after_first; before_last = before_last; below = omega (arith, ints, below, before, here, after) }),
+      (λ below. record {
+        after_first = after_first;
+        before_last = before_last;
+        below =
+            omega (arith, ints, below, before, here, after);
+      }),
       (λ bend. let below = bend.below in omega (arith, ints, below, before, here, after)),
     )
 
@@ -59,14 +66,16 @@ set_at sets k inside = elim (slice_get_cases sets k).1 [
 ]
 
 -- the fault of a set after sound ones is the first
-pub fault_first : (sets : List LaminarSet) (k : ℕ) (refusal : LaminarRefusal) → k < length sets → GivesFault sets k (Some refusal) → AreSoundBelow sets k
+pub fault_first : (sets : List LaminarSet) (k : ℕ) (refusal : LaminarRefusal) → k < length sets
+    → GivesFault sets k (Some refusal) → AreSoundBelow sets k
     → IsFirstFault sets refusal
 fault_first sets k refusal inside fault before =
     let found = set_at sets k inside in
     record { at = k; set = found.0; set_is = found.1; fault = fault found.0 found.1; before = before }
 
 -- one more sound set
-pub sound_more : (sets : List LaminarSet) (k : ℕ) → GivesFault sets k None → AreSoundBelow sets k → AreSoundBelow sets (k + 1)
+pub sound_more : (sets : List LaminarSet) (k : ℕ) → GivesFault sets k None → AreSoundBelow sets k
+    → AreSoundBelow sets (k + 1)
 sound_more sets k here before j set below is = elim (cases_eq j k) [
   | inl e ↦ subst (λ (i : ℕ). IsSound sets i set) (sym e) (here set (sym (ap (slice_get sets) e) ∙ is))
   | inr other ↦ before j set (omega (arith, below, other)) is

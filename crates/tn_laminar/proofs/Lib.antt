@@ -1,3 +1,4 @@
+-- The files of lemmas of this crate.
 pub mod ValueLemmas
 pub mod MaskLemmas
 pub mod FaultLemmas

@@ -38,24 +38,31 @@ unfolding counted
 counted-none o is = ap counted is
 
 -- a number of at most 10^9 in size, or none, counts at most 10^12
-pub counted_small : (o : Option ℤ) → IfSome o (λ number. IsAtMost number most_amount) → IsAtMost (counted o) most_counted
+pub counted_small : (o : Option ℤ) → IfSome o (λ number. IsAtMost number most_amount)
+    → IsAtMost (counted o) most_counted
 unfolding counted
 counted_small None small = record { low = omega (arith, ints); high = omega (arith, ints) }
-counted_small (Some number) small = let low = small.low in let high = small.high in record { low = omega (arith, ints, low); high = omega (arith, ints, high) }
+counted_small (Some number) small = let low = small.low in let high = small.high in
+    record { low = omega (arith, ints, low); high = omega (arith, ints, high) }
 
 number_of_small : (buys x : ℕ) (sets : List LaminarSet) (k : ℕ) → All HasNumbersWithin sets
     → IfSome (number_of buys x (slice_get sets k)) (λ number. IsAtMost number most_amount)
 number_of_small buys x sets k all = by (slice_get sets k) refl
   where
-    some : (set : LaminarSet) (o : Option ℤ) → slice_get sets k ≡ Some set → listed_from set.low set.numbers (net buys (meet x set.members)) ≡ o → IfSome o (λ number. IsAtMost number most_amount)
+    some : (set : LaminarSet) (o : Option ℤ) → slice_get sets k ≡ Some set
+        → listed_from set.low set.numbers (net buys (meet x set.members)) ≡ o
+        → IfSome o (λ number. IsAtMost number most_amount)
     some set None is e = tt
-    some set (Some u) is e = listed_small set (all_at HasNumbersWithin sets k set all is) (net buys (meet x set.members)) u e
+    some set (Some u) is e =
+        listed_small set (all_at HasNumbersWithin sets k set all is) (net buys (meet x set.members)) u e
 
-    by : (o : Option LaminarSet) → slice_get sets k ≡ o → IfSome (number_of buys x o) (λ number. IsAtMost number most_amount)
+    by : (o : Option LaminarSet) → slice_get sets k ≡ o
+        → IfSome (number_of buys x o) (λ number. IsAtMost number most_amount)
     by None e = tt
     by (Some set) e = some set (listed_from set.low set.numbers (net buys (meet x set.members))) e refl
 
-pub counted_sum-next : (buys : ℕ) (sets : List LaminarSet) (k x : ℕ) → counted_sum buys sets (k + 1) x ≡ counted_sum buys sets k x +ℤ counted (number_of buys x (slice_get sets k))
+pub counted_sum-next : (buys : ℕ) (sets : List LaminarSet) (k x : ℕ)
+    → counted_sum buys sets (k + 1) x ≡ counted_sum buys sets k x +ℤ counted (number_of buys x (slice_get sets k))
 unfolding counted_sum
 counted_sum-next buys sets k x = rw add-one refl
 
@@ -63,13 +70,15 @@ pub counted_sum-none : (buys : ℕ) (sets : List LaminarSet) (x : ℕ) → count
 unfolding counted_sum
 counted_sum-none buys sets x = refl
 
-pub counted_sum_small : (buys : ℕ) (sets : List LaminarSet) (k x : ℕ) → All HasNumbersWithin sets → IsAtMost (counted_sum buys sets k x) (k * most_counted)
+pub counted_sum_small : (buys : ℕ) (sets : List LaminarSet) (k x : ℕ) → All HasNumbersWithin sets
+    → IsAtMost (counted_sum buys sets k x) (k * most_counted)
 counted_sum_small buys sets zero x all =
     let none = counted_sum-none buys sets x in
     record { low = omega (arith, ints, none); high = omega (arith, ints, none) }
 counted_sum_small buys sets (suc k) x all =
     let one : suc k ≡ k + 1 = omega arith in
-    let next : counted_sum buys sets (suc k) x ≡ counted_sum buys sets k x +ℤ counted (number_of buys x (slice_get sets k)) =
+    let next : counted_sum buys sets (suc k) x ≡ counted_sum buys sets k x
+    +ℤ counted (number_of buys x (slice_get sets k)) =
     ap (λ (j : ℕ). counted_sum buys sets j x) one ∙ counted_sum-next buys sets k x in
     let rest = counted_sum_small buys sets k x all in
     let here = counted_small (number_of buys x (slice_get sets k)) (number_of_small buys x sets k all) in
@@ -84,14 +93,16 @@ counted_sum_small buys sets (suc k) x all =
 -- so far all numbers were listed, or one wasn't, and then the sum is far too low
 abbrev IsCounted : ℕ → List LaminarSet → ℕ → ℕ → Type 0
 IsCounted buys sets x k = CountsSoFar buys sets x k (counted_sum buys sets k x)
-    ⊎ ((None ≡ count_sum buys (map term_of sets) x) × (counted_sum buys sets k x ≤ℤ (neg_ℤ (pos most_counted) +ℤ pos (k * most_amount))))
+    ⊎ ((None ≡ count_sum buys (map term_of sets) x)
+    × (counted_sum buys sets k x ≤ℤ (neg_ℤ (pos most_counted) +ℤ pos (k * most_amount))))
 
 counted_most : (o : Option ℤ) → IfSome o (λ number. IsAtMost number most_amount) → counted o ≤ℤ pos most_amount
 unfolding counted
 counted_most None small = omega (arith, ints)
 counted_most (Some number) small = small.high
 
-is_counted : (buys : ℕ) (sets : List LaminarSet) (x k : ℕ) → All HasNumbersWithin sets → k ≤ length sets → IsCounted buys sets x k
+is_counted : (buys : ℕ) (sets : List LaminarSet) (x k : ℕ) → All HasNumbersWithin sets → k ≤ length sets
+    → IsCounted buys sets x k
 is_counted buys sets x zero all within =
     inl (subst (λ (z : ℤ). CountsSoFar buys sets x 0 z) (sym (counted_sum-none buys sets x)) (counts_none buys sets x))
 is_counted buys sets x (suc k) all within =
@@ -105,19 +116,26 @@ is_counted buys sets x (suc k) all within =
     small : IfSome (number_of buys x (slice_get sets k)) (λ number. IsAtMost number most_amount)
     small = number_of_small buys x sets k all
 
-    sum_is : counted_sum buys sets (k + 1) x ≡ counted_sum buys sets k x +ℤ counted (number_of buys x (slice_get sets k))
+    sum_is : counted_sum buys sets (k + 1) x ≡ counted_sum buys sets k x
+        +ℤ counted (number_of buys x (slice_get sets k))
     sum_is = counted_sum-next buys sets k x
 
-    next : (o : Option ℤ) → number_of buys x (slice_get sets k) ≡ o → IsCounted buys sets x k → IsCounted buys sets x (k + 1)
+    next : (o : Option ℤ) → number_of buys x (slice_get sets k) ≡ o → IsCounted buys sets x k
+        → IsCounted buys sets x (k + 1)
     next (Some number) is (inl so_far) =
-        let fits : IsAtMost number most_amount = subst (λ (p : Option ℤ). IfSome p (λ a. IsAtMost a most_amount)) is small in
+        let fits : IsAtMost number most_amount =
+        subst (λ (p : Option ℤ). IfSome p (λ a. IsAtMost a most_amount)) is small in
         let counts : counted (number_of buys x (slice_get sets k)) ≡ number = counted-some _ number is in
-        inl (subst (λ (z : ℤ). CountsSoFar buys sets x (k + 1) z) (sym (sum_is ∙ ap (λ (z : ℤ). counted_sum buys sets k x +ℤ z) counts))
+        inl (subst (λ (z : ℤ). CountsSoFar buys sets x (k + 1) z)
+        (sym (sum_is ∙ ap (λ (z : ℤ). counted_sum buys sets k x +ℤ z) counts))
         (counts_more buys sets x k (counted_sum buys sets k x) number inside is fits so_far))
     next None is (inl so_far) =
         let counts : counted (number_of buys x (slice_get sets k)) ≡ neg_ℤ (pos most_counted) = counted-none _ is in
         let high = so_far.small.high in
-        inr (counts_stop buys sets x k (counted_sum buys sets k x) inside is so_far, omega (arith, ints, sum_is, counts, high))
+        inr (
+          counts_stop buys sets x k (counted_sum buys sets k x) inside is so_far,
+          omega (arith, ints, sum_is, counts, high),
+        )
     next o is (inr gone) =
         let most = counted_most (number_of buys x (slice_get sets k)) small in
         let low = gone.1 in
@@ -142,7 +160,8 @@ pub listed_sum_is : (buys : ℕ) (sets : List LaminarSet) (x : ℕ) → All HasN
     → listed_sum (counted_sum buys sets (length sets) x) ≡ count_sum buys (map term_of sets) x
 listed_sum_is buys sets x all few = by (is_counted buys sets x (length sets) all (omega arith))
   where
-    by : IsCounted buys sets x (length sets) → listed_sum (counted_sum buys sets (length sets) x) ≡ count_sum buys (map term_of sets) x
+    by : IsCounted buys sets x (length sets) → listed_sum (counted_sum buys sets (length sets) x)
+        ≡ count_sum buys (map term_of sets) x
     by (inl so_far) =
         let low = so_far.small.low in
         listed_sum-high _ (omega (arith, ints, low, few)) ∙ counts_all buys sets x (length sets) _ (omega arith) so_far
@@ -184,48 +203,64 @@ member_change buys x j set slope is member = by (has buys j) (has x j) refl refl
 
     by : (p q : Bool) → has buys j ≡ p → has x j ≡ q
         → number_at (net buys (meet (toggle x j) set.members)) -ℤ number_at (net buys (meet x set.members))
-        ≡ (if has buys j then (if has x j then slope.down else slope.up) else (if has x j then slope.up else slope.down))
+        ≡ (if has buys j then (if has x j then slope.down else slope.up)
+        else (if has x j then slope.up else slope.down))
     by true true bought inside =
-        ap (λ (z : ℤ). number_at z -ℤ number_at (net buys (meet x set.members))) (toggled ∙ net-toggle_buy_out buys (meet x set.members) j bought (in_both true inside))
-        ∙ down ∙ sym (ap₂ (λ (p q : Bool). if p then (if q then slope.down else slope.up) else (if q then slope.up else slope.down)) bought inside)
+        ap (λ (z : ℤ). number_at z -ℤ number_at (net buys (meet x set.members))) (toggled
+        ∙ net-toggle_buy_out buys (meet x set.members) j bought (in_both true inside))
+        ∙ down ∙ sym (ap₂ (λ (p q : Bool). if p then (if q then slope.down else slope.up)
+        else (if q then slope.up else slope.down)) bought inside)
     by true false bought outside =
-        ap (λ (z : ℤ). number_at z -ℤ number_at (net buys (meet x set.members))) (toggled ∙ net-toggle_buy_in buys (meet x set.members) j bought (in_both false outside))
-        ∙ up ∙ sym (ap₂ (λ (p q : Bool). if p then (if q then slope.down else slope.up) else (if q then slope.up else slope.down)) bought outside)
+        ap (λ (z : ℤ). number_at z -ℤ number_at (net buys (meet x set.members))) (toggled
+        ∙ net-toggle_buy_in buys (meet x set.members) j bought (in_both false outside))
+        ∙ up ∙ sym (ap₂ (λ (p q : Bool). if p then (if q then slope.down else slope.up)
+        else (if q then slope.up else slope.down)) bought outside)
     by false true sold inside =
-        ap (λ (z : ℤ). number_at z -ℤ number_at (net buys (meet x set.members))) (toggled ∙ net-toggle_sell_out buys (meet x set.members) j sold (in_both true inside))
-        ∙ up ∙ sym (ap₂ (λ (p q : Bool). if p then (if q then slope.down else slope.up) else (if q then slope.up else slope.down)) sold inside)
+        ap (λ (z : ℤ). number_at z -ℤ number_at (net buys (meet x set.members))) (toggled
+        ∙ net-toggle_sell_out buys (meet x set.members) j sold (in_both true inside))
+        ∙ up ∙ sym (ap₂ (λ (p q : Bool). if p then (if q then slope.down else slope.up)
+        else (if q then slope.up else slope.down)) sold inside)
     by false false sold outside =
-        ap (λ (z : ℤ). number_at z -ℤ number_at (net buys (meet x set.members))) (toggled ∙ net-toggle_sell_in buys (meet x set.members) j sold (in_both false outside))
-        ∙ down ∙ sym (ap₂ (λ (p q : Bool). if p then (if q then slope.down else slope.up) else (if q then slope.up else slope.down)) sold outside)
+        ap (λ (z : ℤ). number_at z -ℤ number_at (net buys (meet x set.members))) (toggled
+        ∙ net-toggle_sell_in buys (meet x set.members) j sold (in_both false outside))
+        ∙ down ∙ sym (ap₂ (λ (p q : Bool). if p then (if q then slope.down else slope.up)
+        else (if q then slope.up else slope.down)) sold outside)
 
 -- one set more changes a position's sum by what its own number changes
 change_next : (buys : ℕ) (sets : List LaminarSet) (k x j : ℕ) → counted_change buys sets (k + 1) x j
-    ≡ counted_change buys sets k x j +ℤ (counted (number_of buys (toggle x j) (slice_get sets k)) -ℤ counted (number_of buys x (slice_get sets k)))
+    ≡ counted_change buys sets k x j +ℤ (counted (number_of buys (toggle x j) (slice_get sets k))
+    -ℤ counted (number_of buys x (slice_get sets k)))
 change_next buys sets k x j =
     let first = counted_sum-next buys sets k (toggle x j) in
     let second = counted_sum-next buys sets k x in
     omega (arith, ints, first, second)
 
-pub member_changes : (buys : ℕ) (sets : List LaminarSet) (k x j : ℕ) (set : LaminarSet) (slope : Slope) → slice_get sets k ≡ Some set → IsSlope buys x set slope
-    → has set.members j ≡ true → counted_change buys sets (k + 1) x j ≡ counted_change buys sets k x j +ℤ step_of buys x slope j
+pub member_changes : (buys : ℕ) (sets : List LaminarSet) (k x j : ℕ) (set : LaminarSet) (slope : Slope)
+    → slice_get sets k ≡ Some set → IsSlope buys x set slope
+    → has set.members j ≡ true → counted_change buys sets (k + 1) x j ≡ counted_change buys sets k x j
+    +ℤ step_of buys x slope j
 member_changes buys sets k x j set slope is slope_is member =
     change_next buys sets k x j
-    ∙ ap (λ (o : Option LaminarSet). counted_change buys sets k x j +ℤ (counted (number_of buys (toggle x j) o) -ℤ counted (number_of buys x o))) is
+    ∙ ap (λ (o : Option LaminarSet). counted_change buys sets k x j
+    +ℤ (counted (number_of buys (toggle x j) o) -ℤ counted (number_of buys x o))) is
     ∙ ap (λ (z : ℤ). counted_change buys sets k x j +ℤ z) (member_change buys x j set slope slope_is member)
 
 -- by nothing, if the set doesn't hold it
-pub other_changes : (buys : ℕ) (sets : List LaminarSet) (k x j : ℕ) (set : LaminarSet) → slice_get sets k ≡ Some set → has set.members j ≡ false
+pub other_changes : (buys : ℕ) (sets : List LaminarSet) (k x j : ℕ) (set : LaminarSet) → slice_get sets k ≡ Some set
+    → has set.members j ≡ false
     → counted_change buys sets (k + 1) x j ≡ counted_change buys sets k x j
 other_changes buys sets k x j set is absent =
     let same : counted (number_of buys (toggle x j) (Some set)) ≡ counted (number_of buys x (Some set)) =
     ap (λ (y : ℕ). counted (listed_from set.low set.numbers (net buys y))) (meet-toggle_out x set.members j absent) in
     let one =
     change_next buys sets k x j
-    ∙ ap (λ (o : Option LaminarSet). counted_change buys sets k x j +ℤ (counted (number_of buys (toggle x j) o) -ℤ counted (number_of buys x o))) is in
+    ∙ ap (λ (o : Option LaminarSet). counted_change buys sets k x j
+    +ℤ (counted (number_of buys (toggle x j) o) -ℤ counted (number_of buys x o))) is in
     omega (arith, ints, same, one)
 
 -- the slope that the code reads off
-pub slope_is : (buys x : ℕ) (sets : List LaminarSet) (masks : List Masks) (k : ℕ) (set : LaminarSet) (mask : Masks) (here above below : ℤ)
+pub slope_is : (buys x : ℕ) (sets : List LaminarSet) (masks : List Masks) (k : ℕ) (set : LaminarSet) (mask : Masks)
+    (here above below : ℤ)
     → masks ≡ map (λ set. masks_of buys set.members) sets → slice_get sets k ≡ Some set → slice_get masks k ≡ Some mask
     → here ≡ counted (listed_from set.low set.numbers (net_within mask x))
     → above ≡ counted (listed_from set.low set.numbers (net_within mask x +ℤ pos 1))
@@ -253,21 +288,28 @@ slope_is buys x sets masks k set mask here above below masked set_is mask_is her
 -- the changes by the first k sets, with the set at place k too for all but the rest of its members
 pub record IsAdding (buys : ℕ) (sets : List LaminarSet) (k x n members rest : ℕ) (changes : List ℤ) : Type 0 where
   pub within : (i : ℕ) → has rest i ≡ true → has members i ≡ true
-  pub are : (i : ℕ) → i < n → get_or changes i (pos 0) ≡ (if has rest i then counted_change buys sets k x i else counted_change buys sets (k + 1) x i)
+  pub are : (i : ℕ) → i < n → get_or changes i (pos 0) ≡ (if has rest i then counted_change buys sets k x i
+      else counted_change buys sets (k + 1) x i)
 
-pub adding_start : (buys : ℕ) (sets : List LaminarSet) (k x n : ℕ) (set : LaminarSet) (changes : List ℤ) → slice_get sets k ≡ Some set
+pub adding_start : (buys : ℕ) (sets : List LaminarSet) (k x n : ℕ) (set : LaminarSet) (changes : List ℤ)
+    → slice_get sets k ≡ Some set
     → AreChanges buys sets k x n changes → IsAdding buys sets k x n set.members set.members changes
 adding_start buys sets k x n set changes is so_far = record {
   within = λ i h. h;
   are = λ i below. so_far i below ∙ elim (cases_Bool (has set.members i)) [
-    | inl member ↦ sym (ap (λ (b : Bool). if b then counted_change buys sets k x i else counted_change buys sets (k + 1) x i) member)
+    | inl member ↦
+        sym (ap (λ (b : Bool). if b then counted_change buys sets k x i
+        else counted_change buys sets (k + 1) x i) member)
     | inr absent ↦
-        sym (ap (λ (b : Bool). if b then counted_change buys sets k x i else counted_change buys sets (k + 1) x i) absent ∙ other_changes buys sets k x i set is absent)
+        sym (ap (λ (b : Bool). if b then counted_change buys sets k x i
+        else counted_change buys sets (k + 1) x i) absent ∙ other_changes buys sets k x i set is absent)
   ];
 }
 
-pub adding_more : (buys : ℕ) (sets : List LaminarSet) (k x n : ℕ) (set : LaminarSet) (slope : Slope) (rest j : ℕ) (changes : List ℤ) → slice_get sets k ≡ Some set
-    → IsSlope buys x set slope → IsAdding buys sets k x n set.members rest changes → has rest j ≡ true → j < length changes → (sum : ℤ)
+pub adding_more : (buys : ℕ) (sets : List LaminarSet) (k x n : ℕ) (set : LaminarSet) (slope : Slope) (rest j : ℕ)
+    (changes : List ℤ) → slice_get sets k ≡ Some set
+    → IsSlope buys x set slope → IsAdding buys sets k x n set.members rest changes → has rest j ≡ true
+    → j < length changes → (sum : ℤ)
     → sum ≡ counted_change buys sets k x j +ℤ step_of buys x slope j
     → IsAdding buys sets k x n set.members (toggle rest j) (set_at changes j sum)
 adding_more buys sets k x n set slope rest j changes is slope_is adding member inside sum sum_is = record {
@@ -277,41 +319,53 @@ adding_more buys sets k x n set slope rest j changes is slope_is adding member i
   ];
   are = λ i below. elim (cases_eq i j) [
     | inl e ↦
-        let gone : has (toggle rest j) i ≡ false = ap (has (toggle rest j)) e ∙ has-toggle_same rest j ∙ ap not member in
-        ap (λ (m : ℕ). get_or (set_at changes j sum) m (pos 0)) e ∙ get_or-set_same changes j sum (pos 0) inside ∙ sum_is
+        let gone : has (toggle rest j) i ≡ false = ap (has (toggle rest j)) e ∙ has-toggle_same rest j ∙ ap not member
+        in
+        ap (λ (m : ℕ). get_or (set_at changes j sum) m (pos 0)) e ∙ get_or-set_same changes j sum (pos 0) inside
+        ∙ sum_is
         ∙ sym (member_changes buys sets k x j set slope is slope_is (adding.within j member))
         ∙ ap (λ (m : ℕ). counted_change buys sets (k + 1) x m) (sym e)
-        ∙ sym (ap (λ (b : Bool). if b then counted_change buys sets k x i else counted_change buys sets (k + 1) x i) gone)
+        ∙ sym (ap (λ (b : Bool). if b then counted_change buys sets k x i
+        else counted_change buys sets (k + 1) x i) gone)
     | inr d ↦
         get_or-set_other changes j i sum (pos 0) d ∙ adding.are i below
-        ∙ ap (λ (b : Bool). if b then counted_change buys sets k x i else counted_change buys sets (k + 1) x i) (sym (has-toggle_other rest j i d))
+        ∙ ap (λ (b : Bool). if b then counted_change buys sets k x i
+        else counted_change buys sets (k + 1) x i) (sym (has-toggle_other rest j i d))
   ];
 }
 
-pub adding_end : (buys : ℕ) (sets : List LaminarSet) (k x n members rest : ℕ) (changes : List ℤ) → IsAdding buys sets k x n members rest changes → rest ≡ 0
+pub adding_end : (buys : ℕ) (sets : List LaminarSet) (k x n members rest : ℕ) (changes : List ℤ)
+    → IsAdding buys sets k x n members rest changes → rest ≡ 0
     → AreChanges buys sets (k + 1) x n changes
 adding_end buys sets k x n members rest changes adding none i below =
-    adding.are i below ∙ ap (λ (b : Bool). if b then counted_change buys sets k x i else counted_change buys sets (k + 1) x i) (ap (λ (y : ℕ). has y i) none ∙ has-zero i)
+    adding.are i below ∙ ap (λ (b : Bool). if b then counted_change buys sets k x i
+    else counted_change buys sets (k + 1) x i) (ap (λ (y : ℕ). has y i) none ∙ has-zero i)
 
 -- a member of the rest is one of the firm's positions, and its change is by the first k sets alone
-pub rest_own : (buys : ℕ) (sets : List LaminarSet) (k x n : ℕ) (set : LaminarSet) (rest j : ℕ) (changes : List ℤ) → All (IsOwnSet n) sets → slice_get sets k ≡ Some set
+pub rest_own : (buys : ℕ) (sets : List LaminarSet) (k x n : ℕ) (set : LaminarSet) (rest j : ℕ) (changes : List ℤ)
+    → All (IsOwnSet n) sets → slice_get sets k ≡ Some set
     → IsAdding buys sets k x n set.members rest changes → has rest j ≡ true → j < n
-rest_own buys sets k x n set rest j changes own is adding member = has_below set.members n j (all_at (IsOwnSet n) sets k set own is) (adding.within j member)
+rest_own buys sets k x n set rest j changes own is adding member =
+    has_below set.members n j (all_at (IsOwnSet n) sets k set own is) (adding.within j member)
 
 pub rest_change : (buys : ℕ) (sets : List LaminarSet) (k x n : ℕ) (set : LaminarSet) (rest j : ℕ) (changes : List ℤ)
-    → IsAdding buys sets k x n set.members rest changes → has rest j ≡ true → j < n → get_or changes j (pos 0) ≡ counted_change buys sets k x j
+    → IsAdding buys sets k x n set.members rest changes → has rest j ≡ true → j < n
+    → get_or changes j (pos 0) ≡ counted_change buys sets k x j
 rest_change buys sets k x n set rest j changes adding member below =
-    adding.are j below ∙ ap (λ (b : Bool). if b then counted_change buys sets k x j else counted_change buys sets (k + 1) x j) member
+    adding.are j below ∙ ap (λ (b : Bool). if b then counted_change buys sets k x j
+    else counted_change buys sets (k + 1) x j) member
 
 -- the code's numbers fit
-pub change_small : (buys : ℕ) (sets : List LaminarSet) (k x j : ℕ) → All HasNumbersWithin sets → IsAtMost (counted_change buys sets k x j) (2 * (k * most_counted))
+pub change_small : (buys : ℕ) (sets : List LaminarSet) (k x j : ℕ) → All HasNumbersWithin sets
+    → IsAtMost (counted_change buys sets k x j) (2 * (k * most_counted))
 change_small buys sets k x j all =
     let first = counted_sum_small buys sets k (toggle x j) all in
     let second = counted_sum_small buys sets k x all in
     record { low = omega (arith, ints, first.low, second.high); high = omega (arith, ints, first.high, second.low) }
 
 -- no set changes nothing
-pub changes_none : (buys : ℕ) (sets : List LaminarSet) (x n : ℕ) (changes : List ℤ) → ((j : ℕ) → j < n → get_or changes j (pos 0) ≡ pos 0) → AreChanges buys sets 0 x n changes
+pub changes_none : (buys : ℕ) (sets : List LaminarSet) (x n : ℕ) (changes : List ℤ)
+    → ((j : ℕ) → j < n → get_or changes j (pos 0) ≡ pos 0) → AreChanges buys sets 0 x n changes
 changes_none buys sets x n changes zeros j below =
     let first = counted_sum-none buys sets (toggle x j) in
     let second = counted_sum-none buys sets x in
@@ -322,52 +376,81 @@ changes_none buys sets x n changes zeros j below =
 
 -- the worth of an own bundle is the sum of its amounts and numbers
 pub worth_at : (count buys : ℕ) (amounts : List ℤ) (sets : List LaminarSet) (y : ℕ) → y < 2 ^ count
-    → both (Some (sum_over (amount_at amounts) count y)) (count_sum buys (map term_of sets) y) ≡ (laminar_sum count buys amounts sets).worth y
+    → both (Some (sum_over (amount_at amounts) count y)) (count_sum buys (map term_of sets) y)
+    ≡ (laminar_sum count buys amounts sets).worth y
 worth_at count buys amounts sets y own =
-    sym (ap (λ (b : Bool). if b then both (Some (sum_over (amount_at amounts) count y)) (count_sum buys (map term_of sets) y) else None) (lt-ltb y (2 ^ count) own))
+    sym (ap (λ (b : Bool). if b
+    then both (Some (sum_over (amount_at amounts) count y)) (count_sum buys (map term_of sets) y)
+    else None) (lt-ltb y (2 ^ count) own))
 
 -- so it is by what the numbers count, where one isn't listed and where all are
-pub worth_none : (count buys : ℕ) (amounts : List ℤ) (sets : List LaminarSet) (y : ℕ) → y < 2 ^ count → All HasNumbersWithin sets → length sets ≤ most_sets
+pub worth_none : (count buys : ℕ) (amounts : List ℤ) (sets : List LaminarSet) (y : ℕ) → y < 2 ^ count
+    → All HasNumbersWithin sets → length sets ≤ most_sets
     → listed_sum (counted_sum buys sets (length sets) y) ≡ None → None ≡ (laminar_sum count buys amounts sets).worth y
 worth_none count buys amounts sets y own all few none =
-    ap (both (Some (sum_over (amount_at amounts) count y))) (sym none ∙ listed_sum_is buys sets y all few) ∙ worth_at count buys amounts sets y own
+    ap (both (Some (sum_over (amount_at amounts) count y))) (sym none ∙ listed_sum_is buys sets y all few)
+    ∙ worth_at count buys amounts sets y own
 
-pub worth_some : (count buys : ℕ) (amounts : List ℤ) (sets : List LaminarSet) (y : ℕ) (numbers : ℤ) → y < 2 ^ count → All HasNumbersWithin sets → length sets ≤ most_sets
+pub worth_some : (count buys : ℕ) (amounts : List ℤ) (sets : List LaminarSet) (y : ℕ) (numbers : ℤ) → y < 2 ^ count
+    → All HasNumbersWithin sets → length sets ≤ most_sets
     → listed_sum (counted_sum buys sets (length sets) y) ≡ Some numbers
-    → (IsAtMost numbers (most_sets * most_amount)) × (Some (sum_over (amount_at amounts) count y +ℤ numbers) ≡ (laminar_sum count buys amounts sets).worth y)
+    → (IsAtMost numbers (most_sets * most_amount))
+    × (Some (sum_over (amount_at amounts) count y +ℤ numbers) ≡ (laminar_sum count buys amounts sets).worth y)
 worth_some count buys amounts sets y numbers own all few some =
-    let is : Some numbers ≡ count_sum buys (map term_of sets) y = sym some ∙ listed_sum_is buys sets y all few in
-    (numbers_small buys y sets few all numbers (sym is), ap (both (Some (sum_over (amount_at amounts) count y))) is ∙ worth_at count buys amounts sets y own)
+    let is : Some numbers ≡ count_sum buys (map term_of sets) y = sym some ∙ listed_sum_is buys sets y all few in (
+      numbers_small buys y sets few all numbers (sym is),
+      ap (both (Some (sum_over (amount_at amounts) count y))) is ∙ worth_at count buys amounts sets y own,
+    )
 
 -- ---- the amounts
 
 -- an amount less where the position is moved out, and one more where it is moved in
-pub amount_out : (count : ℕ) (amounts : List ℤ) (x k : ℕ) (amount own : ℤ) → count ≤ most_own → length amounts ≡ count → All (λ a. IsAtMost a most_amount) amounts
+pub amount_out : (count : ℕ) (amounts : List ℤ) (x k : ℕ) (amount own : ℤ) → count ≤ most_own → length amounts ≡ count
+    → All (λ a. IsAtMost a most_amount) amounts
     → k < count → amount ≡ sum_over (amount_at amounts) count x → own ≡ amount_at amounts k → has x k ≡ true
-    → (amount -ℤ own ≡ sum_over (amount_at amounts) count (toggle x k)) × IsAtMost (amount -ℤ own) (most_own * most_amount)
+    → (amount -ℤ own ≡ sum_over (amount_at amounts) count (toggle x k))
+    × IsAtMost (amount -ℤ own) (most_own * most_amount)
 amount_out count amounts x k amount own few as_many small below amount_is own_is present =
     let toggled = sum_over-toggle_out (amount_at amounts) count x k below present in
-    let is : amount -ℤ own ≡ sum_over (amount_at amounts) count (toggle x k) = omega (arith, ints, toggled, amount_is, own_is) in
-    (is, subst (λ (z : ℤ). IsAtMost z (most_own * most_amount)) (sym is) (amounts_small count amounts (toggle x k) few as_many small))
+    let is : amount -ℤ own ≡ sum_over (amount_at amounts) count (toggle x k) =
+    omega (arith, ints, toggled, amount_is, own_is) in (
+      is,
+      subst (λ (z : ℤ). IsAtMost z (most_own * most_amount)) (sym is)
+          (amounts_small count amounts (toggle x k) few as_many small),
+    )
 
-pub amount_in : (count : ℕ) (amounts : List ℤ) (x k : ℕ) (amount own : ℤ) → count ≤ most_own → length amounts ≡ count → All (λ a. IsAtMost a most_amount) amounts
+pub amount_in : (count : ℕ) (amounts : List ℤ) (x k : ℕ) (amount own : ℤ) → count ≤ most_own → length amounts ≡ count
+    → All (λ a. IsAtMost a most_amount) amounts
     → k < count → amount ≡ sum_over (amount_at amounts) count x → own ≡ amount_at amounts k → has x k ≡ false
-    → (amount +ℤ own ≡ sum_over (amount_at amounts) count (toggle x k)) × IsAtMost (amount +ℤ own) (most_own * most_amount)
+    → (amount +ℤ own ≡ sum_over (amount_at amounts) count (toggle x k))
+    × IsAtMost (amount +ℤ own) (most_own * most_amount)
 amount_in count amounts x k amount own few as_many small below amount_is own_is absent =
     let toggled = sum_over-toggle_in (amount_at amounts) count x k below absent in
-    let is : amount +ℤ own ≡ sum_over (amount_at amounts) count (toggle x k) = omega (arith, ints, toggled, amount_is, own_is) in
-    (is, subst (λ (z : ℤ). IsAtMost z (most_own * most_amount)) (sym is) (amounts_small count amounts (toggle x k) few as_many small))
+    let is : amount +ℤ own ≡ sum_over (amount_at amounts) count (toggle x k) =
+    omega (arith, ints, toggled, amount_is, own_is) in (
+      is,
+      subst (λ (z : ℤ). IsAtMost z (most_own * most_amount)) (sym is)
+          (amounts_small count amounts (toggle x k) few as_many small),
+    )
 
 -- such a sum is in the range of the code's
 pub amount_fits : (z : ℤ) → IsAtMost z (most_own * most_amount) → SFits w128 z
 amount_fits z small = let low = small.low in let high = small.high in omega (arith, ints, low, high)
 
 -- what the numbers count, with a position's change
-pub toggled_numbers : (buys : ℕ) (sets : List LaminarSet) (x j : ℕ) (numbers change : ℤ) → All HasNumbersWithin sets → length sets ≤ most_sets
+pub toggled_numbers : (buys : ℕ) (sets : List LaminarSet) (x j : ℕ) (numbers change : ℤ) → All HasNumbersWithin sets
+    → length sets ≤ most_sets
     → numbers ≡ counted_sum buys sets (length sets) x → change ≡ counted_change buys sets (length sets) x j
-    → (numbers +ℤ change ≡ counted_sum buys sets (length sets) (toggle x j)) × IsAtMost change (2 * (most_sets * most_counted))
+    → (numbers +ℤ change ≡ counted_sum buys sets (length sets) (toggle x j))
+    × IsAtMost change (2 * (most_sets * most_counted))
 toggled_numbers buys sets x j numbers change all few numbers_are change_is =
     let small = change_small buys sets (length sets) x j all in
     let low = small.low in
-    let high = small.high in
-    (omega (arith, ints, numbers_are, change_is), record { low = omega (arith, ints, change_is, low, few); high = omega (arith, ints, change_is, high, few) })
+    let high = small.high in (
+      omega (arith, ints, numbers_are, change_is),
+      record {
+        low = omega (arith, ints, change_is, low, few);
+        high =
+            omega (arith, ints, change_is, high, few);
+      },
+    )

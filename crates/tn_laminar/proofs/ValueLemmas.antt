@@ -48,7 +48,8 @@ counts_none buys sets x = record {
 -- the rest begins with the set at the place
 rest_at : (buys : ℕ) (sets : List LaminarSet) (x k : ℕ) (set : LaminarSet) → slice_get sets k ≡ Some set
     → count_sum buys (map term_of (drop k sets)) x
-    ≡ both (listed_from set.low set.numbers (net buys (meet x set.members))) (count_sum buys (map term_of (drop (k + 1) sets)) x)
+    ≡ both (listed_from set.low set.numbers (net buys (meet x set.members)))
+    (count_sum buys (map term_of (drop (k + 1) sets)) x)
 rest_at buys sets x k set is =
     at_drop_more (λ rest. count_sum buys (map term_of rest) x) sets k set (slice_get_within sets k set is)
     ∙ ap (λ s. count_sum buys (map term_of (s ∷ drop (k + 1) sets)) x) (get_or_from_slice_get sets k set set is)
@@ -59,7 +60,8 @@ pub counts_more : (buys : ℕ) (sets : List LaminarSet) (x k : ℕ) (total numbe
     → CountsSoFar buys sets x k total → CountsSoFar buys sets x (k + 1) (total +ℤ number)
 counts_more buys sets x k total number inside number_is small so_far = by (slice_get sets k) refl number_is
   where
-    by : (o : Option LaminarSet) → slice_get sets k ≡ o → number_of buys x o ≡ Some number → CountsSoFar buys sets x (k + 1) (total +ℤ number)
+    by : (o : Option LaminarSet) → slice_get sets k ≡ o → number_of buys x o ≡ Some number
+        → CountsSoFar buys sets x (k + 1) (total +ℤ number)
     by None e f = absurd (none-some number f)
     by (Some set) e f =
         let a = small.low in
@@ -81,7 +83,8 @@ pub counts_stop : (buys : ℕ) (sets : List LaminarSet) (x k : ℕ) (total : ℤ
     → CountsSoFar buys sets x k total → None ≡ count_sum buys (map term_of sets) x
 counts_stop buys sets x k total inside none so_far = by (slice_get sets k) refl none
   where
-    by : (o : Option LaminarSet) → slice_get sets k ≡ o → number_of buys x o ≡ None → None ≡ count_sum buys (map term_of sets) x
+    by : (o : Option LaminarSet) → slice_get sets k ≡ o → number_of buys x o ≡ None
+        → None ≡ count_sum buys (map term_of sets) x
     by None e f =
         let there = slice_get_past_not sets k inside in
         absurd (there e)
@@ -91,7 +94,8 @@ counts_stop buys sets x k total inside none so_far = by (slice_get sets k) refl 
         ∙ so_far.is
 
 -- all sets
-pub counts_all : (buys : ℕ) (sets : List LaminarSet) (x k : ℕ) (total : ℤ) → length sets ≤ k → CountsSoFar buys sets x k total
+pub counts_all : (buys : ℕ) (sets : List LaminarSet) (x k : ℕ) (total : ℤ) → length sets ≤ k
+    → CountsSoFar buys sets x k total
     → Some total ≡ count_sum buys (map term_of sets) x
 counts_all buys sets x k total end so_far =
     let last : total +ℤ pos 0 ≡ total = omega (arith, ints) in
@@ -111,12 +115,14 @@ pub net_by_masks : (buys : ℕ) (sets : List LaminarSet) (masks : List Masks) (x
 net_by_masks buys sets masks x k set mask masked set_is mask_is =
     let mask_of : mask ≡ masks_of buys set.members =
     same_Some mask (masks_of buys set.members)
-    (sym mask_is ∙ ap (λ (l : List Masks). slice_get l k) masked ∙ slice_get-map (λ set. masks_of buys set.members) sets k
+    (sym mask_is ∙ ap (λ (l : List Masks). slice_get l k) masked
+    ∙ slice_get-map (λ set. masks_of buys set.members) sets k
     ∙ ap (option_map (λ set. masks_of buys set.members)) set_is) in
     ap (λ (m : Masks). net_within m x) mask_of ∙ net_within_is buys set.members x
 
 -- the number at this net count
-pub number_by_masks : (buys : ℕ) (sets : List LaminarSet) (masks : List Masks) (x k : ℕ) (set : LaminarSet) (mask : Masks)
+pub number_by_masks : (buys : ℕ) (sets : List LaminarSet) (masks : List Masks) (x k : ℕ) (set : LaminarSet)
+    (mask : Masks)
     → masks ≡ map (λ set. masks_of buys set.members) sets → slice_get sets k ≡ Some set → slice_get masks k ≡ Some mask
     → listed_from set.low set.numbers (net_within mask x) ≡ number_of buys x (slice_get sets k)
 number_by_masks buys sets masks x k set mask masked set_is mask_is =
@@ -124,7 +130,8 @@ number_by_masks buys sets masks x k set mask masked set_is mask_is =
     ∙ ap (number_of buys x) (sym set_is)
 
 -- a listed number is small
-pub number_small : (set : LaminarSet) (count : ℤ) (o : Option ℤ) → HasNumbersWithin set → o ≡ listed_from set.low set.numbers count
+pub number_small : (set : LaminarSet) (count : ℤ) (o : Option ℤ) → HasNumbersWithin set
+    → o ≡ listed_from set.low set.numbers count
     → IfSome o (λ number. IsAtMost number most_amount)
 number_small set count None within is = tt
 number_small set count (Some number) within is = listed_small set within count number (sym is)

@@ -13,7 +13,8 @@ HasEmpty set = IsSome (listed_from set.low set.numbers (pos 0))
 pub record IsBend (numbers : List ℤ) (place : ℕ) : Type 0 where
   pub after_first : 1 ≤ place
   pub before_last : place + 1 < length numbers
-  pub below : (pos 2 *ℤ get_or numbers place (pos 0)) <ℤ (get_or numbers (place - 1) (pos 0) +ℤ get_or numbers (place + 1) (pos 0))
+  pub below : (pos 2 *ℤ get_or numbers place (pos 0))
+      <ℤ (get_or numbers (place - 1) (pos 0) +ℤ get_or numbers (place + 1) (pos 0))
 
 -- the first such place
 pub record IsFirstBend (numbers : List ℤ) (place : ℕ) : Type 0 where

@@ -31,23 +31,27 @@ use Rattle.tn_plain_data.specs.Limits.{most_sets}
 
 -- an element of a list of which all elements meet P meets it
 pub all_at : {X : Type 0} (P : X → Type 0) (xs : List X) (k : ℕ) (x : X) → All P xs → slice_get xs k ≡ Some x → P x
-all_at P xs k x all is = subst P (get_or_from_slice_get xs k x x is) (All-get_or P xs k x (slice_get_within xs k x is) all)
+all_at P xs k x all is =
+    subst P (get_or_from_slice_get xs k x x is) (All-get_or P xs k x (slice_get_within xs k x is) all)
 
 -- the term at a place is that of the set there
 term_at : (sets : List LaminarSet) (k : ℕ) (term : CountTerm) → slice_get (map term_of sets) k ≡ Some term
     → (set : LaminarSet) × (slice_get sets k ≡ Some set) × (term_of set ≡ term)
 term_at sets k term is = by (slice_get sets k) refl (sym (slice_get-map term_of sets k) ∙ is)
   where
-    by : (o : Option LaminarSet) → slice_get sets k ≡ o → option_map term_of o ≡ Some term → (set : LaminarSet) × (slice_get sets k ≡ Some set) × (term_of set ≡ term)
+    by : (o : Option LaminarSet) → slice_get sets k ≡ o → option_map term_of o ≡ Some term → (set : LaminarSet)
+        × (slice_get sets k ≡ Some set) × (term_of set ≡ term)
     by None e f = absurd (none-some term f)
     by (Some set) e f = (set, e, same_Some (term_of set) term f)
 
-nested_from : (count buys : ℕ) (amounts : List ℤ) (sets : List LaminarSet) (masks : List Masks) → IsLaminar count buys amounts sets masks → AreNested count (map term_of sets)
+nested_from : (count buys : ℕ) (amounts : List ℤ) (sets : List LaminarSet) (masks : List Masks)
+    → IsLaminar count buys amounts sets masks → AreNested count (map term_of sets)
 nested_from count buys amounts sets masks is = record {
   own = λ i term term_is. (let found = term_at sets i term term_is in
       subst (λ t. t.members < 2 ^ count) found.2 (all_at (IsOwnSet count) sets i found.0 is.own found.1));
   concave = λ i term term_is. (let found = term_at sets i term term_is in
-      subst (λ t. IsConcave t.number_at) found.2 (concave-listed found.0.low found.0.numbers (is.sound i found.0 found.1).concave));
+      subst (λ t. IsConcave t.number_at) found.2 (concave-listed found.0.low found.0.numbers
+      (is.sound i found.0 found.1).concave));
   uncrossed = λ i j first second before first_is second_is cross. (
       let one = term_at sets i first first_is in
       let two = term_at sets j second second_is in
@@ -58,20 +62,24 @@ nested_from count buys amounts sets masks is = record {
         before = before;
         earlier_is = one.1;
         set_is = two.1;
-        cross = subst (λ t. Cross one.0.members t.members) (sym two.2) (subst (λ t. Cross t.members second.members) (sym one.2) cross);
+        cross = subst (λ t. Cross one.0.members t.members) (sym two.2)
+            (subst (λ t. Cross t.members second.members) (sym one.2) cross);
       }));
 }
 
-meets : (count buys : ℕ) (amounts : List ℤ) (sets : List LaminarSet) (masks : List Masks) → IsLaminar count buys amounts sets masks
+meets : (count buys : ℕ) (amounts : List ℤ) (sets : List LaminarSet) (masks : List Masks)
+    → IsLaminar count buys amounts sets masks
     → HasOwnBundles (laminar_sum count buys amounts sets) × MeetsExchange (laminar_sum count buys amounts sets)
-meets count buys amounts sets masks is = meets-nested count buys (amount_at amounts) (map term_of sets) (nested_from count buys amounts sets masks is)
+meets count buys amounts sets masks is =
+    meets-nested count buys (amount_at amounts) (map term_of sets) (nested_from count buys amounts sets masks is)
 
 -- the empty bundle has no trade within any set
 meet-zero : (q : ℕ) → meet 0 q ≡ 0
 meet-zero q = same_set (meet 0 q) 0 (λ k. has-meet 0 q k ∙ ap (λ b. b && has q k) (has-zero k) ∙ sym (has-zero k))
 
 -- each set has a number at 0, so the sum at the empty bundle is there
-empty_sum : (buys : ℕ) (sets : List LaminarSet) → ((k : ℕ) (set : LaminarSet) → slice_get sets k ≡ Some set → HasEmpty set)
+empty_sum : (buys : ℕ) (sets : List LaminarSet) → ((k : ℕ) (set : LaminarSet) → slice_get sets k ≡ Some set
+    → HasEmpty set)
     → (u : ℤ) × (count_sum buys (map term_of sets) 0 ≡ Some u)
 empty_sum buys [] each = (pos 0, refl)
 empty_sum buys (set ∷ sets) each =
@@ -88,17 +96,20 @@ empty_sum buys (set ∷ sets) each =
     some_of (Some u) there = (u, refl)
     some_of None there = absurd (false≢true there)
 
-empty_is_possible_of : (count buys : ℕ) (amounts : List ℤ) (sets : List LaminarSet) (masks : List Masks) → IsLaminar count buys amounts sets masks → MayAbstain (laminar_sum count buys amounts sets)
+empty_is_possible_of : (count buys : ℕ) (amounts : List ℤ) (sets : List LaminarSet) (masks : List Masks)
+    → IsLaminar count buys amounts sets masks → MayAbstain (laminar_sum count buys amounts sets)
 empty_is_possible_of count buys amounts sets masks is =
     let counted = empty_sum buys sets (λ k set e. (is.sound k set e).empty) in
     let own : 0 < 2 ^ count = pow_pos count in (
       sum_over (amount_at amounts) count 0 +ℤ counted.0,
-      ap (λ b. if b then both (Some (sum_over (amount_at amounts) count 0)) (count_sum buys (map term_of sets) 0) else None) (lt-ltb 0 (2 ^ count) own)
+      ap (λ b. if b then both (Some (sum_over (amount_at amounts) count 0)) (count_sum buys (map term_of sets) 0)
+          else None) (lt-ltb 0 (2 ^ count) own)
           ∙ ap (both (Some (sum_over (amount_at amounts) count 0))) counted.1,
     )
 
 -- a listed number of a set with small numbers is small
-pub listed_small : (set : LaminarSet) → HasNumbersWithin set → (count u : ℤ) → listed_from set.low set.numbers count ≡ Some u → IsAtMost u most_amount
+pub listed_small : (set : LaminarSet) → HasNumbersWithin set → (count u : ℤ)
+    → listed_from set.low set.numbers count ≡ Some u → IsAtMost u most_amount
 listed_small set within count u is = by (count -ℤ set.low) is
   where
     by : (place : ℤ) → at_place set.numbers place ≡ Some u → IsAtMost u most_amount
@@ -106,19 +117,22 @@ listed_small set within count u is = by (count -ℤ set.low) is
     by (negsuc k) e = absurd (none-some u e)
 
 -- both parts of a sum that is there are there
-both_parts : (first second : Option ℤ) (u : ℤ) → both first second ≡ Some u → (a : ℤ) × (b : ℤ) × (first ≡ Some a) × (second ≡ Some b) × (a +ℤ b ≡ u)
+both_parts : (first second : Option ℤ) (u : ℤ) → both first second ≡ Some u → (a : ℤ) × (b : ℤ) × (first ≡ Some a)
+    × (second ≡ Some b) × (a +ℤ b ≡ u)
 both_parts None second u e = absurd (none-some u e)
 both_parts (Some a) None u e = absurd (none-some u e)
 both_parts (Some a) (Some b) u e = (a, b, refl, refl, same_Some (a +ℤ b) u e)
 
 -- a sum of numbers of at most 10^9 in size
-pub count_sum_small : (buys x : ℕ) (sets : List LaminarSet) → ((k : ℕ) (set : LaminarSet) → slice_get sets k ≡ Some set → HasNumbersWithin set)
+pub count_sum_small : (buys x : ℕ) (sets : List LaminarSet)
+    → ((k : ℕ) (set : LaminarSet) → slice_get sets k ≡ Some set → HasNumbersWithin set)
     → (u : ℤ) → count_sum buys (map term_of sets) x ≡ Some u → IsAtMost u (length sets * most_amount)
 count_sum_small buys x [] each u is =
     let e : pos 0 ≡ u = same_Some (pos 0) u is in
     record { low = omega (arith, ints, e); high = omega (arith, ints, e) }
 count_sum_small buys x (set ∷ sets) each u is =
-    let parts = both_parts (listed_from set.low set.numbers (net buys (meet x set.members))) (count_sum buys (map term_of sets) x) u is in
+    let parts = both_parts (listed_from set.low set.numbers (net buys (meet x set.members)))
+    (count_sum buys (map term_of sets) x) u is in
     let here = listed_small set (each 0 set refl) (net buys (meet x set.members)) parts.0 parts.2 in
     let rest = count_sum_small buys x sets (λ k other e. each (suc k) other e) parts.1 parts.3 in
     let total : parts.0 +ℤ parts.1 ≡ u = parts.4 in
@@ -129,10 +143,12 @@ count_sum_small buys x (set ∷ sets) each u is =
     record { low = omega (arith, ints, total, a, b, c, d); high = omega (arith, ints, total, a, b, c, d) }
 
 -- the amounts sum to at most 32 times 10^9
-pub amounts_small : (count : ℕ) (amounts : List ℤ) (x : ℕ) → count ≤ most_own → length amounts ≡ count → All (λ a. IsAtMost a most_amount) amounts
+pub amounts_small : (count : ℕ) (amounts : List ℤ) (x : ℕ) → count ≤ most_own → length amounts ≡ count
+    → All (λ a. IsAtMost a most_amount) amounts
     → IsAtMost (sum_over (amount_at amounts) count x) (most_own * most_amount)
 amounts_small count amounts x few as_many small =
-    let sum = sum_over_small (amount_at amounts) count x most_amount (λ k h. All-get_or (λ a. IsAtMost a most_amount) amounts k (pos 0) (omega (arith, h, as_many)) small) in
+    let sum = sum_over_small (amount_at amounts) count x most_amount
+    (λ k h. All-get_or (λ a. IsAtMost a most_amount) amounts k (pos 0) (omega (arith, h, as_many)) small) in
     let low = sum.low in
     let high = sum.high in
     record { low = omega (arith, ints, few, low); high = omega (arith, ints, few, high) }
@@ -146,14 +162,19 @@ numbers_small buys x sets few numbered u is =
     let high = sum.high in
     record { low = omega (arith, ints, few, low); high = omega (arith, ints, few, high) }
 
-within_of : (count buys : ℕ) (amounts : List ℤ) (sets : List LaminarSet) (masks : List Masks) → IsLaminar count buys amounts sets masks → IsWorthAtMost most_worth (laminar_sum count buys amounts sets)
+within_of : (count buys : ℕ) (amounts : List ℤ) (sets : List LaminarSet) (masks : List Masks)
+    → IsLaminar count buys amounts sets masks → IsWorthAtMost most_worth (laminar_sum count buys amounts sets)
 within_of count buys amounts sets masks is x a worth_is = by (nat_lt x (2 ^ count)) worth_is
   where
-    by : (b : Bool) → (if b then both (Some (sum_over (amount_at amounts) count x)) (count_sum buys (map term_of sets) x) else None) ≡ Some a → IsAtMost a most_worth
+    by : (b : Bool)
+        → (if b then both (Some (sum_over (amount_at amounts) count x)) (count_sum buys (map term_of sets) x) else None)
+        ≡ Some a → IsAtMost a most_worth
     by false e = absurd (none-some a e)
     by true e =
-        let parts = both_parts (Some (sum_over (amount_at amounts) count x)) (count_sum buys (map term_of sets) x) a e in
-        let first : sum_over (amount_at amounts) count x ≡ parts.0 = same_Some (sum_over (amount_at amounts) count x) parts.0 parts.2 in
+        let parts = both_parts (Some (sum_over (amount_at amounts) count x)) (count_sum buys (map term_of sets) x) a e
+        in
+        let first : sum_over (amount_at amounts) count x ≡ parts.0 =
+        same_Some (sum_over (amount_at amounts) count x) parts.0 parts.2 in
         let total : parts.0 +ℤ parts.1 ≡ a = parts.4 in
         let own = amounts_small count amounts x is.few is.as_many is.small in
         let counted = numbers_small buys x sets is.few_sets is.numbered parts.1 parts.3 in
@@ -161,10 +182,15 @@ within_of count buys amounts sets masks is x a worth_is = by (nat_lt x (2 ^ coun
         let q = own.high in
         let r = counted.low in
         let s = counted.high in
-        record { low = omega (arith, ints, first, total, p, q, r, s); high = omega (arith, ints, first, total, p, q, r, s) }
+        record {
+          low = omega (arith, ints, first, total, p, q, r, s);
+          high =
+              omega (arith, ints, first, total, p, q, r, s);
+        }
 
 -- a laminar sum is a firm that may be asked, and no worth of it is above 10^11
-pub laminar_sum_laws : (count buys : ℕ) (amounts : List ℤ) (sets : List LaminarSet) (masks : List Masks) → IsLaminar count buys amounts sets masks
+pub laminar_sum_laws : (count buys : ℕ) (amounts : List ℤ) (sets : List LaminarSet) (masks : List Masks)
+    → IsLaminar count buys amounts sets masks
     → IsLawful most_worth (laminar_sum count buys amounts sets)
 laminar_sum_laws count buys amounts sets masks is =
     let few = is.few in
@@ -182,4 +208,5 @@ laminar_sum_laws count buys amounts sets masks is =
 
 -- so is each laminar firm
 pub laminar_laws : (firm : Laminar) → IsLawful most_worth (firm_of firm)
-laminar_laws firm = laminar_sum_laws firm.trades firm.buys firm.amounts.items firm.sets.items firm.masks.items firm.laminar
+laminar_laws firm =
+    laminar_sum_laws firm.trades firm.buys firm.amounts.items firm.sets.items firm.masks.items firm.laminar

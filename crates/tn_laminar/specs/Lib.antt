@@ -1,3 +1,4 @@
+-- The files of definitions of this crate.
 pub mod Masked
 pub mod Faults
 pub mod Sum

@@ -36,7 +36,8 @@ pub record IsSlope (buys x : ℕ) (set : LaminarSet) (slope : Slope) : Type 0 wh
 
 -- the step that a toggle makes: up where a purchase moves in or a sale out, else down
 abbrev pub step_of : ℕ → ℕ → Slope → ℕ → ℤ
-step_of buys x slope j = if has buys j then (if has x j then slope.down else slope.up) else (if has x j then slope.up else slope.down)
+step_of buys x slope j = if has buys j then (if has x j then slope.down else slope.up)
+    else (if has x j then slope.up else slope.down)
 
 -- how much more the numbers of the first k sets count where position j is toggled
 abbrev pub counted_change : ℕ → List LaminarSet → ℕ → ℕ → ℕ → ℤ

@@ -1,3 +1,5 @@
+//! A laminar firm as one that may be asked: single worths, and rows of them.
+
 ghost use Rattle.tn_market.specs.Widths.{most_worth};
 ghost use Rattle.tn_laminar.specs.Firms.{firm_of};
 ghost use Rattle.tn_laminar.specs.LawLemmas.{laminar_laws};

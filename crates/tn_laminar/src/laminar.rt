@@ -1,3 +1,5 @@
+//! A laminar firm, and what a bundle is worth to it.
+
 ghost use Rattle.std.specs.Prelude.{map, slice_get, if◌then◌else◌, pos, ◌≡◌, ◌<◌, ◌≤◌, ◌*◌, length, All, IfOk, IfErr, IfSome};
 ghost use Rattle.tn_base.specs.Arcs.{IsAtMost};
 ghost use Rattle.tn_base.specs.Sets.{has, sum_over};

@@ -1,3 +1,5 @@
+//! The purchases and the sales of a set.
+
 ghost use Rattle.std.specs.Prelude.{◌≡◌};
 ghost use Rattle.tn_base.specs.Arcs.{IsAtMost};
 ghost use Rattle.tn_laminar.specs.Masked.{masks_of, net_within};

@@ -1,3 +1,5 @@
+//! Why sets make no laminar firm.
+
 use thiserror::Error;
 
 /// Why sets make no laminar firm. Sets are tested in order, each for the first three causes in their order.

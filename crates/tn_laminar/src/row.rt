@@ -1,5 +1,5 @@
-//! A row of worths from one walk over the sets: a toggle changes the numbers of those sets alone that hold the position,
-//! each by its step up or down at the present net count.
+//! A row of worths from one walk over the sets: a toggle changes the numbers of those sets alone that hold the
+//! position, each by its step up or down at the present net count.
 
 ghost use Rattle.std.specs.Prelude.{◌≡◌, ◌≢◌, ℕ, ◌+◌, ◌*◌, ◌^◌, ◌<◌, ◌≤◌, length, slice_get, Some, true};
 ghost use Rattle.tn_base.specs.Arcs.{IsAtMost};
@@ -100,7 +100,8 @@ impl Laminar {
     /// The slope of the set at place `k` at a bundle.
     fn slope(&self, x: Bundle, k: usize) -> Slope
         requires { k < length self.now.sets.items }
-        ensures slope { (set : LaminarSet) → slice_get self.now.sets.items k ≡ Some set → IsSlope self.now.buys x set result }
+        ensures slope { (set : LaminarSet) → slice_get self.now.sets.items k ≡ Some set
+            → IsSlope self.now.buys x set result }
         ensures up { IsAtMost result.up (2 * most_counted) }
         ensures down { IsAtMost result.down (2 * most_counted) }
     {
@@ -174,7 +175,8 @@ impl Laminar {
         requires own { x < 2 ^ self.now.trades }
         requires position { k < self.now.trades }
         requires amount { amount ≡ sum_over (amount_at self.now.amounts.items) self.now.trades x }
-        requires numbers { numbers ≡ counted_sum self.now.buys self.now.sets.items (length self.now.sets.items) (toggle x k) }
+        requires numbers { numbers ≡ counted_sum self.now.buys self.now.sets.items (length self.now.sets.items)
+            (toggle x k) }
         ensures { result ≡ (firm_of self.now).worth (toggle x k) }
     {
         let numbers = listed_sum(numbers)?;

@@ -1,3 +1,5 @@
+//! A set of own trades with its numbers.
+
 ghost use Rattle.std.specs.Prelude.{◌≡◌};
 ghost use Rattle.tn_base.specs.Arcs.{IsAtMost};
 ghost use Rattle.tn_law.specs.Nested.{listed_from};

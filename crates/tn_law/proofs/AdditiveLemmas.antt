@@ -38,11 +38,13 @@ unfolding move
 move-within n x i j below = toggle_at-within n (toggle_at n x i) j (toggle_at-within n x i below)
 
 -- the worth of a bundle of own positions
-additive_worth : (count buys : ℕ) (c : ℕ → ℤ) (x : ℕ) → x < 2 ^ count → (additive count buys c).worth x ≡ Some (sum_over c count x)
+additive_worth : (count buys : ℕ) (c : ℕ → ℤ) (x : ℕ) → x < 2 ^ count
+    → (additive count buys c).worth x ≡ Some (sum_over c count x)
 additive_worth count buys c x below = ap (λ b. cond b (Some (sum_over c count x)) None) (lt-ltb x (2 ^ count) below)
 
 -- and no other bundle has one
-additive_within : (count buys : ℕ) (c : ℕ → ℤ) (x : ℕ) (a : ℤ) → (additive count buys c).worth x ≡ Some a → (x < 2 ^ count) × (sum_over c count x ≡ a)
+additive_within : (count buys : ℕ) (c : ℕ → ℤ) (x : ℕ) (a : ℤ) → (additive count buys c).worth x ≡ Some a
+    → (x < 2 ^ count) × (sum_over c count x ≡ a)
 additive_within count buys c x a x_is =
     let parts = cond_some (nat_lt x (2 ^ count)) (sum_over c count x) a x_is in
     (ltb-true x (2 ^ count) parts.0, parts.1)
@@ -69,7 +71,8 @@ exchange-additive count buys c x y a b x_is y_is i i_within i_up =
     }
 
 -- a firm to which its trades are independent of each other meets exchange
-pub meets-additive : (count buys : ℕ) (c : ℕ → ℤ) → HasOwnBundles (additive count buys c) × MeetsExchange (additive count buys c)
+pub meets-additive : (count buys : ℕ) (c : ℕ → ℤ) → HasOwnBundles (additive count buys c)
+    × MeetsExchange (additive count buys c)
 meets-additive count buys c =
     let own : HasOwnBundles (additive count buys c) = λ x a x_is. (additive_within count buys c x a x_is).0 in
     (own, exchange_from_places (additive count buys c) own (exchange-additive count buys c))

@@ -22,7 +22,8 @@ times_small a b m n small_a small_b =
     small_abs (a *ℤ b) (m * n) (subst (λ (k : ℕ). k ≤ m * n) (sym (unsigned_abs-mul a b)) size)
 
 -- a sum over a set is no larger than the count of its terms allows
-pub sum_over_small : (c : ℕ → ℤ) (n x limit : ℕ) → ((k : ℕ) → k < n → IsAtMost (c k) limit) → IsAtMost (sum_over c n x) (n * limit)
+pub sum_over_small : (c : ℕ → ℤ) (n x limit : ℕ) → ((k : ℕ) → k < n → IsAtMost (c k) limit)
+    → IsAtMost (sum_over c n x) (n * limit)
 unfolding sum_over
 sum_over_small c zero x limit small = record { low = omega (arith, ints); high = omega (arith, ints) }
 sum_over_small c (suc n) x limit small =
@@ -30,7 +31,8 @@ sum_over_small c (suc n) x limit small =
     let last = small n (omega arith) in
     next (has x n) (c n) (sum_over c n x) (n * limit) (suc n * limit) (omega arith) rest last
   where
-    next : (b : Bool) (term sum : ℤ) (before after : ℕ) → after ≡ before + limit → IsAtMost sum before → IsAtMost term limit
+    next : (b : Bool) (term sum : ℤ) (before after : ℕ) → after ≡ before + limit → IsAtMost sum before
+        → IsAtMost term limit
         → IsAtMost (sum +ℤ (if b then term else pos 0)) after
     next true term sum before after step sum_small small = record {
       low = omega (arith, ints, step, sum_small.low, small.low);

@@ -1,4 +1,5 @@
--- Exchange between close bundles gives exchange between all, over places: by recursion on how far two bundles are apart.
+-- Exchange between close bundles gives exchange between all, over places: by recursion on how far two bundles are
+-- apart.
 use Rattle.std.proofs.Common.{◌≡◌, ◌≢◌, ℕ, zero, suc, ◌+◌, ◌-◌, ◌^◌, ◌<◌, ◌≤◌, true, refl, sym, ap, ◌∙◌, subst, arith, ◌⊎◌, inl, inr, ℤ, ◌+ℤ◌}
 use Rattle.std.specs.Prelude.{◌≤ℤ◌, ◌<ℤ◌, Option, Some, None, is_some}
 use Rattle.std.proofs.lemmas.Bool.{cases_eq, cases_lt, false≢true}
@@ -14,11 +15,13 @@ use Rattle.tn_law.proofs.DistanceLemmas.{above_or_none, gap, levels_same, gap-ne
 use Rattle.tn_law.proofs.LocalLemmas.{same_from_levels}
 
 -- what two functions lose to each other is what their sums differ by
-pub sum_to-differences : (f g : ℕ → ℕ) (m : ℕ) → sum_to f m + sum_to (λ k. g k - f k) m ≡ sum_to g m + sum_to (λ k. f k - g k) m
+pub sum_to-differences : (f g : ℕ → ℕ) (m : ℕ) → sum_to f m + sum_to (λ k. g k - f k) m ≡ sum_to g m
+    + sum_to (λ k. f k - g k) m
 unfolding sum_to
 sum_to-differences f g zero = refl
 sum_to-differences f g (suc m) =
-    let before : sum_to f m + sum_to (λ k. g k - f k) m ≡ sum_to g m + sum_to (λ k. f k - g k) m = sum_to-differences f g m in
+    let before : sum_to f m + sum_to (λ k. g k - f k) m ≡ sum_to g m + sum_to (λ k. f k - g k) m =
+    sum_to-differences f g m in
     omega (arith, before)
 
 -- no terms, no sum
@@ -65,7 +68,8 @@ pub same_from_gap : (firm : Firm) (x y : ℕ) → x < 2 ^ firm.count → y < 2 ^
 unfolding gap
 same_from_gap firm x y x_own y_own none =
     same_from_levels firm.count firm.buys x y x_own y_own (λ k h.
-    levels_same firm.count (level firm.count firm.buys) (move firm.count) (places firm.count firm.buys) x y below k (omega (arith, h)))
+    levels_same firm.count (level firm.count firm.buys) (move firm.count) (places firm.count firm.buys) x y below k
+    (omega (arith, h)))
   where
     below : (k : ℕ) → k < suc firm.count → level firm.count firm.buys x k ≤ level firm.count firm.buys y k
     below k h =
@@ -98,7 +102,8 @@ pub record Moves (firm : Firm) (x y i : ℕ) : Type 0 where
   pub at : ℕ
   pub is_place : at ≤ firm.count
   pub is_down : level firm.count firm.buys x at < level firm.count firm.buys y at
-  pub enough : (value firm x +ℤ value firm y) ≤ℤ (value firm (move firm.count x i at) +ℤ value firm (move firm.count y i at))
+  pub enough : (value firm x +ℤ value firm y) ≤ℤ (value firm (move firm.count x i at)
+      +ℤ value firm (move firm.count y i at))
 
 -- with each place of the down side, less is left
 abbrev pub Loses : Firm → ℕ → ℕ → ℕ → ℕ → Type 0
@@ -106,7 +111,8 @@ Loses firm x y i j = level firm.count firm.buys x j < level firm.count firm.buys
     → (value firm (move firm.count x i j) +ℤ value firm (move firm.count y i j)) <ℤ (value firm x +ℤ value firm y)
 
 -- one of the two
-pub moves_or_loses : (firm : Firm) (x y i m : ℕ) → m ≤ suc firm.count → Moves firm x y i ⊎ ((j : ℕ) → j < m → Loses firm x y i j)
+pub moves_or_loses : (firm : Firm) (x y i m : ℕ) → m ≤ suc firm.count → Moves firm x y i
+    ⊎ ((j : ℕ) → j < m → Loses firm x y i j)
 moves_or_loses firm x y i zero within = inr (λ j h. absurd (omega (arith, h)))
 moves_or_loses firm x y i (suc m) within = elim (moves_or_loses firm x y i m (omega (arith, within))) [
   | inl found ↦ inl found
@@ -131,7 +137,8 @@ record IsGreatest (g h : ℕ → ℕ) (f : ℕ → ℤ) (m at : ℕ) : Type 0 wh
   is : g at < h at
   most : (k : ℕ) → k < m → g k < h k → f k ≤ℤ f at
 
-greatest_or_none : (g h : ℕ → ℕ) (f : ℕ → ℤ) (m : ℕ) → ((at : ℕ) × IsGreatest g h f m at) ⊎ ((k : ℕ) → k < m → h k ≤ g k)
+greatest_or_none : (g h : ℕ → ℕ) (f : ℕ → ℤ) (m : ℕ) → ((at : ℕ) × IsGreatest g h f m at)
+    ⊎ ((k : ℕ) → k < m → h k ≤ g k)
 greatest_or_none g h f zero = inr (λ k p. absurd (omega (arith, p)))
 greatest_or_none g h f (suc m) = elim (cases_lt (g m) (h m)) [
   | inr not_here ↦ elim (greatest_or_none g h f m) [
@@ -153,7 +160,8 @@ greatest_or_none g h f (suc m) = elim (cases_lt (g m) (h m)) [
         ];
       },
     )
-    | inl found ↦ by_lt_z {P = ((at : ℕ) × IsGreatest g h f (suc m) at) ⊎ ((k : ℕ) → k < suc m → h k ≤ g k)} (f found.0) (f m)
+    | inl found ↦ by_lt_z {P = ((at : ℕ) × IsGreatest g h f (suc m) at)
+        ⊎ ((k : ℕ) → k < suc m → h k ≤ g k)} (f found.0) (f m)
         (λ less. inl (
           m,
           record {
@@ -182,7 +190,8 @@ greatest_or_none g h f (suc m) = elim (cases_lt (g m) (h m)) [
 -- exchange between the bundles that are this far apart
 abbrev pub ExchangesAt : Firm → ℕ → Type 0
 ExchangesAt firm d = (x y i : ℕ) → x < 2 ^ firm.count → y < 2 ^ firm.count → i ≤ firm.count
-    → level firm.count firm.buys y i < level firm.count firm.buys x i → gap firm.count (level firm.count firm.buys x) (level firm.count firm.buys y) ≡ d
+    → level firm.count firm.buys y i < level firm.count firm.buys x i
+    → gap firm.count (level firm.count firm.buys x) (level firm.count firm.buys y) ≡ d
     → Moves firm x y i
 
 -- bundles at the least distance change places
@@ -190,20 +199,27 @@ pub exchanges_at_one : (firm : Firm) → ExchangesAt firm 1
 exchanges_at_one firm x y i x_own y_own i_place i_up near =
     elim (above_or_none (level firm.count firm.buys y) (level firm.count firm.buys x) (suc firm.count)) [
       | inr none ↦
-          let same = levels_same firm.count (level firm.count firm.buys) (move firm.count) (places firm.count firm.buys) y x none i (omega (arith, i_place)) in
+          let same = levels_same firm.count (level firm.count firm.buys) (move firm.count) (places firm.count firm.buys)
+          y x none i (omega (arith, i_place)) in
           absurd (omega (arith, same, i_up))
       | inl found ↦
           let j_place : found.0 ≤ firm.count = (let p = found.1 in omega (arith, p)) in
           let are = places firm.count firm.buys in
-          let first = gap-nearer firm.count (level firm.count firm.buys) (move firm.count) are x y i found.0 i_place j_place i_up found.2 in
-          let second = gap-nearer firm.count (level firm.count firm.buys) (move firm.count) are y x found.0 i j_place i_place found.2 i_up in
+          let first = gap-nearer firm.count (level firm.count firm.buys) (move firm.count) are x y i found.0 i_place
+          j_place i_up found.2 in
+          let second =
+          gap-nearer firm.count (level firm.count firm.buys) (move firm.count) are y x found.0 i j_place i_place
+          found.2 i_up in
           let turned = gap-symmetric firm x y in
           let becomes_x : x ≡ move firm.count y i found.0 =
-          same_from_gap firm x (move firm.count y i found.0) x_own (move-within firm.count y i found.0 y_own) (omega (arith, first, near)) in
+          same_from_gap firm x (move firm.count y i found.0) x_own (move-within firm.count y i found.0 y_own)
+          (omega (arith, first, near)) in
           let becomes_y : y ≡ move firm.count x found.0 i =
-          same_from_gap firm y (move firm.count x found.0 i) y_own (move-within firm.count x found.0 i x_own) (omega (arith, second, near, turned)) in
+          same_from_gap firm y (move firm.count x found.0 i) y_own (move-within firm.count x found.0 i x_own)
+          (omega (arith, second, near, turned)) in
           let value_x : value firm x ≡ value firm (move firm.count y i found.0) = ap (value firm) becomes_x in
-          let value_y : value firm y ≡ value firm (move firm.count x i found.0) = ap (value firm) (becomes_y ∙ are.order x found.0 i) in
+          let value_y : value firm y ≡ value firm (move firm.count x i found.0) =
+          ap (value firm) (becomes_y ∙ are.order x found.0 i) in
           record { at = found.0; is_place = j_place; is_down = found.2; enough = omega (arith, ints, value_x, value_y) }
     ]
 
@@ -223,24 +239,29 @@ pub record Chosen (firm : Firm) (x y u up down : ℕ) : Type 0 where
   pub down_place : down ≤ firm.count
   pub is_down : level firm.count firm.buys x down < level firm.count firm.buys y down
   pub most : (k : ℕ) → k < suc firm.count → level firm.count firm.buys x k < level firm.count firm.buys y k
-      → (value firm (move firm.count y up k) +ℤ value firm (move firm.count x u k)) ≤ℤ (value firm (move firm.count y up down) +ℤ value firm (move firm.count x u down))
+      → (value firm (move firm.count y up k) +ℤ value firm (move firm.count x u k))
+      ≤ℤ (value firm (move firm.count y up down) +ℤ value firm (move firm.count x u down))
 
 -- beside one unit of u the up side has another one
 pub unit_beside : (firm : Firm) (d x y u : ℕ) → 1 ≤ d → u ≤ firm.count
     → gap firm.count (level firm.count firm.buys x) (level firm.count firm.buys y) ≡ suc d
-    → (up : ℕ) × (up < suc firm.count) × (level firm.count firm.buys y up + one_at u up < level firm.count firm.buys x up)
+    → (up : ℕ) × (up < suc firm.count)
+    × (level firm.count firm.buys y up + one_at u up < level firm.count firm.buys x up)
 unfolding gap
 unit_beside firm d x y u far u_place apart =
-    elim (above_or_none (level firm.count firm.buys x) (λ k. level firm.count firm.buys y k + one_at u k) (suc firm.count)) [
+    elim (above_or_none (level firm.count firm.buys x) (λ k. level firm.count firm.buys y k + one_at u k)
+    (suc firm.count)) [
       | inl found ↦ found
       | inr none ↦
           let single = sum_to-single u (suc firm.count) (omega (arith, u_place)) in
-          let small = sum_to-le (λ k. level firm.count firm.buys x k - level firm.count firm.buys y k) (one_at u) (suc firm.count)
+          let small = sum_to-le (λ k. level firm.count firm.buys x k - level firm.count firm.buys y k) (one_at u)
+          (suc firm.count)
           (λ k h. let at_k = none k h in omega (arith, at_k)) in
           absurd (omega (arith, single, small, apart, far))
     ]
 
-pub chosen : (firm : Firm) (d x y u : ℕ) → 1 ≤ d → DoesNotExchange firm d x y u → (up : ℕ) × ((down : ℕ) × Chosen firm x y u up down)
+pub chosen : (firm : Firm) (d x y u : ℕ) → 1 ≤ d → DoesNotExchange firm d x y u → (up : ℕ)
+    × ((down : ℕ) × Chosen firm x y u up down)
 chosen firm d x y u far here =
     let other = unit_beside firm d x y u far here.u_place here.far in
     elim (greatest_or_none (level firm.count firm.buys x) (level firm.count firm.buys y)
@@ -261,12 +282,14 @@ chosen firm d x y u far here =
       | inr none ↦
           let u_place = here.u_place in
           let u_up = here.u_up in
-          let same = levels_same firm.count (level firm.count firm.buys) (move firm.count) (places firm.count firm.buys) y x none u (omega (arith, u_place)) in
+          let same = levels_same firm.count (level firm.count firm.buys) (move firm.count) (places firm.count firm.buys)
+          y x none u (omega (arith, u_place)) in
           absurd (omega (arith, same, u_up))
     ]
 
 -- no bundle is apart from itself
-pub gap-itself : (firm : Firm) (x : ℕ) → gap firm.count (level firm.count firm.buys x) (level firm.count firm.buys x) ≡ 0
+pub gap-itself : (firm : Firm) (x : ℕ) → gap firm.count (level firm.count firm.buys x) (level firm.count firm.buys x)
+    ≡ 0
 unfolding gap sum_to
 gap-itself firm x = nothing (level firm.count firm.buys x) (suc firm.count)
   where
@@ -275,9 +298,11 @@ gap-itself firm x = nothing (level firm.count firm.buys x) (suc firm.count)
     nothing f (suc m) = let before : sum_to (λ k. f k - f k) m ≡ 0 = nothing f m in omega (arith, before)
 
 -- bundles that aren't apart have no up side
-pub gap-positive : (firm : Firm) (x y i : ℕ) → i ≤ firm.count → level firm.count firm.buys y i < level firm.count firm.buys x i
+pub gap-positive : (firm : Firm) (x y i : ℕ) → i ≤ firm.count
+    → level firm.count firm.buys y i < level firm.count firm.buys x i
     → gap firm.count (level firm.count firm.buys x) (level firm.count firm.buys y) ≢ 0
 unfolding gap
 gap-positive firm x y i place up none =
-    let here = sum_to-zero (λ k. level firm.count firm.buys x k - level firm.count firm.buys y k) (suc firm.count) none i (omega (arith, place)) in
+    let here = sum_to-zero (λ k. level firm.count firm.buys x k - level firm.count firm.buys y k) (suc firm.count) none
+    i (omega (arith, place)) in
     absurd (omega (arith, here, up))

@@ -24,18 +24,22 @@ use Rattle.tn_law.proofs.CloseLemmas.{exchanges_everywhere}
 
 -- each position in just one of two bundles is one level that one of them has more
 sizes_are_levels : (n buys x y : ℕ) → size_below n (minus x y) + size_below n (minus y x)
-    ≡ sum_to (λ k. trade_level buys x k - trade_level buys y k) n + sum_to (λ k. trade_level buys y k - trade_level buys x k) n
+    ≡ sum_to (λ k. trade_level buys x k - trade_level buys y k) n
+    + sum_to (λ k. trade_level buys y k - trade_level buys x k) n
 unfolding size_below sum_to trade_level
 sizes_are_levels zero buys x y = refl
 sizes_are_levels (suc n) buys x y =
     let before : size_below n (minus x y) + size_below n (minus y x)
-    ≡ sum_to (λ k. trade_level buys x k - trade_level buys y k) n + sum_to (λ k. trade_level buys y k - trade_level buys x k) n = sizes_are_levels n buys x y in
+    ≡ sum_to (λ k. trade_level buys x k - trade_level buys y k) n
+    + sum_to (λ k. trade_level buys y k - trade_level buys x k) n = sizes_are_levels n buys x y in
     rw (has-minus x y n, has-minus y x n) (by _ _ _ _ (has buys n) (has x n) (has y n) before)
   where
     by : (s t a b : ℕ) (c h g : Bool) → s + t ≡ a + b
         → (s + (if h && not g then 1 else 0)) + (t + (if g && not h then 1 else 0))
-        ≡ (a + ((if c then (if h then 1 else 0) else (if h then 0 else 1)) - (if c then (if g then 1 else 0) else (if g then 0 else 1))))
-        + (b + ((if c then (if g then 1 else 0) else (if g then 0 else 1)) - (if c then (if h then 1 else 0) else (if h then 0 else 1))))
+        ≡ (a + ((if c then (if h then 1 else 0) else (if h then 0 else 1)) - (if c then (if g then 1 else 0)
+        else (if g then 0 else 1))))
+        + (b + ((if c then (if g then 1 else 0) else (if g then 0 else 1)) - (if c then (if h then 1 else 0)
+        else (if h then 0 else 1))))
     by s t a b true true true e = omega (arith, e)
     by s t a b true true false e = omega (arith, e)
     by s t a b true false true e = omega (arith, e)
@@ -50,8 +54,10 @@ gap-parts : (n buys x y : ℕ) → gap n (level n buys x) (level n buys y)
     ≡ sum_to (λ k. trade_level buys x k - trade_level buys y k) n + (null_level n buys x - null_level n buys y)
 unfolding gap sum_to
 gap-parts n buys x y =
-    let trades : sum_to (λ k. level n buys x k - level n buys y k) n ≡ sum_to (λ k. trade_level buys x k - trade_level buys y k) n =
-    sum_to-same _ _ n (λ k h. let p = level-trade n buys x k h in let q = level-trade n buys y k h in omega (arith, p, q)) in
+    let trades : sum_to (λ k. level n buys x k - level n buys y k) n
+    ≡ sum_to (λ k. trade_level buys x k - trade_level buys y k) n =
+    sum_to-same _ _ n (λ k h. let p = level-trade n buys x k h in let q = level-trade n buys y k h in
+    omega (arith, p, q)) in
     let p = level-null n buys x in
     let q = level-null n buys y in
     omega (arith, trades, p, q)
@@ -73,8 +79,10 @@ distance-gaps n buys x y x_own y_own =
     let below = gap-parts n buys y x in
     let net_x = net-null_level n buys x x_own in
     let net_y = net-null_level n buys y y_own in
-    let nets : nat_abs (net buys x -ℤ net buys y) ≡ (null_level n buys y - null_level n buys x) + (null_level n buys x - null_level n buys y) =
-    abs_difference (net buys x -ℤ net buys y) (null_level n buys x) (null_level n buys y) (omega (arith, ints, net_x, net_y)) in
+    let nets : nat_abs (net buys x -ℤ net buys y) ≡ (null_level n buys y - null_level n buys x)
+    + (null_level n buys x - null_level n buys y) =
+    abs_difference (net buys x -ℤ net buys y) (null_level n buys x) (null_level n buys y)
+    (omega (arith, ints, net_x, net_y)) in
     omega (arith, first, second, sizes, above, below, nets)
 
 -- bundles that are two units apart are close
@@ -86,7 +94,8 @@ close_from_gap firm x y x_own y_own apart =
     omega (arith, both, same, apart)
 
 -- a trade of the down side is an own trade, and its place is on the down side
-down_to_level : (n buys x y k : ℕ) → x < 2 ^ n → y < 2 ^ n → has (up buys y x) k ≡ true → (k < n) × (level n buys x k < level n buys y k)
+down_to_level : (n buys x y k : ℕ) → x < 2 ^ n → y < 2 ^ n → has (up buys y x) k ≡ true → (k < n)
+    × (level n buys x k < level n buys y k)
 down_to_level n buys x y k x_own y_own e =
     let own : k < n = has_below (up buys y x) n k (up_within buys y x n y_own x_own) e in
     let p = level-trade n buys x k own in
@@ -124,7 +133,8 @@ moves_from_exchanges firm x y i x_own y_own p (inl swap) =
       at = swap.at;
       is_place = (let q = down.0 in omega (arith, q));
       is_down = down.1;
-      enough = enough_value firm _ _ _ _ _ (move-both firm.count x i swap.at p down.0) (move-both firm.count y i swap.at p down.0) swap.enough;
+      enough = enough_value firm _ _ _ _ _ (move-both firm.count x i swap.at p down.0)
+          (move-both firm.count y i swap.at p down.0) swap.enough;
     }
 moves_from_exchanges firm x y i x_own y_own p (inr alone) = record {
   at = firm.count;
@@ -142,7 +152,8 @@ moves_from_swap firm x y x_own y_own swap =
       at = swap.at;
       is_place = (let q = down.0 in omega (arith, q));
       is_down = down.1;
-      enough = enough_value firm _ _ _ _ _ (move-from_null firm.count x swap.at down.0) (move-from_null firm.count y swap.at down.0) swap.enough;
+      enough = enough_value firm _ _ _ _ _ (move-from_null firm.count x swap.at down.0)
+          (move-from_null firm.count y swap.at down.0) swap.enough;
     }
 
 -- where no triple of close bundles fails, bundles two units apart exchange
@@ -175,7 +186,8 @@ close_exchanges firm every none x y i x_own y_own i_place i_up apart = elim (cas
 ]
 
 -- what moves at all distances exchanges over places
-pub exchanges_over_places : (firm : Firm) → HasOwnBundles firm → HasEveryBundle firm → ((d : ℕ) → ExchangesAt firm (suc d)) → ExchangesOverPlaces firm
+pub exchanges_over_places : (firm : Firm) → HasOwnBundles firm → HasEveryBundle firm
+    → ((d : ℕ) → ExchangesAt firm (suc d)) → ExchangesOverPlaces firm
 exchanges_over_places firm own every moves x y a b x_is y_is i i_place i_up =
     swap (at_gap _ refl)
   where
@@ -185,7 +197,8 @@ exchanges_over_places firm own every moves x y a b x_is y_is i i_place i_up =
     y_own : y < 2 ^ firm.count
     y_own = own y b y_is
 
-    at_gap : (d : ℕ) → gap firm.count (level firm.count firm.buys x) (level firm.count firm.buys y) ≡ d → Moves firm x y i
+    at_gap : (d : ℕ) → gap firm.count (level firm.count firm.buys x) (level firm.count firm.buys y) ≡ d
+        → Moves firm x y i
     at_gap zero none = absurd (gap-positive firm x y i i_place i_up none)
     at_gap (suc d) apart = moves d x y i x_own y_own i_place i_up apart
 
@@ -199,7 +212,8 @@ exchanges_over_places firm own every moves x y a b x_is y_is i i_place i_up =
         second = value firm (move firm.count y i m.at);
         first_is = value_is firm every (move firm.count x i m.at) (move-within firm.count x i m.at x_own);
         second_is = value_is firm every (move firm.count y i m.at) (move-within firm.count y i m.at y_own);
-        enough = (let first = value_from firm x a x_is in let second = value_from firm y b y_is in let enough = m.enough in omega (arith, ints, first, second, enough));
+        enough = (let first = value_from firm x a x_is in let second = value_from firm y b y_is in let enough = m.enough
+            in omega (arith, ints, first, second, enough));
       };
     }
 
@@ -210,17 +224,20 @@ close_pairs_decide firm own every none =
     (exchanges_over_places firm own every (exchanges_everywhere firm (close_exchanges firm every none))))
 
 -- the same firm's worths at other names of the two bundles
-enough_at : (firm : Firm) (x y x' y' : ℕ) (total : ℤ) → x ≡ x' → y ≡ y' → AreEnough firm x y total → AreEnough firm x' y' total
+enough_at : (firm : Firm) (x y x' y' : ℕ) (total : ℤ) → x ≡ x' → y ≡ y' → AreEnough firm x y total
+    → AreEnough firm x' y' total
 enough_at firm x y x' y' total p q e = subst₂ (λ (u v : ℕ). AreEnough firm u v total) p q e
 
 -- a place that swaps is a position that exchanges
-exchanges_from_swap : (firm : Firm) (x y : ℕ) (total : ℤ) (i : ℕ) → x < 2 ^ firm.count → y < 2 ^ firm.count → i < firm.count
+exchanges_from_swap : (firm : Firm) (x y : ℕ) (total : ℤ) (i : ℕ) → x < 2 ^ firm.count → y < 2 ^ firm.count
+    → i < firm.count
     → SwapsAt firm x y total i → Exchanges firm x y total i
 exchanges_from_swap firm x y total i x_own y_own p swap = elim (cases_lt swap.at firm.count) [
   | inl q ↦ inl (record {
     at = swap.at;
     is_down = level_to_up firm.count firm.buys y x swap.at q swap.is_down;
-    enough = enough_at firm _ _ _ _ total (move-both firm.count x i swap.at p q) (move-both firm.count y i swap.at p q) swap.enough;
+    enough = enough_at firm _ _ _ _ total (move-both firm.count x i swap.at p q) (move-both firm.count y i swap.at p q)
+        swap.enough;
   })
   | inr q ↦
       let e : swap.at ≡ firm.count = (let r = swap.is_place in omega (arith, q, r)) in
@@ -228,18 +245,21 @@ exchanges_from_swap firm x y total i x_own y_own p swap = elim (cases_lt swap.at
         greater = (null_is_net_count firm.count firm.buys y x y_own x_own).1
             (subst (λ (k : ℕ). level firm.count firm.buys x k < level firm.count firm.buys y k) e swap.is_down);
         enough = enough_at firm _ _ _ _ total
-            (ap (move firm.count x i) e ∙ move-to_null firm.count x i p) (ap (move firm.count y i) e ∙ move-to_null firm.count y i p) swap.enough;
+            (ap (move firm.count x i) e ∙ move-to_null firm.count x i p) (ap (move firm.count y i) e
+            ∙ move-to_null firm.count y i p) swap.enough;
       })
 ]
 
 -- and where null swaps, a position of the down side does alone
-down_from_swap : (firm : Firm) (x y : ℕ) (total : ℤ) → level firm.count firm.buys y firm.count < level firm.count firm.buys x firm.count
+down_from_swap : (firm : Firm) (x y : ℕ) (total : ℤ)
+    → level firm.count firm.buys y firm.count < level firm.count firm.buys x firm.count
     → SwapsAt firm x y total firm.count → SwapsDown firm x y x y total
 down_from_swap firm x y total greater swap = elim (cases_lt swap.at firm.count) [
   | inl q ↦ record {
     at = swap.at;
     is_down = level_to_up firm.count firm.buys y x swap.at q swap.is_down;
-    enough = enough_at firm _ _ _ _ total (move-from_null firm.count x swap.at q) (move-from_null firm.count y swap.at q) swap.enough;
+    enough = enough_at firm _ _ _ _ total (move-from_null firm.count x swap.at q)
+        (move-from_null firm.count y swap.at q) swap.enough;
   }
   | inr q ↦
       let e : swap.at ≡ firm.count = (let r = swap.is_place in omega (arith, q, r)) in
@@ -251,7 +271,8 @@ down_from_swap firm x y total greater swap = elim (cases_lt swap.at firm.count) 
 -- where each place of the up side of two bundles swaps, none of their triples fails
 pub no_failure_from_swaps : (firm : Firm) (x y : ℕ) (a b : ℤ) → x < 2 ^ firm.count → y < 2 ^ firm.count
     → firm.worth x ≡ Some a → firm.worth y ≡ Some b
-    → ((i : ℕ) → i ≤ firm.count → level firm.count firm.buys y i < level firm.count firm.buys x i → SwapsAt firm x y (a +ℤ b) i)
+    → ((i : ℕ) → i ≤ firm.count → level firm.count firm.buys y i < level firm.count firm.buys x i
+    → SwapsAt firm x y (a +ℤ b) i)
     → (at : Option ℕ) → Fails firm x y at → ⊥
 no_failure_from_swaps firm x y a b x_own y_own x_is y_is swaps at f =
     by at (subst (λ (z : ℤ). IsWrongAt firm x y z at) (omega (arith, ints, first, second)) f.wrong)
@@ -265,7 +286,8 @@ no_failure_from_swaps firm x y a b x_own y_own x_is y_is swaps at f =
     by : (o : Option ℕ) → IsWrongAt firm x y (a +ℤ b) o → ⊥
     by (Some i) wrong =
         let up = down_to_level firm.count firm.buys y x i y_own x_own wrong.0 in
-        wrong.1 (exchanges_from_swap firm x y (a +ℤ b) i x_own y_own up.0 (swaps i (let p = up.0 in omega (arith, p)) up.1))
+        wrong.1 (exchanges_from_swap firm x y (a +ℤ b) i x_own y_own up.0 (swaps i (let p = up.0 in
+        omega (arith, p)) up.1))
     by None wrong =
         let greater = (null_is_net_count firm.count firm.buys x y x_own y_own).0 wrong.0 in
         wrong.1 (down_from_swap firm x y (a +ℤ b) greater (swaps firm.count (omega arith) greater))

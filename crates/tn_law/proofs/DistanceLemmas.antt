@@ -50,12 +50,14 @@ levels_same n level_of moved are x y below k h =
     sum_to-tight (level_of x) (level_of y) (suc n) below (omega (arith, first, second)) k h
 
 -- a bundle that is raised where it is too low, and lowered where it is too high, comes nearer by one
-pub gap-nearer : (n : ℕ) (level_of : ℕ → ℕ → ℕ) (moved : ℕ → ℕ → ℕ → ℕ) → ArePlaces n level_of moved → (x y i j : ℕ) → i ≤ n → j ≤ n
+pub gap-nearer : (n : ℕ) (level_of : ℕ → ℕ → ℕ) (moved : ℕ → ℕ → ℕ → ℕ) → ArePlaces n level_of moved → (x y i j : ℕ)
+    → i ≤ n → j ≤ n
     → level_of y i < level_of x i → level_of x j < level_of y j
     → gap n (level_of x) (level_of y) ≡ gap n (level_of x) (level_of (moved y i j)) + 1
 unfolding gap
 gap-nearer n level_of moved are x y i j i_within j_within i_up j_down =
-    sum_to-one (λ k. level_of x k - level_of y k) (λ k. level_of x k - level_of (moved y i j) k) i (suc n) (omega (arith, i_within)) at
+    sum_to-one (λ k. level_of x k - level_of y k) (λ k. level_of x k - level_of (moved y i j) k) i (suc n)
+    (omega (arith, i_within)) at
   where
     apart : i ≢ j
     apart = up_apart_down (level_of x) (level_of y) i j i_up j_down
@@ -63,7 +65,8 @@ gap-nearer n level_of moved are x y i j i_within j_within i_up j_down =
     at : (k : ℕ) → k < suc n → level_of x k - level_of y k ≡ (level_of x k - level_of (moved y i j) k) + one_at i k
     at k h =
         let changed = are.levels y i j k i_within j_within apart
-        (up_moves n level_of moved are x y i i_up).0 (up_moves n level_of moved are y x j j_down).1 (omega (arith, h)) in
+        (up_moves n level_of moved are x y i i_up).0 (up_moves n level_of moved are y x j j_down).1 (omega (arith, h))
+        in
         elim (cases_eq k i) [
           | inl e ↦
               let above : level_of y k < level_of x k = subst (λ (m : ℕ). level_of y m < level_of x m) (sym e) i_up in
@@ -74,7 +77,8 @@ gap-nearer n level_of moved are x y i j i_within j_within i_up j_down =
               let none : one_at i k ≡ 0 = one_at-other i k (λ e. d (sym e)) in
               elim (cases_eq k j) [
                 | inl e ↦
-                    let below : level_of x k < level_of y k = subst (λ (m : ℕ). level_of x m < level_of y m) (sym e) j_down in
+                    let below : level_of x k < level_of y k =
+                    subst (λ (m : ℕ). level_of x m < level_of y m) (sym e) j_down in
                     let one : one_at j k ≡ 1 = subst (λ (m : ℕ). one_at j m ≡ 1) (sym e) (one_at-same j) in
                     omega (arith, changed, below, one, none)
                 | inr f ↦

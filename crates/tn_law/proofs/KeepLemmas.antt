@@ -19,9 +19,11 @@ use Rattle.tn_law.proofs.ExchangeLemmas.{exchange_to_places, exchange_from_place
 pub has_differs : (n buys x y k : ℕ) → k < n → level n buys x k ≢ level n buys y k → has x k ≡ not (has y k)
 unfolding trade_level
 has_differs n buys x y k below differs =
-    by (has buys k) (has x k) (has y k) (λ e. differs (level-trade n buys x k below ∙ e ∙ sym (level-trade n buys y k below)))
+    by (has buys k) (has x k) (has y k) (λ e. differs (level-trade n buys x k below ∙ e
+    ∙ sym (level-trade n buys y k below)))
   where
-    by : (b h g : Bool) → ◌≢◌ {A = ℕ} (if b then (if h then 1 else 0) else (if h then 0 else 1)) (if b then (if g then 1 else 0) else (if g then 0 else 1)) → h ≡ not g
+    by : (b h g : Bool) → ◌≢◌ {A = ℕ} (if b then (if h then 1 else 0) else (if h then 0 else 1)) (if b
+        then (if g then 1 else 0) else (if g then 0 else 1)) → h ≡ not g
     by true true true d = absurd (d refl)
     by true true false d = refl
     by true false true d = refl
@@ -43,8 +45,10 @@ sum_over-toggle_at : (c : ℕ → ℤ) (n x y i : ℕ) → (i < n → has x i �
     → sum_over c n (toggle_at n x i) +ℤ sum_over c n (toggle_at n y i) ≡ sum_over c n x +ℤ sum_over c n y
 sum_over-toggle_at c n x y i differs = elim (cases_lt i n) [
   | inl p ↦
-      subst (λ (z : ℕ). sum_over c n z +ℤ sum_over c n (toggle_at n y i) ≡ sum_over c n x +ℤ sum_over c n y) (sym (toggle_at-trade n x i p))
-      (subst (λ (z : ℕ). sum_over c n (toggle x i) +ℤ sum_over c n z ≡ sum_over c n x +ℤ sum_over c n y) (sym (toggle_at-trade n y i p))
+      subst (λ (z : ℕ). sum_over c n z +ℤ sum_over c n (toggle_at n y i) ≡ sum_over c n x +ℤ sum_over c n y)
+      (sym (toggle_at-trade n x i p))
+      (subst (λ (z : ℕ). sum_over c n (toggle x i) +ℤ sum_over c n z ≡ sum_over c n x +ℤ sum_over c n y)
+      (sym (toggle_at-trade n y i p))
       (elim (cases_Bool (has y i)) [
         | inl present ↦
             let out = sum_over-toggle_out c n y i p present in
@@ -62,14 +66,16 @@ sum_over-toggle_at c n x y i differs = elim (cases_lt i n) [
 ]
 
 -- sums over two bundles that swap two places stay together the same
-pub sum_over-move : (c : ℕ → ℤ) (n buys x y i j : ℕ) → level n buys y i < level n buys x i → level n buys x j < level n buys y j
+pub sum_over-move : (c : ℕ → ℤ) (n buys x y i j : ℕ) → level n buys y i < level n buys x i
+    → level n buys x j < level n buys y j
     → sum_over c n (move n x i j) +ℤ sum_over c n (move n y i j) ≡ sum_over c n x +ℤ sum_over c n y
 unfolding move
 sum_over-move c n buys x y i j i_up j_down =
     let apart : j ≢ i = λ e. up_apart_down (level n buys x) (level n buys y) i j i_up j_down (sym e) in
     let first = sum_over-toggle_at c n x y i (λ p. has_differs n buys x y i p (λ e. omega (arith, i_up, e))) in
     let second = sum_over-toggle_at c n (toggle_at n x i) (toggle_at n y i) j (λ p.
-    has-toggle_at n x i j apart ∙ has_differs n buys x y j p (λ e. omega (arith, j_down, e)) ∙ ap not (sym (has-toggle_at n y i j apart))) in
+    has-toggle_at n x i j apart ∙ has_differs n buys x y j p (λ e. omega (arith, j_down, e))
+    ∙ ap not (sym (has-toggle_at n y i j apart))) in
     second ∙ first
 
 -- numbers of at least 0 have a product of at least 0
@@ -92,7 +98,8 @@ option_map-some f None z e = absurd (none-some z e)
 option_map-some f (Some a) z e = (a, refl, same_Some (f a) z e)
 
 -- a multiple of at least 0, with a sum over the bundle, keeps exchange
-pub exchange-plus_sum : (scale : ℤ) (c : ℕ → ℤ) (firm : Firm) → pos 0 ≤ℤ scale → ExchangesOverPlaces firm → ExchangesOverPlaces (plus_sum scale c firm)
+pub exchange-plus_sum : (scale : ℤ) (c : ℕ → ℤ) (firm : Firm) → pos 0 ≤ℤ scale → ExchangesOverPlaces firm
+    → ExchangesOverPlaces (plus_sum scale c firm)
 exchange-plus_sum scale c firm from_zero over x y a b x_is y_is i i_within i_up =
     let first = option_map-some _ (firm.worth x) a x_is in
     let second = option_map-some _ (firm.worth y) b y_is in
@@ -104,11 +111,15 @@ exchange-plus_sum scale c firm from_zero over x y a b x_is y_is i i_within i_up 
       enough = record {
         first = scale *ℤ swap.enough.first +ℤ sum_over c firm.count (move firm.count x i swap.at);
         second = scale *ℤ swap.enough.second +ℤ sum_over c firm.count (move firm.count y i swap.at);
-        first_is = ap (option_map (λ z. scale *ℤ z +ℤ sum_over c firm.count (move firm.count x i swap.at))) swap.enough.first_is;
-        second_is = ap (option_map (λ z. scale *ℤ z +ℤ sum_over c firm.count (move firm.count y i swap.at))) swap.enough.second_is;
+        first_is = ap (option_map (λ z. scale *ℤ z +ℤ sum_over c firm.count (move firm.count x i swap.at)))
+            swap.enough.first_is;
+        second_is = ap (option_map (λ z. scale *ℤ z +ℤ sum_over c firm.count (move firm.count y i swap.at)))
+            swap.enough.second_is;
         enough =
             let sums = sum_over-move c firm.count firm.buys x y i swap.at i_up swap.is_down in
-            let scaled = times-le scale (first.0 +ℤ second.0) (swap.enough.first +ℤ swap.enough.second) from_zero swap.enough.enough in
+            let scaled =
+            times-le scale (first.0 +ℤ second.0) (swap.enough.first +ℤ swap.enough.second) from_zero
+            swap.enough.enough in
             let before = times-plus scale first.0 second.0 in
             let after = times-plus scale swap.enough.first swap.enough.second in
             omega (arith, ints, sums, scaled, before, after, first.2, second.2);
@@ -120,11 +131,14 @@ own-plus_sum : (scale : ℤ) (c : ℕ → ℤ) (firm : Firm) → HasOwnBundles f
 own-plus_sum scale c firm own x a x_is = let first = option_map-some _ (firm.worth x) a x_is in own x first.0 first.1
 
 -- what a bundle within a set has a worth among it
-among_some : (allowed : ℕ) (firm : Firm) (x : ℕ) (a : ℤ) → minus x allowed ≡ 0 → firm.worth x ≡ Some a → (among allowed firm).worth x ≡ Some a
-among_some allowed firm x a within x_is = ap (λ b. cond b (firm.worth x) None) (eq-eqb (minus x allowed) 0 within) ∙ x_is
+among_some : (allowed : ℕ) (firm : Firm) (x : ℕ) (a : ℤ) → minus x allowed ≡ 0 → firm.worth x ≡ Some a
+    → (among allowed firm).worth x ≡ Some a
+among_some allowed firm x a within x_is = ap (λ b. cond b (firm.worth x) None) (eq-eqb (minus x allowed) 0 within)
+    ∙ x_is
 
 -- and only such a bundle
-among_within : (allowed : ℕ) (firm : Firm) (x : ℕ) (a : ℤ) → (among allowed firm).worth x ≡ Some a → (minus x allowed ≡ 0) × (firm.worth x ≡ Some a)
+among_within : (allowed : ℕ) (firm : Firm) (x : ℕ) (a : ℤ) → (among allowed firm).worth x ≡ Some a
+    → (minus x allowed ≡ 0) × (firm.worth x ≡ Some a)
 among_within allowed firm x a x_is = elim (cases_Bool (minus x allowed == 0)) [
   | inl e ↦ (eqb-true (minus x allowed) 0 e, sym (ap (λ b. cond b (firm.worth x) None) e) ∙ x_is)
   | inr e ↦ absurd (none-some a (sym (ap (λ b. cond b (firm.worth x) None) e) ∙ x_is))
@@ -132,7 +146,8 @@ among_within allowed firm x a x_is = elim (cases_Bool (minus x allowed == 0)) [
 
 -- a toggle at a place in which two bundles within a set differ stays within the set
 within-toggle_at : (A : ℕ → Type 0) (n x y i : ℕ) → (i < n → has x i ≡ not (has y i))
-    → ((k : ℕ) → has x k ≡ true → A k) → ((k : ℕ) → has y k ≡ true → A k) → (k : ℕ) → has (toggle_at n x i) k ≡ true → A k
+    → ((k : ℕ) → has x k ≡ true → A k) → ((k : ℕ) → has y k ≡ true → A k) → (k : ℕ) → has (toggle_at n x i) k ≡ true
+    → A k
 within-toggle_at A n x y i differs x_within y_within k member = elim (cases_lt i n) [
   | inl p ↦ elim (cases_eq k i) [
     | inl e ↦ elim (cases_Bool (has y i)) [
@@ -145,13 +160,15 @@ within-toggle_at A n x y i differs x_within y_within k member = elim (cases_lt i
 ]
 
 -- two bundles within a set that swap two places stay within the set
-within-move : (allowed n buys x y i j : ℕ) → level n buys x i ≢ level n buys y i → level n buys x j ≢ level n buys y j → j ≢ i
+within-move : (allowed n buys x y i j : ℕ) → level n buys x i ≢ level n buys y i → level n buys x j ≢ level n buys y j
+    → j ≢ i
     → minus x allowed ≡ 0 → minus y allowed ≡ 0 → minus (move n x i j) allowed ≡ 0
 unfolding move
 within-move allowed n buys x y i j i_differs j_differs apart x_within y_within =
     minus-zero_from (toggle_at n (toggle_at n x i) j) allowed
     (within-toggle_at A n (toggle_at n x i) (toggle_at n y i) j
-    (λ p. has-toggle_at n x i j apart ∙ has_differs n buys x y j p j_differs ∙ ap not (sym (has-toggle_at n y i j apart)))
+    (λ p. has-toggle_at n x i j apart ∙ has_differs n buys x y j p j_differs
+    ∙ ap not (sym (has-toggle_at n y i j apart)))
     (within-toggle_at A n x y i (λ p. has_differs n buys x y i p i_differs) x_in y_in)
     (within-toggle_at A n y x i (λ p. has_differs n buys y x i p (λ e. i_differs (sym e))) y_in x_in))
   where
@@ -172,7 +189,8 @@ exchange-among allowed firm over x y a b x_is y_is i i_within i_up =
     let swap = over x y a b first.1 second.1 i i_within i_up in
     let apart : swap.at ≢ i = λ e.
     up_apart_down (level firm.count firm.buys x) (level firm.count firm.buys y) i swap.at i_up swap.is_down (sym e) in
-    let x_differs : level firm.count firm.buys x swap.at ≢ level firm.count firm.buys y swap.at = differ _ _ swap.is_down in
+    let x_differs : level firm.count firm.buys x swap.at ≢ level firm.count firm.buys y swap.at =
+    differ _ _ swap.is_down in
     let y_differs : level firm.count firm.buys y i ≢ level firm.count firm.buys x i = differ _ _ i_up in
     record {
       at = swap.at;
@@ -181,9 +199,11 @@ exchange-among allowed firm over x y a b x_is y_is i i_within i_up =
       enough = record {
         first = swap.enough.first;
         second = swap.enough.second;
-        first_is = among_some allowed firm _ _ (within-move allowed firm.count firm.buys x y i swap.at (λ e. y_differs (sym e)) x_differs apart first.0 second.0)
+        first_is = among_some allowed firm _ _ (within-move allowed firm.count firm.buys x y i swap.at
+            (λ e. y_differs (sym e)) x_differs apart first.0 second.0)
             swap.enough.first_is;
-        second_is = among_some allowed firm _ _ (within-move allowed firm.count firm.buys y x i swap.at y_differs (λ e. x_differs (sym e)) apart second.0 first.0)
+        second_is = among_some allowed firm _ _ (within-move allowed firm.count firm.buys y x i swap.at y_differs
+            (λ e. x_differs (sym e)) apart second.0 first.0)
             swap.enough.second_is;
         enough = swap.enough.enough;
       };
@@ -200,12 +220,18 @@ own-among allowed firm own x a x_is = own x a (among_within allowed firm x a x_i
 pub meets-plus_sum : (firm : Firm) (scale : ℤ) (c : ℕ → ℤ) → pos 0 ≤ℤ scale → HasOwnBundles firm → MeetsExchange firm
     → HasOwnBundles (plus_sum scale c firm) × MeetsExchange (plus_sum scale c firm)
 meets-plus_sum firm scale c from_zero own meets =
-    let owns = own-plus_sum scale c firm own in
-    (owns, exchange_from_places (plus_sum scale c firm) owns (exchange-plus_sum scale c firm from_zero (exchange_to_places firm own meets)))
+    let owns = own-plus_sum scale c firm own in (
+      owns,
+      exchange_from_places (plus_sum scale c firm) owns
+          (exchange-plus_sum scale c firm from_zero (exchange_to_places firm own meets)),
+    )
 
 -- a firm with a limit on its positions meets exchange
 pub meets-among : (firm : Firm) (allowed : ℕ) → HasOwnBundles firm → MeetsExchange firm
     → HasOwnBundles (among allowed firm) × MeetsExchange (among allowed firm)
 meets-among firm allowed own meets =
-    let owns = own-among allowed firm own in
-    (owns, exchange_from_places (among allowed firm) owns (exchange-among allowed firm (exchange_to_places firm own meets)))
+    let owns = own-among allowed firm own in (
+      owns,
+      exchange_from_places (among allowed firm) owns
+          (exchange-among allowed firm (exchange_to_places firm own meets)),
+    )

@@ -1,3 +1,4 @@
+-- The files of lemmas of this crate.
 pub mod SumLemmas
 pub mod PlaceLemmas
 pub mod ExchangeLemmas

@@ -37,7 +37,8 @@ move-over n x i j k l =
 pub move-last : (n x i j k l : ℕ) → move n (move n x i j) k l ≡ move n (move n x i k) l j
 unfolding move
 move-last n x i j k l =
-    ap (λ (z : ℕ). toggle_at n z l) (order_at n (toggle_at n x i) j k) ∙ order_at n (toggle_at n (toggle_at n x i) k) j l
+    ap (λ (z : ℕ). toggle_at n z l) (order_at n (toggle_at n x i) j k)
+    ∙ order_at n (toggle_at n (toggle_at n x i) k) j l
 
 -- two moves with a place in common are one of the other two places
 pub move-first_again : (n x i j k : ℕ) → move n (move n x i j) i k ≡ move n x j k
@@ -61,16 +62,19 @@ pub has_move-second : (n x i j : ℕ) → j < n → j ≢ i → has (move n x i 
 has_move-second n x i j p q = ap (λ (z : ℕ). has z j) (move-order n x i j) ∙ has_move-first n x j i p q
 
 -- the level of a purchase, and of a sale
-pub bought_level : (n buys x k : ℕ) (b : Bool) → k < n → has buys k ≡ true → has x k ≡ b → level n buys x k ≡ (if b then 1 else 0)
+pub bought_level : (n buys x k : ℕ) (b : Bool) → k < n → has buys k ≡ true → has x k ≡ b
+    → level n buys x k ≡ (if b then 1 else 0)
 unfolding trade_level
 bought_level n buys x k b p bought is = level-trade n buys x k p ∙ rw (bought, is) refl
 
-pub sold_level : (n buys x k : ℕ) (b : Bool) → k < n → has buys k ≡ false → has x k ≡ b → level n buys x k ≡ (if b then 0 else 1)
+pub sold_level : (n buys x k : ℕ) (b : Bool) → k < n → has buys k ≡ false → has x k ≡ b
+    → level n buys x k ≡ (if b then 0 else 1)
 unfolding trade_level
 sold_level n buys x k b p sold is = level-trade n buys x k p ∙ rw (sold, is) refl
 
 -- a move that raises one place and lowers another keeps the level of every other
-pub level_kept : (n buys x i j k : ℕ) → i ≤ n → j ≤ n → i ≢ j → CanRise n (level n buys x) i → CanFall n (level n buys x) j → k ≤ n → k ≢ i → k ≢ j
+pub level_kept : (n buys x i j k : ℕ) → i ≤ n → j ≤ n → i ≢ j → CanRise n (level n buys x) i
+    → CanFall n (level n buys x) j → k ≤ n → k ≢ i → k ≢ j
     → level n buys (move n x i j) k ≡ level n buys x k
 level_kept n buys x i j k i_within j_within apart rise fall within p q =
     let moved = (places n buys).levels x i j k i_within j_within apart rise fall within in

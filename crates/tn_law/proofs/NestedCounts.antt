@@ -25,12 +25,14 @@ unfoldable pub sale_count : ℕ → ℕ → ℕ → ℤ
 sale_count n buys q = sum_over (λ k. if has buys k then pos 0 else pos 1) n q
 
 -- purchases in the bundle less sales in it are levels less sales
-net-trade_levels : (n buys x q : ℕ) → (pos (size_below n (meet (meet x q) buys)) -ℤ pos (size_below n (minus (meet x q) buys))) +ℤ sale_count n buys q
+net-trade_levels : (n buys x q : ℕ)
+    → (pos (size_below n (meet (meet x q) buys)) -ℤ pos (size_below n (minus (meet x q) buys))) +ℤ sale_count n buys q
     ≡ sum_over (λ k. pos (trade_level buys x k)) n q
 unfolding size_below sum_over sale_count trade_level
 net-trade_levels zero buys x q = refl
 net-trade_levels (suc n) buys x q =
-    let before : (pos (size_below n (meet (meet x q) buys)) -ℤ pos (size_below n (minus (meet x q) buys))) +ℤ sale_count n buys q
+    let before : (pos (size_below n (meet (meet x q) buys)) -ℤ pos (size_below n (minus (meet x q) buys)))
+    +ℤ sale_count n buys q
     ≡ sum_over (λ k. pos (trade_level buys x k)) n q = net-trade_levels n buys x q in
     rw (has-meet (meet x q) buys n, has-minus (meet x q) buys n, has-meet x q n)
     (by _ _ _ _ (has x n) (has q n) (has buys n) before)
@@ -49,13 +51,15 @@ net-trade_levels (suc n) buys x q =
     by m o c s false false false e = omega (arith, ints, e)
 
 -- the net count within a set of own positions, with its sales, is the sum of its levels
-pub net-level_sum : (n buys x q : ℕ) → x < 2 ^ n → q < 2 ^ n → net buys (meet x q) +ℤ sale_count n buys q ≡ level_sum n buys x q
+pub net-level_sum : (n buys x q : ℕ) → x < 2 ^ n → q < 2 ^ n
+    → net buys (meet x q) +ℤ sale_count n buys q ≡ level_sum n buys x q
 unfolding level_sum
 net-level_sum n buys x q x_below q_below =
     let counted = net_at n buys (meet x q) (meet_within x q n x_below) in
     let trades = net-trade_levels n buys x q in
     let levels : sum_over (λ k. pos (level n buys x k)) n q ≡ sum_over (λ k. pos (trade_level buys x k)) n q =
-    sum_over-same_terms (λ k. pos (level n buys x k)) (λ k. pos (trade_level buys x k)) q n (λ k h member. ap pos (level-trade n buys x k h)) in
+    sum_over-same_terms (λ k. pos (level n buys x k)) (λ k. pos (trade_level buys x k)) q n
+    (λ k h member. ap pos (level-trade n buys x k h)) in
     let no_null : sum_over (λ k. pos (level n buys x k)) (suc n) q ≡ sum_over (λ k. pos (level n buys x k)) n q =
     sum_over-above (λ k. pos (level n buys x k)) q n (suc n) q_below (omega arith) in
     omega (arith, ints, counted, trades, levels, no_null)
@@ -66,7 +70,8 @@ unfolding sum_over
 sum_over-difference f g zero q = refl
 sum_over-difference f g (suc m) q =
     let before : sum_over (λ k. f k -ℤ g k) m q ≡ sum_over f m q -ℤ sum_over g m q = sum_over-difference f g m q in
-    let here : (if has q m then f m -ℤ g m else pos 0) ≡ (if has q m then f m else pos 0) -ℤ (if has q m then g m else pos 0) = by (has q m) in
+    let here : (if has q m then f m -ℤ g m else pos 0) ≡ (if has q m then f m else pos 0) -ℤ (if has q m then g m
+    else pos 0) = by (has q m) in
     omega (arith, ints, before, here)
   where
     by : (b : Bool) → (if b then f m -ℤ g m else pos 0) ≡ (if b then f m else pos 0) -ℤ (if b then g m else pos 0)
@@ -94,14 +99,16 @@ sum_over-one_at i zero q inside = absurd (omega (arith, inside))
 sum_over-one_at i (suc m) q inside = elim (cases_eq i m) [
   | inl e ↦
       let before : sum_over (λ k. pos (one_at i k)) m q ≡ sum_over (λ k. pos 0) m q =
-      sum_over-same_terms (λ k. pos (one_at i k)) (λ k. pos 0) q m (λ k h member. ap pos (one_at-other i k (λ f. omega (arith, e, f, h)))) in
+      sum_over-same_terms (λ k. pos (one_at i k)) (λ k. pos 0) q m
+      (λ k h member. ap pos (one_at-other i k (λ f. omega (arith, e, f, h)))) in
       let zero_sum = no_terms m in
       let here : (if has q m then pos (one_at i m) else pos 0) ≡ member_count q i =
       subst (λ (k : ℕ). (if has q k then pos (one_at i k) else pos 0) ≡ member_count q i) e
       (ap (λ (t : ℕ). if has q i then pos t else pos 0) (one_at-same i)) in
       omega (arith, ints, before, zero_sum, here)
   | inr other ↦
-      let before : sum_over (λ k. pos (one_at i k)) m q ≡ member_count q i = sum_over-one_at i m q (omega (arith, inside, other)) in
+      let before : sum_over (λ k. pos (one_at i k)) m q ≡ member_count q i =
+      sum_over-one_at i m q (omega (arith, inside, other)) in
       let here : (if has q m then pos (one_at i m) else pos 0) ≡ pos 0 =
       ap (λ (t : ℕ). if has q m then pos t else pos 0) (one_at-other i m other) ∙ by (has q m) in
       omega (arith, ints, before, here)
@@ -132,11 +139,13 @@ sum_over-moved f g i j m q i_inside j_inside moved =
     omega (arith, ints, after, before, same, rise, fall)
 
 -- a bundle that is raised at i and lowered at j: what its net count within a set of own positions gains and loses
-pub net-move : (n buys x i j q : ℕ) → x < 2 ^ n → q < 2 ^ n → i ≤ n → j ≤ n → i ≢ j → CanRise n (level n buys x) i → CanFall n (level n buys x) j
+pub net-move : (n buys x i j q : ℕ) → x < 2 ^ n → q < 2 ^ n → i ≤ n → j ≤ n → i ≢ j → CanRise n (level n buys x) i
+    → CanFall n (level n buys x) j
     → net buys (meet (move n x i j) q) +ℤ member_count q j ≡ net buys (meet x q) +ℤ member_count q i
 unfolding level_sum
 net-move n buys x i j q x_below q_below i_within j_within apart rise fall =
-    let moved = sum_over-moved (level n buys x) (level n buys (move n x i j)) i j (suc n) q (omega (arith, i_within)) (omega (arith, j_within))
+    let moved = sum_over-moved (level n buys x) (level n buys (move n x i j)) i j (suc n) q (omega (arith, i_within))
+    (omega (arith, j_within))
     (λ k h. (places n buys).levels x i j k i_within j_within apart rise fall (omega (arith, h))) in
     let before = net-level_sum n buys x q x_below q_below in
     let after = net-level_sum n buys (move n x i j) q (move-within n x i j x_below) q_below in

@@ -49,11 +49,13 @@ unfolding sum_over
 sum_over-minus d zero w p within = refl
 sum_over-minus d (suc m) w p within =
     let before : sum_over d m (minus w p) ≡ sum_over d m w -ℤ sum_over d m p = sum_over-minus d m w p within in
-    let here : (if has (minus w p) m then d m else pos 0) ≡ (if has w m then d m else pos 0) -ℤ (if has p m then d m else pos 0) =
+    let here : (if has (minus w p) m then d m else pos 0) ≡ (if has w m then d m else pos 0) -ℤ (if has p m then d m
+    else pos 0) =
     rw (has-minus w p m) (by (has w m) (has p m) (within m)) in
     omega (arith, ints, before, here)
   where
-    by : (b c : Bool) → (c ≡ true → b ≡ true) → (if b && not c then d m else pos 0) ≡ (if b then d m else pos 0) -ℤ (if c then d m else pos 0)
+    by : (b c : Bool) → (c ≡ true → b ≡ true) → (if b && not c then d m else pos 0) ≡ (if b then d m else pos 0)
+        -ℤ (if c then d m else pos 0)
     by true true h = omega (arith, ints)
     by true false h = omega (arith, ints)
     by false true h = absurd (false≢true (h refl))
@@ -61,7 +63,8 @@ sum_over-minus d (suc m) w p within =
 
 -- some later taken set contains p, or each later taken set is apart from p or within it
 later : (d : ℕ → ℤ) (m i p : ℕ) (sets : List ℕ) → ((q : ℕ) → In q sets → Nest p q)
-    → ((q : ℕ) × In q sets × IsTaken d m i q × Within p q) ⊎ ((q : ℕ) → In q sets → IsTaken d m i q → Apart p q ⊎ Within q p)
+    → ((q : ℕ) × In q sets × IsTaken d m i q × Within p q)
+    ⊎ ((q : ℕ) → In q sets → IsTaken d m i q → Apart p q ⊎ Within q p)
 later d m i p [] nest = inr (λ q q_in taken. absurd q_in)
 later d m i p (s ∷ sets) nest = elim (later d m i p sets (λ q q_in. nest q (inr q_in))) [
   | inl found ↦ inl (found.0, inr found.1, found.2, found.3)
@@ -109,7 +112,8 @@ cleared-more d m i p sets w rest here = record {
 }
 
 -- a part of a part
-cleared-inside : (d : ℕ → ℤ) (m i : ℕ) (sets : List ℕ) (w v : ℕ) → Within v w → Cleared d m i sets v → Cleared d m i sets w
+cleared-inside : (d : ℕ → ℤ) (m i : ℕ) (sets : List ℕ) (w v : ℕ) → Within v w → Cleared d m i sets v
+    → Cleared d m i sets w
 cleared-inside d m i sets w v within rest = record {
   set = rest.set;
   holds = rest.holds;
@@ -132,7 +136,8 @@ has_minus_from : (w p k : ℕ) → has w k ≡ true → has p k ≡ false → ha
 has_minus_from w p k member absent = has-minus w p k ∙ rw (member, absent) refl
 
 -- the taken sets can be cleared out of w: each is within w or apart from it, and one within a later one is skipped
-clear : (d : ℕ → ℤ) (m i : ℕ) (sets : List ℕ) → ((a b : ℕ) → In a sets → In b sets → Nest a b) → (w : ℕ) → has w i ≡ true
+clear : (d : ℕ → ℤ) (m i : ℕ) (sets : List ℕ) → ((a b : ℕ) → In a sets → In b sets → Nest a b) → (w : ℕ)
+    → has w i ≡ true
     → sum_over d m w ≤ℤ pos 0 → ((q : ℕ) → In q sets → IsTaken d m i q → Apart q w ⊎ Within q w) → Cleared d m i sets w
 unfolding cleared-inside
 clear d m i [] nest w w_i low fits = record {
@@ -143,19 +148,23 @@ clear d m i [] nest w w_i low fits = record {
   apart = λ q q_in taken. absurd q_in;
 }
 clear d m i (p ∷ sets) nest w w_i low fits =
-    let rest : Cleared d m i sets w = clear d m i sets (λ a b a_in b_in. nest a b (inr a_in) (inr b_in)) w w_i low (λ q q_in. fits q (inr q_in)) in
+    let rest : Cleared d m i sets w =
+    clear d m i sets (λ a b a_in b_in. nest a b (inr a_in) (inr b_in)) w w_i low (λ q q_in. fits q (inr q_in)) in
     elim (taken_or_not d m i p) [
       | inr free ↦ cleared-more d m i p sets w rest (λ taken. absurd (free taken))
       | inl taken ↦ elim (fits p (inl refl) taken) [
         | inl apart ↦ cleared-more d m i p sets w rest (λ t k h g. apart k h (rest.inside k g))
         | inr within ↦ elim (later d m i p sets (λ q q_in. nest p q (inl refl) (inr q_in))) [
-          | inl found ↦ cleared-more d m i p sets w rest (λ t k h g. rest.apart found.0 found.1 found.2 k (found.3 k h) g)
+          | inl found ↦
+              cleared-more d m i p sets w rest (λ t k h g. rest.apart found.0 found.1 found.2 k (found.3 k h) g)
           | inr none ↦
-              let less : Cleared d m i sets (minus w p) = clear d m i sets (λ a b a_in b_in. nest a b (inr a_in) (inr b_in)) (minus w p)
+              let less : Cleared d m i sets (minus w p) =
+              clear d m i sets (λ a b a_in b_in. nest a b (inr a_in) (inr b_in)) (minus w p)
               (has_minus_from w p i w_i taken.0)
               (let sum = sum_over-minus d m w p within in let t = taken.1 in omega (arith, ints, sum, t, low))
               (λ q q_in q_taken. fits_left q (none q q_in q_taken) (fits q (inr q_in) q_taken)) in
-              cleared-more d m i p sets w (cleared-inside d m i sets w (minus w p) (λ k h. (has_minus_parts w p k h).0) less)
+              cleared-more d m i p sets w (cleared-inside d m i sets w (minus w p) (λ k h. (has_minus_parts w p k h).0)
+              less)
               (λ t k h g. true≢false (sym h ∙ (has_minus_parts w p k (less.inside k g)).1))
         ]
       ]
@@ -184,7 +193,8 @@ record Framed (d : ℕ → ℤ) (m i : ℕ) (all sets : List ℕ) (u : ℕ) : Ty
   nested : (q : ℕ) → In q all → Nest q set
 
 -- one set more, which holds the framed set if its sum is at most 0
-framed-more : (d : ℕ → ℤ) (m i : ℕ) (all : List ℕ) (p : ℕ) (sets : List ℕ) (u v : ℕ) → Within v u → (rest : Framed d m i all sets v)
+framed-more : (d : ℕ → ℤ) (m i : ℕ) (all : List ℕ) (p : ℕ) (sets : List ℕ) (u v : ℕ) → Within v u
+    → (rest : Framed d m i all sets v)
     → (has p i ≡ true → sum_over d m p ≤ℤ pos 0 → Within rest.set p) → Framed d m i all (p ∷ sets) u
 framed-more d m i all p sets u v within rest here = record {
   set = rest.set;
@@ -192,7 +202,8 @@ framed-more d m i all p sets u v within rest here = record {
   low = rest.low;
   inside = λ k h. within k (rest.inside k h);
   least = λ q q_in q_i q_low. elim q_in [
-    | inl e ↦ subst (Within rest.set) (sym e) (here (subst (λ (z : ℕ). has z i ≡ true) e q_i) (subst (λ (z : ℕ). sum_over d m z ≤ℤ pos 0) e q_low))
+    | inl e ↦ subst (Within rest.set) (sym e) (here (subst (λ (z : ℕ). has z i ≡ true) e q_i)
+        (subst (λ (z : ℕ). sum_over d m z ≤ℤ pos 0) e q_low))
     | inr q_later ↦ rest.least q q_later q_i q_low
   ];
   nested = rest.nested;
@@ -213,14 +224,17 @@ frame d m i all nest [] known u u_i low nested = record {
 frame d m i all nest (p ∷ sets) known u u_i low nested =
     let rest : Framed d m i all sets u = frame d m i all nest sets (λ q q_in. known q (inr q_in)) u u_i low nested in
     elim (cases_Bool (has p i)) [
-      | inr absent ↦ framed-more d m i all p sets u u (λ k h. h) rest (λ p_i p_low. absurd (true≢false (sym p_i ∙ absent)))
+      | inr absent ↦
+          framed-more d m i all p sets u u (λ k h. h) rest (λ p_i p_low. absurd (true≢false (sym p_i ∙ absent)))
       | inl p_i ↦ elim (cases_ltℤ (pos 0) (sum_over d m p)) [
-        | inl high ↦ framed-more d m i all p sets u u (λ k h. h) rest (λ e p_low. absurd (omega (arith, ints, high, p_low)))
+        | inl high ↦
+            framed-more d m i all p sets u u (λ k h. h) rest (λ e p_low. absurd (omega (arith, ints, high, p_low)))
         | inr p_low ↦ elim (nested p (known p (inl refl))) [
           | inl apart ↦ absurd (apart i p_i u_i)
           | inr either ↦ elim either [
             | inl p_within ↦
-                let inner : Framed d m i all sets p = frame d m i all nest sets (λ q q_in. known q (inr q_in)) p p_i p_low
+                let inner : Framed d m i all sets p =
+                frame d m i all nest sets (λ q q_in. known q (inr q_in)) p p_i p_low
                 (λ q q_in. nest q p q_in (known p (inl refl))) in
                 framed-more d m i all p sets u p p_within inner (λ e l. inner.inside)
             | inr u_within ↦ framed-more d m i all p sets u u (λ k h. h) rest (λ e l k h. u_within k (rest.inside k h))
@@ -230,7 +244,8 @@ frame d m i all nest (p ∷ sets) known u u_i low nested =
     ]
 
 -- some member of w has a number below 0, or none has
-negative_or_none : (d : ℕ → ℤ) (m w : ℕ) → ((j : ℕ) × (j < m) × (has w j ≡ true) × (d j <ℤ pos 0)) ⊎ ((k : ℕ) → k < m → has w k ≡ true → pos 0 ≤ℤ d k)
+negative_or_none : (d : ℕ → ℤ) (m w : ℕ) → ((j : ℕ) × (j < m) × (has w j ≡ true) × (d j <ℤ pos 0))
+    ⊎ ((k : ℕ) → k < m → has w k ≡ true → pos 0 ≤ℤ d k)
 negative_or_none d zero w = inr (λ k h e. absurd (omega (arith, h)))
 negative_or_none d (suc m) w = elim (negative_or_none d m w) [
   | inl found ↦ inl (found.0, let h = found.1 in omega (arith, h), found.2, found.3)
@@ -263,7 +278,8 @@ sum_over-from_zero d (suc m) w high =
     by false h = omega (arith, ints)
 
 -- and of at least each of them
-sum_over-from_term : (d : ℕ → ℤ) (m w i : ℕ) → i < m → has w i ≡ true → ((k : ℕ) → k < m → has w k ≡ true → pos 0 ≤ℤ d k) → d i ≤ℤ sum_over d m w
+sum_over-from_term : (d : ℕ → ℤ) (m w i : ℕ) → i < m → has w i ≡ true
+    → ((k : ℕ) → k < m → has w k ≡ true → pos 0 ≤ℤ d k) → d i ≤ℤ sum_over d m w
 unfolding sum_over
 sum_over-from_term d zero w i inside member high = absurd (omega (arith, inside))
 sum_over-from_term d (suc m) w i inside member high = elim (cases_eq i m) [
@@ -273,7 +289,8 @@ sum_over-from_term d (suc m) w i inside member high = elim (cases_eq i m) [
       subst (λ (k : ℕ). (if has w k then d k else pos 0) ≡ d i) e (ap (λ b. cond b (d i) (pos 0)) member) in
       omega (arith, ints, before, here)
   | inr other ↦
-      let before : d i ≤ℤ sum_over d m w = sum_over-from_term d m w i (omega (arith, inside, other)) member (λ k h. high k (omega (arith, h))) in
+      let before : d i ≤ℤ sum_over d m w =
+      sum_over-from_term d m w i (omega (arith, inside, other)) member (λ k h. high k (omega (arith, h))) in
       let here : pos 0 ≤ℤ (if has w m then d m else pos 0) = by (has w m) (high m (omega arith)) in
       omega (arith, ints, before, here)
 ]
@@ -294,10 +311,12 @@ pub record Partner (d : ℕ → ℤ) (m i : ℕ) (sets : List ℕ) : Type 0 wher
 
 -- in a nested family within a set of a sum of at most 0, each place with a number above 0 has a partner
 pub partner : (d : ℕ → ℤ) (m i : ℕ) (sets : List ℕ) → ((a b : ℕ) → In a sets → In b sets → Nest a b)
-    → (u : ℕ) → ((q : ℕ) → In q sets → Within q u) → has u i ≡ true → sum_over d m u ≤ℤ pos 0 → i < m → pos 0 <ℤ d i → Partner d m i sets
+    → (u : ℕ) → ((q : ℕ) → In q sets → Within q u) → has u i ≡ true → sum_over d m u ≤ℤ pos 0 → i < m → pos 0 <ℤ d i
+    → Partner d m i sets
 partner d m i sets nest u within u_i u_low inside high =
     let framed = frame d m i sets nest sets (λ q q_in. q_in) u u_i u_low (λ q q_in. inr (inl (within q q_in))) in
-    let cleared = clear d m i sets nest framed.set framed.holds framed.low (λ q q_in taken. elim (framed.nested q q_in) [
+    let cleared =
+    clear d m i sets nest framed.set framed.holds framed.low (λ q q_in taken. elim (framed.nested q q_in) [
       | inl apart ↦ inl apart
       | inr either ↦ elim either [
         | inl q_within ↦ inr q_within
@@ -311,7 +330,9 @@ partner d m i sets nest u within u_i u_low inside high =
         below = found.3;
         leaves = λ q q_in q_i absent. elim (cases_ltℤ (pos 0) (sum_over d m q)) [
           | inl h ↦ h
-          | inr q_low ↦ absurd (true≢false (sym (framed.least q q_in q_i q_low found.0 (cleared.inside found.0 found.2)) ∙ absent))
+          | inr q_low ↦
+              absurd (true≢false (sym (framed.least q q_in q_i q_low found.0 (cleared.inside found.0 found.2))
+              ∙ absent))
         ];
         enters = λ q q_in q_i member. elim (cases_ltℤ (sum_over d m q) (pos 0)) [
           | inl h ↦ h

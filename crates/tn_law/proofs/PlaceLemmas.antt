@@ -43,7 +43,8 @@ unfolding trade_level
 trade_level-toggle_same buys x k =
     rw (has-toggle_same x k) (by (has buys k) (has x k))
   where
-    by : (b h : Bool) → (if b then (if not h then 1 else 0) else (if not h then 0 else 1)) + (if b then (if h then 1 else 0) else (if h then 0 else 1)) ≡ 1
+    by : (b h : Bool) → (if b then (if not h then 1 else 0) else (if not h then 0 else 1)) + (if b
+        then (if h then 1 else 0) else (if h then 0 else 1)) ≡ 1
     by true true = refl
     by true false = refl
     by false true = refl
@@ -55,11 +56,13 @@ unfolding trade_level
 trade_level-toggle_other buys x i k different = rw (has-toggle_other x i k different) refl
 
 -- null's level looks at the levels of the trades alone
-null_level-same : (n buys x y : ℕ) → ((k : ℕ) → k < n → trade_level buys x k ≡ trade_level buys y k) → null_level n buys x ≡ null_level n buys y
+null_level-same : (n buys x y : ℕ) → ((k : ℕ) → k < n → trade_level buys x k ≡ trade_level buys y k)
+    → null_level n buys x ≡ null_level n buys y
 unfolding null_level
 null_level-same zero buys x y same = refl
 null_level-same (suc n) buys x y same =
-    let before : null_level n buys x ≡ null_level n buys y = null_level-same n buys x y (λ k h. same k (omega (arith, h))) in
+    let before : null_level n buys x ≡ null_level n buys y =
+    null_level-same n buys x y (λ k h. same k (omega (arith, h))) in
     let here : trade_level buys x n ≡ trade_level buys y n = same n (omega arith) in
     rw (before, here) refl
 
@@ -70,14 +73,16 @@ unfolding null_level
 null_level-toggle zero buys x k below = absurd (omega (arith, below))
 null_level-toggle (suc n) buys x k below =
     elim (cases_eq k n) [
-      | inl e ↦ subst (λ (j : ℕ). null_level n buys (toggle x k) + (1 - trade_level buys (toggle x k) j) + trade_level buys (toggle x k) k
+      | inl e ↦ subst (λ (j : ℕ). null_level n buys (toggle x k) + (1 - trade_level buys (toggle x k) j)
+          + trade_level buys (toggle x k) k
           ≡ null_level n buys x + (1 - trade_level buys x j) + trade_level buys x k) e (
           let before : null_level n buys (toggle x k) ≡ null_level n buys x =
           null_level-same n buys (toggle x k) x (λ i h. trade_level-toggle_other buys x k i (omega (arith, h, e))) in
           let turned = trade_level-toggle_same buys x k in
           omega (arith, before, turned))
       | inr d ↦
-          let before : null_level n buys (toggle x k) + trade_level buys (toggle x k) k ≡ null_level n buys x + trade_level buys x k =
+          let before : null_level n buys (toggle x k) + trade_level buys (toggle x k) k ≡ null_level n buys x
+          + trade_level buys x k =
           null_level-toggle n buys x k (omega (arith, below, d)) in
           let other = trade_level-toggle_other buys x k n (λ e. d (sym e)) in
           omega (arith, before, other)
@@ -102,7 +107,8 @@ level-total n buys x =
     omega (arith, trades, null, all)
 
 -- where a trade is raised, its level rises by one, and no other trade's changes
-rise-trade : (n buys x i k : ℕ) → i < n → trade_level buys x i ≡ 0 → trade_level buys (toggle x i) k ≡ trade_level buys x k + one_at i k
+rise-trade : (n buys x i k : ℕ) → i < n → trade_level buys x i ≡ 0
+    → trade_level buys (toggle x i) k ≡ trade_level buys x k + one_at i k
 rise-trade n buys x i k below low = elim (cases_eq k i) [
   | inl e ↦
       let one : one_at i k ≡ 1 = subst (λ (j : ℕ). one_at i j ≡ 1) (sym e) (one_at-same i) in
@@ -115,14 +121,16 @@ rise-trade n buys x i k below low = elim (cases_eq k i) [
 ]
 
 -- where a trade is raised, null falls by one
-rise-null : (n buys x i : ℕ) → i < n → trade_level buys x i ≡ 0 → null_level n buys (toggle x i) + 1 ≡ null_level n buys x
+rise-null : (n buys x i : ℕ) → i < n → trade_level buys x i ≡ 0
+    → null_level n buys (toggle x i) + 1 ≡ null_level n buys x
 rise-null n buys x i below low =
     let turned = trade_level-toggle_same buys x i in
     let kept = null_level-toggle n buys x i below in
     omega (arith, turned, kept, low)
 
 -- where a trade is lowered, its level falls by one, and no other trade's changes
-fall-trade : (n buys x j k : ℕ) → j < n → trade_level buys x j ≡ 1 → trade_level buys (toggle x j) k + one_at j k ≡ trade_level buys x k
+fall-trade : (n buys x j k : ℕ) → j < n → trade_level buys x j ≡ 1
+    → trade_level buys (toggle x j) k + one_at j k ≡ trade_level buys x k
 fall-trade n buys x j k below high = elim (cases_eq k j) [
   | inl e ↦
       let one : one_at j k ≡ 1 = subst (λ (i : ℕ). one_at j i ≡ 1) (sym e) (one_at-same j) in
@@ -135,7 +143,8 @@ fall-trade n buys x j k below high = elim (cases_eq k j) [
 ]
 
 -- where a trade is lowered, null rises by one
-fall-null : (n buys x j : ℕ) → j < n → trade_level buys x j ≡ 1 → null_level n buys (toggle x j) ≡ null_level n buys x + 1
+fall-null : (n buys x j : ℕ) → j < n → trade_level buys x j ≡ 1
+    → null_level n buys (toggle x j) ≡ null_level n buys x + 1
 fall-null n buys x j below high =
     let turned = trade_level-toggle_same buys x j in
     let kept = null_level-toggle n buys x j below in
@@ -154,12 +163,14 @@ move-to_null n x i p = toggle_at-null n (toggle_at n x i) n (omega arith) ∙ to
 -- and so does one from null to a trade
 pub move-from_null : (n x j : ℕ) → j < n → move n x n j ≡ toggle x j
 unfolding move
-move-from_null n x j q = toggle_at-trade n (toggle_at n x n) j q ∙ ap (λ (y : ℕ). toggle y j) (toggle_at-null n x n (omega arith))
+move-from_null n x j q = toggle_at-trade n (toggle_at n x n) j q
+    ∙ ap (λ (y : ℕ). toggle y j) (toggle_at-null n x n (omega arith))
 
 -- toggled twice at a place, a bundle is as before
 toggle_at-twice : (n x i : ℕ) → toggle_at n (toggle_at n x i) i ≡ x
 toggle_at-twice n x i = elim (cases_lt i n) [
-  | inl p ↦ toggle_at-trade n (toggle_at n x i) i p ∙ ap (λ (y : ℕ). toggle y i) (toggle_at-trade n x i p) ∙ toggle-toggle x i
+  | inl p ↦ toggle_at-trade n (toggle_at n x i) i p ∙ ap (λ (y : ℕ). toggle y i) (toggle_at-trade n x i p)
+      ∙ toggle-toggle x i
   | inr p ↦ toggle_at-null n (toggle_at n x i) i p ∙ toggle_at-null n x i p
 ]
 
@@ -167,7 +178,8 @@ toggle_at-twice n x i = elim (cases_lt i n) [
 pub toggle_at-order : (n x i j : ℕ) → toggle_at n (toggle_at n x i) j ≡ toggle_at n (toggle_at n x j) i
 toggle_at-order n x i j = elim (cases_lt i n) [
   | inl p ↦ elim (cases_lt j n) [
-    | inl q ↦ toggle_at-trade n (toggle_at n x i) j q ∙ ap (λ (y : ℕ). toggle y j) (toggle_at-trade n x i p) ∙ toggle_comm x i j
+    | inl q ↦ toggle_at-trade n (toggle_at n x i) j q ∙ ap (λ (y : ℕ). toggle y j) (toggle_at-trade n x i p)
+        ∙ toggle_comm x i j
         ∙ sym (toggle_at-trade n (toggle_at n x j) i p ∙ ap (λ (y : ℕ). toggle y i) (toggle_at-trade n x j q))
     | inr q ↦ toggle_at-null n (toggle_at n x i) j q ∙ ap (λ (y : ℕ). toggle_at n y i) (sym (toggle_at-null n x j q))
   ]
@@ -175,7 +187,8 @@ toggle_at-order n x i j = elim (cases_lt i n) [
 ]
 
 -- the levels of a moved bundle, from those of its trades and of null
-level-moved : (n buys x moved i j : ℕ) → ((k : ℕ) → k < n → trade_level buys moved k + one_at j k ≡ trade_level buys x k + one_at i k)
+level-moved : (n buys x moved i j : ℕ) → ((k : ℕ) → k < n
+    → trade_level buys moved k + one_at j k ≡ trade_level buys x k + one_at i k)
     → null_level n buys moved + one_at j n ≡ null_level n buys x + one_at i n
     → (k : ℕ) → k ≤ n → level n buys moved k + one_at j k ≡ level n buys x k + one_at i k
 level-moved n buys x moved i j trades null k within = elim (cases_eq k n) [
@@ -190,7 +203,8 @@ level-moved n buys x moved i j trades null k within = elim (cases_eq k n) [
 ]
 
 -- what a move does to the level of a place
-move-level : (n buys x i j k : ℕ) → i ≤ n → j ≤ n → i ≢ j → CanRise n (level n buys x) i → CanFall n (level n buys x) j → k ≤ n
+move-level : (n buys x i j k : ℕ) → i ≤ n → j ≤ n → i ≢ j → CanRise n (level n buys x) i → CanFall n (level n buys x) j
+    → k ≤ n
     → level n buys (move n x i j) k + one_at j k ≡ level n buys x k + one_at i k
 move-level n buys x i j k i_within j_within different rise fall k_within = elim (cases_lt i n) [
   | inl p ↦
@@ -201,17 +215,22 @@ move-level n buys x i j k i_within j_within different rise fall k_within = elim 
             let high : trade_level buys (toggle x i) j ≡ 1 =
             trade_level-toggle_other buys x i j (λ e. different (sym e)) ∙ sym (level-trade n buys x j q) ∙ fall q in
             let neither : one_at j n ≡ 0 = one_at-other j n (λ e. omega (arith, q, e)) in
-            subst (λ (y : ℕ). level n buys y k + one_at j k ≡ level n buys x k + one_at i k) (sym (move-both n x i j p q))
+            subst (λ (y : ℕ). level n buys y k + one_at j k ≡ level n buys x k + one_at i k)
+            (sym (move-both n x i j p q))
             (level-moved n buys x (toggle (toggle x i) j) i j
-            (λ m h. let up = rise-trade n buys x i m p low in let down = fall-trade n buys (toggle x i) j m q high in omega (arith, up, down))
-            (let up = rise-null n buys x i p low in let down = fall-null n buys (toggle x i) j q high in omega (arith, up, down, not_null, neither))
+            (λ m h. let up = rise-trade n buys x i m p low in let down = fall-trade n buys (toggle x i) j m q high in
+            omega (arith, up, down))
+            (let up = rise-null n buys x i p low in let down = fall-null n buys (toggle x i) j q high in
+            omega (arith, up, down, not_null, neither))
             k k_within)
         | inr q ↦
             let e : j ≡ n = omega (arith, j_within, q) in
             subst (λ (m : ℕ). level n buys (move n x i m) k + one_at m k ≡ level n buys x k + one_at i k) (sym e)
-            (subst (λ (y : ℕ). level n buys y k + one_at n k ≡ level n buys x k + one_at i k) (sym (move-to_null n x i p))
+            (subst (λ (y : ℕ). level n buys y k + one_at n k ≡ level n buys x k + one_at i k)
+            (sym (move-to_null n x i p))
             (level-moved n buys x (toggle x i) i n
-            (λ m h. let up = rise-trade n buys x i m p low in let none = one_at-other n m (λ f. omega (arith, f, h)) in omega (arith, up, none))
+            (λ m h. let up = rise-trade n buys x i m p low in let none = one_at-other n m (λ f. omega (arith, f, h)) in
+            omega (arith, up, none))
             (let up = rise-null n buys x i p low in let one = one_at-same n in omega (arith, up, one, not_null))
             k k_within))
       ]
@@ -223,7 +242,8 @@ move-level n buys x i j k i_within j_within different rise fall k_within = elim 
       subst (λ (m : ℕ). level n buys (move n x m j) k + one_at j k ≡ level n buys x k + one_at m k) (sym e)
       (subst (λ (y : ℕ). level n buys y k + one_at j k ≡ level n buys x k + one_at n k) (sym (move-from_null n x j q))
       (level-moved n buys x (toggle x j) n j
-      (λ m h. let down = fall-trade n buys x j m q high in let none = one_at-other n m (λ f. omega (arith, f, h)) in omega (arith, down, none))
+      (λ m h. let down = fall-trade n buys x j m q high in let none = one_at-other n m (λ f. omega (arith, f, h)) in
+      omega (arith, down, none))
       (let down = fall-null n buys x j q high in let one = one_at-same n in omega (arith, down, one, neither))
       k k_within))
 ]

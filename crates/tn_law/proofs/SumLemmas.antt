@@ -32,7 +32,8 @@ sum_to-le f g (suc n) below =
     omega arith
 
 -- where smaller terms have the same sum, they are the same terms
-pub sum_to-tight : (f g : ℕ → ℕ) (n : ℕ) → ((k : ℕ) → k < n → f k ≤ g k) → sum_to g n ≤ sum_to f n → (k : ℕ) → k < n → f k ≡ g k
+pub sum_to-tight : (f g : ℕ → ℕ) (n : ℕ) → ((k : ℕ) → k < n → f k ≤ g k) → sum_to g n ≤ sum_to f n → (k : ℕ) → k < n
+    → f k ≡ g k
 unfolding sum_to
 sum_to-tight f g zero below tight k h = absurd (omega (arith, h))
 sum_to-tight f g (suc n) below tight k h =
@@ -44,7 +45,8 @@ sum_to-tight f g (suc n) below tight k h =
     ]
 
 -- one more at one number below n is one more in the sum
-pub sum_to-one : (f g : ℕ → ℕ) (i n : ℕ) → i < n → ((k : ℕ) → k < n → f k ≡ g k + one_at i k) → sum_to f n ≡ sum_to g n + 1
+pub sum_to-one : (f g : ℕ → ℕ) (i n : ℕ) → i < n → ((k : ℕ) → k < n → f k ≡ g k + one_at i k)
+    → sum_to f n ≡ sum_to g n + 1
 unfolding sum_to
 sum_to-one f g i zero inside same = absurd (omega (arith, inside))
 sum_to-one f g i (suc n) inside same =
@@ -52,11 +54,13 @@ sum_to-one f g i (suc n) inside same =
     elim (cases_eq i n) [
       | inl e ↦
           let before : sum_to f n ≡ sum_to g n = sum_to-same f g n (λ k h.
-          same k (omega (arith, h)) ∙ let none : one_at i k ≡ 0 = one_at-other i k (omega (arith, e, h)) in omega (arith, none)) in
+          same k (omega (arith, h)) ∙ let none : one_at i k ≡ 0 = one_at-other i k (omega (arith, e, h)) in
+          omega (arith, none)) in
           let one : one_at i n ≡ 1 = subst (λ (k : ℕ). one_at i k ≡ 1) e (one_at-same i) in
           omega arith
       | inr d ↦
-          let before : sum_to f n ≡ sum_to g n + 1 = sum_to-one f g i n (omega (arith, inside, d)) (λ k h. same k (omega (arith, h))) in
+          let before : sum_to f n ≡ sum_to g n + 1 =
+          sum_to-one f g i n (omega (arith, inside, d)) (λ k h. same k (omega (arith, h))) in
           let none : one_at i n ≡ 0 = one_at-other i n d in
           omega arith
     ]

@@ -36,7 +36,8 @@ ExchangeAmong = (firm : Firm) (allowed : ℕ) → HasOwnBundles firm → MeetsEx
 -- where a firm meets exchange, a possible bundle that no single toggle and no pair of toggles improves is best
 abbrev pub LocallyBestIsBest : Type 0
 LocallyBestIsBest = (firm : Firm) → HasOwnBundles firm → MeetsExchange firm
-    → (x : ℕ) (value : ℤ) → firm.worth x ≡ Some value → IsLocallyBest firm.count firm.worth x value → IsBest firm.worth x value
+    → (x : ℕ) (value : ℤ) → firm.worth x ≡ Some value → IsLocallyBest firm.count firm.worth x value
+    → IsBest firm.worth x value
 
 -- where a firm meets exchange, at every scale of at least 0 and at all prices a possible bundle is best exactly where
 -- no single toggle and no pair of one raising and one lowering toggle has more utility
@@ -48,12 +49,14 @@ LocalIsGlobal = (firm : Firm) → HasOwnBundles firm → MeetsExchange firm → 
 -- where a firm meets exchange, a best bundle with several tight shifts, in an order without a shortcut, is possible and
 -- best again after all of them
 abbrev pub OrderedShiftsKeepBest : Type 0
-OrderedShiftsKeepBest = (firm : Firm) → HasOwnBundles firm → MeetsExchange firm → (x : ℕ) (value : ℤ) → IsBest firm.worth x value
+OrderedShiftsKeepBest = (firm : Firm) → HasOwnBundles firm → MeetsExchange firm → (x : ℕ) (value : ℤ)
+    → IsBest firm.worth x value
     → (shifts : List Shift) → AreOrdered firm x value shifts → IsBest firm.worth (shifted firm.count x shifts) value
 
 -- a firm to which its trades are independent of each other meets exchange
 abbrev pub ExchangeOfAdditiveFirms : Type 0
-ExchangeOfAdditiveFirms = (count buys : ℕ) (c : ℕ → ℤ) → HasOwnBundles (additive count buys c) × MeetsExchange (additive count buys c)
+ExchangeOfAdditiveFirms = (count buys : ℕ) (c : ℕ → ℤ) → HasOwnBundles (additive count buys c)
+    × MeetsExchange (additive count buys c)
 
 -- a firm whose worth is the sum of an amount for each of its trades, and of concave functions of the net counts within
 -- sets of which no two cross, meets exchange

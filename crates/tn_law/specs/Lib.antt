@@ -1,3 +1,4 @@
+-- The files of definitions of this crate.
 pub mod Places
 pub mod Additive
 pub mod Local

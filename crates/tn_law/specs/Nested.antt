@@ -43,7 +43,8 @@ Cross s t = (meet s t ≢ 0) × (minus s t ≢ 0) × (minus t s ≢ 0)
 pub record AreNested (count : ℕ) (terms : List CountTerm) : Type 0 where
   pub own : (i : ℕ) (term : CountTerm) → slice_get terms i ≡ Some term → term.members < 2 ^ count
   pub concave : (i : ℕ) (term : CountTerm) → slice_get terms i ≡ Some term → IsConcave term.number_at
-  pub uncrossed : (i j : ℕ) (first second : CountTerm) → i < j → slice_get terms i ≡ Some first → slice_get terms j ≡ Some second
+  pub uncrossed : (i j : ℕ) (first second : CountTerm) → i < j → slice_get terms i ≡ Some first
+      → slice_get terms j ≡ Some second
       → Cross first.members second.members → ⊥
 
 -- the number at a place of a list, none before its begin and past its end

@@ -1,3 +1,5 @@
+//! A law of firms to which their trades are independent.
+
 ghost use Rattle.tn_law.specs.Laws.{ExchangeOfAdditiveFirms};
 
 /// A firm to which its trades are independent of each other meets exchange, whatever it buys and sells.

@@ -1,3 +1,5 @@
+//! A law of close bundles: they decide exchange where every bundle is possible.
+
 ghost use Rattle.tn_law.specs.Close.{ClosePairsDecide};
 
 /// A firm to which every bundle of its trades is possible meets exchange as soon as no triple of close bundles fails

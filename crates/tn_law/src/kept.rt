@@ -1,3 +1,5 @@
+//! Laws of what keeps exchange.
+
 ghost use Rattle.tn_law.specs.Laws.{ExchangeAmong, ExchangeOfPricedFirms};
 
 /// Exchange is kept where worths are scaled and a sum over the bundle is added: so utility at any prices, a tax on

@@ -1,3 +1,5 @@
+//! Laws of local search: locally best is best.
+
 ghost use Rattle.tn_law.specs.Laws.{LocalIsGlobal, LocallyBestIsBest};
 
 /// A possible bundle that no single toggle and no pair of toggles improves has the greatest worth: what a steepest

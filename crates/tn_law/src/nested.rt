@@ -1,3 +1,5 @@
+//! Laws of concave functions over nested sets.
+
 ghost use Rattle.tn_law.specs.Laws.{ExchangeOfNestedSums, ListedNumbersAreConcave};
 
 /// A sum of concave functions of net counts over nested sets of trades, with an amount for each trade beside it, meets

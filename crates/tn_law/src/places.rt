@@ -1,3 +1,5 @@
+//! Laws of a firm's places: its own trades, and null.
+
 ghost use Rattle.tn_law.specs.Laws.{BundlesHavePlaces, ExchangeIsOverPlaces, NullIsNetCount};
 
 /// A firm's own trades and null, for its net count, are places, each with a level; toggling at two places, one that

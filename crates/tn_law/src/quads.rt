@@ -1,3 +1,5 @@
+//! A law of four places: they decide close bundles.
+
 ghost use Rattle.tn_law.specs.Quads.{QuadsDecide};
 
 /// Where every bundle of a firm's trades is possible, no triple of close bundles fails exactly where of each bundle and

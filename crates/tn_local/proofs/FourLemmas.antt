@@ -85,16 +85,20 @@ first_levels : (firm : Firm) (x y a b c d : ℕ) → AreFourApart firm x y a b c
     → level firm.count firm.buys (move firm.count x a c) k + one_at a k ≡ level firm.count firm.buys x k + one_at c k
 first_levels firm x y a b c d four k place =
     let are = places firm.count firm.buys in
-    subst (λ (z : ℕ). level firm.count firm.buys z k + one_at a k ≡ level firm.count firm.buys x k + one_at c k) (are.order x c a)
+    subst (λ (z : ℕ). level firm.count firm.buys z k + one_at a k ≡ level firm.count firm.buys x k + one_at c k)
+    (are.order x c a)
     (are.levels x c a k four.c_place four.a_place (λ e. four.a_c (sym e)) four.c_rises four.a_falls place)
 
 -- the levels of both bundles
 pub four_levels : (firm : Firm) (x y a b c d : ℕ) → AreFourApart firm x y a b c d → (k : ℕ) → k ≤ firm.count
-    → level firm.count firm.buys y k + (one_at a k + one_at b k) ≡ level firm.count firm.buys x k + (one_at c k + one_at d k)
+    → level firm.count firm.buys y k + (one_at a k + one_at b k) ≡ level firm.count firm.buys x k
+    + (one_at c k + one_at d k)
 four_levels firm x y a b c d four k place =
     let are = places firm.count firm.buys in
-    let second : level firm.count firm.buys y k + one_at b k ≡ level firm.count firm.buys (move firm.count x a c) k + one_at d k =
-    subst (λ (z : ℕ). level firm.count firm.buys z k + one_at b k ≡ level firm.count firm.buys (move firm.count x a c) k + one_at d k)
+    let second : level firm.count firm.buys y k + one_at b k ≡ level firm.count firm.buys (move firm.count x a c) k
+    + one_at d k =
+    subst (λ (z : ℕ). level firm.count firm.buys z k + one_at b k ≡ level firm.count firm.buys (move firm.count x a c) k
+    + one_at d k)
     (are.order (move firm.count x a c) d b ∙ sym four.is)
     (are.levels (move firm.count x a c) d b k four.d_place four.b_place (λ e. four.b_d (sym e)) rises falls place) in
     let first = first_levels firm x y a b c d four k place in
@@ -119,7 +123,8 @@ four_levels firm x y a b c d four k place =
         omega (arith, first, high, not_a, not_c)
 
 -- the first two places are lower in y, and the other two higher
-a_is_up : (firm : Firm) (x y a b c d : ℕ) → AreFourApart firm x y a b c d → level firm.count firm.buys y a < level firm.count firm.buys x a
+a_is_up : (firm : Firm) (x y a b c d : ℕ) → AreFourApart firm x y a b c d
+    → level firm.count firm.buys y a < level firm.count firm.buys x a
 a_is_up firm x y a b c d four =
     let levels = four_levels firm x y a b c d four a four.a_place in
     let one = one_at-same a in
@@ -127,7 +132,8 @@ a_is_up firm x y a b c d four =
     let not_d = one_at-other d a (λ e. four.a_d (sym e)) in
     omega (arith, levels, one, not_c, not_d)
 
-c_is_down : (firm : Firm) (x y a b c d : ℕ) → AreFourApart firm x y a b c d → level firm.count firm.buys x c < level firm.count firm.buys y c
+c_is_down : (firm : Firm) (x y a b c d : ℕ) → AreFourApart firm x y a b c d
+    → level firm.count firm.buys x c < level firm.count firm.buys y c
 c_is_down firm x y a b c d four =
     let levels = four_levels firm x y a b c d four c four.c_place in
     let one = one_at-same c in
@@ -136,35 +142,48 @@ c_is_down firm x y a b c d four =
     omega (arith, levels, one, not_a, not_b)
 
 -- y moved at the first pair is x moved at the second
-back_first : (firm : Firm) (x y a b c d : ℕ) → AreFourApart firm x y a b c d → move firm.count y a c ≡ move firm.count x b d
+back_first : (firm : Firm) (x y a b c d : ℕ) → AreFourApart firm x y a b c d
+    → move firm.count y a c ≡ move firm.count x b d
 back_first firm x y a b c d four =
-    ap (λ (z : ℕ). move firm.count z a c) (four.is ∙ moves_swap firm.count x a b c d) ∙ move_twice firm.count (move firm.count x b d) a c
+    ap (λ (z : ℕ). move firm.count z a c) (four.is ∙ moves_swap firm.count x a b c d)
+    ∙ move_twice firm.count (move firm.count x b d) a c
 
-back_second : (firm : Firm) (x y a b c d : ℕ) → AreFourApart firm x y a b c d → move firm.count y b d ≡ move firm.count x a c
+back_second : (firm : Firm) (x y a b c d : ℕ) → AreFourApart firm x y a b c d
+    → move firm.count y b d ≡ move firm.count x a c
 back_second firm x y a b c d four =
     ap (λ (z : ℕ). move firm.count z b d) four.is ∙ move_twice firm.count (move firm.count x a c) b d
 
 -- they are close
-pub four_close : (firm : Firm) (x y a b c d : ℕ) → x < 2 ^ firm.count → y < 2 ^ firm.count → AreFourApart firm x y a b c d → AreClose firm.buys x y
+pub four_close : (firm : Firm) (x y a b c d : ℕ) → x < 2 ^ firm.count → y < 2 ^ firm.count
+    → AreFourApart firm x y a b c d → AreClose firm.buys x y
 four_close firm x y a b c d x_own y_own four =
     let are = places firm.count firm.buys in
-    let first = gap-nearer firm.count (level firm.count firm.buys) (move firm.count) are x y a c four.a_place four.c_place
+    let first = gap-nearer firm.count (level firm.count firm.buys) (move firm.count) are x y a c four.a_place
+    four.c_place
     (a_is_up firm x y a b c d four) (c_is_down firm x y a b c d four) in
     let back : gap firm.count (level firm.count firm.buys x) (level firm.count firm.buys (move firm.count y a c))
     ≡ gap firm.count (level firm.count firm.buys x) (level firm.count firm.buys (move firm.count x b d)) =
-    ap (λ (z : ℕ). gap firm.count (level firm.count firm.buys x) (level firm.count firm.buys z)) (back_first firm x y a b c d four) in
-    let second = gap-nearer firm.count (level firm.count firm.buys) (move firm.count) are x (move firm.count x b d) b d four.b_place four.d_place b_up d_down in
-    let again : gap firm.count (level firm.count firm.buys x) (level firm.count firm.buys (move firm.count (move firm.count x b d) b d))
+    ap (λ (z : ℕ). gap firm.count (level firm.count firm.buys x) (level firm.count firm.buys z))
+    (back_first firm x y a b c d four) in
+    let second =
+    gap-nearer firm.count (level firm.count firm.buys) (move firm.count) are x (move firm.count x b d) b d
+    four.b_place four.d_place b_up d_down in
+    let again : gap firm.count (level firm.count firm.buys x)
+    (level firm.count firm.buys (move firm.count (move firm.count x b d) b d))
     ≡ gap firm.count (level firm.count firm.buys x) (level firm.count firm.buys x) =
-    ap (λ (z : ℕ). gap firm.count (level firm.count firm.buys x) (level firm.count firm.buys z)) (move_twice firm.count x b d) in
+    ap (λ (z : ℕ). gap firm.count (level firm.count firm.buys x) (level firm.count firm.buys z))
+    (move_twice firm.count x b d) in
     let none = gap-itself firm x in
     close_from_gap firm x y x_own y_own (omega (arith, first, back, second, again, none))
   where
     levels : (k : ℕ) → k ≤ firm.count
-        → level firm.count firm.buys (move firm.count x b d) k + one_at b k ≡ level firm.count firm.buys x k + one_at d k
+        → level firm.count firm.buys (move firm.count x b d) k + one_at b k ≡ level firm.count firm.buys x k
+        + one_at d k
     levels k place =
-        subst (λ (z : ℕ). level firm.count firm.buys z k + one_at b k ≡ level firm.count firm.buys x k + one_at d k) ((places firm.count firm.buys).order x d b)
-        ((places firm.count firm.buys).levels x d b k four.d_place four.b_place (λ e. four.b_d (sym e)) four.d_rises four.b_falls place)
+        subst (λ (z : ℕ). level firm.count firm.buys z k + one_at b k ≡ level firm.count firm.buys x k + one_at d k)
+        ((places firm.count firm.buys).order x d b)
+        ((places firm.count firm.buys).levels x d b k four.d_place four.b_place (λ e. four.b_d (sym e)) four.d_rises
+        four.b_falls place)
 
     b_up : level firm.count firm.buys (move firm.count x b d) b < level firm.count firm.buys x b
     b_up =
@@ -208,13 +227,15 @@ enough_turned firm x y total e = record {
 -- where the first way of pairing is enough, every place of the up side swaps
 swaps_by_pairs : (firm : Firm) (x y a b c d : ℕ) (total : ℤ) → AreFourApart firm x y a b c d
     → AreEnough firm (move firm.count x a c) (move firm.count x b d) total
-    → (i : ℕ) → i ≤ firm.count → level firm.count firm.buys y i < level firm.count firm.buys x i → SwapsAt firm x y total i
+    → (i : ℕ) → i ≤ firm.count → level firm.count firm.buys y i < level firm.count firm.buys x i
+    → SwapsAt firm x y total i
 swaps_by_pairs firm x y a b c d total four enough i place up = elim (up_is_lowered firm x y a b c d four i place up) [
   | inl e ↦ subst (SwapsAt firm x y total) (sym e) (record {
     at = c;
     is_place = four.c_place;
     is_down = c_is_down firm x y a b c d four;
-    enough = subst (λ (z : ℕ). AreEnough firm (move firm.count x a c) z total) (sym (back_first firm x y a b c d four)) enough;
+    enough = subst (λ (z : ℕ). AreEnough firm (move firm.count x a c) z total) (sym (back_first firm x y a b c d four))
+        enough;
   })
   | inr e ↦ subst (SwapsAt firm x y total) (sym e) (record {
     at = d;
@@ -228,9 +249,11 @@ swaps_by_pairs firm x y a b c d total four enough i place up = elim (up_is_lower
 -- where one of the two ways of pairing is enough, no triple of the two bundles fails
 pub four_hold : (firm : Firm) (x y a b c d : ℕ) (s t : ℤ) → x < 2 ^ firm.count → y < 2 ^ firm.count
     → firm.worth x ≡ Some s → firm.worth y ≡ Some t → AreFourApart firm x y a b c d
-    → AreEnough firm (move firm.count x a c) (move firm.count x b d) (s +ℤ t) ⊎ AreEnough firm (move firm.count x a d) (move firm.count x b c) (s +ℤ t)
+    → AreEnough firm (move firm.count x a c) (move firm.count x b d) (s +ℤ t)
+    ⊎ AreEnough firm (move firm.count x a d) (move firm.count x b c) (s +ℤ t)
     → (at : Option ℕ) → Fails firm x y at → ⊥
 four_hold firm x y a b c d s t x_own y_own x_is y_is four (inl enough) =
     no_failure_from_swaps firm x y s t x_own y_own x_is y_is (swaps_by_pairs firm x y a b c d (s +ℤ t) four enough)
 four_hold firm x y a b c d s t x_own y_own x_is y_is four (inr enough) =
-    no_failure_from_swaps firm x y s t x_own y_own x_is y_is (swaps_by_pairs firm x y a b d c (s +ℤ t) (four_crossed firm x y a b c d four) enough)
+    no_failure_from_swaps firm x y s t x_own y_own x_is y_is
+    (swaps_by_pairs firm x y a b d c (s +ℤ t) (four_crossed firm x y a b c d four) enough)

@@ -17,7 +17,13 @@ use Rattle.tn_local.proofs.WalkLemmas.{far_by_up, far_by_down}
 
 -- what was reached at a position was reached at all of them
 apart_all : (n buys x y k level p : ℕ) → IsApartAt n buys x y k level p → IsApartAt n buys x y 0 level p
-apart_all n buys x y k level p is = record { place = is.place; from = λ h. omega arith; level_is = is.level_is; differs = is.differs }
+apart_all n buys x y k level p is = record {
+  place = is.place;
+  from = λ h. omega arith;
+  level_is =
+      is.level_is;
+  differs = is.differs;
+}
 
 two_all : (n buys x y k level : ℕ) (two : Two) → AreApartAt n buys x y k level two → AreApartAt n buys x y 0 level two
 two_all n buys x y k level two are = record {
@@ -55,7 +61,8 @@ level_cases buys x j = by (has buys j) (has x j)
     by false true = inr refl
     by false false = inl refl
 
-module _ (n buys x y k : ℕ) (sides : Sides) (x_own : x < 2 ^ n) (reached : IsReached n buys x y k sides) (up : sides.up.second < n) (down : sides.down.second < n) where
+module _ (n buys x y k : ℕ) (sides : Sides) (x_own : x < 2 ^ n) (reached : IsReached n buys x y k sides)
+    (up : sides.up.second < n) (down : sides.down.second < n) where
   -- a close bundle that agrees with y from k on has no other digit below
   no_other : (z j : ℕ) → z < 2 ^ n → AgreesFrom k y z → AreClose buys x z → j < k → has z j ≡ not (has x j) → ⊥
   no_other z j z_own agrees close below other = elim (level_cases buys x j) [
@@ -69,7 +76,8 @@ module _ (n buys x y k : ℕ) (sides : Sides) (x_own : x < 2 ^ n) (reached : IsR
     | inr low ↦
         let order = reached.down.order down in
         let from = reached.down.second.from down in
-        far_by_down n buys x z sides.down.first sides.down.second j x_own z_own order.1 order.0 (omega (arith, below, from))
+        far_by_down n buys x z sides.down.first sides.down.second j x_own z_own order.1 order.0
+        (omega (arith, below, from))
         (reached.down.first.level_is order.1) (reached.down.second.level_is down) low
         (differs sides.down.first order.1 (reached.down.first.from order.1) (reached.down.first.differs order.1))
         (differs sides.down.second down from (reached.down.second.differs down)) other close
@@ -81,8 +89,10 @@ module _ (n buys x y k : ℕ) (sides : Sides) (x_own : x < 2 ^ n) (reached : IsR
   -- y has x's digits there
   as_x : (j : ℕ) → j < k → j < n → has y j ≡ has x j
   as_x j below place =
-      reached.same j place (apart sides.up.first (reached.up.order up).1 reached.up.first.from) (apart sides.up.second up reached.up.second.from)
-      (apart sides.down.first (reached.down.order down).1 reached.down.first.from) (apart sides.down.second down reached.down.second.from)
+      reached.same j place (apart sides.up.first (reached.up.order up).1 reached.up.first.from)
+      (apart sides.up.second up reached.up.second.from)
+      (apart sides.down.first (reached.down.order down).1 reached.down.first.from)
+      (apart sides.down.second down reached.down.second.from)
     where
       apart : (p : ℕ) → p < n → (p < n → k ≤ p) → j ≢ p
       apart p trade from e = let h = from trade in omega (arith, h, e, below)
@@ -105,7 +115,8 @@ full_verdict firm own x y k sides v x_own reached up down on = by v on
   where
     all : (s : Triple) → TripleFails firm s → OfClose firm x y k s → OfClose firm x y 0 s
     all s f within =
-        let same = only_itself firm.count firm.buys x y k sides x_own reached up down s.y (own s.y f.second f.second_is) within.1.0 within.1.1 in
+        let same = only_itself firm.count firm.buys x y k sides x_own reached up down s.y (own s.y f.second f.second_is)
+        within.1.0 within.1.1 in
         (within.0, ((λ j h. ap (λ (z : ℕ). has z j) same), within.1.1))
 
     by : (v : Verdict) → IsVerdictOn firm (OfClose firm x y 0) v → IsVerdictOn firm (OfClose firm x y k) v

@@ -1,3 +1,4 @@
+-- The files of lemmas of this crate.
 pub mod FourLemmas
 pub mod WalkLemmas
 pub mod VerdictLemmas

@@ -11,7 +11,8 @@ use Rattle.tn_law.proofs.PlaceLemmas.{toggle_at-trade, toggle_at-null, move-both
 use Rattle.tn_local.specs.Quads.{IsNotAboveBoth, StandsTwice, IsLow, PairExchanges, ThreeExchange, OneExchanges}
 use Rattle.tn_local.proofs.QuadLemmas.{FourExchange, OrderedExchange, quads_from_ordered, ordered_from_quads}
 
--- Six numbers of pairs and four of single ones: where of each three the greatest sum stands twice, so it is of all four.
+-- Six numbers of pairs and four of single ones: where of each three the greatest sum stands twice, so it is of all
+-- four.
 
 turned : (a b c : ℤ) → IsNotAboveBoth a b c → IsNotAboveBoth a c b
 turned a b c (inl most) = inr most
@@ -68,26 +69,33 @@ four_from_threes ab ac ad bc bd cd a b c d abc abd acd bcd = (
 
 stands_as : (a b c a' b' c' : ℤ) → a ≡ a' → b ≡ b' → c ≡ c' → StandsTwice a b c → StandsTwice a' b' c'
 stands_as a b c a' b' c' p q r stands =
-    subst (λ (u : ℤ). StandsTwice u b' c') p (subst (λ (v : ℤ). StandsTwice a v c') q (subst (λ (w : ℤ). StandsTwice a b w) r stands))
+    subst (λ (u : ℤ). StandsTwice u b' c') p (subst (λ (v : ℤ). StandsTwice a v c') q
+    (subst (λ (w : ℤ). StandsTwice a b w) r stands))
 
 -- what a bundle is worth, moved at two trades, at a trade and null, and at null twice
-by_two : (firm : Firm) (z i j : ℕ) → i < firm.count → j < firm.count → value firm (move firm.count z i j) ≡ value firm (toggle (toggle z i) j)
+by_two : (firm : Firm) (z i j : ℕ) → i < firm.count → j < firm.count
+    → value firm (move firm.count z i j) ≡ value firm (toggle (toggle z i) j)
 by_two firm z i j first second = ap (value firm) (move-both firm.count z i j first second)
 
-by_one : (firm : Firm) (z i j : ℕ) → i < firm.count → firm.count ≤ j → value firm (move firm.count z i j) ≡ value firm (toggle z i)
+by_one : (firm : Firm) (z i j : ℕ) → i < firm.count → firm.count ≤ j
+    → value firm (move firm.count z i j) ≡ value firm (toggle z i)
 unfolding move
-by_one firm z i j trade null = ap (value firm) (toggle_at-null firm.count _ j null ∙ toggle_at-trade firm.count z i trade)
+by_one firm z i j trade null =
+    ap (value firm) (toggle_at-null firm.count _ j null ∙ toggle_at-trade firm.count z i trade)
 
-by_none : (firm : Firm) (z i j : ℕ) → firm.count ≤ i → firm.count ≤ j → value firm (move firm.count z i j) ≡ value firm z
+by_none : (firm : Firm) (z i j : ℕ) → firm.count ≤ i → firm.count ≤ j
+    → value firm (move firm.count z i j) ≡ value firm z
 unfolding move
-by_none firm z i j first second = ap (value firm) (toggle_at-null firm.count _ j second ∙ toggle_at-null firm.count z i first)
+by_none firm z i j first second =
+    ap (value firm) (toggle_at-null firm.count _ j second ∙ toggle_at-null firm.count z i first)
 
 -- a free place below null is a trade at level 0
 low_place : (firm : Firm) (z k : ℕ) → IsFree firm.count firm.buys z k → k < firm.count → IsLow firm.count firm.buys z k
 low_place firm z k free trade = (trade, free.1 trade)
 
 module _ (firm : Firm) (z : ℕ) (all : (a : ℕ) → IsLow firm.count firm.buys z a → OneExchanges firm z a) where
-  two_of_four : (a b c d : ℕ) → a < b → IsLow firm.count firm.buys z a → IsLow firm.count firm.buys z b → firm.count ≤ c → firm.count ≤ d
+  two_of_four : (a b c d : ℕ) → a < b → IsLow firm.count firm.buys z a → IsLow firm.count firm.buys z b → firm.count ≤ c
+      → firm.count ≤ d
       → FourExchange firm z a b c d
   two_of_four a b c d a_b a_low b_low c_null d_null =
       let pair = (all a a_low b a_b b_low).0 in
@@ -102,7 +110,8 @@ module _ (firm : Firm) (z : ℕ) (all : (a : ℕ) → IsLow firm.count firm.buys
         inr (omega (arith, ints, ac, bd, ad, bc)),
       )
 
-  three_of_four : (a b c d : ℕ) → a < b → b < c → IsLow firm.count firm.buys z a → IsLow firm.count firm.buys z b → IsLow firm.count firm.buys z c
+  three_of_four : (a b c d : ℕ) → a < b → b < c → IsLow firm.count firm.buys z a → IsLow firm.count firm.buys z b
+      → IsLow firm.count firm.buys z c
       → firm.count ≤ d → FourExchange firm z a b c d
   three_of_four a b c d a_b b_c a_low b_low c_low d_null =
       let ab = by_two firm z a b a_low.0 b_low.0 in
@@ -145,7 +154,9 @@ module _ (firm : Firm) (z : ℕ) (all : (a : ℕ) → IsLow firm.count firm.buys
         | inr c_null ↦ two_of_four a b c d a_b a_low b_low c_null (omega (arith, c_null, c_d))
         | inl c_trade ↦ elim (cases_lt d firm.count) [
           | inr d_null ↦ three_of_four a b c d a_b b_c a_low b_low (low_place firm z c c_free c_trade) d_null
-          | inl d_trade ↦ all_of_four a b c d a_b b_c c_d a_low b_low (low_place firm z c c_free c_trade) (low_place firm z d d_free d_trade)
+          | inl d_trade ↦
+              all_of_four a b c d a_b b_c c_d a_low b_low (low_place firm z c c_free c_trade)
+              (low_place firm z d d_free d_trade)
         ]
       ]
 
@@ -159,7 +170,8 @@ free_trade firm z k is_low = let place = is_low.0 in (omega (arith, place), λ t
 free_null : (firm : Firm) (z k : ℕ) → firm.count ≤ k → k ≤ firm.count + 1 → IsFree firm.count firm.buys z k
 free_null firm z k null most = (most, λ t. absurd (omega (arith, t, null)))
 
-pub trades_from_quads : (firm : Firm) (z : ℕ) → QuadsExchangeAt firm z → (a : ℕ) → IsLow firm.count firm.buys z a → OneExchanges firm z a
+pub trades_from_quads : (firm : Firm) (z : ℕ) → QuadsExchangeAt firm z → (a : ℕ) → IsLow firm.count firm.buys z a
+    → OneExchanges firm z a
 trades_from_quads firm z quads a a_low b a_b b_low = (pair, thirds)
   where
     first : IsFree firm.count firm.buys z firm.count
@@ -172,7 +184,8 @@ trades_from_quads firm z quads a a_low b a_b b_low = (pair, thirds)
     pair =
         let b_trade = b_low.0 in
         let four : FourExchange firm z a b firm.count (firm.count + 1) =
-        ordered a (free_trade firm z a a_low) b a_b (free_trade firm z b b_low) firm.count b_trade first (firm.count + 1) (omega arith)
+        ordered a (free_trade firm z a a_low) b a_b (free_trade firm z b b_low) firm.count b_trade first (firm.count
+        + 1) (omega arith)
         (free_null firm z (firm.count + 1) (omega arith) (omega arith)) in
         let ab = by_two firm z a b a_low.0 b_low.0 in
         let cd = by_none firm z firm.count (firm.count + 1) (omega arith) (omega arith) in
@@ -189,11 +202,13 @@ trades_from_quads firm z quads a a_low b a_b b_low = (pair, thirds)
     thirds c b_c c_low =
         let c_trade = c_low.0 in
         let four : FourExchange firm z a b c firm.count =
-        ordered a (free_trade firm z a a_low) b a_b (free_trade firm z b b_low) c b_c (free_trade firm z c c_low) firm.count c_trade first in
+        ordered a (free_trade firm z a a_low) b a_b (free_trade firm z b b_low) c b_c (free_trade firm z c c_low)
+        firm.count c_trade first in
         let ab = by_two firm z a b a_low.0 b_low.0 in
         let cd = by_one firm z c firm.count c_low.0 (omega arith) in
         let ac = by_two firm z a c a_low.0 c_low.0 in
         let bd = by_one firm z b firm.count b_low.0 (omega arith) in
         let ad = by_one firm z a firm.count a_low.0 (omega arith) in
         let bc = by_two firm z b c b_low.0 c_low.0 in
-        stands_as _ _ _ _ _ _ (omega (arith, ints, ab, cd)) (omega (arith, ints, ac, bd)) (omega (arith, ints, ad, bc)) four
+        stands_as _ _ _ _ _ _ (omega (arith, ints, ab, cd)) (omega (arith, ints, ac, bd)) (omega (arith, ints, ad, bc))
+        four

@@ -38,16 +38,19 @@ has-half a h k (inr e) = ap (λ (z : ℕ). has z (suc k)) e ∙ has-double_one h
 pub smaller_by_digit : (k a b : ℕ) → AgreesFrom (suc k) a b → has a k ≡ false → has b k ≡ true → a < b
 smaller_by_digit zero a b agrees without with =
     let same : (halves b).0 ≡ (halves a).0 = same_set (halves b).0 (halves a).0 (λ k.
-    sym (has-half b (halves b).0 k (halves b).1) ∙ agrees (suc k) (omega arith) ∙ has-half a (halves a).0 k (halves a).1) in
+    sym (has-half b (halves b).0 k (halves b).1) ∙ agrees (suc k) (omega arith)
+    ∙ has-half a (halves a).0 k (halves a).1) in
     by (halves a).1 (halves b).1 same
   where
     by : {h g : ℕ} → (a ≡ 2 * h) ⊎ (a ≡ 1 + 2 * h) → (b ≡ 2 * g) ⊎ (b ≡ 1 + 2 * g) → g ≡ h → a < b
     by {h} {g} (inr e) q same = absurd (false≢true (sym without ∙ ap (λ (z : ℕ). has z 0) e ∙ has-double_one_lowest h))
-    by {h} {g} (inl e) (inl f) same = absurd (false≢true (sym (has-double_lowest g) ∙ sym (ap (λ (z : ℕ). has z 0) f) ∙ with))
+    by {h} {g} (inl e) (inl f) same =
+        absurd (false≢true (sym (has-double_lowest g) ∙ sym (ap (λ (z : ℕ). has z 0) f) ∙ with))
     by {h} {g} (inl e) (inr f) same = omega (arith, e, f, same)
 smaller_by_digit (suc k) a b agrees without with =
     let less : (halves a).0 < (halves b).0 = smaller_by_digit k (halves a).0 (halves b).0
-    (λ j h. sym (has-half b (halves b).0 j (halves b).1) ∙ agrees (suc j) (omega (arith, h)) ∙ has-half a (halves a).0 j (halves a).1)
+    (λ j h. sym (has-half b (halves b).0 j (halves b).1) ∙ agrees (suc j) (omega (arith, h))
+    ∙ has-half a (halves a).0 j (halves a).1)
     (sym (has-half a (halves a).0 k (halves a).1) ∙ without) (sym (has-half b (halves b).0 k (halves b).1) ∙ with) in
     by (halves a).1 (halves b).1 less
   where
@@ -76,7 +79,8 @@ half_toggled k y there is = record {
     twice false = refl
 
 -- a triple of the whole is one of the half that its second bundle belongs to
-of_half : (firm : Firm) (x y part k : ℕ) (there : Bool) → IsHalf k y part there → (s : Triple) → OfClose firm x y (suc k) s → has s.y k ≡ there → OfClose firm x part k s
+of_half : (firm : Firm) (x y part k : ℕ) (there : Bool) → IsHalf k y part there → (s : Triple)
+    → OfClose firm x y (suc k) s → has s.y k ≡ there → OfClose firm x part k s
 of_half firm x y part k there half s within is = (within.0, (agrees, within.1.1))
   where
     agrees : AgreesFrom k part s.y
@@ -86,13 +90,15 @@ of_half firm x y part k there half s within is = (within.0, (agrees, within.1.1)
     ]
 
 -- and the other way round
-of_whole : (firm : Firm) (x y part k : ℕ) (there : Bool) → IsHalf k y part there → (s : Triple) → OfClose firm x part k s → OfClose firm x y (suc k) s
+of_whole : (firm : Firm) (x y part k : ℕ) (there : Bool) → IsHalf k y part there → (s : Triple)
+    → OfClose firm x part k s → OfClose firm x y (suc k) s
 of_whole firm x y part k there half s within =
     (within.0, ((λ j h. within.1.0 j (omega (arith, h)) ∙ half.above j h), within.1.1))
 
 -- where no triple of the lower half fails, the verdict is that on the upper half
 pub lower_holds : (firm : Firm) (x y low high k : ℕ) (v : Verdict) → IsHalf k y low false → IsHalf k y high true
-    → IsVerdictOn firm (OfClose firm x low k) Holds → IsVerdictOn firm (OfClose firm x high k) v → IsVerdictOn firm (OfClose firm x y (suc k)) v
+    → IsVerdictOn firm (OfClose firm x low k) Holds → IsVerdictOn firm (OfClose firm x high k) v
+    → IsVerdictOn firm (OfClose firm x y (suc k)) v
 lower_holds firm x y low high k Holds is_low is_high none on = λ s within f. elim (cases_Bool (has s.y k)) [
   | inl there ↦ on s (of_half firm x y high k true is_high s within there) f
   | inr absent ↦ none s (of_half firm x y low k false is_low s within absent) f
@@ -107,7 +113,8 @@ lower_holds firm x y low high k (Failed a b at) is_low is_high none on = record 
 }
 
 -- the first failure of the lower half is that of the whole
-pub lower_fails : (firm : Firm) (x y low high k : ℕ) (v : Verdict) → (v ≡ Holds → ⊥) → IsHalf k y low false → IsHalf k y high true
+pub lower_fails : (firm : Firm) (x y low high k : ℕ) (v : Verdict) → (v ≡ Holds → ⊥) → IsHalf k y low false
+    → IsHalf k y high true
     → IsVerdictOn firm (OfClose firm x low k) v → IsVerdictOn firm (OfClose firm x y (suc k)) v
 lower_fails firm x y low high k Holds failed is_low is_high on = absurd (failed refl)
 lower_fails firm x y low high k (Failed a b at) failed is_low is_high on = record {
@@ -129,36 +136,47 @@ lower_fails firm x y low high k (Failed a b at) failed is_low is_high on = recor
   ];
 }
 
--- the verdict on a pair is that on the triples of x and of the close bundles that agree with y everywhere, where y is close
+-- the verdict on a pair is that on the triples of x and of the close bundles that agree with y everywhere, where y is
+-- close
 pub pair_verdict : (firm : Firm) (x y : ℕ) (v : Verdict) → AreClose firm.buys x y
     → IsVerdictOn firm (λ t. (t.x ≡ x) × (t.y ≡ y)) v → IsVerdictOn firm (OfClose firm x y 0) v
 pair_verdict firm x y Holds close on = λ s within f. on s (within.0, same_set s.y y (λ k. within.1.0 k (omega arith))) f
 pair_verdict firm x y (Failed a b at) close on = record {
-  is_in = (on.is_in.0, ((λ j h. ap (λ (z : ℕ). has z j) on.is_in.1), subst (AreClose firm.buys x) (sym on.is_in.1) close));
+  is_in = (
+    on.is_in.0,
+    (
+      (λ j h. ap (λ (z : ℕ). has z j) on.is_in.1),
+      subst (AreClose firm.buys x) (sym on.is_in.1) close,
+    ),
+  );
   fails = on.fails;
   first = λ s within earlier f. on.first s (within.0, same_set s.y y (λ k. within.1.0 k (omega arith))) earlier f;
 }
 
 -- where y isn't close, or isn't possible, there is no such triple
 pub no_close : (firm : Firm) (x y : ℕ) → (AreClose firm.buys x y → ⊥) → IsVerdictOn firm (OfClose firm x y 0) Holds
-no_close firm x y far = λ s within f. far (subst (AreClose firm.buys x) (same_set s.y y (λ k. within.1.0 k (omega arith))) within.1.1)
+no_close firm x y far =
+    λ s within f. far (subst (AreClose firm.buys x) (same_set s.y y (λ k. within.1.0 k (omega arith))) within.1.1)
 
 pub impossible_close : (firm : Firm) (x y : ℕ) → firm.worth y ≡ None → IsVerdictOn firm (OfClose firm x y 0) Holds
 impossible_close firm x y none = λ s within f.
     none-some f.second (sym none ∙ ap firm.worth (sym (same_set s.y y (λ k. within.1.0 k (omega arith)))) ∙ f.second_is)
 
 -- where no bundle of the part is close, there is none either
-pub none_close : (firm : Firm) → HasOwnBundles firm → (x y k : ℕ) → ((z : ℕ) → z < 2 ^ firm.count → AgreesFrom k y z → AreClose firm.buys x z → ⊥)
+pub none_close : (firm : Firm) → HasOwnBundles firm → (x y k : ℕ)
+    → ((z : ℕ) → z < 2 ^ firm.count → AgreesFrom k y z → AreClose firm.buys x z → ⊥)
     → IsVerdictOn firm (OfClose firm x y k) Holds
 none_close firm own x y k none = λ s within f. none s.y (own s.y f.second f.second_is) within.1.0 within.1.1
 
 -- all possible bundles agree with x above all positions
-pub all_close : (firm : Firm) → HasOwnBundles firm → (x : ℕ) (v : Verdict) → x < 2 ^ firm.count → IsVerdictOn firm (OfClose firm x x firm.count) v
+pub all_close : (firm : Firm) → HasOwnBundles firm → (x : ℕ) (v : Verdict) → x < 2 ^ firm.count
+    → IsVerdictOn firm (OfClose firm x x firm.count) v
     → IsVerdictOn firm (λ t. (t.x ≡ x) × AreClose firm.buys x t.y) v
 all_close firm own x Holds x_own on = λ s within f. on s (within.0, (agrees s f, within.1)) f
   where
     agrees : (s : Triple) → TripleFails firm s → AgreesFrom firm.count x s.y
-    agrees s f j h = has_above s.y firm.count j (own s.y f.second f.second_is) h ∙ sym (has_above x firm.count j x_own h)
+    agrees s f j h = has_above s.y firm.count j (own s.y f.second f.second_is) h
+        ∙ sym (has_above x firm.count j x_own h)
 all_close firm own x (Failed a b at) x_own on = record {
   is_in = (on.is_in.0, on.is_in.1.1);
   fails = on.fails;
@@ -166,10 +184,12 @@ all_close firm own x (Failed a b at) x_own on = record {
 }
   where
     agrees : (s : Triple) → TripleFails firm s → AgreesFrom firm.count x s.y
-    agrees s f j h = has_above s.y firm.count j (own s.y f.second f.second_is) h ∙ sym (has_above x firm.count j x_own h)
+    agrees s f j h = has_above s.y firm.count j (own s.y f.second f.second_is) h
+        ∙ sym (has_above x firm.count j x_own h)
 
 -- the first failure of a first bundle is the first of all, where no close triple with a greater first bundle fails
-pub first_close : (firm : Firm) (x : ℕ) (v : Verdict) → (v ≡ Holds → ⊥) → IsVerdictOn firm (λ t. (t.x ≡ x) × AreClose firm.buys x t.y) v
+pub first_close : (firm : Firm) (x : ℕ) (v : Verdict) → (v ≡ Holds → ⊥)
+    → IsVerdictOn firm (λ t. (t.x ≡ x) × AreClose firm.buys x t.y) v
     → ((s : Triple) → x < s.x → HasCloseBundles firm s → TripleFails firm s → ⊥) → IfFails v (IsFirstCloseFailure firm)
 first_close firm x Holds failed on none = tt
 first_close firm x (Failed a b at) failed on none = record {
@@ -193,11 +213,13 @@ no_more_close firm k none here s above close f = elim (cases_eq s.x k) [
 ]
 
 -- an impossible first bundle has no triple that fails
-pub impossible_first : (firm : Firm) (k : ℕ) → firm.worth k ≡ None → (s : Triple) → (s.x ≡ k) × AreClose firm.buys k s.y → TripleFails firm s → ⊥
+pub impossible_first : (firm : Firm) (k : ℕ) → firm.worth k ≡ None → (s : Triple) → (s.x ≡ k) × AreClose firm.buys k s.y
+    → TripleFails firm s → ⊥
 impossible_first firm k none s within f = none-some f.first (sym none ∙ ap firm.worth (sym within.0) ∙ f.first_is)
 
 -- no triple has a first bundle with a position that isn't own
-pub none_above_close : (firm : Firm) → HasOwnBundles firm → (k : ℕ) → 2 ^ firm.count ≤ k → (s : Triple) → k ≤ s.x → HasCloseBundles firm s → TripleFails firm s → ⊥
+pub none_above_close : (firm : Firm) → HasOwnBundles firm → (k : ℕ) → 2 ^ firm.count ≤ k → (s : Triple) → k ≤ s.x
+    → HasCloseBundles firm s → TripleFails firm s → ⊥
 none_above_close firm own k all s above close f =
     let below : s.x < 2 ^ firm.count = own s.x f.first f.first_is in
     absurd (omega (arith, below, all, above))
@@ -228,8 +250,10 @@ pub pairs_hold : (firm : Firm) (x y : ℕ) (total : ℤ) (sides : Sides) → x <
     → IsReached firm.count firm.buys x y 0 sides → (sides.up.second < firm.count) ⊎ (sides.down.second < firm.count)
     → PairsAreEnough firm x total sides → IsVerdictOn firm (λ t. (t.x ≡ x) × (t.y ≡ y)) Holds
 pairs_hold firm x y total sides x_own has reached one enough = λ s within f.
-    four_hold firm x y sides.up.first sides.up.second sides.down.first sides.down.second has.first has.second x_own reached.own has.first_is has.second_is
-    (reached_four firm x y sides x_own reached one) (subst (λ (z : ℤ). PairsAreEnough firm x z sides) has.total_is enough) s.at
+    four_hold firm x y sides.up.first sides.up.second sides.down.first sides.down.second has.first has.second x_own
+    reached.own has.first_is has.second_is
+    (reached_four firm x y sides x_own reached one) (subst (λ (z : ℤ). PairsAreEnough firm x z sides) has.total_is
+    enough) s.at
     (subst₂ (λ (a b : ℕ). Fails firm a b s.at) within.0 within.1 f)
 
 -- the verdict on a pair that was reached
@@ -237,16 +261,20 @@ pub close_verdict : (firm : Firm) (x y : ℕ) (sides : Sides) (v : Verdict) → 
     → IsReached firm.count firm.buys x y 0 sides → (sides.up.second < firm.count) ⊎ (sides.down.second < firm.count)
     → IsVerdictOn firm (λ t. (t.x ≡ x) × (t.y ≡ y)) v → IsVerdictOn firm (OfClose firm x y 0) v
 close_verdict firm x y sides v x_own reached one on =
-    pair_verdict firm x y v (four_close firm x y sides.up.first sides.up.second sides.down.first sides.down.second x_own reached.own
+    pair_verdict firm x y v (four_close firm x y sides.up.first sides.up.second sides.down.first sides.down.second x_own
+    reached.own
     (reached_four firm x y sides x_own reached one)) on
 
 -- the halves of a step of the walk
-not_below : (n buys x y k : ℕ) (sides : Sides) → k ≤ n → (k ≡ 0 → ⊥) → IsReached n buys x y k sides → has y (k - 1) ≡ has x (k - 1)
+not_below : (n buys x y k : ℕ) (sides : Sides) → k ≤ n → (k ≡ 0 → ⊥) → IsReached n buys x y k sides
+    → has y (k - 1) ≡ has x (k - 1)
 not_below n buys x y k sides position not_done reached =
     let e : k ≡ suc (k - 1) = omega (arith, not_done) in
-    unwalked n buys x y (k - 1) sides (omega (arith, position, not_done)) (subst (λ (m : ℕ). IsReached n buys x y m sides) e reached)
+    unwalked n buys x y (k - 1) sides (omega (arith, position, not_done))
+    (subst (λ (m : ℕ). IsReached n buys x y m sides) e reached)
 
-whole_at : (firm : Firm) (x y k : ℕ) (v : Verdict) → (k ≡ 0 → ⊥) → IsVerdictOn firm (OfClose firm x y (suc (k - 1))) v → IsVerdictOn firm (OfClose firm x y k) v
+whole_at : (firm : Firm) (x y k : ℕ) (v : Verdict) → (k ≡ 0 → ⊥) → IsVerdictOn firm (OfClose firm x y (suc (k - 1))) v
+    → IsVerdictOn firm (OfClose firm x y k) v
 whole_at firm x y k v not_done on =
     let e : suc (k - 1) ≡ k = omega (arith, not_done) in
     subst (λ (m : ℕ). IsVerdictOn firm (OfClose firm x y m) v) e on
@@ -254,12 +282,14 @@ whole_at firm x y k v not_done on =
 -- where x has the position, the bundles without it are the toggled ones
 pub with_holds : (firm : Firm) (buys x y toggled k : ℕ) (sides : Sides) (v w : Verdict) → k ≤ firm.count → (k ≡ 0 → ⊥)
     → IsReached firm.count buys x y k sides → toggled ≡ toggle y (k - 1) → has x (k - 1) ≡ true → w ≡ Holds
-    → IsVerdictOn firm (OfClose firm x toggled (k - 1)) w → IsVerdictOn firm (OfClose firm x y (k - 1)) v → IsVerdictOn firm (OfClose firm x y k) v
+    → IsVerdictOn firm (OfClose firm x toggled (k - 1)) w → IsVerdictOn firm (OfClose firm x y (k - 1)) v
+    → IsVerdictOn firm (OfClose firm x y k) v
 with_holds firm buys x y toggled k sides v w position not_done reached is there holds low high =
     let same = not_below firm.count buys x y k sides position not_done reached in
     whole_at firm x y k v not_done (lower_holds firm x y (toggle y (k - 1)) y (k - 1) v
     (half_toggled (k - 1) y false (same ∙ there)) (half_same (k - 1) y true (same ∙ there))
-    (subst (IsVerdictOn firm (OfClose firm x (toggle y (k - 1)) (k - 1))) holds (subst (λ (z : ℕ). IsVerdictOn firm (OfClose firm x z (k - 1)) w) is low)) high)
+    (subst (IsVerdictOn firm (OfClose firm x (toggle y (k - 1)) (k - 1))) holds
+    (subst (λ (z : ℕ). IsVerdictOn firm (OfClose firm x z (k - 1)) w) is low)) high)
 
 pub with_fails : (firm : Firm) (buys x y toggled k : ℕ) (sides : Sides) (w : Verdict) → k ≤ firm.count → (k ≡ 0 → ⊥)
     → IsReached firm.count buys x y k sides → toggled ≡ toggle y (k - 1) → has x (k - 1) ≡ true → (w ≡ Holds → ⊥)
@@ -271,14 +301,17 @@ with_fails firm buys x y toggled k sides w position not_done reached is there fa
     (subst (λ (z : ℕ). IsVerdictOn firm (OfClose firm x z (k - 1)) w) is low))
 
 -- and where x lacks it, the bundles with it are
-pub without_holds : (firm : Firm) (buys x y toggled k : ℕ) (sides : Sides) (v w : Verdict) → k ≤ firm.count → (k ≡ 0 → ⊥)
+pub without_holds : (firm : Firm) (buys x y toggled k : ℕ) (sides : Sides) (v w : Verdict) → k ≤ firm.count
+    → (k ≡ 0 → ⊥)
     → IsReached firm.count buys x y k sides → toggled ≡ toggle y (k - 1) → has x (k - 1) ≡ false → w ≡ Holds
-    → IsVerdictOn firm (OfClose firm x y (k - 1)) w → IsVerdictOn firm (OfClose firm x toggled (k - 1)) v → IsVerdictOn firm (OfClose firm x y k) v
+    → IsVerdictOn firm (OfClose firm x y (k - 1)) w → IsVerdictOn firm (OfClose firm x toggled (k - 1)) v
+    → IsVerdictOn firm (OfClose firm x y k) v
 without_holds firm buys x y toggled k sides v w position not_done reached is absent holds low high =
     let same = not_below firm.count buys x y k sides position not_done reached in
     whole_at firm x y k v not_done (lower_holds firm x y y (toggle y (k - 1)) (k - 1) v
     (half_same (k - 1) y false (same ∙ absent)) (half_toggled (k - 1) y true (same ∙ absent))
-    (subst (IsVerdictOn firm (OfClose firm x y (k - 1))) holds low) (subst (λ (z : ℕ). IsVerdictOn firm (OfClose firm x z (k - 1)) v) is high))
+    (subst (IsVerdictOn firm (OfClose firm x y (k - 1))) holds low)
+    (subst (λ (z : ℕ). IsVerdictOn firm (OfClose firm x z (k - 1)) v) is high))
 
 pub without_fails : (firm : Firm) (buys x y toggled k : ℕ) (sides : Sides) (w : Verdict) → k ≤ firm.count → (k ≡ 0 → ⊥)
     → IsReached firm.count buys x y k sides → toggled ≡ toggle y (k - 1) → has x (k - 1) ≡ false → (w ≡ Holds → ⊥)
@@ -289,10 +322,16 @@ without_fails firm buys x y toggled k sides w position not_done reached is absen
     (half_same (k - 1) y false (same ∙ absent)) (half_toggled (k - 1) y true (same ∙ absent)) low)
 
 -- a first failure is the first triple of a small table, and a first close failure that of a large one
-pub first_of_small : (firm : Firm) (v : Verdict) → (10 < firm.count → ⊥) → IfFails v (IsFirstFailure firm) → IfFails v (IsFirstTriple firm)
+pub first_of_small : (firm : Firm) (v : Verdict) → (10 < firm.count → ⊥) → IfFails v (IsFirstFailure firm)
+    → IfFails v (IsFirstTriple firm)
 first_of_small firm Holds small first = tt
 first_of_small firm (Failed x y at) small first = record { small = λ h. first; large = λ h. absurd (small h) }
 
-pub first_of_large : (firm : Firm) (v : Verdict) → 10 < firm.count → IfFails v (IsFirstCloseFailure firm) → IfFails v (IsFirstTriple firm)
+pub first_of_large : (firm : Firm) (v : Verdict) → 10 < firm.count → IfFails v (IsFirstCloseFailure firm)
+    → IfFails v (IsFirstTriple firm)
 first_of_large firm Holds large first = tt
-first_of_large firm (Failed x y at) large first = record { small = λ h. absurd (omega (arith, h, large)); large = λ h. first }
+first_of_large firm (Failed x y at) large first = record {
+  small = λ h. absurd (omega (arith, h, large));
+  large =
+      λ h. first;
+}

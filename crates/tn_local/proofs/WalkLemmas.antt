@@ -28,7 +28,8 @@ levels_differ : (buys x z p : ℕ) → has z p ≡ not (has x p) → trade_level
 unfolding trade_level
 levels_differ buys x z p differs = rw differs (by (has buys p) (has x p))
   where
-    by : (b h : Bool) → (if b then (if not h then 1 else 0) else (if not h then 0 else 1)) + (if b then (if h then 1 else 0) else (if h then 0 else 1)) ≡ 1
+    by : (b h : Bool) → (if b then (if not h then 1 else 0) else (if not h then 0 else 1)) + (if b
+        then (if h then 1 else 0) else (if h then 0 else 1)) ≡ 1
     by true true = refl
     by true false = refl
     by false true = refl
@@ -81,14 +82,16 @@ three_terms f p q r m p_below q_below r_below at_p at_q at_r =
     ]
 
 -- at a trade of this level one bundle is above the other
-one_above : (n buys x z p : ℕ) → p < n → trade_level buys x p ≡ 1 → has z p ≡ not (has x p) → 1 ≤ level n buys x p - level n buys z p
+one_above : (n buys x z p : ℕ) → p < n → trade_level buys x p ≡ 1 → has z p ≡ not (has x p)
+    → 1 ≤ level n buys x p - level n buys z p
 one_above n buys x z p below high differs =
     let lx = level-trade n buys x p below in
     let lz = level-trade n buys z p below in
     let other = levels_differ buys x z p differs in
     omega (arith, lx, lz, other, high)
 
-one_below : (n buys x z p : ℕ) → p < n → trade_level buys x p ≡ 0 → has z p ≡ not (has x p) → 1 ≤ level n buys z p - level n buys x p
+one_below : (n buys x z p : ℕ) → p < n → trade_level buys x p ≡ 0 → has z p ≡ not (has x p)
+    → 1 ≤ level n buys z p - level n buys x p
 one_below n buys x z p below low differs =
     let lx = level-trade n buys x p below in
     let lz = level-trade n buys z p below in
@@ -100,11 +103,14 @@ pub far_by_up : (n buys x z p q r : ℕ) → x < 2 ^ n → z < 2 ^ n → p < n �
     → trade_level buys x p ≡ 1 → trade_level buys x q ≡ 1 → trade_level buys x r ≡ 1
     → has z p ≡ not (has x p) → has z q ≡ not (has x q) → has z r ≡ not (has x r) → AreClose buys x z → ⊥
 unfolding gap
-far_by_up n buys x z p q r x_own z_own p_below q_below r_below high_p high_q high_r p_differs q_differs r_differs close =
+far_by_up n buys x z p q r x_own z_own p_below q_below r_below high_p high_q high_r p_differs q_differs r_differs
+    close =
     let q_n : q < n = omega (arith, q_below, p_below) in
     let r_n : r < n = omega (arith, r_below, q_n) in
-    let three = three_terms (λ k. level n buys x k - level n buys z k) p q r (suc n) (omega (arith, p_below)) q_below r_below
-    (one_above n buys x z p p_below high_p p_differs) (one_above n buys x z q q_n high_q q_differs) (one_above n buys x z r r_n high_r r_differs) in
+    let three = three_terms (λ k. level n buys x k - level n buys z k) p q r (suc n) (omega (arith, p_below)) q_below
+    r_below
+    (one_above n buys x z p p_below high_p p_differs) (one_above n buys x z q q_n high_q q_differs)
+    (one_above n buys x z r r_n high_r r_differs) in
     let both = distance-gaps n buys x z x_own z_own in
     let same = gap-symmetric (bare n buys) x z in
     absurd (omega (arith, three, both, same, close))
@@ -116,8 +122,10 @@ unfolding gap
 far_by_down n buys x z p q r x_own z_own p_below q_below r_below low_p low_q low_r p_differs q_differs r_differs close =
     let q_n : q < n = omega (arith, q_below, p_below) in
     let r_n : r < n = omega (arith, r_below, q_n) in
-    let three = three_terms (λ k. level n buys z k - level n buys x k) p q r (suc n) (omega (arith, p_below)) q_below r_below
-    (one_below n buys x z p p_below low_p p_differs) (one_below n buys x z q q_n low_q q_differs) (one_below n buys x z r r_n low_r r_differs) in
+    let three = three_terms (λ k. level n buys z k - level n buys x k) p q r (suc n) (omega (arith, p_below)) q_below
+    r_below
+    (one_below n buys x z p p_below low_p p_differs) (one_below n buys x z q q_n low_q q_differs)
+    (one_below n buys x z r r_n low_r r_differs) in
     let both = distance-gaps n buys x z x_own z_own in
     let same = gap-symmetric (bare n buys) x z in
     absurd (omega (arith, three, both, same, close))
@@ -140,14 +148,16 @@ apart_less n buys x y k level p is = record {
   differs = is.differs;
 }
 
-two_less : (n buys x y k level : ℕ) (two : Two) → AreApartAt n buys x y (suc k) level two → AreApartAt n buys x y k level two
+two_less : (n buys x y k level : ℕ) (two : Two) → AreApartAt n buys x y (suc k) level two
+    → AreApartAt n buys x y k level two
 two_less n buys x y k level two are = record {
   first = apart_less n buys x y k level two.first are.first;
   second = apart_less n buys x y k level two.second are.second;
   order = are.order;
 }
 
-pub reached_less : (n buys x y k : ℕ) (sides : Sides) → IsReached n buys x y (suc k) sides → IsReached n buys x y k sides
+pub reached_less : (n buys x y k : ℕ) (sides : Sides) → IsReached n buys x y (suc k) sides
+    → IsReached n buys x y k sides
 reached_less n buys x y k sides reached = record {
   own = reached.own;
   up = two_less n buys x y k 1 sides.up reached.up;
@@ -156,7 +166,8 @@ reached_less n buys x y k sides reached = record {
 }
 
 -- a toggle below changes nothing at the places of before
-apart_toggled : (n buys x y k level p : ℕ) → IsApartAt n buys x y (suc k) level p → IsApartAt n buys x (toggle y k) k level p
+apart_toggled : (n buys x y k level p : ℕ) → IsApartAt n buys x y (suc k) level p
+    → IsApartAt n buys x (toggle y k) k level p
 apart_toggled n buys x y k level p is = record {
   place = is.place;
   from = λ h. let from = is.from h in omega (arith, from);
@@ -164,7 +175,8 @@ apart_toggled n buys x y k level p is = record {
   differs = λ h. let from = is.from h in has-toggle_other y k p (λ e. omega (arith, e, from)) ∙ is.differs h;
 }
 
-two_toggled : (n buys x y k level : ℕ) (two : Two) → AreApartAt n buys x y (suc k) level two → AreApartAt n buys x (toggle y k) k level two
+two_toggled : (n buys x y k level : ℕ) (two : Two) → AreApartAt n buys x y (suc k) level two
+    → AreApartAt n buys x (toggle y k) k level two
 two_toggled n buys x y k level two are = record {
   first = apart_toggled n buys x y k level two.first are.first;
   second = apart_toggled n buys x y k level two.second are.second;
@@ -181,7 +193,8 @@ apart_null n buys x y k level = record {
 }
 
 -- the trade that is toggled
-apart_here : (n buys x y k level : ℕ) → k < n → has y k ≡ has x k → trade_level buys x k ≡ level → IsApartAt n buys x (toggle y k) k level k
+apart_here : (n buys x y k level : ℕ) → k < n → has y k ≡ has x k → trade_level buys x k ≡ level
+    → IsApartAt n buys x (toggle y k) k level k
 apart_here n buys x y k level below same is = record {
   place = omega (arith, below);
   from = λ h. omega arith;
@@ -190,7 +203,8 @@ apart_here n buys x y k level below same is = record {
 }
 
 -- before the first toggle
-pub reached_none : (n buys x : ℕ) (sides : Sides) → x < 2 ^ n → sides.up.first ≡ n → sides.up.second ≡ n → sides.down.first ≡ n → sides.down.second ≡ n
+pub reached_none : (n buys x : ℕ) (sides : Sides) → x < 2 ^ n → sides.up.first ≡ n → sides.up.second ≡ n
+    → sides.down.first ≡ n → sides.down.second ≡ n
     → IsReached n buys x x n sides
 reached_none n buys x sides own a b c d = record {
   own = own;
@@ -230,16 +244,20 @@ two_apart n buys x y k level two below same is are trade =
 
 -- one more position takes the first free place, if one is free
 with_first : (two : Two) (k n : ℕ) → two.first ≡ n → with_one_more two k n ≡ Some (record { first = k; second = n })
-with_first two k n e = ap (λ b. if b then Some (record { first = k; second = n }) else if two.second == n then Some (record { first = two.first; second = k }) else None) (eq-eqb two.first n e)
+with_first two k n e = ap (λ b. if b then Some (record { first = k; second = n }) else if two.second == n
+    then Some (record { first = two.first; second = k }) else None) (eq-eqb two.first n e)
 
-with_second : (two : Two) (k n : ℕ) → two.first ≢ n → two.second ≡ n → with_one_more two k n ≡ Some (record { first = two.first; second = k })
+with_second : (two : Two) (k n : ℕ) → two.first ≢ n → two.second ≡ n
+    → with_one_more two k n ≡ Some (record { first = two.first; second = k })
 with_second two k n d e =
-    ap (λ b. if b then Some (record { first = k; second = n }) else if two.second == n then Some (record { first = two.first; second = k }) else None) (ne_eqb two.first n d)
+    ap (λ b. if b then Some (record { first = k; second = n }) else if two.second == n
+    then Some (record { first = two.first; second = k }) else None) (ne_eqb two.first n d)
     ∙ ap (λ b. if b then Some (record { first = two.first; second = k }) else None) (eq-eqb two.second n e)
 
 with_none : (two : Two) (k n : ℕ) → two.first ≢ n → two.second ≢ n → with_one_more two k n ≡ None
 with_none two k n d e =
-    ap (λ b. if b then Some (record { first = k; second = n }) else if two.second == n then Some (record { first = two.first; second = k }) else None) (ne_eqb two.first n d)
+    ap (λ b. if b then Some (record { first = k; second = n }) else if two.second == n
+    then Some (record { first = two.first; second = k }) else None) (ne_eqb two.first n d)
     ∙ ap (λ b. if b then Some (record { first = two.first; second = k }) else None) (ne_eqb two.second n e)
 
 -- what the toggled bundle leaves as it was
@@ -247,7 +265,8 @@ same_toggled : (x y k j : ℕ) → j ≢ k → has y j ≡ has x j → has (togg
 same_toggled x y k j other same = has-toggle_other y k j other ∙ same
 
 -- what is known after a toggle at a position of the up side
-known_up : (n buys x y k : ℕ) (sides : Sides) → k < n → x < 2 ^ n → trade_level buys x k ≡ 1 → IsReached n buys x y (suc k) sides
+known_up : (n buys x y k : ℕ) (sides : Sides) → k < n → x < 2 ^ n → trade_level buys x k ≡ 1
+    → IsReached n buys x y (suc k) sides
     → (o : Option Two) → o ≡ with_one_more sides.up k n → (more : Option Sides)
     → ((two : Two) → o ≡ Some two → more ≡ Some (record { up = two; down = sides.down })) → (o ≡ None → more ≡ None)
     → IsKnown n buys x (toggle y k) k more
@@ -258,11 +277,13 @@ known_up n buys x y k sides below x_own high reached o is more some none = elim 
         own = toggle_within y k n reached.own below;
         up = one_more_apart n buys x y k 1 sides.up below same high reached.up null;
         down = two_toggled n buys x y k 0 sides.down reached.down;
-        same = λ j h p q r s. same_toggled x y k j p (reached.same j h (λ e. omega (arith, e, h, null)) (second_null null j h) r s);
+        same = λ j h p q r s. same_toggled x y k j p (reached.same j h (λ e. omega (arith, e, h, null))
+            (second_null null j h) r s);
       })
   | inr trade ↦ elim (cases_eq sides.up.second n) [
     | inl null ↦
-        let made : o ≡ Some (record { first = sides.up.first; second = k }) = is ∙ with_second sides.up k n trade null in
+        let made : o ≡ Some (record { first = sides.up.first; second = k }) = is ∙ with_second sides.up k n trade null
+        in
         subst (IsKnown n buys x (toggle y k) k) (sym (some _ made)) (record {
           own = toggle_within y k n reached.own below;
           up = two_apart n buys x y k 1 sides.up below same high reached.up trade;
@@ -279,8 +300,10 @@ known_up n buys x y k sides below x_own high reached o is more some none = elim 
         subst (IsKnown n buys x (toggle y k) k) (sym (none made)) (λ z z_own agrees.
         far_by_up n buys x z sides.up.first sides.up.second k x_own z_own order.1 order.0 (omega (arith, from_second))
         (reached.up.first.level_is order.1) (reached.up.second.level_is second_below) high
-        (agrees sides.up.first (omega (arith, from_first)) ∙ (apart_toggled n buys x y k 1 sides.up.first reached.up.first).differs order.1)
-        (agrees sides.up.second (omega (arith, from_second)) ∙ (apart_toggled n buys x y k 1 sides.up.second reached.up.second).differs second_below)
+        (agrees sides.up.first (omega (arith, from_first)) ∙
+        (apart_toggled n buys x y k 1 sides.up.first reached.up.first).differs order.1)
+        (agrees sides.up.second (omega (arith, from_second))
+        ∙ (apart_toggled n buys x y k 1 sides.up.second reached.up.second).differs second_below)
         (agrees k (omega arith) ∙ has-toggle_same y k ∙ ap not same))
   ]
 ]
@@ -289,10 +312,12 @@ known_up n buys x y k sides below x_own high reached o is more some none = elim 
     same = unwalked n buys x y k sides below reached
 
     second_null : sides.up.first ≡ n → (j : ℕ) → j < n → j ≢ sides.up.second
-    second_null null j h e = let order = reached.up.order (omega (arith, h, e)) in let q = order.1 in absurd (omega (arith, q, null))
+    second_null null j h e = let order = reached.up.order (omega (arith, h, e)) in let q = order.1 in
+        absurd (omega (arith, q, null))
 
 -- and at one of the down side
-known_down : (n buys x y k : ℕ) (sides : Sides) → k < n → x < 2 ^ n → trade_level buys x k ≡ 0 → IsReached n buys x y (suc k) sides
+known_down : (n buys x y k : ℕ) (sides : Sides) → k < n → x < 2 ^ n → trade_level buys x k ≡ 0
+    → IsReached n buys x y (suc k) sides
     → (o : Option Two) → o ≡ with_one_more sides.down k n → (more : Option Sides)
     → ((two : Two) → o ≡ Some two → more ≡ Some (record { up = sides.up; down = two })) → (o ≡ None → more ≡ None)
     → IsKnown n buys x (toggle y k) k more
@@ -303,11 +328,13 @@ known_down n buys x y k sides below x_own low reached o is more some none = elim
         own = toggle_within y k n reached.own below;
         up = two_toggled n buys x y k 1 sides.up reached.up;
         down = one_more_apart n buys x y k 0 sides.down below same low reached.down null;
-        same = λ j h p q r s. same_toggled x y k j r (reached.same j h p q (λ e. omega (arith, e, h, null)) (second_null null j h));
+        same = λ j h p q r s. same_toggled x y k j r (reached.same j h p q (λ e. omega (arith, e, h, null))
+            (second_null null j h));
       })
   | inr trade ↦ elim (cases_eq sides.down.second n) [
     | inl null ↦
-        let made : o ≡ Some (record { first = sides.down.first; second = k }) = is ∙ with_second sides.down k n trade null in
+        let made : o ≡ Some (record { first = sides.down.first; second = k }) =
+        is ∙ with_second sides.down k n trade null in
         subst (IsKnown n buys x (toggle y k) k) (sym (some _ made)) (record {
           own = toggle_within y k n reached.own below;
           up = two_toggled n buys x y k 1 sides.up reached.up;
@@ -322,10 +349,13 @@ known_down n buys x y k sides below x_own low reached o is more some none = elim
         let from_first = reached.down.first.from order.1 in
         let from_second = reached.down.second.from second_below in
         subst (IsKnown n buys x (toggle y k) k) (sym (none made)) (λ z z_own agrees.
-        far_by_down n buys x z sides.down.first sides.down.second k x_own z_own order.1 order.0 (omega (arith, from_second))
+        far_by_down n buys x z sides.down.first sides.down.second k x_own z_own order.1 order.0
+        (omega (arith, from_second))
         (reached.down.first.level_is order.1) (reached.down.second.level_is second_below) low
-        (agrees sides.down.first (omega (arith, from_first)) ∙ (apart_toggled n buys x y k 0 sides.down.first reached.down.first).differs order.1)
-        (agrees sides.down.second (omega (arith, from_second)) ∙ (apart_toggled n buys x y k 0 sides.down.second reached.down.second).differs second_below)
+        (agrees sides.down.first (omega (arith, from_first))
+        ∙ (apart_toggled n buys x y k 0 sides.down.first reached.down.first).differs order.1)
+        (agrees sides.down.second (omega (arith, from_second))
+        ∙ (apart_toggled n buys x y k 0 sides.down.second reached.down.second).differs second_below)
         (agrees k (omega arith) ∙ has-toggle_same y k ∙ ap not same))
   ]
 ]
@@ -334,27 +364,36 @@ known_down n buys x y k sides below x_own low reached o is more some none = elim
     same = unwalked n buys x y k sides below reached
 
     second_null : sides.down.first ≡ n → (j : ℕ) → j < n → j ≢ sides.down.second
-    second_null null j h e = let order = reached.down.order (omega (arith, h, e)) in let q = order.1 in absurd (omega (arith, q, null))
+    second_null null j h e = let order = reached.down.order (omega (arith, h, e)) in let q = order.1 in
+        absurd (omega (arith, q, null))
 
 -- both as the walk meets them
-pub known_up_some : (n buys x y k : ℕ) (sides : Sides) (two : Two) → k < n → x < 2 ^ n → trade_level buys x k ≡ 1 → IsReached n buys x y (suc k) sides
+pub known_up_some : (n buys x y k : ℕ) (sides : Sides) (two : Two) → k < n → x < 2 ^ n → trade_level buys x k ≡ 1
+    → IsReached n buys x y (suc k) sides
     → with_one_more sides.up k n ≡ Some two → IsReached n buys x (toggle y k) k (record { up = two; down = sides.down })
 known_up_some n buys x y k sides two below x_own high reached is =
-    known_up n buys x y k sides below x_own high reached (Some two) (sym is) (Some (record { up = two; down = sides.down }))
-    (λ t e. ap (λ (u : Two). Some (record { up = u; down = sides.down })) (same_Some _ _ e)) (λ e. absurd (none-some two (sym e)))
+    known_up n buys x y k sides below x_own high reached (Some two) (sym is)
+    (Some (record { up = two; down = sides.down }))
+    (λ t e. ap (λ (u : Two). Some (record { up = u; down = sides.down })) (same_Some _ _ e))
+    (λ e. absurd (none-some two (sym e)))
 
-pub known_up_none : (n buys x y k : ℕ) (sides : Sides) → k < n → x < 2 ^ n → trade_level buys x k ≡ 1 → IsReached n buys x y (suc k) sides
+pub known_up_none : (n buys x y k : ℕ) (sides : Sides) → k < n → x < 2 ^ n → trade_level buys x k ≡ 1
+    → IsReached n buys x y (suc k) sides
     → with_one_more sides.up k n ≡ None → NoneIsClose n buys x (toggle y k) k
 known_up_none n buys x y k sides below x_own high reached is =
     known_up n buys x y k sides below x_own high reached None (sym is) None (λ t e. absurd (none-some t e)) (λ e. refl)
 
-pub known_down_some : (n buys x y k : ℕ) (sides : Sides) (two : Two) → k < n → x < 2 ^ n → trade_level buys x k ≡ 0 → IsReached n buys x y (suc k) sides
+pub known_down_some : (n buys x y k : ℕ) (sides : Sides) (two : Two) → k < n → x < 2 ^ n → trade_level buys x k ≡ 0
+    → IsReached n buys x y (suc k) sides
     → with_one_more sides.down k n ≡ Some two → IsReached n buys x (toggle y k) k (record { up = sides.up; down = two })
 known_down_some n buys x y k sides two below x_own low reached is =
-    known_down n buys x y k sides below x_own low reached (Some two) (sym is) (Some (record { up = sides.up; down = two }))
-    (λ t e. ap (λ (u : Two). Some (record { up = sides.up; down = u })) (same_Some _ _ e)) (λ e. absurd (none-some two (sym e)))
+    known_down n buys x y k sides below x_own low reached (Some two) (sym is)
+    (Some (record { up = sides.up; down = two }))
+    (λ t e. ap (λ (u : Two). Some (record { up = sides.up; down = u })) (same_Some _ _ e))
+    (λ e. absurd (none-some two (sym e)))
 
-pub known_down_none : (n buys x y k : ℕ) (sides : Sides) → k < n → x < 2 ^ n → trade_level buys x k ≡ 0 → IsReached n buys x y (suc k) sides
+pub known_down_none : (n buys x y k : ℕ) (sides : Sides) → k < n → x < 2 ^ n → trade_level buys x k ≡ 0
+    → IsReached n buys x y (suc k) sides
     → with_one_more sides.down k n ≡ None → NoneIsClose n buys x (toggle y k) k
 known_down_none n buys x y k sides below x_own low reached is =
     known_down n buys x y k sides below x_own low reached None (sym is) None (λ t e. absurd (none-some t e)) (λ e. refl)
@@ -363,12 +402,15 @@ known_down_none n buys x y k sides below x_own low reached is =
 levels_apart : (n buys x y k p q : ℕ) → IsApartAt n buys x y k 1 p → IsApartAt n buys x y k 0 q → p < n → p ≢ q
 levels_apart n buys x y k p q high low below e =
     let one = high.level_is below in
-    let nothing : trade_level buys x p ≡ 0 = subst (λ (i : ℕ). trade_level buys x i ≡ 0) (sym e) (low.level_is (omega (arith, e, below))) in
+    let nothing : trade_level buys x p ≡ 0 =
+    subst (λ (i : ℕ). trade_level buys x i ≡ 0) (sym e) (low.level_is (omega (arith, e, below))) in
     omega (arith, one, nothing)
 
 -- the two of one level are different
-two_differ : (n buys x y k level : ℕ) (two : Two) → AreApartAt n buys x y k level two → two.first < n → two.first ≢ two.second
-two_differ n buys x y k level two are below e = let order = are.order (omega (arith, e, below)) in let q = order.0 in omega (arith, q, e)
+two_differ : (n buys x y k level : ℕ) (two : Two) → AreApartAt n buys x y k level two → two.first < n
+    → two.first ≢ two.second
+two_differ n buys x y k level two are below e = let order = are.order (omega (arith, e, below)) in let q = order.0 in
+    omega (arith, q, e)
 
 -- toggled at a trade
 has-toggle_at_same : (n z i : ℕ) → i < n → has (toggle_at n z i) i ≡ not (has z i)
@@ -379,7 +421,8 @@ pub reached_is : (n buys x y : ℕ) (sides : Sides) → x < 2 ^ n → IsReached 
     → y ≡ move n (move n x sides.up.first sides.down.first) sides.up.second sides.down.second
 unfolding move
 reached_is n buys x y sides x_own reached =
-    same_below y _ n reached.own (move-within n (move n x sides.up.first sides.down.first) sides.up.second sides.down.second
+    same_below y _ n reached.own (move-within n (move n x sides.up.first sides.down.first) sides.up.second
+    sides.down.second
     (move-within n x sides.up.first sides.down.first x_own)) (λ k h. elim (cases_eq k sides.up.first) [
       | inl e ↦ subst (λ (i : ℕ). has y i ≡ has moved i) (sym e) (at_a (omega (arith, e, h)))
       | inr not_a ↦ elim (cases_eq k sides.up.second) [
@@ -397,39 +440,50 @@ reached_is n buys x y sides x_own reached =
     ])
   where
     moved : ℕ
-    moved = toggle_at n (toggle_at n (toggle_at n (toggle_at n x sides.up.first) sides.down.first) sides.up.second) sides.down.second
+    moved = toggle_at n (toggle_at n (toggle_at n (toggle_at n x sides.up.first) sides.down.first) sides.up.second)
+        sides.down.second
 
     at_a : sides.up.first < n → has y sides.up.first ≡ has moved sides.up.first
     at_a h =
         reached.up.first.differs h ∙ sym (
-        has-toggle_at n _ sides.down.second sides.up.first (levels_apart n buys x y 0 _ _ reached.up.first reached.down.second h)
+        has-toggle_at n _ sides.down.second sides.up.first (levels_apart n buys x y 0 _ _ reached.up.first
+        reached.down.second h)
         ∙ has-toggle_at n _ sides.up.second sides.up.first (two_differ n buys x y 0 1 sides.up reached.up h)
-        ∙ has-toggle_at n _ sides.down.first sides.up.first (levels_apart n buys x y 0 _ _ reached.up.first reached.down.first h)
+        ∙ has-toggle_at n _ sides.down.first sides.up.first
+        (levels_apart n buys x y 0 _ _ reached.up.first reached.down.first h)
         ∙ has-toggle_at_same n x sides.up.first h)
 
     at_b : sides.up.second < n → has y sides.up.second ≡ has moved sides.up.second
     at_b h =
         reached.up.second.differs h ∙ sym (
-        has-toggle_at n _ sides.down.second sides.up.second (levels_apart n buys x y 0 _ _ reached.up.second reached.down.second h)
+        has-toggle_at n _ sides.down.second sides.up.second
+        (levels_apart n buys x y 0 _ _ reached.up.second reached.down.second h)
         ∙ has-toggle_at_same n _ sides.up.second h
-        ∙ ap not (has-toggle_at n _ sides.down.first sides.up.second (levels_apart n buys x y 0 _ _ reached.up.second reached.down.first h)
-        ∙ has-toggle_at n x sides.up.first sides.up.second (λ e. two_differ n buys x y 0 1 sides.up reached.up (reached.up.order h).1 (sym e))))
+        ∙ ap not (has-toggle_at n _ sides.down.first sides.up.second
+        (levels_apart n buys x y 0 _ _ reached.up.second reached.down.first h)
+        ∙ has-toggle_at n x sides.up.first sides.up.second (λ e. two_differ n buys x y 0 1 sides.up reached.up
+        (reached.up.order h).1 (sym e))))
 
     at_c : sides.down.first < n → has y sides.down.first ≡ has moved sides.down.first
     at_c h =
         reached.down.first.differs h ∙ sym (
         has-toggle_at n _ sides.down.second sides.down.first (two_differ n buys x y 0 0 sides.down reached.down h)
-        ∙ has-toggle_at n _ sides.up.second sides.down.first (λ e. levels_apart n buys x y 0 _ _ reached.up.second reached.down.first (omega (arith, e, h)) (sym e))
+        ∙ has-toggle_at n _ sides.up.second sides.down.first
+        (λ e. levels_apart n buys x y 0 _ _ reached.up.second reached.down.first (omega (arith, e, h)) (sym e))
         ∙ has-toggle_at_same n _ sides.down.first h
-        ∙ ap not (has-toggle_at n x sides.up.first sides.down.first (λ e. levels_apart n buys x y 0 _ _ reached.up.first reached.down.first (omega (arith, e, h)) (sym e))))
+        ∙ ap not (has-toggle_at n x sides.up.first sides.down.first
+        (λ e. levels_apart n buys x y 0 _ _ reached.up.first reached.down.first (omega (arith, e, h)) (sym e))))
 
     at_d : sides.down.second < n → has y sides.down.second ≡ has moved sides.down.second
     at_d h =
         reached.down.second.differs h ∙ sym (
         has-toggle_at_same n _ sides.down.second h
-        ∙ ap not (has-toggle_at n _ sides.up.second sides.down.second (λ e. levels_apart n buys x y 0 _ _ reached.up.second reached.down.second (omega (arith, e, h)) (sym e))
-        ∙ has-toggle_at n _ sides.down.first sides.down.second (λ e. two_differ n buys x y 0 0 sides.down reached.down (reached.down.order h).1 (sym e))
-        ∙ has-toggle_at n x sides.up.first sides.down.second (λ e. levels_apart n buys x y 0 _ _ reached.up.first reached.down.second (omega (arith, e, h)) (sym e))))
+        ∙ ap not (has-toggle_at n _ sides.up.second sides.down.second
+        (λ e. levels_apart n buys x y 0 _ _ reached.up.second reached.down.second (omega (arith, e, h)) (sym e))
+        ∙ has-toggle_at n _ sides.down.first sides.down.second
+        (λ e. two_differ n buys x y 0 0 sides.down reached.down (reached.down.order h).1 (sym e))
+        ∙ has-toggle_at n x sides.up.first sides.down.second
+        (λ e. levels_apart n buys x y 0 _ _ reached.up.first reached.down.second (omega (arith, e, h)) (sym e))))
 
 -- a place can be lowered, or raised
 falls : (n buys x y p : ℕ) → IsApartAt n buys x y 0 1 p → CanFall n (level n buys x) p
@@ -439,7 +493,8 @@ rises : (n buys x y p : ℕ) → IsApartAt n buys x y 0 0 p → CanRise n (level
 rises n buys x y p is h = level-trade n buys x p h ∙ is.level_is h
 
 -- with two trades on one of the sides, the bundles are four places apart
-pub reached_four : (firm : Firm) (x y : ℕ) (sides : Sides) → x < 2 ^ firm.count → IsReached firm.count firm.buys x y 0 sides
+pub reached_four : (firm : Firm) (x y : ℕ) (sides : Sides) → x < 2 ^ firm.count
+    → IsReached firm.count firm.buys x y 0 sides
     → (sides.up.second < firm.count) ⊎ (sides.down.second < firm.count)
     → AreFourApart firm x y sides.up.first sides.up.second sides.down.first sides.down.second
 reached_four firm x y sides x_own reached one = record {
@@ -451,9 +506,12 @@ reached_four firm x y sides x_own reached one = record {
   b_falls = falls firm.count firm.buys x y sides.up.second reached.up.second;
   c_rises = rises firm.count firm.buys x y sides.down.first reached.down.first;
   d_rises = rises firm.count firm.buys x y sides.down.second reached.down.second;
-  a_c = apart sides.up.first sides.down.first reached.up.first reached.down.first (λ h. (reached.up.order h).1) (λ h. (reached.down.order h).1);
-  a_d = apart sides.up.first sides.down.second reached.up.first reached.down.second (λ h. (reached.up.order h).1) (λ h. h);
-  b_c = apart sides.up.second sides.down.first reached.up.second reached.down.first (λ h. h) (λ h. (reached.down.order h).1);
+  a_c = apart sides.up.first sides.down.first reached.up.first reached.down.first (λ h. (reached.up.order h).1)
+      (λ h. (reached.down.order h).1);
+  a_d = apart sides.up.first sides.down.second reached.up.first reached.down.second (λ h. (reached.up.order h).1)
+      (λ h. h);
+  b_c = apart sides.up.second sides.down.first reached.up.second reached.down.first (λ h. h)
+      (λ h. (reached.down.order h).1);
   b_d = apart sides.up.second sides.down.second reached.up.second reached.down.second (λ h. h) (λ h. h);
   a_b = λ h. two_differ firm.count firm.buys x y 0 1 sides.up reached.up (reached.up.order h).1;
   c_d = λ h. two_differ firm.count firm.buys x y 0 0 sides.down reached.down (reached.down.order h).1;
@@ -465,11 +523,13 @@ reached_four firm x y sides x_own reached one = record {
         → (sides.up.second < firm.count → p < firm.count) → (sides.down.second < firm.count → q < firm.count) → p ≢ q
     apart p q high low by_up by_down e = elim one [
       | inl h ↦ levels_apart firm.count firm.buys x y 0 p q high low (by_up h) e
-      | inr h ↦ let below = by_down h in levels_apart firm.count firm.buys x y 0 p q high low (omega (arith, below, e)) e
+      | inr h ↦ let below = by_down h in
+          levels_apart firm.count firm.buys x y 0 p q high low (omega (arith, below, e)) e
     ]
 
 -- with at most one trade on each side, they aren't close
-pub reached_near : (n buys x y : ℕ) (sides : Sides) → x < 2 ^ n → IsReached n buys x y 0 sides → sides.up.second ≡ n → sides.down.second ≡ n
+pub reached_near : (n buys x y : ℕ) (sides : Sides) → x < 2 ^ n → IsReached n buys x y 0 sides → sides.up.second ≡ n
+    → sides.down.second ≡ n
     → AreClose buys x y → ⊥
 unfolding gap
 reached_near n buys x y sides x_own reached b_null d_null close =
@@ -488,18 +548,22 @@ reached_near n buys x y sides x_own reached b_null d_null close =
     few_apart : gap n (level n buys x) (level n buys y) ≤ 1
     few_apart = elim (cases_eq sides.up.first sides.down.first) [
       | inl e ↦
-          let itself : y ≡ x = y_is ∙ ap (λ (i : ℕ). move n x i sides.down.first) e ∙ (places n buys).same x sides.down.first in
+          let itself : y ≡ x = y_is ∙ ap (λ (i : ℕ). move n x i sides.down.first) e
+          ∙ (places n buys).same x sides.down.first in
           let none : gap n (level n buys x) (level n buys y) ≡ 0 =
           ap (λ (z : ℕ). gap n (level n buys x) (level n buys z)) itself ∙ gap-itself (bare n buys) x in
           omega (arith, none)
       | inr different ↦
-          let single = sum_to-single sides.up.first (suc n) (let place = reached.up.first.place in omega (arith, place)) in
+          let single = sum_to-single sides.up.first (suc n) (let place = reached.up.first.place in omega (arith, place))
+          in
           let small = sum_to-le (λ k. level n buys x k - level n buys y k) (one_at sides.up.first) (suc n) (λ k h.
           let levels : level n buys y k + one_at sides.up.first k ≡ level n buys x k + one_at sides.down.first k =
           subst (λ (z : ℕ). level n buys z k + one_at sides.up.first k ≡ level n buys x k + one_at sides.down.first k)
           ((places n buys).order x sides.down.first sides.up.first ∙ sym y_is)
-          ((places n buys).levels x sides.down.first sides.up.first k reached.down.first.place reached.up.first.place (λ e. different (sym e))
-          (rises n buys x y sides.down.first reached.down.first) (falls n buys x y sides.up.first reached.up.first) (omega (arith, h))) in
+          ((places n buys).levels x sides.down.first sides.up.first k reached.down.first.place reached.up.first.place
+          (λ e. different (sym e))
+          (rises n buys x y sides.down.first reached.down.first) (falls n buys x y sides.up.first reached.up.first)
+          (omega (arith, h))) in
           omega (arith, levels)) in
           omega (arith, single, small)
     ]
@@ -511,11 +575,13 @@ toggle_at-own n x k own =
     subst (λ (z : ℕ). z < 2 ^ n) (toggle_at-null n (toggle_at n x k) n (omega arith)) (move-within n x k n own)
 
 -- the level of a purchase, and of a sale
-pub level_bought : (buys x k : ℕ) (h : Bool) → has buys k ≡ true → has x k ≡ h → trade_level buys x k ≡ (if h then 1 else 0)
+pub level_bought : (buys x k : ℕ) (h : Bool) → has buys k ≡ true → has x k ≡ h
+    → trade_level buys x k ≡ (if h then 1 else 0)
 unfolding trade_level
 level_bought buys x k h bought is = rw (bought, is) refl
 
-pub level_sold : (buys x k : ℕ) (h : Bool) → has buys k ≡ false → has x k ≡ h → trade_level buys x k ≡ (if not h then 1 else 0)
+pub level_sold : (buys x k : ℕ) (h : Bool) → has buys k ≡ false → has x k ≡ h
+    → trade_level buys x k ≡ (if not h then 1 else 0)
 unfolding trade_level
 level_sold buys x k h sold is = rw (sold, is) (by h)
   where

@@ -19,7 +19,8 @@ IsLow n buys z k = (k < n) × (trade_level buys z k ≡ 0)
 
 -- z toggled at two trades, and z, are worth no more together than z toggled at each of them
 abbrev pub PairExchanges : Firm → ℕ → ℕ → ℕ → Type 0
-PairExchanges firm z a b = (value firm (toggle (toggle z a) b) +ℤ value firm z) ≤ℤ (value firm (toggle z a) +ℤ value firm (toggle z b))
+PairExchanges firm z a b = (value firm (toggle (toggle z a) b) +ℤ value firm z)
+    ≤ℤ (value firm (toggle z a) +ℤ value firm (toggle z b))
 
 -- of what z toggled at two of three trades and z toggled at the third are worth together, the greatest stands twice
 abbrev pub ThreeExchange : Firm → ℕ → ℕ → ℕ → ℕ → Type 0

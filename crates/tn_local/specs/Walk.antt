@@ -51,10 +51,13 @@ IsKnown n buys x y k None = NoneIsClose n buys x y k
 -- the four places can be exchanged in pairs, in one way or the other
 abbrev pub PairsAreEnough : Firm → ℕ → ℤ → Sides → Type 0
 PairsAreEnough firm x total sides =
-    AreEnough firm (move firm.count x sides.up.first sides.down.first) (move firm.count x sides.up.second sides.down.second) total
-    ⊎ AreEnough firm (move firm.count x sides.up.first sides.down.second) (move firm.count x sides.up.second sides.down.first) total
+    AreEnough firm (move firm.count x sides.up.first sides.down.first)
+    (move firm.count x sides.up.second sides.down.second) total
+    ⊎ AreEnough firm (move firm.count x sides.up.first sides.down.second)
+    (move firm.count x sides.up.second sides.down.first) total
 
 -- two places with one more trade, or none where both are trades
 abbrev pub with_one_more : Two → ℕ → ℕ → Option Two
 with_one_more two k n =
-    if two.first == n then Some (record { first = k; second = n }) else if two.second == n then Some (record { first = two.first; second = k }) else None
+    if two.first == n then Some (record { first = k; second = n }) else if two.second == n
+    then Some (record { first = two.first; second = k }) else None

@@ -1,3 +1,5 @@
+//! The exchange test of tables whose every bundle is possible.
+
 ghost use Rattle.std.specs.Prelude.{◌≡◌, ◌^◌, ◌<◌, ◌↔◌, Some, length};
 ghost use Rattle.tn_base.specs.Arcs.{IsAtMost};
 ghost use Rattle.tn_base.specs.Every.{HasEveryBundle};

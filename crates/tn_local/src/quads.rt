@@ -1,3 +1,5 @@
+//! The test by two and by three trades at a time.
+
 ghost use Rattle.std.specs.Prelude.{◌≡◌, ℕ, ◌^◌, ◌<◌, ◌+ℤ◌, ◌≤ℤ◌, ◌↔◌, IsTrue, length};
 ghost use Rattle.tn_base.specs.Arcs.{IsAtMost};
 ghost use Rattle.tn_base.specs.Sets.{toggle};

@@ -1,3 +1,5 @@
+//! Tests of tables whose every bundle is possible.
+
 use crate::{local_test, test_table};
 use std::alloc::Global;
 use std::process::Abort;

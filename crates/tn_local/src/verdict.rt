@@ -1,3 +1,5 @@
+//! The exchange test of a table of any size.
+
 ghost use Rattle.std.specs.Prelude.{◌≡◌, ◌↔◌};
 ghost use Rattle.tn_base.specs.Exchange.{NoneFails};
 ghost use Rattle.tn_exchange.specs.Rows.{firm_of_table, IsWithinLimits};

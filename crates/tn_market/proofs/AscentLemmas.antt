@@ -22,12 +22,15 @@ use Rattle.tn_market.specs.Widths.{most_limit, most_utility, most_worth, most_sc
 -- ---- sizes
 
 -- a scaled worth is at most 10^18 in size
-pub scaled_small : (scale worth : ℤ) → pos 1 ≤ℤ scale → scale ≤ℤ pos most_scale → IsAtMost worth most_worth → IsAtMost (scale *ℤ worth) most_limit
+pub scaled_small : (scale worth : ℤ) → pos 1 ≤ℤ scale → scale ≤ℤ pos most_scale → IsAtMost worth most_worth
+    → IsAtMost (scale *ℤ worth) most_limit
 scaled_small scale worth from_one small_scale small =
-    times_small scale worth most_scale most_worth (record { low = omega (arith, ints, from_one); high = small_scale }) small
+    times_small scale worth most_scale most_worth (record { low = omega (arith, ints, from_one); high = small_scale })
+    small
 
 -- what the code computes
-pub valued_is : (scale worth gain : ℤ) → IsAtMost (scale *ℤ worth) most_limit → IsAtMost gain (most_own * (2 * most_utility))
+pub valued_is : (scale worth gain : ℤ) → IsAtMost (scale *ℤ worth) most_limit
+    → IsAtMost gain (most_own * (2 * most_utility))
     → to_z w128 (of_z w128 (to_z w128 (of_z w128 (scale *ℤ worth)) +ℤ gain)) ≡ scale *ℤ worth +ℤ gain
 valued_is scale worth gain product small = omega (arith, ints, product.low, product.high, small.low, small.high)
 
@@ -49,23 +52,29 @@ allowed_within x allowed n own inside = within_from x n (λ k above. absent k ab
         absurd (cc (there, away))
     absent k above false e = e
 
-pub aimed_some : (allowed : ℕ) (scale : ℤ) (gains : List ℤ) (firm : Firm) (x : ℕ) (worth : ℤ) → minus x allowed ≡ 0 → firm.worth x ≡ Some worth
+pub aimed_some : (allowed : ℕ) (scale : ℤ) (gains : List ℤ) (firm : Firm) (x : ℕ) (worth : ℤ) → minus x allowed ≡ 0
+    → firm.worth x ≡ Some worth
     → (aimed allowed scale gains firm).worth x ≡ Some (scale *ℤ worth +ℤ sum_over (price_at gains) firm.count x)
 aimed_some allowed scale gains firm x worth inside is =
-    ap (λ (b : Bool). if b then option_map (λ a. scale *ℤ a +ℤ sum_over (price_at gains) firm.count x) (firm.worth x) else None) (eq-eqb _ _ inside)
+    ap (λ (b : Bool). if b then option_map (λ a. scale *ℤ a +ℤ sum_over (price_at gains) firm.count x) (firm.worth x)
+    else None) (eq-eqb _ _ inside)
     ∙ ap (option_map (λ a. scale *ℤ a +ℤ sum_over (price_at gains) firm.count x)) is
 
-pub aimed_none : (allowed : ℕ) (scale : ℤ) (gains : List ℤ) (firm : Firm) (x : ℕ) → firm.worth x ≡ None → (aimed allowed scale gains firm).worth x ≡ None
+pub aimed_none : (allowed : ℕ) (scale : ℤ) (gains : List ℤ) (firm : Firm) (x : ℕ) → firm.worth x ≡ None
+    → (aimed allowed scale gains firm).worth x ≡ None
 aimed_none allowed scale gains firm x is =
-    ap (λ (worth : Option ℤ). if minus x allowed == 0 then option_map (λ a. scale *ℤ a +ℤ sum_over (price_at gains) firm.count x) worth else None) is
+    ap (λ (worth : Option ℤ). if minus x allowed == 0
+    then option_map (λ a. scale *ℤ a +ℤ sum_over (price_at gains) firm.count x) worth else None) is
     ∙ never (minus x allowed == 0)
   where
-    never : (b : Bool) → (if b then option_map (λ a. scale *ℤ a +ℤ sum_over (price_at gains) firm.count x) None else None) ≡ None
+    never : (b : Bool) → (if b then option_map (λ a. scale *ℤ a +ℤ sum_over (price_at gains) firm.count x) None
+        else None) ≡ None
     never true = refl
     never false = refl
 
 -- the values of a firm that meets exchange meet exchange
-pub aimed_exchanges : (allowed : ℕ) (scale : ℤ) (gains : List ℤ) (firm : Firm) → pos 0 ≤ℤ scale → HasOwnBundles firm → MeetsExchange firm
+pub aimed_exchanges : (allowed : ℕ) (scale : ℤ) (gains : List ℤ) (firm : Firm) → pos 0 ≤ℤ scale → HasOwnBundles firm
+    → MeetsExchange firm
     → HasOwnBundles (aimed allowed scale gains firm) × MeetsExchange (aimed allowed scale gains firm)
 aimed_exchanges allowed scale gains firm from_zero own meets =
     let priced = meets-plus_sum firm scale (price_at gains) from_zero own meets in
@@ -74,7 +83,8 @@ aimed_exchanges allowed scale gains firm from_zero own meets =
 -- ---- the steps
 
 -- where nothing near is better, the bundle is best
-pub best_from_nearby : (firm : Firm) (x : ℕ) (value : ℤ) → HasOwnBundles firm → MeetsExchange firm → firm.worth x ≡ Some value
+pub best_from_nearby : (firm : Firm) (x : ℕ) (value : ℤ) → HasOwnBundles firm → MeetsExchange firm
+    → firm.worth x ≡ Some value
     → IsNearbyBest firm.worth x firm.count value → IsBest firm.worth x value
 best_from_nearby firm x value own meets is near = local_to_global firm own meets x value is (record {
   single = λ i other inside there. (near i inside).single other there;
@@ -102,10 +112,15 @@ not_emptied rest none differs is yes_is zero_is = λ e.
     absurd (cc (is, yes_is, ap not same))
 
 pub smaller : (z : ℤ) (small large : ℕ) → small ≤ large → IsAtMost z small → IsAtMost z large
-smaller z small large below within = record { low = omega (arith, ints, within.low, below); high = omega (arith, ints, within.high, below) }
+smaller z small large below within = record {
+  low = omega (arith, ints, within.low, below);
+  high =
+      omega (arith, ints, within.high, below);
+}
 
 -- a step of a step
-pub no_worse-trans : (value_of : ℕ → Option ℤ) (first second third : BundleValue) → IsNoWorse value_of first second → IsNoWorse value_of second third
+pub no_worse-trans : (value_of : ℕ → Option ℤ) (first second third : BundleValue) → IsNoWorse value_of first second
+    → IsNoWorse value_of second third
     → IsNoWorse value_of first third
 no_worse-trans value_of first second third one two = record {
   valued = λ h. two.valued (one.valued h);
@@ -113,24 +128,28 @@ no_worse-trans value_of first second third one two = record {
 }
 
 -- no other position tried
-pub others_none : (value_of : ℕ → Option ℤ) (x others : ℕ) (found : BundleValue) → TriesOthers value_of x others 0 found found
+pub others_none : (value_of : ℕ → Option ℤ) (x others : ℕ) (found : BundleValue)
+    → TriesOthers value_of x others 0 found found
 others_none value_of x others found = record {
   no_worse = record { valued = λ h. h; kept = omega (arith, ints) };
   tried = λ k other below. absurd (omega (arith, below));
 }
 
 -- with one more of them tried
-pub others_more : (value_of : ℕ → Option ℤ) (x others k : ℕ) (first second third : BundleValue) → TriesOthers value_of x others k first second
+pub others_more : (value_of : ℕ → Option ℤ) (x others k : ℕ) (first second third : BundleValue)
+    → TriesOthers value_of x others k first second
     → TriesOne value_of (toggle x k) second third → TriesOthers value_of x others (k + 1) first third
 others_more value_of x others k first second third before now = record {
   no_worse = no_worse-trans value_of first second third before.no_worse now.no_worse;
   tried = λ j other below wanted is. elim (cases_eq j k) [
     | inl e ↦ now.tried other (ap (λ (n : ℕ). value_of (toggle x n)) (sym e) ∙ is)
-    | inr d ↦ let h = before.tried j other (omega (arith, below, d)) wanted is in omega (arith, ints, h, now.no_worse.kept)
+    | inr d ↦ let h = before.tried j other (omega (arith, below, d)) wanted is in
+        omega (arith, ints, h, now.no_worse.kept)
   ];
 }
 
-pub others_same : (value_of : ℕ → Option ℤ) (x others k : ℕ) (first second : BundleValue) → TriesOthers value_of x others k first second
+pub others_same : (value_of : ℕ → Option ℤ) (x others k : ℕ) (first second : BundleValue)
+    → TriesOthers value_of x others k first second
     → has others k ≡ false → TriesOthers value_of x others (k + 1) first second
 others_same value_of x others k first second before absent = record {
   no_worse = before.no_worse;
@@ -141,14 +160,17 @@ others_same value_of x others k first second before absent = record {
 }
 
 -- what has a value is within the allowed positions
-pub valued_within : (allowed : ℕ) (scale : ℤ) (gains : List ℤ) (firm : Firm) (x : ℕ) (value : ℤ) → (aimed allowed scale gains firm).worth x ≡ Some value → minus x allowed ≡ 0
+pub valued_within : (allowed : ℕ) (scale : ℤ) (gains : List ℤ) (firm : Firm) (x : ℕ) (value : ℤ)
+    → (aimed allowed scale gains firm).worth x ≡ Some value → minus x allowed ≡ 0
 valued_within allowed scale gains firm x value is = by_case (minus x allowed == 0) refl is
   where
-    by_case : (b : Bool) → (minus x allowed == 0) ≡ b → (if b then (plus_sum scale (price_at gains) firm).worth x else None) ≡ Some value → minus x allowed ≡ 0
+    by_case : (b : Bool) → (minus x allowed == 0) ≡ b → (if b then (plus_sum scale (price_at gains) firm).worth x
+        else None) ≡ Some value → minus x allowed ≡ 0
     by_case true p q = eqb-true (minus x allowed) 0 p
     by_case false p q = absurd (none-some value q)
 
-no_value_outside : (allowed : ℕ) (scale : ℤ) (gains : List ℤ) (firm : Firm) (x k : ℕ) (value : ℤ) → has allowed k ≡ false → has x k ≡ true
+no_value_outside : (allowed : ℕ) (scale : ℤ) (gains : List ℤ) (firm : Firm) (x k : ℕ) (value : ℤ)
+    → has allowed k ≡ false → has x k ≡ true
     → (aimed allowed scale gains firm).worth x ≡ Some value → ⊥
 no_value_outside allowed scale gains firm x k value absent there is =
     false≢true (sym absent ∙ has_from_minus-zero x allowed k (valued_within allowed scale gains firm x value is) there)
@@ -176,11 +198,13 @@ pub earlier_within : (allowed i earlier : ℕ) → earlier ≡ set_of (has allow
 earlier_within allowed i earlier is = minus-zero_from earlier allowed (λ k there.
     (and_parts _ _ (sym (has-set_of (has allowed) i k) ∙ ap (λ (x : ℕ). has x k) (sym is) ∙ there)).1)
 
-pub earlier_more : (allowed i earlier : ℕ) → earlier ≡ set_of (has allowed) i → has allowed i ≡ true → toggle earlier i ≡ set_of (has allowed) (i + 1)
+pub earlier_more : (allowed i earlier : ℕ) → earlier ≡ set_of (has allowed) i → has allowed i ≡ true
+    → toggle earlier i ≡ set_of (has allowed) (i + 1)
 unfolding set_of
 earlier_more allowed i earlier is member = rw (add-one, member) (ap (λ (x : ℕ). toggle x i) is)
 
-pub earlier_same : (allowed i earlier : ℕ) → earlier ≡ set_of (has allowed) i → has allowed i ≡ false → earlier ≡ set_of (has allowed) (i + 1)
+pub earlier_same : (allowed i earlier : ℕ) → earlier ≡ set_of (has allowed) i → has allowed i ≡ false
+    → earlier ≡ set_of (has allowed) (i + 1)
 unfolding set_of
 earlier_same allowed i earlier is absent = rw (add-one, absent) is
 
@@ -189,9 +213,11 @@ unfolding set_of
 earlier_none allowed = refl
 
 -- with a position tried alone and with each earlier one that is allowed
-pub beside_tried : (allowed : ℕ) (scale : ℤ) (gains : List ℤ) (firm : Firm) (from i earlier n : ℕ) (first second third : BundleValue) → minus from allowed ≡ 0 → i < n
+pub beside_tried : (allowed : ℕ) (scale : ℤ) (gains : List ℤ) (firm : Firm) (from i earlier n : ℕ)
+    (first second third : BundleValue) → minus from allowed ≡ 0 → i < n
     → earlier ≡ set_of (has allowed) i → TriesOne (aimed allowed scale gains firm).worth (toggle from i) first second
-    → TriesOthers (aimed allowed scale gains firm).worth (toggle from i) earlier n second third → TriesBeside (aimed allowed scale gains firm).worth from i i first third
+    → TriesOthers (aimed allowed scale gains firm).worth (toggle from i) earlier n second third
+    → TriesBeside (aimed allowed scale gains firm).worth from i i first third
 beside_tried allowed scale gains firm from i earlier n first second third inside below is single pairs = record {
   no_worse = no_worse-trans (aimed allowed scale gains firm).worth first second third single.no_worse pairs.no_worse;
   tried = record {
@@ -200,22 +226,28 @@ beside_tried allowed scale gains firm from i earlier n first second third inside
   };
 }
   where
-    by_case : (k : ℕ) (other : ℤ) → k < i → (aimed allowed scale gains firm).worth (toggle (toggle from i) k) ≡ Some other → (b : Bool) → has allowed k ≡ b → other ≤ℤ third.value
+    by_case : (k : ℕ) (other : ℤ) → k < i → (aimed allowed scale gains firm).worth (toggle (toggle from i) k)
+        ≡ Some other → (b : Bool) → has allowed k ≡ b → other ≤ℤ third.value
     by_case k other before there true member =
-        let listed : has earlier k ≡ true = ap (λ (x : ℕ). has x k) is ∙ has-set_of (has allowed) i k ∙ ap (λ (b : Bool). b && has allowed k) (lt-ltb k i before) ∙ member in
+        let listed : has earlier k ≡ true = ap (λ (x : ℕ). has x k) is ∙ has-set_of (has allowed) i k
+        ∙ ap (λ (b : Bool). b && has allowed k) (lt-ltb k i before) ∙ member in
         pairs.tried k other (omega (arith, before, below)) listed there
     by_case k other before there false absent =
         let apart : k ≢ i = λ e. (let p = e in absurd (omega (arith, before, p))) in
-        let out : has (toggle from i) k ≡ false = has-toggle_other from i k apart ∙ not_there from allowed k inside absent in
-        absurd (no_value_outside allowed scale gains firm (toggle (toggle from i) k) k other absent (has-toggle_same (toggle from i) k ∙ ap not out) there)
+        let out : has (toggle from i) k ≡ false = has-toggle_other from i k apart
+        ∙ not_there from allowed k inside absent in
+        absurd (no_value_outside allowed scale gains firm (toggle (toggle from i) k) k other absent
+        (has-toggle_same (toggle from i) k ∙ ap not out) there)
 
 -- a position that isn't allowed needs no trying
-pub beside_outside : (allowed : ℕ) (scale : ℤ) (gains : List ℤ) (firm : Firm) (from i : ℕ) (found : BundleValue) → minus from allowed ≡ 0 → has allowed i ≡ false
+pub beside_outside : (allowed : ℕ) (scale : ℤ) (gains : List ℤ) (firm : Firm) (from i : ℕ) (found : BundleValue)
+    → minus from allowed ≡ 0 → has allowed i ≡ false
     → TriesBeside (aimed allowed scale gains firm).worth from i i found found
 beside_outside allowed scale gains firm from i found inside absent = record {
   no_worse = record { valued = λ h. h; kept = omega (arith, ints) };
   tried = record {
-    single = λ other there. absurd (no_value_outside allowed scale gains firm (toggle from i) i other absent (moved_in from allowed i inside absent) there);
+    single = λ other there. absurd (no_value_outside allowed scale gains firm (toggle from i) i other absent
+        (moved_in from allowed i inside absent) there);
     pair = λ k other before there.
         let apart : i ≢ k = λ e. (let p = e in absurd (omega (arith, before, p))) in
         absurd (no_value_outside allowed scale gains firm (toggle (toggle from i) k) i other absent
@@ -224,7 +256,8 @@ beside_outside allowed scale gains firm from i found inside absent = record {
 }
 
 -- with one more position tried
-pub position_tried : (value_of : ℕ → Option ℤ) (from i : ℕ) (first second third : BundleValue) → TriesNearby value_of from i first second
+pub position_tried : (value_of : ℕ → Option ℤ) (from i : ℕ) (first second third : BundleValue)
+    → TriesNearby value_of from i first second
     → TriesBeside value_of from i i second third → TriesNearby value_of from (i + 1) first third
 position_tried value_of from i first second third before now = record {
   no_worse = no_worse-trans value_of first second third before.no_worse now.no_worse;
@@ -247,7 +280,8 @@ none_tried value_of from found = record {
 }
 
 -- some value is there where the firm may have the empty bundle
-pub starts : (allowed : ℕ) (scale : ℤ) (gains : List ℤ) (firm : Firm) (bundle : ℕ) (value : Option ℤ) → MayAbstain firm → bundle ≡ 0
+pub starts : (allowed : ℕ) (scale : ℤ) (gains : List ℤ) (firm : Firm) (bundle : ℕ) (value : Option ℤ) → MayAbstain firm
+    → bundle ≡ 0
     → value ≡ (aimed allowed scale gains firm).worth bundle → IsSome value
 starts allowed scale gains firm bundle value abstains empty is =
     let inside : minus bundle allowed ≡ 0 = minus-zero_from bundle allowed (λ k there. absurd (none k there)) in
@@ -261,7 +295,8 @@ pub le_from_test : (a b : ℤ) → le_z a b ≡ true → a ≤ℤ b
 le_from_test a b test = grind (arith, ints)
 
 -- no step from a best bundle gains, so it isn't left
-pub stays : (value_of : ℕ → Option ℤ) (from : ℕ) (found next : BundleValue) → IsValued value_of found → IsNoWorse value_of found next → found.value <ℤ next.value
+pub stays : (value_of : ℕ → Option ℤ) (from : ℕ) (found next : BundleValue) → IsValued value_of found
+    → IsNoWorse value_of found next → found.value <ℤ next.value
     → StaysAt value_of from found.bundle → StaysAt value_of from next.bundle
 stays value_of from found next valued step gains kept value best =
     let same = same_Some found.value value (sym valued ∙ ap value_of (kept value best) ∙ best.is) in
@@ -276,8 +311,10 @@ pub lt_from_test : (a b : ℤ) → le_z a b ≡ false → b <ℤ a
 lt_from_test a b test = grind (arith, ints)
 
 -- where a step gains nothing, the bundle is best
-pub settled : (firm : Firm) (found next : BundleValue) → HasOwnBundles firm × MeetsExchange firm → IsValued firm.worth found
-    → TriesNearby firm.worth found.bundle firm.count found next → next.value ≤ℤ found.value → IsBest firm.worth found.bundle found.value
+pub settled : (firm : Firm) (found next : BundleValue) → HasOwnBundles firm × MeetsExchange firm
+    → IsValued firm.worth found
+    → TriesNearby firm.worth found.bundle firm.count found next → next.value ≤ℤ found.value
+    → IsBest firm.worth found.bundle found.value
 settled firm found next laws valued tries no_gain =
     best_from_nearby firm found.bundle found.value laws.0 laws.1 valued (λ i below.
     let near = tries.tried i below in

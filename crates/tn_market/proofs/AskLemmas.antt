@@ -24,7 +24,8 @@ no_member : (e k : ℕ) → e ≡ 0 → has e k ≡ false
 no_member e k none = ap (λ (x : ℕ). has x k) none ∙ has-zero k
 
 pub none_meet : (e x : ℕ) → e ≡ 0 → meet e x ≡ 0
-none_meet e x none = same_set _ _ (λ k. has-meet e x k ∙ ap (λ (b : Bool). b && has x k) (no_member e k none) ∙ sym (has-zero k))
+none_meet e x none =
+    same_set _ _ (λ k. has-meet e x k ∙ ap (λ (b : Bool). b && has x k) (no_member e k none) ∙ sym (has-zero k))
 
 -- ---- all bundles
 
@@ -44,14 +45,17 @@ own_between all n y all_is below = (
 )
 
 -- a possible bundle has own positions alone
-possible_between : (firm : Firm) (scale : ℤ) (prices : ℕ → ℤ) (all x : ℕ) (value : ℤ) → HasOwnBundles firm → all ≡ set_of (λ k. true) firm.count
+possible_between : (firm : Firm) (scale : ℤ) (prices : ℕ → ℤ) (all x : ℕ) (value : ℤ) → HasOwnBundles firm
+    → all ≡ set_of (λ k. true) firm.count
     → utility scale prices firm x ≡ Some value → IsBetween 0 all x
 possible_between firm scale prices all x value own all_is is =
-    let worth = option_map-some (λ a. scale *ℤ a +ℤ sum_over (payments firm.buys prices) firm.count x) (firm.worth x) value is in
+    let worth = option_map-some (λ a. scale *ℤ a +ℤ sum_over (payments firm.buys prices) firm.count x) (firm.worth x)
+    value is in
     own_between all firm.count x all_is (own x worth.0 worth.1)
 
 -- a bundle of greatest utility among all of own positions is best
-pub greatest_is_best : (firm : Firm) (scale : ℤ) (prices : ℕ → ℤ) (all x : ℕ) (value : ℤ) → HasOwnBundles firm → all ≡ set_of (λ k. true) firm.count
+pub greatest_is_best : (firm : Firm) (scale : ℤ) (prices : ℕ → ℤ) (all x : ℕ) (value : ℤ) → HasOwnBundles firm
+    → all ≡ set_of (λ k. true) firm.count
     → IsBestBetween 0 all (utility scale prices firm) x value → IsBest (utility scale prices firm) x value
 greatest_is_best firm scale prices all x value own all_is best = record {
   is = best.is;
@@ -59,7 +63,8 @@ greatest_is_best firm scale prices all x value own all_is best = record {
 }
 
 -- and the other way round
-pub best_is_greatest : (firm : Firm) (scale : ℤ) (prices : ℕ → ℤ) (all x : ℕ) (value : ℤ) → HasOwnBundles firm → all ≡ set_of (λ k. true) firm.count
+pub best_is_greatest : (firm : Firm) (scale : ℤ) (prices : ℕ → ℤ) (all x : ℕ) (value : ℤ) → HasOwnBundles firm
+    → all ≡ set_of (λ k. true) firm.count
     → IsBest (utility scale prices firm) x value → IsBestBetween 0 all (utility scale prices firm) x value
 best_is_greatest firm scale prices all x value own all_is best = record {
   is = best.is;
@@ -69,7 +74,8 @@ best_is_greatest firm scale prices all x value own all_is best = record {
 
 -- ---- sizes
 
-pub payment_small : (buys : ℕ) (prices : ℕ → ℤ) (k limit : ℕ) → IsAtMost (prices k) limit → IsAtMost (payments buys prices k) limit
+pub payment_small : (buys : ℕ) (prices : ℕ → ℤ) (k limit : ℕ) → IsAtMost (prices k) limit
+    → IsAtMost (payments buys prices k) limit
 payment_small buys prices k limit small = by_side (has buys k)
   where
     by_side : (b : Bool) → IsAtMost (if b then neg_ℤ (prices k) else prices k) limit
@@ -87,18 +93,24 @@ pub record IsAsked (firm : Firm) (limit : ℕ) (scale : ℤ) (prices : List ℤ)
   pub small_scale : scale ≤ℤ pos most_scale
 
 -- a utility is at most 10^22 in size
-pub utility_small : (firm : Firm) (limit : ℕ) (scale : ℤ) (prices : List ℤ) (x : ℕ) (value : ℤ) → IsAsked firm limit scale prices
+pub utility_small : (firm : Firm) (limit : ℕ) (scale : ℤ) (prices : List ℤ) (x : ℕ) (value : ℤ)
+    → IsAsked firm limit scale prices
     → utility scale (price_at prices) firm x ≡ Some value → IsAtMost value most_utility
 utility_small firm limit scale prices x value asked is =
     let few = asked.few in
     let priced = asked.priced in
-    let worth = option_map-some (λ a. scale *ℤ a +ℤ sum_over (payments firm.buys (price_at prices)) firm.count x) (firm.worth x) value is in
-    let product = scaled_small scale worth.0 asked.from_one asked.small_scale (smaller worth.0 limit most_worth asked.small_limit (asked.within x worth.0 worth.1)) in
+    let worth = option_map-some (λ a. scale *ℤ a +ℤ sum_over (payments firm.buys (price_at prices)) firm.count x)
+    (firm.worth x) value is in
+    let product =
+    scaled_small scale worth.0 asked.from_one asked.small_scale
+    (smaller worth.0 limit most_worth asked.small_limit (asked.within x worth.0 worth.1)) in
     let sum = sum_over_small (payments firm.buys (price_at prices)) firm.count x most_asked_price (λ k below.
-    payment_small firm.buys (price_at prices) k most_asked_price (All-get_or (λ p. IsAtMost p most_asked_price) prices k (pos 0) (omega (arith, priced, below)) asked.small)) in
+    payment_small firm.buys (price_at prices) k most_asked_price
+    (All-get_or (λ p. IsAtMost p most_asked_price) prices k (pos 0) (omega (arith, priced, below)) asked.small)) in
     both few _ _ _ worth.2 product sum
   where
-    both : firm.count ≤ most_own → (a b c : ℤ) → a +ℤ b ≡ c → IsAtMost a most_limit → IsAtMost b (firm.count * most_asked_price) → IsAtMost c most_utility
+    both : firm.count ≤ most_own → (a b c : ℤ) → a +ℤ b ≡ c → IsAtMost a most_limit
+        → IsAtMost b (firm.count * most_asked_price) → IsAtMost c most_utility
     both few a b c sum small_a small_b = record {
       low = omega (arith, ints, sum, small_a.low, small_b.low, few);
       high = omega (arith, ints, sum, small_a.high, small_b.high, few);

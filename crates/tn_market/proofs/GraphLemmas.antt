@@ -36,24 +36,29 @@ pub record IsEnd (firms : List Firm) (trades : List Ends) (t f k : ℕ) (bought 
   pub side : has firm.buys k ≡ bought
 
 -- the trade that stands at a position of a firm is the one that the firm has there
-owns_it : (firms : List Firm) (trades : List Ends) → IsNetwork firms trades → (f k t : ℕ) (firm : Firm) (trade : Ends) → slice_get firms f ≡ Some firm
+owns_it : (firms : List Firm) (trades : List Ends) → IsNetwork firms trades → (f k t : ℕ) (firm : Firm) (trade : Ends)
+    → slice_get firms f ≡ Some firm
     → k < firm.count → slice_get trades t ≡ Some trade → stands_at trade f k ≡ true → own trades f k ≡ t
 owns_it firms trades network f k t firm trade is inside there stands =
     let found = own_stands trades f k (network.whole f k firm is inside) in
     network.once f k (own trades f k) t found.trade trade found.is there found.stands stands
 
-stands_both : (trade : Ends) (f k : ℕ) → (trade.seller ≡ f) × (trade.at_seller ≡ k) ⊎ (trade.buyer ≡ f) × (trade.at_buyer ≡ k) → stands_at trade f k ≡ true
+stands_both : (trade : Ends) (f k : ℕ) → (trade.seller ≡ f) × (trade.at_seller ≡ k) ⊎ (trade.buyer ≡ f)
+    × (trade.at_buyer ≡ k) → stands_at trade f k ≡ true
 stands_both trade f k (inl p) =
-    ap₂ (λ (a b : Bool). (a && b) || (trade.buyer == f && trade.at_buyer == k)) (eq-eqb trade.seller f p.0) (eq-eqb trade.at_seller k p.1)
+    ap₂ (λ (a b : Bool). (a && b) || (trade.buyer == f && trade.at_buyer == k)) (eq-eqb trade.seller f p.0)
+    (eq-eqb trade.at_seller k p.1)
 stands_both trade f k (inr p) =
-    ap₂ (λ (a b : Bool). (trade.seller == f && trade.at_seller == k) || (a && b)) (eq-eqb trade.buyer f p.0) (eq-eqb trade.at_buyer k p.1)
+    ap₂ (λ (a b : Bool). (trade.seller == f && trade.at_seller == k) || (a && b)) (eq-eqb trade.buyer f p.0)
+    (eq-eqb trade.at_buyer k p.1)
     ∙ either (trade.seller == f && trade.at_seller == k)
   where
     either : (b : Bool) → (b || true) ≡ true
     either true = refl
     either false = refl
 
-pub seller_end : (firms : List Firm) (trades : List Ends) → IsNetwork firms trades → (t : ℕ) (trade : Ends) → slice_get trades t ≡ Some trade
+pub seller_end : (firms : List Firm) (trades : List Ends) → IsNetwork firms trades → (t : ℕ) (trade : Ends)
+    → slice_get trades t ≡ Some trade
     → IsEnd firms trades t trade.seller trade.at_seller false
 seller_end firms trades network t trade there =
     let sold = network.sold t trade there in
@@ -61,11 +66,13 @@ seller_end firms trades network t trade there =
       firm = sold.0;
       is = sold.1;
       inside = sold.2;
-      owns = owns_it firms trades network trade.seller trade.at_seller t sold.0 trade sold.1 sold.2 there (stands_both trade trade.seller trade.at_seller (inl (refl, refl)));
+      owns = owns_it firms trades network trade.seller trade.at_seller t sold.0 trade sold.1 sold.2 there
+          (stands_both trade trade.seller trade.at_seller (inl (refl, refl)));
       side = sold.3;
     }
 
-pub buyer_end : (firms : List Firm) (trades : List Ends) → IsNetwork firms trades → (t : ℕ) (trade : Ends) → slice_get trades t ≡ Some trade
+pub buyer_end : (firms : List Firm) (trades : List Ends) → IsNetwork firms trades → (t : ℕ) (trade : Ends)
+    → slice_get trades t ≡ Some trade
     → IsEnd firms trades t trade.buyer trade.at_buyer true
 buyer_end firms trades network t trade there =
     let bought = network.bought t trade there in
@@ -73,12 +80,14 @@ buyer_end firms trades network t trade there =
       firm = bought.0;
       is = bought.1;
       inside = bought.2;
-      owns = owns_it firms trades network trade.buyer trade.at_buyer t bought.0 trade bought.1 bought.2 there (stands_both trade trade.buyer trade.at_buyer (inr (refl, refl)));
+      owns = owns_it firms trades network trade.buyer trade.at_buyer t bought.0 trade bought.1 bought.2 there
+          (stands_both trade trade.buyer trade.at_buyer (inr (refl, refl)));
       side = bought.3;
     }
 
 -- the end that a trade raises while it is on, or off
-pub raised_end : (firms : List Firm) (trades : List Ends) → IsNetwork firms trades → (t : ℕ) (trade : Ends) → slice_get trades t ≡ Some trade → (is_on : Bool)
+pub raised_end : (firms : List Firm) (trades : List Ends) → IsNetwork firms trades → (t : ℕ) (trade : Ends)
+    → slice_get trades t ≡ Some trade → (is_on : Bool)
     → IsEnd firms trades t (raised trade is_on).0 (raised trade is_on).1 (not is_on)
 raised_end firms trades network t trade there true = seller_end firms trades network t trade there
 raised_end firms trades network t trade there false = buyer_end firms trades network t trade there
@@ -87,7 +96,8 @@ raised_end firms trades network t trade there false = buyer_end firms trades net
 abbrev level_by : Bool → Bool → ℕ
 level_by bought is_on = if bought then (if is_on then 1 else 0) else (if is_on then 0 else 1)
 
-pub end_level : (firms : List Firm) (trades : List Ends) (on t f k : ℕ) (bought : Bool) (end : IsEnd firms trades t f k bought)
+pub end_level : (firms : List Firm) (trades : List Ends) (on t f k : ℕ) (bought : Bool)
+    (end : IsEnd firms trades t f k bought)
     → trade_level end.firm.buys (part trades f end.firm.count on) k ≡ level_by bought (has on t)
 unfolding trade_level
 end_level firms trades on t f k bought end =
@@ -95,12 +105,15 @@ end_level firms trades on t f k bought end =
     (has-part trades f end.firm.count on k end.inside ∙ ap (has on) end.owns)
 
 -- two firms with one number are one
-pub same_firm : (firms : List Firm) (f : ℕ) (one other : Firm) → slice_get firms f ≡ Some one → slice_get firms f ≡ Some other → one ≡ other
+pub same_firm : (firms : List Firm) (f : ℕ) (one other : Firm) → slice_get firms f ≡ Some one
+    → slice_get firms f ≡ Some other → one ≡ other
 same_firm firms f one other one_is other_is = same_Some one other (sym one_is ∙ other_is)
 
 -- where a trade stands at a position of a firm, the firm is at one of its ends
-which_end : (firms : List Firm) (trades : List Ends) → IsNetwork firms trades → (t f k : ℕ) (firm : Firm) (trade : Ends) → slice_get trades t ≡ Some trade
-    → slice_get firms f ≡ Some firm → stands_at trade f k ≡ true → (is_on : Bool) → has firm.buys k ≡ not is_on → raised trade is_on ≡ (f, k)
+which_end : (firms : List Firm) (trades : List Ends) → IsNetwork firms trades → (t f k : ℕ) (firm : Firm) (trade : Ends)
+    → slice_get trades t ≡ Some trade
+    → slice_get firms f ≡ Some firm → stands_at trade f k ≡ true → (is_on : Bool) → has firm.buys k ≡ not is_on
+    → raised trade is_on ≡ (f, k)
 which_end firms trades network t f k firm trade there is stands is_on side =
     elim (or_cases (trade.seller == f && trade.at_seller == k) (trade.buyer == f && trade.at_buyer == k) stands) [
       | inl h ↦
@@ -121,21 +134,27 @@ which_end firms trades network t f k firm trade there is stands is_on side =
 
     sells : (b : Bool) → trade.seller ≡ f → trade.at_seller ≡ k → has firm.buys k ≡ not b → raised trade b ≡ (f, k)
     sells true p q s = pair trade.seller trade.at_seller p q
-    sells false p q s = let other = side_of trade.seller trade.at_seller false p q (seller_end firms trades network t trade there) in absurd (cc (s, other))
+    sells false p q s = let other =
+        side_of trade.seller trade.at_seller false p q (seller_end firms trades network t trade there) in
+        absurd (cc (s, other))
 
     buys : (b : Bool) → trade.buyer ≡ f → trade.at_buyer ≡ k → has firm.buys k ≡ not b → raised trade b ≡ (f, k)
     buys false p q s = pair trade.buyer trade.at_buyer p q
-    buys true p q s = let other = side_of trade.buyer trade.at_buyer true p q (buyer_end firms trades network t trade there) in absurd (cc (s, other))
+    buys true p q s = let other =
+        side_of trade.buyer trade.at_buyer true p q (buyer_end firms trades network t trade there) in
+        absurd (cc (s, other))
 
 -- the trade at a position of level 0 raises the position
-pub raised_own : (firms : List Firm) (trades : List Ends) → IsNetwork firms trades → (on f k : ℕ) (firm : Firm) → slice_get firms f ≡ Some firm → k < firm.count
+pub raised_own : (firms : List Firm) (trades : List Ends) → IsNetwork firms trades → (on f k : ℕ) (firm : Firm)
+    → slice_get firms f ≡ Some firm → k < firm.count
     → trade_level firm.buys (part trades f firm.count on) k ≡ 0 → raised_by trades on (own trades f k) ≡ Some (f, k)
 unfolding trade_level
 raised_own firms trades network on f k firm is inside low =
     let found = own_stands trades f k (network.whole f k firm is inside) in
     let member = has-part trades f firm.count on k inside in
     ap (option_map (λ trade. raised trade (has on (own trades f k)))) found.is
-    ∙ ap (λ (p : ℕ × ℕ). Some p) (which_end firms trades network (own trades f k) f k firm found.trade found.is is found.stands (has on (own trades f k))
+    ∙ ap (λ (p : ℕ × ℕ). Some p) (which_end firms trades network (own trades f k) f k firm found.trade found.is is
+    found.stands (has on (own trades f k))
     (by_case (has firm.buys k) (has (part trades f firm.count on) k) low ∙ ap not member))
   where
     by_case : (b h : Bool) → ◌≡◌ {A = ℕ} (if b then (if h then 1 else 0) else (if h then 0 else 1)) 0 → b ≡ not h
@@ -145,14 +164,16 @@ raised_own firms trades network on f k firm is inside low =
     by_case false false e = absurd (omega (arith, e))
 
 -- the trade at a position of level 1 lowers it
-pub lowered_own : (firms : List Firm) (trades : List Ends) → IsNetwork firms trades → (on f k : ℕ) (firm : Firm) → slice_get firms f ≡ Some firm → k < firm.count
+pub lowered_own : (firms : List Firm) (trades : List Ends) → IsNetwork firms trades → (on f k : ℕ) (firm : Firm)
+    → slice_get firms f ≡ Some firm → k < firm.count
     → trade_level firm.buys (part trades f firm.count on) k ≡ 1 → lowered_by trades on (own trades f k) ≡ Some (f, k)
 unfolding trade_level
 lowered_own firms trades network on f k firm is inside high =
     let found = own_stands trades f k (network.whole f k firm is inside) in
     let member = has-part trades f firm.count on k inside in
     ap (option_map (λ trade. lowered trade (has on (own trades f k)))) found.is
-    ∙ ap (λ (p : ℕ × ℕ). Some p) (which_end firms trades network (own trades f k) f k firm found.trade found.is is found.stands (not (has on (own trades f k)))
+    ∙ ap (λ (p : ℕ × ℕ). Some p) (which_end firms trades network (own trades f k) f k firm found.trade found.is is
+    found.stands (not (has on (own trades f k)))
     (by_case (has firm.buys k) (has (part trades f firm.count on) k) high ∙ ap (λ (b : Bool). not (not b)) member))
   where
     by_case : (b h : Bool) → ◌≡◌ {A = ℕ} (if b then (if h then 1 else 0) else (if h then 0 else 1)) 1 → b ≡ not (not h)
@@ -164,43 +185,57 @@ lowered_own firms trades network on f k firm is inside high =
 -- ---- moves are arcs
 
 -- what a firm loses by a change of its bundle
-loss_here : (firms : List Firm) (trades : List Ends) (on f : ℕ) (firm : Firm) (changed : ℕ → ℕ) → slice_get firms f ≡ Some firm
-    → loss_at firms trades on f changed ≡ loss firm (part trades f firm.count on) (changed (part trades f firm.count on))
+loss_here : (firms : List Firm) (trades : List Ends) (on f : ℕ) (firm : Firm) (changed : ℕ → ℕ)
+    → slice_get firms f ≡ Some firm
+    → loss_at firms trades on f changed ≡ loss firm (part trades f firm.count on)
+    (changed (part trades f firm.count on))
 loss_here firms trades on f firm changed is =
     ap (option_and_then (λ x. loss x (part trades f x.count on) (changed (part trades f x.count on)))) is
 
 -- nothing stands past the last trade
 null_raises : (trades : List Ends) (on : ℕ) → raised_by trades on (length trades) ≡ None
-null_raises trades on = ap (option_map (λ trade. raised trade (has on (length trades)))) (slice_get_past trades (length trades) (omega arith))
+null_raises trades on =
+    ap (option_map (λ trade. raised trade (has on (length trades))))
+    (slice_get_past trades (length trades) (omega arith))
 
 null_lowers : (trades : List Ends) (on : ℕ) → lowered_by trades on (length trades) ≡ None
-null_lowers trades on = ap (option_map (λ trade. lowered trade (has on (length trades)))) (slice_get_past trades (length trades) (omega arith))
+null_lowers trades on =
+    ap (option_map (λ trade. lowered trade (has on (length trades))))
+    (slice_get_past trades (length trades) (omega arith))
 
 -- an arc between two nodes, by what they raise and lower
-arc_is : (firms : List Firm) (trades : List Ends) (on u v : ℕ) (up down : Option (ℕ × ℕ)) → u ≤ length trades → v ≤ length trades
-    → raised_by trades on u ≡ up → lowered_by trades on v ≡ down → exchange_arc firms trades on u v ≡ arc_between firms trades on up down
+arc_is : (firms : List Firm) (trades : List Ends) (on u v : ℕ) (up down : Option (ℕ × ℕ)) → u ≤ length trades
+    → v ≤ length trades
+    → raised_by trades on u ≡ up → lowered_by trades on v ≡ down
+    → exchange_arc firms trades on u v ≡ arc_between firms trades on up down
 unfolding exchange_arc
 arc_is firms trades on u v up down u_inside v_inside raises lowers =
-    ap₂ (λ (a b : Bool). if a && b then arc_between firms trades on (raised_by trades on u) (lowered_by trades on v) else None)
+    ap₂ (λ (a b : Bool). if a && b then arc_between firms trades on (raised_by trades on u) (lowered_by trades on v)
+    else None)
     (le-leb u (length trades) u_inside) (le-leb v (length trades) v_inside)
     ∙ ap₂ (arc_between firms trades on) raises lowers
 
 -- a move of a firm is an arc, and costs what the firm loses by it
-pub arc_at : (firms : List Firm) (trades : List Ends) → IsNetwork firms trades → (on f : ℕ) (firm : Firm) → slice_get firms f ≡ Some firm → (i j : ℕ)
+pub arc_at : (firms : List Firm) (trades : List Ends) → IsNetwork firms trades → (on f : ℕ) (firm : Firm)
+    → slice_get firms f ≡ Some firm → (i j : ℕ)
     → AreArcPlaces firm (part trades f firm.count on) i j
     → exchange_arc firms trades on (node_at trades f firm.count i) (node_at trades f firm.count j)
     ≡ loss firm (part trades f firm.count on) (move firm.count (part trades f firm.count on) i j)
 arc_at firms trades network on f firm is i j places = elim (cases_lt i firm.count) [
   | inl p ↦ elim (cases_lt j firm.count) [
     | inl q ↦
-        ap₂ (exchange_arc firms trades on) (node_at-trade trades f firm.count i p) (node_at-trade trades f firm.count j q)
-        ∙ arc_is firms trades on _ _ _ _ (inside i p) (inside j q) (raise i p (places.rises p)) (lower j q (places.falls q))
-        ∙ ap (λ (b : Bool). if b then loss_at firms trades on f (λ y. toggle (toggle y i) j) else None) (eq-eqb f f refl)
+        ap₂ (exchange_arc firms trades on) (node_at-trade trades f firm.count i p)
+        (node_at-trade trades f firm.count j q)
+        ∙ arc_is firms trades on _ _ _ _ (inside i p) (inside j q) (raise i p (places.rises p))
+        (lower j q (places.falls q))
+        ∙ ap (λ (b : Bool). if b then loss_at firms trades on f (λ y. toggle (toggle y i) j)
+        else None) (eq-eqb f f refl)
         ∙ loss_here firms trades on f firm (λ y. toggle (toggle y i) j) is
         ∙ ap (loss firm x) (sym (move-both firm.count x i j p q))
     | inr q ↦
         let e : j ≡ firm.count = (let w = places.to_within in omega (arith, q, w)) in
-        ap₂ (exchange_arc firms trades on) (node_at-trade trades f firm.count i p) (node_at-null trades f firm.count j q)
+        ap₂ (exchange_arc firms trades on) (node_at-trade trades f firm.count i p)
+        (node_at-null trades f firm.count j q)
         ∙ arc_is firms trades on _ _ _ _ (inside i p) (omega arith) (raise i p (places.rises p)) (null_lowers trades on)
         ∙ loss_here firms trades on f firm (λ y. toggle y i) is
         ∙ ap (loss firm x) (sym (move-to_null firm.count x i p) ∙ ap (move firm.count x i) (sym e))
@@ -220,11 +255,15 @@ arc_at firms trades network on f firm is i j places = elim (cases_lt i firm.coun
     inside : (k : ℕ) → k < firm.count → own trades f k ≤ length trades
     inside k p = let w = network.whole f k firm is p in omega (arith, w)
 
-    raise : (k : ℕ) → k < firm.count → level firm.count firm.buys x k ≡ 0 → raised_by trades on (own trades f k) ≡ Some (f, k)
-    raise k p low = raised_own firms trades network on f k firm is p (sym (level-trade firm.count firm.buys x k p) ∙ low)
+    raise : (k : ℕ) → k < firm.count → level firm.count firm.buys x k ≡ 0
+        → raised_by trades on (own trades f k) ≡ Some (f, k)
+    raise k p low =
+        raised_own firms trades network on f k firm is p (sym (level-trade firm.count firm.buys x k p) ∙ low)
 
-    lower : (k : ℕ) → k < firm.count → level firm.count firm.buys x k ≡ 1 → lowered_by trades on (own trades f k) ≡ Some (f, k)
-    lower k p high = lowered_own firms trades network on f k firm is p (sym (level-trade firm.count firm.buys x k p) ∙ high)
+    lower : (k : ℕ) → k < firm.count → level firm.count firm.buys x k ≡ 1
+        → lowered_by trades on (own trades f k) ≡ Some (f, k)
+    lower k p high =
+        lowered_own firms trades network on f k firm is p (sym (level-trade firm.count firm.buys x k p) ∙ high)
 
 -- ---- arcs are moves
 
@@ -246,7 +285,8 @@ record IsAtNode (firms : List Firm) (trades : List Ends) (on wanted t f k : ℕ)
   owns : own trades f k ≡ t
   level_is : level firm.count firm.buys (part trades f firm.count on) k ≡ wanted
 
-at_raised : (firms : List Firm) (trades : List Ends) → IsNetwork firms trades → (on t : ℕ) (trade : Ends) → slice_get trades t ≡ Some trade
+at_raised : (firms : List Firm) (trades : List Ends) → IsNetwork firms trades → (on t : ℕ) (trade : Ends)
+    → slice_get trades t ≡ Some trade
     → IsAtNode firms trades on 0 t (raised trade (has on t)).0 (raised trade (has on t)).1
 at_raised firms trades network on t trade there =
     let end = raised_end firms trades network t trade there (has on t) in
@@ -255,14 +295,16 @@ at_raised firms trades network on t trade there =
       is = end.is;
       inside = end.inside;
       owns = end.owns;
-      level_is = level-trade end.firm.count end.firm.buys _ _ end.inside ∙ end_level firms trades on t _ _ _ end ∙ by_case (has on t);
+      level_is = level-trade end.firm.count end.firm.buys _ _ end.inside ∙ end_level firms trades on t _ _ _ end
+          ∙ by_case (has on t);
     }
   where
     by_case : (h : Bool) → level_by (not h) h ≡ 0
     by_case true = refl
     by_case false = refl
 
-at_lowered : (firms : List Firm) (trades : List Ends) → IsNetwork firms trades → (on t : ℕ) (trade : Ends) → slice_get trades t ≡ Some trade
+at_lowered : (firms : List Firm) (trades : List Ends) → IsNetwork firms trades → (on t : ℕ) (trade : Ends)
+    → slice_get trades t ≡ Some trade
     → IsAtNode firms trades on 1 t (lowered trade (has on t)).0 (lowered trade (has on t)).1
 at_lowered firms trades network on t trade there =
     let end = raised_end firms trades network t trade there (not (has on t)) in
@@ -271,7 +313,8 @@ at_lowered firms trades network on t trade there =
       is = end.is;
       inside = end.inside;
       owns = end.owns;
-      level_is = level-trade end.firm.count end.firm.buys _ _ end.inside ∙ end_level firms trades on t _ _ _ end ∙ by_case (has on t);
+      level_is = level-trade end.firm.count end.firm.buys _ _ end.inside ∙ end_level firms trades on t _ _ _ end
+          ∙ by_case (has on t);
     }
   where
     by_case : (h : Bool) → level_by (not (not h)) h ≡ 1
@@ -279,7 +322,8 @@ at_lowered firms trades network on t trade there =
     by_case false = refl
 
 -- an arc between two trades is a move of the firm of both
-both_trades : (firms : List Firm) (trades : List Ends) (on u v f i j : ℕ) → IsAtNode firms trades on 0 u f i → IsAtNode firms trades on 1 v f j
+both_trades : (firms : List Firm) (trades : List Ends) (on u v f i j : ℕ) → IsAtNode firms trades on 0 u f i
+    → IsAtNode firms trades on 1 v f j
     → IsMoveOf firms trades on u v f
 both_trades firms trades on u v f i j up down =
     let one = same_firm firms f down.firm up.firm down.is up.is in
@@ -297,7 +341,8 @@ both_trades firms trades on u v f i j up down =
         from_within = omega (arith, i_inside);
         to_within = omega (arith, j_inside);
         apart = λ e. let other : level up.firm.count up.firm.buys (part trades f up.firm.count on) j ≡ 0 =
-            subst (λ (k : ℕ). level up.firm.count up.firm.buys (part trades f up.firm.count on) k ≡ 0) e low in omega (arith, high, other);
+            subst (λ (k : ℕ). level up.firm.count up.firm.buys (part trades f up.firm.count on) k ≡ 0) e low in
+            omega (arith, high, other);
         rises = λ p. low;
         falls = λ p. high;
       };
@@ -306,7 +351,8 @@ both_trades firms trades on u v f i j up down =
     }
 
 -- an arc to null is one of the firm that its begin raises
-to_null : (firms : List Firm) (trades : List Ends) (on u v f i : ℕ) → IsAtNode firms trades on 0 u f i → length trades ≡ v → IsMoveOf firms trades on u v f
+to_null : (firms : List Firm) (trades : List Ends) (on u v f i : ℕ) → IsAtNode firms trades on 0 u f i
+    → length trades ≡ v → IsMoveOf firms trades on u v f
 to_null firms trades on u v f i up null =
     let i_inside = up.inside in
     let low = up.level_is in
@@ -327,7 +373,8 @@ to_null firms trades on u v f i up null =
     }
 
 -- and one from null of the firm that its end lowers
-from_null : (firms : List Firm) (trades : List Ends) (on u v f j : ℕ) → IsAtNode firms trades on 1 v f j → length trades ≡ u → IsMoveOf firms trades on u v f
+from_null : (firms : List Firm) (trades : List Ends) (on u v f j : ℕ) → IsAtNode firms trades on 1 v f j
+    → length trades ≡ u → IsMoveOf firms trades on u v f
 from_null firms trades on u v f j down null =
     let j_inside = down.inside in
     let high = down.level_is in
@@ -373,7 +420,8 @@ firm_of_arc trades on u v f is = elim (nodes_or_not trades u v) [
     at b = if b then common_firm (raised_by trades on u) (lowered_by trades on v) else None
 
 -- so it is a move of that firm
-pub move_of_arc : (firms : List Firm) (trades : List Ends) → IsNetwork firms trades → (on u v f : ℕ) → arc_firm trades on u v ≡ Some f
+pub move_of_arc : (firms : List Firm) (trades : List Ends) → IsNetwork firms trades → (on u v f : ℕ)
+    → arc_firm trades on u v ≡ Some f
     → IsMoveOf firms trades on u v f
 move_of_arc firms trades network on u v f is =
     let at = firm_of_arc trades on u v f is in
@@ -381,28 +429,36 @@ move_of_arc firms trades network on u v f is =
     let v_inside = at.end in
     elim (slice_get_cases trades u).1 [
       | inl p ↦ elim (slice_get_cases trades v).1 [
-        | inl q ↦ trades_of (raised p.0 (has on u)) (lowered q.0 (has on v)) (sym (ap₂ common_firm (raises u p.0 p.2) (lowers v q.0 q.2)) ∙ at.common)
+        | inl q ↦ trades_of (raised p.0 (has on u)) (lowered q.0 (has on v))
+            (sym (ap₂ common_firm (raises u p.0 p.2) (lowers v q.0 q.2)) ∙ at.common)
             (at_raised firms trades network on u p.0 p.2) (at_lowered firms trades network on v q.0 q.2)
         | inr q ↦
-            let here : (raised p.0 (has on u)).0 ≡ f = same_Some _ _ (sym (ap₂ common_firm (raises u p.0 p.2) (no_lower v q.1)) ∙ at.common) in
+            let here : (raised p.0 (has on u)).0 ≡ f =
+            same_Some _ _ (sym (ap₂ common_firm (raises u p.0 p.2) (no_lower v q.1)) ∙ at.common) in
             to_null firms trades on u v f (raised p.0 (has on u)).1
-            (subst (λ (g : ℕ). IsAtNode firms trades on 0 u g (raised p.0 (has on u)).1) here (at_raised firms trades network on u p.0 p.2))
+            (subst (λ (g : ℕ). IsAtNode firms trades on 0 u g (raised p.0 (has on u)).1) here
+            (at_raised firms trades network on u p.0 p.2))
             (let above = q.0 in omega (arith, above, v_inside))
       ]
       | inr p ↦ elim (slice_get_cases trades v).1 [
         | inl q ↦
-            let here : (lowered q.0 (has on v)).0 ≡ f = same_Some _ _ (sym (ap₂ common_firm (no_raise u p.1) (lowers v q.0 q.2)) ∙ at.common) in
+            let here : (lowered q.0 (has on v)).0 ≡ f =
+            same_Some _ _ (sym (ap₂ common_firm (no_raise u p.1) (lowers v q.0 q.2)) ∙ at.common) in
             from_null firms trades on u v f (lowered q.0 (has on v)).1
-            (subst (λ (g : ℕ). IsAtNode firms trades on 1 v g (lowered q.0 (has on v)).1) here (at_lowered firms trades network on v q.0 q.2))
+            (subst (λ (g : ℕ). IsAtNode firms trades on 1 v g (lowered q.0 (has on v)).1) here
+            (at_lowered firms trades network on v q.0 q.2))
             (let above = p.0 in omega (arith, above, u_inside))
-        | inr q ↦ absurd (let none = ap₂ common_firm (no_raise u p.1) (no_lower v q.1) in let some = at.common in cc (none, some))
+        | inr q ↦ absurd (let none = ap₂ common_firm (no_raise u p.1) (no_lower v q.1) in let some = at.common in
+            cc (none, some))
       ]
     ]
   where
-    raises : (t : ℕ) (trade : Ends) → slice_get trades t ≡ Some trade → raised_by trades on t ≡ Some (raised trade (has on t))
+    raises : (t : ℕ) (trade : Ends) → slice_get trades t ≡ Some trade
+        → raised_by trades on t ≡ Some (raised trade (has on t))
     raises t trade there = ap (option_map (λ z. raised z (has on t))) there
 
-    lowers : (t : ℕ) (trade : Ends) → slice_get trades t ≡ Some trade → lowered_by trades on t ≡ Some (lowered trade (has on t))
+    lowers : (t : ℕ) (trade : Ends) → slice_get trades t ≡ Some trade
+        → lowered_by trades on t ≡ Some (lowered trade (has on t))
     lowers t trade there = ap (option_map (λ z. lowered z (has on t))) there
 
     no_raise : (t : ℕ) → slice_get trades t ≡ None → raised_by trades on t ≡ None
@@ -414,28 +470,36 @@ move_of_arc firms trades network on u v f is =
     trades_of : (up down : ℕ × ℕ) → common_firm (Some up) (Some down) ≡ Some f → IsAtNode firms trades on 0 u up.0 up.1
         → IsAtNode firms trades on 1 v down.0 down.1 → IsMoveOf firms trades on u v f
     trades_of up down common at_up at_down = elim (cases_Bool (up.0 == down.0)) [
-      | inr apart ↦ absurd (let none : common_firm (Some up) (Some down) ≡ None = ap (λ (b : Bool). if b then Some up.0 else None) apart in cc (none, common))
+      | inr apart ↦ absurd (let none : common_firm (Some up) (Some down) ≡ None =
+          ap (λ (b : Bool). if b then Some up.0 else None) apart in cc (none, common))
       | inl same ↦
           let here : up.0 ≡ f = same_Some _ _ (sym (ap (λ (b : Bool). if b then Some up.0 else None) same) ∙ common) in
           let there : down.0 ≡ f = sym (eqb-true up.0 down.0 same) ∙ here in
-          both_trades firms trades on u v f up.1 down.1 (subst (λ (g : ℕ). IsAtNode firms trades on 0 u g up.1) here at_up)
+          both_trades firms trades on u v f up.1 down.1 (subst (λ (g : ℕ). IsAtNode firms trades on 0 u g up.1) here
+          at_up)
           (subst (λ (g : ℕ). IsAtNode firms trades on 1 v g down.1) there at_down)
     ]
 
 -- where there can be no arc there is none
-no_arc_between : (firms : List Firm) (trades : List Ends) (on : ℕ) (up down : Option (ℕ × ℕ)) → common_firm up down ≡ None → arc_between firms trades on up down ≡ None
+no_arc_between : (firms : List Firm) (trades : List Ends) (on : ℕ) (up down : Option (ℕ × ℕ))
+    → common_firm up down ≡ None → arc_between firms trades on up down ≡ None
 no_arc_between firms trades on (Some up) (Some down) none = elim (cases_Bool (up.0 == down.0)) [
-  | inl same ↦ absurd (let some : common_firm (Some up) (Some down) ≡ Some up.0 = ap (λ (b : Bool). if b then Some up.0 else None) same in cc (some, none))
-  | inr apart ↦ ap (λ (b : Bool). if b then loss_at firms trades on up.0 (λ y. toggle (toggle y up.1) down.1) else None) apart
+  | inl same ↦ absurd (let some : common_firm (Some up) (Some down) ≡ Some up.0 =
+      ap (λ (b : Bool). if b then Some up.0 else None) same in cc (some, none))
+  | inr apart ↦ ap (λ (b : Bool). if b then loss_at firms trades on up.0 (λ y. toggle (toggle y up.1) down.1)
+      else None) apart
 ]
 no_arc_between firms trades on (Some up) None none = absurd (cc none)
 no_arc_between firms trades on None (Some down) none = absurd (cc none)
 no_arc_between firms trades on None None none = refl
 
-pub no_arc : (firms : List Firm) (trades : List Ends) (on u v : ℕ) → arc_firm trades on u v ≡ None → exchange_arc firms trades on u v ≡ None
+pub no_arc : (firms : List Firm) (trades : List Ends) (on u v : ℕ) → arc_firm trades on u v ≡ None
+    → exchange_arc firms trades on u v ≡ None
 unfolding exchange_arc
 no_arc firms trades on u v none = elim (nodes_or_not trades u v) [
-  | inl inside ↦ ap at inside.2 ∙ no_arc_between firms trades on (raised_by trades on u) (lowered_by trades on v) (sym (ap firm_at inside.2) ∙ none)
+  | inl inside ↦
+      ap at inside.2 ∙ no_arc_between firms trades on (raised_by trades on u) (lowered_by trades on v)
+      (sym (ap firm_at inside.2) ∙ none)
   | inr outside ↦ ap at outside
 ]
   where
@@ -446,7 +510,8 @@ no_arc firms trades on u v none = elim (nodes_or_not trades u v) [
     firm_at b = if b then common_firm (raised_by trades on u) (lowered_by trades on v) else None
 
 -- an arc leads from node to node
-pub arc_within : (firms : List Firm) (trades : List Ends) (on u v : ℕ) (cost : ℤ) → exchange_arc firms trades on u v ≡ Some cost
+pub arc_within : (firms : List Firm) (trades : List Ends) (on u v : ℕ) (cost : ℤ)
+    → exchange_arc firms trades on u v ≡ Some cost
     → (u ≤ length trades) × (v ≤ length trades)
 arc_within firms trades on u v cost is = by_case (arc_firm trades on u v) refl
   where
@@ -464,9 +529,11 @@ pub record ArcAt (firms : List Firm) (trades : List Ends) (on u v : ℕ) (cost :
   pub places : AreArcPlaces firm (part trades f firm.count on) from to
   pub begin : node_at trades f firm.count from ≡ u
   pub end : node_at trades f firm.count to ≡ v
-  pub costs : loss firm (part trades f firm.count on) (move firm.count (part trades f firm.count on) from to) ≡ Some cost
+  pub costs : loss firm (part trades f firm.count on) (move firm.count (part trades f firm.count on) from to)
+      ≡ Some cost
 
-pub arc_from : (firms : List Firm) (trades : List Ends) → IsNetwork firms trades → (on u v : ℕ) (cost : ℤ) → exchange_arc firms trades on u v ≡ Some cost
+pub arc_from : (firms : List Firm) (trades : List Ends) → IsNetwork firms trades → (on u v : ℕ) (cost : ℤ)
+    → exchange_arc firms trades on u v ≡ Some cost
     → ArcAt firms trades on u v cost
 arc_from firms trades network on u v cost is = by_case (arc_firm trades on u v) refl
   where
@@ -483,5 +550,6 @@ arc_from firms trades network on u v cost is = by_case (arc_firm trades on u v) 
           places = at.places;
           begin = at.begin;
           end = at.end;
-          costs = sym (arc_at firms trades network on f at.firm at.is at.from at.to at.places) ∙ ap₂ (exchange_arc firms trades on) at.begin at.end ∙ is;
+          costs = sym (arc_at firms trades network on f at.firm at.is at.from at.to at.places)
+              ∙ ap₂ (exchange_arc firms trades on) at.begin at.end ∙ is;
         }

@@ -15,7 +15,8 @@ use Rattle.tn_market.specs.Levied.{levy, levied, IsLevy}
 use Rattle.tn_market.specs.Widths.{most_limit}
 
 -- the tax is due once for each taxed position
-levy_below : (taxed n x : ℕ) (tax : ℤ) → sum_over (levy taxed tax) n x ≡ neg_ℤ (tax *ℤ pos (size_below n (meet x taxed)))
+levy_below : (taxed n x : ℕ) (tax : ℤ) → sum_over (levy taxed tax) n x
+    ≡ neg_ℤ (tax *ℤ pos (size_below n (meet x taxed)))
 unfolding sum_over size_below
 levy_below taxed zero x tax = nothing (tax *ℤ pos 0) (omega (arith, ints))
   where
@@ -24,12 +25,14 @@ levy_below taxed zero x tax = nothing (tax *ℤ pos 0) (omega (arith, ints))
 levy_below taxed (suc n) x tax =
     let rest = levy_below taxed n x tax in
     let member = has-meet x taxed n in
-    next (has x n) (has taxed n) (has (meet x taxed) n) member (size_below n (meet x taxed)) (sum_over (levy taxed tax) n x) rest
+    next (has x n) (has taxed n) (has (meet x taxed) n) member (size_below n (meet x taxed))
+    (sum_over (levy taxed tax) n x) rest
   where
     next : (h t m : Bool) → m ≡ (h && t) → (k : ℕ) (s : ℤ) → s ≡ neg_ℤ (tax *ℤ pos k)
         → s +ℤ (if h then (if t then neg_ℤ tax else pos 0) else pos 0) ≡ neg_ℤ (tax *ℤ pos (k + (if m then 1 else 0)))
     next true true m is k s rest =
-        let more : pos (k + (if m then 1 else 0)) ≡ pos k +ℤ pos 1 = ap (λ (b : Bool). pos (k + (if b then 1 else 0))) is ∙ omega (arith, ints) in
+        let more : pos (k + (if m then 1 else 0)) ≡ pos k +ℤ pos 1 =
+        ap (λ (b : Bool). pos (k + (if b then 1 else 0))) is ∙ omega (arith, ints) in
         let product = ap (λ (z : ℤ). tax *ℤ z) more ∙ times-plus tax (pos k) (pos 1) in
         let one : tax *ℤ pos 1 ≡ tax = omega (arith, ints) in
         add s _ _ _ tax rest product one
@@ -38,56 +41,82 @@ levy_below taxed (suc n) x tax =
         add s a b c tax rest product one = omega (arith, ints, rest, product, one)
     next true false m is k s rest = same m is k s rest
       where
-        same : (m : Bool) → m ≡ false → (k : ℕ) (s : ℤ) → s ≡ neg_ℤ (tax *ℤ pos k) → s +ℤ pos 0 ≡ neg_ℤ (tax *ℤ pos (k + (if m then 1 else 0)))
+        same : (m : Bool) → m ≡ false → (k : ℕ) (s : ℤ) → s ≡ neg_ℤ (tax *ℤ pos k)
+            → s +ℤ pos 0 ≡ neg_ℤ (tax *ℤ pos (k + (if m then 1 else 0)))
         same m is k s rest =
-            let product : tax *ℤ pos (k + (if m then 1 else 0)) ≡ tax *ℤ pos k = ap (λ (b : Bool). tax *ℤ pos (k + (if b then 1 else 0))) is ∙ ap (λ (i : ℕ). tax *ℤ pos i) (omega arith) in
+            let product : tax *ℤ pos (k + (if m then 1 else 0)) ≡ tax *ℤ pos k =
+            ap (λ (b : Bool). tax *ℤ pos (k + (if b then 1 else 0))) is ∙ ap (λ (i : ℕ). tax *ℤ pos i) (omega arith)
+            in
             add s _ _ rest product
           where
             add : (s a b : ℤ) → s ≡ neg_ℤ a → b ≡ a → s +ℤ pos 0 ≡ neg_ℤ b
             add s a b rest product = omega (arith, ints, rest, product)
     next false t m is k s rest = same m is k s rest
       where
-        same : (m : Bool) → m ≡ false → (k : ℕ) (s : ℤ) → s ≡ neg_ℤ (tax *ℤ pos k) → s +ℤ pos 0 ≡ neg_ℤ (tax *ℤ pos (k + (if m then 1 else 0)))
+        same : (m : Bool) → m ≡ false → (k : ℕ) (s : ℤ) → s ≡ neg_ℤ (tax *ℤ pos k)
+            → s +ℤ pos 0 ≡ neg_ℤ (tax *ℤ pos (k + (if m then 1 else 0)))
         same m is k s rest =
-            let product : tax *ℤ pos (k + (if m then 1 else 0)) ≡ tax *ℤ pos k = ap (λ (b : Bool). tax *ℤ pos (k + (if b then 1 else 0))) is ∙ ap (λ (i : ℕ). tax *ℤ pos i) (omega arith) in
+            let product : tax *ℤ pos (k + (if m then 1 else 0)) ≡ tax *ℤ pos k =
+            ap (λ (b : Bool). tax *ℤ pos (k + (if b then 1 else 0))) is ∙ ap (λ (i : ℕ). tax *ℤ pos i) (omega arith)
+            in
             add s _ _ rest product
           where
             add : (s a b : ℤ) → s ≡ neg_ℤ a → b ≡ a → s +ℤ pos 0 ≡ neg_ℤ b
             add s a b rest product = omega (arith, ints, rest, product)
 
-pub levy_is : (taxed n x : ℕ) (tax : ℤ) → x < 2 ^ n → sum_over (levy taxed tax) n x ≡ neg_ℤ (tax *ℤ pos (size (meet x taxed)))
-levy_is taxed n x tax below = levy_below taxed n x tax ∙ ap (λ (k : ℕ). neg_ℤ (tax *ℤ pos k)) (sym (size_at n (meet x taxed) (meet_within x taxed n below)))
+pub levy_is : (taxed n x : ℕ) (tax : ℤ) → x < 2 ^ n
+    → sum_over (levy taxed tax) n x ≡ neg_ℤ (tax *ℤ pos (size (meet x taxed)))
+levy_is taxed n x tax below = levy_below taxed n x tax
+    ∙ ap (λ (k : ℕ). neg_ℤ (tax *ℤ pos k)) (sym (size_at n (meet x taxed) (meet_within x taxed n below)))
 
 -- so the levied worth of a possible bundle is its worth, scaled, less the taxes
-pub levied_is : (scale tax : ℤ) (taxed : ℕ) (firm : Firm) (x count : ℕ) (worth : ℤ) → x < 2 ^ firm.count → firm.worth x ≡ Some worth → count ≡ size (meet x taxed)
+pub levied_is : (scale tax : ℤ) (taxed : ℕ) (firm : Firm) (x count : ℕ) (worth : ℤ) → x < 2 ^ firm.count
+    → firm.worth x ≡ Some worth → count ≡ size (meet x taxed)
     → (levied scale taxed tax firm).worth x ≡ Some (scale *ℤ worth -ℤ tax *ℤ pos count)
 levied_is scale tax taxed firm x count worth below is counted =
     ap (option_map (λ a. scale *ℤ a +ℤ sum_over (levy taxed tax) firm.count x)) is
-    ∙ ap (λ (z : ℤ). Some z) (less (scale *ℤ worth) _ _ (levy_is taxed firm.count x tax below ∙ ap (λ (k : ℕ). neg_ℤ (tax *ℤ pos k)) (sym counted)))
+    ∙ ap (λ (z : ℤ). Some z) (less (scale *ℤ worth) _ _ (levy_is taxed firm.count x tax below
+    ∙ ap (λ (k : ℕ). neg_ℤ (tax *ℤ pos k)) (sym counted)))
   where
     less : (a s b : ℤ) → s ≡ neg_ℤ b → a +ℤ s ≡ a -ℤ b
     less a s b e = omega (arith, ints, e)
 
 -- and both parts are within the limit
-pub scaled_within : (scale tax worth : ℤ) (limit : ℕ) → IsLevy scale tax limit → IsAtMost worth limit → IsAtMost (scale *ℤ worth) most_limit
+pub scaled_within : (scale tax worth : ℤ) (limit : ℕ) → IsLevy scale tax limit → IsAtMost worth limit
+    → IsAtMost (scale *ℤ worth) most_limit
 scaled_within scale tax worth limit is small =
-    let product = times_small scale worth (unsigned_abs scale) limit (small_abs scale (unsigned_abs scale) (omega arith)) small in
+    let product =
+    times_small scale worth (unsigned_abs scale) limit (small_abs scale (unsigned_abs scale) (omega arith)) small in
     within (scale *ℤ worth) (unsigned_abs scale * limit) (64 * unsigned_abs tax) product is.small
   where
     within : (z : ℤ) (m n : ℕ) → IsAtMost z m → m + n ≤ most_limit → IsAtMost z most_limit
-    within z m n small sum = record { low = omega (arith, ints, small.low, sum); high = omega (arith, ints, small.high, sum) }
+    within z m n small sum = record {
+      low = omega (arith, ints, small.low, sum);
+      high =
+          omega (arith, ints, small.high, sum);
+    }
 
-pub taxes_within : (scale tax : ℤ) (limit count : ℕ) → IsLevy scale tax limit → count ≤ 64 → IsAtMost (tax *ℤ pos count) most_limit
+pub taxes_within : (scale tax : ℤ) (limit count : ℕ) → IsLevy scale tax limit → count ≤ 64
+    → IsAtMost (tax *ℤ pos count) most_limit
 taxes_within scale tax limit count is few =
-    let product = times_small tax (pos count) (unsigned_abs tax) 64 (small_abs tax (unsigned_abs tax) (omega arith)) (record { low = omega (arith, ints, few); high = omega (arith, ints, few) }) in
-    within (tax *ℤ pos count) (unsigned_abs scale * limit) (unsigned_abs tax * 64) (64 * unsigned_abs tax) product is.small (omega arith)
+    let product =
+    times_small tax (pos count) (unsigned_abs tax) 64 (small_abs tax (unsigned_abs tax) (omega arith))
+    (record { low = omega (arith, ints, few); high = omega (arith, ints, few) }) in
+    within (tax *ℤ pos count) (unsigned_abs scale * limit) (unsigned_abs tax * 64) (64 * unsigned_abs tax) product
+    is.small (omega arith)
   where
     within : (z : ℤ) (m n n' : ℕ) → IsAtMost z n → m + n' ≤ most_limit → n ≡ n' → IsAtMost z most_limit
-    within z m n n' small sum same = record { low = omega (arith, ints, small.low, sum, same); high = omega (arith, ints, small.high, sum, same) }
+    within z m n n' small sum same = record {
+      low = omega (arith, ints, small.low, sum, same);
+      high =
+          omega (arith, ints, small.high, sum, same);
+    }
 
 -- what the code computes
-pub difference_fits : (a b : ℤ) → IsAtMost a most_limit → IsAtMost b most_limit → SFits w128 (to_z w128 (of_z w128 a) -ℤ to_z w128 (of_z w128 b))
+pub difference_fits : (a b : ℤ) → IsAtMost a most_limit → IsAtMost b most_limit
+    → SFits w128 (to_z w128 (of_z w128 a) -ℤ to_z w128 (of_z w128 b))
 difference_fits a b first second = omega (arith, ints, first.low, first.high, second.low, second.high)
 
-pub difference_is : (a b : ℤ) → IsAtMost a most_limit → IsAtMost b most_limit → to_z w128 (of_z w128 (to_z w128 (of_z w128 a) -ℤ to_z w128 (of_z w128 b))) ≡ a -ℤ b
+pub difference_is : (a b : ℤ) → IsAtMost a most_limit → IsAtMost b most_limit
+    → to_z w128 (of_z w128 (to_z w128 (of_z w128 a) -ℤ to_z w128 (of_z w128 b))) ≡ a -ℤ b
 difference_is a b first second = omega (arith, ints, first.low, first.high, second.low, second.high)

@@ -1,3 +1,4 @@
+-- The files of lemmas of this crate.
 pub mod GraphLemmas
 pub mod MarketLemmas
 pub mod AscentLemmas

@@ -9,34 +9,45 @@ use Rattle.tn_base.proofs.SizeLemmas.{size_at}
 use Rattle.tn_market.specs.Valued.{HasToggledWorths}
 
 -- the worths of the wanted positions below k are written, and each of them was asked for once
-pub record IsRowBelow (worth_of : ℕ → Option ℤ) (x wanted asked_before k : ℕ) (worths : List (Option ℤ)) (asked : ℕ) : Type 0 where
+pub record IsRowBelow (worth_of : ℕ → Option ℤ) (x wanted asked_before k : ℕ) (worths : List (Option ℤ))
+    (asked : ℕ) : Type 0 where
   pub worths_are : (j : ℕ) → j < k → has wanted j ≡ true → get_or worths j None ≡ worth_of (toggle x j)
   pub asked_are : asked ≡ asked_before + size_below k wanted
 
-pub row_none : (worth_of : ℕ → Option ℤ) (x wanted asked : ℕ) (worths : List (Option ℤ)) → IsRowBelow worth_of x wanted asked 0 worths asked
+pub row_none : (worth_of : ℕ → Option ℤ) (x wanted asked : ℕ) (worths : List (Option ℤ))
+    → IsRowBelow worth_of x wanted asked 0 worths asked
 unfolding size_below
-row_none worth_of x wanted asked worths = record { worths_are = λ j h. absurd (omega (arith, h)); asked_are = omega arith }
+row_none worth_of x wanted asked worths = record {
+  worths_are = λ j h. absurd (omega (arith, h));
+  asked_are =
+      omega arith;
+}
 
 -- one position more is counted if it is wanted
 size_next : (k wanted : ℕ) → size_below (k + 1) wanted ≡ size_below k wanted + (if has wanted k then 1 else 0)
 unfolding size_below
 size_next k wanted = rw add-one refl
 
-pub row_more : (worth_of : ℕ → Option ℤ) (x wanted asked_before k : ℕ) (worths : List (Option ℤ)) (asked : ℕ) → IsRowBelow worth_of x wanted asked_before k worths asked
-    → has wanted k ≡ true → k < length worths → (o : Option ℤ) → o ≡ worth_of (toggle x k) → (asked_after : ℕ) → asked_after ≡ asked + 1
+pub row_more : (worth_of : ℕ → Option ℤ) (x wanted asked_before k : ℕ) (worths : List (Option ℤ)) (asked : ℕ)
+    → IsRowBelow worth_of x wanted asked_before k worths asked
+    → has wanted k ≡ true → k < length worths → (o : Option ℤ) → o ≡ worth_of (toggle x k) → (asked_after : ℕ)
+    → asked_after ≡ asked + 1
     → IsRowBelow worth_of x wanted asked_before (k + 1) (set worths k o) asked_after
 row_more worth_of x wanted asked_before k worths asked row member inside o is asked_after once = record {
   worths_are = λ j h wants. elim (cases_eq j k) [
-    | inl e ↦ ap (λ (i : ℕ). get_or (set worths k o) i None) e ∙ get_or-set_same worths k o None inside ∙ is ∙ ap (λ (i : ℕ). worth_of (toggle x i)) (sym e)
+    | inl e ↦ ap (λ (i : ℕ). get_or (set worths k o) i None) e ∙ get_or-set_same worths k o None inside ∙ is
+        ∙ ap (λ (i : ℕ). worth_of (toggle x i)) (sym e)
     | inr d ↦ get_or-set_other worths k j o None d ∙ row.worths_are j (omega (arith, h, d)) wants
   ];
   asked_are =
       let before = row.asked_are in
-      let next : size_below (k + 1) wanted ≡ size_below k wanted + 1 = size_next k wanted ∙ ap (λ (b : Bool). size_below k wanted + (if b then 1 else 0)) member in
+      let next : size_below (k + 1) wanted ≡ size_below k wanted + 1 =
+      size_next k wanted ∙ ap (λ (b : Bool). size_below k wanted + (if b then 1 else 0)) member in
       omega (arith, before, next, once);
 }
 
-pub row_same : (worth_of : ℕ → Option ℤ) (x wanted asked_before k : ℕ) (worths : List (Option ℤ)) (asked : ℕ) → IsRowBelow worth_of x wanted asked_before k worths asked
+pub row_same : (worth_of : ℕ → Option ℤ) (x wanted asked_before k : ℕ) (worths : List (Option ℤ)) (asked : ℕ)
+    → IsRowBelow worth_of x wanted asked_before k worths asked
     → has wanted k ≡ false → IsRowBelow worth_of x wanted asked_before (k + 1) worths asked
 row_same worth_of x wanted asked_before k worths asked row absent = record {
   worths_are = λ j h wants. elim (cases_eq j k) [
@@ -45,12 +56,14 @@ row_same worth_of x wanted asked_before k worths asked row absent = record {
   ];
   asked_are =
       let before = row.asked_are in
-      let next : size_below (k + 1) wanted ≡ size_below k wanted + 0 = size_next k wanted ∙ ap (λ (b : Bool). size_below k wanted + (if b then 1 else 0)) absent in
+      let next : size_below (k + 1) wanted ≡ size_below k wanted + 0 =
+      size_next k wanted ∙ ap (λ (b : Bool). size_below k wanted + (if b then 1 else 0)) absent in
       omega (arith, before, next);
 }
 
 -- the wanted positions are all below the count
-pub row_all : (worth_of : ℕ → Option ℤ) (x wanted asked_before k : ℕ) (worths : List (Option ℤ)) (asked : ℕ) → IsRowBelow worth_of x wanted asked_before k worths asked
+pub row_all : (worth_of : ℕ → Option ℤ) (x wanted asked_before k : ℕ) (worths : List (Option ℤ)) (asked : ℕ)
+    → IsRowBelow worth_of x wanted asked_before k worths asked
     → wanted < 2 ^ k → HasToggledWorths worth_of x wanted worths × (asked ≡ asked_before + size wanted)
 row_all worth_of x wanted asked_before k worths asked row own = (
   (λ j wants. row.worths_are j (has_below wanted k j own wants) wants),
@@ -62,21 +75,28 @@ pub record IsRowChanged (worth_of other_of : ℕ → Option ℤ) (x wanted k : �
   pub done : (j : ℕ) → j < k → has wanted j ≡ true → get_or worths j None ≡ worth_of (toggle x j)
   pub left : (j : ℕ) → k ≤ j → has wanted j ≡ true → get_or worths j None ≡ other_of (toggle x j)
 
-pub changed_none : (worth_of other_of : ℕ → Option ℤ) (x wanted : ℕ) (worths : List (Option ℤ)) → HasToggledWorths other_of x wanted worths
+pub changed_none : (worth_of other_of : ℕ → Option ℤ) (x wanted : ℕ) (worths : List (Option ℤ))
+    → HasToggledWorths other_of x wanted worths
     → IsRowChanged worth_of other_of x wanted 0 worths
-changed_none worth_of other_of x wanted worths row = record { done = λ j h. absurd (omega (arith, h)); left = λ j h. row j }
+changed_none worth_of other_of x wanted worths row =
+    record { done = λ j h. absurd (omega (arith, h)); left = λ j h. row j }
 
-pub changed_more : (worth_of other_of : ℕ → Option ℤ) (x wanted k : ℕ) (worths : List (Option ℤ)) → IsRowChanged worth_of other_of x wanted k worths
-    → k < length worths → (o : Option ℤ) → o ≡ worth_of (toggle x k) → IsRowChanged worth_of other_of x wanted (k + 1) (set worths k o)
+pub changed_more : (worth_of other_of : ℕ → Option ℤ) (x wanted k : ℕ) (worths : List (Option ℤ))
+    → IsRowChanged worth_of other_of x wanted k worths
+    → k < length worths → (o : Option ℤ) → o ≡ worth_of (toggle x k)
+    → IsRowChanged worth_of other_of x wanted (k + 1) (set worths k o)
 changed_more worth_of other_of x wanted k worths row inside o is = record {
   done = λ j h wants. elim (cases_eq j k) [
-    | inl e ↦ ap (λ (i : ℕ). get_or (set worths k o) i None) e ∙ get_or-set_same worths k o None inside ∙ is ∙ ap (λ (i : ℕ). worth_of (toggle x i)) (sym e)
+    | inl e ↦ ap (λ (i : ℕ). get_or (set worths k o) i None) e ∙ get_or-set_same worths k o None inside ∙ is
+        ∙ ap (λ (i : ℕ). worth_of (toggle x i)) (sym e)
     | inr d ↦ get_or-set_other worths k j o None d ∙ row.done j (omega (arith, h, d)) wants
   ];
-  left = λ j h wants. get_or-set_other worths k j o None (λ e. (let p = e in absurd (omega (arith, h, p)))) ∙ row.left j (omega (arith, h)) wants;
+  left = λ j h wants. get_or-set_other worths k j o None (λ e. (let p = e in absurd (omega (arith, h, p))))
+      ∙ row.left j (omega (arith, h)) wants;
 }
 
-pub changed_same : (worth_of other_of : ℕ → Option ℤ) (x wanted k : ℕ) (worths : List (Option ℤ)) → IsRowChanged worth_of other_of x wanted k worths
+pub changed_same : (worth_of other_of : ℕ → Option ℤ) (x wanted k : ℕ) (worths : List (Option ℤ))
+    → IsRowChanged worth_of other_of x wanted k worths
     → has wanted k ≡ false → IsRowChanged worth_of other_of x wanted (k + 1) worths
 changed_same worth_of other_of x wanted k worths row absent = record {
   done = λ j h wants. elim (cases_eq j k) [
@@ -86,6 +106,7 @@ changed_same worth_of other_of x wanted k worths row absent = record {
   left = λ j h wants. row.left j (omega (arith, h)) wants;
 }
 
-pub changed_all : (worth_of other_of : ℕ → Option ℤ) (x wanted k : ℕ) (worths : List (Option ℤ)) → IsRowChanged worth_of other_of x wanted k worths
+pub changed_all : (worth_of other_of : ℕ → Option ℤ) (x wanted k : ℕ) (worths : List (Option ℤ))
+    → IsRowChanged worth_of other_of x wanted k worths
     → wanted < 2 ^ k → HasToggledWorths worth_of x wanted worths
 changed_all worth_of other_of x wanted k worths row own j wants = row.done j (has_below wanted k j own wants) wants

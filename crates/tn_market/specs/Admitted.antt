@@ -7,7 +7,8 @@ use Rattle.tn_plain_data.specs.Network.{part}
 -- the firms from number f on, each with those of its bundles that lie within the admitted trades
 abbrev pub admitted_from : List Ends → ℕ → ℕ → List Firm → List Firm
 admitted_from trades allowed f [] = []
-admitted_from trades allowed f (firm ∷ firms) = among (part trades f firm.count allowed) firm ∷ admitted_from trades allowed (f + 1) firms
+admitted_from trades allowed f (firm ∷ firms) =
+    among (part trades f firm.count allowed) firm ∷ admitted_from trades allowed (f + 1) firms
 
 abbrev pub admitted : List Ends → ℕ → List Firm → List Firm
 admitted trades allowed firms = admitted_from trades allowed 0 firms

@@ -28,4 +28,5 @@ common_firm None None = None
 
 -- the firm whose move the arc from node u to node v is, none where there can be no arc
 abbrev pub arc_firm : List Ends → ℕ → ℕ → ℕ → Option ℕ
-arc_firm trades on u v = if nat_le u (length trades) && nat_le v (length trades) then common_firm (raised_by trades on u) (lowered_by trades on v) else None
+arc_firm trades on u v = if nat_le u (length trades) && nat_le v (length trades)
+    then common_firm (raised_by trades on u) (lowered_by trades on v) else None

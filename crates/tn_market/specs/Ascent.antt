@@ -54,7 +54,8 @@ pub record TriesOne (value_of : ℕ → Option ℤ) (x : ℕ) (before after : Bu
 -- and none with one of the others below n toggled in x has more value
 pub record TriesOthers (value_of : ℕ → Option ℤ) (x others n : ℕ) (before after : BundleValue) : Type 0 where
   pub no_worse : IsNoWorse value_of before after
-  pub tried : (k : ℕ) (other : ℤ) → k < n → has others k ≡ true → value_of (toggle x k) ≡ Some other → other ≤ℤ after.value
+  pub tried : (k : ℕ) (other : ℤ) → k < n → has others k ≡ true → value_of (toggle x k) ≡ Some other
+      → other ≤ℤ after.value
 
 -- and none with i toggled, or with i and one below j toggled, has more value
 pub record TriesBeside (value_of : ℕ → Option ℤ) (from i j : ℕ) (before after : BundleValue) : Type 0 where

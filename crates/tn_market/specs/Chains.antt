@@ -5,5 +5,6 @@ use Rattle.tn_plain_data.specs.declared.contract.Contract.{Contract}
 
 -- contracts are a chain in the listed order: the buyer of each is the seller of the next one
 abbrev pub IsChain : List Ends → List Contract → Type 0
-IsChain trades contracts = (k : ℕ) (one next : Contract) (first second : Ends) → slice_get contracts k ≡ Some one → slice_get contracts (k + 1) ≡ Some next
+IsChain trades contracts = (k : ℕ) (one next : Contract) (first second : Ends) → slice_get contracts k ≡ Some one
+    → slice_get contracts (k + 1) ≡ Some next
     → slice_get trades one.trade ≡ Some first → slice_get trades next.trade ≡ Some second → first.buyer ≡ second.seller

@@ -14,16 +14,20 @@ utility_at trades scale prices f firm = utility scale (prices_at trades prices f
 
 -- firm f has a best bundle
 abbrev pub HasBest : List Ends → ℤ → ℕ → (ℕ → ℤ) → ℕ → Firm → Type 0
-HasBest trades scale on prices f firm = (value : ℤ) × IsBest (utility_at trades scale prices f firm) (part trades f firm.count on) value
+HasBest trades scale on prices f firm = (value : ℤ)
+    × IsBest (utility_at trades scale prices f firm) (part trades f firm.count on) value
 
 -- each firm has a best bundle
 abbrev pub IsEquilibrium : List Firm → List Ends → ℤ → ℕ → (ℕ → ℤ) → Type 0
-IsEquilibrium firms trades scale on prices = (f : ℕ) (firm : Firm) → slice_get firms f ≡ Some firm → HasBest trades scale on prices f firm
+IsEquilibrium firms trades scale on prices = (f : ℕ) (firm : Firm) → slice_get firms f ≡ Some firm
+    → HasBest trades scale on prices f firm
 
 -- the sum of the worths of the firms from number f on, none where one of them is none
 abbrev pub surplus_from : List Ends → ℕ → ℕ → List Firm → Option ℤ
 surplus_from trades on f [] = Some (pos 0)
-surplus_from trades on f (firm ∷ firms) = option_and_then (λ worth. option_map (λ rest. worth +ℤ rest) (surplus_from trades on (f + 1) firms)) (firm.worth (part trades f firm.count on))
+surplus_from trades on f (firm ∷ firms) =
+    option_and_then (λ worth. option_map (λ rest. worth +ℤ rest) (surplus_from trades on (f + 1) firms))
+    (firm.worth (part trades f firm.count on))
 
 abbrev pub surplus_of : List Firm → List Ends → ℕ → Option ℤ
 surplus_of firms trades on = surplus_from trades on 0 firms

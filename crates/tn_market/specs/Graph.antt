@@ -29,12 +29,15 @@ loss firm x y = both (firm.worth x) (option_map neg_ℤ (firm.worth y))
 
 -- what firm f loses where its bundle is changed
 abbrev pub loss_at : List Firm → List Ends → ℕ → ℕ → (ℕ → ℕ) → Option ℤ
-loss_at firms trades on f changed = option_and_then (λ firm. loss firm (part trades f firm.count on) (changed (part trades f firm.count on))) (slice_get firms f)
+loss_at firms trades on f changed =
+    option_and_then (λ firm. loss firm (part trades f firm.count on) (changed (part trades f firm.count on)))
+    (slice_get firms f)
 
 -- the cost of an arc between what its begin raises and what its end lowers: none where these are two firms, and for the
 -- null node nothing is toggled
 abbrev pub arc_between : List Firm → List Ends → ℕ → Option (ℕ × ℕ) → Option (ℕ × ℕ) → Option ℤ
-arc_between firms trades on (Some up) (Some down) = if up.0 == down.0 then loss_at firms trades on up.0 (λ x. toggle (toggle x up.1) down.1) else None
+arc_between firms trades on (Some up) (Some down) = if up.0 == down.0
+    then loss_at firms trades on up.0 (λ x. toggle (toggle x up.1) down.1) else None
 arc_between firms trades on (Some up) None = loss_at firms trades on up.0 (λ x. toggle x up.1)
 arc_between firms trades on None (Some down) = loss_at firms trades on down.0 (λ x. toggle x down.1)
 arc_between firms trades on None None = None
@@ -42,7 +45,8 @@ arc_between firms trades on None None = None
 -- the cost of the arc from node u to node v, none where there is no arc; the nodes are the trades, and the null node
 -- after them
 unfoldable pub exchange_arc : List Firm → List Ends → ℕ → ℕ → ℕ → Option ℤ
-exchange_arc firms trades on u v = if nat_le u (length trades) && nat_le v (length trades) then arc_between firms trades on (raised_by trades on u) (lowered_by trades on v) else None
+exchange_arc firms trades on u v = if nat_le u (length trades) && nat_le v (length trades)
+    then arc_between firms trades on (raised_by trades on u) (lowered_by trades on v) else None
 
 -- how many worths the graph is made of: for each firm one for each two of its places, where null is a place too
 abbrev pub graph_worths : List Firm → ℕ
@@ -51,4 +55,5 @@ graph_worths (firm ∷ firms) = (firm.count + 1) * (firm.count + 1) + graph_wort
 
 -- each firm's bundle of a set of trades is possible
 abbrev pub ArePossible : List Firm → List Ends → ℕ → Type 0
-ArePossible firms trades on = (f : ℕ) (firm : Firm) → slice_get firms f ≡ Some firm → IsSome (firm.worth (part trades f firm.count on))
+ArePossible firms trades on = (f : ℕ) (firm : Firm) → slice_get firms f ≡ Some firm
+    → IsSome (firm.worth (part trades f firm.count on))

@@ -9,17 +9,20 @@ use Rattle.tn_market.specs.Equilibrium.{utility_at, HasBest, IsEquilibrium, surp
 
 -- each firm before f has a best bundle
 abbrev pub AreBestBefore : List Firm → List Ends → ℤ → ℕ → (ℕ → ℤ) → ℕ → Type 0
-AreBestBefore firms trades scale on prices f = (g : ℕ) (firm : Firm) → g < f → slice_get firms g ≡ Some firm → HasBest trades scale on prices g firm
+AreBestBefore firms trades scale on prices f = (g : ℕ) (firm : Firm) → g < f → slice_get firms g ≡ Some firm
+    → HasBest trades scale on prices g firm
 
 -- firm f is the first that has no best bundle, since its bundle is impossible
-pub record IsFirstImpossible (firms : List Firm) (trades : List Ends) (scale : ℤ) (on : ℕ) (prices : ℕ → ℤ) (f : ℕ) : Type 0 where
+pub record IsFirstImpossible (firms : List Firm) (trades : List Ends) (scale : ℤ) (on : ℕ) (prices : ℕ
+    → ℤ) (f : ℕ) : Type 0 where
   pub before : AreBestBefore firms trades scale on prices f
   pub firm : Firm
   pub is : slice_get firms f ≡ Some firm
   pub impossible : firm.worth (part trades f firm.count on) ≡ None
 
 -- firm f is the first that has no best bundle: its own is possible, and x is a best one that has more by the gain
-pub record IsFirstBettered (firms : List Firm) (trades : List Ends) (scale : ℤ) (on : ℕ) (prices : ℕ → ℤ) (f x : ℕ) (gain : ℤ) : Type 0 where
+pub record IsFirstBettered (firms : List Firm) (trades : List Ends) (scale : ℤ) (on : ℕ) (prices : ℕ
+    → ℤ) (f x : ℕ) (gain : ℤ) : Type 0 where
   pub before : AreBestBefore firms trades scale on prices f
   pub firm : Firm
   pub is : slice_get firms f ≡ Some firm
@@ -32,7 +35,9 @@ pub record IsFirstBettered (firms : List Firm) (trades : List Ends) (scale : ℤ
 
 -- the answer of `check`, none of another kind
 abbrev pub Judges : List Firm → List Ends → ℤ → ℕ → (ℕ → ℤ) → Said → Type 0
-Judges firms trades scale on prices (Equilibrium surplus) = IsEquilibrium firms trades scale on prices × (surplus_of firms trades on ≡ Some surplus)
-Judges firms trades scale on prices (Better f bundle gain) = (x : ℕ) × (at : IsFirstBettered firms trades scale on prices f x gain) × (bundle ≡ trades_of trades f at.firm.count x)
+Judges firms trades scale on prices (Equilibrium surplus) = IsEquilibrium firms trades scale on prices
+    × (surplus_of firms trades on ≡ Some surplus)
+Judges firms trades scale on prices (Better f bundle gain) = (x : ℕ)
+    × (at : IsFirstBettered firms trades scale on prices f x gain) × (bundle ≡ trades_of trades f at.firm.count x)
 Judges firms trades scale on prices (Impossible f) = IsFirstImpossible firms trades scale on prices f
 Judges firms trades scale on prices said = ⊥

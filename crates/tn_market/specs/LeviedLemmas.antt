@@ -13,7 +13,8 @@ use Rattle.tn_market.specs.Valued.{ExchangesOne, ExchangesNet, IsWorthAtMost, me
 use Rattle.tn_market.specs.Lawful.{IsLawful}
 use Rattle.tn_market.specs.Levied.{levy, levied, levied_limit, IsLevy}
 
-levied_meets : (scale tax : ℤ) (taxed limit : ℕ) (firm : Firm) → IsLevy scale tax limit → HasOwnBundles firm → ExchangesOne firm → ExchangesNet firm
+levied_meets : (scale tax : ℤ) (taxed limit : ℕ) (firm : Firm) → IsLevy scale tax limit → HasOwnBundles firm
+    → ExchangesOne firm → ExchangesNet firm
     → HasOwnBundles (levied scale taxed tax firm) × MeetsExchange (levied scale taxed tax firm)
 levied_meets scale tax taxed limit firm is own one net_count =
     let from_one = is.from_one in
@@ -39,11 +40,14 @@ levied_within : (scale tax : ℤ) (taxed limit : ℕ) (firm : Firm) → firm.cou
     → IsWorthAtMost (levied_limit scale tax limit) (levied scale taxed tax firm)
 levied_within scale tax taxed limit firm few within x a is =
     let worth = option_map-some (λ w. scale *ℤ w +ℤ sum_over (levy taxed tax) firm.count x) (firm.worth x) a is in
-    let product = times_small scale worth.0 (unsigned_abs scale) limit (small_abs scale (unsigned_abs scale) (omega arith)) (within x worth.0 worth.1) in
+    let product =
+    times_small scale worth.0 (unsigned_abs scale) limit (small_abs scale (unsigned_abs scale) (omega arith))
+    (within x worth.0 worth.1) in
     let sum = sum_over_small (levy taxed tax) firm.count x (unsigned_abs tax) (λ k below. levy_small taxed tax k) in
     let most = mul-le firm.count (unsigned_abs tax) 64 (unsigned_abs tax) few (omega arith) in
     let value = worth.2 in
-    together (scale *ℤ worth.0) (sum_over (levy taxed tax) firm.count x) a (unsigned_abs scale * limit) (firm.count * unsigned_abs tax) (64 * unsigned_abs tax) product sum most value
+    together (scale *ℤ worth.0) (sum_over (levy taxed tax) firm.count x) a (unsigned_abs scale * limit)
+    (firm.count * unsigned_abs tax) (64 * unsigned_abs tax) product sum most value
   where
     together : (p s a : ℤ) (m n n' : ℕ) → IsAtMost p m → IsAtMost s n → n ≤ n' → p +ℤ s ≡ a → IsAtMost a (m + n')
     together p s a m n n' product sum most value = record {
@@ -51,7 +55,8 @@ levied_within scale tax taxed limit firm few within x a is =
       high = omega (arith, ints, product.high, sum.high, most, value);
     }
 
-pub levied_laws : (scale tax : ℤ) (taxed limit : ℕ) (firm : Firm) → IsLevy scale tax limit → IsLawful limit firm → IsLawful (levied_limit scale tax limit) (levied scale taxed tax firm)
+pub levied_laws : (scale tax : ℤ) (taxed limit : ℕ) (firm : Firm) → IsLevy scale tax limit → IsLawful limit firm
+    → IsLawful (levied_limit scale tax limit) (levied scale taxed tax firm)
 levied_laws scale tax taxed limit firm is laws =
     let meets = levied_meets scale tax taxed limit firm is laws.own_bundles laws.exchange_one laws.exchange_net in
     record {

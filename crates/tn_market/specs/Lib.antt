@@ -1,3 +1,4 @@
+-- The files of definitions of this crate.
 pub mod Widths
 pub mod Equilibrium
 pub mod Graph

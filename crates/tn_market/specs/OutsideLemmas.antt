@@ -17,7 +17,8 @@ sum_over-outside : (price : ℤ) (x : ℕ) → sum_over (outside_amount price) 2
 unfolding sum_over
 sum_over-outside price x = by_case (has x 0) (has x 1)
   where
-    by_case : (b s : Bool) → (pos 0 +ℤ (if b then price else pos 0)) +ℤ (if s then neg_ℤ price else pos 0) ≡ outside_sum price b s
+    by_case : (b s : Bool) → (pos 0 +ℤ (if b then price else pos 0)) +ℤ (if s then neg_ℤ price else pos 0)
+        ≡ outside_sum price b s
     by_case true true = omega (arith, ints)
     by_case true false = omega (arith, ints)
     by_case false true = refl
@@ -25,7 +26,8 @@ sum_over-outside price x = by_case (has x 0) (has x 1)
 
 pub outside-worth : (price : ℤ) (x : ℕ) → x < 4 → (outside price).worth x ≡ Some (outside_sum price (has x 0) (has x 1))
 outside-worth price x below =
-    ap (λ (b : Bool). if b then Some (sum_over (outside_amount price) 2 x) else None) (lt-ltb x 4 below) ∙ ap (λ (z : ℤ). Some z) (sum_over-outside price x)
+    ap (λ (b : Bool). if b then Some (sum_over (outside_amount price) 2 x) else None) (lt-ltb x 4 below)
+    ∙ ap (λ (z : ℤ). Some z) (sum_over-outside price x)
 
 pub outside-within : (price : ℤ) → IsWorthAtMost (unsigned_abs price) (outside price)
 outside-within price x a is = by_case (nat_lt x 4) is
@@ -40,9 +42,11 @@ outside-within price x a is = by_case (nat_lt x 4) is
     small (negsuc n) false true = record { low = omega (arith, ints); high = omega (arith, ints) }
     small (negsuc n) false false = record { low = omega (arith, ints); high = omega (arith, ints) }
 
-    by_case : (b : Bool) → (if b then Some (sum_over (outside_amount price) 2 x) else None) ≡ Some a → IsAtMost a (unsigned_abs price)
+    by_case : (b : Bool) → (if b then Some (sum_over (outside_amount price) 2 x) else None) ≡ Some a
+        → IsAtMost a (unsigned_abs price)
     by_case true e = subst (λ (z : ℤ). IsAtMost z (unsigned_abs price)) (same_Some _ _ e)
-        (subst (λ (z : ℤ). IsAtMost z (unsigned_abs price)) (sym (sum_over-outside price x)) (small price (has x 0) (has x 1)))
+        (subst (λ (z : ℤ). IsAtMost z (unsigned_abs price)) (sym (sum_over-outside price x))
+        (small price (has x 0) (has x 1)))
     by_case false e = absurd (cc e)
 
 pub outside_laws : (price : ℤ) → IsAtMost price most_outside_price → IsLawful (unsigned_abs price) (outside price)

@@ -21,7 +21,9 @@ party_limit market (Member v) = levied_limit v.scale v.tax (market.limit v.inner
 party_limit market (Outside out) = unsigned_abs out.price
 
 -- either is a firm that may be asked
-pub party_laws : {V M : Type 0} {market : Ghosts V M} → ((v : V) → IsLawful (market.limit v) (market.firm v)) → (party : Party V M market)
+pub party_laws : {V M : Type 0} {market : Ghosts V M} → ((v : V) → IsLawful (market.limit v) (market.firm v))
+    → (party : Party V M market)
     → IsLawful (party_limit market party) (party_firm market party)
-party_laws {V} {M} {market} laws (Member v) = levied_laws v.scale v.tax v.taxed (market.limit v.inner.now) (market.firm v.inner.now) v.levy (laws v.inner.now)
+party_laws {V} {M} {market} laws (Member v) =
+    levied_laws v.scale v.tax v.taxed (market.limit v.inner.now) (market.firm v.inner.now) v.levy (laws v.inner.now)
 party_laws {V} {M} {market} laws (Outside out) = outside_laws out.price out.small

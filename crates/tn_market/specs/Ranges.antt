@@ -22,16 +22,19 @@ pub record IsPriceOf (firms : List Firm) (trades : List Ends) (t : ℕ) (price :
 
 -- the highest price that trade t has, none where for each bound some price is above it
 abbrev pub IsHighest : List Firm → List Ends → ℕ → Option ℤ → Type 0
-IsHighest firms trades t (Some high) = IsPriceOf firms trades t high × ((price : ℤ) → IsPriceOf firms trades t price → price ≤ℤ high)
+IsHighest firms trades t (Some high) = IsPriceOf firms trades t high
+    × ((price : ℤ) → IsPriceOf firms trades t price → price ≤ℤ high)
 IsHighest firms trades t None = (bound : ℤ) → (price : ℤ) × IsPriceOf firms trades t price × (bound <ℤ price)
 
 -- the lowest price, none where for each bound some price is below it
 abbrev pub IsLowest : List Firm → List Ends → ℕ → Option ℤ → Type 0
-IsLowest firms trades t (Some low) = IsPriceOf firms trades t low × ((price : ℤ) → IsPriceOf firms trades t price → low ≤ℤ price)
+IsLowest firms trades t (Some low) = IsPriceOf firms trades t low
+    × ((price : ℤ) → IsPriceOf firms trades t price → low ≤ℤ price)
 IsLowest firms trades t None = (bound : ℤ) → (price : ℤ) × IsPriceOf firms trades t price × (price <ℤ bound)
 
 -- the nodes are those of a walk of the exchange graph from u to w of this cost, and none stands twice
-pub record IsPath (firms : List Firm) (trades : List Ends) (on u w : ℕ) (nodes : List (Option ℕ)) (cost : ℤ) : Type 0 where
+pub record IsPath (firms : List Firm) (trades : List Ends) (on u w : ℕ) (nodes : List (Option ℕ)) (cost : ℤ) : Type
+    0 where
   pub inner : List ℕ
   pub nodes_are : nodes ≡ map (said_node (length trades)) ((u ∷ inner) ++ w ∷ [])
   pub walk : walk_cost (exchange_arc firms trades on) u inner w ≡ Some cost
@@ -58,5 +61,7 @@ pub record IsRange (firms : List Firm) (trades : List Ends) (on t : ℕ) (range 
 pub record AreRanges (firms : List Firm) (trades : List Ends) (on : ℕ) (ranges : List Range) : Type 0 where
   pub one_each : length ranges ≡ length trades
   pub each : (t : ℕ) (range : Range) → slice_get ranges t ≡ Some range → IsRange firms trades on t range
-  pub highs : (prices : ℕ → ℤ) → ((t : ℕ) (range : Range) → slice_get ranges t ≡ Some range → range.high ≡ Some (prices t)) → IsEquilibrium firms trades (pos 1) on prices
-  pub lows : (prices : ℕ → ℤ) → ((t : ℕ) (range : Range) → slice_get ranges t ≡ Some range → range.low ≡ Some (prices t)) → IsEquilibrium firms trades (pos 1) on prices
+  pub highs : (prices : ℕ → ℤ) → ((t : ℕ) (range : Range) → slice_get ranges t ≡ Some range
+      → range.high ≡ Some (prices t)) → IsEquilibrium firms trades (pos 1) on prices
+  pub lows : (prices : ℕ → ℤ) → ((t : ℕ) (range : Range) → slice_get ranges t ≡ Some range
+      → range.low ≡ Some (prices t)) → IsEquilibrium firms trades (pos 1) on prices

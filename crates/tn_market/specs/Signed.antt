@@ -34,10 +34,14 @@ contract_utility trades over contracts f firm = utility_at trades over (signed_p
 -- individually rational, by bundles: each firm's signed trades are best among their parts
 abbrev pub HaveBestSigned : List Firm → List Ends → ℤ → List Contract → Type 0
 HaveBestSigned firms trades over contracts = (f : ℕ) (firm : Firm) → slice_get firms f ≡ Some firm
-    → (value : ℤ) × IsBestBetween 0 (signed_bundle trades contracts f firm) (contract_utility trades over contracts f firm) (signed_bundle trades contracts f firm) value
+    → (value : ℤ)
+    × IsBestBetween 0 (signed_bundle trades contracts f firm) (contract_utility trades over contracts f firm)
+    (signed_bundle trades contracts f firm) value
 
 -- prices complete an outcome over a denominator: they give each of its trades the price of its contract, and with them
 -- its trades are an equilibrium at this scale
-pub record Completes (firms : List Firm) (trades : List Ends) (over : ℤ) (contracts : List Contract) (prices : ℕ → ℤ) : Type 0 where
-  pub agree : (k : ℕ) (contract : Contract) → slice_get contracts k ≡ Some contract → prices contract.trade ≡ contract.price
+pub record Completes (firms : List Firm) (trades : List Ends) (over : ℤ) (contracts : List Contract) (prices : ℕ
+    → ℤ) : Type 0 where
+  pub agree : (k : ℕ) (contract : Contract) → slice_get contracts k ≡ Some contract
+      → prices contract.trade ≡ contract.price
   pub equilibrium : IsEquilibrium firms trades over (signed (length trades) contracts) prices

@@ -15,7 +15,8 @@ pub record AreSupports (firms : List Firm) (trades : List Ends) (on : ℕ) (pric
 
 -- firm f is the first whose bundle of the set is impossible
 pub record IsFirstUnable (firms : List Firm) (trades : List Ends) (on f : ℕ) : Type 0 where
-  pub before : (g : ℕ) (firm : Firm) → g < f → slice_get firms g ≡ Some firm → IsSome (firm.worth (part trades g firm.count on))
+  pub before : (g : ℕ) (firm : Firm) → g < f → slice_get firms g ≡ Some firm
+      → IsSome (firm.worth (part trades g firm.count on))
   pub firm : Firm
   pub is : slice_get firms f ≡ Some firm
   pub impossible : firm.worth (part trades f firm.count on) ≡ None
@@ -26,7 +27,8 @@ said_node null v = if v == null then None else Some v
 
 -- each firm's bundle is possible, and the nodes are a cycle of the exchange graph of this negative cost, in which none
 -- stands twice: it begins with null, or it lacks null and begins with its lowest trade
-pub record IsNegativeCycle (firms : List Firm) (trades : List Ends) (on : ℕ) (nodes : List (Option ℕ)) (cost : ℤ) : Type 0 where
+pub record IsNegativeCycle (firms : List Firm) (trades : List Ends) (on : ℕ) (nodes : List (Option ℕ)) (cost : ℤ) : Type
+    0 where
   pub possible : ArePossible firms trades on
   pub first : ℕ
   pub rest : List ℕ

@@ -17,7 +17,8 @@ pub record AreOwn (trades : List Ends) (f n : ℕ) (list : List ℕ) : Type 0 wh
 
 -- there is such a list for each firm
 abbrev pub HaveOwn : List Firm → List Ends → List (List ℕ) → Type 0
-HaveOwn firms trades lists = (f : ℕ) (firm : Firm) (list : List ℕ) → slice_get firms f ≡ Some firm → slice_get lists f ≡ Some list
+HaveOwn firms trades lists = (f : ℕ) (firm : Firm) (list : List ℕ) → slice_get firms f ≡ Some firm
+    → slice_get lists f ≡ Some list
     → AreOwn trades f firm.count list
 
 -- what a market keeps

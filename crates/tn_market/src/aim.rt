@@ -1,6 +1,6 @@
 //! Steepest ascent: from a possible bundle on, the search takes the change of one or two positions that gains most,
-//! until none gains. For a firm that meets exchange it then stands at a best bundle, wherever it began (Murota, Discrete
-//! Convex Analysis, 2003, on the maximisation of M-natural concave functions).
+//! until none gains. For a firm that meets exchange it then stands at a best bundle, wherever it began (Murota,
+//! Discrete Convex Analysis, 2003, on the maximisation of M-natural concave functions).
 
 ghost use Rattle.std.specs.Prelude.{◌≡◌, ◌*◌, ◌<◌, ◌≤◌, ◌≤ℤ◌, ◌+ℤ◌, ◌*ℤ◌, pos, if◌then◌else◌, length, IfSome, Some};
 ghost use Rattle.tn_base.specs.Arcs.{IsAtMost};
@@ -65,7 +65,8 @@ impl<V: Valuation> Aim<'_, V> {
     fn value_by(&self, x: Bundle, worth: Option<i128>) -> Option<i128>
         requires within { minus x self.now.allowed ≡ 0 }
         requires worth { worth ≡ (V.firm self.now.firm.now).worth x }
-        ensures value { result ≡ (aimed self.now.allowed self.now.scale self.now.gains.now (V.firm self.now.firm.now)).worth x }
+        ensures value { result
+            ≡ (aimed self.now.allowed self.now.scale self.now.gains.now (V.firm self.now.firm.now)).worth x }
         ensures small { IfSome result (λ value. IsAtMost value most_aimed) }
     {
         match worth {
@@ -77,7 +78,8 @@ impl<V: Valuation> Aim<'_, V> {
     /// The value of a bundle, None where it is impossible or not within the allowed positions. It asks for one worth at
     /// most.
     pub fn value(&self, x: Bundle, steps: &mut Steps<V::Mark>) -> Option<i128>
-        ensures value { result ≡ (aimed self.now.allowed self.now.scale self.now.gains.now (V.firm self.now.firm.now)).worth x }
+        ensures value { result
+            ≡ (aimed self.now.allowed self.now.scale self.now.gains.now (V.firm self.now.firm.now)).worth x }
         ensures small { IfSome result (λ value. IsAtMost value most_aimed) }
     {
         if x.minus(self.allowed) != Bundle::empty() {
@@ -91,7 +93,8 @@ impl<V: Valuation> Aim<'_, V> {
     fn better(&self, best: BundleValue, other: Bundle, worth: Option<i128>) -> BundleValue
         requires within { minus other self.now.allowed ≡ 0 }
         requires worth { worth ≡ (V.firm self.now.firm.now).worth other }
-        ensures { TriesOne (aimed self.now.allowed self.now.scale self.now.gains.now (V.firm self.now.firm.now)).worth other best result }
+        ensures { TriesOne (aimed self.now.allowed self.now.scale self.now.gains.now (V.firm self.now.firm.now)).worth
+            other best result }
     {
         match self.value_by(other, worth) {
             Some(value) if value > best.value => BundleValue {
@@ -115,7 +118,8 @@ impl<V: Valuation> Aim<'_, V> {
         requires within { minus x self.now.allowed ≡ 0 }
         requires others { minus others self.now.allowed ≡ 0 }
         requires room { (V.firm self.now.firm.now).count ≤ length worths.old }
-        ensures tried { TriesOthers (aimed self.now.allowed self.now.scale self.now.gains.now (V.firm self.now.firm.now)).worth x others
+        ensures tried { TriesOthers (aimed self.now.allowed self.now.scale self.now.gains.now
+            (V.firm self.now.firm.now)).worth x others
             (V.firm self.now.firm.now).count best result }
         ensures room { length worths.new ≡ length worths.old }
     {
@@ -129,11 +133,12 @@ impl<V: Valuation> Aim<'_, V> {
         best
     }
 
-    /// The best of a bundle and those with one or two of its positions toggled: by the row of the bundle, and by the row
-    /// of each bundle with one toggled.
+    /// The best of a bundle and those with one or two of its positions toggled: by the row of the bundle, and by the
+    /// row of each bundle with one toggled.
     fn step(&self, from: &BundleValue, steps: &mut Steps<V::Mark>) -> BundleValue
         requires within { minus from.now.bundle self.now.allowed ≡ 0 }
-        ensures { TriesNearby (aimed self.now.allowed self.now.scale self.now.gains.now (V.firm self.now.firm.now)).worth
+        ensures { TriesNearby (aimed self.now.allowed self.now.scale self.now.gains.now
+            (V.firm self.now.firm.now)).worth
             from.now.bundle (V.firm self.now.firm.now).count from.now result }
     {
         let mut singles = [None; MOST_OWN];
@@ -155,8 +160,10 @@ impl<V: Valuation> Aim<'_, V> {
 
     /// A best bundle with its value, found from a bundle at hand: that one wherever it is best.
     pub fn climb(&self, from: Bundle, steps: &mut Steps<V::Mark>) -> BundleValue
-        ensures best { IsBest (aimed self.now.allowed self.now.scale self.now.gains.now (V.firm self.now.firm.now)).worth result.bundle result.value }
-        ensures kept { StaysAt (aimed self.now.allowed self.now.scale self.now.gains.now (V.firm self.now.firm.now)).worth from result.bundle }
+        ensures best { IsBest (aimed self.now.allowed self.now.scale self.now.gains.now
+            (V.firm self.now.firm.now)).worth result.bundle result.value }
+        ensures kept { StaysAt (aimed self.now.allowed self.now.scale self.now.gains.now
+            (V.firm self.now.firm.now)).worth from result.bundle }
     {
         let mut found = self.start(from, steps);
         loop {
@@ -170,8 +177,10 @@ impl<V: Valuation> Aim<'_, V> {
 
     /// The bundle at hand, or where that has no value the empty one, which always has.
     fn start(&self, from: Bundle, steps: &mut Steps<V::Mark>) -> BundleValue
-        ensures valued { IsValued (aimed self.now.allowed self.now.scale self.now.gains.now (V.firm self.now.firm.now)).worth result }
-        ensures kept { StaysAt (aimed self.now.allowed self.now.scale self.now.gains.now (V.firm self.now.firm.now)).worth from result.bundle }
+        ensures valued { IsValued (aimed self.now.allowed self.now.scale self.now.gains.now
+            (V.firm self.now.firm.now)).worth result }
+        ensures kept { StaysAt (aimed self.now.allowed self.now.scale self.now.gains.now
+            (V.firm self.now.firm.now)).worth from result.bundle }
     {
         if let Some(value) = self.value(from, steps) {
             return BundleValue {

@@ -91,9 +91,9 @@ pub fn best_by_ascent<V: Valuation>(
 /// A best bundle among the possible ones within `allowed`, with its utility, found from a bundle at hand: that one
 /// wherever it is best. Each worth that it asks counts on `steps`. It takes no memory.
 ///
-/// The search goes up from `from` as that of `best_by_ascent` does from the empty bundle, and from that one where `from`
-/// is impossible or not within `allowed`. So where `from` is best it asks for one worth and for those with one or two
-/// positions toggled. The positions in `allowed` are own; prices, scale and firm are within the limits of
+/// The search goes up from `from` as that of `best_by_ascent` does from the empty bundle, and from that one where
+/// `from` is impossible or not within `allowed`. So where `from` is best it asks for one worth and for those with one
+/// or two positions toggled. The positions in `allowed` are own; prices, scale and firm are within the limits of
 /// `best_by_ascent`.
 pub fn best_by_ascent_from<V: Valuation>(
     firm: &V,

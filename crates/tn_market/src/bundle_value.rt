@@ -1,3 +1,5 @@
+//! A bundle with its value.
+
 use tn_base::Bundle;
 
 /// A possible bundle with its value.

@@ -1,3 +1,5 @@
+//! Laws of markets: which trade stands at a position, and what a firm's bundle is.
+
 ghost use Rattle.tn_plain_data.specs.NetworkLaws.{AreBundleLists, ArePlaces};
 
 /// The trade at a position of a firm is the one that stands there, and a firm's bundle of a set of trades has the

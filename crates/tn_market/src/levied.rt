@@ -1,3 +1,5 @@
+//! Firms under a levy.
+
 ghost use Rattle.std.specs.Prelude.{◌≡◌, ◌^◌, ◌<◌, ◌≤◌, pos, ◌≤ℤ◌, ◌-ℤ◌, ◌*ℤ◌};
 ghost use Rattle.tn_base.specs.Arcs.{IsAtMost};
 ghost use Rattle.tn_market.specs.Levied.{levied, levied_limit, IsLevy};
@@ -99,5 +101,6 @@ impl<V: Valuation> Valuation for Levied<'_, V> {
         }
     }
 
-    ghost lawful = { λ v. levied_laws v.scale v.tax v.taxed (V.limit v.inner.now) (V.firm v.inner.now) v.levy (V.lawful v.inner.now) };
+    ghost lawful = { λ v. levied_laws v.scale v.tax v.taxed (V.limit v.inner.now) (V.firm v.inner.now) v.levy
+        (V.lawful v.inner.now) };
 }

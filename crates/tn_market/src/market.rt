@@ -1,3 +1,5 @@
+//! Markets: firms, and the trades between them.
+
 ghost use Rattle.std.specs.Prelude.{◌≡◌, ◌*◌, ◌<◌, ◌≤◌, Some, All, IfOk, length, map, slice_get, get_or};
 ghost use Rattle.tn_base.specs.Sets.{has, set_of};
 ghost use Rattle.tn_plain_data.specs.Network.{own, part, IsNetwork};
@@ -31,7 +33,8 @@ impl<V: Valuation> Model for Market<V> {
 
     ghost view = { λ market. record { firms = market.firms.items; trades = market.trades.items } };
 
-    ghost invariant = { λ market. IsMarket (map V.firm market.firms.items) market.trades.items (map (λ list. list.items) market.own.items) };
+    ghost invariant = { λ market. IsMarket (map V.firm market.firms.items) market.trades.items
+        (map (λ list. list.items) market.own.items) };
 }
 
 impl<V: Valuation> Market<V> {
@@ -85,7 +88,8 @@ impl<V: Valuation> Market<V> {
     pub fn bundle_of<const W: usize>(&self, f: u32, on: &TradeSet<W>) -> Bundle
         requires wide { length self.now.trades ≤ 64 * W }
         requires firm { f < length self.now.firms }
-        ensures { (v : V) → slice_get self.now.firms f ≡ Some v → result ≡ part self.now.trades f (V.firm v).count on.now }
+        ensures { (v : V) → slice_get self.now.firms f ≡ Some v
+            → result ≡ part self.now.trades f (V.firm v).count on.now }
     {
         positions_in(&self.own[f as usize], on)
     }

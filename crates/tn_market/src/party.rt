@@ -1,3 +1,5 @@
+//! The firms of a residual market: those of the market, and those outside that take contracts over.
+
 ghost use Rattle.std.specs.Prelude.{◌≡◌, ◌+◌, ◌<◌, ◌≤◌, length, pos, unsigned_abs};
 ghost use Rattle.tn_base.specs.Arcs.{IsAtMost};
 ghost use Rattle.tn_base.specs.Sets.{has, size};
@@ -9,8 +11,8 @@ use crate::levied::Levied;
 use crate::valuation::Valuation;
 use tn_base::{Bundle, Side, Steps};
 
-/// A firm outside the market that takes a contract over: at its price it buys from the contract's seller, at position 0,
-/// and sells to its buyer, at position 1.
+/// A firm outside the market that takes a contract over: at its price it buys from the contract's seller, at position
+/// 0, and sells to its buyer, at position 1.
 #[derive(Clone, Copy, Debug)]
 pub struct Outside {
     /// The price, at most 10^17 in size.

@@ -1,3 +1,5 @@
+//! Scratch that a search for a best bundle may use.
+
 ghost use Rattle.std.specs.Prelude.{◌≡◌, length};
 ghost use Rattle.tn_market.specs.Widths.{most_own};
 

@@ -1,3 +1,5 @@
+//! Firms that can be asked what bundles are worth.
+
 ghost use Rattle.std.specs.Prelude.{◌≡◌, ℕ, ◌+◌, ◌^◌, ◌<◌, ◌≤◌, pos, length};
 ghost use Rattle.tn_base.specs.Firm.{Firm};
 ghost use Rattle.tn_base.specs.Sets.{size};
@@ -44,9 +46,10 @@ pub trait Valuation {
         ensures worth { result ≡ (firm self.now).worth x }
         ensures asked { steps.new ≡ steps.old + 1 };
 
-    /// Writes a row of worths: for each wanted position the worth of the bundle with this position toggled, at its place
-    /// of the slice, None where it is impossible. It counts as one step for each wanted position and takes no memory; the
-    /// other places are scratch. The bundle and the wanted positions are own, and there is a place for each own position.
+    /// Writes a row of worths: for each wanted position the worth of the bundle with this position toggled, at its
+    /// place of the slice, None where it is impossible. It counts as one step for each wanted position and takes no
+    /// memory; the other places are scratch. The bundle and the wanted positions are own, and there is a place for each
+    /// own position.
     fn row(
         &self,
         x: Bundle,

@@ -25,6 +25,7 @@ kept_is number balance first second =
     omega (arith, ints, a, b, c, d)
 
 -- a purchase alone that may be kept
-pub kept_worth : (purchases sales : ℕ) (keep : Option ℤ) (number balance sum : ℤ) → purchases ≡ 1 → sales ≡ 0 → keep ≡ Some number → balance ≡ sum
+pub kept_worth : (purchases sales : ℕ) (keep : Option ℤ) (number balance sum : ℤ) → purchases ≡ 1 → sales ≡ 0
+    → keep ≡ Some number → balance ≡ sum
     → Some (number +ℤ balance) ≡ by_counts purchases sales keep sum
 kept_worth purchases sales keep number balance sum one none there is = rw (one, none, there, is) refl

@@ -32,16 +32,20 @@ worth_by_counts : (count buys : ℕ) (numbers : List ℤ) (keep : Option ℤ) (x
     → size (meet x buys) ≡ p → size (minus x buys) ≡ s → sum_over (payments buys (number_at numbers)) count x ≡ balance
     → pair_worth count buys numbers keep x ≡ by_counts p s keep balance
 worth_by_counts count buys numbers keep x p s balance own p_is s_is balance_is =
-    ap (λ b. if b then by_counts (size (meet x buys)) (size (minus x buys)) keep (sum_over (payments buys (number_at numbers)) count x) else None) (lt-ltb x (2 ^ count) own)
+    ap (λ b. if b
+    then by_counts (size (meet x buys)) (size (minus x buys)) keep
+    (sum_over (payments buys (number_at numbers)) count x) else None) (lt-ltb x (2 ^ count) own)
     ∙ ap (λ (n : ℕ). by_counts n (size (minus x buys)) keep (sum_over (payments buys (number_at numbers)) count x)) p_is
     ∙ ap (λ (n : ℕ). by_counts p n keep (sum_over (payments buys (number_at numbers)) count x)) s_is
     ∙ ap (by_counts p s keep) balance_is
 
 -- the cost of a purchase, and the gain of a sale
-payment-bought : (buys : ℕ) (numbers : List ℤ) (k : ℕ) → has buys k ≡ true → payments buys (number_at numbers) k ≡ neg_ℤ (number_at numbers k)
+payment-bought : (buys : ℕ) (numbers : List ℤ) (k : ℕ) → has buys k ≡ true
+    → payments buys (number_at numbers) k ≡ neg_ℤ (number_at numbers k)
 payment-bought buys numbers k e = ap (λ b. if b then neg_ℤ (number_at numbers k) else number_at numbers k) e
 
-payment-sold : (buys : ℕ) (numbers : List ℤ) (k : ℕ) → has buys k ≡ false → payments buys (number_at numbers) k ≡ number_at numbers k
+payment-sold : (buys : ℕ) (numbers : List ℤ) (k : ℕ) → has buys k ≡ false
+    → payments buys (number_at numbers) k ≡ number_at numbers k
 payment-sold buys numbers k e = ap (λ b. if b then neg_ℤ (number_at numbers k) else number_at numbers k) e
 
 -- one purchase
@@ -65,24 +69,29 @@ one_balance count buys numbers b own bought =
 kept_of : (count buys : ℕ) (numbers : List ℤ) (keep : Option ℤ) (b : ℕ) → b < count → has buys b ≡ true
     → pair_worth count buys numbers keep (toggle 0 b) ≡ option_map (λ number. number -ℤ number_at numbers b) keep
 kept_of count buys numbers keep b own bought =
-    worth_by_counts count buys numbers keep (toggle 0 b) 1 0 (neg_ℤ (number_at numbers b)) (toggle_within 0 b count (pow_pos count) own)
+    worth_by_counts count buys numbers keep (toggle 0 b) 1 0 (neg_ℤ (number_at numbers b))
+    (toggle_within 0 b count (pow_pos count) own)
     (one_purchases buys b bought) (one_sales buys b bought) (one_balance count buys numbers b own bought)
     ∙ by keep
   where
-    by : (o : Option ℤ) → option_map (λ number. number +ℤ neg_ℤ (number_at numbers b)) o ≡ option_map (λ number. number -ℤ number_at numbers b) o
+    by : (o : Option ℤ) → option_map (λ number. number +ℤ neg_ℤ (number_at numbers b)) o
+        ≡ option_map (λ number. number -ℤ number_at numbers b) o
     by None = refl
-    by (Some number) = let e : number +ℤ neg_ℤ (number_at numbers b) ≡ number -ℤ number_at numbers b = omega (arith, ints) in ap Some e
+    by (Some number) = let e : number +ℤ neg_ℤ (number_at numbers b) ≡ number -ℤ number_at numbers b =
+        omega (arith, ints) in ap Some e
 
 -- one purchase and one sale
 absent_sale : (buys b s : ℕ) → has buys b ≡ true → has buys s ≡ false → has (toggle 0 b) s ≡ false
 absent_sale buys b s bought sold =
     has-toggle_other 0 b s (λ e. false≢true (sym sold ∙ ap (has buys) e ∙ bought)) ∙ has-zero s
 
-paired_of : (count buys : ℕ) (numbers : List ℤ) (keep : Option ℤ) (b s : ℕ) → b < count → has buys b ≡ true → s < count → has buys s ≡ false
+paired_of : (count buys : ℕ) (numbers : List ℤ) (keep : Option ℤ) (b s : ℕ) → b < count → has buys b ≡ true → s < count
+    → has buys s ≡ false
     → pair_worth count buys numbers keep (toggle (toggle 0 b) s) ≡ Some (number_at numbers s -ℤ number_at numbers b)
 paired_of count buys numbers keep b s b_own bought s_own sold =
     let own = toggle_within 0 b count (pow_pos count) b_own in
-    let more = sum_over-toggle_in (payments buys (number_at numbers)) count (toggle 0 b) s s_own (absent_sale buys b s bought sold) in
+    let more = sum_over-toggle_in (payments buys (number_at numbers)) count (toggle 0 b) s s_own
+    (absent_sale buys b s bought sold) in
     let one = one_balance count buys numbers b b_own bought in
     let gain = payment-sold buys numbers s sold in
     let sale = size-toggle_in 0 s (has-zero s) in
@@ -90,7 +99,8 @@ paired_of count buys numbers keep b s b_own bought s_own sold =
     worth_by_counts count buys numbers keep (toggle (toggle 0 b) s) 1 1 (number_at numbers s -ℤ number_at numbers b)
     (toggle_within (toggle 0 b) s count own s_own)
     (ap size (meet-toggle_out (toggle 0 b) buys s sold) ∙ one_purchases buys b bought)
-    (ap size (minus-toggle_in (toggle 0 b) buys s sold ∙ ap (λ (z : ℕ). toggle z s) (minus-toggle_out 0 buys b bought ∙ minus-none buys)) ∙ omega (arith, sale, none))
+    (ap size (minus-toggle_in (toggle 0 b) buys s sold ∙ ap (λ (z : ℕ). toggle z s) (minus-toggle_out 0 buys b bought
+    ∙ minus-none buys)) ∙ omega (arith, sale, none))
     (omega (arith, ints, more, one, gain))
 
 -- ---- from a worth to the bundle
@@ -102,7 +112,8 @@ member_below zero x more = absurd (omega (arith, more))
 member_below (suc n) x more = elim (cases_Bool (has x n)) [
   | inl e ↦ (n, e)
   | inr e ↦
-      let same : size_below n x + (if has x n then 1 else 0) ≡ size_below n x + 0 = ap (λ b. size_below n x + (if b then 1 else 0)) e in
+      let same : size_below n x + (if has x n then 1 else 0) ≡ size_below n x + 0 =
+      ap (λ b. size_below n x + (if b then 1 else 0)) e in
       member_below n x (omega (arith, more, same))
 ]
 
@@ -111,17 +122,21 @@ unfolding size
 member_of x one = member_below x x (omega (arith, one))
 
 -- without its one purchase a bundle has none
-purchases_left : (x buys k : ℕ) → has buys k ≡ true → has x k ≡ true → size (meet x buys) ≡ 1 → size (meet (toggle x k) buys) ≡ 0
+purchases_left : (x buys k : ℕ) → has buys k ≡ true → has x k ≡ true → size (meet x buys) ≡ 1
+    → size (meet (toggle x k) buys) ≡ 0
 purchases_left x buys k bought there one =
     let fewer = size-toggle_out (meet x buys) k (has-meet x buys k ∙ ap (λ b. b && has buys k) there ∙ bought) in
     ap size (meet-toggle_in x buys k bought) ∙ omega (arith, fewer, one)
 
-sales_left : (x buys k : ℕ) → has buys k ≡ false → has x k ≡ true → size (minus x buys) ≡ 1 → size (minus (toggle x k) buys) ≡ 0
+sales_left : (x buys k : ℕ) → has buys k ≡ false → has x k ≡ true → size (minus x buys) ≡ 1
+    → size (minus (toggle x k) buys) ≡ 0
 sales_left x buys k sold there one =
-    let fewer = size-toggle_out (minus x buys) k (has-minus x buys k ∙ ap (λ b. b && not (has buys k)) there ∙ ap not sold) in
+    let fewer = size-toggle_out (minus x buys) k (has-minus x buys k ∙ ap (λ b. b && not (has buys k)) there
+    ∙ ap not sold) in
     ap size (minus-toggle_in x buys k sold) ∙ omega (arith, fewer, one)
 
-one_of : (count buys : ℕ) (numbers : List ℤ) (keep : Option ℤ) (x : ℕ) → x < 2 ^ count → size (meet x buys) ≡ 1 → size (minus x buys) ≡ 0
+one_of : (count buys : ℕ) (numbers : List ℤ) (keep : Option ℤ) (x : ℕ) → x < 2 ^ count → size (meet x buys) ≡ 1
+    → size (minus x buys) ≡ 0
     → IsOnePurchase (pairing count buys numbers keep) x
 one_of count buys numbers keep x own one none =
     let member = member_of (meet x buys) one in
@@ -134,7 +149,8 @@ one_of count buys numbers keep x own one none =
       is = sym (toggle-toggle x member.0) ∙ ap (λ (z : ℕ). toggle z member.0) left;
     }
 
-pair_of : (count buys : ℕ) (numbers : List ℤ) (keep : Option ℤ) (x : ℕ) → x < 2 ^ count → size (meet x buys) ≡ 1 → size (minus x buys) ≡ 1
+pair_of : (count buys : ℕ) (numbers : List ℤ) (keep : Option ℤ) (x : ℕ) → x < 2 ^ count → size (meet x buys) ≡ 1
+    → size (minus x buys) ≡ 1
     → IsPair (pairing count buys numbers keep) x
 pair_of count buys numbers keep x own one one_sale =
     let member = member_of (meet x buys) one in
@@ -145,8 +161,10 @@ pair_of count buys numbers keep x own one one_sale =
     let apart : other.0 ≢ member.0 = (λ e. false≢true (sym sold ∙ ap (has buys) e ∙ parts.1)) in
     let still = has-toggle_other x member.0 other.0 apart ∙ sides.0 in
     let left = empty_from_counts (toggle (toggle x member.0) other.0) buys
-    (ap size (meet-toggle_out (toggle x member.0) buys other.0 sold) ∙ purchases_left x buys member.0 parts.1 parts.0 one)
-    (sales_left (toggle x member.0) buys other.0 sold still (ap size (minus-toggle_out x buys member.0 parts.1) ∙ one_sale)) in
+    (ap size (meet-toggle_out (toggle x member.0) buys other.0 sold)
+    ∙ purchases_left x buys member.0 parts.1 parts.0 one)
+    (sales_left (toggle x member.0) buys other.0 sold still (ap size (minus-toggle_out x buys member.0 parts.1)
+    ∙ one_sale)) in
     record {
       from = member.0;
       to = other.0;
@@ -154,17 +172,25 @@ pair_of count buys numbers keep x own one one_sale =
       sale = record { own = has_below x count other.0 own sides.0; sold = sold };
       is =
           sym (toggle-toggle x member.0)
-          ∙ ap (λ (z : ℕ). toggle z member.0) (sym (toggle-toggle (toggle x member.0) other.0) ∙ ap (λ (z : ℕ). toggle z other.0) left)
+          ∙ ap (λ (z : ℕ). toggle z member.0) (sym (toggle-toggle (toggle x member.0) other.0)
+          ∙ ap (λ (z : ℕ). toggle z other.0) left)
           ∙ toggle_comm 0 other.0 member.0;
     }
 
-only_of : (count buys : ℕ) (numbers : List ℤ) (keep : Option ℤ) (x : ℕ) (a : ℤ) → pair_worth count buys numbers keep x ≡ Some a
+only_of : (count buys : ℕ) (numbers : List ℤ) (keep : Option ℤ) (x : ℕ) (a : ℤ)
+    → pair_worth count buys numbers keep x ≡ Some a
     → (x ≡ 0) ⊎ (IsOnePurchase (pairing count buys numbers keep) x ⊎ IsPair (pairing count buys numbers keep) x)
 only_of count buys numbers keep x a is = elim (cases_lt x (2 ^ count)) [
-  | inr above ↦ absurd (none-some a (sym (ap (λ b. if b then by_counts (size (meet x buys)) (size (minus x buys)) keep (sum_over (payments buys (number_at numbers)) count x) else None)
+  | inr above ↦
+      absurd (none-some a
+      (sym (ap (λ b. if b
+      then by_counts (size (meet x buys)) (size (minus x buys)) keep
+      (sum_over (payments buys (number_at numbers)) count x) else None)
       (le-ltb x (2 ^ count) above)) ∙ is))
   | inl own ↦ by own (size (meet x buys)) (size (minus x buys)) refl refl
-      (sym (ap (λ b. if b then by_counts (size (meet x buys)) (size (minus x buys)) keep (sum_over (payments buys (number_at numbers)) count x) else None)
+      (sym (ap (λ b. if b
+      then by_counts (size (meet x buys)) (size (minus x buys)) keep
+      (sum_over (payments buys (number_at numbers)) count x) else None)
       (lt-ltb x (2 ^ count) own)) ∙ is)
 ]
   where
@@ -182,6 +208,7 @@ pub middlemen-pair : MiddlemenPair
 middlemen-pair sides numbers keep = record {
   none = pairing-empty (length sides) (buys_of sides) numbers keep;
   kept = λ b purchase. kept_of (length sides) (buys_of sides) numbers keep b purchase.own purchase.bought;
-  paired = λ b s purchase sale. paired_of (length sides) (buys_of sides) numbers keep b s purchase.own purchase.bought sale.own sale.sold;
+  paired = λ b s purchase sale. paired_of (length sides) (buys_of sides) numbers keep b s purchase.own purchase.bought
+      sale.own sale.sold;
   only = only_of (length sides) (buys_of sides) numbers keep;
 }

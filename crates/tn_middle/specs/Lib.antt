@@ -1,3 +1,4 @@
+-- The files of definitions of this crate.
 pub mod Pairs
 pub mod Firms
 pub mod SetLemmas

@@ -33,11 +33,14 @@ pub record IsPairing (firm : Firm) (numbers : List ℤ) (keep : Option ℤ) : Ty
   -- no trade is worth 0
   pub none : firm.worth 0 ≡ Some (pos 0)
   -- a purchase alone is worth what it is kept for less its cost, where it may be kept
-  pub kept : (b : ℕ) → IsPurchase firm b → firm.worth (toggle 0 b) ≡ option_map (λ number. number -ℤ number_at numbers b) keep
+  pub kept : (b : ℕ) → IsPurchase firm b → firm.worth (toggle 0 b)
+      ≡ option_map (λ number. number -ℤ number_at numbers b) keep
   -- a purchase with a sale is worth the gain less the cost
-  pub paired : (b s : ℕ) → IsPurchase firm b → IsSale firm s → firm.worth (toggle (toggle 0 b) s) ≡ Some (number_at numbers s -ℤ number_at numbers b)
+  pub paired : (b s : ℕ) → IsPurchase firm b → IsSale firm s
+      → firm.worth (toggle (toggle 0 b) s) ≡ Some (number_at numbers s -ℤ number_at numbers b)
   -- nothing else is possible
   pub only : (x : ℕ) (a : ℤ) → firm.worth x ≡ Some a → (x ≡ 0) ⊎ (IsOnePurchase firm x ⊎ IsPair firm x)
 
 abbrev pub MiddlemenPair : Type 0
-MiddlemenPair = (sides : List Side) (numbers : List ℤ) (keep : Option ℤ) → IsPairing (middle_firm sides numbers keep) numbers keep
+MiddlemenPair = (sides : List Side) (numbers : List ℤ) (keep : Option ℤ)
+    → IsPairing (middle_firm sides numbers keep) numbers keep

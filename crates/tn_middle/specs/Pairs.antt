@@ -27,7 +27,8 @@ by_counts (suc (suc purchases)) sales keep balance = None
 abbrev pub pair_worth : ℕ → ℕ → List ℤ → Option ℤ → ℕ → Option ℤ
 pair_worth count buys numbers keep x =
     if nat_lt x (2 ^ count)
-    then by_counts (size (meet x buys)) (size (minus x buys)) keep (sum_over (payments buys (number_at numbers)) count x)
+    then by_counts (size (meet x buys)) (size (minus x buys)) keep
+    (sum_over (payments buys (number_at numbers)) count x)
     else None
 
 abbrev pub pairing : ℕ → ℕ → List ℤ → Option ℤ → Firm

@@ -30,7 +30,11 @@ abbrev pub purchase_term : ℕ → CountTerm
 purchase_term buys = record { members = buys; number_at = listed_from (pos 0) (pos 0 ∷ pos 0 ∷ []) }
 
 abbrev pub sale_term : ℕ → ℕ → CountTerm
-sale_term count buys = record { members = minus (all_of count) buys; number_at = listed_from (negsuc 0) (pos 0 ∷ pos 0 ∷ []) }
+sale_term count buys = record {
+  members = minus (all_of count) buys;
+  number_at =
+      listed_from (negsuc 0) (pos 0 ∷ pos 0 ∷ []);
+}
 
 abbrev pub trade_term : ℕ → Option ℤ → CountTerm
 trade_term count keep = record { members = all_of count; number_at = listed_from (pos 0) (kept keep) }
@@ -44,7 +48,8 @@ pair_terms count buys keep = purchase_term buys ∷ sale_term count buys ∷ tra
 total : Option ℤ → Option ℤ → Option ℤ → ℤ → Option ℤ
 total first second third balance = both (Some balance) (both first (both second (both third (Some (pos 0)))))
 
-all_there : (first second third : Option ℤ) (number balance : ℤ) → first ≡ Some (pos 0) → second ≡ Some (pos 0) → third ≡ Some number
+all_there : (first second third : Option ℤ) (number balance : ℤ) → first ≡ Some (pos 0) → second ≡ Some (pos 0)
+    → third ≡ Some number
     → total first second third balance ≡ Some (balance +ℤ number)
 unfolding total
 all_there first second third number balance a b c =
@@ -73,34 +78,41 @@ kept_none (Some number) = refl
 -- by the counts of purchases and sales, the three numbers are there exactly where the bundle is possible
 same_by_counts : (p s : ℕ) (keep : Option ℤ) (balance a b c : ℤ) → a ≡ pos p → b ≡ pos 1 -ℤ pos s → c ≡ pos p -ℤ pos s
     → (p ≡ 0 → s ≡ 0 → balance ≡ pos 0)
-    → total (at_place (pos 0 ∷ pos 0 ∷ []) a) (at_place (pos 0 ∷ pos 0 ∷ []) b) (at_place (kept keep) c) balance ≡ by_counts p s keep balance
+    → total (at_place (pos 0 ∷ pos 0 ∷ []) a) (at_place (pos 0 ∷ pos 0 ∷ []) b) (at_place (kept keep) c) balance
+    ≡ by_counts p s keep balance
 same_by_counts zero zero keep balance a b c a_is b_is c_is empty =
     let nothing : balance ≡ pos 0 = empty refl refl in
     let zero_sum : balance +ℤ pos 0 ≡ pos 0 = omega (arith, ints, nothing) in
-    all_there _ _ _ (pos 0) balance (ap (at_place (pos 0 ∷ pos 0 ∷ [])) a_is) (ap (at_place (pos 0 ∷ pos 0 ∷ [])) b_is) (ap (at_place (kept keep)) c_is ∙ kept_none keep)
+    all_there _ _ _ (pos 0) balance (ap (at_place (pos 0 ∷ pos 0 ∷ [])) a_is) (ap (at_place (pos 0 ∷ pos 0 ∷ [])) b_is)
+    (ap (at_place (kept keep)) c_is ∙ kept_none keep)
     ∙ ap Some zero_sum
 same_by_counts zero (suc s) keep balance a b c a_is b_is c_is empty =
     let below : c ≡ negsuc s = omega (arith, ints, c_is) in
     no_third _ _ _ balance (ap (at_place (kept keep)) below)
-same_by_counts (suc zero) zero None balance a b c a_is b_is c_is empty = no_third _ _ _ balance (ap (at_place (kept None)) c_is)
+same_by_counts (suc zero) zero None balance a b c a_is b_is c_is empty =
+    no_third _ _ _ balance (ap (at_place (kept None)) c_is)
 same_by_counts (suc zero) zero (Some number) balance a b c a_is b_is c_is empty =
     let swap : balance +ℤ number ≡ number +ℤ balance = omega (arith, ints) in
-    all_there _ _ _ number balance (ap (at_place (pos 0 ∷ pos 0 ∷ [])) a_is) (ap (at_place (pos 0 ∷ pos 0 ∷ [])) b_is) (ap (at_place (kept (Some number))) c_is)
+    all_there _ _ _ number balance (ap (at_place (pos 0 ∷ pos 0 ∷ [])) a_is) (ap (at_place (pos 0 ∷ pos 0 ∷ [])) b_is)
+    (ap (at_place (kept (Some number))) c_is)
     ∙ ap Some swap
 same_by_counts (suc zero) (suc zero) keep balance a b c a_is b_is c_is empty =
     let same : balance +ℤ pos 0 ≡ balance = omega (arith, ints) in
-    all_there _ _ _ (pos 0) balance (ap (at_place (pos 0 ∷ pos 0 ∷ [])) a_is) (ap (at_place (pos 0 ∷ pos 0 ∷ [])) b_is) (ap (at_place (kept keep)) c_is ∙ kept_none keep)
+    all_there _ _ _ (pos 0) balance (ap (at_place (pos 0 ∷ pos 0 ∷ [])) a_is) (ap (at_place (pos 0 ∷ pos 0 ∷ [])) b_is)
+    (ap (at_place (kept keep)) c_is ∙ kept_none keep)
     ∙ ap Some same
 same_by_counts (suc zero) (suc (suc s)) keep balance a b c a_is b_is c_is empty =
     let below : b ≡ negsuc s = omega (arith, ints, b_is) in
     no_second _ _ _ balance (ap (at_place (pos 0 ∷ pos 0 ∷ [])) below)
-same_by_counts (suc (suc p)) s keep balance a b c a_is b_is c_is empty = no_first _ _ _ balance (ap (at_place (pos 0 ∷ pos 0 ∷ [])) a_is)
+same_by_counts (suc (suc p)) s keep balance a b c a_is b_is c_is empty =
+    no_first _ _ _ balance (ap (at_place (pos 0 ∷ pos 0 ∷ [])) a_is)
 
 -- ---- the net counts within the three sets
 
 -- own positions are among all
 in_all : (x count k : ℕ) → x < 2 ^ count → has x k ≡ true → has (all_of count) k ≡ true
-in_all x count k own there = has-set_of (λ j. true) count k ∙ ap (λ b. b && true) (lt-ltb k count (has_below x count k own there))
+in_all x count k own there = has-set_of (λ j. true) count k
+    ∙ ap (λ b. b && true) (lt-ltb k count (has_below x count k own there))
 
 meet-all : (x count : ℕ) → x < 2 ^ count → meet x (all_of count) ≡ x
 meet-all x count own = same_set _ _ (λ k. has-meet x (all_of count) k ∙ elim (cases_Bool (has x k)) [
@@ -109,7 +121,9 @@ meet-all x count own = same_set _ _ (λ k. has-meet x (all_of count) k ∙ elim 
 ])
 
 meet-twice : (x buys : ℕ) → meet (meet x buys) buys ≡ meet x buys
-meet-twice x buys = same_set _ _ (λ k. has-meet (meet x buys) buys k ∙ ap (λ b. b && has buys k) (has-meet x buys k) ∙ by (has x k) (has buys k) ∙ sym (has-meet x buys k))
+meet-twice x buys =
+    same_set _ _ (λ k. has-meet (meet x buys) buys k ∙ ap (λ b. b && has buys k) (has-meet x buys k)
+    ∙ by (has x k) (has buys k) ∙ sym (has-meet x buys k))
   where
     by : (a b : Bool) → ((a && b) && b) ≡ (a && b)
     by true true = refl
@@ -117,7 +131,9 @@ meet-twice x buys = same_set _ _ (λ k. has-meet (meet x buys) buys k ∙ ap (λ
     by false b = refl
 
 minus-meet : (x buys : ℕ) → minus (meet x buys) buys ≡ 0
-minus-meet x buys = same_set _ _ (λ k. has-minus (meet x buys) buys k ∙ ap (λ b. b && not (has buys k)) (has-meet x buys k) ∙ by (has x k) (has buys k) ∙ sym (has-zero k))
+minus-meet x buys =
+    same_set _ _ (λ k. has-minus (meet x buys) buys k ∙ ap (λ b. b && not (has buys k)) (has-meet x buys k)
+    ∙ by (has x k) (has buys k) ∙ sym (has-zero k))
   where
     by : (a b : Bool) → ((a && b) && not b) ≡ false
     by true true = refl
@@ -151,21 +167,27 @@ minus-sales x all buys own = same_set _ _ (λ k. has-minus (meet x (minus all bu
 net-purchases : (x buys : ℕ) → net buys (meet x buys) ≡ pos (size (meet x buys))
 unfolding net
 net-purchases x buys =
-    let first : pos (size (meet (meet x buys) buys)) ≡ pos (size (meet x buys)) = ap (λ (z : ℕ). pos (size z)) (meet-twice x buys) in
-    let second : pos (size (minus (meet x buys) buys)) ≡ pos 0 = ap (λ (z : ℕ). pos (size z)) (minus-meet x buys) ∙ ap pos size-zero in
+    let first : pos (size (meet (meet x buys) buys)) ≡ pos (size (meet x buys)) =
+    ap (λ (z : ℕ). pos (size z)) (meet-twice x buys) in
+    let second : pos (size (minus (meet x buys) buys)) ≡ pos 0 =
+    ap (λ (z : ℕ). pos (size z)) (minus-meet x buys) ∙ ap pos size-zero in
     omega (arith, ints, first, second)
 
-net-sales : (x count buys : ℕ) → x < 2 ^ count → net buys (meet x (minus (all_of count) buys)) ≡ pos 0 -ℤ pos (size (minus x buys))
+net-sales : (x count buys : ℕ) → x < 2 ^ count → net buys (meet x (minus (all_of count) buys)) ≡ pos 0
+    -ℤ pos (size (minus x buys))
 unfolding net
 net-sales x count buys own =
-    let first : pos (size (meet (meet x (minus (all_of count) buys)) buys)) ≡ pos 0 = ap (λ (z : ℕ). pos (size z)) (meet-sales x (all_of count) buys) ∙ ap pos size-zero in
+    let first : pos (size (meet (meet x (minus (all_of count) buys)) buys)) ≡ pos 0 =
+    ap (λ (z : ℕ). pos (size z)) (meet-sales x (all_of count) buys) ∙ ap pos size-zero in
     let second : pos (size (minus (meet x (minus (all_of count) buys)) buys)) ≡ pos (size (minus x buys)) =
     ap (λ (z : ℕ). pos (size z)) (minus-sales x (all_of count) buys (meet-all x count own)) in
     omega (arith, ints, first, second)
 
-net-trades : (x count buys : ℕ) → x < 2 ^ count → net buys (meet x (all_of count)) ≡ pos (size (meet x buys)) -ℤ pos (size (minus x buys))
+net-trades : (x count buys : ℕ) → x < 2 ^ count → net buys (meet x (all_of count)) ≡ pos (size (meet x buys))
+    -ℤ pos (size (minus x buys))
 unfolding net
-net-trades x count buys own = ap (λ (z : ℕ). pos (size (meet z buys)) -ℤ pos (size (minus z buys))) (meet-all x count own)
+net-trades x count buys own =
+    ap (λ (z : ℕ). pos (size (meet z buys)) -ℤ pos (size (minus z buys))) (meet-all x count own)
 
 -- ---- the same firm
 
@@ -181,8 +203,10 @@ pub empty_from_counts : (x buys : ℕ) → size (meet x buys) ≡ 0 → size (mi
 empty_from_counts x buys no_purchase no_sale = same_set x 0 (λ k. elim (cases_Bool (has x k)) [
   | inr e ↦ e ∙ sym (has-zero k)
   | inl e ↦
-      let first : has (meet x buys) k ≡ false = ap (λ (z : ℕ). has z k) (empty_from_size (meet x buys) no_purchase) ∙ has-zero k in
-      let second : has (minus x buys) k ≡ false = ap (λ (z : ℕ). has z k) (empty_from_size (minus x buys) no_sale) ∙ has-zero k in
+      let first : has (meet x buys) k ≡ false = ap (λ (z : ℕ). has z k) (empty_from_size (meet x buys) no_purchase)
+      ∙ has-zero k in
+      let second : has (minus x buys) k ≡ false = ap (λ (z : ℕ). has z k) (empty_from_size (minus x buys) no_sale)
+      ∙ has-zero k in
       absurd (by (has x k) (has buys k) e (sym (has-meet x buys k) ∙ first) (sym (has-minus x buys k) ∙ second))
 ])
   where
@@ -192,29 +216,43 @@ empty_from_counts x buys no_purchase no_sale = same_set x 0 (λ k. elim (cases_B
     by false b e f g = false≢true e
 
 abbrev pub pair_sum : ℕ → ℕ → List ℤ → Option ℤ → Firm
-pair_sum count buys numbers keep = nested_sum count buys (payments buys (number_at numbers)) (pair_terms count buys keep)
+pair_sum count buys numbers keep =
+    nested_sum count buys (payments buys (number_at numbers)) (pair_terms count buys keep)
 
 -- the two firms have the same worths
-same_worth : (count buys : ℕ) (numbers : List ℤ) (keep : Option ℤ) (x : ℕ) → (pair_sum count buys numbers keep).worth x ≡ pair_worth count buys numbers keep x
+same_worth : (count buys : ℕ) (numbers : List ℤ) (keep : Option ℤ) (x : ℕ)
+    → (pair_sum count buys numbers keep).worth x ≡ pair_worth count buys numbers keep x
 unfolding total
 same_worth count buys numbers keep x = elim (cases_lt x (2 ^ count)) [
   | inr above ↦
-      ap (λ b. if b then both (Some (sum_over (payments buys (number_at numbers)) count x)) (count_sum buys (pair_terms count buys keep) x) else None) (le-ltb x (2 ^ count) above)
-      ∙ sym (ap (λ b. if b then by_counts (size (meet x buys)) (size (minus x buys)) keep (sum_over (payments buys (number_at numbers)) count x) else None) (le-ltb x (2 ^ count) above))
+      ap (λ b. if b
+      then both (Some (sum_over (payments buys (number_at numbers)) count x))
+      (count_sum buys (pair_terms count buys keep) x) else None) (le-ltb x (2 ^ count) above)
+      ∙ sym (ap (λ b. if b
+      then by_counts (size (meet x buys)) (size (minus x buys)) keep
+      (sum_over (payments buys (number_at numbers)) count x) else None) (le-ltb x (2 ^ count) above))
   | inl own ↦
       let first = net-purchases x buys in
       let second = net-sales x count buys own in
       let third = net-trades x count buys own in
-      ap (λ b. if b then both (Some (sum_over (payments buys (number_at numbers)) count x)) (count_sum buys (pair_terms count buys keep) x) else None) (lt-ltb x (2 ^ count) own)
-      ∙ same_by_counts (size (meet x buys)) (size (minus x buys)) keep (sum_over (payments buys (number_at numbers)) count x)
-      (net buys (meet x buys) -ℤ pos 0) (net buys (meet x (minus (all_of count) buys)) -ℤ negsuc 0) (net buys (meet x (all_of count)) -ℤ pos 0)
+      ap (λ b. if b
+      then both (Some (sum_over (payments buys (number_at numbers)) count x))
+      (count_sum buys (pair_terms count buys keep) x) else None) (lt-ltb x (2 ^ count) own)
+      ∙ same_by_counts (size (meet x buys)) (size (minus x buys)) keep
+      (sum_over (payments buys (number_at numbers)) count x)
+      (net buys (meet x buys) -ℤ pos 0) (net buys (meet x (minus (all_of count) buys)) -ℤ negsuc 0)
+      (net buys (meet x (all_of count)) -ℤ pos 0)
       (omega (arith, ints, first)) (omega (arith, ints, second)) (omega (arith, ints, third))
-      (λ no_purchase no_sale. ap (sum_over (payments buys (number_at numbers)) count) (empty_from_counts x buys no_purchase no_sale)
+      (λ no_purchase no_sale. ap (sum_over (payments buys (number_at numbers)) count)
+      (empty_from_counts x buys no_purchase no_sale)
       ∙ sum_over-empty (payments buys (number_at numbers)) count)
-      ∙ sym (ap (λ b. if b then by_counts (size (meet x buys)) (size (minus x buys)) keep (sum_over (payments buys (number_at numbers)) count x) else None) (lt-ltb x (2 ^ count) own))
+      ∙ sym (ap (λ b. if b
+      then by_counts (size (meet x buys)) (size (minus x buys)) keep
+      (sum_over (payments buys (number_at numbers)) count x) else None) (lt-ltb x (2 ^ count) own))
 ]
 
-same_firm : (count buys : ℕ) (numbers : List ℤ) (keep : Option ℤ) → pair_sum count buys numbers keep ≡ pairing count buys numbers keep
+same_firm : (count buys : ℕ) (numbers : List ℤ) (keep : Option ℤ)
+    → pair_sum count buys numbers keep ≡ pairing count buys numbers keep
 same_firm count buys numbers keep = ap (firm_with count buys) (fun_ext (same_worth count buys numbers keep))
   where
     firm_with : ℕ → ℕ → (ℕ → Option ℤ) → Firm
@@ -230,14 +268,17 @@ kept_concave None k inside = absurd (omega (arith, inside))
 kept_concave (Some number) k inside = absurd (omega (arith, inside))
 
 -- what each of three terms meets
-each_of : (P : CountTerm → Type 0) (a b c : CountTerm) → P a → P b → P c → (i : ℕ) (term : CountTerm) → slice_get (a ∷ b ∷ c ∷ []) i ≡ Some term → P term
+each_of : (P : CountTerm → Type 0) (a b c : CountTerm) → P a → P b → P c → (i : ℕ) (term : CountTerm)
+    → slice_get (a ∷ b ∷ c ∷ []) i ≡ Some term → P term
 each_of P a b c p q r zero term is = subst P (same_Some a term is) p
 each_of P a b c p q r (suc zero) term is = subst P (same_Some b term is) q
 each_of P a b c p q r (suc (suc zero)) term is = subst P (same_Some c term is) r
 each_of P a b c p q r (suc (suc (suc i))) term is = absurd (none-some term is)
 
 sales_apart : (count buys : ℕ) → meet buys (minus (all_of count) buys) ≡ 0
-sales_apart count buys = same_set _ _ (λ k. has-meet buys (minus (all_of count) buys) k ∙ ap (λ b. has buys k && b) (has-minus (all_of count) buys k)
+sales_apart count buys =
+    same_set _ _ (λ k. has-meet buys (minus (all_of count) buys) k
+    ∙ ap (λ b. has buys k && b) (has-minus (all_of count) buys k)
     ∙ by (has buys k) (has (all_of count) k) ∙ sym (has-zero k))
   where
     by : (a b : Bool) → (a && (b && not a)) ≡ false
@@ -250,9 +291,11 @@ are_nested count buys keep bought =
     let all_own : all_of count < 2 ^ count = set_of_within (λ k. true) count in
     let sales_own : minus (all_of count) buys < 2 ^ count = minus_within (all_of count) buys count all_own in
     record {
-      own = each_of (λ t. t.members < 2 ^ count) (purchase_term buys) (sale_term count buys) (trade_term count keep) bought sales_own all_own;
+      own = each_of (λ t. t.members < 2 ^ count) (purchase_term buys) (sale_term count buys) (trade_term count keep)
+          bought sales_own all_own;
       concave = each_of (λ t. IsConcave t.number_at) (purchase_term buys) (sale_term count buys) (trade_term count keep)
-          (concave-listed (pos 0) (pos 0 ∷ pos 0 ∷ []) two_concave) (concave-listed (negsuc 0) (pos 0 ∷ pos 0 ∷ []) two_concave)
+          (concave-listed (pos 0) (pos 0 ∷ pos 0 ∷ []) two_concave)
+          (concave-listed (negsuc 0) (pos 0 ∷ pos 0 ∷ []) two_concave)
           (concave-listed (pos 0) (kept keep) (kept_concave keep));
       uncrossed = uncrossed;
     }
@@ -260,8 +303,11 @@ are_nested count buys keep bought =
     buys_in : (all_own : all_of count < 2 ^ count) → minus buys (all_of count) ≡ 0
     buys_in all_own = minus-zero_from buys (all_of count) (λ k e. in_all buys count k bought e)
 
-    sales_in : (sales_own : minus (all_of count) buys < 2 ^ count) → minus (minus (all_of count) buys) (all_of count) ≡ 0
-    sales_in sales_own = minus-zero_from (minus (all_of count) buys) (all_of count) (λ k e. in_all (minus (all_of count) buys) count k sales_own e)
+    sales_in : (sales_own : minus (all_of count) buys < 2 ^ count)
+        → minus (minus (all_of count) buys) (all_of count) ≡ 0
+    sales_in sales_own =
+        minus-zero_from (minus (all_of count) buys) (all_of count)
+        (λ k e. in_all (minus (all_of count) buys) count k sales_own e)
 
     own_all : all_of count < 2 ^ count
     own_all = set_of_within (λ k. true) count
@@ -275,7 +321,8 @@ are_nested count buys keep bought =
     uncrossed i zero first second before first_is second_is cross = omega (arith, before)
     uncrossed zero (suc j) first second before first_is second_is cross =
         each_of (λ t. Cross buys t.members → ⊥) (sale_term count buys) (trade_term count keep) (trade_term count keep)
-        (later (minus (all_of count) buys) (inl (sales_apart count buys))) (later (all_of count) (inr (buys_in own_all))) (later (all_of count) (inr (buys_in own_all)))
+        (later (minus (all_of count) buys) (inl (sales_apart count buys)))
+        (later (all_of count) (inr (buys_in own_all))) (later (all_of count) (inr (buys_in own_all)))
         j second (longer j second_is)
         (subst (λ t. Cross t.members second.members) (sym (same_Some (purchase_term buys) first first_is)) cross)
       where
@@ -285,7 +332,8 @@ are_nested count buys keep bought =
         longer (suc zero) e = e
         longer (suc (suc j)) e = absurd (none-some second e)
     uncrossed (suc zero) (suc (suc zero)) first second before first_is second_is cross =
-        let moved = subst (λ t. Cross (minus (all_of count) buys) t.members) (sym (same_Some (trade_term count keep) second second_is))
+        let moved = subst (λ t. Cross (minus (all_of count) buys) t.members)
+        (sym (same_Some (trade_term count keep) second second_is))
         (subst (λ t. Cross t.members second.members) (sym (same_Some (sale_term count buys) first first_is)) cross) in
         moved.1 (sales_in (minus_within (all_of count) buys count own_all))
     uncrossed (suc zero) (suc (suc (suc j))) first second before first_is second_is cross = none-some second second_is
@@ -303,4 +351,5 @@ pub meets : (count buys : ℕ) (numbers : List ℤ) (keep : Option ℤ) → buys
     → HasOwnBundles (pairing count buys numbers keep) × MeetsExchange (pairing count buys numbers keep)
 meets count buys numbers keep bought =
     subst (λ firm. HasOwnBundles firm × MeetsExchange firm) (same_firm count buys numbers keep)
-    (meets-nested count buys (payments buys (number_at numbers)) (pair_terms count buys keep) (are_nested count buys keep bought))
+    (meets-nested count buys (payments buys (number_at numbers)) (pair_terms count buys keep)
+    (are_nested count buys keep bought))

@@ -1,3 +1,5 @@
+//! A middleman as a firm that may be asked.
+
 ghost use Rattle.tn_market.specs.Widths.{most_worth};
 ghost use Rattle.tn_middle.specs.Firms.{firm_of};
 ghost use Rattle.tn_middle.specs.LawLemmas.{middle_laws};

@@ -1,3 +1,5 @@
+//! A middleman, and what a bundle is worth to it.
+
 ghost use Rattle.std.specs.Prelude.{◌≡◌, ◌<◌, ◌≤◌, ◌*◌, pos, length, All, if◌then◌else◌};
 ghost use Rattle.std.specs.Option.{ForSome};
 ghost use Rattle.tn_base.specs.Arcs.{IsAtMost};
@@ -44,7 +46,8 @@ impl Middle {
     /// What position `k` adds to the balance of a bundle: the gain of a sale, less the cost of a purchase.
     fn balance_at(&self, x: Bundle, k: u32) -> i128
         requires { k < self.now.trades }
-        ensures term { result ≡ (if has x k then payments self.now.buys (number_at self.now.numbers.items) k else pos 0) }
+        ensures term { result ≡ (if has x k then payments self.now.buys (number_at self.now.numbers.items) k
+            else pos 0) }
         ensures small { IsAtMost result most_amount }
     {
         let number = self.numbers[k as usize];

@@ -1,3 +1,5 @@
+//! Tests of middlemen.
+
 use crate::Middle;
 use std::test::Fail;
 use tn_base::{Asked, Bundle, Side, Steps};
@@ -39,7 +41,8 @@ fn a_purchase_is_kept(rt: HostRuntime) -> Result<(), Fail> {
     Ok(())
 }
 
-// Three bundles are best at these prices. The search stays at the one at hand, and begins at none where that is impossible.
+// Three bundles are best at these prices. The search stays at the one at hand, and begins at none where that is
+// impossible.
 #[test]
 fn a_best_bundle_is_not_left(rt: HostRuntime) -> Result<(), Fail> {
     let alloc = rt.alloc();

@@ -22,30 +22,38 @@ module _ {A B : Type 0} (f : A → B) (p : B → Bool) where
   position_or_len-map (x ∷ xs) = grind (arith, position_or_len-map xs)
 
   pub position-map : (xs : List A) → position p (map f xs) ≡ position (λ x. p (f x)) xs
-  position-map xs = λ j. cond (nat_lt (position_or_len-map xs j) (length-map xs f j)) (Some (position_or_len-map xs j)) None
+  position-map xs =
+      λ j. cond (nat_lt (position_or_len-map xs j) (length-map xs f j)) (Some (position_or_len-map xs j)) None
 
 -- what a set of texts says of a name, as the list of the texts' bytes says it
-pub has_name-keys : (keys : List (String Global)) (name : List ℕ) → list_any (λ key. bytes_eq name (string_bytes key)) keys ≡ has_name (map string_bytes keys) name
+pub has_name-keys : (keys : List (String Global)) (name : List ℕ)
+    → list_any (λ key. bytes_eq name (string_bytes key)) keys ≡ has_name (map string_bytes keys) name
 has_name-keys keys name = sym (list_any-map string_bytes (bytes_eq name) keys)
 
-pub number_of-keys : (keys : List (String Global)) (name : List ℕ) → position (λ key. bytes_eq name (string_bytes key)) keys ≡ number_of (map string_bytes keys) name
+pub number_of-keys : (keys : List (String Global)) (name : List ℕ)
+    → position (λ key. bytes_eq name (string_bytes key)) keys ≡ number_of (map string_bytes keys) name
 number_of-keys keys name = sym (position-map string_bytes (bytes_eq name) keys)
 
 -- the bytes of a set's texts once a text with a new name is inserted
-pub map-insert_name : (keys : List (String Global)) (owned : String Global) (name : List ℕ) → string_bytes owned ≡ name → has_name (map string_bytes keys) name ≡ false
+pub map-insert_name : (keys : List (String Global)) (owned : String Global) (name : List ℕ) → string_bytes owned ≡ name
+    → has_name (map string_bytes keys) name ≡ false
     → map string_bytes (insert_key string_eq keys owned) ≡ map string_bytes keys ++ name ∷ []
 map-insert_name keys owned name same new =
-    let absent : list_any (string_eq owned) keys ≡ false = has_name-keys keys (string_bytes owned) ∙ ap (has_name (map string_bytes keys)) same ∙ new in
-    ap (λ b. map string_bytes (if b then keys else keys ++ owned ∷ [])) absent ∙ map-append string_bytes keys (owned ∷ []) ∙ ap (λ n. map string_bytes keys ++ n ∷ []) same
+    let absent : list_any (string_eq owned) keys ≡ false =
+    has_name-keys keys (string_bytes owned) ∙ ap (has_name (map string_bytes keys)) same ∙ new in
+    ap (λ b. map string_bytes (if b then keys else keys ++ owned ∷ [])) absent
+    ∙ map-append string_bytes keys (owned ∷ []) ∙ ap (λ n. map string_bytes keys ++ n ∷ []) same
 
 -- a name that is found is the one that was looked for
-pub name_at_number : (names : List (List ℕ)) (name : List ℕ) (k : ℕ) → number_of names name ≡ Some k → slice_get names k ≡ Some name
+pub name_at_number : (names : List (List ℕ)) (name : List ℕ) (k : ℕ) → number_of names name ≡ Some k
+    → slice_get names k ≡ Some name
 name_at_number names name k e =
     let p = position-Some (bytes_eq name) names k [] e in
     slice_get-get_or names k [] p.0 ∙ ap Some (sym ((bytes_eq-Decides name (get_or names k [])).0 p.1))
 
 -- a place of the name shows that it is there
-pub has_name_at : (names : List (List ℕ)) (name : List ℕ) (k : ℕ) → slice_get names k ≡ Some name → has_name names name ≡ true
+pub has_name_at : (names : List (List ℕ)) (name : List ℕ) (k : ℕ) → slice_get names k ≡ Some name
+    → has_name names name ≡ true
 has_name_at names name k e = any_passes_from_place (bytes_eq name) names k name e ((bytes_eq-Decides name name).1 refl)
 
 -- what stands in a list once an item is last
@@ -54,16 +62,25 @@ pub push_cases : {A : Type 0} (xs : List A) (last x : A) (k : ℕ) → slice_get
 push_cases [] last x zero e = inr (refl, same_Some _ _ e)
 push_cases [] last x (suc k) e = absurd (none-some _ e)
 push_cases (y ∷ ys) last x zero e = inl e
-push_cases (y ∷ ys) last x (suc k) e = elim (push_cases ys last x k e) [ inl h ↦ inl h | inr h ↦ inr (omega (arith, h.0), h.1) ]
+push_cases (y ∷ ys) last x (suc k) e = elim (push_cases ys last x k e) [
+  | inl h ↦ inl h
+  | inr h ↦
+      inr (omega (arith, h.0), h.1)
+]
 
 module _ (names : List (List ℕ)) (name : List ℕ) (kept : IsNameList names) (new : has_name names name ≡ false) where
   absent : (k : ℕ) (x : List ℕ) → slice_get names k ≡ Some x → name ≡ x → ⊥
   absent k x e same = true≢false (sym (has_name_at names name k (e ∙ ap Some (sym same))) ∙ new)
 
-  once_more : (j k : ℕ) (x : List ℕ) → slice_get (names ++ name ∷ []) j ≡ Some x → slice_get (names ++ name ∷ []) k ≡ Some x → j ≡ k
+  once_more : (j k : ℕ) (x : List ℕ) → slice_get (names ++ name ∷ []) j ≡ Some x
+      → slice_get (names ++ name ∷ []) k ≡ Some x → j ≡ k
   once_more j k x at_j at_k =
       elim (push_cases names name x j at_j) [
-        | inl g ↦ elim (push_cases names name x k at_k) [ inl h ↦ kept.once j k x g h | inr h ↦ absurd (absent j x g h.1) ]
+        | inl g ↦ elim (push_cases names name x k at_k) [
+          | inl h ↦ kept.once j k x g h
+          | inr h ↦
+              absurd (absent j x g h.1)
+        ]
         | inr g ↦ elim (push_cases names name x k at_k) [ inl h ↦ absurd (absent k x h g.1) | inr h ↦ g.0 ∙ sym h.0 ]
       ]
 
@@ -71,6 +88,10 @@ module _ (names : List (List ℕ)) (name : List ℕ) (kept : IsNameList names) (
   pub IsNameList-push : is_name name ≡ true → length names < most_names → IsNameList (names ++ name ∷ [])
   IsNameList-push rule room = record {
     few = omega (arith, length-append names (name ∷ []));
-    named = λ k x e. elim (push_cases names name x k e) [ inl h ↦ kept.named k x h | inr h ↦ subst (λ (n : List ℕ). is_name n ≡ true) h.1 rule ];
+    named = λ k x e. elim (push_cases names name x k e) [
+      | inl h ↦ kept.named k x h
+      | inr h ↦
+          subst (λ (n : List ℕ). is_name n ≡ true) h.1 rule
+    ];
     once = once_more;
   }

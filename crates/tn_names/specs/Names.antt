@@ -15,7 +15,8 @@ is_between low high byte = nat_le low byte && nat_le byte high
 
 -- an ASCII letter, an ASCII digit, '_', '-' or '.'
 abbrev pub is_name_byte : ℕ → Bool
-is_name_byte byte = is_between 97 122 byte || is_between 65 90 byte || is_between 48 57 byte || byte == 95 || byte == 45 || byte == 46
+is_name_byte byte = is_between 97 122 byte || is_between 65 90 byte || is_between 48 57 byte || byte == 95 || byte == 45
+    || byte == 46
 
 -- a name has at least one and at most so many such characters
 abbrev pub is_name : List ℕ → Bool

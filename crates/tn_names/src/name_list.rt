@@ -1,3 +1,5 @@
+//! A list of different names.
+
 ghost use Rattle.std.specs.Prelude.{◌≡◌, ◌<◌, ◌++◌, [], ◌∷◌, true, false, Some, not, length, slice_get, if◌then◌else◌, ◌↔◌, IsSome, IfSome, IsTrue, IfOk, OnOk, OnErr};
 ghost use Rattle.tn_names.specs.Names.{IsNameList, has_name, is_name, number_of, most_names};
 

@@ -1,3 +1,5 @@
+//! The rule for a name.
+
 ghost use Rattle.std.specs.Prelude.{◌≡◌};
 ghost use Rattle.std.specs.List.{list_all};
 ghost use Rattle.tn_names.specs.Names.{is_name, is_name_byte};

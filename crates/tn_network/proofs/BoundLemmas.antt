@@ -62,10 +62,12 @@ lesser-is o a z is le = elim (lesser-cases o z) [
 
 -- an arc from a node that has a number leads to one that has a number, and costs at least the difference
 abbrev pub KeepsFound : (ℕ → ℕ → Option ℤ) → (ℕ → Option ℤ) → Type 0
-KeepsFound arc found = (u v : ℕ) (a cost : ℤ) → found u ≡ Some a → arc u v ≡ Some cost → (b : ℤ) × (found v ≡ Some b) × (b ≤ℤ (a +ℤ cost))
+KeepsFound arc found = (u v : ℕ) (a cost : ℤ) → found u ≡ Some a → arc u v ≡ Some cost → (b : ℤ) × (found v ≡ Some b)
+    × (b ≤ℤ (a +ℤ cost))
 
 -- with numbers of all nodes above them they keep the arcs
-lesser-keeps : (arc : ℕ → ℕ → Option ℤ) (found : ℕ → Option ℤ) (label : ℕ → ℤ) → KeepsFound arc found → KeepsArcs arc label → KeepsArcs arc (λ v. lesser (found v) (label v))
+lesser-keeps : (arc : ℕ → ℕ → Option ℤ) (found : ℕ → Option ℤ) (label : ℕ → ℤ) → KeepsFound arc found
+    → KeepsArcs arc label → KeepsArcs arc (λ v. lesser (found v) (label v))
 lesser-keeps arc found label some all u v cost is = elim (lesser-cases (found u) (label u)) [
   | inl e ↦
       let kept = all u v cost is in
@@ -83,15 +85,19 @@ pub record AreNumbers (arc : ℕ → ℕ → Option ℤ) (null : ℕ) (label : �
   pub keeps : KeepsArcs arc label
   pub at_null : label null ≡ pos 0
 
-raised : (arc : ℕ → ℕ → Option ℤ) (null : ℕ) (found : ℕ → Option ℤ) (label : ℕ → ℤ) → KeepsFound arc found → found null ≡ Some (pos 0) → AreNumbers arc null label
+raised : (arc : ℕ → ℕ → Option ℤ) (null : ℕ) (found : ℕ → Option ℤ) (label : ℕ → ℤ) → KeepsFound arc found
+    → found null ≡ Some (pos 0) → AreNumbers arc null label
     → (more : ℤ) → pos 0 ≤ℤ more → AreNumbers arc null (λ v. lesser (found v) (label v +ℤ more))
 raised arc null found label some begin are more positive = record {
-  keeps = lesser-keeps arc found (λ v. label v +ℤ more) some (λ u v cost is. let kept = are.keeps u v cost is in omega (arith, ints, kept));
-  at_null = lesser-is (found null) (pos 0) (label null +ℤ more) begin (let zero = are.at_null in omega (arith, ints, zero, positive));
+  keeps = lesser-keeps arc found (λ v. label v +ℤ more) some (λ u v cost is. let kept = are.keeps u v cost is in
+      omega (arith, ints, kept));
+  at_null = lesser-is (found null) (pos 0) (label null +ℤ more) begin (let zero = are.at_null in
+      omega (arith, ints, zero, positive));
 }
 
 -- numbers that are as high as found
-reach : (arc : ℕ → ℕ → Option ℤ) (null : ℕ) (found : ℕ → Option ℤ) (label : ℕ → ℤ) → KeepsFound arc found → found null ≡ Some (pos 0) → AreNumbers arc null label
+reach : (arc : ℕ → ℕ → Option ℤ) (null : ℕ) (found : ℕ → Option ℤ) (label : ℕ → ℤ) → KeepsFound arc found
+    → found null ≡ Some (pos 0) → AreNumbers arc null label
     → (t : ℕ) (a : ℤ) → found t ≡ Some a → label t ≤ℤ a → (high : ℕ → ℤ) × AreNumbers arc null high × (high t ≡ a)
 reach arc null found label some begin are t a is below = (
   (λ v. lesser (found v) (label v +ℤ (a -ℤ label t))),
@@ -100,13 +106,15 @@ reach arc null found label some begin are t a is below = (
 )
 
 -- numbers above each bound, where none is found
-pass : (arc : ℕ → ℕ → Option ℤ) (null : ℕ) (found : ℕ → Option ℤ) (label : ℕ → ℤ) → KeepsFound arc found → found null ≡ Some (pos 0) → AreNumbers arc null label
+pass : (arc : ℕ → ℕ → Option ℤ) (null : ℕ) (found : ℕ → Option ℤ) (label : ℕ → ℤ) → KeepsFound arc found
+    → found null ≡ Some (pos 0) → AreNumbers arc null label
     → (t : ℕ) → found t ≡ None → (bound : ℤ) → (high : ℕ → ℤ) × AreNumbers arc null high × (bound <ℤ high t)
 pass arc null found label some begin are t is bound = by_lt_z (label t) (bound +ℤ pos 1)
     (λ less. above ((bound +ℤ pos 1) -ℤ label t) (omega (arith, ints, less)) (omega (arith, ints)))
     (λ most. above (pos 0) (omega (arith, ints)) (omega (arith, ints, most)))
   where
-    above : (more : ℤ) → pos 0 ≤ℤ more → bound <ℤ (label t +ℤ more) → (high : ℕ → ℤ) × AreNumbers arc null high × (bound <ℤ high t)
+    above : (more : ℤ) → pos 0 ≤ℤ more → bound <ℤ (label t +ℤ more) → (high : ℕ → ℤ) × AreNumbers arc null high
+        × (bound <ℤ high t)
     above more positive over = (
       (λ v. lesser (found v) (label v +ℤ more)),
       raised arc null found label some begin are more positive,
@@ -128,7 +136,8 @@ from_null-here : (null : ℕ) (distance : ℕ → Option ℤ) → from_null null
 from_null-here null distance = ap (λ (b : Bool). if b then Some (pos 0) else distance null) (eq-eqb null null refl)
 
 from_null-other : (null : ℕ) (distance : ℕ → Option ℤ) (v : ℕ) → v < null → from_null null distance v ≡ distance v
-from_null-other null distance v below = ap (λ (b : Bool). if b then Some (pos 0) else distance v) (ne_eqb v null (λ e. omega (arith, below, e)))
+from_null-other null distance v below = ap (λ (b : Bool). if b then Some (pos 0)
+    else distance v) (ne_eqb v null (λ e. omega (arith, below, e)))
 
 -- what is reached from null along arcs, and comes back to null at no negative cost
 record IsReach (arc : ℕ → ℕ → Option ℤ) (null : ℕ) (reached : ℕ → ℤ → Type 0) : Type 0 where
@@ -137,11 +146,13 @@ record IsReach (arc : ℕ → ℕ → Option ℤ) (null : ℕ) (reached : ℕ �
   next : (u v : ℕ) (a cost : ℤ) → reached u a → arc u v ≡ Some cost → reached v (a +ℤ cost)
   back : (cost : ℤ) → reached null cost → pos 0 ≤ℤ cost
 
-reach-keeps : (arc : ℕ → ℕ → Option ℤ) (null : ℕ) (reached : ℕ → ℤ → Type 0) (distance : ℕ → Option ℤ) → IsReach arc null reached
+reach-keeps : (arc : ℕ → ℕ → Option ℤ) (null : ℕ) (reached : ℕ → ℤ → Type 0) (distance : ℕ → Option ℤ)
+    → IsReach arc null reached
     → ((v : ℕ) → v < null → IsLeastReach reached v (distance v)) → KeepsFound arc (from_null null distance)
 reach-keeps arc null reached distance is least u v a cost u_is arc_is = there (elim (cases_eq u null) [
   | inl e ↦
-      let zero : pos 0 ≡ a = same_Some _ _ (sym (ap (λ (b : Bool). if b then Some (pos 0) else distance u) (eq-eqb u null e)) ∙ u_is) in
+      let zero : pos 0 ≡ a =
+      same_Some _ _ (sym (ap (λ (b : Bool). if b then Some (pos 0) else distance u) (eq-eqb u null e)) ∙ u_is) in
       let same : cost ≡ a +ℤ cost = omega (arith, ints, zero) in
       subst (reached v) same (is.first v cost (subst (λ (w : ℕ). arc w v ≡ Some cost) e arc_is))
   | inr d ↦
@@ -150,13 +161,18 @@ reach-keeps arc null reached distance is least u v a cost u_is arc_is = there (e
       is.next u v a cost (subst (IsLeastReach reached u) mine (least u below)).0 arc_is
 ])
   where
-    at : (o : Option ℤ) → distance v ≡ o → IsLeastReach reached v o → v < null → reached v (a +ℤ cost) → (b : ℤ) × (from_null null distance v ≡ Some b) × (b ≤ℤ (a +ℤ cost))
+    at : (o : Option ℤ) → distance v ≡ o → IsLeastReach reached v o → v < null → reached v (a +ℤ cost) → (b : ℤ)
+        × (from_null null distance v ≡ Some b) × (b ≤ℤ (a +ℤ cost))
     at None o_is none below here = absurd (none (a +ℤ cost) here)
     at (Some b) o_is some below here = (b, from_null-other null distance v below ∙ o_is, some.1 (a +ℤ cost) here)
 
     there : reached v (a +ℤ cost) → (b : ℤ) × (from_null null distance v ≡ Some b) × (b ≤ℤ (a +ℤ cost))
     there here = elim (cases_eq v null) [
-      | inl e ↦ (pos 0, ap (λ (b : Bool). if b then Some (pos 0) else distance v) (eq-eqb v null e), is.back (a +ℤ cost) (subst (λ (w : ℕ). reached w (a +ℤ cost)) e here))
+      | inl e ↦ (
+        pos 0,
+        ap (λ (b : Bool). if b then Some (pos 0) else distance v) (eq-eqb v null e),
+        is.back (a +ℤ cost) (subst (λ (w : ℕ). reached w (a +ℤ cost)) e here),
+      )
       | inr d ↦
           let below : v < null = (let within = (is.within u v cost arc_is).1 in omega (arith, within, d)) in
           at (distance v) refl (least v below) below here
@@ -164,7 +180,8 @@ reach-keeps arc null reached distance is least u v a cost u_is arc_is = there (e
 
 -- numbers for all nodes but null keep the arcs with 0 for null
 all-keeps : (arc : ℕ → ℕ → Option ℤ) (null : ℕ) (reached : ℕ → ℤ → Type 0) (high : ℕ → ℤ) → IsReach arc null reached
-    → ((v : ℕ) → v < null → IsLeastReach reached v (Some (high v))) → AreNumbers arc null (λ v. if v == null then pos 0 else high v)
+    → ((v : ℕ) → v < null → IsLeastReach reached v (Some (high v)))
+    → AreNumbers arc null (λ v. if v == null then pos 0 else high v)
 all-keeps arc null reached high is least = record {
   keeps = λ u v cost arc_is.
       let next = reach-keeps arc null reached (λ v. Some (high v)) is least u v _ cost (whole u (u == null)) arc_is in
@@ -187,36 +204,51 @@ from_costs arc null v cost = (vs : List ℕ) × (walk_cost arc null vs v ≡ Som
 abbrev pub to_costs : (ℕ → ℕ → Option ℤ) → ℕ → ℕ → ℤ → Type 0
 to_costs arc null v cost = (vs : List ℕ) × (walk_cost arc v vs null ≡ Some cost)
 
-from_least : (arc : ℕ → ℕ → Option ℤ) (null v : ℕ) (o : Option ℤ) → IsDistance arc null v o → IsLeastReach (from_costs arc null) v o
-from_least arc null v None none = λ cost reached. let gone = none reached.0 in let here = reached.1 in absurd (cc (gone, here))
-from_least arc null v (Some cost) some = ((some.0, some.1.walk), λ other reached. some.1.least reached.0 other reached.1)
+from_least : (arc : ℕ → ℕ → Option ℤ) (null v : ℕ) (o : Option ℤ) → IsDistance arc null v o
+    → IsLeastReach (from_costs arc null) v o
+from_least arc null v None none = λ cost reached. let gone = none reached.0 in let here = reached.1 in
+    absurd (cc (gone, here))
+from_least arc null v (Some cost) some = (
+  (some.0, some.1.walk),
+  λ other reached. some.1.least reached.0 other reached.1,
+)
 
-to_least : (arc : ℕ → ℕ → Option ℤ) (null v : ℕ) (o : Option ℤ) → IsDistance arc v null o → IsLeastReach (to_costs arc null) v o
-to_least arc null v None none = λ cost reached. let gone = none reached.0 in let here = reached.1 in absurd (cc (gone, here))
+to_least : (arc : ℕ → ℕ → Option ℤ) (null v : ℕ) (o : Option ℤ) → IsDistance arc v null o
+    → IsLeastReach (to_costs arc null) v o
+to_least arc null v None none = λ cost reached. let gone = none reached.0 in let here = reached.1 in
+    absurd (cc (gone, here))
 to_least arc null v (Some cost) some = ((some.0, some.1.walk), λ other reached. some.1.least reached.0 other reached.1)
 
-from_reach : (arc : ℕ → ℕ → Option ℤ) (null : ℕ) (label : ℕ → ℤ) → ((u v : ℕ) (cost : ℤ) → arc u v ≡ Some cost → (u ≤ null) × (v ≤ null)) → KeepsArcs arc label
+from_reach : (arc : ℕ → ℕ → Option ℤ) (null : ℕ) (label : ℕ → ℤ)
+    → ((u v : ℕ) (cost : ℤ) → arc u v ≡ Some cost → (u ≤ null) × (v ≤ null)) → KeepsArcs arc label
     → IsReach arc null (from_costs arc null)
 from_reach arc null label within keeps = record {
   within = within;
   first = λ v cost is. ([], is);
   next = λ u v a cost reached is. (reached.0 ++ u ∷ [], walk-joined arc null reached.0 u [] v a cost reached.1 is);
-  back = λ cost reached. let kept = walk-kept arc label keeps null reached.0 null cost reached.1 in omega (arith, ints, kept);
+  back = λ cost reached. let kept = walk-kept arc label keeps null reached.0 null cost reached.1 in
+      omega (arith, ints, kept);
 }
 
-to_reach : (arc : ℕ → ℕ → Option ℤ) (null : ℕ) (label : ℕ → ℤ) → ((u v : ℕ) (cost : ℤ) → arc u v ≡ Some cost → (u ≤ null) × (v ≤ null)) → KeepsArcs arc label
+to_reach : (arc : ℕ → ℕ → Option ℤ) (null : ℕ) (label : ℕ → ℤ)
+    → ((u v : ℕ) (cost : ℤ) → arc u v ≡ Some cost → (u ≤ null) × (v ≤ null)) → KeepsArcs arc label
     → IsReach (λ u v. arc v u) null (to_costs arc null)
 to_reach arc null label within keeps = record {
   within = λ u v cost is. let two = within v u cost is in (two.1, two.0);
   first = λ v cost is. ([], is);
   next = λ u v a cost reached is.
-      let swap : cost +ℤ a ≡ a +ℤ cost = omega (arith, ints) in
-      (u ∷ reached.0, both_are (arc v u) (walk_cost arc u reached.0 null) cost a is reached.1 ∙ ap (λ (z : ℤ). Some z) swap);
-  back = λ cost reached. let kept = walk-kept arc label keeps null reached.0 null cost reached.1 in omega (arith, ints, kept);
+      let swap : cost +ℤ a ≡ a +ℤ cost = omega (arith, ints) in (
+        u ∷ reached.0,
+        both_are (arc v u) (walk_cost arc u reached.0 null) cost a is reached.1
+            ∙ ap (λ (z : ℤ). Some z) swap,
+      );
+  back = λ cost reached. let kept = walk-kept arc label keeps null reached.0 null cost reached.1 in
+      omega (arith, ints, kept);
 }
 
 -- numbers that keep the arcs keep those of the graph turned round with their signs changed
-negated : (arc : ℕ → ℕ → Option ℤ) (null : ℕ) (label : ℕ → ℤ) → AreNumbers arc null label → AreNumbers (λ u v. arc v u) null (λ v. neg_ℤ (label v))
+negated : (arc : ℕ → ℕ → Option ℤ) (null : ℕ) (label : ℕ → ℤ) → AreNumbers arc null label
+    → AreNumbers (λ u v. arc v u) null (λ v. neg_ℤ (label v))
 negated arc null label are = record {
   keeps = λ u v cost is. let kept = are.keeps v u cost is in omega (arith, ints, kept);
   at_null = let zero = are.at_null in omega (arith, ints, zero);
@@ -225,20 +257,25 @@ negated arc null label are = record {
 -- ---- prices
 
 -- in an equilibrium each bundle is possible
-pub equilibrium_possible : (firms : List Firm) (trades : List Ends) (scale : ℤ) (on : ℕ) (prices : ℕ → ℤ) → IsEquilibrium firms trades scale on prices → ArePossible firms trades on
+pub equilibrium_possible : (firms : List Firm) (trades : List Ends) (scale : ℤ) (on : ℕ) (prices : ℕ → ℤ)
+    → IsEquilibrium firms trades scale on prices → ArePossible firms trades on
 equilibrium_possible firms trades scale on prices equilibrium f firm is =
     let best = equilibrium f firm is in
     let worth = option_map-some _ (firm.worth (part trades f firm.count on)) best.0 best.1.is in
     subst IsSome (sym worth.1) refl
 
 -- and no closed walk of the exchange graph is negative
-pub equilibrium_no_cycle : (firms : List Firm) (trades : List Ends) (on : ℕ) (prices : ℕ → ℤ) → IsNetwork firms trades → IsEquilibrium firms trades (pos 1) on prices
+pub equilibrium_no_cycle : (firms : List Firm) (trades : List Ends) (on : ℕ) (prices : ℕ → ℤ) → IsNetwork firms trades
+    → IsEquilibrium firms trades (pos 1) on prices
     → HasNoNegativeCycle (exchange_arc firms trades on)
 equilibrium_no_cycle firms trades on prices network equilibrium u vs cost walk =
-    let kept = walk-kept (exchange_arc firms trades on) (price_of_node (length trades) prices) (arcs_from_supports firms trades on prices network equilibrium) u vs u cost walk in
+    let kept = walk-kept (exchange_arc firms trades on) (price_of_node (length trades) prices)
+    (arcs_from_supports firms trades on prices network equilibrium) u vs u cost walk in
     omega (arith, ints, kept)
 
-module _ (firms : List Firm) (trades : List Ends) (on : ℕ) (prices : ℕ → ℤ) (network : IsNetwork firms trades) (meet : MeetExchange firms) (supports : IsEquilibrium firms trades (pos 1) on prices) where
+module _ (firms : List Firm) (trades : List Ends) (on : ℕ) (prices : ℕ
+    → ℤ) (network : IsNetwork firms trades) (meet : MeetExchange firms)
+    (supports : IsEquilibrium firms trades (pos 1) on prices) where
   abbrev arc : ℕ → ℕ → Option ℤ
   arc = exchange_arc firms trades on
 
@@ -249,27 +286,37 @@ module _ (firms : List Firm) (trades : List Ends) (on : ℕ) (prices : ℕ → �
   possible = equilibrium_possible firms trades (pos 1) on prices supports
 
   -- the prices of an equilibrium of the set are numbers of the nodes
-  numbers_of : (others : ℕ → ℤ) → IsEquilibrium firms trades (pos 1) on others → AreNumbers arc null (price_of_node null others)
+  numbers_of : (others : ℕ → ℤ) → IsEquilibrium firms trades (pos 1) on others
+      → AreNumbers arc null (price_of_node null others)
   numbers_of others equilibrium = record {
     keeps = arcs_from_supports firms trades on others network equilibrium;
     at_null = ap (λ (b : Bool). if b then others null else pos 0) (le-ltb null null (omega arith));
   }
 
   -- and numbers of the nodes are prices
-  equilibrium_of : (label : ℕ → ℤ) → AreNumbers arc null label → IsEquilibrium firms trades (pos 1) on (λ k. label k -ℤ label null)
+  equilibrium_of : (label : ℕ → ℤ) → AreNumbers arc null label
+      → IsEquilibrium firms trades (pos 1) on (λ k. label k -ℤ label null)
   equilibrium_of label are = labels_are_supports firms trades on label network meet possible are.keeps
 
   less_zero : (label : ℕ → ℤ) → AreNumbers arc null label → (t : ℕ) → label t -ℤ label null ≡ label t
   less_zero label are t = let zero = are.at_null in omega (arith, ints, zero)
 
   price_from : (label : ℕ → ℤ) → AreNumbers arc null label → (t : ℕ) → IsPriceOf firms trades t (label t)
-  price_from label are t = record { on = on; prices = (λ k. label k -ℤ label null); equilibrium = equilibrium_of label are; is = less_zero label are t }
+  price_from label are t = record {
+    on = on;
+    prices = (λ k. label k -ℤ label null);
+    equilibrium =
+        equilibrium_of label are;
+    is = less_zero label are t;
+  }
 
   -- the prices of any equilibrium are those of one of the set
-  numbers_with : (t : ℕ) (price : ℤ) → t < null → IsPriceOf firms trades t price → (label : ℕ → ℤ) × AreNumbers arc null label × (label t ≡ price)
+  numbers_with : (t : ℕ) (price : ℤ) → t < null → IsPriceOf firms trades t price → (label : ℕ → ℤ)
+      × AreNumbers arc null label × (label t ≡ price)
   numbers_with t price below is = (
     price_of_node null is.prices,
-    numbers_of is.prices (efficient_sets_share_prices firms trades (pos 1) is.on on is.prices network (omega (arith, ints)) is.equilibrium
+    numbers_of is.prices (efficient_sets_share_prices firms trades (pos 1) is.on on is.prices network
+        (omega (arith, ints)) is.equilibrium
         (equilibrium_is_efficient firms trades (pos 1) on prices network (omega (arith, ints)) supports)),
     ap (λ (b : Bool). if b then is.prices t else pos 0) (lt-ltb t null below) ∙ is.is,
   )
@@ -283,20 +330,24 @@ module _ (firms : List Firm) (trades : List Ends) (on : ℕ) (prices : ℕ → �
   to_is : IsReach (λ u v. arc v u) null (to_costs arc null)
   to_is = to_reach arc null (price_of_node null prices) (arc_within firms trades on) first_numbers.keeps
 
-  highest : (distance : ℕ → Option ℤ) → AreDistancesFromNull firms trades on distance → (t : ℕ) → t < null → IsHighest firms trades t (distance t)
+  highest : (distance : ℕ → Option ℤ) → AreDistancesFromNull firms trades on distance → (t : ℕ) → t < null
+      → IsHighest firms trades t (distance t)
   highest distance are t below = by (distance t) refl (are t below)
     where
       keeps : KeepsFound arc (from_null null distance)
-      keeps = reach-keeps arc null (from_costs arc null) distance from_is (λ v inside. from_least arc null v (distance v) (are v inside))
+      keeps = reach-keeps arc null (from_costs arc null) distance from_is
+          (λ v inside. from_least arc null v (distance v) (are v inside))
 
       by : (o : Option ℤ) → distance t ≡ o → IsDistance arc null t o → IsHighest firms trades t o
       by None e none = λ bound.
-          let high = pass arc null (from_null null distance) (price_of_node null prices) keeps (from_null-here null distance) first_numbers t (from_null-other null distance t below ∙ e) bound in
+          let high = pass arc null (from_null null distance) (price_of_node null prices) keeps
+          (from_null-here null distance) first_numbers t (from_null-other null distance t below ∙ e) bound in
           (high.0 t, price_from high.0 high.1 t, high.2)
       by (Some cost) e walk =
           let kept = walk-kept arc (price_of_node null prices) first_numbers.keeps null walk.0 t cost walk.1.walk in
           let zero = first_numbers.at_null in
-          let high = reach arc null (from_null null distance) (price_of_node null prices) keeps (from_null-here null distance) first_numbers t cost (from_null-other null distance t below ∙ e)
+          let high = reach arc null (from_null null distance) (price_of_node null prices) keeps
+          (from_null-here null distance) first_numbers t cost (from_null-other null distance t below ∙ e)
           (omega (arith, ints, kept, zero)) in (
             subst (IsPriceOf firms trades t) high.2 (price_from high.0 high.1 t),
             λ price is.
@@ -314,23 +365,27 @@ module _ (firms : List Firm) (trades : List Ends) (on : ℕ) (prices : ℕ → �
       first = negated arc null (price_of_node null prices) first_numbers
 
       keeps : KeepsFound (λ u v. arc v u) (from_null null distance)
-      keeps = reach-keeps (λ u v. arc v u) null (to_costs arc null) distance to_is (λ v inside. to_least arc null v (distance v) (are v inside))
+      keeps = reach-keeps (λ u v. arc v u) null (to_costs arc null) distance to_is
+          (λ v inside. to_least arc null v (distance v) (are v inside))
 
       back : (label : ℕ → ℤ) → AreNumbers (λ u v. arc v u) null label → AreNumbers arc null (λ v. neg_ℤ (label v))
       back label found = negated (λ u v. arc v u) null label found
 
       by : (o : Option ℤ) → distance t ≡ o → IsDistance arc t null o → IsLowest firms trades t (option_map neg_ℤ o)
       by None e none = λ bound.
-          let high = pass (λ u v. arc v u) null (from_null null distance) (λ v. neg_ℤ (price_of_node null prices v)) keeps (from_null-here null distance) first t
+          let high = pass (λ u v. arc v u) null (from_null null distance) (λ v. neg_ℤ (price_of_node null prices v))
+          keeps (from_null-here null distance) first t
           (from_null-other null distance t below ∙ e) (neg_ℤ bound) in
           let over = high.2 in
           (neg_ℤ (high.0 t), price_from (λ v. neg_ℤ (high.0 v)) (back high.0 high.1) t, omega (arith, ints, over))
       by (Some cost) e walk =
           let kept = walk-kept arc (price_of_node null prices) first_numbers.keeps t walk.0 null cost walk.1.walk in
           let zero = first_numbers.at_null in
-          let high = reach (λ u v. arc v u) null (from_null null distance) (λ v. neg_ℤ (price_of_node null prices v)) keeps (from_null-here null distance) first t cost
+          let high = reach (λ u v. arc v u) null (from_null null distance) (λ v. neg_ℤ (price_of_node null prices v))
+          keeps (from_null-here null distance) first t cost
           (from_null-other null distance t below ∙ e) (omega (arith, ints, kept, zero)) in (
-            subst (IsPriceOf firms trades t) (ap neg_ℤ high.2) (price_from (λ v. neg_ℤ (high.0 v)) (back high.0 high.1) t),
+            subst (IsPriceOf firms trades t) (ap neg_ℤ high.2) (price_from (λ v. neg_ℤ (high.0 v)) (back high.0 high.1)
+                t),
             λ price is.
                 let others = numbers_with t price below is in
                 let least = walk-kept arc others.0 others.1.keeps t walk.0 null cost walk.1.walk in
@@ -340,22 +395,29 @@ module _ (firms : List Firm) (trades : List Ends) (on : ℕ) (prices : ℕ → �
           )
 
   -- numbers of the nodes that are prices of all trades make an equilibrium
-  priced : (label : ℕ → ℤ) (wanted : ℕ → ℤ) → AreNumbers arc null label → ((t : ℕ) → t < null → wanted t ≡ label t) → IsEquilibrium firms trades (pos 1) on wanted
+  priced : (label : ℕ → ℤ) (wanted : ℕ → ℤ) → AreNumbers arc null label → ((t : ℕ) → t < null → wanted t ≡ label t)
+      → IsEquilibrium firms trades (pos 1) on wanted
   priced label wanted are same =
-      same_prices firms trades (pos 1) on wanted (λ k. label k -ℤ label null) network (λ t below. same t below ∙ sym (less_zero label are t)) (equilibrium_of label are)
+      same_prices firms trades (pos 1) on wanted (λ k. label k -ℤ label null) network (λ t below. same t below
+      ∙ sym (less_zero label are t)) (equilibrium_of label are)
 
-  highs : (high : ℕ → ℤ) → AreDistancesFromNull firms trades on (λ t. Some (high t)) → IsEquilibrium firms trades (pos 1) on high
+  highs : (high : ℕ → ℤ) → AreDistancesFromNull firms trades on (λ t. Some (high t))
+      → IsEquilibrium firms trades (pos 1) on high
   highs high are =
       priced (λ v. if v == null then pos 0 else high v) high
-      (all-keeps arc null (from_costs arc null) high from_is (λ v inside. from_least arc null v (Some (high v)) (are v inside)))
+      (all-keeps arc null (from_costs arc null) high from_is
+      (λ v inside. from_least arc null v (Some (high v)) (are v inside)))
       (λ t below. sym (ap (λ (b : Bool). if b then pos 0 else high t) (ne_eqb t null (λ e. omega (arith, below, e)))))
 
-  lows : (low : ℕ → ℤ) → AreDistancesToNull firms trades on (λ t. Some (neg_ℤ (low t))) → IsEquilibrium firms trades (pos 1) on low
+  lows : (low : ℕ → ℤ) → AreDistancesToNull firms trades on (λ t. Some (neg_ℤ (low t)))
+      → IsEquilibrium firms trades (pos 1) on low
   lows low are =
       priced (λ v. neg_ℤ (if v == null then pos 0 else neg_ℤ (low v))) low
       (negated (λ u v. arc v u) null _
-      (all-keeps (λ u v. arc v u) null (to_costs arc null) (λ v. neg_ℤ (low v)) to_is (λ v inside. to_least arc null v (Some (neg_ℤ (low v))) (are v inside))))
-      (λ t below. twice (low t) _ (ap (λ (b : Bool). if b then pos 0 else neg_ℤ (low t)) (ne_eqb t null (λ e. omega (arith, below, e)))))
+      (all-keeps (λ u v. arc v u) null (to_costs arc null) (λ v. neg_ℤ (low v)) to_is
+      (λ v inside. to_least arc null v (Some (neg_ℤ (low v))) (are v inside))))
+      (λ t below. twice (low t) _ (ap (λ (b : Bool). if b then pos 0
+      else neg_ℤ (low t)) (ne_eqb t null (λ e. omega (arith, below, e)))))
     where
       twice : (z w : ℤ) → w ≡ neg_ℤ z → z ≡ neg_ℤ w
       twice z w e = omega (arith, ints, e)

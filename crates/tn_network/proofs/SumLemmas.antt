@@ -30,14 +30,20 @@ abbrev pub AllFrom : {A : Type 0} → (ℕ → A → Type 0) → ℕ → List A 
 AllFrom P s [] = Unit {0}
 AllFrom P s (x ∷ xs) = P s x × AllFrom P (s + 1) xs
 
-pub all_from : {A : Type 0} (P : ℕ → A → Type 0) (s : ℕ) (xs : List A) → ((i f : ℕ) (x : A) → f ≡ s + i → slice_get xs i ≡ Some x → P f x)
+pub all_from : {A : Type 0} (P : ℕ → A → Type 0) (s : ℕ) (xs : List A)
+    → ((i f : ℕ) (x : A) → f ≡ s + i → slice_get xs i ≡ Some x → P f x)
     → AllFrom P s xs
 all_from P s [] each = tt
-all_from P s (x ∷ xs) each = (each 0 s x (omega arith) refl, all_from P (s + 1) xs (λ i f y at is. each (suc i) f y (omega (arith, at)) is))
+all_from P s (x ∷ xs) each = (
+  each 0 s x (omega arith) refl,
+  all_from P (s + 1) xs (λ i f y at is. each (suc i) f y (omega (arith, at)) is),
+)
 
-pub all_at : {A : Type 0} (P : ℕ → A → Type 0) (s : ℕ) (xs : List A) → AllFrom P s xs → (i f : ℕ) (x : A) → f ≡ s + i → slice_get xs i ≡ Some x → P f x
+pub all_at : {A : Type 0} (P : ℕ → A → Type 0) (s : ℕ) (xs : List A) → AllFrom P s xs → (i f : ℕ) (x : A) → f ≡ s + i
+    → slice_get xs i ≡ Some x → P f x
 all_at P s [] all i f x at is = absurd (none-some x is)
-all_at P s (first ∷ xs) all zero f x at is = let here : s ≡ f = omega (arith, at) in subst (λ g. P g x) here (subst (P s) (same_Some first x is) all.0)
+all_at P s (first ∷ xs) all zero f x at is = let here : s ≡ f = omega (arith, at) in
+    subst (λ g. P g x) here (subst (P s) (same_Some first x is) all.0)
 all_at P s (first ∷ xs) all (suc i) f x at is = all_at P (s + 1) xs all.1 i f x (omega (arith, at)) is
 
 -- the sum of a term for each item of a list with its number, counted from s
@@ -45,18 +51,21 @@ abbrev pub sum_list : {A : Type 0} → (ℕ → A → ℤ) → ℕ → List A �
 sum_list g s [] = pos 0
 sum_list g s (x ∷ xs) = g s x +ℤ sum_list g (s + 1) xs
 
-pub sum_list-plus : {A : Type 0} (g h : ℕ → A → ℤ) (s : ℕ) (xs : List A) → sum_list (λ i x. g i x +ℤ h i x) s xs ≡ sum_list g s xs +ℤ sum_list h s xs
+pub sum_list-plus : {A : Type 0} (g h : ℕ → A → ℤ) (s : ℕ) (xs : List A)
+    → sum_list (λ i x. g i x +ℤ h i x) s xs ≡ sum_list g s xs +ℤ sum_list h s xs
 sum_list-plus g h s [] = refl
 sum_list-plus g h s (x ∷ xs) = let rest = sum_list-plus g h (s + 1) xs in omega (arith, ints, rest)
 
-pub sum_list-same : {A : Type 0} (g h : ℕ → A → ℤ) (s : ℕ) (xs : List A) → AllFrom (λ i x. g i x ≡ h i x) s xs → sum_list g s xs ≡ sum_list h s xs
+pub sum_list-same : {A : Type 0} (g h : ℕ → A → ℤ) (s : ℕ) (xs : List A) → AllFrom (λ i x. g i x ≡ h i x) s xs
+    → sum_list g s xs ≡ sum_list h s xs
 sum_list-same g h s [] same = refl
 sum_list-same g h s (x ∷ xs) same =
     let rest = sum_list-same g h (s + 1) xs same.1 in
     let first = same.0 in
     omega (arith, ints, rest, first)
 
-pub sum_list-none : {A : Type 0} (g : ℕ → A → ℤ) (s : ℕ) (xs : List A) → AllFrom (λ i x. g i x ≡ pos 0) s xs → sum_list g s xs ≡ pos 0
+pub sum_list-none : {A : Type 0} (g : ℕ → A → ℤ) (s : ℕ) (xs : List A) → AllFrom (λ i x. g i x ≡ pos 0) s xs
+    → sum_list g s xs ≡ pos 0
 sum_list-none g s [] none = refl
 sum_list-none g s (x ∷ xs) none =
     let rest = sum_list-none g (s + 1) xs none.1 in
@@ -67,7 +76,8 @@ sum_list-none g s (x ∷ xs) none =
 abbrev pub over_all : (ℕ → ℕ → ℤ) → ℕ → List Firm → ℤ
 over_all h s firms = sum_list (λ f firm. sum_to (h f) firm.count) s firms
 
-pub over_all-plus : (g h : ℕ → ℕ → ℤ) (s : ℕ) (firms : List Firm) → over_all (λ f k. g f k +ℤ h f k) s firms ≡ over_all g s firms +ℤ over_all h s firms
+pub over_all-plus : (g h : ℕ → ℕ → ℤ) (s : ℕ) (firms : List Firm)
+    → over_all (λ f k. g f k +ℤ h f k) s firms ≡ over_all g s firms +ℤ over_all h s firms
 over_all-plus g h s [] = refl
 over_all-plus g h s (firm ∷ firms) =
     let rest = over_all-plus g h (s + 1) firms in
@@ -87,14 +97,16 @@ placed_at a b v f k = if a == f && b == k then v else pos 0
 
 pub placed-here : (a b f k : ℕ) (v : ℤ) → a ≡ f → b ≡ k → placed_at a b v f k ≡ v
 placed-here a b f k v same at =
-    ap (λ (c : Bool). if c && b == k then v else pos 0) (eq-eqb a f same) ∙ ap (λ (c : Bool). if c then v else pos 0) (eq-eqb b k at)
+    ap (λ (c : Bool). if c && b == k then v else pos 0) (eq-eqb a f same) ∙ ap (λ (c : Bool). if c then v
+    else pos 0) (eq-eqb b k at)
 
 pub placed-other_firm : (a b f k : ℕ) (v : ℤ) → a ≢ f → placed_at a b v f k ≡ pos 0
 placed-other_firm a b f k v different = ap (λ (c : Bool). if c && b == k then v else pos 0) (ne_eqb a f different)
 
 placed-other_position : (a b f k : ℕ) (v : ℤ) → b ≢ k → placed_at a b v f k ≡ pos 0
 placed-other_position a b f k v different = elim (cases_Bool (a == f)) [
-  | inl e ↦ ap (λ (c : Bool). if c && b == k then v else pos 0) e ∙ ap (λ (c : Bool). if c then v else pos 0) (ne_eqb b k different)
+  | inl e ↦ ap (λ (c : Bool). if c && b == k then v else pos 0) e ∙ ap (λ (c : Bool). if c then v
+      else pos 0) (ne_eqb b k different)
   | inr e ↦ ap (λ (c : Bool). if c && b == k then v else pos 0) e
 ]
 
@@ -104,7 +116,8 @@ sum_to-other_firm a b f n v different =
 
 sum_to-before : (a b f n : ℕ) (v : ℤ) → n ≤ b → sum_to (placed_at a b v f) n ≡ pos 0
 sum_to-before a b f n v above =
-    sum_to-same (placed_at a b v f) (λ k. pos 0) n (λ k below. placed-other_position a b f k v (λ e. omega (arith, above, below, e))) ∙ sum_to-zero n
+    sum_to-same (placed_at a b v f) (λ k. pos 0) n (λ k below. placed-other_position a b f k v
+    (λ e. omega (arith, above, below, e))) ∙ sum_to-zero n
 
 sum_to-placed : (a b n : ℕ) (v : ℤ) → b < n → sum_to (placed_at a b v a) n ≡ v
 sum_to-placed a b zero v below = absurd (omega (arith, below))
@@ -127,7 +140,8 @@ over_all-before a b s v (firm ∷ firms) below =
     omega (arith, ints, rest, first)
 
 -- the sum over all positions has it once
-pub over_all-placed : (a b s i : ℕ) (v : ℤ) (firms : List Firm) (firm : Firm) → a ≡ s + i → slice_get firms i ≡ Some firm → b < firm.count
+pub over_all-placed : (a b s i : ℕ) (v : ℤ) (firms : List Firm) (firm : Firm) → a ≡ s + i
+    → slice_get firms i ≡ Some firm → b < firm.count
     → over_all (placed_at a b v) s firms ≡ v
 over_all-placed a b s i v [] firm at is below = cc
 over_all-placed a b s zero v (first ∷ firms) firm at is below =

@@ -18,19 +18,25 @@ pub record OneCycleBarsATrade : Type 0 where
       → has allowed t ≡ false → has on t ≡ false → IsKept firms trades allowed on
   -- and numbers that keep the arcs with it keep those without it
   pub off_labels : (firms : List Firm) (trades : List Ends) (allowed on t : ℕ) → has allowed t ≡ false
-      → (label : ℕ → ℤ) → KeepsArcs (arcs_among (is_admitted (length trades) (toggle allowed t)) (exchange_arc firms trades on)) label
+      → (label : ℕ → ℤ)
+      → KeepsArcs (arcs_among (is_admitted (length trades) (toggle allowed t)) (exchange_arc firms trades on)) label
       → KeepsArcs (arcs_among (is_admitted (length trades) allowed) (exchange_arc firms trades on)) label
   -- where it is on, and the firms may do without any trade, some cycle leads through it
   pub passed : (firms : List Firm) (trades : List Ends) (allowed on t : ℕ) → IsNetwork firms trades → MeetExchange firms
-      → ((f : ℕ) (firm : Firm) → slice_get firms f ≡ Some firm → MayAbstain firm) → IsKept firms trades (toggle allowed t) on
-      → t < length trades → has allowed t ≡ false → has on t ≡ true → ((vs : List ℕ) → Avoids t vs → walk_cost (arcs_with firms trades allowed on t) t vs t ≡ None) → ⊥
+      → ((f : ℕ) (firm : Firm) → slice_get firms f ≡ Some firm → MayAbstain firm)
+      → IsKept firms trades (toggle allowed t) on
+      → t < length trades → has allowed t ≡ false → has on t ≡ true
+      → ((vs : List ℕ) → Avoids t vs → walk_cost (arcs_with firms trades allowed on t) t vs t ≡ None) → ⊥
   -- it is barred, and the set is toggled along a cycle of least cost and then of least arcs, whatever that costs
-  pub turned : (firms : List Firm) (trades : List Ends) (allowed on t : ℕ) → IsNetwork firms trades → MeetExchange firms → IsKept firms trades (toggle allowed t) on
+  pub turned : (firms : List Firm) (trades : List Ends) (allowed on t : ℕ) → IsNetwork firms trades → MeetExchange firms
+      → IsKept firms trades (toggle allowed t) on
       → t < length trades → has allowed t ≡ false → has on t ≡ true → (vs : List ℕ) (cost : ℤ) → IsLeastCycle (arcs_with firms trades allowed on t) t vs cost
       → IsKept firms trades allowed (along (length trades) on (t ∷ vs))
-  -- and numbers that keep the arcs with it before, where what enters it finds its number and the cost of the cycle, keep
-  -- those without it after it
-  pub turned_labels : (firms : List Firm) (trades : List Ends) (allowed on t : ℕ) → IsNetwork firms trades → MeetExchange firms → IsKept firms trades (toggle allowed t) on
+  -- and numbers that keep the arcs with it before, where what enters it finds its number and the cost of the cycle,
+  -- keep those without it after it
+  pub turned_labels : (firms : List Firm) (trades : List Ends) (allowed on t : ℕ) → IsNetwork firms trades
+      → MeetExchange firms → IsKept firms trades (toggle allowed t) on
       → t < length trades → has allowed t ≡ false → has on t ≡ true → (vs : List ℕ) (cost : ℤ) (label : ℕ → ℤ)
       → IsLeastCycle (arcs_with firms trades allowed on t) t vs cost → KeepsArcsEntering (arcs_with firms trades allowed on t) t (label t +ℤ cost) label
-      → KeepsArcs (arcs_among (is_admitted (length trades) allowed) (exchange_arc firms trades (along (length trades) on (t ∷ vs)))) label
+      → KeepsArcs (arcs_among (is_admitted (length trades) allowed)
+      (exchange_arc firms trades (along (length trades) on (t ∷ vs)))) label

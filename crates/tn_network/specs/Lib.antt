@@ -1,3 +1,4 @@
+-- The files of definitions of this crate.
 pub mod Laws
 pub mod Bounds
 pub mod Along

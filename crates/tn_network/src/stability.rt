@@ -1,3 +1,5 @@
+//! A law of equilibria: nothing blocks them.
+
 ghost use Rattle.tn_network.specs.Laws.{EquilibriaAreStable};
 
 /// An equilibrium is stable: no contracts, over any denominator, block its outcome. What the offers give one of their

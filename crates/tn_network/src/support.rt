@@ -1,3 +1,5 @@
+//! Laws of prices that support a set of trades.
+
 ghost use Rattle.tn_network.specs.Laws.{LabelsAreSupports, NegativeCyclesForbidSupports, SupportsKeepArcs};
 
 /// Supports are arcs: where every bundle is possible, prices support a set of trades exactly where no arc of the

@@ -1,3 +1,5 @@
+//! A law of equilibria: they have the greatest surplus.
+
 ghost use Rattle.tn_network.specs.Laws.{EquilibriaAreEfficient};
 
 /// An equilibrium has the greatest surplus, over all sets of trades: in the sum of the firms' utilities each price is

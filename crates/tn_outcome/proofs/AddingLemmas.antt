@@ -40,16 +40,19 @@ greater_second (Some c) (Some d) b e = let same = same_Some d b e in elim (cases
 -- ---- the greatest of many
 
 -- the greatest value is one of the values
-pub greatest_one : (value_of : ℕ → Option ℤ) (n : ℕ) (a : ℤ) → greatest value_of n ≡ Some a → (y : ℕ) × (y < n) × (value_of y ≡ Some a)
+pub greatest_one : (value_of : ℕ → Option ℤ) (n : ℕ) (a : ℤ) → greatest value_of n ≡ Some a → (y : ℕ) × (y < n)
+    × (value_of y ≡ Some a)
 unfolding greatest
 greatest_one value_of zero a e = absurd (cc e)
 greatest_one value_of (suc n) a e = elim (greater_one (greatest value_of n) (value_of n) a e) [
-  | inl before ↦ let found = greatest_one value_of n a before in let below = found.1 in (found.0, omega (arith, below), found.2)
+  | inl before ↦ let found = greatest_one value_of n a before in let below = found.1 in
+      (found.0, omega (arith, below), found.2)
   | inr last ↦ (n, omega arith, last)
 ]
 
 -- and none is more
-pub greatest_most : (value_of : ℕ → Option ℤ) (n y : ℕ) (b : ℤ) → y < n → value_of y ≡ Some b → (a : ℤ) × (greatest value_of n ≡ Some a) × (b ≤ℤ a)
+pub greatest_most : (value_of : ℕ → Option ℤ) (n y : ℕ) (b : ℤ) → y < n → value_of y ≡ Some b → (a : ℤ)
+    × (greatest value_of n ≡ Some a) × (b ≤ℤ a)
 unfolding greatest
 greatest_most value_of zero y b below is = absurd (omega (arith, below))
 greatest_most value_of (suc n) y b below is = elim (cases_eq y n) [
@@ -65,17 +68,20 @@ greatest_most value_of (suc n) y b below is = elim (cases_eq y n) [
 -- ---- the firm that adds
 
 -- a worth of a bundle with something added is that of such a bundle
-pub adding_one : (given : ℕ) (firm : Firm) (x : ℕ) (a : ℤ) → (adding given firm).worth x ≡ Some a → (y : ℕ) × (minus y given ≡ x) × (firm.worth y ≡ Some a)
+pub adding_one : (given : ℕ) (firm : Firm) (x : ℕ) (a : ℤ) → (adding given firm).worth x ≡ Some a → (y : ℕ)
+    × (minus y given ≡ x) × (firm.worth y ≡ Some a)
 adding_one given firm x a is =
     let found = greatest_one (λ y. if minus y given == x then firm.worth y else None) (2 ^ firm.count) a is in
     by_test found.0 (minus found.0 given == x) refl found.2
   where
-    by_test : (y : ℕ) (t : Bool) → (minus y given == x) ≡ t → (if t then firm.worth y else None) ≡ Some a → (y : ℕ) × (minus y given ≡ x) × (firm.worth y ≡ Some a)
+    by_test : (y : ℕ) (t : Bool) → (minus y given == x) ≡ t → (if t then firm.worth y else None) ≡ Some a → (y : ℕ)
+        × (minus y given ≡ x) × (firm.worth y ≡ Some a)
     by_test y true test e = (y, eqb-true (minus y given) x test, e)
     by_test y false test e = absurd (cc e)
 
 -- and no such bundle has more
-pub adding_most : (given : ℕ) (firm : Firm) → HasOwnBundles firm → (x y : ℕ) (b : ℤ) → minus y given ≡ x → firm.worth y ≡ Some b
+pub adding_most : (given : ℕ) (firm : Firm) → HasOwnBundles firm → (x y : ℕ) (b : ℤ) → minus y given ≡ x
+    → firm.worth y ≡ Some b
     → (a : ℤ) × ((adding given firm).worth x ≡ Some a) × (b ≤ℤ a)
 adding_most given firm own x y b same is =
     greatest_most (λ y. if minus y given == x then firm.worth y else None) (2 ^ firm.count) y b (own y b is)

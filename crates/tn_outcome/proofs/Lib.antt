@@ -1,3 +1,4 @@
+-- The files of lemmas of this crate.
 pub mod AddingLemmas
 pub mod ReducedLemmas
 pub mod SignedLemmas

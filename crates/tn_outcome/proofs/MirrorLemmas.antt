@@ -1,5 +1,5 @@
--- A firm and its mirror, which gives each bundle of the positions that are not given the greatest value of a bundle that
--- has it: what is locally best without such positions in the mirror is best for the firm.
+-- A firm and its mirror, which gives each bundle of the positions that are not given the greatest value of a bundle
+-- that has it: what is locally best without such positions in the mirror is best for the firm.
 use Rattle.std.proofs.Common.{◌≡◌, ℕ, ◌<◌, ◌≤◌, Bool, true, false, not, ◌&&◌, if◌then◌else◌, Option, Some, refl, sym, ap, ◌∙◌, arith, inl, inr, ℤ, ◌≤ℤ◌}
 use Rattle.std.proofs.lemmas.Int.{ints}
 use Rattle.std.proofs.lemmas.Bool.{cases_Bool, cases_eq, cases_lt}
@@ -31,7 +31,8 @@ minus-self x = same_set (minus x x) 0 (λ k. has-minus x x k ∙ by_case (has x 
     by_case false = refl
 
 -- without anything in it, the mirror has the value of the given positions
-pub mirror-empty : (firm : Firm) (mirror : ℕ → Option ℤ) (given : ℕ) (value : ℤ) → IsMirror firm mirror given value → mirror 0 ≡ Some value
+pub mirror-empty : (firm : Firm) (mirror : ℕ → Option ℤ) (given : ℕ) (value : ℤ) → IsMirror firm mirror given value
+    → mirror 0 ≡ Some value
 mirror-empty firm mirror given value is_mirror =
     let found = is_mirror.covers given value is_mirror.is in
     let at : mirror 0 ≡ Some found.0 = ap mirror (sym (minus-self given)) ∙ found.1 in
@@ -42,13 +43,15 @@ mirror-empty firm mirror given value is_mirror =
     at ∙ ap (λ (z : ℤ). Some z) same
 
 -- the given positions are best exactly where nothing is best in the mirror
-pub best_in_mirror : (firm : Firm) (mirror : ℕ → Option ℤ) (given : ℕ) (value : ℤ) → IsMirror firm mirror given value → IsBest firm.worth given value → IsBest mirror 0 value
+pub best_in_mirror : (firm : Firm) (mirror : ℕ → Option ℤ) (given : ℕ) (value : ℤ) → IsMirror firm mirror given value
+    → IsBest firm.worth given value → IsBest mirror 0 value
 best_in_mirror firm mirror given value is_mirror best = record {
   is = mirror-empty firm mirror given value is_mirror;
   most = λ x v x_is. let back = is_mirror.reached x v x_is in best.most back.0 v back.2;
 }
 
-pub best_from_mirror : (firm : Firm) (mirror : ℕ → Option ℤ) (given : ℕ) (value : ℤ) → IsMirror firm mirror given value → IsBest mirror 0 value → IsBest firm.worth given value
+pub best_from_mirror : (firm : Firm) (mirror : ℕ → Option ℤ) (given : ℕ) (value : ℤ) → IsMirror firm mirror given value
+    → IsBest mirror 0 value → IsBest firm.worth given value
 best_from_mirror firm mirror given value is_mirror best = record {
   is = is_mirror.is;
   most = λ y u y_is.
@@ -64,7 +67,8 @@ best_from_mirror firm mirror given value is_mirror best = record {
 place_in_mirror : ℕ → ℕ → ℕ → ℕ
 place_in_mirror n given i = if has given i then n else i
 
-minus-toggle_at : (n given x i : ℕ) → minus (toggle_at n x i) given ≡ toggle_at n (minus x given) (place_in_mirror n given i)
+minus-toggle_at : (n given x i : ℕ) → minus (toggle_at n x i) given
+    ≡ toggle_at n (minus x given) (place_in_mirror n given i)
 unfolding place_in_mirror
 minus-toggle_at n given x i = elim (cases_lt i n) [
   | inr p ↦
@@ -73,10 +77,12 @@ minus-toggle_at n given x i = elim (cases_lt i n) [
   | inl p ↦ ap (λ (y : ℕ). minus y given) (toggle_at-trade n x i p) ∙ elim (cases_Bool (has given i)) [
     | inl e ↦
         minus-toggle_out x given i e
-        ∙ sym (ap (λ (b : Bool). toggle_at n (minus x given) (if b then n else i)) e ∙ toggle_at-null n (minus x given) n (omega arith))
+        ∙ sym (ap (λ (b : Bool). toggle_at n (minus x given) (if b then n else i)) e
+        ∙ toggle_at-null n (minus x given) n (omega arith))
     | inr e ↦
         minus-toggle_in x given i e
-        ∙ sym (ap (λ (b : Bool). toggle_at n (minus x given) (if b then n else i)) e ∙ toggle_at-trade n (minus x given) i p)
+        ∙ sym (ap (λ (b : Bool). toggle_at n (minus x given) (if b then n else i)) e
+        ∙ toggle_at-trade n (minus x given) i p)
   ]
 ]
   where
@@ -84,7 +90,8 @@ minus-toggle_at n given x i = elim (cases_lt i n) [
     high true p = omega arith
     high false p = p
 
-minus-move : (n given i j : ℕ) → minus (move n given i j) given ≡ move n 0 (place_in_mirror n given i) (place_in_mirror n given j)
+minus-move : (n given i j : ℕ) → minus (move n given i j) given
+    ≡ move n 0 (place_in_mirror n given i) (place_in_mirror n given j)
 unfolding move
 minus-move n given i j =
     minus-toggle_at n given (toggle_at n given i) j
@@ -115,7 +122,8 @@ same_level n buys given i below away =
     ∙ ap (λ (h : Bool). if has buys i then (if h then 1 else 0) else (if h then 0 else 1)) (has-zero i ∙ sym away)
     ∙ sym (level-trade n buys given i below)
 
-can_be : (n buys given wanted i : ℕ) → (i < n → level n buys given i ≡ wanted) → place_in_mirror n given i < n → level n buys 0 (place_in_mirror n given i) ≡ wanted
+can_be : (n buys given wanted i : ℕ) → (i < n → level n buys given i ≡ wanted) → place_in_mirror n given i < n
+    → level n buys 0 (place_in_mirror n given i) ≡ wanted
 can_be n buys given wanted i can below =
     let there = same_place n given i below in
     let inside : i < n = (let e = there.0 in omega (arith, below, e)) in
@@ -128,14 +136,17 @@ unmoved_from_mirror : (firm : Firm) (mirror : ℕ → Option ℤ) (given : ℕ) 
     → IsUnmoved (record { count = firm.count; buys = firm.buys; worth = mirror }) 0 value → IsUnmoved firm given value
 unmoved_from_mirror firm mirror given value is_mirror unmoved i j other i_within j_within apart rises falls y_is =
     let there = is_mirror.covers (move firm.count given i j) other y_is in
-    let at : mirror (move firm.count 0 (place_in_mirror firm.count given i) (place_in_mirror firm.count given j)) ≡ Some there.0 =
+    let at : mirror (move firm.count 0 (place_in_mirror firm.count given i) (place_in_mirror firm.count given j))
+    ≡ Some there.0 =
     ap mirror (sym (minus-move firm.count given i j)) ∙ there.1 in
     let low = there.2 in
     elim (cases_eq (place_in_mirror firm.count given i) (place_in_mirror firm.count given j)) [
       | inl e ↦
           let stays : move firm.count 0 (place_in_mirror firm.count given i) (place_in_mirror firm.count given j) ≡ 0 =
-          ap (move firm.count 0 (place_in_mirror firm.count given i)) (sym e) ∙ (places firm.count firm.buys).same 0 (place_in_mirror firm.count given i) in
-          let same : there.0 ≡ value = same_Some there.0 value (sym at ∙ ap mirror stays ∙ mirror-empty firm mirror given value is_mirror) in
+          ap (move firm.count 0 (place_in_mirror firm.count given i)) (sym e)
+          ∙ (places firm.count firm.buys).same 0 (place_in_mirror firm.count given i) in
+          let same : there.0 ≡ value =
+          same_Some there.0 value (sym at ∙ ap mirror stays ∙ mirror-empty firm mirror given value is_mirror) in
           omega (arith, ints, low, same)
       | inr d ↦
           let high = unmoved (place_in_mirror firm.count given i) (place_in_mirror firm.count given j) there.0
@@ -145,8 +156,11 @@ unmoved_from_mirror firm mirror given value is_mirror unmoved i j other i_within
     ]
 
 -- so the given positions are best
-pub best_from_unmoved_mirror : (firm : Firm) (mirror : ℕ → Option ℤ) (given : ℕ) (value : ℤ) → HasOwnBundles firm → MeetsExchange firm
+pub best_from_unmoved_mirror : (firm : Firm) (mirror : ℕ → Option ℤ) (given : ℕ) (value : ℤ) → HasOwnBundles firm
+    → MeetsExchange firm
     → IsMirror firm mirror given value
-    → IsUnmoved (record { count = firm.count; buys = firm.buys; worth = mirror }) 0 value → IsBest firm.worth given value
+    → IsUnmoved (record { count = firm.count; buys = firm.buys; worth = mirror }) 0 value
+    → IsBest firm.worth given value
 best_from_unmoved_mirror firm mirror given value own meets is_mirror unmoved =
-    best_from_unmoved firm own (exchange_to_places firm own meets) given value is_mirror.is (unmoved_from_mirror firm mirror given value is_mirror unmoved)
+    best_from_unmoved firm own (exchange_to_places firm own meets) given value is_mirror.is
+    (unmoved_from_mirror firm mirror given value is_mirror unmoved)

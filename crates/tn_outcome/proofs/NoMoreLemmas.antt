@@ -36,16 +36,19 @@ empty_inside allowed k there = absurd (true≢false (sym there ∙ has-zero k))
 -- ---- a firm kept to some trades
 
 -- pricing a firm that is kept to some positions is keeping the priced firm to them
-priced_among : (scale : ℤ) (c : ℕ → ℤ) (allowed : ℕ) (firm : Firm) → (plus_sum scale c (among allowed firm)).worth ≡ (among allowed (plus_sum scale c firm)).worth
+priced_among : (scale : ℤ) (c : ℕ → ℤ) (allowed : ℕ) (firm : Firm)
+    → (plus_sum scale c (among allowed firm)).worth ≡ (among allowed (plus_sum scale c firm)).worth
 priced_among scale c allowed firm = fun_ext (λ x. by_test x (minus x allowed == 0))
   where
-    by_test : (x : ℕ) (t : Bool) → option_map (λ a. scale *ℤ a +ℤ sum_over c firm.count x) (if t then firm.worth x else None)
+    by_test : (x : ℕ) (t : Bool) → option_map (λ a. scale *ℤ a +ℤ sum_over c firm.count x) (if t then firm.worth x
+        else None)
         ≡ (if t then option_map (λ a. scale *ℤ a +ℤ sum_over c firm.count x) (firm.worth x) else None)
     by_test x true = refl
     by_test x false = refl
 
 -- where nothing is unmoved in the mirror that is kept to the allowed trades, it is best there
-best_among : (firms : List Firm) (trades : List Ends) (over : ℤ) (contracts : List Contract) (outcome : IsRationalOutcome firms trades over contracts) (allowed : ℕ) (label : ℕ → ℤ)
+best_among : (firms : List Firm) (trades : List Ends) (over : ℤ) (contracts : List Contract)
+    (outcome : IsRationalOutcome firms trades over contracts) (allowed : ℕ) (label : ℕ → ℤ)
     → KeepsArcs (exchange_arc (admitted trades allowed (reduced_firms trades over contracts firms)) trades 0) label
     → (f : ℕ) (firm : Firm) (is : slice_get firms f ≡ Some firm)
     → IsBest (priced trades (pos 1) (λ t. label t -ℤ label (length trades)) f (among (part trades f firm.count allowed) (reduced trades over contracts f firm))).worth 0
@@ -53,13 +56,16 @@ best_among : (firms : List Firm) (trades : List Ends) (over : ℤ) (contracts : 
 best_among firms trades over contracts outcome allowed label keeps f firm is =
     subst (λ (w : ℕ → Option ℤ). IsBest w 0 value) (sym same)
     (best_in_mirror (among (union given limit) whole) (among limit small).worth given value mirror
-    (best_from_unmoved_mirror (among (union given limit) whole) (among limit small).worth given value laws.0 laws.1 mirror
+    (best_from_unmoved_mirror (among (union given limit) whole) (among limit small).worth given value laws.0 laws.1
+    mirror
     (subst (λ (w : ℕ → Option ℤ). IsUnmoved (record { count = firm.count; buys = firm.buys; worth = w }) 0 value) same
     (nothing_unmoved (admitted trades allowed (reduced_firms trades over contracts firms)) trades network others
     (prices_keep (admitted trades allowed (reduced_firms trades over contracts firms)) trades network 0 label keeps)
     f (among limit (reduced trades over contracts f firm))
-    (admitted_is trades allowed (reduced_firms trades over contracts firms) f (reduced trades over contracts f firm) (reduced_is trades over contracts firms f firm is))
-    value (ap (λ (w : ℕ → Option ℤ). w 0) same ∙ mirror-empty (among (union given limit) whole) (among limit small).worth given value mirror)))))
+    (admitted_is trades allowed (reduced_firms trades over contracts firms) f (reduced trades over contracts f firm)
+    (reduced_is trades over contracts firms f firm is))
+    value (ap (λ (w : ℕ → Option ℤ). w 0) same ∙ mirror-empty (among (union given limit) whole)
+    (among limit small).worth given value mirror)))))
   where
     others : ℕ → ℤ
     others t = label t -ℤ label (length trades)
@@ -84,9 +90,11 @@ best_among firms trades over contracts outcome allowed label keeps f firm is =
     same = priced_among (pos 1) (paid_at trades (λ t. label t -ℤ label (length trades)) f firm) (part trades f firm.count allowed) (reduced trades over contracts f firm)
 
     network : IsNetwork (admitted trades allowed (reduced_firms trades over contracts firms)) trades
-    network = admitted_network (reduced_firms trades over contracts firms) trades allowed (reduced_network firms trades over contracts outcome.network)
+    network = admitted_network (reduced_firms trades over contracts firms) trades allowed
+        (reduced_network firms trades over contracts outcome.network)
 
-    mirror : IsMirror (among (union (signed_bundle trades contracts f firm) (part trades f firm.count allowed)) (priced trades over (completed trades contracts label) f firm))
+    mirror : IsMirror (among (union (signed_bundle trades contracts f firm) (part trades f firm.count allowed))
+        (priced trades over (completed trades contracts label) f firm))
         (among (part trades f firm.count allowed) (priced trades (pos 1) (λ t. label t -ℤ label (length trades)) f (reduced trades over contracts f firm))).worth
         (signed_bundle trades contracts f firm) (signed_value firms trades over contracts outcome f firm is)
     mirror = mirror-among (priced trades over (completed trades contracts label) f firm)
@@ -94,10 +102,14 @@ best_among firms trades over contracts outcome allowed label keeps f firm is =
         (signed_value firms trades over contracts outcome f firm is)
         (firm_mirror firms trades over contracts outcome (completed trades contracts label) (λ t. label t -ℤ label (length trades)) (completed_are trades contracts label) f firm is)
 
-    laws : HasOwnBundles (among (union (signed_bundle trades contracts f firm) (part trades f firm.count allowed)) (priced trades over (completed trades contracts label) f firm))
-        × MeetsExchange (among (union (signed_bundle trades contracts f firm) (part trades f firm.count allowed)) (priced trades over (completed trades contracts label) f firm))
-    laws = meets-among (priced trades over (completed trades contracts label) f firm) (union (signed_bundle trades contracts f firm) (part trades f firm.count allowed))
-        (priced_meets firms trades over contracts outcome (completed trades contracts label) f firm is).0 (priced_meets firms trades over contracts outcome (completed trades contracts label) f firm is).1
+    laws : HasOwnBundles (among (union (signed_bundle trades contracts f firm) (part trades f firm.count allowed))
+        (priced trades over (completed trades contracts label) f firm))
+        × MeetsExchange (among (union (signed_bundle trades contracts f firm) (part trades f firm.count allowed))
+        (priced trades over (completed trades contracts label) f firm))
+    laws = meets-among (priced trades over (completed trades contracts label) f firm)
+        (union (signed_bundle trades contracts f firm) (part trades f firm.count allowed))
+        (priced_meets firms trades over contracts outcome (completed trades contracts label) f firm is).0
+        (priced_meets firms trades over contracts outcome (completed trades contracts label) f firm is).1
 
 -- ---- all firms
 
@@ -108,22 +120,30 @@ surplus_from-admitted trades allowed on inside s [] = refl
 surplus_from-admitted trades allowed on inside s (firm ∷ firms) =
     ap₂ (λ (rest worth : Option ℤ). option_and_then (λ a. option_map (λ b. a +ℤ b) rest) worth)
     (surplus_from-admitted trades allowed on inside (s + 1) firms)
-    (among_inside (part trades s firm.count allowed) firm (part trades s firm.count on) (part_inside trades s firm.count allowed on inside))
+    (among_inside (part trades s firm.count allowed) firm (part trades s firm.count on)
+    (part_inside trades s firm.count allowed on inside))
 
-pub numbers_leave_no_more : (firms : List Firm) (trades : List Ends) (over : ℤ) (contracts : List Contract) (allowed : ℕ) (label : ℕ → ℤ)
+pub numbers_leave_no_more : (firms : List Firm) (trades : List Ends) (over : ℤ) (contracts : List Contract)
+    (allowed : ℕ) (label : ℕ → ℤ)
     → IsRationalOutcome firms trades over contracts
-    → KeepsArcs (arcs_among (is_admitted (length trades) allowed) (reduced_arc firms trades over contracts)) label → HasNoMore firms trades over contracts allowed
+    → KeepsArcs (arcs_among (is_admitted (length trades) allowed) (reduced_arc firms trades over contracts)) label
+    → HasNoMore firms trades over contracts allowed
 numbers_leave_no_more firms trades over contracts allowed label outcome keeps = record {
   least = efficient.0;
-  is = sym (surplus_from-admitted trades allowed 0 (empty_inside allowed) 0 (reduced_firms trades over contracts firms)) ∙ efficient.1.is;
-  most = λ on other inside other_is. efficient.1.most on other (surplus_from-admitted trades allowed on inside 0 (reduced_firms trades over contracts firms) ∙ other_is);
+  is = sym (surplus_from-admitted trades allowed 0 (empty_inside allowed) 0 (reduced_firms trades over contracts firms))
+      ∙ efficient.1.is;
+  most = λ on other inside other_is. efficient.1.most on other
+      (surplus_from-admitted trades allowed on inside 0 (reduced_firms trades over contracts firms) ∙ other_is);
 }
   where
     network : IsNetwork (reduced_firms trades over contracts firms) trades
     network = reduced_network firms trades over contracts outcome.network
 
     kept : KeepsArcs (exchange_arc (admitted trades allowed (reduced_firms trades over contracts firms)) trades 0) label
-    kept u v cost is = keeps u v cost (sym (arcs_admitted (reduced_firms trades over contracts firms) trades network allowed 0 (empty_inside allowed) u v) ∙ is)
+    kept u v cost is =
+        keeps u v cost
+        (sym (arcs_admitted (reduced_firms trades over contracts firms) trades network allowed 0 (empty_inside allowed)
+        u v) ∙ is)
 
     equilibrium : IsEquilibrium (admitted trades allowed (reduced_firms trades over contracts firms)) trades (pos 1) 0 (λ t. label t -ℤ label (length trades))
     equilibrium f other other_is =
@@ -134,10 +154,12 @@ numbers_leave_no_more firms trades over contracts allowed label outcome keeps = 
         subst (λ (z : Firm). HasBest trades (pos 1) 0 (λ t. label t -ℤ label (length trades)) f z) (sym same) (
           signed_value firms trades over contracts outcome f second.0 second.1,
           subst (λ (x : ℕ). IsBest (priced trades (pos 1) (λ t. label t -ℤ label (length trades)) f (among (part trades f second.0.count allowed) (reduced trades over contracts f second.0))).worth x
-              (signed_value firms trades over contracts outcome f second.0 second.1)) (sym (no_part trades f second.0.count))
+              (signed_value firms trades over contracts outcome f second.0 second.1))
+              (sym (no_part trades f second.0.count))
               (best_among firms trades over contracts outcome allowed label kept f second.0 second.1),
         )
 
     efficient : IsEfficient (admitted trades allowed (reduced_firms trades over contracts firms)) trades 0
     efficient = equilibrium_is_efficient (admitted trades allowed (reduced_firms trades over contracts firms)) trades (pos 1) 0 (λ t. label t -ℤ label (length trades))
-        (admitted_network (reduced_firms trades over contracts firms) trades allowed network) (omega (arith, ints)) equilibrium
+        (admitted_network (reduced_firms trades over contracts firms) trades allowed network) (omega (arith, ints))
+        equilibrium

@@ -19,8 +19,10 @@ use Rattle.tn_outcome.proofs.SplitLemmas.{own_priced}
 -- a bundle with given positions beside x is between x and them
 between_from_part : (y given x : ℕ) → minus y given ≡ x → IsBetween x given y
 between_from_part y given x part = (
-  λ k there. (and_parts (has y k) (not (has given k)) (sym (has-minus y given k) ∙ ap (λ (z : ℕ). has z k) part ∙ there)).0,
-  λ k there. has-union x given k ∙ by_case (has given k) (has x k) (λ away. sym (ap (λ (z : ℕ). has z k) part) ∙ has-minus y given k ∙ ap₂ (λ (a b : Bool). a && not b) there away),
+  λ k there. (and_parts (has y k) (not (has given k)) (sym (has-minus y given k) ∙ ap (λ (z : ℕ). has z k) part
+      ∙ there)).0,
+  λ k there. has-union x given k ∙ by_case (has given k) (has x k) (λ away. sym (ap (λ (z : ℕ). has z k) part)
+      ∙ has-minus y given k ∙ ap₂ (λ (a b : Bool). a && not b) there away),
 )
   where
     by_case : (g h : Bool) → (g ≡ false → h ≡ true) → (h || g) ≡ true
@@ -30,10 +32,13 @@ between_from_part y given x part = (
 
 -- and the other way, where x has none of them
 part_from_between : (y given x : ℕ) → meet x given ≡ 0 → IsBetween x given y → minus y given ≡ x
-part_from_between y given x apart between = same_set (minus y given) x (λ k. has-minus y given k ∙ by_case (has x k) (has y k) (has given k) (between.0 k)
-    (λ there. sym (has-union x given k) ∙ between.1 k there) (sym (has-meet x given k) ∙ ap (λ (z : ℕ). has z k) apart ∙ has-zero k))
+part_from_between y given x apart between =
+    same_set (minus y given) x (λ k. has-minus y given k ∙ by_case (has x k) (has y k) (has given k) (between.0 k)
+    (λ there. sym (has-union x given k) ∙ between.1 k there) (sym (has-meet x given k) ∙ ap (λ (z : ℕ). has z k) apart
+    ∙ has-zero k))
   where
-    by_case : (x y g : Bool) → (x ≡ true → y ≡ true) → (y ≡ true → (x || g) ≡ true) → (x && g) ≡ false → (y && not g) ≡ x
+    by_case : (x y g : Bool) → (x ≡ true → y ≡ true) → (y ≡ true → (x || g) ≡ true) → (x && g) ≡ false
+        → (y && not g) ≡ x
     by_case true y true f h e = absurd (cc e)
     by_case true y false f h e = ap (λ (b : Bool). b && true) (f refl)
     by_case false true true f h e = refl
@@ -41,7 +46,8 @@ part_from_between y given x apart between = same_set (minus y given) x (λ k. ha
     by_case false false g f h e = refl
 
 pub adding_is_best : (given : ℕ) (firm : Firm) (x : ℕ) (worth : Option ℤ) → HasOwnBundles firm → meet x given ≡ 0
-    → ((adding given firm).worth x ≡ worth) ↔ ((found : Option (ℕ × ℤ)) × GivesBest x given firm.worth found × (option_map (λ p. p.1) found ≡ worth))
+    → ((adding given firm).worth x ≡ worth) ↔ ((found : Option (ℕ × ℤ)) × GivesBest x given firm.worth found
+    × (option_map (λ p. p.1) found ≡ worth))
 adding_is_best given firm x worth own apart = (forth worth, λ given_best. back given_best.0 given_best.1 ∙ given_best.2)
   where
     forth : (worth : Option ℤ) → (adding given firm).worth x ≡ worth
@@ -50,7 +56,10 @@ adding_is_best given firm x worth own apart = (forth worth, λ given_best. back 
       None,
       λ y between. elim (cases_worth (firm.worth y)) [
         | inr none ↦ none
-        | inl some ↦ absurd (let there = (adding_most given firm own x y some.0 (part_from_between y given x apart between) some.1).1 in cc (there, is))
+        | inl some ↦
+            absurd (let there =
+            (adding_most given firm own x y some.0 (part_from_between y given x apart between) some.1).1 in
+            cc (there, is))
       ],
       refl,
     )
@@ -69,7 +78,8 @@ adding_is_best given firm x worth own apart = (forth worth, λ given_best. back 
           refl,
         )
 
-    back : (found : Option (ℕ × ℤ)) → GivesBest x given firm.worth found → (adding given firm).worth x ≡ option_map (λ p. p.1) found
+    back : (found : Option (ℕ × ℤ)) → GivesBest x given firm.worth found
+        → (adding given firm).worth x ≡ option_map (λ p. p.1) found
     back None none = elim (cases_worth ((adding given firm).worth x)) [
       | inr away ↦ away
       | inl some ↦ absurd (
@@ -86,9 +96,11 @@ adding_is_best given firm x worth own apart = (forth worth, λ given_best. back 
         let same : more.0 ≡ p.1 = omega (arith, ints, high, low) in
         more.1 ∙ ap (λ (z : ℤ). Some z) same
 
-pub reduced_worths_are_greatest : (trades : List Ends) (over : ℤ) (contracts : List Contract) (f : ℕ) (firm : Firm) (x : ℕ) (worth : Option ℤ) → HasOwnBundles firm
+pub reduced_worths_are_greatest : (trades : List Ends) (over : ℤ) (contracts : List Contract) (f : ℕ) (firm : Firm)
+    (x : ℕ) (worth : Option ℤ) → HasOwnBundles firm
     → meet x (signed_bundle trades contracts f firm) ≡ 0
     → ((reduced trades over contracts f firm).worth x ≡ worth) ↔ IsReducedWorth trades over contracts f firm x worth
 reduced_worths_are_greatest trades over contracts f firm x worth own apart =
-    adding_is_best (signed_bundle trades contracts f firm) (plus_sum over (payments firm.buys (prices_at trades (signed_price contracts) f)) firm) x worth
+    adding_is_best (signed_bundle trades contracts f firm)
+    (plus_sum over (payments firm.buys (prices_at trades (signed_price contracts) f)) firm) x worth
     (own_priced over (payments firm.buys (prices_at trades (signed_price contracts) f)) firm own) apart

@@ -30,7 +30,8 @@ sum_over-split (suc n) given y all inside outside split =
       off = λ k below. split.off k (omega (arith, below));
     }) in
     let last = by_case (has y n) (has given n) (λ e. split.on n (omega arith) e) (λ e. split.off n (omega arith) e) in
-    let member : (if has (minus y given) n then outside n else pos 0) ≡ (if has y n && not (has given n) then outside n else pos 0) =
+    let member : (if has (minus y given) n then outside n else pos 0) ≡ (if has y n && not (has given n) then outside n
+    else pos 0) =
     ap (λ (b : Bool). if b then outside n else pos 0) (has-minus y given n) in
     omega (arith, ints, rest, last, member)
   where
@@ -51,24 +52,32 @@ own_priced scale c firm own x a is =
 within_part : (y given : ℕ) → minus y given ≡ 0 → IsSubset y given
 within_part y given inside k there = has_from_minus-zero y given k inside there
 
-pub mirror_of : (firm : Firm) (scale : ℤ) (all inside outside : ℕ → ℤ) (given : ℕ) (value : ℤ) → HasOwnBundles firm → AreSplit firm.count given all inside outside
+pub mirror_of : (firm : Firm) (scale : ℤ) (all inside outside : ℕ → ℤ) (given : ℕ) (value : ℤ) → HasOwnBundles firm
+    → AreSplit firm.count given all inside outside
     → IsBestBetween 0 given (plus_sum scale inside firm).worth given value
-    → IsMirror (plus_sum scale all firm) (plus_sum (pos 1) outside (adding given (plus_sum scale inside firm))).worth given value
+    → IsMirror (plus_sum scale all firm) (plus_sum (pos 1) outside (adding given (plus_sum scale inside firm))).worth
+    given value
 mirror_of firm scale all inside outside given value own split best = record {
   covers = λ y u is.
       let worth = option_map-some (λ w. scale *ℤ w +ℤ sum_over all firm.count y) (firm.worth y) u is in
-      let there = adding_most given (plus_sum scale inside firm) (own_priced scale inside firm own) (minus y given) y (scale *ℤ worth.0 +ℤ sum_over inside firm.count y) refl
+      let there = adding_most given (plus_sum scale inside firm) (own_priced scale inside firm own) (minus y given) y
+      (scale *ℤ worth.0 +ℤ sum_over inside firm.count y) refl
       (ap (option_map (λ w. scale *ℤ w +ℤ sum_over inside firm.count y)) worth.1) in (
         pos 1 *ℤ there.0 +ℤ sum_over outside firm.count (minus y given),
         ap (option_map (λ w. pos 1 *ℤ w +ℤ sum_over outside firm.count (minus y given))) there.1,
-        at_most (scale *ℤ worth.0) (sum_over all firm.count y) _ _ u there.0 worth.2 (sum_over-split firm.count given y all inside outside split) there.2,
+        at_most (scale *ℤ worth.0) (sum_over all firm.count y) _ _ u there.0 worth.2
+            (sum_over-split firm.count given y all inside outside split) there.2,
       );
   reached = λ x v is.
-      let reduced = option_map-some (λ w. pos 1 *ℤ w +ℤ sum_over outside firm.count x) ((adding given (plus_sum scale inside firm)).worth x) v is in
+      let reduced =
+      option_map-some (λ w. pos 1 *ℤ w +ℤ sum_over outside firm.count x)
+      ((adding given (plus_sum scale inside firm)).worth x) v is in
       let there = adding_one given (plus_sum scale inside firm) x reduced.0 reduced.1 in
-      let worth = option_map-some (λ w. scale *ℤ w +ℤ sum_over inside firm.count there.0) (firm.worth there.0) reduced.0 there.2 in
+      let worth = option_map-some (λ w. scale *ℤ w +ℤ sum_over inside firm.count there.0) (firm.worth there.0) reduced.0
+      there.2 in
       let sum : sum_over all firm.count there.0 ≡ sum_over inside firm.count there.0 +ℤ sum_over outside firm.count x =
-      sum_over-split firm.count given there.0 all inside outside split ∙ ap (λ (z : ℕ). sum_over inside firm.count there.0 +ℤ sum_over outside firm.count z) there.1 in (
+      sum_over-split firm.count given there.0 all inside outside split
+      ∙ ap (λ (z : ℕ). sum_over inside firm.count there.0 +ℤ sum_over outside firm.count z) there.1 in (
         there.0,
         there.1,
         ap (option_map (λ w. scale *ℤ w +ℤ sum_over all firm.count there.0)) worth.1
@@ -87,13 +96,16 @@ mirror_of firm scale all inside outside given value own split best = record {
     no_more : (y : ℕ) → minus y given ≡ 0 → sum_over all firm.count y ≡ sum_over inside firm.count y
     no_more y part =
         let sum = sum_over-split firm.count given y all inside outside split in
-        let none : sum_over outside firm.count (minus y given) ≡ pos 0 = ap (sum_over outside firm.count) part ∙ sum_over-empty outside firm.count in
+        let none : sum_over outside firm.count (minus y given) ≡ pos 0 =
+        ap (sum_over outside firm.count) part ∙ sum_over-empty outside firm.count in
         omega (arith, ints, sum, none)
 
-    same : (y : ℕ) → minus y given ≡ 0 → (u : ℤ) → (plus_sum scale inside firm).worth y ≡ Some u → (plus_sum scale all firm).worth y ≡ Some u
+    same : (y : ℕ) → minus y given ≡ 0 → (u : ℤ) → (plus_sum scale inside firm).worth y ≡ Some u
+        → (plus_sum scale all firm).worth y ≡ Some u
     same y part u is = ap (λ (z : ℤ). option_map (λ w. scale *ℤ w +ℤ z) (firm.worth y)) (no_more y part) ∙ is
 
-    back : (y : ℕ) → minus y given ≡ 0 → (u : ℤ) → (plus_sum scale all firm).worth y ≡ Some u → (plus_sum scale inside firm).worth y ≡ Some u
+    back : (y : ℕ) → minus y given ≡ 0 → (u : ℤ) → (plus_sum scale all firm).worth y ≡ Some u
+        → (plus_sum scale inside firm).worth y ≡ Some u
     back y part u is = ap (λ (z : ℤ). option_map (λ w. scale *ℤ w +ℤ z) (firm.worth y)) (sym (no_more y part)) ∙ is
 
 -- ---- within some trades
@@ -110,13 +122,15 @@ mirror-among firm small given allowed value mirror = record {
       let inside = among_parts allowed small x v is in
       let there = mirror.reached x v inside.1 in
       (there.0, there.1, among_inside (union given allowed) firm there.0 (whole there.0 x there.1 inside.0) ∙ there.2);
-  is = among_inside (union given allowed) firm given (minus-zero_from given (union given allowed) (λ k there. has-union given allowed k ∙ or_left (has given k) (has allowed k) there)) ∙ mirror.is;
+  is = among_inside (union given allowed) firm given (minus-zero_from given (union given allowed)
+      (λ k there. has-union given allowed k ∙ or_left (has given k) (has allowed k) there)) ∙ mirror.is;
   most = λ y u part is. mirror.most y u part (among_parts (union given allowed) firm y u is).1;
 }
   where
     rest : (y : ℕ) → minus y (union given allowed) ≡ 0 → minus (minus y given) allowed ≡ 0
     rest y inside = minus-zero_from (minus y given) allowed (λ k there.
-        by_case (has y k) (has given k) (has allowed k) (sym (has-minus y given k) ∙ there) (λ e. sym (has-union given allowed k) ∙ has_from_minus-zero y (union given allowed) k inside e))
+        by_case (has y k) (has given k) (has allowed k) (sym (has-minus y given k) ∙ there)
+        (λ e. sym (has-union given allowed k) ∙ has_from_minus-zero y (union given allowed) k inside e))
       where
         by_case : (h g a : Bool) → (h && not g) ≡ true → (h ≡ true → (g || a) ≡ true) → a ≡ true
         by_case true true a e f = absurd (cc e)
@@ -125,7 +139,8 @@ mirror-among firm small given allowed value mirror = record {
 
     whole : (y x : ℕ) → minus y given ≡ x → minus x allowed ≡ 0 → minus y (union given allowed) ≡ 0
     whole y x part inside = minus-zero_from y (union given allowed) (λ k there.
-        has-union given allowed k ∙ by_case (has given k) (has allowed k) (λ e. has_from_minus-zero x allowed k inside (ap (λ (z : ℕ). has z k) (sym part) ∙ has-minus y given k
+        has-union given allowed k ∙ by_case (has given k) (has allowed k)
+        (λ e. has_from_minus-zero x allowed k inside (ap (λ (z : ℕ). has z k) (sym part) ∙ has-minus y given k
         ∙ ap₂ (λ (a b : Bool). a && not b) there e)))
       where
         by_case : (g a : Bool) → (g ≡ false → a ≡ true) → (g || a) ≡ true

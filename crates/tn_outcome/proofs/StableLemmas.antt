@@ -13,19 +13,23 @@ use Rattle.tn_network.proofs.BlockLemmas.{signed_is_stable}
 use Rattle.tn_outcome.proofs.SignedLemmas.{contract_on, signed_by}
 
 -- a completed outcome has one contract for each signed trade, at the completing prices
-completed_contracts : (firms : List Firm) (trades : List Ends) (over : ℤ) (contracts : List Contract) (prices : ℕ → ℤ) → IsFeasible trades contracts
-    → Completes firms trades over contracts prices → AreContractsOf (length trades) (signed (length trades) contracts) prices contracts
+completed_contracts : (firms : List Firm) (trades : List Ends) (over : ℤ) (contracts : List Contract) (prices : ℕ → ℤ)
+    → IsFeasible trades contracts
+    → Completes firms trades over contracts prices
+    → AreContractsOf (length trades) (signed (length trades) contracts) prices contracts
 completed_contracts firms trades over contracts prices feasible completes = record {
   signed = λ k contract is.
       let below = feasible.known k contract is in
       record {
         below = below;
         there = has-set_of (is_signed contracts) (length trades) contract.trade
-            ∙ ap₂ (λ (a b : Bool). a && b) (lt-ltb contract.trade (length trades) below) (signed_by contracts k contract.trade contract is refl);
+            ∙ ap₂ (λ (a b : Bool). a && b) (lt-ltb contract.trade (length trades) below)
+            (signed_by contracts k contract.trade contract is refl);
         price = sym (completes.agree k contract is);
       };
   found = λ t below there.
-      let test = and_parts (ltb t (length trades)) (is_signed contracts t) (sym (has-set_of (is_signed contracts) (length trades) t) ∙ there) in
+      let test = and_parts (ltb t (length trades)) (is_signed contracts t)
+      (sym (has-set_of (is_signed contracts) (length trades) t) ∙ there) in
       let found = contract_on contracts t test.1 in
       (found.place, found.contract, found.is, found.trade);
   once = feasible.once;

@@ -1,5 +1,5 @@
--- The fixed graph of an outcome: the exchange graph at its signed trades over its denominator, where arcs between null and
--- each signed trade fix the trade's price.
+-- The fixed graph of an outcome: the exchange graph at its signed trades over its denominator, where arcs between null
+-- and each signed trade fix the trade's price.
 use Rattle.std.specs.Prelude.{ℕ, ℤ, pos, neg_ℤ, ◌*ℤ◌, ◌-ℤ◌, ◌≤ℤ◌, ◌↔◌, List, length, ◌==◌, int_lt, if◌then◌else◌, Option, Some, None, option_map}
 use Rattle.tn_base.specs.Firm.{Firm}
 use Rattle.tn_base.specs.Walks.{HasNoNegativeCycle, KeepsArcs}
@@ -28,10 +28,13 @@ fixed_at scale price null arc u v = lesser (option_map (λ cost. scale *ℤ cost
 -- the fixed graph of an outcome
 abbrev pub fixed_arc : List Firm → List Ends → ℤ → List Contract → ℕ → ℕ → Option ℤ
 fixed_arc firms trades over contracts =
-    fixed_at over (λ t. if is_signed contracts t then Some (signed_price contracts t) else None) (length trades) (exchange_arc firms trades (signed (length trades) contracts))
+    fixed_at over (λ t. if is_signed contracts t then Some (signed_price contracts t)
+    else None) (length trades) (exchange_arc firms trades (signed (length trades) contracts))
 
--- contracts over a denominator of at least 1 that firms which meet exchange can sign together, and whose bundles are possible
-pub record IsPossibleOutcome (firms : List Firm) (trades : List Ends) (over : ℤ) (contracts : List Contract) : Type 0 where
+-- contracts over a denominator of at least 1 that firms which meet exchange can sign together, and whose bundles are
+-- possible
+pub record IsPossibleOutcome (firms : List Firm) (trades : List Ends) (over : ℤ) (contracts : List Contract) : Type
+    0 where
   pub network : IsNetwork firms trades
   pub meet : MeetExchange firms
   pub from_one : pos 1 ≤ℤ over
@@ -40,16 +43,24 @@ pub record IsPossibleOutcome (firms : List Firm) (trades : List Ends) (over : �
 
 pub record CompletionIsFixedLabels : Type 0 where
   -- some prices complete a possible outcome exactly where no closed walk of the fixed graph is negative
-  pub some : (firms : List Firm) (trades : List Ends) (over : ℤ) (contracts : List Contract) → IsPossibleOutcome firms trades over contracts
-      → ((prices : ℕ → ℤ) × Completes firms trades over contracts prices) ↔ HasNoNegativeCycle (fixed_arc firms trades over contracts)
+  pub some : (firms : List Firm) (trades : List Ends) (over : ℤ) (contracts : List Contract)
+      → IsPossibleOutcome firms trades over contracts
+      → ((prices : ℕ → ℤ) × Completes firms trades over contracts prices)
+      ↔ HasNoNegativeCycle (fixed_arc firms trades over contracts)
   -- numbers that keep its arcs are such prices, once null's is taken off
-  pub from_labels : (firms : List Firm) (trades : List Ends) (over : ℤ) (contracts : List Contract) (label : ℕ → ℤ) → IsPossibleOutcome firms trades over contracts
+  pub from_labels : (firms : List Firm) (trades : List Ends) (over : ℤ) (contracts : List Contract) (label : ℕ → ℤ)
+      → IsPossibleOutcome firms trades over contracts
       → KeepsArcs (fixed_arc firms trades over contracts) label → Completes firms trades over contracts (λ t. label t -ℤ label (length trades))
   -- and such prices, with 0 for null, keep its arcs
-  pub to_labels : (firms : List Firm) (trades : List Ends) (over : ℤ) (contracts : List Contract) (prices : ℕ → ℤ) → IsPossibleOutcome firms trades over contracts
-      → Completes firms trades over contracts prices → KeepsArcs (fixed_arc firms trades over contracts) (price_of_node (length trades) prices)
+  pub to_labels : (firms : List Firm) (trades : List Ends) (over : ℤ) (contracts : List Contract) (prices : ℕ → ℤ)
+      → IsPossibleOutcome firms trades over contracts
+      → Completes firms trades over contracts prices
+      → KeepsArcs (fixed_arc firms trades over contracts) (price_of_node (length trades) prices)
 
 -- an outcome that prices complete is individually rational
 abbrev pub CompletedOutcomesAreRational : Type 0
-CompletedOutcomesAreRational = (firms : List Firm) (trades : List Ends) (over : ℤ) (contracts : List Contract) (prices : ℕ → ℤ) → IsNetwork firms trades
-    → IsFeasible trades contracts → Completes firms trades over contracts prices → IsIndividuallyRational firms trades over contracts
+CompletedOutcomesAreRational =
+    (firms : List Firm) (trades : List Ends) (over : ℤ) (contracts : List Contract) (prices : ℕ → ℤ)
+    → IsNetwork firms trades
+    → IsFeasible trades contracts → Completes firms trades over contracts prices
+    → IsIndividuallyRational firms trades over contracts

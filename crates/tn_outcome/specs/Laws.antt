@@ -21,7 +21,9 @@ RationalByBundles = (firms : List Firm) (trades : List Ends) (over : ℤ) (contr
 
 -- a firm's reduced worth of unsigned trades is what the definition by bundles says
 abbrev pub ReducedWorthsAreGreatest : Type 0
-ReducedWorthsAreGreatest = (trades : List Ends) (over : ℤ) (contracts : List Contract) (f : ℕ) (firm : Firm) (x : ℕ) (worth : Option ℤ) → HasOwnBundles firm
+ReducedWorthsAreGreatest =
+    (trades : List Ends) (over : ℤ) (contracts : List Contract) (f : ℕ) (firm : Firm) (x : ℕ) (worth : Option ℤ)
+    → HasOwnBundles firm
     → meet x (signed_bundle trades contracts f firm) ≡ 0
     → ((reduced trades over contracts f firm).worth x ≡ worth) ↔ IsReducedWorth trades over contracts f firm x worth
 
@@ -32,37 +34,50 @@ pub record IsUnsignedNode (trades : List Ends) (contracts : List Contract) (u : 
 
 -- the arcs of reduced worths lead among unsigned trades and null
 abbrev pub ReducedArcsAreUnsigned : Type 0
-ReducedArcsAreUnsigned = (firms : List Firm) (trades : List Ends) (over : ℤ) (contracts : List Contract) (u v : ℕ) (cost : ℤ) → IsNetwork firms trades
-    → reduced_arc firms trades over contracts u v ≡ Some cost → IsUnsignedNode trades contracts u × IsUnsignedNode trades contracts v
+ReducedArcsAreUnsigned =
+    (firms : List Firm) (trades : List Ends) (over : ℤ) (contracts : List Contract) (u v : ℕ) (cost : ℤ)
+    → IsNetwork firms trades
+    → reduced_arc firms trades over contracts u v ≡ Some cost → IsUnsignedNode trades contracts u
+    × IsUnsignedNode trades contracts v
 
--- prices by numbers of the nodes: a signed trade has the price of its contract, and an unsigned one its number less null's
+-- prices by numbers of the nodes: a signed trade has the price of its contract, and an unsigned one its number less
+-- null's
 abbrev pub completed : List Ends → List Contract → (ℕ → ℤ) → ℕ → ℤ
 completed trades contracts label t = if is_signed contracts t then signed_price contracts t else label t -ℤ label (length trades)
 
 pub record CompletionIsLabels : Type 0 where
   -- some prices complete an individually rational outcome exactly where no closed walk of the reduced graph is negative
-  pub some : (firms : List Firm) (trades : List Ends) (over : ℤ) (contracts : List Contract) → IsRationalOutcome firms trades over contracts
-      → ((prices : ℕ → ℤ) × Completes firms trades over contracts prices) ↔ HasNoNegativeCycle (reduced_arc firms trades over contracts)
+  pub some : (firms : List Firm) (trades : List Ends) (over : ℤ) (contracts : List Contract)
+      → IsRationalOutcome firms trades over contracts
+      → ((prices : ℕ → ℤ) × Completes firms trades over contracts prices)
+      ↔ HasNoNegativeCycle (reduced_arc firms trades over contracts)
   -- numbers that keep its arcs give such prices
-  pub from_labels : (firms : List Firm) (trades : List Ends) (over : ℤ) (contracts : List Contract) (label : ℕ → ℤ) → IsRationalOutcome firms trades over contracts
-      → KeepsArcs (reduced_arc firms trades over contracts) label → Completes firms trades over contracts (completed trades contracts label)
+  pub from_labels : (firms : List Firm) (trades : List Ends) (over : ℤ) (contracts : List Contract) (label : ℕ → ℤ)
+      → IsRationalOutcome firms trades over contracts
+      → KeepsArcs (reduced_arc firms trades over contracts) label
+      → Completes firms trades over contracts (completed trades contracts label)
   -- and such prices, with 0 for null, keep its arcs
-  pub to_labels : (firms : List Firm) (trades : List Ends) (over : ℤ) (contracts : List Contract) (prices : ℕ → ℤ) → IsRationalOutcome firms trades over contracts
-      → Completes firms trades over contracts prices → KeepsArcs (reduced_arc firms trades over contracts) (price_of_node (length trades) prices)
+  pub to_labels : (firms : List Firm) (trades : List Ends) (over : ℤ) (contracts : List Contract) (prices : ℕ → ℤ)
+      → IsRationalOutcome firms trades over contracts
+      → Completes firms trades over contracts prices
+      → KeepsArcs (reduced_arc firms trades over contracts) (price_of_node (length trades) prices)
 
 -- an outcome that prices complete is stable
 abbrev pub CompletedOutcomesAreStable : Type 0
-CompletedOutcomesAreStable = (firms : List Firm) (trades : List Ends) (over : ℤ) (contracts : List Contract) (prices : ℕ → ℤ) → IsNetwork firms trades
+CompletedOutcomesAreStable = (firms : List Firm) (trades : List Ends) (over : ℤ) (contracts : List Contract) (prices : ℕ
+    → ℤ) → IsNetwork firms trades
     → pos 1 ≤ℤ over → IsFeasible trades contracts → Completes firms trades over contracts prices → IsStable firms trades over contracts
 
 -- with no unsigned trade the firms have a sum of reduced worths, and no set of the allowed trades has more
-pub record HasNoMore (firms : List Firm) (trades : List Ends) (over : ℤ) (contracts : List Contract) (allowed : ℕ) : Type 0 where
+pub record HasNoMore (firms : List Firm) (trades : List Ends) (over : ℤ) (contracts : List Contract)
+    (allowed : ℕ) : Type 0 where
   pub least : ℤ
   pub is : surplus_of (reduced_firms trades over contracts firms) trades 0 ≡ Some least
   pub most : (on : ℕ) (other : ℤ) → IsSubset on allowed → surplus_of (reduced_firms trades over contracts firms) trades on ≡ Some other → other ≤ℤ least
 
 abbrev pub NumbersLeaveNoMore : Type 0
-NumbersLeaveNoMore = (firms : List Firm) (trades : List Ends) (over : ℤ) (contracts : List Contract) (allowed : ℕ) (label : ℕ → ℤ)
+NumbersLeaveNoMore =
+    (firms : List Firm) (trades : List Ends) (over : ℤ) (contracts : List Contract) (allowed : ℕ) (label : ℕ → ℤ)
     → IsRationalOutcome firms trades over contracts
     → KeepsArcs (arcs_among (is_admitted (length trades) allowed) (reduced_arc firms trades over contracts)) label
     → HasNoMore firms trades over contracts allowed

@@ -7,9 +7,10 @@ use Rattle.tn_plain_data.specs.Network.{IsNetwork}
 use Rattle.tn_plain_data.specs.Choices.{IsFeasible, IsIndividuallyRational}
 use Rattle.tn_network.specs.Laws.{MeetExchange}
 
--- contracts over a denominator of at least 1 that firms which meet exchange can sign together, and that are individually
--- rational
-pub record IsRationalOutcome (firms : List Firm) (trades : List Ends) (over : ℤ) (contracts : List Contract) : Type 0 where
+-- contracts over a denominator of at least 1 that firms which meet exchange can sign together, and that are
+-- individually rational
+pub record IsRationalOutcome (firms : List Firm) (trades : List Ends) (over : ℤ) (contracts : List Contract) : Type
+    0 where
   pub network : IsNetwork firms trades
   pub meet : MeetExchange firms
   pub from_one : pos 1 ≤ℤ over

@@ -1,3 +1,5 @@
+//! Laws of prices that complete an outcome.
+
 ghost use Rattle.tn_outcome.specs.Fixed.{CompletedOutcomesAreRational, CompletionIsFixedLabels};
 ghost use Rattle.tn_outcome.specs.Laws.{CompletedOutcomesAreStable, CompletionIsLabels};
 
@@ -24,8 +26,8 @@ pub fn completed_outcomes_are_rational()
     ensures { CompletedOutcomesAreRational }
 {}
 
-/// An outcome that prices complete is stable: no contracts, over any denominator, block it. Its firms needn't meet exchange
-/// (Hatfield, Kominers, Nichifor, Ostrovsky and Westkamp, 2013).
+/// An outcome that prices complete is stable: no contracts, over any denominator, block it. Its firms needn't meet
+/// exchange (Hatfield, Kominers, Nichifor, Ostrovsky and Westkamp, 2013).
 pub fn completed_outcomes_are_stable()
     ensures { CompletedOutcomesAreStable }
 {}

@@ -1,3 +1,5 @@
+//! Laws of reduced worths.
+
 ghost use Rattle.tn_outcome.specs.Laws.{NumbersLeaveNoMore, ReducedArcsAreUnsigned, ReducedWorthsAreGreatest};
 
 /// A reduced worth is the greatest utility of the unsigned trades with a part of the firm's contracts, and none exactly
@@ -6,8 +8,8 @@ pub fn reduced_worths_are_greatest()
     ensures { ReducedWorthsAreGreatest }
 {}
 
-/// The graph of the reduced worths has arcs among unsigned trades and null alone, since a firm has no reduced worth of a
-/// signed trade.
+/// The graph of the reduced worths has arcs among unsigned trades and null alone, since a firm has no reduced worth of
+/// a signed trade.
 pub fn reduced_arcs_are_unsigned()
     ensures { ReducedArcsAreUnsigned }
 {}

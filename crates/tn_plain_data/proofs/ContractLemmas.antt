@@ -21,18 +21,24 @@ module _ (on : ℕ) (prices : ℕ → ℤ) where
   contract_at t = record { trade = t; price = prices t }
 
   -- they are contracts on these trades
-  pub contract_trades : (n : ℕ) → map (λ (contract : Contract). contract.trade) (contracts_of on prices n) ≡ trades_on on n
+  pub contract_trades : (n : ℕ) → map (λ (contract : Contract). contract.trade) (contracts_of on prices n)
+      ≡ trades_on on n
   contract_trades zero = refl
-  contract_trades (suc n) = map-append (λ (contract : Contract). contract.trade) (contracts_of on prices n) (if has on n then contract_at n ∷ [] else []) ∙ by_test (has on n) (contract_trades n)
+  contract_trades (suc n) = map-append (λ (contract : Contract). contract.trade) (contracts_of on prices n) (if has on n
+      then contract_at n ∷ [] else []) ∙ by_test (has on n) (contract_trades n)
     where
-      by_test : {earlier ts : List ℕ} (b : Bool) → earlier ≡ ts → earlier ++ map (λ (contract : Contract). contract.trade) (if b then contract_at n ∷ [] else []) ≡ ts ++ (if b then n ∷ [] else [])
+      by_test : {earlier ts : List ℕ} (b : Bool) → earlier ≡ ts
+          → earlier ++ map (λ (contract : Contract). contract.trade) (if b then contract_at n ∷ [] else []) ≡ ts
+          ++ (if b then n ∷ [] else [])
       by_test true e = ap (λ (list : List ℕ). list ++ n ∷ []) e
       by_test false e = ap (λ (list : List ℕ). list ++ []) e
 
   -- what holds of the contract on each trade of the set holds of them
-  pub contracts_are : (P : Contract → Type 0) (n : ℕ) → ((t : ℕ) → t < n → has on t ≡ true → P (contract_at t)) → All P (contracts_of on prices n)
+  pub contracts_are : (P : Contract → Type 0) (n : ℕ) → ((t : ℕ) → t < n → has on t ≡ true → P (contract_at t))
+      → All P (contracts_of on prices n)
   contracts_are P zero each = All-nil P
-  contracts_are P (suc n) each = All-append P (contracts_of on prices n) (if has on n then contract_at n ∷ [] else []) (contracts_are P n (λ t below there. each t (omega (arith, below)) there)) (last (has on n) refl)
+  contracts_are P (suc n) each = All-append P (contracts_of on prices n) (if has on n then contract_at n ∷ []
+      else []) (contracts_are P n (λ t below there. each t (omega (arith, below)) there)) (last (has on n) refl)
     where
       last : (b : Bool) → has on n ≡ b → All P (if b then contract_at n ∷ [] else [])
       last true there = All-cons P (contract_at n) [] (each n (omega arith) there) (All-nil P)
@@ -45,30 +51,39 @@ module _ (on : ℕ) (prices : ℕ → ℤ) where
     | inl e ↦
         Contains-append_right (contracts_of on prices n) (if has on n then contract_at n ∷ [] else []) (contract_at t)
         (subst (λ (m : ℕ). Contains (if has on m then contract_at m ∷ [] else []) (contract_at t)) e
-        (subst (λ (b : Bool). Contains (if b then contract_at t ∷ [] else []) (contract_at t)) (sym there) (Contains-get_or (contract_at t ∷ []) 0 (contract_at t) (omega arith))))
+        (subst (λ (b : Bool). Contains (if b then contract_at t ∷ [] else []) (contract_at t)) (sym there)
+        (Contains-get_or (contract_at t ∷ []) 0 (contract_at t) (omega arith))))
     | inr other ↦
-        Contains-append_left (contracts_of on prices n) (if has on n then contract_at n ∷ [] else []) (contract_at t) (contracts_have n t (omega (arith, below, other)) there)
+        Contains-append_left (contracts_of on prices n) (if has on n then contract_at n ∷ []
+        else []) (contract_at t) (contracts_have n t (omega (arith, below, other)) there)
   ]
 
 -- they ascend by trade
-pub contracts_increase : (on : ℕ) (prices : ℕ → ℤ) (n : ℕ) → IsStrictlyIncreasing (map (λ (contract : Contract). contract.trade) (contracts_of on prices n))
+pub contracts_increase : (on : ℕ) (prices : ℕ → ℤ) (n : ℕ)
+    → IsStrictlyIncreasing (map (λ (contract : Contract). contract.trade) (contracts_of on prices n))
 contracts_increase on prices n = subst IsStrictlyIncreasing (sym (contract_trades on prices n)) (on_ascends on n)
 
 -- with prices within a limit they keep it
-pub contracts_within : (on : ℕ) (prices : List ℤ) (n limit : ℕ) → length prices ≡ n → All (λ z. IsAtMost z limit) prices → AreContractsWithin n limit (contracts_of on (price_at prices) n)
+pub contracts_within : (on : ℕ) (prices : List ℤ) (n limit : ℕ) → length prices ≡ n → All (λ z. IsAtMost z limit) prices
+    → AreContractsWithin n limit (contracts_of on (price_at prices) n)
 contracts_within on prices n limit count small = record {
   known = contracts_are on (price_at prices) (λ contract. contract.trade < n) n (λ t below there. below);
   ascending = contracts_increase on (price_at prices) n;
-  small = contracts_are on (price_at prices) (λ contract. IsAtMost contract.price limit) n (λ t below there. small t (pos 0) (omega (arith, count, below)));
+  small = contracts_are on (price_at prices) (λ contract. IsAtMost contract.price limit) n
+      (λ t below there. small t (pos 0) (omega (arith, count, below)));
 }
 
 -- where contracts ascend, a later one is on a later trade
-pub contracts_ascend : (contracts : List Contract) → IsStrictlyIncreasing (map (λ (contract : Contract). contract.trade) contracts)
-    → (j k : ℕ) (one other : Contract) → j < k → slice_get contracts j ≡ Some one → slice_get contracts k ≡ Some other → one.trade < other.trade
+pub contracts_ascend : (contracts : List Contract)
+    → IsStrictlyIncreasing (map (λ (contract : Contract). contract.trade) contracts)
+    → (j k : ℕ) (one other : Contract) → j < k → slice_get contracts j ≡ Some one → slice_get contracts k ≡ Some other
+    → one.trade < other.trade
 contracts_ascend contracts up j k one other before one_is other_is =
     let trades = map (λ (contract : Contract). contract.trade) contracts in
-    let first = slice_get-map (λ (contract : Contract). contract.trade) contracts j ∙ ap (option_map (λ (contract : Contract). contract.trade)) one_is in
-    let second = slice_get-map (λ (contract : Contract). contract.trade) contracts k ∙ ap (option_map (λ (contract : Contract). contract.trade)) other_is in
+    let first = slice_get-map (λ (contract : Contract). contract.trade) contracts j
+    ∙ ap (option_map (λ (contract : Contract). contract.trade)) one_is in
+    let second = slice_get-map (λ (contract : Contract). contract.trade) contracts k
+    ∙ ap (option_map (λ (contract : Contract). contract.trade)) other_is in
     let here = get_or_from_slice_get trades j one.trade 0 first in
     let there = get_or_from_slice_get trades k other.trade 0 second in
     let less = AllPairs-from_increasing trades up j k 0 before (slice_get_within trades k other.trade second) in

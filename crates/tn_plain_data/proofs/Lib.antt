@@ -1,3 +1,4 @@
+-- The files of lemmas of this crate.
 pub mod NetworkLemmas
 pub mod InOrderLemmas
 pub mod InOrderNetworks

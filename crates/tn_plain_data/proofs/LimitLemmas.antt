@@ -24,7 +24,9 @@ with_room most few = record {
   nodes = omega (arith, few);
 }
 
-by_tests : (first second : Bool) (limits : Limits) → cond first (Some (limits_with 64)) (cond second (Some (limits_with most_listed)) None) ≡ Some limits → AreLimits limits
+by_tests : (first second : Bool) (limits : Limits)
+    → cond first (Some (limits_with 64)) (cond second (Some (limits_with most_listed)) None) ≡ Some limits
+    → AreLimits limits
 by_tests true second limits e = subst AreLimits (same_Some _ _ e) (with_room 64 (omega arith))
 by_tests false true limits e = subst AreLimits (same_Some _ _ e) (with_room most_listed (omega arith))
 by_tests false false limits e = absurd (none-some _ e)

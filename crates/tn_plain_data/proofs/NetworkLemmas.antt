@@ -13,32 +13,43 @@ use Rattle.tn_plain_data.specs.Network.{own, part, stands_at, trades_of, trades_
 use Rattle.tn_plain_data.specs.NetworkLaws.{StandsThere, IsTradeOf}
 
 -- the trade that `own` finds is there, and it stands there
-pub own_stands : (trades : List Ends) (f k : ℕ) → own trades f k < length trades → StandsThere trades f k (own trades f k)
+pub own_stands : (trades : List Ends) (f k : ℕ) → own trades f k < length trades
+    → StandsThere trades f k (own trades f k)
 own_stands [] f k inside = absurd (omega (arith, inside))
 own_stands (trade ∷ trades) f k inside = by_case (stands_at trade f k) refl (own_stands trades f k)
   where
-    by_case : (b : Bool) → stands_at trade f k ≡ b → (own trades f k < length trades → StandsThere trades f k (own trades f k))
+    by_case : (b : Bool) → stands_at trade f k ≡ b → (own trades f k < length trades
+        → StandsThere trades f k (own trades f k))
         → StandsThere (trade ∷ trades) f k (own (trade ∷ trades) f k)
     by_case true e rest =
         let at : own (trade ∷ trades) f k ≡ 0 = ap (λ (b : Bool). if b then 0 else own trades f k + 1) e in
         subst (λ (t : ℕ). StandsThere (trade ∷ trades) f k t) (sym at) (record { trade = trade; is = refl; stands = e })
     by_case false e rest =
-        let at : own (trade ∷ trades) f k ≡ own trades f k + 1 = ap (λ (b : Bool). if b then 0 else own trades f k + 1) e in
+        let at : own (trade ∷ trades) f k ≡ own trades f k + 1 =
+        ap (λ (b : Bool). if b then 0 else own trades f k + 1) e in
         let found = rest (omega (arith, inside, at)) in
         let next : own (trade ∷ trades) f k ≡ suc (own trades f k) = at ∙ omega arith in
-        subst (λ (t : ℕ). StandsThere (trade ∷ trades) f k t) (sym next) (record { trade = found.trade; is = found.is; stands = found.stands })
+        subst (λ (t : ℕ). StandsThere (trade ∷ trades) f k t) (sym next) (record {
+          trade = found.trade;
+          is =
+              found.is;
+          stands = found.stands;
+        })
 
 -- the trade at a position of a firm is the one that stands there
-pub one_trade : (firms : List Firm) (trades : List Ends) (f k t : ℕ) (firm : Firm) → IsNetwork firms trades → slice_get firms f ≡ Some firm → k < firm.count
+pub one_trade : (firms : List Firm) (trades : List Ends) (f k t : ℕ) (firm : Firm) → IsNetwork firms trades
+    → slice_get firms f ≡ Some firm → k < firm.count
     → (own trades f k ≡ t) ↔ StandsThere trades f k t
 one_trade firms trades f k t firm network is inside =
     let found = own_stands trades f k (network.whole f k firm is inside) in (
       (λ same. subst (λ (s : ℕ). StandsThere trades f k s) same found),
-      (λ there. network.once f k (own trades f k) t found.trade there.trade found.is there.is found.stands there.stands),
+      (λ there. network.once f k (own trades f k) t found.trade there.trade found.is there.is found.stands
+          there.stands),
     )
 
 -- a firm's bundle of a set of trades has the positions whose trade is in the set
-pub member_of_part : (trades : List Ends) (f n on k : ℕ) → (has (part trades f n on) k ≡ true) ↔ ((k < n) × (has on (own trades f k) ≡ true))
+pub member_of_part : (trades : List Ends) (f n on k : ℕ) → (has (part trades f n on) k ≡ true)
+    ↔ ((k < n) × (has on (own trades f k) ≡ true))
 member_of_part trades f n on k = member_of_set (λ i. has on (own trades f i)) n k
 
 -- ---- lists of trades
@@ -51,7 +62,8 @@ pub record IsOwnOf (trades : List Ends) (f n x t : ℕ) : Type 0 where
   pub is : own trades f at ≡ t
 
 own_more : (trades : List Ends) (f n x t : ℕ) → IsOwnOf trades f n x t → IsOwnOf trades f (suc n) x t
-own_more trades f n x t found = let below = found.below in record { at = found.at; below = omega (arith, below); has_it = found.has_it; is = found.is }
+own_more trades f n x t found = let below = found.below in
+    record { at = found.at; below = omega (arith, below); has_it = found.has_it; is = found.is }
 
 pub own_from_list : (trades : List Ends) (f n x t : ℕ) → Contains (trades_of trades f n x) t → IsOwnOf trades f n x t
 own_from_list trades f zero x t found = let inside = found.1 in absurd (omega (arith, inside))
@@ -63,7 +75,9 @@ own_from_list trades f (suc n) x t found = by_case (own_from_list trades f n x t
       | inl earlier ↦ own_more trades f n x t (rest earlier)
       | inr last ↦ record { at = n; below = omega arith; has_it = here; is = last }
     ]
-    by_case rest false away there = own_more trades f n x t (rest (subst (λ (list : List ℕ). Contains list t) (append-nil (trades_of trades f n x)) there))
+    by_case rest false away there =
+        own_more trades f n x t
+        (rest (subst (λ (list : List ℕ). Contains list t) (append-nil (trades_of trades f n x)) there))
 
 pub own_in_list : (trades : List Ends) (f n x t : ℕ) → IsOwnOf trades f n x t → Contains (trades_of trades f n x) t
 own_in_list trades f zero x t found = let none = found.below in absurd (omega (arith, none))
@@ -72,15 +86,23 @@ own_in_list trades f (suc n) x t found = elim (cases_eq found.at n) [
       let has_it : has x n ≡ true = ap (has x) (sym last) ∙ found.has_it in
       let is : own trades f n ≡ t = ap (own trades f) (sym last) ∙ found.is in
       subst (λ (b : Bool). Contains (trades_of trades f n x ++ (if b then own trades f n ∷ [] else [])) t) (sym has_it)
-      (subst (λ (s : ℕ). Contains (trades_of trades f n x ++ own trades f n ∷ []) s) is (Contains-push (trades_of trades f n x) (own trades f n)))
+      (subst (λ (s : ℕ). Contains (trades_of trades f n x ++ own trades f n ∷ []) s) is
+      (Contains-push (trades_of trades f n x) (own trades f n)))
   | inr other ↦
       let below = found.below in
       Contains-append_left (trades_of trades f n x) (if has x n then own trades f n ∷ [] else []) t
-      (own_in_list trades f n x t (record { at = found.at; below = omega (arith, below, other); has_it = found.has_it; is = found.is }))
+      (own_in_list trades f n x t (record {
+        at = found.at;
+        below = omega (arith, below, other);
+        has_it =
+            found.has_it;
+        is = found.is;
+      }))
 ]
 
 -- the list of a bundle's trades has exactly those that stand at the bundle's positions
-pub listed_trades : (firms : List Firm) (trades : List Ends) (f x t : ℕ) (firm : Firm) → IsNetwork firms trades → slice_get firms f ≡ Some firm
+pub listed_trades : (firms : List Firm) (trades : List Ends) (f x t : ℕ) (firm : Firm) → IsNetwork firms trades
+    → slice_get firms f ≡ Some firm
     → Contains (trades_of trades f firm.count x) t ↔ IsTradeOf trades f firm.count x t
 listed_trades firms trades f x t firm network is = (
   (λ listed.
@@ -100,7 +122,8 @@ listed_trades firms trades f x t firm network is = (
 )
 
 -- one more number at the end, above all others
-increasing-push : (xs : List ℕ) (y : ℕ) → IsStrictlyIncreasing xs → ((t : ℕ) → Contains xs t → t < y) → IsStrictlyIncreasing (xs ++ y ∷ [])
+increasing-push : (xs : List ℕ) (y : ℕ) → IsStrictlyIncreasing xs → ((t : ℕ) → Contains xs t → t < y)
+    → IsStrictlyIncreasing (xs ++ y ∷ [])
 increasing-push xs y up above k inside =
     let long = length_push xs y in
     elim (cases_lt (k + 1) (length xs)) [
@@ -118,11 +141,13 @@ increasing-push xs y up above k inside =
     ]
 
 -- the list of a bundle ascends strictly where the trades ascend with the firm's positions
-pub ascending_list : (trades : List Ends) (f n x : ℕ) → ((i j : ℕ) → i < j → j < n → own trades f i < own trades f j) → IsStrictlyIncreasing (trades_of trades f n x)
+pub ascending_list : (trades : List Ends) (f n x : ℕ) → ((i j : ℕ) → i < j → j < n → own trades f i < own trades f j)
+    → IsStrictlyIncreasing (trades_of trades f n x)
 ascending_list trades f zero x ascend = λ k inside. absurd (omega (arith, inside))
 ascending_list trades f (suc n) x ascend =
     let rest = ascending_list trades f n x (λ i j before below. ascend i j before (omega (arith, below))) in
-    elim (has x n) as (λ (b : Bool). IsStrictlyIncreasing (trades_of trades f n x ++ (if b then own trades f n ∷ [] else []))) [
+    elim (has x n) as (λ (b : Bool). IsStrictlyIncreasing (trades_of trades f n x ++ (if b then own trades f n ∷ []
+    else []))) [
       | true ↦ increasing-push (trades_of trades f n x) (own trades f n) rest (λ t listed.
           let found = own_from_list trades f n x t listed in
           let less = ascend found.at n found.below (omega arith) in
@@ -130,9 +155,11 @@ ascending_list trades f (suc n) x ascend =
       | false ↦ subst IsStrictlyIncreasing (sym (append-nil (trades_of trades f n x))) rest
     ]
 
-pub ascending_trades : (firms : List Firm) (trades : List Ends) (f x : ℕ) (firm : Firm) → HaveAscendingPositions firms trades → slice_get firms f ≡ Some firm
+pub ascending_trades : (firms : List Firm) (trades : List Ends) (f x : ℕ) (firm : Firm)
+    → HaveAscendingPositions firms trades → slice_get firms f ≡ Some firm
     → IsStrictlyIncreasing (trades_of trades f firm.count x)
-ascending_trades firms trades f x firm ascend is = ascending_list trades f firm.count x (λ i j before below. ascend f i j firm is before below)
+ascending_trades firms trades f x firm ascend is =
+    ascending_list trades f firm.count x (λ i j before below. ascend f i j firm is before below)
 
 -- ---- the trades of a set
 
@@ -140,12 +167,14 @@ on_inside : (on n t : ℕ) → Contains (trades_on on n) t → t < n
 on_inside on zero t found = let inside = found.1 in absurd (omega (arith, inside))
 on_inside on (suc n) t found = by_case (on_inside on n t) (has on n) found
   where
-    by_case : (Contains (trades_on on n) t → t < n) → (b : Bool) → Contains (trades_on on n ++ (if b then n ∷ [] else [])) t → t < suc n
+    by_case : (Contains (trades_on on n) t → t < n) → (b : Bool)
+        → Contains (trades_on on n ++ (if b then n ∷ [] else [])) t → t < suc n
     by_case rest true there = elim (Contains-push_cases (trades_on on n) n t there) [
       | inl earlier ↦ let less = rest earlier in omega (arith, less)
       | inr last ↦ omega (arith, last)
     ]
-    by_case rest false there = let less = rest (subst (λ (list : List ℕ). Contains list t) (append-nil (trades_on on n)) there) in omega (arith, less)
+    by_case rest false there = let less =
+        rest (subst (λ (list : List ℕ). Contains list t) (append-nil (trades_on on n)) there) in omega (arith, less)
 
 -- each is below n
 pub on_below : (on n : ℕ) → All (λ t. t < n) (trades_on on n)

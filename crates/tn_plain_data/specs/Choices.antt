@@ -29,7 +29,9 @@ payment trades f contracts k = unwrap_or (option_map (paid_by trades f) (slice_g
 -- whether one of the first n contracts is in the part x and on trade t
 abbrev pub is_traded : List Contract → ℕ → ℕ → ℕ → Bool
 is_traded contracts x t zero = false
-is_traded contracts x t (suc n) = (has x n && unwrap_or (option_map (λ contract. contract.trade == t) (slice_get contracts n)) false) || is_traded contracts x t n
+is_traded contracts x t (suc n) =
+    (has x n && unwrap_or (option_map (λ contract. contract.trade == t) (slice_get contracts n)) false)
+    || is_traded contracts x t n
 
 -- the bundle that firm f of n own trades has by a part of the list
 abbrev pub bundle_by : List Ends → ℕ → ℕ → List Contract → ℕ → ℕ
@@ -37,7 +39,9 @@ bundle_by trades f n contracts x = set_of (λ k. is_traded contracts x (own trad
 
 -- the utility that firm f has by a part, at a scale and the prices of the contracts
 abbrev pub part_utility : List Ends → ℤ → ℕ → Firm → List Contract → ℕ → Option ℤ
-part_utility trades scale f firm contracts x = option_map (λ worth. scale *ℤ worth +ℤ sum_over (payment trades f contracts) (length contracts) x) (firm.worth (bundle_by trades f firm.count contracts x))
+part_utility trades scale f firm contracts x =
+    option_map (λ worth. scale *ℤ worth +ℤ sum_over (payment trades f contracts) (length contracts) x)
+    (firm.worth (bundle_by trades f firm.count contracts x))
 
 -- contracts that can be signed together: each on a trade of the network, and no two on one
 pub record IsFeasible (trades : List Ends) (contracts : List Contract) : Type 0 where
@@ -48,20 +52,24 @@ pub record IsFeasible (trades : List Ends) (contracts : List Contract) : Type 0 
 -- a part that firm f can sign: contracts of its own, and no two on one trade
 pub record IsPart (trades : List Ends) (f : ℕ) (contracts : List Contract) (x : ℕ) : Type 0 where
   pub within : x < 2 ^ length contracts
-  pub own : (k : ℕ) (contract : Contract) → slice_get contracts k ≡ Some contract → has x k ≡ true → is_of trades f contract ≡ true
+  pub own : (k : ℕ) (contract : Contract) → slice_get contracts k ≡ Some contract → has x k ≡ true
+      → is_of trades f contract ≡ true
   pub once : (j k : ℕ) (one other : Contract) → slice_get contracts j ≡ Some one → slice_get contracts k ≡ Some other
       → has x j ≡ true → has x k ≡ true → one.trade ≡ other.trade → j ≡ k
 
 -- a choice of firm f from a list: a part that it can sign, of greatest utility among these
-pub record IsChoice (trades : List Ends) (scale : ℤ) (f : ℕ) (firm : Firm) (contracts : List Contract) (x : ℕ) : Type 0 where
+pub record IsChoice (trades : List Ends) (scale : ℤ) (f : ℕ) (firm : Firm) (contracts : List Contract) (x : ℕ) : Type
+    0 where
   pub part : IsPart trades f contracts x
   pub value : ℤ
   pub is : part_utility trades scale f firm contracts x ≡ Some value
-  pub most : (y : ℕ) (other : ℤ) → IsPart trades f contracts y → part_utility trades scale f firm contracts y ≡ Some other → other ≤ℤ value
+  pub most : (y : ℕ) (other : ℤ) → IsPart trades f contracts y
+      → part_utility trades scale f firm contracts y ≡ Some other → other ≤ℤ value
 
 -- all contracts of firm f in a list
 abbrev pub own_part : List Ends → ℕ → List Contract → ℕ
-own_part trades f contracts = set_of (λ k. unwrap_or (option_map (is_of trades f) (slice_get contracts k)) false) (length contracts)
+own_part trades f contracts =
+    set_of (λ k. unwrap_or (option_map (is_of trades f) (slice_get contracts k)) false) (length contracts)
 
 -- individually rational: no firm would rather drop some of its contracts
 abbrev pub IsIndividuallyRational : List Firm → List Ends → ℤ → List Contract → Type 0
@@ -78,19 +86,24 @@ together e offers d outcome = counted d offers ++ counted e outcome
 
 -- offers over e block an outcome over d: there is one, they can be signed together, none is a contract of the outcome,
 -- and each firm, whatever it chooses from the offers and the outcome together, takes all offers that are its own
-pub record Blocks (firms : List Firm) (trades : List Ends) (d : ℤ) (outcome : List Contract) (e : ℤ) (offers : List Contract) : Type 0 where
+pub record Blocks (firms : List Firm) (trades : List Ends) (d : ℤ) (outcome : List Contract) (e : ℤ)
+    (offers : List Contract) : Type 0 where
   pub some : 0 < length offers
   pub feasible : IsFeasible trades offers
-  pub unsigned : (j k : ℕ) (offer signed : Contract) → slice_get offers j ≡ Some offer → slice_get outcome k ≡ Some signed
+  pub unsigned : (j k : ℕ) (offer signed : Contract) → slice_get offers j ≡ Some offer
+      → slice_get outcome k ≡ Some signed
       → offer.trade ≡ signed.trade → offer.price *ℤ d ≡ signed.price *ℤ e → ⊥
-  pub chosen : (f : ℕ) (firm : Firm) (x : ℕ) → slice_get firms f ≡ Some firm → IsChoice trades (d *ℤ e) f firm (together e offers d outcome) x
+  pub chosen : (f : ℕ) (firm : Firm) (x : ℕ) → slice_get firms f ≡ Some firm
+      → IsChoice trades (d *ℤ e) f firm (together e offers d outcome) x
       → (k : ℕ) (offer : Contract) → slice_get offers k ≡ Some offer → is_of trades f offer ≡ true → has x k ≡ true
 
 -- stable: no contracts over any denominator block the outcome over d
 abbrev pub IsStable : List Firm → List Ends → ℤ → List Contract → Type 0
-IsStable firms trades d outcome = (e : ℤ) (offers : List Contract) → pos 1 ≤ℤ e → Blocks firms trades d outcome e offers → ⊥
+IsStable firms trades d outcome = (e : ℤ) (offers : List Contract) → pos 1 ≤ℤ e → Blocks firms trades d outcome e offers
+    → ⊥
 
 -- the outcome of an arrangement: its trades below n at their prices, ascending
 abbrev pub contracts_of : ℕ → (ℕ → ℤ) → ℕ → List Contract
 contracts_of on prices zero = []
-contracts_of on prices (suc n) = contracts_of on prices n ++ (if has on n then record { trade = n; price = prices n } ∷ [] else [])
+contracts_of on prices (suc n) = contracts_of on prices n ++ (if has on n
+    then record { trade = n; price = prices n } ∷ [] else [])

@@ -15,7 +15,8 @@ sides_of trades f = filter_map (side_in f) trades
 
 -- where a trade stands among the own trades of firm f
 abbrev pub position_in : ℕ → Ends → Option ℕ
-position_in f trade = if trade.seller == f then Some trade.at_seller else (if trade.buyer == f then Some trade.at_buyer else None)
+position_in f trade = if trade.seller == f then Some trade.at_seller
+    else (if trade.buyer == f then Some trade.at_buyer else None)
 
 -- a trade after others has two different firms, and its positions count the trades of these firms before it
 pub record ComesNext (firms : ℕ) (before : List Ends) (trade : Ends) : Type 0 where
@@ -27,4 +28,5 @@ pub record ComesNext (firms : ℕ) (before : List Ends) (trade : Ends) : Type 0 
 
 -- so does each trade of a list
 abbrev pub AreInOrder : ℕ → List Ends → Type 0
-AreInOrder firms trades = (t : ℕ) (trade : Ends) → slice_get trades t ≡ Some trade → ComesNext firms (take t trades) trade
+AreInOrder firms trades = (t : ℕ) (trade : Ends) → slice_get trades t ≡ Some trade
+    → ComesNext firms (take t trades) trade

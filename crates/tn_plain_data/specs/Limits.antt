@@ -59,8 +59,8 @@ most_own_of_table = 14
 abbrev pub most_own_trades : ℕ
 most_own_trades = 32
 
--- the most sets of a laminar firm; the farthest net count from 0 that the first number of a set may be for, and the most
--- numbers of a set
+-- the most sets of a laminar firm; the farthest net count from 0 that the first number of a set may be for, and the
+-- most numbers of a set
 abbrev pub most_sets : ℕ
 most_sets = 64
 
@@ -92,7 +92,8 @@ limits_with most = record {
 
 -- the limits of each version, none where there is no such version
 unfoldable pub limits_of : ℕ → Option Limits
-limits_of version = if version == 1 then Some (limits_with 64) else (if version == 2 then Some (limits_with most_listed) else None)
+limits_of version = if version == 1 then Some (limits_with 64)
+    else (if version == 2 then Some (limits_with most_listed) else None)
 
 -- what holds of the limits of every version: there is room for what they allow, a cycle may go through every trade and
 -- the null node, and what is claimed may be as large in each version

@@ -34,9 +34,11 @@ pub record IsNetwork (firms : List Firm) (trades : List Ends) : Type 0 where
   pub apart : (t : ℕ) (trade : Ends) → slice_get trades t ≡ Some trade → trade.seller ≢ trade.buyer
   -- its seller sells it at its position, and its buyer buys it at its own
   pub sold : (t : ℕ) (trade : Ends) → slice_get trades t ≡ Some trade
-      → (firm : Firm) × (slice_get firms trade.seller ≡ Some firm) × (trade.at_seller < firm.count) × (has firm.buys trade.at_seller ≡ false)
+      → (firm : Firm) × (slice_get firms trade.seller ≡ Some firm) × (trade.at_seller < firm.count)
+      × (has firm.buys trade.at_seller ≡ false)
   pub bought : (t : ℕ) (trade : Ends) → slice_get trades t ≡ Some trade
-      → (firm : Firm) × (slice_get firms trade.buyer ≡ Some firm) × (trade.at_buyer < firm.count) × (has firm.buys trade.at_buyer ≡ true)
+      → (firm : Firm) × (slice_get firms trade.buyer ≡ Some firm) × (trade.at_buyer < firm.count)
+      × (has firm.buys trade.at_buyer ≡ true)
   -- a trade stands at each position of a firm
   pub whole : (f k : ℕ) (firm : Firm) → slice_get firms f ≡ Some firm → k < firm.count → own trades f k < length trades
   -- and only one
@@ -45,4 +47,5 @@ pub record IsNetwork (firms : List Firm) (trades : List Ends) : Type 0 where
 
 -- the trades at a firm's positions ascend with the positions
 abbrev pub HaveAscendingPositions : List Firm → List Ends → Type 0
-HaveAscendingPositions firms trades = (f i j : ℕ) (firm : Firm) → slice_get firms f ≡ Some firm → i < j → j < firm.count → own trades f i < own trades f j
+HaveAscendingPositions firms trades = (f i j : ℕ) (firm : Firm) → slice_get firms f ≡ Some firm → i < j → j < firm.count
+    → own trades f i < own trades f j

@@ -21,14 +21,18 @@ pub record IsTradeOf (trades : List Ends) (f n x t : ℕ) : Type 0 where
 
 pub record ArePlaces : Type 0 where
   -- the trade at a position of a firm is the one that stands there, and no other
-  pub one : (firms : List Firm) (trades : List Ends) (f k t : ℕ) (firm : Firm) → IsNetwork firms trades → slice_get firms f ≡ Some firm → k < firm.count
+  pub one : (firms : List Firm) (trades : List Ends) (f k t : ℕ) (firm : Firm) → IsNetwork firms trades
+      → slice_get firms f ≡ Some firm → k < firm.count
       → (own trades f k ≡ t) ↔ StandsThere trades f k t
   -- a firm's bundle of a set of trades has the positions whose trade is in the set
-  pub bundled : (trades : List Ends) (f n on k : ℕ) → (has (part trades f n on) k ≡ true) ↔ ((k < n) × (has on (own trades f k) ≡ true))
+  pub bundled : (trades : List Ends) (f n on k : ℕ) → (has (part trades f n on) k ≡ true)
+      ↔ ((k < n) × (has on (own trades f k) ≡ true))
 
 -- the list of a bundle's trades has exactly them, and ascends strictly where the trades ascend with the positions
 pub record AreBundleLists : Type 0 where
-  pub whole : (firms : List Firm) (trades : List Ends) (f x t : ℕ) (firm : Firm) → IsNetwork firms trades → slice_get firms f ≡ Some firm
+  pub whole : (firms : List Firm) (trades : List Ends) (f x t : ℕ) (firm : Firm) → IsNetwork firms trades
+      → slice_get firms f ≡ Some firm
       → Contains (trades_of trades f firm.count x) t ↔ IsTradeOf trades f firm.count x t
-  pub ascending : (firms : List Firm) (trades : List Ends) (f x : ℕ) (firm : Firm) → HaveAscendingPositions firms trades → slice_get firms f ≡ Some firm
+  pub ascending : (firms : List Firm) (trades : List Ends) (f x : ℕ) (firm : Firm) → HaveAscendingPositions firms trades
+      → slice_get firms f ≡ Some firm
       → IsStrictlyIncreasing (trades_of trades f firm.count x)

@@ -1,3 +1,5 @@
+//! Arrangements: trades that are on, with prices.
+
 use crate::lists::Prices;
 use tn_base::TradeSet;
 

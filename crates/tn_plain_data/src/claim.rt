@@ -1,3 +1,5 @@
+//! Claims.
+
 use crate::arrangement::Arrangement;
 use crate::contract::Outcome;
 use crate::lists::{Contracts, Nodes, Parts, Prices};

@@ -1,3 +1,5 @@
+//! Contracts and outcomes.
+
 use crate::lists::Contracts;
 
 /// A trade at a price, which is a numerator over the denominator of the list that the contract stands in.

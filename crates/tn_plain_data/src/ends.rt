@@ -1,3 +1,5 @@
+//! The two ends of a trade.
+
 /// The two ends of a trade: its seller and its buyer, by firm numbers, and the position of the trade at each.
 #[derive(Clone, Copy, Debug, PartialEq, Eq)]
 pub struct Ends {

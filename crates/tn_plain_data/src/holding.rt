@@ -1,3 +1,5 @@
+//! What a firm has in an arrangement.
+
 use crate::lists::Trades;
 
 /// What a firm has in an arrangement and what that brings it, beside a best bundle of it at these prices.

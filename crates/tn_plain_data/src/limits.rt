@@ -1,3 +1,5 @@
+//! The limits of each version of documents.
+
 ghost use Rattle.std.specs.Prelude.{◌≡◌, ◌<◌, ◌+◌, IfSome};
 ghost use Rattle.tn_plain_data.specs.Limits.{AreLimits, limits_of, limits_with};
 

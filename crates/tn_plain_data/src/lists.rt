@@ -1,3 +1,5 @@
+//! Lists of plain data.
+
 ghost use Rattle.std.specs.Prelude.{◌≡◌, ◌<◌, Some, length, slice_get};
 
 use crate::contract::Contract;

@@ -1,3 +1,5 @@
+//! Parts of a plan.
+
 use tn_base::Bundle;
 
 /// A bundle of a firm with its weight: a numerator over the denominator of the plan that the part stands in.

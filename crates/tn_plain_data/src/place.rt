@@ -1,3 +1,5 @@
+//! Places in a document.
+
 /// The name of a member of a document.
 #[derive(Clone, Copy, Debug, PartialEq, Eq)]
 pub enum Word {

@@ -1,7 +1,9 @@
+//! Ranges of prices.
+
 use crate::lists::Nodes;
 
-/// The prices that a trade may have: the lowest and the highest one over all equilibria, each with a path of an exchange
-/// graph that shows that no price is beyond it.
+/// The prices that a trade may have: the lowest and the highest one over all equilibria, each with a path of an
+/// exchange graph that shows that no price is beyond it.
 #[derive(Debug, Drop)]
 pub struct Range {
     /// The lowest price, none where prices go down without a bound.
@@ -11,7 +13,7 @@ pub struct Range {
     pub low_path: Nodes,
     /// The highest price, none where prices go up without a bound.
     pub high: Option<i128>,
-    /// The nodes of a path from the null node to the trade whose costs sum to the highest price; empty where there is no
-    /// highest price.
+    /// The nodes of a path from the null node to the trade whose costs sum to the highest price; empty where there is
+    /// no highest price.
     pub high_path: Nodes,
 }

@@ -1,3 +1,5 @@
+//! Why a claim isn't valid.
+
 use crate::lists::Trades;
 
 /// The first condition of a claim that fails, with the true value where there is one. Firms and trades stand in it by

@@ -1,3 +1,5 @@
+//! What the program may say.
+
 use crate::lists::{
     Contracts, Holdings, Nodes, Numbers, Place, Prices, Ranges, States, TradeEnds, Trades,
 };

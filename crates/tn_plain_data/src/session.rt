@@ -1,7 +1,9 @@
+//! Edits of a session, and the states after them.
+
 use crate::lists::{Contracts, Trades};
 
-/// A change of the trades that a market admits, or of the firms that are there. A trade may be on where it is admitted and
-/// both its firms are there.
+/// A change of the trades that a market admits, or of the firms that are there. A trade may be on where it is admitted
+/// and both its firms are there.
 #[derive(Clone, Copy, Debug, PartialEq, Eq)]
 pub enum Edit {
     /// The trade with this number is admitted.

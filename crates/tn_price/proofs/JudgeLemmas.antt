@@ -29,18 +29,26 @@ use Rattle.tn_price.proofs.SurplusLemmas.{sum_more}
 
 -- ---- the prices of a firm
 
-pub none_priced : (trades : List Ends) (prices : ℕ → ℤ) (f : ℕ) (list : List ℤ) → length list ≡ most_own → All (λ p. IsAtMost p most_number) list
+pub none_priced : (trades : List Ends) (prices : ℕ → ℤ) (f : ℕ) (list : List ℤ) → length list ≡ most_own
+    → All (λ p. IsAtMost p most_number) list
     → AreOwnPrices trades prices f 0 list
-none_priced trades prices f list counted small = record { counted = counted; small = small; each = λ k below. absurd (omega (arith, below)) }
+none_priced trades prices f list counted small = record {
+  counted = counted;
+  small = small;
+  each =
+      λ k below. absurd (omega (arith, below));
+}
 
-pub one_priced : (trades : List Ends) (prices : List ℤ) (f k t : ℕ) (price : ℤ) (list : List ℤ) → AreOwnPrices trades (price_at prices) f k list → k < most_own
+pub one_priced : (trades : List Ends) (prices : List ℤ) (f k t : ℕ) (price : ℤ) (list : List ℤ)
+    → AreOwnPrices trades (price_at prices) f k list → k < most_own
     → t ≡ own trades f k → slice_get prices t ≡ Some price → All (λ p. IsAtMost p most_number) prices
     → AreOwnPrices trades (price_at prices) f (k + 1) (set list k price)
 one_priced trades prices f k t price list before inside at is small =
     let wide : k < length list = omega (arith, inside, before.counted) in
     let read : price_at prices t ≡ price = get_or_from_slice_get prices t price (pos 0) is in
     let price_small : IsAtMost price most_number =
-    subst (λ (z : ℤ). IsAtMost z most_number) read (All-get_or (λ p. IsAtMost p most_number) prices t (pos 0) (slice_get_within prices t price is) small) in
+    subst (λ (z : ℤ). IsAtMost z most_number) read (All-get_or (λ p. IsAtMost p most_number) prices t (pos 0)
+    (slice_get_within prices t price is) small) in
     record {
       counted = length-set list k price ∙ before.counted;
       small = All-set (λ z. IsAtMost z most_number) list k price price_small before.small;
@@ -51,7 +59,8 @@ one_priced trades prices f k t price list before inside at is small =
       ];
     }
 
-pub price_fits : (prices : List ℤ) (t : ℕ) (price : ℤ) → slice_get prices t ≡ Some price → All (λ p. IsAtMost p most_number) prices → IsAtMost price most_utility
+pub price_fits : (prices : List ℤ) (t : ℕ) (price : ℤ) → slice_get prices t ≡ Some price
+    → All (λ p. IsAtMost p most_number) prices → IsAtMost price most_utility
 price_fits prices t price is small =
     let read : price_at prices t ≡ price = get_or_from_slice_get prices t price (pos 0) is in
     let there = All-get_or (λ p. IsAtMost p most_number) prices t (pos 0) (slice_get_within prices t price is) small in
@@ -68,23 +77,31 @@ price_at-take (suc n) (suc k) (x ∷ list) below = price_at-take n k list (omega
 
 -- ---- one firm
 
-utility-same : (firm : Firm) (scale : ℤ) (p q : ℕ → ℤ) → ((k : ℕ) → k < firm.count → p k ≡ q k) → (x : ℕ) → utility scale p firm x ≡ utility scale q firm x
+utility-same : (firm : Firm) (scale : ℤ) (p q : ℕ → ℤ) → ((k : ℕ) → k < firm.count → p k ≡ q k) → (x : ℕ)
+    → utility scale p firm x ≡ utility scale q firm x
 utility-same firm scale p q same x =
     ap (λ (sum : ℤ). option_map (λ a. scale *ℤ a +ℤ sum) (firm.worth x))
     (sum_over-same_terms (payments firm.buys p) (payments firm.buys q) x firm.count (λ k below there.
     ap (λ (z : ℤ). if has firm.buys k then neg_ℤ z else z) (same k below)))
 
 -- the utility at the prices that are listed for a firm is that at the prices by trade
-pub utility_there : (trades : List Ends) (scale : ℤ) (prices : ℕ → ℤ) (f n : ℕ) (list : List ℤ) (firm : Firm) → n ≡ firm.count → AreOwnPrices trades prices f n list
+pub utility_there : (trades : List Ends) (scale : ℤ) (prices : ℕ → ℤ) (f n : ℕ) (list : List ℤ) (firm : Firm)
+    → n ≡ firm.count → AreOwnPrices trades prices f n list
     → (x : ℕ) → utility scale (price_at (take n list)) firm x ≡ utility_at trades scale prices f firm x
 utility_there trades scale prices f n list firm counted listed =
     utility-same firm scale (price_at (take n list)) (prices_at trades prices f)
     (λ k below. price_at-take n k list (omega (arith, below, counted)) ∙ listed.each k (omega (arith, below, counted)))
 
-best-same : (value_of other_of : ℕ → Option ℤ) → ((x : ℕ) → value_of x ≡ other_of x) → (x : ℕ) (value : ℤ) → IsBest value_of x value → IsBest other_of x value
-best-same value_of other_of same x value best = record { is = sym (same x) ∙ best.is; most = λ y other is. best.most y other (same y ∙ is) }
+best-same : (value_of other_of : ℕ → Option ℤ) → ((x : ℕ) → value_of x ≡ other_of x) → (x : ℕ) (value : ℤ)
+    → IsBest value_of x value → IsBest other_of x value
+best-same value_of other_of same x value best = record {
+  is = sym (same x) ∙ best.is;
+  most =
+      λ y other is. best.most y other (same y ∙ is);
+}
 
-stands-same : (worth value_of other_of : ℕ → Option ℤ) → ((x : ℕ) → value_of x ≡ other_of x) → (x : ℕ) (standing : FirmVerdict)
+stands-same : (worth value_of other_of : ℕ → Option ℤ) → ((x : ℕ) → value_of x ≡ other_of x)
+    → (x : ℕ) (standing : FirmVerdict)
     → Stands worth value_of x standing → Stands worth other_of x standing
 stands-same worth value_of other_of same x (Best amount) stands = record {
   worth_is = stands.worth_is;
@@ -103,21 +120,28 @@ stands-same worth value_of other_of same x (Bettered y gain) stands = record {
 }
 
 -- the firm in a list of firms of any type
-pub firm_is : {V : Type 0} (firm_of : V → Firm) (firms : List V) (f : ℕ) (v : V) → slice_get firms f ≡ Some v → slice_get (map firm_of firms) f ≡ Some (firm_of v)
+pub firm_is : {V : Type 0} (firm_of : V → Firm) (firms : List V) (f : ℕ) (v : V) → slice_get firms f ≡ Some v
+    → slice_get (map firm_of firms) f ≡ Some (firm_of v)
 firm_is firm_of firms f v is = slice_get-map firm_of firms f ∙ ap (option_map firm_of) is
 
 -- how a firm stands at the prices that are listed for it is how it stands in the arrangement
-pub stands_there : {V : Type 0} (firm_of : V → Firm) (firms : List V) (trades : List Ends) (scale : ℤ) (on : ℕ) (prices : ℕ → ℤ) (f n own : ℕ) (list : List ℤ)
-    (standing : FirmVerdict) (v : V) → slice_get firms f ≡ Some v → n ≡ (firm_of v).count → own ≡ part trades f (firm_of v).count on
-    → AreOwnPrices trades prices f n list → Stands (firm_of v).worth (utility scale (price_at (take n list)) (firm_of v)) own standing
+pub stands_there : {V : Type 0} (firm_of : V → Firm) (firms : List V) (trades : List Ends) (scale : ℤ) (on : ℕ)
+    (prices : ℕ → ℤ) (f n own : ℕ) (list : List ℤ)
+    (standing : FirmVerdict) (v : V) → slice_get firms f ≡ Some v → n ≡ (firm_of v).count
+    → own ≡ part trades f (firm_of v).count on
+    → AreOwnPrices trades prices f n list
+    → Stands (firm_of v).worth (utility scale (price_at (take n list)) (firm_of v)) own standing
     → StandsAt (map firm_of firms) trades scale on prices f standing
-stands_there firm_of firms trades scale on prices f n own list standing v is counted own_is listed stands = λ firm there.
+stands_there firm_of firms trades scale on prices f n own list standing v is counted own_is listed stands =
+    λ firm there.
     let same : firm_of v ≡ firm = same_Some _ _ (sym (firm_is firm_of firms f v is) ∙ there) in
     subst (λ (x : Firm). Stands x.worth (utility_at trades scale prices f x) (part trades f x.count on) standing) same
-    (stands-same (firm_of v).worth (utility scale (price_at (take n list)) (firm_of v)) (utility_at trades scale prices f (firm_of v))
+    (stands-same (firm_of v).worth (utility scale (price_at (take n list)) (firm_of v))
+    (utility_at trades scale prices f (firm_of v))
     (utility_there trades scale prices f n list (firm_of v) counted listed)
     (part trades f (firm_of v).count on) standing
-    (subst (λ (x : ℕ). Stands (firm_of v).worth (utility scale (price_at (take n list)) (firm_of v)) x standing) own_is stands))
+    (subst (λ (x : ℕ). Stands (firm_of v).worth (utility scale (price_at (take n list)) (firm_of v)) x standing) own_is
+    stands))
 
 pub part_within : (trades : List Ends) (f n on own : ℕ) → own ≡ part trades f n on → own < 2 ^ n
 part_within trades f n on x is = subst (λ (y : ℕ). y < 2 ^ n) (sym is) (set_of_within (λ k. has on (own trades f k)) n)
@@ -130,12 +154,14 @@ some_item (x ∷ xs) zero inside = (x, refl)
 some_item (x ∷ xs) (suc f) inside = some_item xs f (omega (arith, inside))
 
 -- the firms before f have best bundles, and their worths have this sum
-pub record AreJudged (firms : List Firm) (trades : List Ends) (scale : ℤ) (on : ℕ) (prices : ℕ → ℤ) (f : ℕ) (surplus : ℤ) : Type 0 where
+pub record AreJudged (firms : List Firm) (trades : List Ends) (scale : ℤ) (on : ℕ) (prices : ℕ
+    → ℤ) (f : ℕ) (surplus : ℤ) : Type 0 where
   pub before : AreBestBefore firms trades scale on prices f
   pub sum : surplus_from trades on 0 (take f firms) ≡ Some surplus
   pub small : IsAtMost surplus (f * most_worth)
 
-pub none_judged : (firms : List Firm) (trades : List Ends) (scale : ℤ) (on : ℕ) (prices : ℕ → ℤ) → AreJudged firms trades scale on prices 0 (pos 0)
+pub none_judged : (firms : List Firm) (trades : List Ends) (scale : ℤ) (on : ℕ) (prices : ℕ → ℤ)
+    → AreJudged firms trades scale on prices 0 (pos 0)
 none_judged firms trades scale on prices = record {
   before = λ g firm below is. absurd (omega (arith, below));
   sum = refl;
@@ -143,7 +169,8 @@ none_judged firms trades scale on prices = record {
 }
 
 -- with one more firm
-pub one_judged : (firms : List Firm) (trades : List Ends) (scale : ℤ) (on : ℕ) (prices : ℕ → ℤ) (f : ℕ) (surplus amount : ℤ) (firm : Firm)
+pub one_judged : (firms : List Firm) (trades : List Ends) (scale : ℤ) (on : ℕ) (prices : ℕ
+    → ℤ) (f : ℕ) (surplus amount : ℤ) (firm : Firm)
     → AreJudged firms trades scale on prices f surplus → slice_get firms f ≡ Some firm
     → IsBestWorth firm.worth (utility_at trades scale prices f firm) (part trades f firm.count on) amount
     → AreJudged firms trades scale on prices (f + 1) (surplus +ℤ amount)
@@ -160,11 +187,17 @@ one_judged firms trades scale on prices f surplus amount firm judged is best = r
 }
   where
     add : (a b : ℤ) → IsAtMost a (f * most_worth) → IsAtMost b most_worth → IsAtMost (a +ℤ b) ((f + 1) * most_worth)
-    add a b small_a small_b = record { low = omega (arith, ints, small_a.low, small_b.low); high = omega (arith, ints, small_a.high, small_b.high) }
+    add a b small_a small_b = record {
+      low = omega (arith, ints, small_a.low, small_b.low);
+      high =
+          omega (arith, ints, small_a.high, small_b.high);
+    }
 
 -- the end
-pub all_judged : (firms : List Firm) (trades : List Ends) (scale : ℤ) (on : ℕ) (prices : ℕ → ℤ) (f : ℕ) (surplus : ℤ) → AreJudged firms trades scale on prices f surplus
-    → length firms ≤ f → f ≤ length firms → IsEquilibrium firms trades scale on prices × (surplus_of firms trades on ≡ Some surplus)
+pub all_judged : (firms : List Firm) (trades : List Ends) (scale : ℤ) (on : ℕ) (prices : ℕ → ℤ) (f : ℕ) (surplus : ℤ)
+    → AreJudged firms trades scale on prices f surplus
+    → length firms ≤ f → f ≤ length firms → IsEquilibrium firms trades scale on prices
+    × (surplus_of firms trades on ≡ Some surplus)
 all_judged firms trades scale on prices f surplus judged end most =
     let same : f ≡ length firms = omega (arith, end, most) in
     let whole : take f firms ≡ firms = ap (λ (n : ℕ). take n firms) same ∙ take-length firms in (
@@ -173,12 +206,17 @@ all_judged firms trades scale on prices f surplus judged end most =
     )
 
 -- the first firm that fails
-pub first_impossible : (firms : List Firm) (trades : List Ends) (scale : ℤ) (on : ℕ) (prices : ℕ → ℤ) (f : ℕ) (firm : Firm) → AreBestBefore firms trades scale on prices f
-    → slice_get firms f ≡ Some firm → StandsAt firms trades scale on prices f Impossible → IsFirstImpossible firms trades scale on prices f
-first_impossible firms trades scale on prices f firm before is stands = record { before = before; firm = firm; is = is; impossible = stands firm is }
+pub first_impossible : (firms : List Firm) (trades : List Ends) (scale : ℤ) (on : ℕ) (prices : ℕ
+    → ℤ) (f : ℕ) (firm : Firm) → AreBestBefore firms trades scale on prices f
+    → slice_get firms f ≡ Some firm → StandsAt firms trades scale on prices f Impossible
+    → IsFirstImpossible firms trades scale on prices f
+first_impossible firms trades scale on prices f firm before is stands =
+    record { before = before; firm = firm; is = is; impossible = stands firm is }
 
-pub first_bettered : (firms : List Firm) (trades : List Ends) (scale : ℤ) (on : ℕ) (prices : ℕ → ℤ) (f x : ℕ) (gain : ℤ) (firm : Firm)
-    → AreBestBefore firms trades scale on prices f → slice_get firms f ≡ Some firm → StandsAt firms trades scale on prices f (Bettered x gain)
+pub first_bettered : (firms : List Firm) (trades : List Ends) (scale : ℤ) (on : ℕ) (prices : ℕ
+    → ℤ) (f x : ℕ) (gain : ℤ) (firm : Firm)
+    → AreBestBefore firms trades scale on prices f → slice_get firms f ≡ Some firm
+    → StandsAt firms trades scale on prices f (Bettered x gain)
     → IsFirstBettered firms trades scale on prices f x gain
 first_bettered firms trades scale on prices f x gain firm before is stands =
     let better = stands firm is in
@@ -195,7 +233,8 @@ first_bettered firms trades scale on prices f x gain firm before is stands =
     }
 
 -- the sum of the worths fits
-pub sum_fits : (surplus amount : ℤ) (f n : ℕ) → IsAtMost surplus (f * most_worth) → IsAtMost amount most_worth → f < n → n ≤ most_market_firms → SFits w128 (surplus +ℤ amount)
+pub sum_fits : (surplus amount : ℤ) (f n : ℕ) → IsAtMost surplus (f * most_worth) → IsAtMost amount most_worth → f < n
+    → n ≤ most_market_firms → SFits w128 (surplus +ℤ amount)
 sum_fits surplus amount f n small more below few =
     let low = small.low in
     let high = small.high in
@@ -204,7 +243,8 @@ sum_fits surplus amount f n small more below few =
     omega (arith, ints, low, high, more_low, more_high, below, few)
 
 -- the bundle at hand is best, with its worth
-pub best_worth : (worth value_of : ℕ → Option ℤ) (own x : ℕ) (amount most : ℤ) → worth own ≡ Some amount → IsAtMost amount most_worth → IsBest value_of x most → x ≡ own
+pub best_worth : (worth value_of : ℕ → Option ℤ) (own x : ℕ) (amount most : ℤ) → worth own ≡ Some amount
+    → IsAtMost amount most_worth → IsBest value_of x most → x ≡ own
     → IsBestWorth worth value_of own amount
 best_worth worth value_of own x amount most worth_is small best same = record {
   worth_is = worth_is;
@@ -214,7 +254,8 @@ best_worth worth value_of own x amount most worth_is small best same = record {
 }
 
 -- another one is best, which it is only where the one at hand isn't
-pub bettered : (value_of : ℕ → Option ℤ) (own x : ℕ) (value most : ℤ) → value_of own ≡ Some value → IsBest value_of x most → ((other : ℤ) → IsBest value_of own other → x ≡ own) → x ≢ own
+pub bettered : (value_of : ℕ → Option ℤ) (own x : ℕ) (value most : ℤ) → value_of own ≡ Some value
+    → IsBest value_of x most → ((other : ℤ) → IsBest value_of own other → x ≡ own) → x ≢ own
     → IsBettered value_of own x (most -ℤ value)
 bettered value_of own x value most own_is best kept apart = record {
   own_value = value;
@@ -231,4 +272,11 @@ bettered value_of own x value most own_is best kept apart = record {
 -- the difference of two utilities as the code computes it
 pub gain_is : (most value : ℤ) → IsAtMost most most_utility → IsAtMost value most_utility
     → to_z w128 (of_z w128 (to_z w128 (of_z w128 most) -ℤ to_z w128 (of_z w128 value))) ≡ most -ℤ value
-gain_is most value small_most small_value = omega (arith, ints, small_most.low, small_most.high, small_value.low, small_value.high)
+gain_is most value small_most small_value = omega (
+  arith,
+  ints,
+  small_most.low,
+  small_most.high,
+  small_value.low,
+  small_value.high,
+)

@@ -8,6 +8,7 @@ use Rattle.tn_price.specs.declared.check.Check.{Check}
 use Rattle.tn_price.specs.declared.check.Check.TheVariants.{Equilibrium, Impossible, Better}
 
 abbrev pub Checks : List Firm → List Ends → ℤ → ℕ → (ℕ → ℤ) → Check → Type 0
-Checks firms trades scale on prices (Equilibrium surplus) = IsEquilibrium firms trades scale on prices × (surplus_of firms trades on ≡ Some surplus)
+Checks firms trades scale on prices (Equilibrium surplus) = IsEquilibrium firms trades scale on prices
+    × (surplus_of firms trades on ≡ Some surplus)
 Checks firms trades scale on prices (Impossible f) = IsFirstImpossible firms trades scale on prices f
 Checks firms trades scale on prices (Better f x gain) = IsFirstBettered firms trades scale on prices f x gain

@@ -13,7 +13,8 @@ use Rattle.tn_price.specs.declared.supported.Support.TheVariants.{Supported, Imp
 abbrev pub IsUnsupported : List Firm → List Ends → ℕ → Type 0
 IsUnsupported firms trades on = (prices : ℕ → ℤ) → IsEquilibrium firms trades (pos 1) on prices → ⊥
 
--- prices that support the set; or the first firm whose bundle is impossible; or, where all are possible, a negative cycle
+-- prices that support the set; or the first firm whose bundle is impossible; or, where all are possible, a negative
+-- cycle
 abbrev pub Supports : List Firm → List Ends → ℕ → Support → Type 0
 Supports firms trades on (Supported prices) = AreSupports firms trades on prices
 Supports firms trades on (Impossible f) = IsFirstUnable firms trades on f × IsUnsupported firms trades on

@@ -15,7 +15,8 @@ pub fn trades_in<V: Valuation>(
     bundle: Bundle,
 ) -> Result<Trades, OutOfMemory>
     requires { f < length market.now.firms }
-    ensures { IfOk result (λ trades. (v : V) → slice_get market.now.firms f ≡ Some v → trades ≡ trades_of market.now.trades f (V.firm v).count bundle) }
+    ensures { IfOk result (λ trades. (v : V) → slice_get market.now.firms f ≡ Some v
+        → trades ≡ trades_of market.now.trades f (V.firm v).count bundle) }
 {
     let mut trades = Vec::new(alloc);
     for k in 0..market.firm(f).trades() {

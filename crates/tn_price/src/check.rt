@@ -1,3 +1,5 @@
+//! What may be said of an arrangement.
+
 use tn_base::Bundle;
 
 /// What may be said of an arrangement.

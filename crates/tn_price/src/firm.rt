@@ -25,8 +25,8 @@ fn all_positions(n: u32) -> Bundle
     all
 }
 
-/// A best bundle with its utility, found from a bundle at hand: that one wherever it is best. Prices, scale and firm are
-/// within the limits of `best`.
+/// A best bundle with its utility, found from a bundle at hand: that one wherever it is best. Prices, scale and firm
+/// are within the limits of `best`.
 fn greatest_from<V: Oracle>(
     firm: &V,
     from: Bundle,
@@ -41,15 +41,16 @@ fn greatest_from<V: Oracle>(
     requires few_trades { (V.firm firm.now).count ≤ most_own }
     requires small_worths { V.limit firm.now ≤ most_worth }
     ensures best { IsBest (utility scale (price_at prices.now) (V.firm firm.now)) result.0 result.1 }
-    ensures kept { (value : ℤ) → IsBest (utility scale (price_at prices.now) (V.firm firm.now)) from value → result.0 ≡ from }
+    ensures kept { (value : ℤ) → IsBest (utility scale (price_at prices.now) (V.firm firm.now)) from value
+        → result.0 ≡ from }
     ensures small { IsAtMost result.1 most_utility }
 {
     let all = all_positions(firm.trades());
     firm.best_from(from, all, scale, prices, room)
 }
 
-/// A best bundle with its utility. There is one, since the empty bundle is possible. Prices, scale and firm are within the
-/// limits of `best`.
+/// A best bundle with its utility. There is one, since the empty bundle is possible. Prices, scale and firm are within
+/// the limits of `best`.
 pub fn greatest<V: Oracle>(
     firm: &V,
     scale: i128,
@@ -68,8 +69,8 @@ pub fn greatest<V: Oracle>(
     greatest_from(firm, Bundle::empty(), scale, prices, room)
 }
 
-/// How a firm stands with its bundle at the prices of its positions. The search for a best bundle begins at its own, and
-/// leaves that only for a better one.
+/// How a firm stands with its bundle at the prices of its positions. The search for a best bundle begins at its own,
+/// and leaves that only for a better one.
 pub fn standing<V: Oracle>(
     firm: &V,
     own: Bundle,

@@ -1,3 +1,5 @@
+//! How a firm stands with its bundle.
+
 use tn_base::Bundle;
 
 /// How a firm stands with its bundle.

@@ -1,3 +1,5 @@
+//! What may be said of a set for which prices are wanted.
+
 use tn_market::{Nodes, Prices};
 
 /// What may be said of a set of trades for which prices are wanted.

@@ -30,7 +30,8 @@ fn is_unable<V: Valuation, const W: usize>(
 ) -> bool
     requires wide { length market.now.trades ≤ 64 * W }
     requires firm { f < length market.now.firms }
-    ensures found { (firm : Firm) → slice_get (map V.firm market.now.firms) f ≡ Some firm → result ≡ is_none (firm.worth (part market.now.trades f firm.count on.now)) }
+    ensures found { (firm : Firm) → slice_get (map V.firm market.now.firms) f ≡ Some firm
+        → result ≡ is_none (firm.worth (part market.now.trades f firm.count on.now)) }
     ensures asked { steps.new ≡ steps.old + 1 }
 {
     worth_at(market, on, f, steps).is_none()
@@ -61,7 +62,8 @@ fn prices_from(alloc: Global, finder: &Finder, trades: u32) -> Result<Prices, Ou
     requires labelled { length finder.now.labels ≡ trades + 1 }
     requires small { (v : ℕ) → v < length finder.now.labels → IsAtMost (label_in finder.now.labels v) most_read }
     ensures one_each { IfOk result (λ prices. length prices ≡ trades) }
-    ensures each { IfOk result (λ prices. (t : ℕ) → t < trades → price_at prices t ≡ label_in finder.now.labels t -ℤ label_in finder.now.labels trades) }
+    ensures each { IfOk result (λ prices. (t : ℕ) → t < trades
+        → price_at prices t ≡ label_in finder.now.labels t -ℤ label_in finder.now.labels trades) }
 {
     let mut prices = vec![in alloc; 0; trades as usize]?;
     write_differences(finder, &mut prices, trades);
@@ -100,9 +102,9 @@ fn support_by_labels<V: Valuation, const W: usize>(
 
 /// Prices that support a set of trades, exactly where there are any: with them each firm's bundle of the set is best.
 /// Otherwise the first firm whose bundle is impossible; or, where all are possible, a cycle of the exchange graph of
-/// negative cost (Candogan, Epitropou and Vohra, 2021). It asks for at most two worths for each two places of each firm,
-/// and fails only where memory runs out. The market has at most `64 * W` trades, and twice the bound of each firm is at
-/// most 10^18.
+/// negative cost (Candogan, Epitropou and Vohra, 2021). It asks for at most two worths for each two places of each
+/// firm, and fails only where memory runs out. The market has at most `64 * W` trades, and twice the bound of each firm
+/// is at most 10^18.
 pub fn support<V: Valuation, const W: usize>(
     alloc: Global,
     market: &Market<V>,

@@ -21,7 +21,8 @@ pub fn worth_at<V: Valuation, const W: usize>(
 ) -> Option<i128>
     requires wide { length market.now.trades ≤ 64 * W }
     requires firm { f < length market.now.firms }
-    ensures worth { (firm : Firm) → slice_get (map V.firm market.now.firms) f ≡ Some firm → result ≡ firm.worth (part market.now.trades f firm.count on.now) }
+    ensures worth { (firm : Firm) → slice_get (map V.firm market.now.firms) f ≡ Some firm
+        → result ≡ firm.worth (part market.now.trades f firm.count on.now) }
     ensures small { IfSome result (λ worth. IsAtMost worth most_limit) }
     ensures asked { steps.new ≡ steps.old + 1 }
 {

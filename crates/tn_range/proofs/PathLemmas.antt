@@ -14,12 +14,14 @@ use Rattle.tn_network.specs.Bounds.{IsDistance}
 use Rattle.tn_network.proofs.PoolLemmas.{append_cases}
 
 -- the cost of a least walk is the distance
-pub leads-distance : (arc : ℕ → ℕ → Option ℤ) (u w : ℕ) (listed : List ℕ) (o : Option ℤ) → LeadsLeast arc u w listed o → IsDistance arc u w o
+pub leads-distance : (arc : ℕ → ℕ → Option ℤ) (u w : ℕ) (listed : List ℕ) (o : Option ℤ) → LeadsLeast arc u w listed o
+    → IsDistance arc u w o
 leads-distance arc u w listed None none = none
 leads-distance arc u w listed (Some cost) some = (some.inner, some.least)
 
 -- least walks are those of a graph with the same arcs
-pub leads-same : (one other : ℕ → ℕ → Option ℤ) → SameArcs one other → (u w : ℕ) (listed : List ℕ) (o : Option ℤ) → LeadsLeast other u w listed o → LeadsLeast one u w listed o
+pub leads-same : (one other : ℕ → ℕ → Option ℤ) → SameArcs one other → (u w : ℕ) (listed : List ℕ) (o : Option ℤ)
+    → LeadsLeast other u w listed o → LeadsLeast one u w listed o
 leads-same one other same u w listed None none = λ vs. walk-same one other same u vs w ∙ none vs
 leads-same one other same u w listed (Some cost) some = record {
   inner = some.inner;
@@ -58,14 +60,18 @@ different-push xs w different avoids j k v at_j at_k = elim (append_cases xs (w 
     outside i is same = avoids i v (slice_get_within xs i v is) (get_or_from_slice_get xs i v v is ∙ sym same)
 
 -- in a graph of few nodes and small costs least walks have small costs
-pub least-small : (n : ℕ) (arc : ℕ → ℕ → Option ℤ) → AreBetweenNodes n arc → AreSmall arc most_cost → n ≤ most_graph_nodes → (u w : ℕ) (listed : List ℕ) (o : Option ℤ) → u < n
+pub least-small : (n : ℕ) (arc : ℕ → ℕ → Option ℤ) → AreBetweenNodes n arc → AreSmall arc most_cost
+    → n ≤ most_graph_nodes → (u w : ℕ) (listed : List ℕ) (o : Option ℤ) → u < n
     → LeadsLeast arc u w listed o → IfSome o (λ cost. IsAtMost cost most_read)
 unfolding AreApart
 least-small n arc between small few u w listed None inside none = tt
 least-small n arc between small few u w listed (Some cost) inside some =
     let apart = apart_from_different (u ∷ some.inner) some.different in
-    let fewer = few_apart n u some.inner inside (walk_inside n arc between u some.inner w cost some.least.walk) apart.0 apart.1 in
-    by (length some.inner) (omega (arith, fewer, few)) (walk_small arc most_cost small u some.inner w cost some.least.walk)
+    let fewer = few_apart n u some.inner inside (walk_inside n arc between u some.inner w cost some.least.walk) apart.0
+    apart.1 in
+    by (length some.inner) (omega (arith, fewer, few)) (walk_small arc most_cost small u some.inner w cost
+    some.least.walk)
   where
     by : (k : ℕ) → k < most_graph_nodes → IsAtMost cost ((k + 1) * most_cost) → IsAtMost cost most_read
-    by k below at = let low = at.low in let high = at.high in record { low = omega (arith, ints, below, low, high); high = omega (arith, ints, below, low, high) }
+    by k below at = let low = at.low in let high = at.high in
+        record { low = omega (arith, ints, below, low, high); high = omega (arith, ints, below, low, high) }

@@ -40,10 +40,10 @@ fn ranges_from(
 /// The lowest and the highest price of each trade over all equilibria, whatever trades are on in them, each with a path
 /// of the exchange graph at the given set that shows it: a highest price is the least cost of a walk from the null node
 /// to the trade, and a lowest one the negative of the least cost of a walk from the trade to the null node. None where
-/// there is no such price, and then its path is empty. Some prices support the set. It asks for at most a worth for each
-/// two places of each firm, and fails only where memory runs out (the lattice of prices: Gul and Stacchetti, 1999, and
-/// Hatfield, Kominers, Nichifor, Ostrovsky and Westkamp, 2013; by least walks, Murota, 2003). The market has at most
-/// `64 * W` trades, and twice the bound of each firm is at most 10^18.
+/// there is no such price, and then its path is empty. Some prices support the set. It asks for at most a worth for
+/// each two places of each firm, and fails only where memory runs out (the lattice of prices: Gul and Stacchetti, 1999,
+/// and Hatfield, Kominers, Nichifor, Ostrovsky and Westkamp, 2013; by least walks, Murota, 2003). The market has at
+/// most `64 * W` trades, and twice the bound of each firm is at most 10^18.
 pub fn range<V: Valuation, const W: usize>(
     alloc: Global,
     market: &Market<V>,

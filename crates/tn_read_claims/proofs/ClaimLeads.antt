@@ -36,7 +36,8 @@ use Rattle.tn_read_claims.proofs.OwnCounts.{counts_own}
 
 -- ---- the limits
 
-module _ (listed : Listed) (trades : AreTrades listed) (firms : List Firm) (named : length listed.names.firms ≡ length firms) (network : IsNetwork firms listed.ends) where
+module _ (listed : Listed) (trades : AreTrades listed) (firms : List Firm) (named : length listed.names.firms
+    ≡ length firms) (network : IsNetwork firms listed.ends) where
   abbrev names : List (List ℕ)
   names = listed.names.trades
 
@@ -51,7 +52,8 @@ module _ (listed : Listed) (trades : AreTrades listed) (firms : List Firm) (name
   IsWithin claim = IsClaimWithin firms listed.ends claim
 
   arranged : (top : Data) → Leads (IsArrangement n) (arrangement_of listed top)
-  arranged top = counted (λ m. Leads (IsArrangement m) (arrangement_of listed top)) (arrangement_leads listed trades.limits top)
+  arranged top =
+      counted (λ m. Leads (IsArrangement m) (arrangement_of listed top)) (arrangement_leads listed trades.limits top)
 
   abbrev IsSet : ℕ → Type 0
   IsSet on = on < 2 ^ n
@@ -63,7 +65,9 @@ module _ (listed : Listed) (trades : AreTrades listed) (firms : List Firm) (name
   signed top = counted (λ m. Leads (IsOutcomeWithin m) (outcome_of listed top)) (outcome_leads listed trades.limits top)
 
   priced : (claim : Data) → Leads (ArePricesWithin n most_number) (claimed_prices listed claim)
-  priced claim = counted (λ m. Leads (ArePricesWithin m most_number) (claimed_prices listed claim)) (claimed_prices_lead listed trades.limits claim)
+  priced claim =
+      counted (λ m. Leads (ArePricesWithin m most_number) (claimed_prices listed claim))
+      (claimed_prices_lead listed trades.limits claim)
 
   own_on : (claim : Data) → Leads IsSet (claimed_on names claim)
   own_on claim = counted (λ m. Leads (λ on. on < 2 ^ m) (claimed_on names claim)) (on_lead names claim)
@@ -72,7 +76,8 @@ module _ (listed : Listed) (trades : AreTrades listed) (firms : List Firm) (name
   order = subst (λ m. AreInOrder m listed.ends) named trades.order
 
   -- what is said of the count of a firm's own trades
-  own_firm : (f : ℕ) (P : ℕ → Type 0) → f < length listed.names.firms → P (length (sides_of listed.ends f)) → IsFirmWith firms f (λ firm. P firm.count)
+  own_firm : (f : ℕ) (P : ℕ → Type 0) → f < length listed.names.firms → P (length (sides_of listed.ends f))
+      → IsFirmWith firms f (λ firm. P firm.count)
   own_firm f P known said =
       let at = there firms f (omega (arith, known, named)) in
       (at.0, at.1, subst P (sym (counts_own firms listed.ends order network f at.0 at.1)) said)
@@ -94,8 +99,13 @@ module _ (listed : Listed) (trades : AreTrades listed) (firms : List Firm) (name
   equilibrium_leads top claim =
       leads_bind (IsArrangement n) IsWithin (arrangement_of listed top) _ (arranged top) (λ at is.
       leads_after IsWithin (frame_of EquilibriumKind claim) _ (λ frame.
-      leads_bind IsNumberWithin IsWithin (claimed_number listed Surplus (get (codes "surplus") claim)) _ (claimed_number_leads listed trades.limits Surplus (get (codes "surplus") claim)) (λ surplus small.
-      leads_ok IsWithin (Equilibrium (record { on = at.on; prices = at.prices }) surplus) (is.on, record { one_each = is.count; small = is.small }, small))))
+      leads_bind IsNumberWithin IsWithin (claimed_number listed Surplus (get (codes "surplus") claim)) _
+      (claimed_number_leads listed trades.limits Surplus (get (codes "surplus") claim)) (λ surplus small.
+      leads_ok IsWithin (Equilibrium (record { on = at.on; prices = at.prices }) surplus) (
+        is.on,
+        record { one_each = is.count; small = is.small },
+        small,
+      ))))
 
   better_leads : (top claim : Data) → Leads IsWithin (better_of listed top claim)
   unfolding better_of
@@ -103,9 +113,16 @@ module _ (listed : Listed) (trades : AreTrades listed) (firms : List Firm) (name
       leads_bind (IsArrangement n) IsWithin (arrangement_of listed top) _ (arranged top) (λ at is.
       leads_after IsWithin (frame_of BetterKind claim) _ (λ frame.
       leads_bind IsKnown IsWithin (claimed_firm listed.names.firms claim) _ (firm_lead claim) (λ f known.
-      leads_bind (IsOwn f) IsWithin (claimed_bundle listed f Bundle (get (codes "bundle") claim)) _ (bundle_lead f Bundle (get (codes "bundle") claim)) (λ x own.
-      leads_bind IsNumberWithin IsWithin (claimed_number listed Gain (get (codes "gain") claim)) _ (claimed_number_leads listed trades.limits Gain (get (codes "gain") claim)) (λ gain small.
-      leads_ok IsWithin (Better (record { on = at.on; prices = at.prices }) f x gain) (is.on, record { one_each = is.count; small = is.small }, own_firm f (λ m. x < 2 ^ m) known own, small))))))
+      leads_bind (IsOwn f) IsWithin (claimed_bundle listed f Bundle (get (codes "bundle") claim)) _
+      (bundle_lead f Bundle (get (codes "bundle") claim)) (λ x own.
+      leads_bind IsNumberWithin IsWithin (claimed_number listed Gain (get (codes "gain") claim)) _
+      (claimed_number_leads listed trades.limits Gain (get (codes "gain") claim)) (λ gain small.
+      leads_ok IsWithin (Better (record { on = at.on; prices = at.prices }) f x gain) (
+        is.on,
+        record { one_each = is.count; small = is.small },
+        own_firm f (λ m. x < 2 ^ m) known own,
+        small,
+      ))))))
 
   impossible_leads : (top claim : Data) → Leads IsWithin (impossible_of listed top claim)
   unfolding impossible_of
@@ -124,9 +141,13 @@ module _ (listed : Listed) (trades : AreTrades listed) (firms : List Firm) (name
   failure_leads claim =
       leads_after IsWithin (frame_of ExchangeFailsKind claim) _ (λ frame.
       leads_bind IsKnown IsWithin (claimed_firm listed.names.firms claim) _ (firm_lead claim) (λ f known.
-      leads_bind (λ at. IfSome at (λ k. k < length (sides_of listed.ends f))) IsWithin (own_or_null listed f (member_place At) (get (codes "at") claim)) _ (at_leads listed trades f (member_place At) (get (codes "at") claim)) (λ at own_at.
-      leads_bind (IsOwn f) IsWithin (claimed_bundle listed f X (get (codes "x") claim)) _ (bundle_lead f X (get (codes "x") claim)) (λ x own_x.
-      leads_bind (IsOwn f) IsWithin (claimed_bundle listed f Y (get (codes "y") claim)) _ (bundle_lead f Y (get (codes "y") claim)) (λ y own_y.
+      leads_bind (λ at. IfSome at (λ k. k < length (sides_of listed.ends f))) IsWithin
+      (own_or_null listed f (member_place At) (get (codes "at") claim)) _
+      (at_leads listed trades f (member_place At) (get (codes "at") claim)) (λ at own_at.
+      leads_bind (IsOwn f) IsWithin (claimed_bundle listed f X (get (codes "x") claim)) _
+      (bundle_lead f X (get (codes "x") claim)) (λ x own_x.
+      leads_bind (IsOwn f) IsWithin (claimed_bundle listed f Y (get (codes "y") claim)) _
+      (bundle_lead f Y (get (codes "y") claim)) (λ y own_y.
       leads_ok IsWithin (ExchangeFails f x y at) (own_firm f (λ m. (x < 2 ^ m) × (y < 2 ^ m) × IfSome at (λ k. k < m)) known (own_x, own_y, own_at)))))))
 
   supported_leads : (top claim : Data) → Leads IsWithin (supported_of listed top claim)
@@ -142,7 +163,8 @@ module _ (listed : Listed) (trades : AreTrades listed) (firms : List Firm) (name
   cycle_leads top claim =
       leads_bind IsSet IsWithin (trades_on_of names top) _ (on_alone top) (λ on below.
       leads_after IsWithin (frame_of CycleKind claim) _ (λ frame.
-      leads_bind IsNumberWithin IsWithin (claimed_number listed Cost (get (codes "cost") claim)) _ (claimed_number_leads listed trades.limits Cost (get (codes "cost") claim)) (λ cost small.
+      leads_bind IsNumberWithin IsWithin (claimed_number listed Cost (get (codes "cost") claim)) _
+      (claimed_number_leads listed trades.limits Cost (get (codes "cost") claim)) (λ cost small.
       leads_bind (AreNodes listed) IsWithin (claimed_nodes listed claim) _ (nodes_lead listed claim) (λ nodes are.
       let most = are.most in
       leads_ok IsWithin (Cycle on nodes cost) (
@@ -161,7 +183,8 @@ module _ (listed : Listed) (trades : AreTrades listed) (firms : List Firm) (name
       leads_after IsWithin (frame_of SolvedKind claim) _ (λ frame.
       leads_bind IsSet IsWithin (claimed_on names claim) _ (own_on claim) (λ on below.
       leads_bind (ArePricesWithin n most_number) IsWithin (claimed_prices listed claim) _ (priced claim) (λ prices are.
-      leads_bind IsNumberWithin IsWithin (claimed_number listed Surplus (get (codes "surplus") claim)) _ (claimed_number_leads listed trades.limits Surplus (get (codes "surplus") claim)) (λ surplus small.
+      leads_bind IsNumberWithin IsWithin (claimed_number listed Surplus (get (codes "surplus") claim)) _
+      (claimed_number_leads listed trades.limits Surplus (get (codes "surplus") claim)) (λ surplus small.
       leads_ok IsWithin (Solved (record { on = on; prices = prices }) surplus) (below, are, small)))))
 
   drops_leads : (top claim : Data) → Leads IsWithin (drops_of listed top claim)
@@ -170,17 +193,26 @@ module _ (listed : Listed) (trades : AreTrades listed) (firms : List Firm) (name
       leads_bind (IsOutcomeWithin n) IsWithin (outcome_of listed top) _ (signed top) (λ outcome is.
       leads_after IsWithin (frame_of DropsKind claim) _ (λ frame.
       leads_bind IsKnown IsWithin (claimed_firm listed.names.firms claim) _ (firm_lead claim) (λ f known.
-      leads_bind (λ gain. IfSome gain IsNumberWithin) IsWithin (gain_or_null listed (get (codes "gain") claim)) _ (gain_leads listed trades.limits (get (codes "gain") claim)) (λ gain small.
-      leads_bind (IsOwn f) IsWithin (claimed_bundle listed f Keeps (get (codes "keeps") claim)) _ (bundle_lead f Keeps (get (codes "keeps") claim)) (λ keeps own.
-      leads_bind IsOverWithin IsWithin (claimed_over listed claim) _ (over_lead listed trades.limits claim) (λ over is_over.
-      leads_ok IsWithin (Drops outcome f keeps gain over) (is, own_firm f (λ m. keeps < 2 ^ m) known own, small, is_over)))))))
+      leads_bind (λ gain. IfSome gain IsNumberWithin) IsWithin (gain_or_null listed (get (codes "gain") claim)) _
+      (gain_leads listed trades.limits (get (codes "gain") claim)) (λ gain small.
+      leads_bind (IsOwn f) IsWithin (claimed_bundle listed f Keeps (get (codes "keeps") claim)) _
+      (bundle_lead f Keeps (get (codes "keeps") claim)) (λ keeps own.
+      leads_bind IsOverWithin IsWithin (claimed_over listed claim) _ (over_lead listed trades.limits claim)
+      (λ over is_over.
+      leads_ok IsWithin (Drops outcome f keeps gain over) (
+        is,
+        own_firm f (λ m. keeps < 2 ^ m) known own,
+        small,
+        is_over,
+      )))))))
 
   completes_leads : (top claim : Data) → Leads IsWithin (completes_of listed top claim)
   unfolding completes_of
   completes_leads top claim =
       leads_bind (IsOutcomeWithin n) IsWithin (outcome_of listed top) _ (signed top) (λ outcome is.
       leads_after IsWithin (frame_of CompletesKind claim) _ (λ frame.
-      leads_bind IsOverWithin IsWithin (claimed_over listed claim) _ (over_lead listed trades.limits claim) (λ over is_over.
+      leads_bind IsOverWithin IsWithin (claimed_over listed claim) _ (over_lead listed trades.limits claim)
+      (λ over is_over.
       leads_bind (ArePricesWithin n most_number) IsWithin (claimed_prices listed claim) _ (priced claim) (λ prices are.
       leads_ok IsWithin (Completes outcome prices over) (is, are, is_over)))))
 
@@ -189,12 +221,19 @@ module _ (listed : Listed) (trades : AreTrades listed) (firms : List Firm) (name
   blocks_leads top claim =
       leads_bind (IsOutcomeWithin n) IsWithin (outcome_of listed top) _ (signed top) (λ outcome is.
       leads_after IsWithin (frame_of BlocksKind claim) _ (λ frame.
-      leads_bind (AreClaimedContracts names) IsWithin (claimed_contracts listed claim) _ (claimed_contracts_lead listed trades.limits claim) (λ contracts are.
-      leads_bind IsOverWithin IsWithin (claimed_over listed claim) _ (over_lead listed trades.limits claim) (λ over is_over.
+      leads_bind (AreClaimedContracts names) IsWithin (claimed_contracts listed claim) _
+      (claimed_contracts_lead listed trades.limits claim) (λ contracts are.
+      leads_bind IsOverWithin IsWithin (claimed_over listed claim) _ (over_lead listed trades.limits claim)
+      (λ over is_over.
       leads_ok IsWithin (Blocks outcome contracts over) (
         is,
         record {
-          feasible = record { known = λ k contract at. subst (λ m. contract.trade < m) trades.named (are.known k contract at); once = are.once };
+          feasible = record {
+            known =
+                λ k contract at. subst (λ m. contract.trade < m) trades.named (are.known k contract at);
+            once =
+                are.once;
+          };
           small = are.small;
         },
         is_over,
@@ -207,10 +246,13 @@ module _ (listed : Listed) (trades : AreTrades listed) (firms : List Firm) (name
   unfolding no_prices_of
   no_prices_leads claim =
       let few_trades = nat_le n most_planned_trades in
-      leads_bind (λ _. few_trades ≡ true) IsWithin (holds Limit claim_place few_trades) _ (leads_holds Limit claim_place few_trades) (λ u few.
+      leads_bind (λ _. few_trades ≡ true) IsWithin (holds Limit claim_place few_trades) _
+      (leads_holds Limit claim_place few_trades) (λ u few.
       leads_after IsWithin (frame_of NoPricesKind claim) _ (λ frame.
-      leads_bind IsOverWithin IsWithin (claimed_over listed claim) _ (over_lead listed trades.limits claim) (λ over is_over.
-      leads_bind (ArePlanned listed trades) IsWithin (claimed_plan listed claim) _ (plan_leads listed trades claim) (λ plan are.
+      leads_bind IsOverWithin IsWithin (claimed_over listed claim) _ (over_lead listed trades.limits claim)
+      (λ over is_over.
+      leads_bind (ArePlanned listed trades) IsWithin (claimed_plan listed claim) _ (plan_leads listed trades claim)
+      (λ plan are.
       leads_ok IsWithin (NoPrices plan over) (
         le_from_test n most_planned_trades few,
         (λ k d below. own_part (get_or plan k d) (are.parts k d below)),
@@ -241,4 +283,5 @@ module _ (listed : Listed) (trades : AreTrades listed) (firms : List Firm) (name
       by_kind kind top claim)))
 
 pub claims_are_within : ClaimsAreWithin
-claims_are_within listed firms top claim trades named network e = (claim_leads listed trades firms named network top).at claim e
+claims_are_within listed firms top claim trades named network e =
+    (claim_leads listed trades firms named network top).at claim e

@@ -38,8 +38,10 @@ module _ (listed : Listed) (top claim : Data) where
   equilibrium_is =
       leads_after (IsOf EquilibriumKind listed.limits.nodes) (arrangement_of listed top) _ (λ at.
       leads_after (IsOf EquilibriumKind listed.limits.nodes) (frame_of EquilibriumKind claim) _ (λ frame.
-      leads_after (IsOf EquilibriumKind listed.limits.nodes) (claimed_number listed Surplus (get (codes "surplus") claim)) _ (λ surplus.
-      leads_ok (IsOf EquilibriumKind listed.limits.nodes) (Equilibrium (record { on = at.on; prices = at.prices }) surplus) (record { is = refl; few = omega arith }))))
+      leads_after (IsOf EquilibriumKind listed.limits.nodes)
+      (claimed_number listed Surplus (get (codes "surplus") claim)) _ (λ surplus.
+      leads_ok (IsOf EquilibriumKind listed.limits.nodes)
+      (Equilibrium (record { on = at.on; prices = at.prices }) surplus) (record { is = refl; few = omega arith }))))
 
   better_is : Leads (IsOf BetterKind listed.limits.nodes) (better_of listed top claim)
   unfolding better_of
@@ -47,9 +49,12 @@ module _ (listed : Listed) (top claim : Data) where
       leads_after (IsOf BetterKind listed.limits.nodes) (arrangement_of listed top) _ (λ at.
       leads_after (IsOf BetterKind listed.limits.nodes) (frame_of BetterKind claim) _ (λ frame.
       leads_after (IsOf BetterKind listed.limits.nodes) (claimed_firm listed.names.firms claim) _ (λ f.
-      leads_after (IsOf BetterKind listed.limits.nodes) (claimed_bundle listed f Bundle (get (codes "bundle") claim)) _ (λ x.
-      leads_after (IsOf BetterKind listed.limits.nodes) (claimed_number listed Gain (get (codes "gain") claim)) _ (λ gain.
-      leads_ok (IsOf BetterKind listed.limits.nodes) (Better (record { on = at.on; prices = at.prices }) f x gain) (record { is = refl; few = omega arith }))))))
+      leads_after (IsOf BetterKind listed.limits.nodes) (claimed_bundle listed f Bundle (get (codes "bundle") claim)) _
+      (λ x.
+      leads_after (IsOf BetterKind listed.limits.nodes) (claimed_number listed Gain (get (codes "gain") claim)) _
+      (λ gain.
+      leads_ok (IsOf BetterKind listed.limits.nodes) (Better (record { on = at.on; prices = at.prices }) f x gain)
+      (record { is = refl; few = omega arith }))))))
 
   impossible_is : Leads (IsOf ImpossibleKind listed.limits.nodes) (impossible_of listed top claim)
   unfolding impossible_of
@@ -70,9 +75,12 @@ module _ (listed : Listed) (top claim : Data) where
   failure_is =
       leads_after (IsOf ExchangeFailsKind listed.limits.nodes) (frame_of ExchangeFailsKind claim) _ (λ frame.
       leads_after (IsOf ExchangeFailsKind listed.limits.nodes) (claimed_firm listed.names.firms claim) _ (λ f.
-      leads_after (IsOf ExchangeFailsKind listed.limits.nodes) (own_or_null listed f (member_place At) (get (codes "at") claim)) _ (λ at.
-      leads_after (IsOf ExchangeFailsKind listed.limits.nodes) (claimed_bundle listed f X (get (codes "x") claim)) _ (λ x.
-      leads_after (IsOf ExchangeFailsKind listed.limits.nodes) (claimed_bundle listed f Y (get (codes "y") claim)) _ (λ y.
+      leads_after (IsOf ExchangeFailsKind listed.limits.nodes)
+      (own_or_null listed f (member_place At) (get (codes "at") claim)) _ (λ at.
+      leads_after (IsOf ExchangeFailsKind listed.limits.nodes) (claimed_bundle listed f X (get (codes "x") claim)) _
+      (λ x.
+      leads_after (IsOf ExchangeFailsKind listed.limits.nodes) (claimed_bundle listed f Y (get (codes "y") claim)) _
+      (λ y.
       leads_ok (IsOf ExchangeFailsKind listed.limits.nodes) (ExchangeFails f x y at) (record { is = refl; few = omega arith }))))))
 
   supported_is : Leads (IsOf SupportedKind listed.limits.nodes) (supported_of listed top claim)
@@ -81,15 +89,21 @@ module _ (listed : Listed) (top claim : Data) where
       leads_after (IsOf SupportedKind listed.limits.nodes) (trades_on_of listed.names.trades top) _ (λ on.
       leads_after (IsOf SupportedKind listed.limits.nodes) (frame_of SupportedKind claim) _ (λ frame.
       leads_after (IsOf SupportedKind listed.limits.nodes) (claimed_prices listed claim) _ (λ prices.
-      leads_ok (IsOf SupportedKind listed.limits.nodes) (Supported on prices) (record { is = refl; few = omega arith }))))
+      leads_ok (IsOf SupportedKind listed.limits.nodes) (Supported on prices) (record {
+        is = refl;
+        few =
+            omega arith;
+      }))))
 
   cycle_is : Leads (IsOf CycleKind listed.limits.nodes) (cycle_of listed top claim)
   unfolding cycle_of
   cycle_is =
       leads_after (IsOf CycleKind listed.limits.nodes) (trades_on_of listed.names.trades top) _ (λ on.
       leads_after (IsOf CycleKind listed.limits.nodes) (frame_of CycleKind claim) _ (λ frame.
-      leads_after (IsOf CycleKind listed.limits.nodes) (claimed_number listed Cost (get (codes "cost") claim)) _ (λ cost.
-      leads_bind (AreNodes listed) (IsOf CycleKind listed.limits.nodes) (claimed_nodes listed claim) _ (nodes_lead listed claim) (λ nodes are.
+      leads_after (IsOf CycleKind listed.limits.nodes) (claimed_number listed Cost (get (codes "cost") claim)) _
+      (λ cost.
+      leads_bind (AreNodes listed) (IsOf CycleKind listed.limits.nodes) (claimed_nodes listed claim) _
+      (nodes_lead listed claim) (λ nodes are.
       leads_ok (IsOf CycleKind listed.limits.nodes) (Cycle on nodes cost) (record { is = refl; few = are.most })))))
 
   solved_is : Leads (IsOf SolvedKind listed.limits.nodes) (solved_of listed claim)
@@ -98,8 +112,10 @@ module _ (listed : Listed) (top claim : Data) where
       leads_after (IsOf SolvedKind listed.limits.nodes) (frame_of SolvedKind claim) _ (λ frame.
       leads_after (IsOf SolvedKind listed.limits.nodes) (claimed_on listed.names.trades claim) _ (λ on.
       leads_after (IsOf SolvedKind listed.limits.nodes) (claimed_prices listed claim) _ (λ prices.
-      leads_after (IsOf SolvedKind listed.limits.nodes) (claimed_number listed Surplus (get (codes "surplus") claim)) _ (λ surplus.
-      leads_ok (IsOf SolvedKind listed.limits.nodes) (Solved (record { on = on; prices = prices }) surplus) (record { is = refl; few = omega arith })))))
+      leads_after (IsOf SolvedKind listed.limits.nodes) (claimed_number listed Surplus (get (codes "surplus") claim)) _
+      (λ surplus.
+      leads_ok (IsOf SolvedKind listed.limits.nodes) (Solved (record { on = on; prices = prices }) surplus)
+      (record { is = refl; few = omega arith })))))
 
   drops_is : Leads (IsOf DropsKind listed.limits.nodes) (drops_of listed top claim)
   unfolding drops_of
@@ -108,9 +124,14 @@ module _ (listed : Listed) (top claim : Data) where
       leads_after (IsOf DropsKind listed.limits.nodes) (frame_of DropsKind claim) _ (λ frame.
       leads_after (IsOf DropsKind listed.limits.nodes) (claimed_firm listed.names.firms claim) _ (λ f.
       leads_after (IsOf DropsKind listed.limits.nodes) (gain_or_null listed (get (codes "gain") claim)) _ (λ gain.
-      leads_after (IsOf DropsKind listed.limits.nodes) (claimed_bundle listed f Keeps (get (codes "keeps") claim)) _ (λ keeps.
+      leads_after (IsOf DropsKind listed.limits.nodes) (claimed_bundle listed f Keeps (get (codes "keeps") claim)) _
+      (λ keeps.
       leads_after (IsOf DropsKind listed.limits.nodes) (claimed_over listed claim) _ (λ over.
-      leads_ok (IsOf DropsKind listed.limits.nodes) (Drops outcome f keeps gain over) (record { is = refl; few = omega arith })))))))
+      leads_ok (IsOf DropsKind listed.limits.nodes) (Drops outcome f keeps gain over) (record {
+        is = refl;
+        few =
+            omega arith;
+      })))))))
 
   completes_is : Leads (IsOf CompletesKind listed.limits.nodes) (completes_of listed top claim)
   unfolding completes_of
@@ -119,7 +140,11 @@ module _ (listed : Listed) (top claim : Data) where
       leads_after (IsOf CompletesKind listed.limits.nodes) (frame_of CompletesKind claim) _ (λ frame.
       leads_after (IsOf CompletesKind listed.limits.nodes) (claimed_over listed claim) _ (λ over.
       leads_after (IsOf CompletesKind listed.limits.nodes) (claimed_prices listed claim) _ (λ prices.
-      leads_ok (IsOf CompletesKind listed.limits.nodes) (Completes outcome prices over) (record { is = refl; few = omega arith })))))
+      leads_ok (IsOf CompletesKind listed.limits.nodes) (Completes outcome prices over) (record {
+        is = refl;
+        few =
+            omega arith;
+      })))))
 
   blocks_is : Leads (IsOf BlocksKind listed.limits.nodes) (blocks_of listed top claim)
   unfolding blocks_of
@@ -128,16 +153,25 @@ module _ (listed : Listed) (top claim : Data) where
       leads_after (IsOf BlocksKind listed.limits.nodes) (frame_of BlocksKind claim) _ (λ frame.
       leads_after (IsOf BlocksKind listed.limits.nodes) (claimed_contracts listed claim) _ (λ contracts.
       leads_after (IsOf BlocksKind listed.limits.nodes) (claimed_over listed claim) _ (λ over.
-      leads_ok (IsOf BlocksKind listed.limits.nodes) (Blocks outcome contracts over) (record { is = refl; few = omega arith })))))
+      leads_ok (IsOf BlocksKind listed.limits.nodes) (Blocks outcome contracts over) (record {
+        is = refl;
+        few =
+            omega arith;
+      })))))
 
   no_prices_is : Leads (IsOf NoPricesKind listed.limits.nodes) (no_prices_of listed claim)
   unfolding no_prices_of
   no_prices_is =
-      leads_after (IsOf NoPricesKind listed.limits.nodes) (holds Limit claim_place (nat_le (length listed.ends) most_planned_trades)) _ (λ u.
+      leads_after (IsOf NoPricesKind listed.limits.nodes)
+      (holds Limit claim_place (nat_le (length listed.ends) most_planned_trades)) _ (λ u.
       leads_after (IsOf NoPricesKind listed.limits.nodes) (frame_of NoPricesKind claim) _ (λ frame.
       leads_after (IsOf NoPricesKind listed.limits.nodes) (claimed_over listed claim) _ (λ over.
       leads_after (IsOf NoPricesKind listed.limits.nodes) (claimed_plan listed claim) _ (λ plan.
-      leads_ok (IsOf NoPricesKind listed.limits.nodes) (NoPrices plan over) (record { is = refl; few = omega arith })))))
+      leads_ok (IsOf NoPricesKind listed.limits.nodes) (NoPrices plan over) (record {
+        is = refl;
+        few =
+            omega arith;
+      })))))
 
   claim_is : (kind : ClaimKind) → Leads (IsOf kind listed.limits.nodes) (claim_by listed kind top claim)
   claim_is EquilibriumKind = equilibrium_is
@@ -167,20 +201,32 @@ record IsNamedBy (claim : Data) (kind : ClaimKind) : Type 0 where
 kind_leads : (claim : Data) → Leads (IsNamedBy claim) (kind_of claim)
 unfolding kind_of
 kind_leads claim =
-    leads_bind (λ answer. option_and_then as_str (get (codes "answer") claim) ≡ Some answer) (IsNamedBy claim) (text_at (member_place Answer) (get (codes "answer") claim)) _ (leads_wanted Shape (member_place Answer) (option_and_then as_str (get (codes "answer") claim))) (λ answer is.
-    leads_as (λ kind. claim_named answer ≡ Some kind) (IsNamedBy claim) (wanted Shape (member_place Answer) (claim_named answer)) (λ kind named. record { answer = answer; is = is; named = named })
+    leads_bind (λ answer. option_and_then as_str (get (codes "answer") claim) ≡ Some answer) (IsNamedBy claim)
+    (text_at (member_place Answer) (get (codes "answer") claim)) _
+    (leads_wanted Shape (member_place Answer) (option_and_then as_str (get (codes "answer") claim))) (λ answer is.
+    leads_as (λ kind. claim_named answer ≡ Some kind) (IsNamedBy claim)
+    (wanted Shape (member_place Answer) (claim_named answer)) (λ kind named. record {
+      answer = answer;
+      is =
+          is;
+      named = named;
+    })
     (leads_wanted Shape (member_place Answer) (claim_named answer)))
 
-raw_named : (top claim : Data) (kind : ClaimKind) → get (codes "claim") top ≡ Some claim → IsNamedBy claim kind → claims_raw top ≡ is_raw kind
+raw_named : (top claim : Data) (kind : ClaimKind) → get (codes "claim") top ≡ Some claim → IsNamedBy claim kind
+    → claims_raw top ≡ is_raw kind
 raw_named top claim kind at by =
-    ap (λ found. unwrap_or (option_map names_raw (option_and_then as_str (option_and_then (get (codes "answer")) found))) false) at
+    ap (λ found. unwrap_or
+    (option_map names_raw (option_and_then as_str (option_and_then (get (codes "answer")) found))) false) at
     ∙ ap (λ answer. unwrap_or (option_map names_raw answer) false) by.is
     ∙ ap (λ named. unwrap_or (option_map is_raw named) false) by.named
 
 told_leads : (listed : Listed) (top : Data) → Leads (IsTold listed top) (claim_of listed top)
 unfolding claim_of
 told_leads listed top =
-    leads_bind (λ claim. get (codes "claim") top ≡ Some claim) (IsTold listed top) (wanted Shape claim_place (get (codes "claim") top)) _ (leads_wanted Shape claim_place (get (codes "claim") top)) (λ claim at.
+    leads_bind (λ claim. get (codes "claim") top ≡ Some claim) (IsTold listed top)
+    (wanted Shape claim_place (get (codes "claim") top)) _
+    (leads_wanted Shape claim_place (get (codes "claim") top)) (λ claim at.
     leads_after (IsTold listed top) (object_at claim_place (Some claim)) _ (λ object.
     leads_bind (IsNamedBy claim) (IsTold listed top) (kind_of claim) _ (kind_leads claim) (λ kind by.
     leads_as (IsOf kind listed.limits.nodes) (IsTold listed top) (claim_by listed kind top claim) (λ read is. record {

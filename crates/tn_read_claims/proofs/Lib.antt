@@ -1,3 +1,4 @@
+-- The files of lemmas of this crate.
 pub mod MemberLeads
 pub mod OwnCounts
 pub mod PlanLemmas

@@ -42,66 +42,97 @@ module _ {A : Type 0} (read : Data → Result A Fault) (stops : (value : Data) �
 
 pub gain_stops : (listed : Listed) (value : Option Data) → StopsPlainly (gain_or_null listed value)
 gain_stops listed value =
-    stops_bind IsPlain (wanted Shape (member_place Gain) value) _ (plain_wanted Shape (member_place Gain) value refl (tt, (tt, tt))) (λ gain.
-    unless_null_stops (number_at listed.limits.number (member_place Gain)) (λ d. number_stops (member_place Gain) (tt, (tt, tt)) listed.limits.number (Some d)) gain)
+    stops_bind IsPlain (wanted Shape (member_place Gain) value) _
+    (plain_wanted Shape (member_place Gain) value refl (tt, (tt, tt))) (λ gain.
+    unless_null_stops (number_at listed.limits.number (member_place Gain))
+    (λ d. number_stops (member_place Gain) (tt, (tt, tt)) listed.limits.number (Some d)) gain)
 
-pub at_stops : (listed : Listed) (f : ℕ) (place : List PlaceStep) → IsPlainPlace place → (value : Option Data) → StopsPlainly (own_or_null listed f place value)
+pub at_stops : (listed : Listed) (f : ℕ) (place : List PlaceStep) → IsPlainPlace place → (value : Option Data)
+    → StopsPlainly (own_or_null listed f place value)
 at_stops listed f place plain value =
     stops_bind IsPlain (wanted Shape place value) _ (plain_wanted Shape place value refl plain) (λ trade.
     unless_null_stops (own_position listed f None place) (own_position_stops place plain listed f None) trade)
 
 module _ (trades : List (List ℕ)) where
-  one_node_stops : (nodes : List (Option ℕ)) (value : Data) → length nodes + 1 ≤ most_nodes → StopsPlainly (one_node trades nodes value)
+  one_node_stops : (nodes : List (Option ℕ)) (value : Data) → length nodes + 1 ≤ most_nodes
+      → StopsPlainly (one_node trades nodes value)
   unfolding one_node
   one_node_stops nodes value room =
       let place = member_place Nodes ++ Index (length nodes) ∷ [] in
       let few : length nodes ≤ 16384 = omega (arith, room) in
-      stops_bind IsPlain (node_at trades place value) _ (unless_null_stops (trade_at trades place) (trade_at_stops place (tt, (tt, (few, tt))) trades) value) (λ node.
+      stops_bind IsPlain (node_at trades place value) _ (unless_null_stops (trade_at trades place)
+      (trade_at_stops place (tt, (tt, (few, tt))) trades) value) (λ node.
       stops_ok IsPlain (nodes ++ node ∷ []))
 
-pub nodes_stop : (listed : Listed) → AreLimits listed.limits → (claim : Data) → StopsPlainly (claimed_nodes listed claim)
+pub nodes_stop : (listed : Listed) → AreLimits listed.limits → (claim : Data)
+    → StopsPlainly (claimed_nodes listed claim)
 unfolding claimed_nodes
 nodes_stop listed limits claim =
     let trades = listed.names.trades in
     let limit = listed.limits.nodes in
-    stops_after IsPlain (λ values. items_len values ≤ limit) (few_at limit (member_place Nodes) (get (codes "nodes") claim)) _ (few_lead limit (member_place Nodes) (get (codes "nodes") claim))
+    stops_after IsPlain (λ values. items_len values ≤ limit)
+    (few_at limit (member_place Nodes) (get (codes "nodes") claim)) _
+    (few_lead limit (member_place Nodes) (get (codes "nodes") claim))
     (few_stops (member_place Nodes) (tt, (tt, tt)) limit (get (codes "nodes") claim)) (λ values few.
-    stops_bind IsPlain (holds Limit (member_place Nodes) (nat_le least_nodes (items_len values))) _ (plain_holds Limit (member_place Nodes) (nat_le least_nodes (items_len values)) refl (tt, (tt, tt))) (λ enough.
+    stops_bind IsPlain (holds Limit (member_place Nodes) (nat_le least_nodes (items_len values))) _
+    (plain_holds Limit (member_place Nodes) (nat_le least_nodes (items_len values)) refl (tt, (tt, tt))) (λ enough.
     stops_each_few IsPlain (λ nodes. Unit {0}) length most_nodes (one_node trades)
-    (λ nodes d start. leads_as (λ next. length next ≡ length nodes + 1) _ (one_node trades nodes d) (λ next more. (tt, more)) (one_node_counts trades nodes d)) (λ nodes d start room. one_node_stops trades nodes d room) [] values tt (omega (arith, few, limits.nodes))))
+    (λ nodes d start. leads_as (λ next. length next ≡ length nodes + 1) _ (one_node trades nodes d)
+    (λ next more. (tt, more)) (one_node_counts trades nodes d))
+    (λ nodes d start room. one_node_stops trades nodes d room) [] values tt (omega (arith, few, limits.nodes))))
 
 module _ (trades : List (List ℕ)) (few : length trades ≤ 16384) where
   pub claimed_on_stops : (claim : Data) → StopsPlainly (claimed_on trades claim)
   unfolding claimed_on
   claimed_on_stops claim =
-      stops_bind IsPlain (list_at (member_place On) (get (codes "on") claim)) _ (list_stops (member_place On) (tt, (tt, tt)) (get (codes "on") claim)) (λ references.
+      stops_bind IsPlain (list_at (member_place On) (get (codes "on") claim)) _
+      (list_stops (member_place On) (tt, (tt, tt)) (get (codes "on") claim)) (λ references.
       set_stops trades few (member_place On) (tt, (tt, tt)) references)
 
   abbrev HasFew : Offered → Type 0
   HasFew offered = offered.named < 2 ^ length trades
 
   module _ (place : List PlaceStep) (plain : IsPlainPlace place) (limit : ℕ) where
-    one_offer_below : (offered : Offered) (entry : Data) → HasFew offered → Leads HasFew (one_offer trades place limit offered entry)
+    one_offer_below : (offered : Offered) (entry : Data) → HasFew offered
+        → Leads HasFew (one_offer trades place limit offered entry)
     unfolding one_offer
     one_offer_below offered entry below =
-        leads_bind (λ next. next.0 < length trades) HasFew (price_of trades place limit offered.named entry) _ (entry_below (length trades) few (new_trade trades) (trades_refer trades few place plain) place plain limit offered.named entry) (λ next known.
-        leads_ok HasFew (record { named = toggle offered.named next.0; contracts = offered.contracts ++ record { trade = next.0; price = next.1 } ∷ [] }) (toggle_within offered.named next.0 (length trades) below known))
+        leads_bind (λ next. next.0 < length trades) HasFew (price_of trades place limit offered.named entry) _
+        (entry_below (length trades) few (new_trade trades) (trades_refer trades few place plain) place plain limit
+        offered.named entry) (λ next known.
+        leads_ok HasFew (record {
+          named = toggle offered.named next.0;
+          contracts =
+              offered.contracts ++ record { trade = next.0; price = next.1 } ∷ [];
+        })
+        (toggle_within offered.named next.0 (length trades) below known))
 
-    one_offer_stops : (offered : Offered) (entry : Data) → HasFew offered → StopsPlainly (one_offer trades place limit offered entry)
+    one_offer_stops : (offered : Offered) (entry : Data) → HasFew offered
+        → StopsPlainly (one_offer trades place limit offered entry)
     unfolding one_offer
     one_offer_stops offered entry below =
-        stops_bind IsPlain (price_of trades place limit offered.named entry) _ (entry_stops (length trades) few (new_trade trades) (trades_refer trades few place plain) place plain limit offered.named entry below) (λ next.
-        stops_ok IsPlain (record { named = toggle offered.named next.0; contracts = offered.contracts ++ record { trade = next.0; price = next.1 } ∷ [] }))
+        stops_bind IsPlain (price_of trades place limit offered.named entry) _
+        (entry_stops (length trades) few (new_trade trades) (trades_refer trades few place plain) place plain limit
+        offered.named entry below) (λ next.
+        stops_ok IsPlain (record {
+          named = toggle offered.named next.0;
+          contracts =
+              offered.contracts ++ record { trade = next.0; price = next.1 } ∷ [];
+        }))
 
     offers_stop : (entries : Items) → StopsPlainly (each (one_offer trades place limit) no_offers entries)
-    offers_stop entries = stops_each IsPlain HasFew (one_offer trades place limit) one_offer_below one_offer_stops no_offers entries (pow_pos (length trades))
+    offers_stop entries =
+        stops_each IsPlain HasFew (one_offer trades place limit) one_offer_below one_offer_stops no_offers entries
+        (pow_pos (length trades))
 
 module _ (listed : Listed) (few : length listed.names.trades ≤ 16384) where
   pub claimed_prices_stop : (claim : Data) → Stops (IsTold listed.names.trades) (claimed_prices listed claim)
   unfolding claimed_prices
   claimed_prices_stop claim =
       let trades = listed.names.trades in
-      stops_bind (IsTold trades) (list_at (member_place Prices) (get (codes "prices") claim)) _ (told_from_plain trades _ (list_stops (member_place Prices) (tt, (tt, tt)) (get (codes "prices") claim))) (λ entries.
+      stops_bind (IsTold trades) (list_at (member_place Prices) (get (codes "prices") claim)) _
+      (told_from_plain trades _ (list_stops (member_place Prices) (tt, (tt, tt)) (get (codes "prices") claim)))
+      (λ entries.
       prices_stop trades few (member_place Prices) (tt, (tt, tt)) listed.limits.number entries)
 
   pub claimed_contracts_stop : (claim : Data) → StopsPlainly (claimed_contracts listed claim)
@@ -110,6 +141,8 @@ module _ (listed : Listed) (few : length listed.names.trades ≤ 16384) where
       let trades = listed.names.trades in
       let limit = listed.limits.number in
       let place = member_place Contracts in
-      stops_bind IsPlain (list_at place (get (codes "contracts") claim)) _ (list_stops place (tt, (tt, tt)) (get (codes "contracts") claim)) (λ entries.
-      stops_bind IsPlain (each (one_offer trades place limit) no_offers entries) _ (offers_stop trades few place (tt, (tt, tt)) limit entries) (λ offered.
+      stops_bind IsPlain (list_at place (get (codes "contracts") claim)) _
+      (list_stops place (tt, (tt, tt)) (get (codes "contracts") claim)) (λ entries.
+      stops_bind IsPlain (each (one_offer trades place limit) no_offers entries) _
+      (offers_stop trades few place (tt, (tt, tt)) limit entries) (λ offered.
       stops_ok IsPlain offered.contracts))

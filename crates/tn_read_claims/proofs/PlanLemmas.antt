@@ -25,7 +25,8 @@ use Rattle.tn_read_references.proofs.ReferenceLeads.{bundle_leads, firm_at_leads
 use Rattle.tn_read_references.proofs.ReferenceStops.{bundle_stops, firm_at_stops}
 use Rattle.tn_read_claims.specs.Planned.{claimed_plan, in_part, one_part, part_at, part_of, plan_place, weight_at}
 
-one_part_counts : (listed : Listed) (parts : List Part) (entry : Data) → Leads (λ next. length next ≡ length parts + 1) (one_part listed parts entry)
+one_part_counts : (listed : Listed) (parts : List Part) (entry : Data)
+    → Leads (λ next. length next ≡ length parts + 1) (one_part listed parts entry)
 unfolding one_part
 one_part_counts listed parts entry =
     leads_after (λ next. length next ≡ length parts + 1) (part_of listed (length parts) entry) _ (λ part.
@@ -34,18 +35,24 @@ one_part_counts listed parts entry =
 -- ---- what a part is
 
 module _ (listed : Listed) (trades : AreTrades listed) where
-  weight_from_test : (weight : ℤ) → (int_le (pos 1) weight && int_le weight (pos listed.limits.claimed_over)) ≡ true → IsOverWithin weight
+  weight_from_test : (weight : ℤ) → (int_le (pos 1) weight && int_le weight (pos listed.limits.claimed_over)) ≡ true
+      → IsOverWithin weight
   weight_from_test weight e =
       let parts = and_parts (int_le (pos 1) weight) (int_le weight (pos listed.limits.claimed_over)) e in
       let most : weight ≤ℤ pos listed.limits.claimed_over = search (arith, ints, parts.1) in
-      record { least = search (arith, ints, parts.0); most = subst (λ limit. weight ≤ℤ pos limit) trades.limits.claimed_over most }
+      record {
+        least = search (arith, ints, parts.0);
+        most =
+            subst (λ limit. weight ≤ℤ pos limit) trades.limits.claimed_over most;
+      }
 
   weight_leads : (place : List PlaceStep) (value : Data) → Leads IsOverWithin (weight_at listed place value)
   unfolding weight_at
   weight_leads place value =
       leads_after IsOverWithin (whole_at place (Some value)) _ (λ weight.
       let test = int_le (pos 1) weight && int_le weight (pos listed.limits.claimed_over) in
-      leads_bind (λ _. test ≡ true) IsOverWithin (holds AmountRange place test) _ (leads_holds AmountRange place test) (λ u within.
+      leads_bind (λ _. test ≡ true) IsOverWithin (holds AmountRange place test) _ (leads_holds AmountRange place test)
+      (λ u within.
       leads_ok IsOverWithin weight (weight_from_test weight within)))
 
   -- a bundle of the own trades of a listed firm, with a weight
@@ -58,15 +65,27 @@ module _ (listed : Listed) (trades : AreTrades listed) where
   unfolding part_of
   part_leads k entry =
       leads_after IsOwnPart (three_at (part_at k) entry) _ (λ three.
-      leads_bind (λ f. f < length listed.names.firms) IsOwnPart (firm_at listed.names.firms (in_part k 0) (Some three.0)) _ (firm_at_leads listed.names.firms (in_part k 0) (Some three.0)) (λ f known.
-      leads_bind (λ x. x < 2 ^ length (sides_of listed.ends f)) IsOwnPart (bundle_at listed f (in_part k 1) (Some three.1)) _ (bundle_leads listed trades f (in_part k 1) (Some three.1)) (λ x own.
-      leads_bind IsOverWithin IsOwnPart (weight_at listed (in_part k 2) three.2) _ (weight_leads (in_part k 2) three.2) (λ w within.
-      leads_ok IsOwnPart (record { firm = f; bundle = x; weight = w }) (record { known = known; own = own; weight = within })))))
+      leads_bind (λ f. f < length listed.names.firms) IsOwnPart
+      (firm_at listed.names.firms (in_part k 0) (Some three.0)) _
+      (firm_at_leads listed.names.firms (in_part k 0) (Some three.0)) (λ f known.
+      leads_bind (λ x. x < 2 ^ length (sides_of listed.ends f)) IsOwnPart
+      (bundle_at listed f (in_part k 1) (Some three.1)) _
+      (bundle_leads listed trades f (in_part k 1) (Some three.1)) (λ x own.
+      leads_bind IsOverWithin IsOwnPart (weight_at listed (in_part k 2) three.2) _ (weight_leads (in_part k 2) three.2)
+      (λ w within.
+      leads_ok IsOwnPart (record { firm = f; bundle = x; weight = w }) (record {
+        known = known;
+        own = own;
+        weight =
+            within;
+      })))))
 
-  one_part_leads : (parts : List Part) (entry : Data) → All IsOwnPart parts → Leads (All IsOwnPart) (one_part listed parts entry)
+  one_part_leads : (parts : List Part) (entry : Data) → All IsOwnPart parts
+      → Leads (All IsOwnPart) (one_part listed parts entry)
   unfolding one_part
   one_part_leads parts entry are =
-      leads_bind IsOwnPart (All IsOwnPart) (part_of listed (length parts) entry) _ (part_leads (length parts) entry) (λ part is.
+      leads_bind IsOwnPart (All IsOwnPart) (part_of listed (length parts) entry) _ (part_leads (length parts) entry)
+      (λ part is.
       leads_ok (All IsOwnPart) (parts ++ part ∷ []) (All-push IsOwnPart parts part are is))
 
   -- few parts, each of which is one
@@ -77,16 +96,21 @@ module _ (listed : Listed) (trades : AreTrades listed) where
   pub plan_leads : (claim : Data) → Leads ArePlanned (claimed_plan listed claim)
   unfolding claimed_plan
   plan_leads claim =
-      leads_bind (λ entries. items_len entries ≤ most_parts) ArePlanned (few_at most_parts plan_place (get (codes "plan") claim)) _ (few_lead most_parts plan_place (get (codes "plan") claim)) (λ entries few.
-      leads_as (λ plan. All IsOwnPart plan × (length plan ≡ 0 + items_len entries)) ArePlanned (each (one_part listed) [] entries) (λ plan are. record { parts = are.0; few = omega (arith, few, are.1) })
+      leads_bind (λ entries. items_len entries ≤ most_parts) ArePlanned
+      (few_at most_parts plan_place (get (codes "plan") claim)) _
+      (few_lead most_parts plan_place (get (codes "plan") claim)) (λ entries few.
+      leads_as (λ plan. All IsOwnPart plan × (length plan ≡ 0 + items_len entries)) ArePlanned
+      (each (one_part listed) [] entries) (λ plan are. record { parts = are.0; few = omega (arith, few, are.1) })
       (leads_both (All IsOwnPart) (λ plan. length plan ≡ 0 + items_len entries) (each (one_part listed) [] entries)
       (leads_each (All IsOwnPart) (one_part listed) one_part_leads [] entries (All-nil IsOwnPart))
       (leads_count length (one_part listed) (one_part_counts listed) [] entries)))
 
 -- ---- where the reading of a plan stops
 
-module _ (listed : Listed) (trades : AreTrades listed) (few_own : (f : ℕ) → f < length listed.names.firms → length (sides_of listed.ends f) ≤ most_own_trades) where
-  weight_stops : (place : List PlaceStep) → IsPlainPlace place → (value : Data) → StopsPlainly (weight_at listed place value)
+module _ (listed : Listed) (trades : AreTrades listed) (few_own : (f : ℕ) → f < length listed.names.firms
+    → length (sides_of listed.ends f) ≤ most_own_trades) where
+  weight_stops : (place : List PlaceStep) → IsPlainPlace place → (value : Data)
+      → StopsPlainly (weight_at listed place value)
   unfolding weight_at
   weight_stops place plain value =
       stops_bind IsPlain (whole_at place (Some value)) _ (whole_stops place plain (Some value)) (λ weight.
@@ -97,24 +121,34 @@ module _ (listed : Listed) (trades : AreTrades listed) (few_own : (f : ℕ) → 
   part_stops : (k : ℕ) (entry : Data) → k ≤ 16384 → StopsPlainly (part_of listed k entry)
   unfolding part_of
   part_stops k entry low =
-      let in_is : (index : ℕ) → index ≤ 2 → IsPlainPlace (in_part k index) = λ index most. (tt, (tt, (low, (omega (arith, most), tt)))) in
+      let in_is : (index : ℕ) → index ≤ 2 → IsPlainPlace (in_part k index) =
+      λ index most. (tt, (tt, (low, (omega (arith, most), tt)))) in
       stops_bind IsPlain (three_at (part_at k) entry) _ (three_stops (part_at k) (tt, (tt, (low, tt))) entry) (λ three.
-      stops_after IsPlain (λ f. f < length listed.names.firms) (firm_at listed.names.firms (in_part k 0) (Some three.0)) _ (firm_at_leads listed.names.firms (in_part k 0) (Some three.0))
+      stops_after IsPlain (λ f. f < length listed.names.firms) (firm_at listed.names.firms (in_part k 0) (Some three.0))
+      _ (firm_at_leads listed.names.firms (in_part k 0) (Some three.0))
       (firm_at_stops (in_part k 0) (in_is 0 (omega arith)) listed.names.firms (Some three.0)) (λ f known.
-      stops_bind IsPlain (bundle_at listed f (in_part k 1) (Some three.1)) _ (bundle_stops listed trades f (few_own f known) (in_part k 1) (in_is 1 (omega arith)) (Some three.1)) (λ x.
-      stops_bind IsPlain (weight_at listed (in_part k 2) three.2) _ (weight_stops (in_part k 2) (in_is 2 (omega arith)) three.2) (λ w.
+      stops_bind IsPlain (bundle_at listed f (in_part k 1) (Some three.1)) _
+      (bundle_stops listed trades f (few_own f known) (in_part k 1) (in_is 1 (omega arith)) (Some three.1)) (λ x.
+      stops_bind IsPlain (weight_at listed (in_part k 2) three.2) _
+      (weight_stops (in_part k 2) (in_is 2 (omega arith)) three.2) (λ w.
       stops_ok IsPlain (record { firm = f; bundle = x; weight = w })))))
 
-  one_part_stops : (parts : List Part) (entry : Data) → length parts + 1 ≤ most_parts → StopsPlainly (one_part listed parts entry)
+  one_part_stops : (parts : List Part) (entry : Data) → length parts + 1 ≤ most_parts
+      → StopsPlainly (one_part listed parts entry)
   unfolding one_part
   one_part_stops parts entry room =
-      stops_bind IsPlain (part_of listed (length parts) entry) _ (part_stops (length parts) entry (omega (arith, room))) (λ part.
+      stops_bind IsPlain (part_of listed (length parts) entry) _ (part_stops (length parts) entry (omega (arith, room)))
+      (λ part.
       stops_ok IsPlain (parts ++ part ∷ []))
 
   pub plan_stops : (claim : Data) → StopsPlainly (claimed_plan listed claim)
   unfolding claimed_plan
   plan_stops claim =
-      stops_after IsPlain (λ entries. items_len entries ≤ most_parts) (few_at most_parts plan_place (get (codes "plan") claim)) _ (few_lead most_parts plan_place (get (codes "plan") claim))
+      stops_after IsPlain (λ entries. items_len entries ≤ most_parts)
+      (few_at most_parts plan_place (get (codes "plan") claim)) _
+      (few_lead most_parts plan_place (get (codes "plan") claim))
       (few_stops plan_place (tt, (tt, tt)) most_parts (get (codes "plan") claim)) (λ entries few.
       stops_each_few IsPlain (λ parts. Unit {0}) length most_parts (one_part listed)
-      (λ parts d start. leads_as (λ next. length next ≡ length parts + 1) _ (one_part listed parts d) (λ next more. (tt, more)) (one_part_counts listed parts d)) (λ parts d start room. one_part_stops parts d room) [] entries tt (omega (arith, few)))
+      (λ parts d start. leads_as (λ next. length next ≡ length parts + 1) _ (one_part listed parts d)
+      (λ next more. (tt, more)) (one_part_counts listed parts d))
+      (λ parts d start room. one_part_stops parts d room) [] entries tt (omega (arith, few)))

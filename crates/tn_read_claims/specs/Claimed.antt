@@ -112,8 +112,8 @@ blocks_of listed top claim = do
   over ← claimed_over listed claim
   Ok (Blocks outcome contracts over)
 
--- a plan is held against every set of trades: a document of more trades than that serves for is refused before the claim's
--- members are read
+-- a plan is held against every set of trades: a document of more trades than that serves for is refused before the
+-- claim's members are read
 unfoldable pub no_prices_of : Listed → Data → Result Claim Fault
 no_prices_of listed claim = do
   few ← holds Limit claim_place (nat_le (length listed.ends) most_planned_trades)
@@ -170,7 +170,9 @@ names_raw text = unwrap_or (option_map is_raw (claim_named text)) false
 
 -- whether a document's claim is an object whose answer is that of such a claim
 abbrev pub claims_raw : Data → Bool
-claims_raw top = unwrap_or (option_map names_raw (option_and_then as_str (option_and_then (get (codes "answer")) (get (codes "claim") top)))) false
+claims_raw top =
+    unwrap_or (option_map names_raw (option_and_then as_str
+    (option_and_then (get (codes "answer")) (get (codes "claim") top)))) false
 
 -- the kind of a claim
 abbrev pub kind_is : Claim → ClaimKind

@@ -15,16 +15,19 @@ use Rattle.tn_read_claims.specs.Claimed.{claim_of, claims_raw, is_raw, kind_is}
 -- a claim of a document whose firms and trades are a network speaks of its firms, trades and positions, within the
 -- limits of claims
 abbrev pub ClaimsAreWithin : Type 0
-ClaimsAreWithin = (listed : Listed) (firms : List Firm) (top : Data) (claim : Claim) → AreTrades listed → length listed.names.firms ≡ length firms → IsNetwork firms listed.ends
+ClaimsAreWithin = (listed : Listed) (firms : List Firm) (top : Data) (claim : Claim) → AreTrades listed
+    → length listed.names.firms ≡ length firms → IsNetwork firms listed.ends
     → claim_of listed top ≡ Ok claim → IsClaimWithin firms listed.ends claim
 
 -- its nodes are at most as many as the limit of its document
 abbrev pub NodesAreFew : Type 0
-NodesAreFew = (listed : Listed) (top : Data) (on : ℕ) (nodes : List (Option ℕ)) (cost : ℤ) → claim_of listed top ≡ Ok (Cycle on nodes cost) → length nodes ≤ listed.limits.nodes
+NodesAreFew = (listed : Listed) (top : Data) (on : ℕ) (nodes : List (Option ℕ)) (cost : ℤ)
+    → claim_of listed top ≡ Ok (Cycle on nodes cost) → length nodes ≤ listed.limits.nodes
 
 -- whether its network is read raw is told before it is read
 abbrev pub RawClaimsAreTold : Type 0
-RawClaimsAreTold = (listed : Listed) (top : Data) (claim : Claim) → claim_of listed top ≡ Ok claim → claims_raw top ≡ is_raw (kind_is claim)
+RawClaimsAreTold = (listed : Listed) (top : Data) (claim : Claim) → claim_of listed top ≡ Ok claim
+    → claims_raw top ≡ is_raw (kind_is claim)
 
 -- the kinds of faults that a claim, or the part that it speaks of, may have
 abbrev pub is_claim_fault : FaultKind → Bool
@@ -50,4 +53,5 @@ is_claim_fault BadOver = true
 is_claim_fault SamePair = false
 
 abbrev pub FaultsOfClaims : Type 0
-FaultsOfClaims = (listed : Listed) (top : Data) (fault : Fault) → claim_of listed top ≡ Err fault → is_claim_fault fault.kind ≡ true
+FaultsOfClaims = (listed : Listed) (top : Data) (fault : Fault) → claim_of listed top ≡ Err fault
+    → is_claim_fault fault.kind ≡ true

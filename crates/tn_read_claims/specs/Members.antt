@@ -97,7 +97,11 @@ pub record Offered : Type 0 where
 unfoldable pub one_offer : List (List ℕ) → List PlaceStep → ℕ → Offered → Data → Result Offered Fault
 one_offer trades place limit offered entry = do
   next ← price_of trades place limit offered.named entry
-  Ok (record { named = toggle offered.named next.0; contracts = offered.contracts ++ record { trade = next.0; price = next.1 } ∷ [] })
+  Ok (record {
+    named = toggle offered.named next.0;
+    contracts =
+        offered.contracts ++ record { trade = next.0; price = next.1 } ∷ [];
+  })
 
 abbrev pub no_offers : Offered
 no_offers = record { named = 0; contracts = [] }

@@ -1,3 +1,5 @@
+//! Reads a claim, by its kind.
+
 ghost use Rattle.std.specs.Prelude.{ℕ, ◌<◌, ◌≤◌, length};
 ghost use Rattle.serde_json.specs.View.{view};
 ghost use Rattle.tn_plain_data.specs.Limits.{most_own_trades};

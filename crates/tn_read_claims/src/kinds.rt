@@ -225,8 +225,8 @@ pub(crate) fn blocks(
     })
 }
 
-/// The claim that no prices make any set of trades an equilibrium, by a plan in parts. A document of more than 20 trades is
-/// refused before the claim's members are read.
+/// The claim that no prices make any set of trades an equilibrium, by a plan in parts. A document of more than 20
+/// trades is refused before the claim's members are read.
 #[tactic(auto, unfolding(crate::specs::Claimed::no_prices_of))]
 pub(crate) fn no_prices(alloc: Global, head: &Head, claim: &Value) -> Result<Claim, ReadError>
     requires few { (f : ℕ) → f < length head.now.names.firms → length (sides_of head.now.ends f) ≤ most_own_trades }

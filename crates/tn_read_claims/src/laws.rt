@@ -1,7 +1,9 @@
+//! Laws of claims that are read: their limits, and their faults.
+
 ghost use Rattle.tn_read_claims.specs.Laws.{ClaimsAreWithin, FaultsOfClaims, NodesAreFew, RawClaimsAreTold};
 
-/// A claim that is read of a network's document speaks of its firms, trades and positions, and its numbers keep the limits
-/// of claims. Of its contracts no two are on one trade.
+/// A claim that is read of a network's document speaks of its firms, trades and positions, and its numbers keep the
+/// limits of claims. Of its contracts no two are on one trade.
 pub fn claims_are_within()
     ensures { ClaimsAreWithin }
 {}
@@ -16,9 +18,9 @@ pub fn raw_claims_are_told()
     ensures { RawClaimsAreTold }
 {}
 
-/// A claim, or the part of the document that it speaks of, is refused for a shape, an unknown firm or trade, a trade that
-/// isn't the firm's own or is named twice, a number out of its range, a count out of its limit, a price that is missing, or
-/// a denominator out of its range, and for nothing else.
+/// A claim, or the part of the document that it speaks of, is refused for a shape, an unknown firm or trade, a trade
+/// that isn't the firm's own or is named twice, a number out of its range, a count out of its limit, a price that is
+/// missing, or a denominator out of its range, and for nothing else.
 pub fn faults_of_claims()
     ensures { FaultsOfClaims }
 {}

@@ -8,8 +8,8 @@ ghost use Rattle.tn_read_claims.specs.Claimed.{claims_raw, is_raw, names_raw};
 use serde_json::Value;
 use tn_shape::{ClaimKind, claim_named};
 
-/// Whether a document's claim is one on exchange, or that there are no prices, by its answer: such a claim is made of firms
-/// as they are listed.
+/// Whether a document's claim is one on exchange, or that there are no prices, by its answer: such a claim is made of
+/// firms as they are listed.
 pub fn claims_raw(top: &Value) -> bool
     ensures { result ≡ claims_raw (view top.now) }
 {
@@ -21,7 +21,8 @@ pub fn claims_raw(top: &Value) -> bool
 
 /// The text that is the answer of a document's claim.
 fn answer_of(top: &Value) -> Option<&str>
-    ensures { option_map (λ text. text.now) result ≡ option_and_then as_str (option_and_then (get (codes "answer")) (get (codes "claim") (view top.now))) }
+    ensures { option_map (λ text. text.now) result ≡ option_and_then as_str
+        (option_and_then (get (codes "answer")) (get (codes "claim") (view top.now))) }
 {
     let claim = top.get("claim")?;
     let answer = claim.get("answer")?;

@@ -35,7 +35,8 @@ use Rattle.tn_read_firms.specs.Laws.{IsDealerFirm}
 
 -- ---- which side a position is on
 
-module _ (firms f : ℕ) (es : List Ends) (order : AreInOrder firms es) (t : ℕ) (e : Ends) (is : slice_get es t ≡ Some e) where
+module _ (firms f : ℕ) (es : List Ends) (order : AreInOrder firms es) (t : ℕ) (e : Ends) (is : slice_get es t
+    ≡ Some e) where
   bought_there : (k : ℕ) → position_on (Some Buy) f e ≡ Some k → has (buys_of (sides_of es f)) k ≡ true
   bought_there k at =
       let tests = by (nat_eq e.seller f) (nat_eq e.buyer f) refl refl at in
@@ -43,11 +44,14 @@ module _ (firms f : ℕ) (es : List Ends) (order : AreInOrder firms es) (t : ℕ
       let same : own.0 ≡ Buy = same_Some own.0 Buy (sym own.1 ∙ tests.1) in
       bought_from (sides_of es f) k (own.2 ∙ ap Some same)
     where
-      by : (sells buys : Bool) → nat_eq e.seller f ≡ sells → nat_eq e.buyer f ≡ buys → cond buys (Some e.at_buyer) None ≡ Some k
-          → (cond sells (Some e.at_seller) (cond buys (Some e.at_buyer) None) ≡ Some k) × (cond sells (Some Sell) (cond buys (Some Buy) None) ≡ Some Buy)
+      by : (sells buys : Bool) → nat_eq e.seller f ≡ sells → nat_eq e.buyer f ≡ buys
+          → cond buys (Some e.at_buyer) None ≡ Some k
+          → (cond sells (Some e.at_seller) (cond buys (Some e.at_buyer) None) ≡ Some k)
+          × (cond sells (Some Sell) (cond buys (Some Buy) None) ≡ Some Buy)
       by false true seller buyer found = (found, refl)
       by false false seller buyer found = absurd (none-some k found)
-      by true true seller buyer found = absurd ((order t e is).apart (eqb-true e.seller f seller ∙ sym (eqb-true e.buyer f buyer)))
+      by true true seller buyer found =
+          absurd ((order t e is).apart (eqb-true e.seller f seller ∙ sym (eqb-true e.buyer f buyer)))
       by true false seller buyer found = absurd (none-some k found)
 
   sold_there : (k : ℕ) → position_on (Some Sell) f e ≡ Some k → has (buys_of (sides_of es f)) k ≡ false
@@ -58,18 +62,21 @@ module _ (firms f : ℕ) (es : List Ends) (order : AreInOrder firms es) (t : ℕ
       elim (cases_Bool (has (buys_of (sides_of es f)) k)) [
         | inr sold ↦ sold
         | inl bought ↦
-            let buys : Buy ≡ Sell = same_Some Buy Sell (sym (side_from (sides_of es f) k bought) ∙ own.2 ∙ ap Some same) in
+            let buys : Buy ≡ Sell = same_Some Buy Sell (sym (side_from (sides_of es f) k bought) ∙ own.2 ∙ ap Some same)
+            in
             absurd (cc buys)
       ]
     where
       by : (sells : Bool) → nat_eq e.seller f ≡ sells → cond sells (Some e.at_seller) None ≡ Some k
-          → (cond sells (Some e.at_seller) (cond (nat_eq e.buyer f) (Some e.at_buyer) None) ≡ Some k) × (cond sells (Some Sell) (cond (nat_eq e.buyer f) (Some Buy) None) ≡ Some Sell)
+          → (cond sells (Some e.at_seller) (cond (nat_eq e.buyer f) (Some e.at_buyer) None) ≡ Some k)
+          × (cond sells (Some Sell) (cond (nat_eq e.buyer f) (Some Buy) None) ≡ Some Sell)
       by true seller found = (found, refl)
       by false seller found = absurd (none-some k found)
 
 -- ---- pairs that are not repeated
 
-any_at : (p : Pair → Bool) (pairs : List Pair) (k : ℕ) (pair : Pair) → slice_get pairs k ≡ Some pair → p pair ≡ true → list_any p pairs ≡ true
+any_at : (p : Pair → Bool) (pairs : List Pair) (k : ℕ) (pair : Pair) → slice_get pairs k ≡ Some pair → p pair ≡ true
+    → list_any p pairs ≡ true
 any_at p [] k pair is meets = absurd (none-some pair is)
 any_at p (first ∷ pairs) zero pair is meets = ap (λ b. b || list_any p pairs) (ap p (same_Some first pair is) ∙ meets)
 any_at p (first ∷ pairs) (suc k) pair is meets = either (p first) (list_any p pairs) (any_at p pairs k pair is meets)
@@ -82,31 +89,58 @@ module _ (listed : Listed) (trades : AreTrades listed) (f : ℕ) where
   abbrev pub IsOwn : Pair → Type 0
   IsOwn = IsOwnPair (length (sides_of listed.ends f)) (buys_of (sides_of listed.ends f))
 
-  bought_leads : (place : List PlaceStep) (value : Data) → Leads (λ k. has (buys_of (sides_of listed.ends f)) k ≡ true) (own_position listed f (Some Buy) place value)
+  bought_leads : (place : List PlaceStep) (value : Data)
+      → Leads (λ k. has (buys_of (sides_of listed.ends f)) k ≡ true) (own_position listed f (Some Buy) place value)
   unfolding own_position
-  bought_leads place value = leads_after _ _ _ (λ t. leads_as (λ k. option_and_then (position_on (Some Buy) f) (slice_get listed.ends t) ≡ Some k) _ _ (side t) (leads_wanted _ _ _))
+  bought_leads place value =
+      leads_after _ _ _ (λ t. leads_as (λ k. option_and_then (position_on (Some Buy) f) (slice_get listed.ends t)
+      ≡ Some k) _ _ (side t) (leads_wanted _ _ _))
     where
-      side : (t k : ℕ) → option_and_then (position_on (Some Buy) f) (slice_get listed.ends t) ≡ Some k → has (buys_of (sides_of listed.ends f)) k ≡ true
-      side t k e = option_and_then_some (position_on (Some Buy) f) (slice_get listed.ends t) k e (λ trade is at. bought_there (length listed.names.firms) f listed.ends trades.order t trade is k at)
+      side : (t k : ℕ) → option_and_then (position_on (Some Buy) f) (slice_get listed.ends t) ≡ Some k
+          → has (buys_of (sides_of listed.ends f)) k ≡ true
+      side t k e =
+          option_and_then_some (position_on (Some Buy) f) (slice_get listed.ends t) k e
+          (λ trade is at. bought_there (length listed.names.firms) f listed.ends trades.order t trade is k at)
 
-  sold_leads : (place : List PlaceStep) (value : Data) → Leads (λ k. has (buys_of (sides_of listed.ends f)) k ≡ false) (own_position listed f (Some Sell) place value)
+  sold_leads : (place : List PlaceStep) (value : Data)
+      → Leads (λ k. has (buys_of (sides_of listed.ends f)) k ≡ false) (own_position listed f (Some Sell) place value)
   unfolding own_position
-  sold_leads place value = leads_after _ _ _ (λ t. leads_as (λ k. option_and_then (position_on (Some Sell) f) (slice_get listed.ends t) ≡ Some k) _ _ (side t) (leads_wanted _ _ _))
+  sold_leads place value =
+      leads_after _ _ _ (λ t. leads_as (λ k. option_and_then (position_on (Some Sell) f) (slice_get listed.ends t)
+      ≡ Some k) _ _ (side t) (leads_wanted _ _ _))
     where
-      side : (t k : ℕ) → option_and_then (position_on (Some Sell) f) (slice_get listed.ends t) ≡ Some k → has (buys_of (sides_of listed.ends f)) k ≡ false
-      side t k e = option_and_then_some (position_on (Some Sell) f) (slice_get listed.ends t) k e (λ trade is at. sold_there (length listed.names.firms) f listed.ends trades.order t trade is k at)
+      side : (t k : ℕ) → option_and_then (position_on (Some Sell) f) (slice_get listed.ends t) ≡ Some k
+          → has (buys_of (sides_of listed.ends f)) k ≡ false
+      side t k e =
+          option_and_then_some (position_on (Some Sell) f) (slice_get listed.ends t) k e
+          (λ trade is at. sold_there (length listed.names.firms) f listed.ends trades.order t trade is k at)
 
   -- a pair that is read is one of own trades
   pub pair_leads : (k : ℕ) (entry : Data) → Leads IsOwn (pair_of listed f k entry)
   unfolding pair_of
   pair_leads k entry =
       leads_after IsOwn (three_at (pair_place f k) entry) _ (λ three.
-      leads_bind (λ b. (b < length (sides_of listed.ends f)) × (has (buys_of (sides_of listed.ends f)) b ≡ true)) IsOwn (own_position listed f (Some Buy) (pair_place f k ++ Index 0 ∷ []) three.0) _
-      (leads_both _ _ _ (position_leads listed trades f (Some Buy) (pair_place f k ++ Index 0 ∷ []) three.0) (bought_leads (pair_place f k ++ Index 0 ∷ []) three.0)) (λ b bought.
-      leads_bind (λ s. (s < length (sides_of listed.ends f)) × (has (buys_of (sides_of listed.ends f)) s ≡ false)) IsOwn (own_position listed f (Some Sell) (pair_place f k ++ Index 1 ∷ []) three.1) _
-      (leads_both _ _ _ (position_leads listed trades f (Some Sell) (pair_place f k ++ Index 1 ∷ []) three.1) (sold_leads (pair_place f k ++ Index 1 ∷ []) three.1)) (λ s sold.
-      leads_bind (λ z. IsAtMost z most_amount) IsOwn (number_at listed.limits.amount (pair_place f k ++ Index 2 ∷ []) three.2) _ (number_within listed.limits.amount most_amount trades.limits.amount (pair_place f k ++ Index 2 ∷ []) (Some three.2)) (λ cost small.
-      leads_ok IsOwn (record { buy = b; sell = s; cost = cost }) (record { purchase = bought.0; bought = bought.1; sale = sold.0; sold = sold.1; small = small })))))
+      leads_bind (λ b. (b < length (sides_of listed.ends f))
+      × (has (buys_of (sides_of listed.ends f)) b ≡ true)) IsOwn
+      (own_position listed f (Some Buy) (pair_place f k ++ Index 0 ∷ []) three.0) _
+      (leads_both _ _ _ (position_leads listed trades f (Some Buy) (pair_place f k ++ Index 0 ∷ []) three.0)
+      (bought_leads (pair_place f k ++ Index 0 ∷ []) three.0)) (λ b bought.
+      leads_bind (λ s. (s < length (sides_of listed.ends f))
+      × (has (buys_of (sides_of listed.ends f)) s ≡ false)) IsOwn
+      (own_position listed f (Some Sell) (pair_place f k ++ Index 1 ∷ []) three.1) _
+      (leads_both _ _ _ (position_leads listed trades f (Some Sell) (pair_place f k ++ Index 1 ∷ []) three.1)
+      (sold_leads (pair_place f k ++ Index 1 ∷ []) three.1)) (λ s sold.
+      leads_bind (λ z. IsAtMost z most_amount) IsOwn (number_at listed.limits.amount (pair_place f k ++ Index 2 ∷ [])
+      three.2) _ (number_within listed.limits.amount most_amount trades.limits.amount (pair_place f k
+      ++ Index 2 ∷ []) (Some three.2)) (λ cost small.
+      leads_ok IsOwn (record { buy = b; sell = s; cost = cost }) (record {
+        purchase = bought.0;
+        bought =
+            bought.1;
+        sale = sold.0;
+        sold = sold.1;
+        small = small;
+      })))))
 
   -- own pairs of which none is repeated
   pub record AreNew (pairs : List Pair) : Type 0 where
@@ -116,7 +150,8 @@ module _ (listed : Listed) (trades : AreTrades listed) (f : ℕ) where
   pub no_pairs : AreNew []
   no_pairs = record { own = All-nil IsOwn; different = λ j repeated. none-some repeated.pair repeated.pair_is }
 
-  pub one_more : (pairs : List Pair) (next : Pair) → AreNew pairs → IsOwn next → list_any (is_same_pair next) pairs ≡ false → AreNew (pairs ++ next ∷ [])
+  pub one_more : (pairs : List Pair) (next : Pair) → AreNew pairs → IsOwn next
+      → list_any (is_same_pair next) pairs ≡ false → AreNew (pairs ++ next ∷ [])
   one_more pairs next are own new = record { own = All-push IsOwn pairs next are.own own; different = different }
     where
       different : AreDifferent (pairs ++ next ∷ [])
@@ -145,9 +180,13 @@ module _ (listed : Listed) (trades : AreTrades listed) (f : ℕ) where
             same_sell = repeated.same_sell;
           })
           | inr here ↦
-              let buy : (nat_eq repeated.earlier.buy next.buy) ≡ true = eq-eqb repeated.earlier.buy next.buy (repeated.same_buy ∙ ap (λ (p : Pair). p.buy) (sym here.1)) in
-              let sell : (nat_eq repeated.earlier.sell next.sell) ≡ true = eq-eqb repeated.earlier.sell next.sell (repeated.same_sell ∙ ap (λ (p : Pair). p.sell) (sym here.1)) in
-              false≢true (sym new ∙ any_at (is_same_pair next) pairs repeated.at repeated.earlier earlier (ap (λ b. b && nat_eq repeated.earlier.sell next.sell) buy ∙ sell))
+              let buy : (nat_eq repeated.earlier.buy next.buy) ≡ true =
+              eq-eqb repeated.earlier.buy next.buy (repeated.same_buy ∙ ap (λ (p : Pair). p.buy) (sym here.1)) in
+              let sell : (nat_eq repeated.earlier.sell next.sell) ≡ true =
+              eq-eqb repeated.earlier.sell next.sell (repeated.same_sell ∙ ap (λ (p : Pair). p.sell) (sym here.1))
+              in
+              false≢true (sym new ∙ any_at (is_same_pair next) pairs repeated.at repeated.earlier earlier
+              (ap (λ b. b && nat_eq repeated.earlier.sell next.sell) buy ∙ sell))
         ]
       ]
 
@@ -159,22 +198,37 @@ module _ (listed : Listed) (trades : AreTrades listed) (f : ℕ) where
   unfolding one_pair
   one_pair_leads pairs entry are =
       leads_bind IsOwn AreNew (pair_of listed f (length pairs) entry) _ (pair_leads (length pairs) entry) (λ next own.
-      leads_bind (λ _. not (list_any (is_same_pair next) pairs) ≡ true) AreNew (holds SamePair (pair_place f (length pairs)) (not (list_any (is_same_pair next) pairs))) _ (leads_holds SamePair (pair_place f (length pairs)) (not (list_any (is_same_pair next) pairs))) (λ u new.
-      leads_ok AreNew (pairs ++ next ∷ []) (one_more pairs next are own (new_pair (list_any (is_same_pair next) pairs) new))))
+      leads_bind (λ _. not (list_any (is_same_pair next) pairs) ≡ true) AreNew
+      (holds SamePair (pair_place f (length pairs)) (not (list_any (is_same_pair next) pairs))) _
+      (leads_holds SamePair (pair_place f (length pairs)) (not (list_any (is_same_pair next) pairs))) (λ u new.
+      leads_ok AreNew (pairs ++ next ∷ []) (one_more pairs next are own
+      (new_pair (list_any (is_same_pair next) pairs) new))))
 
   pub pairs_lead : (entries : Items) → Leads AreNew (each (one_pair listed f) [] entries)
   pairs_lead entries = leads_each AreNew (one_pair listed f) one_pair_leads [] entries no_pairs
 
   -- such pairs are few
-  pub few_new : (pairs : List Pair) → length (sides_of listed.ends f) ≤ most_own_trades → AreNew pairs → length pairs ≤ most_own_trades * most_own_trades
+  pub few_new : (pairs : List Pair) → length (sides_of listed.ends f) ≤ most_own_trades → AreNew pairs
+      → length pairs ≤ most_own_trades * most_own_trades
   few_new pairs few are = few_different pairs (length pairs) (omega arith) near (λ j below. are.different j)
     where
       near : All IsNear pairs
-      near k d below = let own = are.own k d below in let buy = own.purchase in let sell = own.sale in record { buy = omega (arith, few, buy); sell = omega (arith, few, sell) }
+      near k d below = let own = are.own k d below in let buy = own.purchase in let sell = own.sale in
+          record { buy = omega (arith, few, buy); sell = omega (arith, few, sell) }
 
-  pub dealer_leads : (firm : Data) → length (sides_of listed.ends f) ≤ most_own_trades → Leads (IsDealerFirm listed.ends f) (dealer_of listed f firm)
+  pub dealer_leads : (firm : Data) → length (sides_of listed.ends f) ≤ most_own_trades
+      → Leads (IsDealerFirm listed.ends f) (dealer_of listed f firm)
   unfolding dealer_of
   dealer_leads firm few =
-      leads_after (IsDealerFirm listed.ends f) (optional_list_at (pairs_place f) (get (codes "pairs") firm)) _ (λ entries.
-      leads_bind AreNew (IsDealerFirm listed.ends f) (each (one_pair listed f) [] entries) _ (pairs_lead entries) (λ pairs are.
-      leads_ok (IsDealerFirm listed.ends f) (dealer_firm (sides_of listed.ends f) pairs) (record { pairs = pairs; is = refl; few = few; own = are.own; different = are.different })))
+      leads_after (IsDealerFirm listed.ends f) (optional_list_at (pairs_place f) (get (codes "pairs") firm)) _
+      (λ entries.
+      leads_bind AreNew (IsDealerFirm listed.ends f) (each (one_pair listed f) [] entries) _ (pairs_lead entries)
+      (λ pairs are.
+      leads_ok (IsDealerFirm listed.ends f) (dealer_firm (sides_of listed.ends f) pairs) (record {
+        pairs = pairs;
+        is =
+            refl;
+        few = few;
+        own = are.own;
+        different = are.different;
+      })))

@@ -23,33 +23,50 @@ use Rattle.tn_read_firms.proofs.DealerLeads.{AreNew, few_new, no_pairs, one_pair
 
 three_stops : (place : List PlaceStep) (plain : IsPlainPlace place) (value : Data) → StopsPlainly (three_at place value)
 unfolding three_at
-three_stops place plain value = stops_bind IsPlain (list_at place (Some value)) _ (list_stops place plain (Some value)) (λ items. plain_wanted Shape place (three_of items) refl plain)
+three_stops place plain value =
+    stops_bind IsPlain (list_at place (Some value)) _ (list_stops place plain (Some value))
+    (λ items. plain_wanted Shape place (three_of items) refl plain)
 
-module _ (listed : Listed) (trades : AreTrades listed) (f : ℕ) (near : f ≤ 16384) (few : length (sides_of listed.ends f) ≤ most_own_trades) where
+module _ (listed : Listed) (trades : AreTrades listed) (f : ℕ) (near : f ≤ 16384) (few : length (sides_of listed.ends f)
+    ≤ most_own_trades) where
   entry_plain : (k i : ℕ) → k ≤ 16384 → i ≤ 16384 → IsPlainPlace (pair_place f k ++ Index i ∷ [])
   entry_plain k i early small = (tt, (near, (tt, (early, (small, tt)))))
 
   pair_stops : (k : ℕ) (entry : Data) → k ≤ 16384 → StopsPlainly (pair_of listed f k entry)
   unfolding pair_of
   pair_stops k entry early =
-      stops_bind IsPlain (three_at (pair_place f k) entry) _ (three_stops (pair_place f k) (tt, (near, (tt, (early, tt)))) entry) (λ three.
-      stops_bind IsPlain (own_position listed f (Some Buy) (pair_place f k ++ Index 0 ∷ []) three.0) _ (own_position_stops (pair_place f k ++ Index 0 ∷ []) (entry_plain k 0 early (omega arith)) listed f (Some Buy) three.0) (λ buy.
-      stops_bind IsPlain (own_position listed f (Some Sell) (pair_place f k ++ Index 1 ∷ []) three.1) _ (own_position_stops (pair_place f k ++ Index 1 ∷ []) (entry_plain k 1 early (omega arith)) listed f (Some Sell) three.1) (λ sell.
-      stops_bind IsPlain (number_at listed.limits.amount (pair_place f k ++ Index 2 ∷ []) three.2) _ (number_stops (pair_place f k ++ Index 2 ∷ []) (entry_plain k 2 early (omega arith)) listed.limits.amount (Some three.2)) (λ cost.
+      stops_bind IsPlain (three_at (pair_place f k) entry) _
+      (three_stops (pair_place f k) (tt, (near, (tt, (early, tt)))) entry) (λ three.
+      stops_bind IsPlain (own_position listed f (Some Buy) (pair_place f k ++ Index 0 ∷ []) three.0) _
+      (own_position_stops (pair_place f k ++ Index 0 ∷ []) (entry_plain k 0 early (omega arith)) listed f (Some Buy)
+      three.0) (λ buy.
+      stops_bind IsPlain (own_position listed f (Some Sell) (pair_place f k ++ Index 1 ∷ []) three.1) _
+      (own_position_stops (pair_place f k ++ Index 1 ∷ []) (entry_plain k 1 early (omega arith)) listed f
+      (Some Sell) three.1) (λ sell.
+      stops_bind IsPlain (number_at listed.limits.amount (pair_place f k ++ Index 2 ∷ []) three.2) _
+      (number_stops (pair_place f k ++ Index 2 ∷ []) (entry_plain k 2 early (omega arith)) listed.limits.amount
+      (Some three.2)) (λ cost.
       stops_ok IsPlain (record { buy = buy; sell = sell; cost = cost })))))
 
-  one_pair_stops : (pairs : List Pair) (entry : Data) → AreNew listed trades f pairs → StopsPlainly (one_pair listed f pairs entry)
+  one_pair_stops : (pairs : List Pair) (entry : Data) → AreNew listed trades f pairs
+      → StopsPlainly (one_pair listed f pairs entry)
   unfolding one_pair
   one_pair_stops pairs entry are =
       let early : length pairs ≤ 16384 = omega (arith, few_new listed trades f pairs few are) in
       stops_bind IsPlain (pair_of listed f (length pairs) entry) _ (pair_stops (length pairs) entry early) (λ next.
-      stops_bind IsPlain (holds SamePair (pair_place f (length pairs)) (not (list_any (is_same_pair next) pairs))) _ (plain_holds SamePair (pair_place f (length pairs)) (not (list_any (is_same_pair next) pairs)) refl (tt, (near, (tt, (early, tt))))) (λ new.
+      stops_bind IsPlain (holds SamePair (pair_place f (length pairs)) (not (list_any (is_same_pair next) pairs))) _
+      (plain_holds SamePair (pair_place f (length pairs)) (not (list_any (is_same_pair next) pairs)) refl (
+        tt,
+        (near, (tt, (early, tt))),
+      )) (λ new.
       stops_ok IsPlain (pairs ++ next ∷ [])))
 
   pub dealer_stops : (firm : Data) → StopsPlainly (dealer_of listed f firm)
   unfolding dealer_of
   dealer_stops firm =
-      stops_bind IsPlain (optional_list_at (pairs_place f) (get (codes "pairs") firm)) _ (optional_list_stops (pairs_place f) (tt, (near, (tt, tt))) (get (codes "pairs") firm)) (λ entries.
+      stops_bind IsPlain (optional_list_at (pairs_place f) (get (codes "pairs") firm)) _
+      (optional_list_stops (pairs_place f) (tt, (near, (tt, tt))) (get (codes "pairs") firm)) (λ entries.
       stops_bind IsPlain (each (one_pair listed f) [] entries) _
-      (stops_each IsPlain (AreNew listed trades f) (one_pair listed f) (one_pair_leads listed trades f) one_pair_stops [] entries (no_pairs listed trades f)) (λ pairs.
+      (stops_each IsPlain (AreNew listed trades f) (one_pair listed f) (one_pair_leads listed trades f) one_pair_stops
+      [] entries (no_pairs listed trades f)) (λ pairs.
       stops_ok IsPlain (dealer_firm (sides_of listed.ends f) pairs)))

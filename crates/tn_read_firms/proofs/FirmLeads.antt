@@ -42,7 +42,8 @@ use Rattle.tn_read_firms.proofs.DealerLeads.{dealer_leads}
 use Rattle.tn_plain_data.proofs.InOrderNetworks.{HaveSides, network, own_ascends, there}
 use Rattle.tn_shape.proofs.LeadLemmas.{Leads, leads_ok, leads_bind, leads_after, leads_each, leads_count, leads_holds, leads_as, le_from_test}
 
-unless_failing_leads : (trades : List Ends) (f count : ℕ) (found : Option Triple) → Leads (λ _. found ≡ None) (unless_failing trades f count found)
+unless_failing_leads : (trades : List Ends) (f count : ℕ) (found : Option Triple)
+    → Leads (λ _. found ≡ None) (unless_failing trades f count found)
 unless_failing_leads trades f count None = leads_ok (λ _. None ≡ None) tt refl
 unless_failing_leads trades f count (Some t) = record { at = λ x e. absurd (cc) }
 
@@ -51,7 +52,8 @@ pub record IsFirm (tested : Bool) (trades : List Ends) (f : ℕ) (firm : Firm) :
   pub listed : IsListedFirm trades f firm
   pub meets : tested ≡ true → MeetsExchange firm
 
-of_table : (trades : List Ends) (f : ℕ) (table : TableRows) → IsTableOf trades f table → IsTableFirm trades f (firm_of_table table)
+of_table : (trades : List Ends) (f : ℕ) (table : TableRows) → IsTableOf trades f table
+    → IsTableFirm trades f (firm_of_table table)
 of_table trades f table is = record {
   rows = is.rows;
   apart = is.apart;
@@ -61,74 +63,108 @@ of_table trades f table is = record {
   small = λ x amount e. worth_is_small table is.within x amount e;
 }
 
-exchange_leads : (trades : List Ends) (f : ℕ) (table : TableRows) → IsFullIfLarge (firm_of_table table) → Leads (λ _. MeetsExchange (firm_of_table table)) (exchange_of trades f table)
+exchange_leads : (trades : List Ends) (f : ℕ) (table : TableRows) → IsFullIfLarge (firm_of_table table)
+    → Leads (λ _. MeetsExchange (firm_of_table table)) (exchange_of trades f table)
 unfolding exchange_of
 exchange_leads trades f table full =
     leads_as (λ _. first_failure table ≡ None) (λ _. MeetsExchange (firm_of_table table)) _
     (λ u none. exchange_from_none_fails (firm_of_table table) (own_bundles table) (none_fails table full none))
     (unless_failing_leads trades f (length table.sides) (first_failure table))
 
-tested_leads : (tested : Bool) (trades : List Ends) (f : ℕ) (table : TableRows) → IsFullIfLarge (firm_of_table table) → Leads (λ _. tested ≡ true → MeetsExchange (firm_of_table table)) (if tested then exchange_of trades f table else Ok tt)
-tested_leads true trades f table full = leads_as (λ _. MeetsExchange (firm_of_table table)) _ _ (λ u meets is. meets) (exchange_leads trades f table full)
-tested_leads false trades f table full = leads_ok (λ _. false ≡ true → MeetsExchange (firm_of_table table)) tt (λ is. absurd (cc))
+tested_leads : (tested : Bool) (trades : List Ends) (f : ℕ) (table : TableRows) → IsFullIfLarge (firm_of_table table)
+    → Leads (λ _. tested ≡ true → MeetsExchange (firm_of_table table)) (if tested then exchange_of trades f table
+    else Ok tt)
+tested_leads true trades f table full =
+    leads_as (λ _. MeetsExchange (firm_of_table table)) _ _ (λ u meets is. meets) (exchange_leads trades f table full)
+tested_leads false trades f table full = leads_ok (λ _. false ≡ true
+    → MeetsExchange (firm_of_table table)) tt (λ is. absurd (cc))
 
-tested_firm_leads : (tested : Bool) (trades : List Ends) (f : ℕ) (table : TableRows) → IsTableOf trades f table → Leads (IsFirm tested trades f) (tested_firm tested trades f table)
+tested_firm_leads : (tested : Bool) (trades : List Ends) (f : ℕ) (table : TableRows) → IsTableOf trades f table
+    → Leads (IsFirm tested trades f) (tested_firm tested trades f table)
 unfolding tested_firm
 tested_firm_leads tested trades f table is_table =
-    leads_bind (λ _. tested ≡ true → MeetsExchange (firm_of_table table)) (IsFirm tested trades f) (if tested then exchange_of trades f table else Ok tt) _ (tested_leads tested trades f table is_table.full) (λ u meets.
-    leads_ok (IsFirm tested trades f) (firm_of_table table) (record { listed = table_is (of_table trades f table is_table); meets = meets }))
+    leads_bind (λ _. tested ≡ true → MeetsExchange (firm_of_table table)) (IsFirm tested trades f) (if tested
+    then exchange_of trades f table else Ok tt) _ (tested_leads tested trades f table is_table.full) (λ u meets.
+    leads_ok (IsFirm tested trades f) (firm_of_table table) (record {
+      listed =
+          table_is (of_table trades f table is_table);
+      meets = meets;
+    }))
 
 module _ (tested : Bool) (listed : Listed) (trades : AreTrades listed) where
-  kind_leads : (f : ℕ) (kind : FirmKind) (firm : Data) → length (sides_of listed.ends f) ≤ room_for kind → Leads (IsFirm tested listed.ends f) (firm_by tested listed f kind firm)
+  kind_leads : (f : ℕ) (kind : FirmKind) (firm : Data) → length (sides_of listed.ends f) ≤ room_for kind
+      → Leads (IsFirm tested listed.ends f) (firm_by tested listed f kind firm)
   unfolding firm_by
   kind_leads f Table firm few =
-      leads_bind (IsTableOf listed.ends f) (IsFirm tested listed.ends f) (table_of listed f firm) _ (table_leads listed trades f firm few) (λ table is_table.
+      leads_bind (IsTableOf listed.ends f) (IsFirm tested listed.ends f) (table_of listed f firm) _
+      (table_leads listed trades f firm few) (λ table is_table.
       tested_firm_leads tested listed.ends f table is_table)
-  kind_leads f Laminar firm few = leads_as (IsLaminarFirm listed.ends f) (IsFirm tested listed.ends f) (laminar_of listed f firm) (λ made is. record { listed = laminar is; meets = λ t. laminar_meets listed.ends f made is }) (laminar_leads listed trades f firm few)
-  kind_leads f Middleman firm few = leads_as (IsMiddlemanFirm listed.ends f) (IsFirm tested listed.ends f) (middle_of listed f firm) (λ made is. record { listed = middleman is; meets = λ t. middleman_meets listed.ends f made is }) (middle_leads listed trades f firm few)
-  kind_leads f Dealer firm few = leads_as (IsDealerFirm listed.ends f) (IsFirm tested listed.ends f) (dealer_of listed f firm) (λ made is. record { listed = dealer is; meets = λ t. dealer_meets listed.ends f made is }) (dealer_leads listed trades f firm few)
+  kind_leads f Laminar firm few =
+      leads_as (IsLaminarFirm listed.ends f) (IsFirm tested listed.ends f) (laminar_of listed f firm)
+      (λ made is. record { listed = laminar is; meets = λ t. laminar_meets listed.ends f made is })
+      (laminar_leads listed trades f firm few)
+  kind_leads f Middleman firm few =
+      leads_as (IsMiddlemanFirm listed.ends f) (IsFirm tested listed.ends f) (middle_of listed f firm)
+      (λ made is. record { listed = middleman is; meets = λ t. middleman_meets listed.ends f made is })
+      (middle_leads listed trades f firm few)
+  kind_leads f Dealer firm few =
+      leads_as (IsDealerFirm listed.ends f) (IsFirm tested listed.ends f) (dealer_of listed f firm)
+      (λ made is. record { listed = dealer is; meets = λ t. dealer_meets listed.ends f made is })
+      (dealer_leads listed trades f firm few)
 
-  pub frame_leads : (f : ℕ) (kind : FirmKind) (firm : Data) → Leads (λ _. length (sides_of listed.ends f) ≤ room_for kind) (frame_of listed f kind firm)
+  pub frame_leads : (f : ℕ) (kind : FirmKind) (firm : Data)
+      → Leads (λ _. length (sides_of listed.ends f) ≤ room_for kind) (frame_of listed f kind firm)
   unfolding frame_of
   frame_leads f kind firm =
       leads_after _ (object_of (FirmObject kind) (firm_place f) (Some firm)) _ (λ object.
-      leads_as (λ _. nat_le (length (sides_of listed.ends f)) (most_own listed.limits kind) ≡ true) _ (holds Limit (firm_place f) (nat_le (length (sides_of listed.ends f)) (most_own listed.limits kind)))
-      (λ u few. let most = le_from_test (length (sides_of listed.ends f)) (most_own listed.limits kind) few in let room = own_room listed.limits trades.limits kind in omega (arith, most, room))
+      leads_as (λ _. nat_le (length (sides_of listed.ends f)) (most_own listed.limits kind) ≡ true) _
+      (holds Limit (firm_place f) (nat_le (length (sides_of listed.ends f)) (most_own listed.limits kind)))
+      (λ u few. let most = le_from_test (length (sides_of listed.ends f)) (most_own listed.limits kind) few in
+      let room = own_room listed.limits trades.limits kind in omega (arith, most, room))
       (leads_holds Limit (firm_place f) (nat_le (length (sides_of listed.ends f)) (most_own listed.limits kind))))
 
   firm_leads : (f : ℕ) (firm : Data) → Leads (IsFirm tested listed.ends f) (firm_of tested listed f firm)
   unfolding firm_of
   firm_leads f firm =
       leads_after (IsFirm tested listed.ends f) (kind_of f firm) _ (λ kind.
-      leads_bind (λ _. length (sides_of listed.ends f) ≤ room_for kind) (IsFirm tested listed.ends f) (frame_of listed f kind firm) _ (frame_leads f kind firm) (λ u few.
+      leads_bind (λ _. length (sides_of listed.ends f) ≤ room_for kind) (IsFirm tested listed.ends f)
+      (frame_of listed f kind firm) _ (frame_leads f kind firm) (λ u few.
       kind_leads f kind firm few))
 
   abbrev pub AreFirms : List Firm → Type 0
   AreFirms firms = (f : ℕ) (firm : Firm) → slice_get firms f ≡ Some firm → IsFirm tested listed.ends f firm
 
-  one_firm_leads : (firms : List Firm) (firm : Data) → AreFirms firms → Leads AreFirms (one_firm tested listed firms firm)
+  one_firm_leads : (firms : List Firm) (firm : Data) → AreFirms firms
+      → Leads AreFirms (one_firm tested listed firms firm)
   unfolding one_firm
   one_firm_leads firms firm are =
-      leads_bind (IsFirm tested listed.ends (length firms)) AreFirms (firm_of tested listed (length firms) firm) _ (firm_leads (length firms) firm) (λ next is.
+      leads_bind (IsFirm tested listed.ends (length firms)) AreFirms (firm_of tested listed (length firms) firm) _
+      (firm_leads (length firms) firm) (λ next is.
       leads_ok AreFirms (firms ++ next ∷ []) (λ f other at. elim (push_cases firms next other f at) [
         | inl h ↦ are f other h
         | inr h ↦ subst (IsFirm tested listed.ends f) h.1 (subst (λ g. IsFirm tested listed.ends g next) (sym h.0) is)
       ]))
 
   pub firms_are : (firms : Items) → Leads AreFirms (each (one_firm tested listed) [] firms)
-  firms_are firms = leads_each AreFirms (one_firm tested listed) one_firm_leads [] firms (λ f firm e. absurd (none-some _ e))
+  firms_are firms =
+      leads_each AreFirms (one_firm tested listed) one_firm_leads [] firms (λ f firm e. absurd (none-some _ e))
 
-  pub one_firm_count : (firms : List Firm) (firm : Data) → Leads (λ next. length next ≡ length firms + 1) (one_firm tested listed firms firm)
+  pub one_firm_count : (firms : List Firm) (firm : Data)
+      → Leads (λ next. length next ≡ length firms + 1) (one_firm tested listed firms firm)
   unfolding one_firm
   one_firm_count firms firm =
       leads_after _ (firm_of tested listed (length firms) firm) _ (λ next.
       leads_ok (λ more. length more ≡ length firms + 1) (firms ++ next ∷ []) (length-append firms (next ∷ [])))
 
-  pub firms_are_counted : (firms : Items) → Leads (λ end. length end ≡ items_len firms) (each (one_firm tested listed) [] firms)
-  firms_are_counted firms = leads_as (λ end. length end ≡ 0 + items_len firms) _ _ (λ end e. e ∙ omega arith) (leads_count length (one_firm tested listed) one_firm_count [] firms)
+  pub firms_are_counted : (firms : Items)
+      → Leads (λ end. length end ≡ items_len firms) (each (one_firm tested listed) [] firms)
+  firms_are_counted firms =
+      leads_as (λ end. length end ≡ 0 + items_len firms) _ _ (λ end e. e ∙ omega arith)
+      (leads_count length (one_firm tested listed) one_firm_count [] firms)
 
   -- each firm that was read has few own trades
-  pub few_own_firm : (firms : List Firm) → AreFirms firms → (f : ℕ) → f < length firms → length (sides_of listed.ends f) ≤ most_own_trades
+  pub few_own_firm : (firms : List Firm) → AreFirms firms → (f : ℕ) → f < length firms
+      → length (sides_of listed.ends f) ≤ most_own_trades
   few_own_firm firms are f below =
       let at = there firms f below in
       listed_few_own listed.ends f at.0 (are f at.0 at.1).listed
@@ -136,20 +172,27 @@ module _ (tested : Bool) (listed : Listed) (trades : AreTrades listed) where
   have_sides : (firms : List Firm) → AreFirms firms → HaveSides listed.ends firms
   have_sides firms are f firm at = by_kind (are f firm at).listed
     where
-      by_kind : IsListedFirm listed.ends f firm → (firm.count ≡ length (sides_of listed.ends f)) × (firm.buys ≡ buys_of (sides_of listed.ends f))
+      by_kind : IsListedFirm listed.ends f firm → (firm.count ≡ length (sides_of listed.ends f))
+          × (firm.buys ≡ buys_of (sides_of listed.ends f))
       by_kind (table_is t) = (ap (λ (x : Firm). x.count) t.is, ap (λ (x : Firm). x.buys) t.is)
       by_kind (laminar t) = (ap (λ (x : Firm). x.count) t.is, ap (λ (x : Firm). x.buys) t.is)
       by_kind (middleman t) = (ap (λ (x : Firm). x.count) t.is, ap (λ (x : Firm). x.buys) t.is)
       by_kind (dealer t) = (ap (λ (x : Firm). x.count) t.is, ap (λ (x : Firm). x.buys) t.is)
 
   -- firms that were read are a network with the trades
-  pub network_of : (firms : List Firm) → AreFirms firms → length listed.names.firms ≡ length firms → IsNetwork firms listed.ends
-  network_of firms are named = network listed.ends firms (subst (λ n. AreInOrder n listed.ends) named trades.order) (have_sides firms are)
+  pub network_of : (firms : List Firm) → AreFirms firms → length listed.names.firms ≡ length firms
+      → IsNetwork firms listed.ends
+  network_of firms are named =
+      network listed.ends firms (subst (λ n. AreInOrder n listed.ends) named trades.order) (have_sides firms are)
 
   -- and their later positions have later trades
-  pub positions_ascend : (firms : List Firm) → AreFirms firms → (f i j : ℕ) (firm : Firm) → slice_get firms f ≡ Some firm → i < j → j < firm.count → own listed.ends f i < own listed.ends f j
+  pub positions_ascend : (firms : List Firm) → AreFirms firms → (f i j : ℕ) (firm : Firm)
+      → slice_get firms f ≡ Some firm → i < j → j < firm.count → own listed.ends f i < own listed.ends f j
   positions_ascend firms are f i j firm at before below =
-      own_ascends (length listed.names.firms) f i j listed.ends trades.order before (subst (λ n. j < n) (have_sides firms are f firm at).0 below)
+      own_ascends (length listed.names.firms) f i j listed.ends trades.order before
+      (subst (λ n. j < n) (have_sides firms are f firm at).0 below)
 
-  pub network_from_reading : (items : Items) (firms : List Firm) → length listed.names.firms ≡ items_len items → each (one_firm tested listed) [] items ≡ Ok firms → IsNetwork firms listed.ends
-  network_from_reading items firms count e = network_of firms ((firms_are items).at firms e) (count ∙ sym ((firms_are_counted items).at firms e))
+  pub network_from_reading : (items : Items) (firms : List Firm) → length listed.names.firms ≡ items_len items
+      → each (one_firm tested listed) [] items ≡ Ok firms → IsNetwork firms listed.ends
+  network_from_reading items firms count e =
+      network_of firms ((firms_are items).at firms e) (count ∙ sym ((firms_are_counted items).at firms e))

@@ -23,22 +23,33 @@ below_more P n before last f below = elim (cases_lt f n) [
 ]
 
 module _ (tested : Bool) (listed : Listed) (firms : List Firm) (firm : Data) (f : ℕ) (is : f ≡ length firms) where
-  pub one_firm-fails : (e : ReadError) → Fails e (firm_of tested listed f firm) → Fails e (one_firm tested listed firms firm)
+  pub one_firm-fails : (e : ReadError) → Fails e (firm_of tested listed f firm)
+      → Fails e (one_firm tested listed firms firm)
   unfolding one_firm
-  one_firm-fails e fails = fails_then e (firm_of tested listed (length firms) firm) _ (subst (λ (g : ℕ). Fails e (firm_of tested listed g firm)) is fails)
+  one_firm-fails e fails =
+      fails_then e (firm_of tested listed (length firms) firm) _
+      (subst (λ (g : ℕ). Fails e (firm_of tested listed g firm)) is fails)
 
-  pub one_firm-next : (next : Firm) → firm_of tested listed f firm ≡ Ok next → one_firm tested listed firms firm ≡ Ok (firms ++ next ∷ [])
+  pub one_firm-next : (next : Firm) → firm_of tested listed f firm ≡ Ok next
+      → one_firm tested listed firms firm ≡ Ok (firms ++ next ∷ [])
   unfolding one_firm
-  one_firm-next next given = ap (λ r. r >>= λ next. Ok (firms ++ next ∷ [])) (subst (λ (g : ℕ). firm_of tested listed g firm ≡ Ok next) is given)
+  one_firm-next next given =
+      ap (λ r. r >>= λ next. Ok (firms ++ next ∷ [])) (subst (λ (g : ℕ). firm_of tested listed g firm ≡ Ok next) is
+      given)
 
 -- a table on which no triple fails, and one of which this is the first triple
-pub tested_firm-holds : (trades : List Ends) (f : ℕ) (table : TableRows) → NoneFails (firm_of_table table) → tested_firm true trades f table ≡ Ok (firm_of_table table)
+pub tested_firm-holds : (trades : List Ends) (f : ℕ) (table : TableRows) → NoneFails (firm_of_table table)
+    → tested_firm true trades f table ≡ Ok (firm_of_table table)
 unfolding tested_firm exchange_of
-tested_firm-holds trades f table holds = ap (λ found. unless_failing trades f (length table.sides) found >>= λ met. Ok (firm_of_table table)) (none table holds)
+tested_firm-holds trades f table holds =
+    ap (λ found. unless_failing trades f (length table.sides) found >>= λ met. Ok (firm_of_table table))
+    (none table holds)
 
-pub tested_firm-fails : (trades : List Ends) (f count : ℕ) (table : TableRows) (t : Triple) → IsFirstTriple (firm_of_table table) t → count ≡ length table.sides
+pub tested_firm-fails : (trades : List Ends) (f count : ℕ) (table : TableRows) (t : Triple)
+    → IsFirstTriple (firm_of_table table) t → count ≡ length table.sides
     → tested_firm true trades f table ≡ Err (failure_of trades f count t)
 unfolding tested_firm exchange_of
 tested_firm-fails trades f count table t first is =
-    ap (λ failing. unless_failing trades f (length table.sides) failing >>= λ met. Ok (firm_of_table table)) (found table t first)
+    ap (λ failing. unless_failing trades f (length table.sides) failing >>= λ met. Ok (firm_of_table table))
+    (found table t first)
     ∙ ap (λ n. Err (failure_of trades f n t)) (sym is)

@@ -69,9 +69,18 @@ module _ (listed : Listed) (trades : AreTrades listed) (f : ℕ) (firm_few : IsF
   row_stops : (r : ℕ) (row : Data) → r ≤ 16384 → StopsPlainly (row_of listed f r row)
   unfolding row_of
   row_stops r row few =
-      stops_bind IsPlain (two_at (row_place f r) row) _ (two_stops (row_place f r) (tt, (firm_few.number, (tt, (few, tt)))) row) (λ two.
-      stops_bind IsPlain (bundle_at listed f (row_place f r ++ Index 0 ∷ []) (Some two.0)) _ (bundle_stops listed trades f firm_few.own (row_place f r ++ Index 0 ∷ []) (tt, (firm_few.number, (tt, (few, (omega arith, tt))))) (Some two.0)) (λ bundle.
-      stops_bind IsPlain (number_at listed.limits.amount (row_place f r ++ Index 1 ∷ []) two.1) _ (number_stops (row_place f r ++ Index 1 ∷ []) (tt, (firm_few.number, (tt, (few, (omega arith, tt))))) listed.limits.amount (Some two.1)) (λ amount.
+      stops_bind IsPlain (two_at (row_place f r) row) _ (two_stops (row_place f r) (
+        tt,
+        (firm_few.number, (tt, (few, tt))),
+      ) row) (λ two.
+      stops_bind IsPlain (bundle_at listed f (row_place f r ++ Index 0 ∷ []) (Some two.0)) _
+      (bundle_stops listed trades f firm_few.own (row_place f r ++ Index 0 ∷ []) (
+        tt,
+        (firm_few.number, (tt, (few, (omega arith, tt)))),
+      ) (Some two.0)) (λ bundle.
+      stops_bind IsPlain (number_at listed.limits.amount (row_place f r ++ Index 1 ∷ []) two.1) _
+      (number_stops (row_place f r ++ Index 1 ∷ []) (tt, (firm_few.number, (tt, (few, (omega arith, tt)))))
+      listed.limits.amount (Some two.1)) (λ amount.
       stops_ok IsPlain (bundle, amount))))
 
   -- as many rows were read as bundles have one
@@ -82,7 +91,9 @@ module _ (listed : Listed) (trades : AreTrades listed) (f : ℕ) (firm_few : IsF
   few_rows rows counted =
       let most = filled_le rows.table.rows in
       let places = counted.0.within.places in
-      let few : 2 ^ length rows.table.sides ≤ 16384 = pow-le-pow_right (omega arith) (subst (λ (s : List Side). length s ≤ most_own_of_table) (sym counted.0.sides) counted.0.few) in
+      let few : 2 ^ length rows.table.sides ≤ 16384 =
+      pow-le-pow_right (omega arith) (subst (λ (s : List Side). length s ≤ most_own_of_table) (sym counted.0.sides)
+      counted.0.few) in
       let same = counted.1 in
       omega (arith, most, places, few, same)
 
@@ -91,138 +102,224 @@ module _ (listed : Listed) (trades : AreTrades listed) (f : ℕ) (firm_few : IsF
   one_row_stops rows row counted =
       let few : rows.count ≤ 16384 = few_rows rows counted in
       stops_bind IsPlain (row_of listed f rows.count row) _ (row_stops rows.count row few) (λ next.
-      stops_bind IsPlain (holds SameBundle (row_place f rows.count) (is_none (row_at rows.table.rows next.0))) _ (plain_holds SameBundle (row_place f rows.count) (is_none (row_at rows.table.rows next.0)) refl (tt, (firm_few.number, (tt, (few, tt))))) (λ new.
+      stops_bind IsPlain (holds SameBundle (row_place f rows.count) (is_none (row_at rows.table.rows next.0))) _
+      (plain_holds SameBundle (row_place f rows.count) (is_none (row_at rows.table.rows next.0)) refl (
+        tt,
+        (firm_few.number, (tt, (few, tt))),
+      )) (λ new.
       stops_ok IsPlain (record { count = rows.count + 1; table = with_row rows.table next.0 next.1 })))
 
-  one_row_counts : (rows : Rows) (row : Data) → AreCounted rows → Leads (λ next. next.count ≡ filled next.table.rows) (one_row listed f rows row)
+  one_row_counts : (rows : Rows) (row : Data) → AreCounted rows
+      → Leads (λ next. next.count ≡ filled next.table.rows) (one_row listed f rows row)
   unfolding one_row
   one_row_counts rows row counted =
-      leads_bind (IsOwnRow listed trades f) (λ next. next.count ≡ filled next.table.rows) (row_of listed f rows.count row) _ (row_leads listed trades f rows.count row) (λ next is_own.
-      leads_bind (λ _. is_none (row_at rows.table.rows next.0) ≡ true) (λ next. next.count ≡ filled next.table.rows) (holds SameBundle (row_place f rows.count) (is_none (row_at rows.table.rows next.0))) _ (leads_holds SameBundle (row_place f rows.count) (is_none (row_at rows.table.rows next.0))) (λ u new.
-      leads_ok (λ next. next.count ≡ filled next.table.rows) (record { count = rows.count + 1; table = with_row rows.table next.0 next.1 }) (one_more next.0 next.1 (own_place next.0 is_own.own) (none_from (row_at rows.table.rows next.0) new))))
+      leads_bind (IsOwnRow listed trades f) (λ next. next.count ≡ filled next.table.rows)
+      (row_of listed f rows.count row) _ (row_leads listed trades f rows.count row) (λ next is_own.
+      leads_bind (λ _. is_none (row_at rows.table.rows next.0) ≡ true) (λ next. next.count ≡ filled next.table.rows)
+      (holds SameBundle (row_place f rows.count) (is_none (row_at rows.table.rows next.0))) _
+      (leads_holds SameBundle (row_place f rows.count) (is_none (row_at rows.table.rows next.0))) (λ u new.
+      leads_ok (λ next. next.count ≡ filled next.table.rows) (record {
+        count = rows.count + 1;
+        table =
+            with_row rows.table next.0 next.1;
+      }) (one_more next.0 next.1 (own_place next.0 is_own.own)
+      (none_from (row_at rows.table.rows next.0) new))))
     where
       own_place : (x : ℕ) → x < 2 ^ length (sides_of listed.ends f) → x < length rows.table.rows
-      own_place x own = subst (λ n. x < n) (sym counted.0.within.places) (subst (λ (s : List Side). x < 2 ^ length s) (sym counted.0.sides) own)
+      own_place x own =
+          subst (λ n. x < n) (sym counted.0.within.places) (subst (λ (s : List Side). x < 2 ^ length s)
+          (sym counted.0.sides) own)
 
-      one_more : (x : ℕ) (amount : ℤ) → x < length rows.table.rows → row_at rows.table.rows x ≡ None → rows.count + 1 ≡ filled (slice_set rows.table.rows x (Some amount))
-      one_more x amount below none = let more = filled-set rows.table.rows x amount below none in let same = counted.1 in omega (arith, more, same)
+      one_more : (x : ℕ) (amount : ℤ) → x < length rows.table.rows → row_at rows.table.rows x ≡ None
+          → rows.count + 1 ≡ filled (slice_set rows.table.rows x (Some amount))
+      one_more x amount below none = let more = filled-set rows.table.rows x amount below none in let same = counted.1
+          in omega (arith, more, same)
 
   full_stops : (table : TableRows) → StopsPlainly (full_if_large f table)
   unfolding full_if_large
   full_stops table =
-      plain_holds Limit (firm_place f ++ Word RowsWord ∷ []) (nat_le (length table.sides) 10 || has_each_row table.rows) refl (tt, (firm_few.number, (tt, tt)))
+      plain_holds Limit (firm_place f ++ Word RowsWord ∷ []) (nat_le (length table.sides) 10 || has_each_row table.rows)
+      refl (tt, (firm_few.number, (tt, tt)))
 
-  rows_stop : (items : Items) → length (sides_of listed.ends f) ≤ most_own_of_table → StopsPlainly (rows_of listed f items)
+  rows_stop : (items : Items) → length (sides_of listed.ends f) ≤ most_own_of_table
+      → StopsPlainly (rows_of listed f items)
   unfolding rows_of
   rows_stop items few =
-      stops_bind IsPlain (each (one_row listed f) (record { count = 0; table = without_rows (sides_of listed.ends f) }) items) _
-      (stops_each IsPlain AreCounted (one_row listed f) (λ rows row counted. leads_both (AreRows listed trades f) _ _ (one_row_leads listed trades f rows row counted.0) (one_row_counts rows row counted)) one_row_stops
-      (record { count = 0; table = without_rows (sides_of listed.ends f) }) items (rows_start listed trades f few, sym (filled-none (2 ^ length (sides_of listed.ends f))))) (λ rows.
+      stops_bind IsPlain (each (one_row listed f) (record { count = 0; table = without_rows (sides_of listed.ends f) })
+      items) _
+      (stops_each IsPlain AreCounted (one_row listed f) (λ rows row counted. leads_both (AreRows listed trades f) _ _
+      (one_row_leads listed trades f rows row counted.0) (one_row_counts rows row counted)) one_row_stops
+      (record { count = 0; table = without_rows (sides_of listed.ends f) }) items (
+        rows_start listed trades f few,
+        sym (filled-none (2 ^ length (sides_of listed.ends f))),
+      )) (λ rows.
       stops_bind IsPlain (full_if_large f rows.table) _ (full_stops rows.table) (λ full.
       stops_ok IsPlain rows.table))
 
-  table_stops : (firm : Data) → length (sides_of listed.ends f) ≤ most_own_of_table → StopsPlainly (table_of listed f firm)
+  table_stops : (firm : Data) → length (sides_of listed.ends f) ≤ most_own_of_table
+      → StopsPlainly (table_of listed f firm)
   unfolding table_of
   table_stops firm few =
-      stops_bind IsPlain (list_at (firm_place f ++ Word RowsWord ∷ []) (get (codes "rows") firm)) _ (list_stops (firm_place f ++ Word RowsWord ∷ []) (tt, (firm_few.number, (tt, tt))) (get (codes "rows") firm)) (λ items. rows_stop items few)
+      stops_bind IsPlain (list_at (firm_place f ++ Word RowsWord ∷ []) (get (codes "rows") firm)) _
+      (list_stops (firm_place f ++ Word RowsWord ∷ []) (tt, (firm_few.number, (tt, tt))) (get (codes "rows") firm))
+      (λ items. rows_stop items few)
 
 -- laminar firms
-low_stops : (limits : Limits) (place : List PlaceStep) (value : Option Data) → IsPlainPlace place → StopsPlainly (low_at limits place value)
+low_stops : (limits : Limits) (place : List PlaceStep) (value : Option Data) → IsPlainPlace place
+    → StopsPlainly (low_at limits place value)
 unfolding low_at
 low_stops limits place value plain =
     stops_bind IsPlain (whole_at place value) _ (whole_stops place plain value) (λ low.
-    stops_bind IsPlain (holds Limit place (nat_le (unsigned_abs low) limits.from)) _ (plain_holds Limit place (nat_le (unsigned_abs low) limits.from) refl plain) (λ near. stops_ok IsPlain low))
+    stops_bind IsPlain (holds Limit place (nat_le (unsigned_abs low) limits.from)) _
+    (plain_holds Limit place (nat_le (unsigned_abs low) limits.from) refl plain) (λ near. stops_ok IsPlain low))
 
 module _ (limits : Limits) (are_limits : AreLimits limits) (f s : ℕ) (near : f ≤ 16384) (early : s ≤ 16384) where
-  value_stops : (numbers : List ℤ) (value : Data) → length numbers + 1 ≤ most_values → StopsPlainly (one_value limits f s numbers value)
+  value_stops : (numbers : List ℤ) (value : Data) → length numbers + 1 ≤ most_values
+      → StopsPlainly (one_value limits f s numbers value)
   unfolding one_value
   value_stops numbers value few =
       stops_bind IsPlain (number_at limits.amount (set_place f s ++ Word Values ∷ Index (length numbers) ∷ []) value) _
-      (number_stops (set_place f s ++ Word Values ∷ Index (length numbers) ∷ []) (tt, (near, (tt, (early, (tt, (omega (arith, few), tt)))))) limits.amount (Some value)) (λ z.
+      (number_stops (set_place f s ++ Word Values ∷ Index (length numbers) ∷ []) (
+        tt,
+        (near, (tt, (early, (tt, (omega (arith, few), tt))))),
+      ) limits.amount (Some value)) (λ z.
       stops_ok IsPlain (numbers ++ z ∷ []))
 
   values_stop : (value : Option Data) → StopsPlainly (values_at limits f s value)
   unfolding values_at
   values_stop value =
-      stops_after IsPlain (λ items. items_len items ≤ limits.values) (few_at limits.values (set_place f s ++ Word Values ∷ []) value) _ (few_lead limits.values (set_place f s ++ Word Values ∷ []) value) (few_stops (set_place f s ++ Word Values ∷ []) (tt, (near, (tt, (early, (tt, tt))))) limits.values value) (λ values few.
+      stops_after IsPlain (λ items. items_len items ≤ limits.values)
+      (few_at limits.values (set_place f s ++ Word Values ∷ []) value) _
+      (few_lead limits.values (set_place f s ++ Word Values ∷ []) value)
+      (few_stops (set_place f s ++ Word Values ∷ []) (tt, (near, (tt, (early, (tt, tt))))) limits.values value)
+      (λ values few.
       stops_each_few IsPlain (λ numbers. Unit {0}) length most_values (one_value limits f s)
-      (λ numbers d start. leads_as (λ next. length next ≡ length numbers + 1) _ _ (λ next more. (tt, more)) (value_counts limits are_limits f s numbers d)) (λ numbers d start room. value_stops numbers d room) [] values tt (omega (arith, few, are_limits.values)))
+      (λ numbers d start. leads_as (λ next. length next ≡ length numbers + 1) _ _ (λ next more. (tt, more))
+      (value_counts limits are_limits f s numbers d)) (λ numbers d start room. value_stops numbers d room) [] values
+      tt (omega (arith, few, are_limits.values)))
 
 module _ (f s : ℕ) (near : f ≤ 16384) (early : s ≤ 16384) where
   bent_stops : (bend : Option ℕ) → ((k : ℕ) → bend ≡ Some k → k ≤ 16384) → StopsPlainly (unless_bent f s bend)
   bent_stops None within = stops_ok IsPlain tt
-  bent_stops (Some k) within = stops_err IsPlain (fault NotConcave (set_place f s ++ Word Values ∷ Index k ∷ [])) (plain_fault NotConcave (set_place f s ++ Word Values ∷ Index k ∷ []) refl (tt, (near, (tt, (early, (tt, (within k refl, tt)))))))
+  bent_stops (Some k) within =
+      stops_err IsPlain (fault NotConcave (set_place f s ++ Word Values ∷ Index k ∷ []))
+      (plain_fault NotConcave (set_place f s ++ Word Values ∷ Index k ∷ []) refl (
+        tt,
+        (near, (tt, (early, (tt, (within k refl, tt))))),
+      ))
 
 -- a bend is at a number of the list
-first_bend_within : (k : ℕ) (numbers : List ℤ) (place : ℕ) → first_bend k numbers ≡ Some place → place < k + length numbers
+first_bend_within : (k : ℕ) (numbers : List ℤ) (place : ℕ) → first_bend k numbers ≡ Some place
+    → place < k + length numbers
 first_bend_within k [] place e = absurd (none-some place e)
 first_bend_within k (before ∷ []) place e = absurd (none-some place e)
 first_bend_within k (before ∷ here ∷ []) place e = absurd (none-some place e)
-first_bend_within k (before ∷ here ∷ after ∷ numbers) place e = by_test (bends before here after) e (first_bend_within (k + 1) (here ∷ after ∷ numbers) place)
+first_bend_within k (before ∷ here ∷ after ∷ numbers) place e =
+    by_test (bends before here after) e (first_bend_within (k + 1) (here ∷ after ∷ numbers) place)
   where
     by_test : (b : Bool) → cond b (Some (k + 1)) (first_bend (k + 1) (here ∷ after ∷ numbers)) ≡ Some place
-        → (first_bend (k + 1) (here ∷ after ∷ numbers) ≡ Some place → place < k + 1 + length (here ∷ after ∷ numbers)) → place < k + length (before ∷ here ∷ after ∷ numbers)
+        → (first_bend (k + 1) (here ∷ after ∷ numbers) ≡ Some place → place < k + 1 + length (here ∷ after ∷ numbers))
+        → place < k + length (before ∷ here ∷ after ∷ numbers)
     by_test true is later = let same = same_Some (k + 1) place is in omega (arith, same)
     by_test false is later = omega (arith, later is)
 
-check_set_stops : (f : ℕ) (earlier : List LaminarSet) (set : LaminarSet) → f ≤ 16384 → length earlier ≤ 16384 → HasNumbersWithin set → StopsPlainly (check_set f earlier set)
+check_set_stops : (f : ℕ) (earlier : List LaminarSet) (set : LaminarSet) → f ≤ 16384 → length earlier ≤ 16384
+    → HasNumbersWithin set → StopsPlainly (check_set f earlier set)
 unfolding check_set
 check_set_stops f earlier set near early numbered =
     let plain : IsPlainPlace (set_place f (length earlier)) = (tt, (near, (tt, (early, tt)))) in
     let few = numbered.few in
-    stops_bind IsPlain (holds NoEmpty (set_place f (length earlier)) (is_some (listed_from set.low set.numbers (pos 0)))) _ (plain_holds NoEmpty (set_place f (length earlier)) (is_some (listed_from set.low set.numbers (pos 0))) refl plain) (λ empty.
+    stops_bind IsPlain (holds NoEmpty (set_place f (length earlier))
+    (is_some (listed_from set.low set.numbers (pos 0)))) _
+    (plain_holds NoEmpty (set_place f (length earlier)) (is_some (listed_from set.low set.numbers (pos 0))) refl
+    plain) (λ empty.
     stops_bind IsPlain (unless_bent f (length earlier) (first_bend 0 set.numbers)) _
-    (bent_stops f (length earlier) near early (first_bend 0 set.numbers) (λ k e. let within = first_bend_within 0 set.numbers k e in omega (arith, within, few))) (λ concave.
+    (bent_stops f (length earlier) near early (first_bend 0 set.numbers) (λ k e. let within =
+    first_bend_within 0 set.numbers k e in omega (arith, within, few))) (λ concave.
     plain_holds NotLaminar (set_place f (length earlier)) (not (list_any (crosses set) earlier)) refl plain))
 
-check_sets_stop : (f : ℕ) (earlier sets : List LaminarSet) → f ≤ 16384 → length earlier + length sets ≤ 16384 → All HasNumbersWithin sets → StopsPlainly (check_sets f earlier sets)
+check_sets_stop : (f : ℕ) (earlier sets : List LaminarSet) → f ≤ 16384 → length earlier + length sets ≤ 16384
+    → All HasNumbersWithin sets → StopsPlainly (check_sets f earlier sets)
 check_sets_stop f earlier [] near few numbered = stops_ok IsPlain tt
 check_sets_stop f earlier (set ∷ sets) near few numbered =
-    stops_bind IsPlain (check_set f earlier set) _ (check_set_stops f earlier set near (omega (arith, few)) (All-head HasNumbersWithin set sets numbered)) (λ met.
-    check_sets_stop f (earlier ++ set ∷ []) sets near (omega (arith, few, length-append earlier (set ∷ []))) (All-tail HasNumbersWithin set sets numbered))
+    stops_bind IsPlain (check_set f earlier set) _ (check_set_stops f earlier set near (omega (arith, few))
+    (All-head HasNumbersWithin set sets numbered)) (λ met.
+    check_sets_stop f (earlier ++ set ∷ []) sets near (omega (arith, few, length-append earlier (set ∷ [])))
+    (All-tail HasNumbersWithin set sets numbered))
 
-checked_stops : (f : ℕ) (sides : List Side) (amounts : List ℤ) (sets : List LaminarSet) → f ≤ 16384 → length sets ≤ most_sets → All HasNumbersWithin sets → StopsPlainly (checked_laminar f sides amounts sets)
+checked_stops : (f : ℕ) (sides : List Side) (amounts : List ℤ) (sets : List LaminarSet) → f ≤ 16384
+    → length sets ≤ most_sets → All HasNumbersWithin sets → StopsPlainly (checked_laminar f sides amounts sets)
 unfolding checked_laminar
-checked_stops f sides amounts sets near few numbered = stops_bind IsPlain (check_sets f [] sets) _ (check_sets_stop f [] sets near (omega (arith, few)) numbered) (λ met. stops_ok IsPlain (laminar_firm sides amounts sets))
+checked_stops f sides amounts sets near few numbered =
+    stops_bind IsPlain (check_sets f [] sets) _ (check_sets_stop f [] sets near (omega (arith, few)) numbered)
+    (λ met. stops_ok IsPlain (laminar_firm sides amounts sets))
 
 module _ (listed : Listed) (trades : AreTrades listed) (f : ℕ) (firm_few : IsFewOwn listed.ends f) where
   set_stops : (s : ℕ) (set : Data) → s ≤ 16384 → StopsPlainly (set_of listed f s set)
   unfolding set_of
   set_stops s set early =
-      stops_bind IsPlain (object_of LaminarSetObject (set_place f s) (Some set)) _ (object_stops (set_place f s) (tt, (firm_few.number, (tt, (early, tt)))) LaminarSetObject (Some set)) (λ object.
+      stops_bind IsPlain (object_of LaminarSetObject (set_place f s) (Some set)) _
+      (object_stops (set_place f s) (tt, (firm_few.number, (tt, (early, tt)))) LaminarSetObject (Some set))
+      (λ object.
       stops_bind IsPlain (bundle_at listed f (set_place f s ++ Word Trades ∷ []) (get (codes "trades") set)) _
-      (bundle_stops listed trades f firm_few.own (set_place f s ++ Word Trades ∷ []) (tt, (firm_few.number, (tt, (early, (tt, tt))))) (get (codes "trades") set)) (λ members.
-      stops_bind IsPlain (low_at listed.limits (set_place f s ++ Word From ∷ []) (get (codes "from") set)) _ (low_stops listed.limits (set_place f s ++ Word From ∷ []) (get (codes "from") set) (tt, (firm_few.number, (tt, (early, (tt, tt)))))) (λ low.
-      stops_bind IsPlain (values_at listed.limits f s (get (codes "values") set)) _ (values_stop listed.limits trades.limits f s firm_few.number early (get (codes "values") set)) (λ numbers.
+      (bundle_stops listed trades f firm_few.own (set_place f s ++ Word Trades ∷ []) (
+        tt,
+        (firm_few.number, (tt, (early, (tt, tt)))),
+      ) (get (codes "trades") set)) (λ members.
+      stops_bind IsPlain (low_at listed.limits (set_place f s ++ Word From ∷ []) (get (codes "from") set)) _
+      (low_stops listed.limits (set_place f s ++ Word From ∷ []) (get (codes "from") set) (
+        tt,
+        (firm_few.number, (tt, (early, (tt, tt)))),
+      )) (λ low.
+      stops_bind IsPlain (values_at listed.limits f s (get (codes "values") set)) _
+      (values_stop listed.limits trades.limits f s firm_few.number early (get (codes "values") set)) (λ numbers.
       stops_ok IsPlain (record { members = members; low = low; numbers = numbers })))))
 
-  one_set_stops : (sets : List LaminarSet) (set : Data) → length sets + 1 ≤ most_sets → StopsPlainly (one_set listed f sets set)
+  one_set_stops : (sets : List LaminarSet) (set : Data) → length sets + 1 ≤ most_sets
+      → StopsPlainly (one_set listed f sets set)
   unfolding one_set
-  one_set_stops sets set few = stops_bind IsPlain (set_of listed f (length sets) set) _ (set_stops (length sets) set (omega (arith, few))) (λ next. stops_ok IsPlain (sets ++ next ∷ []))
+  one_set_stops sets set few =
+      stops_bind IsPlain (set_of listed f (length sets) set) _ (set_stops (length sets) set (omega (arith, few)))
+      (λ next. stops_ok IsPlain (sets ++ next ∷ []))
 
   sets_stop : (value : Option Data) → StopsPlainly (sets_at listed f value)
   unfolding sets_at
   sets_stop value =
-      stops_bind IsPlain (optional_list_at (firm_place f ++ Word Sets ∷ []) value) _ (optional_list_stops (firm_place f ++ Word Sets ∷ []) (tt, (firm_few.number, (tt, tt))) value) (λ sets.
-      stops_after IsPlain (λ _. nat_le (items_len sets) listed.limits.sets ≡ true) (holds Limit (firm_place f ++ Word Sets ∷ []) (nat_le (items_len sets) listed.limits.sets)) _ (leads_holds Limit (firm_place f ++ Word Sets ∷ []) (nat_le (items_len sets) listed.limits.sets))
-      (plain_holds Limit (firm_place f ++ Word Sets ∷ []) (nat_le (items_len sets) listed.limits.sets) refl (tt, (firm_few.number, (tt, tt)))) (λ u few.
+      stops_bind IsPlain (optional_list_at (firm_place f ++ Word Sets ∷ []) value) _
+      (optional_list_stops (firm_place f ++ Word Sets ∷ []) (tt, (firm_few.number, (tt, tt))) value) (λ sets.
+      stops_after IsPlain (λ _. nat_le (items_len sets) listed.limits.sets ≡ true)
+      (holds Limit (firm_place f ++ Word Sets ∷ []) (nat_le (items_len sets) listed.limits.sets)) _
+      (leads_holds Limit (firm_place f ++ Word Sets ∷ []) (nat_le (items_len sets) listed.limits.sets))
+      (plain_holds Limit (firm_place f ++ Word Sets ∷ []) (nat_le (items_len sets) listed.limits.sets) refl (
+        tt,
+        (firm_few.number, (tt, tt)),
+      )) (λ u few.
       stops_each_few IsPlain (λ found. Unit {0}) length most_sets (one_set listed f)
-      (λ found d start. leads_as (λ next. length next ≡ length found + 1) _ _ (λ next more. (tt, more)) (one_set_counts listed trades f found d)) (λ found d start room. one_set_stops found d room) [] sets tt
+      (λ found d start. leads_as (λ next. length next ≡ length found + 1) _ _ (λ next more. (tt, more))
+      (one_set_counts listed trades f found d)) (λ found d start room. one_set_stops found d room) [] sets tt
       (let most = le_from_test (items_len sets) listed.limits.sets few in omega (arith, most, trades.limits.sets))))
 
   laminar_stops : (firm : Data) → StopsPlainly (laminar_of listed f firm)
   unfolding laminar_of
   laminar_stops firm =
       stops_bind IsPlain (own_numbers listed (amounts_list f) (no_numbers listed.ends f) (get (codes "amounts") firm)) _
-      (own_numbers_stop listed trades (amounts_list f) firm_few.own (tt, (firm_few.number, (tt, tt))) (no_numbers listed.ends f) (get (codes "amounts") firm)) (λ amounts.
-      stops_after IsPlain (AreFewSets listed trades f) (sets_at listed f (get (codes "sets") firm)) _ (sets_lead listed trades f (get (codes "sets") firm)) (sets_stop (get (codes "sets") firm)) (λ sets so.
+      (own_numbers_stop listed trades (amounts_list f) firm_few.own (
+        tt,
+        (firm_few.number, (tt, tt)),
+      ) (no_numbers listed.ends f) (get (codes "amounts") firm)) (λ amounts.
+      stops_after IsPlain (AreFewSets listed trades f) (sets_at listed f (get (codes "sets") firm)) _
+      (sets_lead listed trades f (get (codes "sets") firm)) (sets_stop (get (codes "sets") firm)) (λ sets so.
       checked_stops f (sides_of listed.ends f) amounts sets firm_few.number so.1 so.0.numbered))
 
 -- middlemen
-given_stops : (limits : Limits) (place : List PlaceStep) (value : Data) → IsPlainPlace place → StopsPlainly (number_at limits.amount place value >>= λ z. Ok (Some z))
-given_stops limits place value plain = stops_bind IsPlain (number_at limits.amount place value) _ (number_stops place plain limits.amount (Some value)) (λ z. stops_ok IsPlain (Some z))
+given_stops : (limits : Limits) (place : List PlaceStep) (value : Data) → IsPlainPlace place
+    → StopsPlainly (number_at limits.amount place value >>= λ z. Ok (Some z))
+given_stops limits place value plain =
+    stops_bind IsPlain (number_at limits.amount place value) _ (number_stops place plain limits.amount (Some value))
+    (λ z. stops_ok IsPlain (Some z))
 
-keep_stops : (limits : Limits) (place : List PlaceStep) (value : Option Data) → IsPlainPlace place → StopsPlainly (keep_at limits place value)
+keep_stops : (limits : Limits) (place : List PlaceStep) (value : Option Data) → IsPlainPlace place
+    → StopsPlainly (keep_at limits place value)
 keep_stops limits place None plain = stops_ok IsPlain None
 keep_stops limits place (Some null) plain = stops_ok IsPlain None
 keep_stops limits place (Some (boolean b)) plain = given_stops limits place (boolean b) plain
@@ -231,28 +328,45 @@ keep_stops limits place (Some (string s)) plain = given_stops limits place (stri
 keep_stops limits place (Some (array ds)) plain = given_stops limits place (array ds) plain
 keep_stops limits place (Some (object ms)) plain = given_stops limits place (object ms) plain
 
-middle_stops : (listed : Listed) (trades : AreTrades listed) (f : ℕ) → IsFewOwn listed.ends f → (firm : Data) → StopsPlainly (middle_of listed f firm)
+middle_stops : (listed : Listed) (trades : AreTrades listed) (f : ℕ) → IsFewOwn listed.ends f → (firm : Data)
+    → StopsPlainly (middle_of listed f firm)
 unfolding middle_of
 middle_stops listed trades f few firm =
     stops_bind IsPlain (own_numbers listed (costs_list f) (no_numbers listed.ends f) (get (codes "costs") firm)) _
-    (own_numbers_stop listed trades (costs_list f) few.own (tt, (few.number, (tt, tt))) (no_numbers listed.ends f) (get (codes "costs") firm)) (λ costs.
+    (own_numbers_stop listed trades (costs_list f) few.own (
+      tt,
+      (few.number, (tt, tt)),
+    ) (no_numbers listed.ends f) (get (codes "costs") firm)) (λ costs.
     stops_bind IsPlain (own_numbers listed (gains_list f) costs (get (codes "gains") firm)) _
-    (own_numbers_stop listed trades (gains_list f) few.own (tt, (few.number, (tt, tt))) costs (get (codes "gains") firm)) (λ numbers.
-    stops_bind IsPlain (keep_at listed.limits (firm_place f ++ Word Keep ∷ []) (get (codes "keep") firm)) _ (keep_stops listed.limits (firm_place f ++ Word Keep ∷ []) (get (codes "keep") firm) (tt, (few.number, (tt, tt)))) (λ keep.
+    (own_numbers_stop listed trades (gains_list f) few.own (
+      tt,
+      (few.number, (tt, tt)),
+    ) costs (get (codes "gains") firm)) (λ numbers.
+    stops_bind IsPlain (keep_at listed.limits (firm_place f ++ Word Keep ∷ []) (get (codes "keep") firm)) _
+    (keep_stops listed.limits (firm_place f ++ Word Keep ∷ []) (get (codes "keep") firm) (
+      tt,
+      (few.number, (tt, tt)),
+    )) (λ keep.
     stops_ok IsPlain (middle_firm (sides_of listed.ends f) numbers keep))))
 
 -- the kind of a firm
 kind_stops : (f : ℕ) (firm : Data) → f ≤ 16384 → StopsPlainly (kind_of f firm)
 unfolding kind_of
 kind_stops f firm near =
-    stops_bind IsPlain (text_at (firm_place f ++ Word Kind ∷ []) (get (codes "kind") firm)) _ (text_stops (firm_place f ++ Word Kind ∷ []) (tt, (near, (tt, tt))) (get (codes "kind") firm)) (λ kind.
+    stops_bind IsPlain (text_at (firm_place f ++ Word Kind ∷ []) (get (codes "kind") firm)) _
+    (text_stops (firm_place f ++ Word Kind ∷ []) (tt, (near, (tt, tt))) (get (codes "kind") firm)) (λ kind.
     plain_wanted Shape (firm_place f ++ Word Kind ∷ []) (kind_named kind) refl (tt, (near, (tt, tt))))
 
-frame_stops : (listed : Listed) (f : ℕ) (kind : FirmKind) (firm : Data) → f ≤ 16384 → StopsPlainly (frame_of listed f kind firm)
+frame_stops : (listed : Listed) (f : ℕ) (kind : FirmKind) (firm : Data) → f ≤ 16384
+    → StopsPlainly (frame_of listed f kind firm)
 unfolding frame_of
 frame_stops listed f kind firm near =
-    stops_bind IsPlain (object_of (FirmObject kind) (firm_place f) (Some firm)) _ (object_stops (firm_place f) (tt, (near, tt)) (FirmObject kind) (Some firm)) (λ object.
-    plain_holds Limit (firm_place f) (nat_le (length (sides_of listed.ends f)) (most_own listed.limits kind)) refl (tt, (near, tt)))
+    stops_bind IsPlain (object_of (FirmObject kind) (firm_place f) (Some firm)) _
+    (object_stops (firm_place f) (tt, (near, tt)) (FirmObject kind) (Some firm)) (λ object.
+    plain_holds Limit (firm_place f) (nat_le (length (sides_of listed.ends f)) (most_own listed.limits kind)) refl (
+      tt,
+      (near, tt),
+    ))
 
 -- exchange, the firms, and the names of the trades that a failing triple shows
 module _ (listed : Listed) (trades : AreTrades listed) where
@@ -262,65 +376,102 @@ module _ (listed : Listed) (trades : AreTrades listed) where
 
   -- the trade at a position of a firm has a name
   own_named : (f k : ℕ) → k < length (sides_of listed.ends f) → own listed.ends f k < length listed.names.trades
-  own_named f k below = subst (λ n. own listed.ends f k < n) (sym trades.named) (own_within (length listed.names.firms) f k listed.ends trades.order below)
+  own_named f k below =
+      subst (λ n. own listed.ends f k < n) (sym trades.named)
+      (own_within (length listed.names.firms) f k listed.ends trades.order below)
 
-  failure_told : (f : ℕ) (table : TableRows) (t : Triple) → f ≤ 16384 → table.sides ≡ sides_of listed.ends f → first_failure table ≡ Some t → IsToldHere (failure_of listed.ends f (length table.sides) t)
-  failure_told f table t near sides found = record { sayable = sayable; short = short_place (firm_place f) (tt, (near, tt)); ascending = ascending; read = λ same. absurd (cc) }
+  failure_told : (f : ℕ) (table : TableRows) (t : Triple) → f ≤ 16384 → table.sides ≡ sides_of listed.ends f
+      → first_failure table ≡ Some t → IsToldHere (failure_of listed.ends f (length table.sides) t)
+  failure_told f table t near sides found = record {
+    sayable = sayable;
+    short =
+        short_place (firm_place f) (tt, (near, tt));
+    ascending = ascending;
+    read = λ same. absurd (cc);
+  }
     where
       ascend : (i j : ℕ) → i < j → j < length table.sides → own listed.ends f i < own listed.ends f j
-      ascend i j before below = own_ascends (length listed.names.firms) f i j listed.ends trades.order before (subst (λ (s : List Side). j < length s) sides below)
+      ascend i j before below =
+          own_ascends (length listed.names.firms) f i j listed.ends trades.order before
+          (subst (λ (s : List Side). j < length s) sides below)
 
       ascending : IsAscendingTriple (shown_of listed.ends f (length table.sides) t)
-      ascending = record { x = ascending_list listed.ends f (length table.sides) t.x ascend; y = ascending_list listed.ends f (length table.sides) t.y ascend }
+      ascending = record {
+        x = ascending_list listed.ends f (length table.sides) t.x ascend;
+        y =
+            ascending_list listed.ends f (length table.sides) t.y ascend;
+      }
 
       sayable : IsSayableFault listed.names.trades (failure_of listed.ends f (length table.sides) t)
       sayable = record {
         place = named_place listed.names.trades (firm_place f) (tt, (near, tt));
-        triple = triple_named listed.names.trades listed.ends f (length table.sides) t (λ k below. own_named f k (subst (λ (s : List Side). k < length s) sides below))
+        triple = triple_named listed.names.trades listed.ends f (length table.sides) t
+            (λ k below. own_named f k (subst (λ (s : List Side). k < length s) sides below))
             (own_position_of (firm_of_table table) t (own_bundles table) (first_looked table t found).fails);
         exactly = (λ there. refl, λ same. refl);
       }
 
-  exchange_stops : (f : ℕ) (table : TableRows) → f ≤ 16384 → table.sides ≡ sides_of listed.ends f → Stops IsToldHere (exchange_of listed.ends f table)
+  exchange_stops : (f : ℕ) (table : TableRows) → f ≤ 16384 → table.sides ≡ sides_of listed.ends f
+      → Stops IsToldHere (exchange_of listed.ends f table)
   unfolding exchange_of
   exchange_stops f table near sides = by_found (first_failure table) refl
     where
-      by_found : (found : Option Triple) → first_failure table ≡ found → Stops IsToldHere (unless_failing listed.ends f (length table.sides) found)
+      by_found : (found : Option Triple) → first_failure table ≡ found
+          → Stops IsToldHere (unless_failing listed.ends f (length table.sides) found)
       by_found None is = stops_ok IsToldHere tt
-      by_found (Some t) is = stops_err IsToldHere (failure_of listed.ends f (length table.sides) t) (failure_told f table t near sides is)
+      by_found (Some t) is =
+          stops_err IsToldHere (failure_of listed.ends f (length table.sides) t) (failure_told f table t near sides is)
 
-  tested_stops : (tested : Bool) (f : ℕ) (table : TableRows) → f ≤ 16384 → table.sides ≡ sides_of listed.ends f → Stops IsToldHere (if tested then exchange_of listed.ends f table else Ok tt)
+  tested_stops : (tested : Bool) (f : ℕ) (table : TableRows) → f ≤ 16384 → table.sides ≡ sides_of listed.ends f
+      → Stops IsToldHere (if tested then exchange_of listed.ends f table else Ok tt)
   tested_stops true f table near sides = exchange_stops f table near sides
   tested_stops false f table near sides = stops_ok IsToldHere tt
 
-  tested_firm_stops : (tested : Bool) (f : ℕ) (table : TableRows) → f ≤ 16384 → table.sides ≡ sides_of listed.ends f → Stops IsToldHere (tested_firm tested listed.ends f table)
+  tested_firm_stops : (tested : Bool) (f : ℕ) (table : TableRows) → f ≤ 16384 → table.sides ≡ sides_of listed.ends f
+      → Stops IsToldHere (tested_firm tested listed.ends f table)
   unfolding tested_firm
   tested_firm_stops tested f table near sides =
-      stops_bind IsToldHere (if tested then exchange_of listed.ends f table else Ok tt) _ (tested_stops tested f table near sides) (λ met. stops_ok IsToldHere (firm_of_table table))
+      stops_bind IsToldHere (if tested then exchange_of listed.ends f table
+      else Ok tt) _ (tested_stops tested f table near sides) (λ met. stops_ok IsToldHere (firm_of_table table))
 
-  firm_by_stops : (tested : Bool) (f : ℕ) (kind : FirmKind) (firm : Data) → f ≤ 16384 → length (sides_of listed.ends f) ≤ room_for kind → Stops IsToldHere (firm_by tested listed f kind firm)
+  firm_by_stops : (tested : Bool) (f : ℕ) (kind : FirmKind) (firm : Data) → f ≤ 16384
+      → length (sides_of listed.ends f) ≤ room_for kind → Stops IsToldHere (firm_by tested listed f kind firm)
   unfolding firm_by
   firm_by_stops tested f Table firm near few =
       stops_after IsToldHere (IsTableOf listed.ends f) (table_of listed f firm) _ (table_leads listed trades f firm few)
-      (told_from_plain listed.names.trades (table_of listed f firm) (table_stops listed trades f (record { number = near; own = omega (arith, few) }) firm few)) (λ table is.
+      (told_from_plain listed.names.trades (table_of listed f firm)
+      (table_stops listed trades f (record { number = near; own = omega (arith, few) }) firm few)) (λ table is.
       tested_firm_stops tested f table near is.sides)
-  firm_by_stops tested f Laminar firm near few = told_from_plain listed.names.trades (laminar_of listed f firm) (laminar_stops listed trades f (record { number = near; own = few }) firm)
-  firm_by_stops tested f Middleman firm near few = told_from_plain listed.names.trades (middle_of listed f firm) (middle_stops listed trades f (record { number = near; own = few }) firm)
-  firm_by_stops tested f Dealer firm near few = told_from_plain listed.names.trades (dealer_of listed f firm) (dealer_stops listed trades f near few firm)
+  firm_by_stops tested f Laminar firm near few =
+      told_from_plain listed.names.trades (laminar_of listed f firm)
+      (laminar_stops listed trades f (record { number = near; own = few }) firm)
+  firm_by_stops tested f Middleman firm near few =
+      told_from_plain listed.names.trades (middle_of listed f firm)
+      (middle_stops listed trades f (record { number = near; own = few }) firm)
+  firm_by_stops tested f Dealer firm near few =
+      told_from_plain listed.names.trades (dealer_of listed f firm) (dealer_stops listed trades f near few firm)
 
   firm_stops : (tested : Bool) (f : ℕ) (firm : Data) → f ≤ 16384 → Stops IsToldHere (firm_of tested listed f firm)
   unfolding firm_of
   firm_stops tested f firm near =
-      stops_bind IsToldHere (kind_of f firm) _ (told_from_plain listed.names.trades (kind_of f firm) (kind_stops f firm near)) (λ kind.
+      stops_bind IsToldHere (kind_of f firm) _ (told_from_plain listed.names.trades (kind_of f firm)
+      (kind_stops f firm near)) (λ kind.
       stops_after IsToldHere (λ _. length (sides_of listed.ends f) ≤ room_for kind) (frame_of listed f kind firm) _
-      (frame_leads tested listed trades f kind firm) (told_from_plain listed.names.trades (frame_of listed f kind firm) (frame_stops listed f kind firm near)) (λ u few.
+      (frame_leads tested listed trades f kind firm) (told_from_plain listed.names.trades (frame_of listed f kind firm)
+      (frame_stops listed f kind firm near)) (λ u few.
       firm_by_stops tested f kind firm near few))
 
-  one_firm_stops : (tested : Bool) (firms : List Firm) (firm : Data) → length firms + 1 ≤ most_firms → Stops IsToldHere (one_firm tested listed firms firm)
+  one_firm_stops : (tested : Bool) (firms : List Firm) (firm : Data) → length firms + 1 ≤ most_firms
+      → Stops IsToldHere (one_firm tested listed firms firm)
   unfolding one_firm
-  one_firm_stops tested firms firm few = stops_bind IsToldHere (firm_of tested listed (length firms) firm) _ (firm_stops tested (length firms) firm (omega (arith, few))) (λ next. stops_ok IsToldHere (firms ++ next ∷ []))
+  one_firm_stops tested firms firm few =
+      stops_bind IsToldHere (firm_of tested listed (length firms) firm) _
+      (firm_stops tested (length firms) firm (omega (arith, few))) (λ next. stops_ok IsToldHere (firms ++ next ∷ []))
 
-  pub firms_stop : (tested : Bool) (firms : Items) → items_len firms ≤ most_firms → Stops IsToldHere (each (one_firm tested listed) [] firms)
+  pub firms_stop : (tested : Bool) (firms : Items) → items_len firms ≤ most_firms
+      → Stops IsToldHere (each (one_firm tested listed) [] firms)
   firms_stop tested firms few =
       stops_each_few IsToldHere (λ found. Unit {0}) length most_firms (one_firm tested listed)
-      (λ found d start. leads_as (λ next. length next ≡ length found + 1) _ _ (λ next more. (tt, more)) (one_firm_count tested listed trades found d)) (λ found d start room. one_firm_stops tested found d room) [] firms tt (omega (arith, few))
+      (λ found d start. leads_as (λ next. length next ≡ length found + 1) _ _ (λ next more. (tt, more))
+      (one_firm_count tested listed trades found d)) (λ found d start room. one_firm_stops tested found d room) []
+      firms tt (omega (arith, few))

@@ -32,11 +32,15 @@ use Rattle.tn_read_firms.proofs.SoundLemmas.{sound_sets}
 use Rattle.tn_shape.proofs.LeadLemmas.{Leads, leads_ok, leads_bind, leads_after, leads_each, leads_count, leads_both, leads_holds, leads_as, le_from_test, small_from_test}
 
 module _ (limits : Limits) (are_limits : AreLimits limits) where
-  low_leads : (place : List PlaceStep) (value : Option Data) → Leads (λ low. IsAtMost low most_from) (low_at limits place value)
+  low_leads : (place : List PlaceStep) (value : Option Data)
+      → Leads (λ low. IsAtMost low most_from) (low_at limits place value)
   unfolding low_at
   low_leads place value = leads_after (λ low. IsAtMost low most_from) (whole_at place value) _ (λ low.
-      leads_bind (λ _. nat_le (unsigned_abs low) limits.from ≡ true) (λ low. IsAtMost low most_from) (holds Limit place (nat_le (unsigned_abs low) limits.from)) _ (leads_holds Limit place (nat_le (unsigned_abs low) limits.from)) (λ u near.
-      leads_ok (λ low. IsAtMost low most_from) low (within_more low limits.from most_from are_limits.from (small_from_test low limits.from near))))
+      leads_bind (λ _. nat_le (unsigned_abs low) limits.from ≡ true) (λ low. IsAtMost low most_from)
+      (holds Limit place (nat_le (unsigned_abs low) limits.from)) _
+      (leads_holds Limit place (nat_le (unsigned_abs low) limits.from)) (λ u near.
+      leads_ok (λ low. IsAtMost low most_from) low (within_more low limits.from most_from are_limits.from
+      (small_from_test low limits.from near))))
 
 -- few small numbers
 record AreValues (numbers : List ℤ) : Type 0 where
@@ -44,25 +48,38 @@ record AreValues (numbers : List ℤ) : Type 0 where
   small : All (λ z. IsAtMost z most_amount) numbers
 
 module _ (limits : Limits) (are_limits : AreLimits limits) (f s : ℕ) where
-  value_leads : (numbers : List ℤ) (value : Data) → All (λ z. IsAtMost z most_amount) numbers → Leads (All (λ z. IsAtMost z most_amount)) (one_value limits f s numbers value)
+  value_leads : (numbers : List ℤ) (value : Data) → All (λ z. IsAtMost z most_amount) numbers
+      → Leads (All (λ z. IsAtMost z most_amount)) (one_value limits f s numbers value)
   unfolding one_value
   value_leads numbers value small =
-      leads_bind (λ z. IsAtMost z most_amount) (All (λ z. IsAtMost z most_amount)) (number_at limits.amount (set_place f s ++ Word Values ∷ Index (length numbers) ∷ []) value) _ (number_within limits.amount most_amount are_limits.amount (set_place f s ++ Word Values ∷ Index (length numbers) ∷ []) (Some value)) (λ z is.
-      leads_ok (All (λ z. IsAtMost z most_amount)) (numbers ++ z ∷ []) (All-push (λ z. IsAtMost z most_amount) numbers z small is))
+      leads_bind (λ z. IsAtMost z most_amount) (All (λ z. IsAtMost z most_amount))
+      (number_at limits.amount (set_place f s ++ Word Values ∷ Index (length numbers) ∷ []) value) _
+      (number_within limits.amount most_amount are_limits.amount (set_place f s
+      ++ Word Values ∷ Index (length numbers) ∷ []) (Some value)) (λ z is.
+      leads_ok (All (λ z. IsAtMost z most_amount)) (numbers ++ z ∷ [])
+      (All-push (λ z. IsAtMost z most_amount) numbers z small is))
 
-  pub value_counts : (numbers : List ℤ) (value : Data) → Leads (λ next. length next ≡ length numbers + 1) (one_value limits f s numbers value)
+  pub value_counts : (numbers : List ℤ) (value : Data)
+      → Leads (λ next. length next ≡ length numbers + 1) (one_value limits f s numbers value)
   unfolding one_value
   value_counts numbers value =
-      leads_after (λ next. length next ≡ length numbers + 1) (number_at limits.amount (set_place f s ++ Word Values ∷ Index (length numbers) ∷ []) value) _ (λ z.
+      leads_after (λ next. length next ≡ length numbers + 1)
+      (number_at limits.amount (set_place f s ++ Word Values ∷ Index (length numbers) ∷ []) value) _ (λ z.
       leads_ok (λ next. length next ≡ length numbers + 1) (numbers ++ z ∷ []) (length-append numbers (z ∷ [])))
 
   values_lead : (value : Option Data) → Leads AreValues (values_at limits f s value)
   unfolding values_at
   values_lead value =
-      leads_bind (λ items. items_len items ≤ limits.values) AreValues (few_at limits.values (set_place f s ++ Word Values ∷ []) value) _ (few_lead limits.values (set_place f s ++ Word Values ∷ []) value) (λ items few.
-      leads_as (λ numbers. All (λ z. IsAtMost z most_amount) numbers × (length numbers ≡ 0 + items_len items)) AreValues (each (one_value limits f s) [] items) (λ numbers are. record { few = omega (arith, few, are.1, are_limits.values); small = are.0 })
-      (leads_both (All (λ z. IsAtMost z most_amount)) (λ numbers. length numbers ≡ 0 + items_len items) (each (one_value limits f s) [] items)
-      (leads_each (All (λ z. IsAtMost z most_amount)) (one_value limits f s) value_leads [] items (λ k d h. absurd (omega (arith, h))))
+      leads_bind (λ items. items_len items ≤ limits.values) AreValues
+      (few_at limits.values (set_place f s ++ Word Values ∷ []) value) _
+      (few_lead limits.values (set_place f s ++ Word Values ∷ []) value) (λ items few.
+      leads_as (λ numbers. All (λ z. IsAtMost z most_amount) numbers
+      × (length numbers ≡ 0 + items_len items)) AreValues (each (one_value limits f s) [] items)
+      (λ numbers are. record { few = omega (arith, few, are.1, are_limits.values); small = are.0 })
+      (leads_both (All (λ z. IsAtMost z most_amount)) (λ numbers. length numbers ≡ 0 + items_len items)
+      (each (one_value limits f s) [] items)
+      (leads_each (All (λ z. IsAtMost z most_amount)) (one_value limits f s) value_leads [] items
+      (λ k d h. absurd (omega (arith, h))))
       (leads_count length (one_value limits f s) value_counts [] items)))
 
 module _ (listed : Listed) (trades : AreTrades listed) (f : ℕ) where
@@ -75,10 +92,19 @@ module _ (listed : Listed) (trades : AreTrades listed) (f : ℕ) where
   unfolding set_of
   set_leads s set =
       leads_after IsSetOf (object_of LaminarSetObject (set_place f s) (Some set)) _ (λ object.
-      leads_bind (λ b. b < 2 ^ length (sides_of listed.ends f)) IsSetOf (bundle_at listed f (set_place f s ++ Word Trades ∷ []) (get (codes "trades") set)) _ (bundle_leads listed trades f (set_place f s ++ Word Trades ∷ []) (get (codes "trades") set)) (λ members own.
-      leads_bind (λ low. IsAtMost low most_from) IsSetOf (low_at listed.limits (set_place f s ++ Word From ∷ []) (get (codes "from") set)) _ (low_leads listed.limits trades.limits (set_place f s ++ Word From ∷ []) (get (codes "from") set)) (λ low near.
-      leads_bind AreValues IsSetOf (values_at listed.limits f s (get (codes "values") set)) _ (values_lead listed.limits trades.limits f s (get (codes "values") set)) (λ numbers are.
-      leads_ok IsSetOf (record { members = members; low = low; numbers = numbers }) (record { own = own; numbered = record { low = near; few = are.few; small = are.small } })))))
+      leads_bind (λ b. b < 2 ^ length (sides_of listed.ends f)) IsSetOf
+      (bundle_at listed f (set_place f s ++ Word Trades ∷ []) (get (codes "trades") set)) _
+      (bundle_leads listed trades f (set_place f s ++ Word Trades ∷ []) (get (codes "trades") set)) (λ members own.
+      leads_bind (λ low. IsAtMost low most_from) IsSetOf (low_at listed.limits (set_place f s ++ Word From ∷ [])
+      (get (codes "from") set)) _ (low_leads listed.limits trades.limits (set_place f s ++ Word From ∷ [])
+      (get (codes "from") set)) (λ low near.
+      leads_bind AreValues IsSetOf (values_at listed.limits f s (get (codes "values") set)) _
+      (values_lead listed.limits trades.limits f s (get (codes "values") set)) (λ numbers are.
+      leads_ok IsSetOf (record { members = members; low = low; numbers = numbers }) (record {
+        own = own;
+        numbered =
+            record { low = near; few = are.few; small = are.small };
+      })))))
 
   -- the sets so far
   pub record AreSetsOf (sets : List LaminarSet) : Type 0 where
@@ -89,9 +115,15 @@ module _ (listed : Listed) (trades : AreTrades listed) (f : ℕ) where
   unfolding one_set
   one_set_leads sets set are =
       leads_bind IsSetOf AreSetsOf (set_of listed f (length sets) set) _ (set_leads (length sets) set) (λ next is.
-      leads_ok AreSetsOf (sets ++ next ∷ []) (record { own = All-push (IsOwnSet (length (sides_of listed.ends f))) sets next are.own is.own; numbered = All-push HasNumbersWithin sets next are.numbered is.numbered }))
+      leads_ok AreSetsOf (sets ++ next ∷ []) (record {
+        own =
+            All-push (IsOwnSet (length (sides_of listed.ends f))) sets next are.own is.own;
+        numbered =
+            All-push HasNumbersWithin sets next are.numbered is.numbered;
+      }))
 
-  pub one_set_counts : (sets : List LaminarSet) (set : Data) → Leads (λ next. length next ≡ length sets + 1) (one_set listed f sets set)
+  pub one_set_counts : (sets : List LaminarSet) (set : Data)
+      → Leads (λ next. length next ≡ length sets + 1) (one_set listed f sets set)
   unfolding one_set
   one_set_counts sets set =
       leads_after (λ next. length next ≡ length sets + 1) (set_of listed f (length sets) set) _ (λ next.
@@ -104,17 +136,33 @@ module _ (listed : Listed) (trades : AreTrades listed) (f : ℕ) where
   unfolding sets_at
   sets_lead value =
       leads_after AreFewSets (optional_list_at (firm_place f ++ Word Sets ∷ []) value) _ (λ items.
-      leads_bind (λ _. nat_le (items_len items) listed.limits.sets ≡ true) AreFewSets (holds Limit (firm_place f ++ Word Sets ∷ []) (nat_le (items_len items) listed.limits.sets)) _ (leads_holds Limit (firm_place f ++ Word Sets ∷ []) (nat_le (items_len items) listed.limits.sets)) (λ u few.
-      leads_as (λ sets. AreSetsOf sets × (length sets ≡ 0 + items_len items)) AreFewSets (each (one_set listed f) [] items) (λ sets are. (are.0, (let most = le_from_test (items_len items) listed.limits.sets few in let room = trades.limits.sets in let count = are.1 in omega (arith, most, count, room))))
+      leads_bind (λ _. nat_le (items_len items) listed.limits.sets ≡ true) AreFewSets
+      (holds Limit (firm_place f ++ Word Sets ∷ []) (nat_le (items_len items) listed.limits.sets)) _
+      (leads_holds Limit (firm_place f ++ Word Sets ∷ []) (nat_le (items_len items) listed.limits.sets)) (λ u few.
+      leads_as (λ sets. AreSetsOf sets × (length sets ≡ 0 + items_len items)) AreFewSets
+      (each (one_set listed f) [] items) (λ sets are. (
+        are.0,
+        (let most = le_from_test (items_len items) listed.limits.sets few in let room = trades.limits.sets in
+            let count = are.1 in omega (arith, most, count, room)),
+      ))
       (leads_both AreSetsOf (λ sets. length sets ≡ 0 + items_len items) (each (one_set listed f) [] items)
-      (leads_each AreSetsOf (one_set listed f) one_set_leads [] items (record { own = λ k d h. absurd (omega (arith, h)); numbered = λ k d h. absurd (omega (arith, h)) }))
+      (leads_each AreSetsOf (one_set listed f) one_set_leads [] items (record {
+        own =
+            λ k d h. absurd (omega (arith, h));
+        numbered = λ k d h. absurd (omega (arith, h));
+      }))
       (leads_count length (one_set listed f) one_set_counts [] items))))
 
-  checked_leads : (amounts : List ℤ) (sets : List LaminarSet) → AreNumbers (length (sides_of listed.ends f)) listed.limits.amount amounts → AreFewSets sets → length (sides_of listed.ends f) ≤ most_own_trades
+  checked_leads : (amounts : List ℤ) (sets : List LaminarSet)
+      → AreNumbers (length (sides_of listed.ends f)) listed.limits.amount amounts → AreFewSets sets
+      → length (sides_of listed.ends f) ≤ most_own_trades
       → Leads (IsLaminarFirm listed.ends f) (checked_laminar f (sides_of listed.ends f) amounts sets)
   unfolding checked_laminar
   checked_leads amounts sets are so few =
-      leads_bind (λ _. AreSound sets) (IsLaminarFirm listed.ends f) (check_sets f [] sets) _ (record { at = λ u e. sound_sets f sets e }) (λ u sound.
+      leads_bind (λ _. AreSound sets) (IsLaminarFirm listed.ends f) (check_sets f [] sets) _ (record {
+        at =
+            λ u e. sound_sets f sets e;
+      }) (λ u sound.
       leads_ok (IsLaminarFirm listed.ends f) (laminar_firm (sides_of listed.ends f) amounts sets) (record {
         amounts = amounts;
         sets = sets;
@@ -128,10 +176,14 @@ module _ (listed : Listed) (trades : AreTrades listed) (f : ℕ) where
         sound = sound;
       }))
 
-  pub laminar_leads : (firm : Data) → length (sides_of listed.ends f) ≤ most_own_trades → Leads (IsLaminarFirm listed.ends f) (laminar_of listed f firm)
+  pub laminar_leads : (firm : Data) → length (sides_of listed.ends f) ≤ most_own_trades
+      → Leads (IsLaminarFirm listed.ends f) (laminar_of listed f firm)
   unfolding laminar_of
   laminar_leads firm few =
-      leads_bind (AreNumbers (length (sides_of listed.ends f)) listed.limits.amount) (IsLaminarFirm listed.ends f) (own_numbers listed (amounts_list f) (no_numbers listed.ends f) (get (codes "amounts") firm)) _
-      (own_numbers_lead listed (amounts_list f) (length (sides_of listed.ends f)) (no_numbers listed.ends f) (get (codes "amounts") firm) (zeros (length (sides_of listed.ends f)) listed.limits.amount)) (λ amounts are.
-      leads_bind AreFewSets (IsLaminarFirm listed.ends f) (sets_at listed f (get (codes "sets") firm)) _ (sets_lead (get (codes "sets") firm)) (λ sets so.
+      leads_bind (AreNumbers (length (sides_of listed.ends f)) listed.limits.amount) (IsLaminarFirm listed.ends f)
+      (own_numbers listed (amounts_list f) (no_numbers listed.ends f) (get (codes "amounts") firm)) _
+      (own_numbers_lead listed (amounts_list f) (length (sides_of listed.ends f)) (no_numbers listed.ends f)
+      (get (codes "amounts") firm) (zeros (length (sides_of listed.ends f)) listed.limits.amount)) (λ amounts are.
+      leads_bind AreFewSets (IsLaminarFirm listed.ends f) (sets_at listed f (get (codes "sets") firm)) _
+      (sets_lead (get (codes "sets") firm)) (λ sets so.
       checked_leads amounts sets are so few))

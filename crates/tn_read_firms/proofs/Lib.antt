@@ -1,3 +1,4 @@
+-- The files of lemmas of this crate.
 pub mod RowLemmas
 pub mod FullLemmas
 pub mod FailureLemmas

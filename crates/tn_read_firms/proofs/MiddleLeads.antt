@@ -27,10 +27,15 @@ use Rattle.tn_shape.proofs.LeadLemmas.{Leads, leads_ok, leads_bind}
 abbrev pub IsSmallKeep : Option ℤ → Type 0
 IsSmallKeep keep = ForSome keep (λ a. IsAtMost a most_amount)
 
-given_leads : (limits : Limits) → AreLimits limits → (place : List PlaceStep) (value : Data) → Leads IsSmallKeep (number_at limits.amount place value >>= λ z. Ok (Some z))
-given_leads limits are place value = leads_bind (λ z. IsAtMost z most_amount) IsSmallKeep (number_at limits.amount place value) _ (number_within limits.amount most_amount are.amount place (Some value)) (λ z small. leads_ok IsSmallKeep (Some z) (λ x e. subst (λ a. IsAtMost a most_amount) (same_Some z x e) small))
+given_leads : (limits : Limits) → AreLimits limits → (place : List PlaceStep) (value : Data)
+    → Leads IsSmallKeep (number_at limits.amount place value >>= λ z. Ok (Some z))
+given_leads limits are place value =
+    leads_bind (λ z. IsAtMost z most_amount) IsSmallKeep (number_at limits.amount place value) _
+    (number_within limits.amount most_amount are.amount place (Some value))
+    (λ z small. leads_ok IsSmallKeep (Some z) (λ x e. subst (λ a. IsAtMost a most_amount) (same_Some z x e) small))
 
-pub keep_leads : (limits : Limits) → AreLimits limits → (place : List PlaceStep) (value : Option Data) → Leads IsSmallKeep (keep_at limits place value)
+pub keep_leads : (limits : Limits) → AreLimits limits → (place : List PlaceStep) (value : Option Data)
+    → Leads IsSmallKeep (keep_at limits place value)
 keep_leads limits are place None = leads_ok IsSmallKeep None (λ x e. absurd (none-some x e))
 keep_leads limits are place (Some null) = leads_ok IsSmallKeep None (λ x e. absurd (none-some x e))
 keep_leads limits are place (Some (boolean b)) = given_leads limits are place (boolean b)
@@ -39,14 +44,23 @@ keep_leads limits are place (Some (string s)) = given_leads limits are place (st
 keep_leads limits are place (Some (array ds)) = given_leads limits are place (array ds)
 keep_leads limits are place (Some (object ms)) = given_leads limits are place (object ms)
 
-pub middle_leads : (listed : Listed) → AreTrades listed → (f : ℕ) (firm : Data) → length (sides_of listed.ends f) ≤ most_own_trades → Leads (IsMiddlemanFirm listed.ends f) (middle_of listed f firm)
+pub middle_leads : (listed : Listed) → AreTrades listed → (f : ℕ) (firm : Data)
+    → length (sides_of listed.ends f) ≤ most_own_trades
+    → Leads (IsMiddlemanFirm listed.ends f) (middle_of listed f firm)
 unfolding middle_of
 middle_leads listed trades f firm few =
-    leads_bind (AreNumbers (length (sides_of listed.ends f)) listed.limits.amount) (IsMiddlemanFirm listed.ends f) (own_numbers listed (costs_list f) (no_numbers listed.ends f) (get (codes "costs") firm)) _
-    (own_numbers_lead listed (costs_list f) (length (sides_of listed.ends f)) (no_numbers listed.ends f) (get (codes "costs") firm) (zeros (length (sides_of listed.ends f)) listed.limits.amount)) (λ costs are_costs.
-    leads_bind (AreNumbers (length (sides_of listed.ends f)) listed.limits.amount) (IsMiddlemanFirm listed.ends f) (own_numbers listed (gains_list f) costs (get (codes "gains") firm)) _
-    (own_numbers_lead listed (gains_list f) (length (sides_of listed.ends f)) costs (get (codes "gains") firm) are_costs) (λ numbers are.
-    leads_bind IsSmallKeep (IsMiddlemanFirm listed.ends f) (keep_at listed.limits (firm_place f ++ Word Keep ∷ []) (get (codes "keep") firm)) _ (keep_leads listed.limits trades.limits (firm_place f ++ Word Keep ∷ []) (get (codes "keep") firm)) (λ keep small.
+    leads_bind (AreNumbers (length (sides_of listed.ends f)) listed.limits.amount) (IsMiddlemanFirm listed.ends f)
+    (own_numbers listed (costs_list f) (no_numbers listed.ends f) (get (codes "costs") firm)) _
+    (own_numbers_lead listed (costs_list f) (length (sides_of listed.ends f)) (no_numbers listed.ends f)
+    (get (codes "costs") firm) (zeros (length (sides_of listed.ends f)) listed.limits.amount)) (λ costs are_costs.
+    leads_bind (AreNumbers (length (sides_of listed.ends f)) listed.limits.amount) (IsMiddlemanFirm listed.ends f)
+    (own_numbers listed (gains_list f) costs (get (codes "gains") firm)) _
+    (own_numbers_lead listed (gains_list f) (length (sides_of listed.ends f)) costs (get (codes "gains") firm)
+    are_costs) (λ numbers are.
+    leads_bind IsSmallKeep (IsMiddlemanFirm listed.ends f)
+    (keep_at listed.limits (firm_place f ++ Word Keep ∷ []) (get (codes "keep") firm)) _
+    (keep_leads listed.limits trades.limits (firm_place f ++ Word Keep ∷ []) (get (codes "keep") firm))
+    (λ keep small.
     leads_ok (IsMiddlemanFirm listed.ends f) (middle_firm (sides_of listed.ends f) numbers keep) (record {
       numbers = numbers;
       keep = keep;

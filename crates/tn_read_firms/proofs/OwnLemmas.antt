@@ -16,15 +16,23 @@ use Rattle.tn_shape.proofs.ShapeStops.{optional_list_stops}
 use Rattle.tn_read_references.proofs.ReferenceStops.{new_own_stops, RefersPlainly, entries_stop}
 use Rattle.tn_read_references.proofs.EntryLeads.{AreNumbers, entries_lead}
 
-pub own_numbers_lead : (listed : Listed) (list : OwnList) (count : ℕ) (numbers : List ℤ) (value : Option Data) → AreNumbers count listed.limits.amount numbers → Leads (AreNumbers count listed.limits.amount) (own_numbers listed list numbers value)
+pub own_numbers_lead : (listed : Listed) (list : OwnList) (count : ℕ) (numbers : List ℤ) (value : Option Data)
+    → AreNumbers count listed.limits.amount numbers
+    → Leads (AreNumbers count listed.limits.amount) (own_numbers listed list numbers value)
 unfolding own_numbers
 own_numbers_lead listed list count numbers value are =
     leads_after (AreNumbers count listed.limits.amount) (optional_list_at (list_place list) value) _ (λ entries.
-    leads_bind (λ end. AreNumbers count listed.limits.amount end.numbers) (AreNumbers count listed.limits.amount) (each (one_own listed list) (record { named = 0; numbers = numbers }) entries) _
-    (entries_lead (new_own listed list.firm list.side) (list_place list) count listed.limits.amount (record { named = 0; numbers = numbers }) entries are) (λ end so.
+    leads_bind (λ end. AreNumbers count listed.limits.amount end.numbers) (AreNumbers count listed.limits.amount)
+    (each (one_own listed list) (record { named = 0; numbers = numbers }) entries) _
+    (entries_lead (new_own listed list.firm list.side) (list_place list) count listed.limits.amount (record {
+      named =
+          0;
+      numbers = numbers;
+    }) entries are) (λ end so.
     leads_ok (AreNumbers count listed.limits.amount) end.numbers so))
 
-module _ (listed : Listed) (trades : AreTrades listed) (list : OwnList) (few : length (sides_of listed.ends list.firm) ≤ most_own_trades) (plain : IsPlainPlace (list_place list)) where
+module _ (listed : Listed) (trades : AreTrades listed) (list : OwnList) (few : length (sides_of listed.ends list.firm)
+    ≤ most_own_trades) (plain : IsPlainPlace (list_place list)) where
   own_refers : RefersPlainly (length (sides_of listed.ends list.firm)) (new_own listed list.firm list.side)
   own_refers = record {
     stops = λ place named value at. new_own_stops place at listed list.firm list.side named value;
@@ -34,7 +42,9 @@ module _ (listed : Listed) (trades : AreTrades listed) (list : OwnList) (few : l
   pub own_numbers_stop : (numbers : List ℤ) (value : Option Data) → StopsPlainly (own_numbers listed list numbers value)
   unfolding own_numbers
   own_numbers_stop numbers value =
-      stops_bind IsPlain (optional_list_at (list_place list) value) _ (optional_list_stops (list_place list) plain value) (λ entries.
+      stops_bind IsPlain (optional_list_at (list_place list) value) _
+      (optional_list_stops (list_place list) plain value) (λ entries.
       stops_bind IsPlain (each (one_own listed list) (record { named = 0; numbers = numbers }) entries) _
-      (entries_stop (length (sides_of listed.ends list.firm)) (omega (arith, few)) (new_own listed list.firm list.side) own_refers (list_place list) plain listed.limits.amount numbers entries) (λ end.
+      (entries_stop (length (sides_of listed.ends list.firm)) (omega (arith, few)) (new_own listed list.firm list.side)
+      own_refers (list_place list) plain listed.limits.amount numbers entries) (λ end.
       stops_ok IsPlain end.numbers))

@@ -5,7 +5,8 @@ use Rattle.std.specs.List.{slice_index_or}
 use Rattle.tn_exchange.specs.Rows.{TableRows, HasRow, row_at, with_row}
 use Rattle.tn_read_firms.specs.Tables.{filled}
 
-pub filled-set : (rows : List (Option ℤ)) (x : ℕ) (amount : ℤ) → x < length rows → slice_index_or rows x None ≡ None → filled (slice_set rows x (Some amount)) ≡ suc (filled rows)
+pub filled-set : (rows : List (Option ℤ)) (x : ℕ) (amount : ℤ) → x < length rows → slice_index_or rows x None ≡ None
+    → filled (slice_set rows x (Some amount)) ≡ suc (filled rows)
 filled-set [] x amount h e = absurd (omega (arith, h))
 filled-set (None ∷ rows) zero amount h e = refl
 filled-set (Some a ∷ rows) zero amount h e = absurd cc
@@ -22,8 +23,10 @@ filled-none zero = refl
 filled-none (suc n) = filled-none n
 
 -- a row for a bundle that had none
-pub filled-added : (table : TableRows) (new : TableRows) (x : ℕ) (amount : ℤ) → x < length table.rows → (HasRow table x → ⊥) → new ≡ with_row table x amount → filled new.rows ≡ filled table.rows + 1
-filled-added table new x amount h none is = ap (λ (t : TableRows). filled t.rows) is ∙ filled-set table.rows x amount h (absent (row_at table.rows x) none) ∙ sym (add-one (filled table.rows))
+pub filled-added : (table : TableRows) (new : TableRows) (x : ℕ) (amount : ℤ) → x < length table.rows
+    → (HasRow table x → ⊥) → new ≡ with_row table x amount → filled new.rows ≡ filled table.rows + 1
+filled-added table new x amount h none is = ap (λ (t : TableRows). filled t.rows) is
+    ∙ filled-set table.rows x amount h (absent (row_at table.rows x) none) ∙ sym (add-one (filled table.rows))
   where
     absent : (row : Option ℤ) → (IsSome row → ⊥) → row ≡ None
     absent None none = refl

@@ -38,19 +38,28 @@ pub record IsTableOf (trades : List Ends) (f : ℕ) (table : TableRows) : Type 0
   pub is : firm_of_table table ≡ table_firm (sides_of trades f) rows
 
 -- one row more, for a bundle that has none yet
-row_in-append_none : (rows : List (ℕ × ℤ)) (next : ℕ × ℤ) (x : ℕ) → row_in rows x ≡ None → next.0 ≢ x → row_in (rows ++ next ∷ []) x ≡ None
+row_in-append_none : (rows : List (ℕ × ℤ)) (next : ℕ × ℤ) (x : ℕ) → row_in rows x ≡ None → next.0 ≢ x
+    → row_in (rows ++ next ∷ []) x ≡ None
 row_in-append_none [] next x none differ = rw (ne_eqb next.0 x differ) refl
 row_in-append_none (row ∷ rows) next x none differ = by_test (nat_eq row.0 x) none (row_in-append_none rows next x)
   where
-    by_test : (b : Bool) → cond b (Some row.1) (row_in rows x) ≡ None → (row_in rows x ≡ None → next.0 ≢ x → row_in (rows ++ next ∷ []) x ≡ None) → cond b (Some row.1) (row_in (rows ++ next ∷ []) x) ≡ None
+    by_test : (b : Bool) → cond b (Some row.1) (row_in rows x) ≡ None
+        → (row_in rows x ≡ None → next.0 ≢ x → row_in (rows ++ next ∷ []) x ≡ None)
+        → cond b (Some row.1) (row_in (rows ++ next ∷ []) x) ≡ None
     by_test true none rest = absurd (cc)
     by_test false none rest = rest none differ
 
-apart_push : (n : ℕ) (rows : List (ℕ × ℤ)) (next : ℕ × ℤ) → AreApart n rows → next.0 < 2 ^ n → row_in rows next.0 ≡ None → AreApart n (rows ++ next ∷ [])
+apart_push : (n : ℕ) (rows : List (ℕ × ℤ)) (next : ℕ × ℤ) → AreApart n rows → next.0 < 2 ^ n → row_in rows next.0 ≡ None
+    → AreApart n (rows ++ next ∷ [])
 apart_push n [] next apart own none = (own, refl, tt)
 apart_push n (row ∷ rows) next apart own none =
-    let differ : next.0 ≢ row.0 = λ same. not_there (ap (λ b. cond b (Some row.1) (row_in rows next.0)) (sym (eq-eqb row.0 next.0 (sym same))) ∙ none) in
-    (apart.0, row_in-append_none rows next row.0 apart.1 differ, apart_push n rows next apart.2 own (rest (nat_eq row.0 next.0) none))
+    let differ : next.0 ≢ row.0 =
+    λ same. not_there (ap (λ b. cond b (Some row.1) (row_in rows next.0)) (sym (eq-eqb row.0 next.0 (sym same)))
+    ∙ none) in (
+      apart.0,
+      row_in-append_none rows next row.0 apart.1 differ,
+      apart_push n rows next apart.2 own (rest (nat_eq row.0 next.0) none),
+    )
   where
     not_there : Some row.1 ≡ None → ⊥
     not_there e = absurd (cc)
@@ -63,10 +72,12 @@ pub none_from : (row : Option ℤ) → is_none row ≡ true → row ≡ None
 none_from None e = refl
 none_from (Some z) e = absurd (cc)
 
-full_leads : (f : ℕ) (table : TableRows) → length table.rows ≡ 2 ^ length table.sides → Leads (λ _. IsFullIfLarge (firm_of_table table)) (full_if_large f table)
+full_leads : (f : ℕ) (table : TableRows) → length table.rows ≡ 2 ^ length table.sides
+    → Leads (λ _. IsFullIfLarge (firm_of_table table)) (full_if_large f table)
 unfolding full_if_large
 full_leads f table places =
-    leads_as (λ _. (nat_le (length table.sides) 10 || has_each_row table.rows) ≡ true) (λ _. IsFullIfLarge (firm_of_table table)) _ (λ u met. full_from_test table places met)
+    leads_as (λ _. (nat_le (length table.sides) 10 || has_each_row table.rows) ≡ true)
+    (λ _. IsFullIfLarge (firm_of_table table)) _ (λ u met. full_from_test table places met)
     (leads_holds Limit (firm_place f ++ Word RowsWord ∷ []) (nat_le (length table.sides) 10 || has_each_row table.rows))
 
 module _ (listed : Listed) (trades : AreTrades listed) (f : ℕ) where
@@ -79,9 +90,12 @@ module _ (listed : Listed) (trades : AreTrades listed) (f : ℕ) where
   unfolding row_of
   row_leads r row =
       leads_after IsOwnRow (two_at (row_place f r) row) _ (λ two.
-      leads_bind (λ b. b < 2 ^ length (sides_of listed.ends f)) IsOwnRow (bundle_at listed f (row_place f r ++ Index 0 ∷ []) (Some two.0)) _
+      leads_bind (λ b. b < 2 ^ length (sides_of listed.ends f)) IsOwnRow
+      (bundle_at listed f (row_place f r ++ Index 0 ∷ []) (Some two.0)) _
       (bundle_leads listed trades f (row_place f r ++ Index 0 ∷ []) (Some two.0)) (λ b own.
-      leads_bind (λ z. IsAtMost z most_amount) IsOwnRow (number_at listed.limits.amount (row_place f r ++ Index 1 ∷ []) two.1) _ (number_within listed.limits.amount most_amount trades.limits.amount (row_place f r ++ Index 1 ∷ []) (Some two.1))
+      leads_bind (λ z. IsAtMost z most_amount) IsOwnRow (number_at listed.limits.amount (row_place f r ++ Index 1 ∷ [])
+      two.1) _ (number_within listed.limits.amount most_amount trades.limits.amount (row_place f r ++ Index 1 ∷ [])
+      (Some two.1))
       (λ z small. leads_ok IsOwnRow (b, z) (record { own = own; small = small }))))
 
   -- the rows so far
@@ -93,7 +107,8 @@ module _ (listed : Listed) (trades : AreTrades listed) (f : ℕ) where
     pub apart : AreApart (length (sides_of listed.ends f)) listed_rows
     pub made : IsMadeOf rows.table listed_rows
 
-  pub rows_start : length (sides_of listed.ends f) ≤ most_own_of_table → AreRows (record { count = 0; table = without_rows (sides_of listed.ends f) })
+  pub rows_start : length (sides_of listed.ends f) ≤ most_own_of_table
+      → AreRows (record { count = 0; table = without_rows (sides_of listed.ends f) })
   rows_start few = record {
     sides = refl;
     few = few;
@@ -107,12 +122,17 @@ module _ (listed : Listed) (trades : AreTrades listed) (f : ℕ) where
   unfolding one_row
   one_row_leads rows row kept =
       leads_bind IsOwnRow AreRows (row_of listed f rows.count row) _ (row_leads rows.count row) (λ next is_own.
-      leads_bind (λ _. is_none (row_at rows.table.rows next.0) ≡ true) AreRows (holds SameBundle (row_place f rows.count) (is_none (row_at rows.table.rows next.0))) _ (leads_holds SameBundle (row_place f rows.count) (is_none (row_at rows.table.rows next.0))) (λ u new.
-      leads_ok AreRows (record { count = rows.count + 1; table = with_row rows.table next.0 next.1 }) (more next is_own (none_from (row_at rows.table.rows next.0) new))))
+      leads_bind (λ _. is_none (row_at rows.table.rows next.0) ≡ true) AreRows
+      (holds SameBundle (row_place f rows.count) (is_none (row_at rows.table.rows next.0))) _
+      (leads_holds SameBundle (row_place f rows.count) (is_none (row_at rows.table.rows next.0))) (λ u new.
+      leads_ok AreRows (record { count = rows.count + 1; table = with_row rows.table next.0 next.1 })
+      (more next is_own (none_from (row_at rows.table.rows next.0) new))))
     where
-      more : (next : ℕ × ℤ) → IsOwnRow next → row_at rows.table.rows next.0 ≡ None → AreRows (record { count = rows.count + 1; table = with_row rows.table next.0 next.1 })
+      more : (next : ℕ × ℤ) → IsOwnRow next → row_at rows.table.rows next.0 ≡ None
+          → AreRows (record { count = rows.count + 1; table = with_row rows.table next.0 next.1 })
       more next is_own none =
-          let own : next.0 < 2 ^ length rows.table.sides = subst (λ (s : List Side). next.0 < 2 ^ length s) (sym kept.sides) is_own.own in
+          let own : next.0 < 2 ^ length rows.table.sides =
+          subst (λ (s : List Side). next.0 < 2 ^ length s) (sym kept.sides) is_own.own in
           let absent : row_in kept.listed_rows next.0 ≡ None = sym (kept.made next.0) ∙ none in
           record {
             sides = kept.sides;
@@ -120,16 +140,27 @@ module _ (listed : Listed) (trades : AreTrades listed) (f : ℕ) where
             within = limits_with_row rows.table kept.within next.0 next.1 own is_own.small;
             listed_rows = kept.listed_rows ++ next ∷ [];
             apart = apart_push (length (sides_of listed.ends f)) kept.listed_rows next kept.apart is_own.own absent;
-            made = made_with_row rows.table kept.listed_rows next.0 next.1 (subst (λ m. next.0 < m) (sym kept.within.places) own) absent kept.made;
+            made = made_with_row rows.table kept.listed_rows next.0 next.1
+                (subst (λ m. next.0 < m) (sym kept.within.places) own) absent kept.made;
           }
 
-  pub rows_lead : (items : Items) → length (sides_of listed.ends f) ≤ most_own_of_table → Leads (IsTableOf listed.ends f) (rows_of listed f items)
+  pub rows_lead : (items : Items) → length (sides_of listed.ends f) ≤ most_own_of_table
+      → Leads (IsTableOf listed.ends f) (rows_of listed f items)
   unfolding rows_of
   rows_lead items few =
-      leads_bind AreRows (IsTableOf listed.ends f) (each (one_row listed f) (record { count = 0; table = without_rows (sides_of listed.ends f) }) items) _
-      (leads_each AreRows (one_row listed f) one_row_leads (record { count = 0; table = without_rows (sides_of listed.ends f) }) items (rows_start few))
+      leads_bind AreRows (IsTableOf listed.ends f) (each (one_row listed f) (record {
+        count = 0;
+        table =
+            without_rows (sides_of listed.ends f);
+      }) items) _
+      (leads_each AreRows (one_row listed f) one_row_leads (record {
+        count = 0;
+        table =
+            without_rows (sides_of listed.ends f);
+      }) items (rows_start few))
       (λ rows kept.
-      leads_bind (λ _. IsFullIfLarge (firm_of_table rows.table)) (IsTableOf listed.ends f) (full_if_large f rows.table) _ (full_leads f rows.table kept.within.places) (λ u full.
+      leads_bind (λ _. IsFullIfLarge (firm_of_table rows.table)) (IsTableOf listed.ends f) (full_if_large f rows.table)
+      _ (full_leads f rows.table kept.within.places) (λ u full.
       leads_ok (IsTableOf listed.ends f) rows.table (record {
         sides = kept.sides;
         few = kept.few;
@@ -137,9 +168,13 @@ module _ (listed : Listed) (trades : AreTrades listed) (f : ℕ) where
         within = kept.within;
         rows = kept.listed_rows;
         apart = kept.apart;
-        is = made_firm rows.table kept.listed_rows kept.within.places kept.made ∙ ap (λ (s : List Side). table_firm s kept.listed_rows) kept.sides;
+        is = made_firm rows.table kept.listed_rows kept.within.places kept.made
+            ∙ ap (λ (s : List Side). table_firm s kept.listed_rows) kept.sides;
       })))
 
-  pub table_leads : (firm : Data) → length (sides_of listed.ends f) ≤ most_own_of_table → Leads (IsTableOf listed.ends f) (table_of listed f firm)
+  pub table_leads : (firm : Data) → length (sides_of listed.ends f) ≤ most_own_of_table
+      → Leads (IsTableOf listed.ends f) (table_of listed f firm)
   unfolding table_of
-  table_leads firm few = leads_after (IsTableOf listed.ends f) (list_at (firm_place f ++ Word RowsWord ∷ []) (get (codes "rows") firm)) _ (λ items. rows_lead items few)
+  table_leads firm few =
+      leads_after (IsTableOf listed.ends f) (list_at (firm_place f ++ Word RowsWord ∷ []) (get (codes "rows") firm)) _
+      (λ items. rows_lead items few)

@@ -23,10 +23,20 @@ use Rattle.tn_read_firms.specs.FirstFailure.{first_failure}
 
 -- a triple of firm f, which has so many own trades, in trade numbers
 abbrev pub shown_of : List Ends → ℕ → ℕ → Triple → Shown
-shown_of trades f count t = record { x = trades_of trades f count t.x; y = trades_of trades f count t.y; at = option_map (own trades f) t.at }
+shown_of trades f count t = record {
+  x = trades_of trades f count t.x;
+  y = trades_of trades f count t.y;
+  at =
+      option_map (own trades f) t.at;
+}
 
 abbrev pub failure_of : List Ends → ℕ → ℕ → Triple → Fault
-failure_of trades f count t = record { kind = ExchangeFails; place = firm_place f; shown = Some (shown_of trades f count t) }
+failure_of trades f count t = record {
+  kind = ExchangeFails;
+  place = firm_place f;
+  shown =
+      Some (shown_of trades f count t);
+}
 
 abbrev pub unless_failing : List Ends → ℕ → ℕ → Option Triple → Result (Unit {0}) Fault
 unless_failing trades f count None = Ok tt

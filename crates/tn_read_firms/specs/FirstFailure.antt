@@ -1,6 +1,6 @@
--- The first triple of a table that fails the exchange property: the first failing one in the order of the test, of all or,
--- for a table of more than 10 own trades, of those with close bundles. Whether one triple fails is decided, so that it can
--- be searched for.
+-- The first triple of a table that fails the exchange property: the first failing one in the order of the test, of all
+-- or, for a table of more than 10 own trades, of those with close bundles. Whether one triple fails is decided, so that
+-- it can be searched for.
 use Rattle.std.specs.Prelude.{◌≡◌, ℕ, zero, suc, ◌^◌, ◌==◌, nat_le, length, Bool, ◌||◌, if◌then◌else◌, Option, Some, None}
 use Rattle.std.proofs.Common.{inl, inr}
 use Rattle.tn_base.specs.Exchange.{NoneFails}
@@ -32,11 +32,13 @@ if_decided (inr holds) t = None
 
 -- the triple, if it fails
 abbrev pub failing : TableRows → ℕ → ℕ → Option ℕ → Option Triple
-failing table x y at = if_decided (fails_or_not table (record { x = x; y = y; at = at })) (record { x = x; y = y; at = at })
+failing table x y at =
+    if_decided (fails_or_not table (record { x = x; y = y; at = at })) (record { x = x; y = y; at = at })
 
 -- positions go up, and none comes last
 abbrev pub failing_at_pair : TableRows → ℕ → ℕ → Option Triple
-failing_at_pair table x y = or_else (first_below (λ i. failing table x y (Some i)) (length table.sides)) (failing table x y None)
+failing_at_pair table x y =
+    or_else (first_below (λ i. failing table x y (Some i)) (length table.sides)) (failing table x y None)
 
 -- a pair of bundles of a table is looked at: any one where there are few own trades, and otherwise a close one
 abbrev pub is_looked_at : TableRows → ℕ → ℕ → Bool
@@ -58,4 +60,5 @@ pub record IsTheFirstFailure : Type 0 where
   pub found : (table : TableRows) (t : Triple) → IsFirstTriple (firm_of_table table) t → first_failure table ≡ Some t
   pub none : (table : TableRows) → NoneFails (firm_of_table table) → first_failure table ≡ None
   pub first : (table : TableRows) (t : Triple) → first_failure table ≡ Some t → IsFirstTriple (firm_of_table table) t
-  pub holds : (table : TableRows) → IsFullIfLarge (firm_of_table table) → first_failure table ≡ None → NoneFails (firm_of_table table)
+  pub holds : (table : TableRows) → IsFullIfLarge (firm_of_table table) → first_failure table ≡ None
+      → NoneFails (firm_of_table table)

@@ -19,7 +19,10 @@ use Rattle.tn_read_references.specs.References.{firm_place}
 
 -- the kind that a text names
 abbrev pub kind_named : List ℕ → Option FirmKind
-kind_named text = if bytes_eq text (codes "table") then Some Table else (if bytes_eq text (codes "laminar") then Some Laminar else (if bytes_eq text (codes "middleman") then Some Middleman else (if bytes_eq text (codes "dealer") then Some Dealer else None)))
+kind_named text = if bytes_eq text (codes "table") then Some Table
+    else (if bytes_eq text (codes "laminar") then Some Laminar
+    else (if bytes_eq text (codes "middleman") then Some Middleman
+    else (if bytes_eq text (codes "dealer") then Some Dealer else None)))
 
 -- the kind of firm f
 unfoldable pub kind_of : ℕ → Data → Result FirmKind Fault

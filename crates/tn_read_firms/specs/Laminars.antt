@@ -78,7 +78,8 @@ bends before number after = int_lt (pos 2 *ℤ number) (before +ℤ after)
 
 -- the first such number's place in a list whose first number has place k
 abbrev pub first_bend : ℕ → List ℤ → Option ℕ
-first_bend k (before ∷ number ∷ after ∷ numbers) = if bends before number after then Some (k + 1) else first_bend (k + 1) (number ∷ after ∷ numbers)
+first_bend k (before ∷ number ∷ after ∷ numbers) = if bends before number after then Some (k + 1)
+    else first_bend (k + 1) (number ∷ after ∷ numbers)
 first_bend k _ = None
 
 abbrev pub unless_bent : ℕ → ℕ → Option ℕ → Result (Unit {0}) Fault
@@ -94,7 +95,8 @@ IsRefusal f OutOfMemoryIs e = e ≡ OutOfMemory
 
 -- two sets have a member in common, and neither contains the other
 abbrev pub crosses : LaminarSet → LaminarSet → Bool
-crosses set other = not (meet other.members set.members == 0) && not (minus other.members set.members == 0) && not (minus set.members other.members == 0)
+crosses set other = not (meet other.members set.members == 0) && not (minus other.members set.members == 0)
+    && not (minus set.members other.members == 0)
 
 -- a set after earlier ones has a number at 0, is concave and crosses none of them
 unfoldable pub check_set : ℕ → List LaminarSet → LaminarSet → Result (Unit {0}) Fault

@@ -18,8 +18,8 @@ use Rattle.tn_plain_data.specs.Limits.{most_own_of_table, most_own_trades, most_
 use Rattle.tn_plain_data.specs.declared.ends.Ends.{Ends}
 use Rattle.tn_read_references.specs.Ordered.{sides_of}
 
--- firm f is a list of numbers for bundles of its own trades, no bundle twice, each number within the limit of amounts; with more than 10 own
--- trades every bundle is possible
+-- firm f is a list of numbers for bundles of its own trades, no bundle twice, each number within the limit of amounts;
+-- with more than 10 own trades every bundle is possible
 pub record IsTableFirm (trades : List Ends) (f : ℕ) (firm : Firm) : Type 0 where
   pub rows : List (ℕ × ℤ)
   pub apart : AreApart (length (sides_of trades f)) rows

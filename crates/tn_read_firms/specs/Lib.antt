@@ -1,3 +1,4 @@
+-- The files of definitions of this crate.
 pub mod OwnNumbers
 pub mod Tables
 pub mod Laminars

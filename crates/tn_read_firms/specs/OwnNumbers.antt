@@ -18,10 +18,12 @@ list_place list = Word Firms ∷ Index list.firm ∷ list.member ∷ []
 
 -- the position and the number of an entry, and the numbers with one more entry
 abbrev pub own_entry : Listed → OwnList → ℕ → Data → Result (ℕ × ℤ) Fault
-own_entry listed list named entry = entry_of (new_own listed list.firm list.side) (list_place list) listed.limits.amount named entry
+own_entry listed list named entry =
+    entry_of (new_own listed list.firm list.side) (list_place list) listed.limits.amount named entry
 
 abbrev pub one_own : Listed → OwnList → Numbered → Data → Result Numbered Fault
-one_own listed list numbered entry = one_entry (new_own listed list.firm list.side) (list_place list) listed.limits.amount numbered entry
+one_own listed list numbered entry =
+    one_entry (new_own listed list.firm list.side) (list_place list) listed.limits.amount numbered entry
 
 -- an own trade that no entry names has the number 0
 abbrev pub no_numbers : List Ends → ℕ → List ℤ

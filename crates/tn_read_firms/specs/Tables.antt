@@ -49,7 +49,8 @@ has_each_row (empty ∷ rows) = are_filled rows
 
 -- a table of more than 10 own trades has a row for every bundle that isn't empty
 unfoldable pub full_if_large : ℕ → TableRows → Result (Unit {0}) Fault
-full_if_large f table = holds Limit (firm_place f ++ Word RowsWord ∷ []) (nat_le (length table.sides) 10 || has_each_row table.rows)
+full_if_large f table =
+    holds Limit (firm_place f ++ Word RowsWord ∷ []) (nat_le (length table.sides) 10 || has_each_row table.rows)
 
 -- the rows of firm f
 unfoldable pub rows_of : Listed → ℕ → Items → Result TableRows Fault

@@ -1,3 +1,5 @@
+//! The fault of a table that doesn't meet exchange.
+
 ghost use Rattle.std.specs.Prelude.{◌≡◌, ◌≤◌, length, option_map, IfOk};
 ghost use Rattle.tn_exchange.specs.TestOrder.{Triple};
 ghost use Rattle.tn_plain_data.specs.Limits.{most_trades};

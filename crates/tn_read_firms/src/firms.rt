@@ -1,3 +1,5 @@
+//! Reads the firms in their order.
+
 ghost use Rattle.std.specs.Prelude.{ℕ, ◌<◌, ◌≤◌, [], length, map, All, IfOk};
 ghost use Rattle.serde_json.specs.View.{view, items_view};
 ghost use Rattle.tn_exchange.specs.Rows.{firm_of_table};

@@ -1,3 +1,5 @@
+//! Reads the kind of a firm.
+
 ghost use Rattle.std.specs.Prelude.{◌≡◌, ◌≤◌, length, OnOk};
 ghost use Rattle.serde_json.specs.View.{view};
 ghost use Rattle.tn_read_firms.specs.Kinds.{frame_of, kind_named, kind_of, most_own, room_for};

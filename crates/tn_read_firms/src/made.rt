@@ -1,3 +1,5 @@
+//! Firms that can be made of what was read of each kind.
+
 ghost use Rattle.std.specs.Prelude.{◌≡◌, ◌≤◌, Bool, length, IfOk};
 ghost use Rattle.tn_base.specs.Firm.{Firm};
 ghost use Rattle.tn_laminar.specs.Firms.{firm_of as laminar_firm_of};

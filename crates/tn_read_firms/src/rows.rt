@@ -1,3 +1,5 @@
+//! Reads the rows of a table.
+
 ghost use Rattle.std.specs.Prelude.{◌≡◌, ◌+◌, ◌^◌, ◌<◌, ◌≤◌, length, IfOk, OnOk};
 ghost use Rattle.serde_json.specs.View.{view, items_view};
 ghost use Rattle.tn_base.specs.Arcs.{IsAtMost};
@@ -18,8 +20,8 @@ use tn_read_references::{Head, OwnPart, PartAt, own_bundle, sides_of};
 use tn_shape::steps::{FIRMS, ROWS};
 use tn_shape::{ReadError, fault, number, require, two};
 
-/// The table of the rows of firm `f`, which has at most 14 own trades. With more than 10, every bundle that isn't empty has
-/// a row.
+/// The table of the rows of firm `f`, which has at most 14 own trades. With more than 10, every bundle that isn't empty
+/// has a row.
 #[tactic(auto, unfolding(crate::specs::Tables::rows_of))]
 pub(crate) fn read_rows(
     alloc: Global,

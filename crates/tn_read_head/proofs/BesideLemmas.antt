@@ -13,17 +13,22 @@ use Rattle.tn_shape.proofs.LeadLemmas.{Leads, leads_ok}
 use Rattle.tn_shape.proofs.EachLemmas.{each_stops_at}
 use Rattle.tn_shape.proofs.StopLemmas.{Stops, stops_ok, stops_err}
 
-pub each_fails_beside : {A : Type 0} (step : A → Data → Result A Stop) (names : NameLists) (e : ReadError) (vs : List Value) (k : ℕ) (d : Value) (found : A) (total : Result A Stop) → k < length vs
+pub each_fails_beside : {A : Type 0} (step : A → Data
+    → Result A Stop) (names : NameLists) (e : ReadError) (vs : List Value) (k : ℕ) (d : Value) (found : A)
+    (total : Result A Stop) → k < length vs
     → FailsBeside names e (step found (view (get_or vs k d)))
     → each step found (items_view (drop k vs)) ≡ total → FailsBeside names e total
 each_fails_beside step names OutOfMemory vs k d found total h fails so_far = tt
-each_fails_beside step names (FaultIs f) vs k d found total h fails so_far = each_stops_at step vs k d found (record { fault = f; names = names }) total h fails so_far
+each_fails_beside step names (FaultIs f) vs k d found total h fails so_far =
+    each_stops_at step vs k d found (record { fault = f; names = names }) total h fails so_far
 
-pub leads_beside : {A : Type 0} (P : A → Type 0) (names : NameLists) (r : Result A Fault) → Leads P r → Leads P (with_names names r)
+pub leads_beside : {A : Type 0} (P : A → Type 0) (names : NameLists) (r : Result A Fault) → Leads P r
+    → Leads P (with_names names r)
 leads_beside P names (Ok x) first = leads_ok P x (first.at x refl)
 leads_beside P names (Err e) first = record { at = λ y e. absurd (cc) }
 
 -- a stop beside names
-pub stops_beside : {A : Type 0} (Q : Stop → Type 0) (R : Fault → Type 0) (names : NameLists) (r : Result A Fault) → ((f : Fault) → R f → Q (record { fault = f; names = names })) → Stops R r → Stops Q (with_names names r)
+pub stops_beside : {A : Type 0} (Q : Stop → Type 0) (R : Fault → Type 0) (names : NameLists) (r : Result A Fault)
+    → ((f : Fault) → R f → Q (record { fault = f; names = names })) → Stops R r → Stops Q (with_names names r)
 stops_beside Q R names (Ok x) turn first = stops_ok Q x
 stops_beside Q R names (Err f) turn first = stops_err Q (record { fault = f; names = names }) (turn f (first.at f refl))

@@ -26,8 +26,11 @@ use Rattle.tn_shape.proofs.ShapeLeads.{few_lead}
 pub limits_lead : (top : Data) → Leads AreLimits (limits_at top)
 unfolding limits_at
 limits_lead top =
-    leads_after _ (wanted Shape (Word Version ∷ []) (option_and_then as_u64 (option_and_then as_number (get (codes "version") top)))) _ (λ version.
-    leads_as (λ limits. limits_of version ≡ Some limits) AreLimits _ (limits_are version) (leads_wanted Shape (Word Version ∷ []) (limits_of version)))
+    leads_after _
+    (wanted Shape (Word Version ∷ []) (option_and_then as_u64
+    (option_and_then as_number (get (codes "version") top)))) _ (λ version.
+    leads_as (λ limits. limits_of version ≡ Some limits) AreLimits _ (limits_are version)
+    (leads_wanted Shape (Word Version ∷ []) (limits_of version)))
 
 -- the head of a document with so many firms
 pub record IsListing (found : Listed × Items) : Type 0 where
@@ -37,7 +40,8 @@ pub record IsListing (found : Listed × Items) : Type 0 where
   pub count : length found.0.names.firms ≡ items_len found.1
   pub few : items_len found.1 ≤ most_listed
 
-is_listing : (limits : Limits) (names : NameLists) (firms : Items) (trades : Items) (named : NamedTrades) → AreLimits limits
+is_listing : (limits : Limits) (names : NameLists) (firms : Items) (trades : Items) (named : NamedTrades)
+    → AreLimits limits
     → items_len firms ≤ limits.firms → IsListWhileFew names.firms → length names.firms ≡ items_len firms
     → items_len trades ≤ limits.trades → AreListed names.firms named → length named.ends ≡ items_len trades
     → IsListing (record { limits = limits; names = named.names; ends = named.ends }, firms)
@@ -61,11 +65,25 @@ pub listed_leads : (top : Data) → Leads IsListing (listed_of top)
 unfolding listed_of
 listed_leads top =
     leads_after IsListing (with_names no_names (object_of Top [] (Some top))) _ (λ object.
-    leads_bind AreLimits IsListing (with_names no_names (limits_at top)) _ (leads_beside _ no_names (limits_at top) (limits_lead top)) (λ limits are_limits.
-    leads_bind (λ items. items_len items ≤ limits.firms) IsListing (with_names no_names (few_at limits.firms (Word Firms ∷ []) (get (codes "firms") top))) _ (leads_beside _ no_names _ (few_lead limits.firms (Word Firms ∷ []) (get (codes "firms") top))) (λ firms few_firms.
-    leads_bind (λ end. (IsListWhileFew end.firms × (end.trades ≡ [])) × (length end.firms ≡ 0 + items_len firms)) IsListing (each one_firm_name no_names firms) _
+    leads_bind AreLimits IsListing (with_names no_names (limits_at top)) _
+    (leads_beside _ no_names (limits_at top) (limits_lead top)) (λ limits are_limits.
+    leads_bind (λ items. items_len items ≤ limits.firms) IsListing
+    (with_names no_names (few_at limits.firms (Word Firms ∷ []) (get (codes "firms") top))) _
+    (leads_beside _ no_names _ (few_lead limits.firms (Word Firms ∷ []) (get (codes "firms") top)))
+    (λ firms few_firms.
+    leads_bind (λ end. (IsListWhileFew end.firms × (end.trades ≡ []))
+    × (length end.firms ≡ 0 + items_len firms)) IsListing (each one_firm_name no_names firms) _
     (leads_both _ _ _ (firms_lead no_names firms refl refl) (firms_count no_names firms)) (λ names are_names.
-    leads_bind (λ items. items_len items ≤ limits.trades) IsListing (with_names names (few_at limits.trades (Word Trades ∷ []) (get (codes "trades") top))) _ (leads_beside _ names _ (few_lead limits.trades (Word Trades ∷ []) (get (codes "trades") top))) (λ trades few_trades.
-    leads_bind (λ end. AreListed names.firms end × (length end.ends ≡ 0 + items_len trades)) IsListing (each one_trade (record { names = names; ends = [] }) trades) _
-    (leads_both _ _ _ (trades_lead names trades are_names.0.1) (trades_count (record { names = names; ends = [] }) trades)) (λ named are.
-    leads_ok IsListing (record { limits = limits; names = named.names; ends = named.ends }, firms) (is_listing limits names firms trades named are_limits few_firms are_names.0.0 (are_names.1 ∙ omega arith) few_trades are.0 (are.1 ∙ omega arith))))))))
+    leads_bind (λ items. items_len items ≤ limits.trades) IsListing
+    (with_names names (few_at limits.trades (Word Trades ∷ []) (get (codes "trades") top))) _
+    (leads_beside _ names _ (few_lead limits.trades (Word Trades ∷ []) (get (codes "trades") top)))
+    (λ trades few_trades.
+    leads_bind (λ end. AreListed names.firms end × (length end.ends ≡ 0 + items_len trades)) IsListing
+    (each one_trade (record { names = names; ends = [] }) trades) _
+    (leads_both _ _ _ (trades_lead names trades are_names.0.1)
+    (trades_count (record { names = names; ends = [] }) trades)) (λ named are.
+    leads_ok IsListing (
+      record { limits = limits; names = named.names; ends = named.ends },
+      firms,
+    ) (is_listing limits names firms trades named are_limits few_firms are_names.0.0 (are_names.1
+    ∙ omega arith) few_trades are.0 (are.1 ∙ omega arith))))))))

@@ -24,37 +24,67 @@ module _ (place : List PlaceStep) (plain : IsPlainPlace place) where
   unfolding name_at
   name_stops value =
       stops_bind IsPlain (text_at place value) _ (text_stops place plain value) (λ name.
-      stops_bind IsPlain (holds BadName place (is_name name)) _ (plain_holds BadName place (is_name name) refl plain) (λ named. stops_ok IsPlain name))
+      stops_bind IsPlain (holds BadName place (is_name name)) _ (plain_holds BadName place (is_name name) refl plain)
+      (λ named. stops_ok IsPlain name))
 
   pub new_name_stops : (names : List (List ℕ)) (value : Option Data) → StopsPlainly (new_name names place value)
   unfolding new_name
   new_name_stops names value =
       stops_bind IsPlain (name_at place value) _ (name_stops value) (λ name.
-      stops_bind IsPlain (holds SameName place (not (has_name names name))) _ (plain_holds SameName place (not (has_name names name)) refl plain) (λ new. stops_ok IsPlain name))
+      stops_bind IsPlain (holds SameName place (not (has_name names name))) _
+      (plain_holds SameName place (not (has_name names name)) refl plain) (λ new. stops_ok IsPlain name))
 
 -- the name of a firm, and that of a trade
-pub firm_name_stops : (names : NameLists) (firm : Data) → length names.firms ≤ 16384 → StopsPlainly (firm_name names firm)
+pub firm_name_stops : (names : NameLists) (firm : Data) → length names.firms ≤ 16384
+    → StopsPlainly (firm_name names firm)
 unfolding firm_name
 firm_name_stops names firm few =
     let place = Word Firms ∷ Index (length names.firms) ∷ [] in
     stops_bind IsPlain (object_at place (Some firm)) _ (object_at_stops place (tt, (few, tt)) (Some firm)) (λ object.
-    stops_bind IsPlain (new_name names.firms (Word Firms ∷ Index (length names.firms) ∷ Word Name ∷ []) (get (codes "name") firm)) _
-    (new_name_stops (Word Firms ∷ Index (length names.firms) ∷ Word Name ∷ []) (tt, (few, (tt, tt))) names.firms (get (codes "name") firm)) (λ name.
+    stops_bind IsPlain (new_name names.firms (Word Firms ∷ Index (length names.firms) ∷ Word Name ∷ [])
+    (get (codes "name") firm)) _
+    (new_name_stops (Word Firms ∷ Index (length names.firms) ∷ Word Name ∷ []) (
+      tt,
+      (few, (tt, tt)),
+    ) names.firms (get (codes "name") firm)) (λ name.
     stops_ok IsPlain (with_firm names name)))
 
-pub trade_name_stops : (names : NameLists) (trade : Data) → length names.trades ≤ 16384 → StopsPlainly (trade_name names trade)
+pub trade_name_stops : (names : NameLists) (trade : Data) → length names.trades ≤ 16384
+    → StopsPlainly (trade_name names trade)
 unfolding trade_name
 trade_name_stops names trade few =
-    stops_bind IsPlain (object_of TradeObject (Word Trades ∷ Index (length names.trades) ∷ []) (Some trade)) _ (object_stops (Word Trades ∷ Index (length names.trades) ∷ []) (tt, (few, tt)) TradeObject (Some trade)) (λ object.
-    stops_bind IsPlain (new_name names.trades (Word Trades ∷ Index (length names.trades) ∷ Word Name ∷ []) (get (codes "name") trade)) _
-    (new_name_stops (Word Trades ∷ Index (length names.trades) ∷ Word Name ∷ []) (tt, (few, (tt, tt))) names.trades (get (codes "name") trade)) (λ name.
+    stops_bind IsPlain (object_of TradeObject (Word Trades ∷ Index (length names.trades) ∷ []) (Some trade)) _
+    (object_stops (Word Trades ∷ Index (length names.trades) ∷ []) (tt, (few, tt)) TradeObject (Some trade))
+    (λ object.
+    stops_bind IsPlain (new_name names.trades (Word Trades ∷ Index (length names.trades) ∷ Word Name ∷ [])
+    (get (codes "name") trade)) _
+    (new_name_stops (Word Trades ∷ Index (length names.trades) ∷ Word Name ∷ []) (
+      tt,
+      (few, (tt, tt)),
+    ) names.trades (get (codes "name") trade)) (λ name.
     stops_ok IsPlain (with_trade names name)))
 
 -- the ends of a trade
-pub ends_stop : (firms : List (List ℕ)) (before : List Ends) (t : ℕ) (trade : Data) → t ≤ 16384 → StopsPlainly (ends_at firms before t trade)
+pub ends_stop : (firms : List (List ℕ)) (before : List Ends) (t : ℕ) (trade : Data) → t ≤ 16384
+    → StopsPlainly (ends_at firms before t trade)
 unfolding ends_at
 ends_stop firms before t trade few =
-    stops_bind IsPlain (firm_at firms (Word Trades ∷ Index t ∷ Word Seller ∷ []) (get (codes "seller") trade)) _ (firm_at_stops (Word Trades ∷ Index t ∷ Word Seller ∷ []) (tt, (few, (tt, tt))) firms (get (codes "seller") trade)) (λ seller.
-    stops_bind IsPlain (firm_at firms (Word Trades ∷ Index t ∷ Word Buyer ∷ []) (get (codes "buyer") trade)) _ (firm_at_stops (Word Trades ∷ Index t ∷ Word Buyer ∷ []) (tt, (few, (tt, tt))) firms (get (codes "buyer") trade)) (λ buyer.
-    stops_bind IsPlain (holds SelfTrade (Word Trades ∷ Index t ∷ []) (not (nat_eq seller buyer))) _ (plain_holds SelfTrade (Word Trades ∷ Index t ∷ []) (not (nat_eq seller buyer)) refl (tt, (few, tt))) (λ apart.
-    stops_ok IsPlain (record { seller = seller; buyer = buyer; at_seller = length (sides_of before seller); at_buyer = length (sides_of before buyer) }))))
+    stops_bind IsPlain (firm_at firms (Word Trades ∷ Index t ∷ Word Seller ∷ []) (get (codes "seller") trade)) _
+    (firm_at_stops (Word Trades ∷ Index t ∷ Word Seller ∷ []) (
+      tt,
+      (few, (tt, tt)),
+    ) firms (get (codes "seller") trade)) (λ seller.
+    stops_bind IsPlain (firm_at firms (Word Trades ∷ Index t ∷ Word Buyer ∷ []) (get (codes "buyer") trade)) _
+    (firm_at_stops (Word Trades ∷ Index t ∷ Word Buyer ∷ []) (
+      tt,
+      (few, (tt, tt)),
+    ) firms (get (codes "buyer") trade)) (λ buyer.
+    stops_bind IsPlain (holds SelfTrade (Word Trades ∷ Index t ∷ []) (not (nat_eq seller buyer))) _
+    (plain_holds SelfTrade (Word Trades ∷ Index t ∷ []) (not (nat_eq seller buyer)) refl (tt, (few, tt))) (λ apart.
+    stops_ok IsPlain (record {
+      seller = seller;
+      buyer = buyer;
+      at_seller = length (sides_of before seller);
+      at_buyer =
+          length (sides_of before buyer);
+    }))))

@@ -1,3 +1,4 @@
+-- The files of definitions of this crate.
 pub mod Beside
 pub mod Refused
 pub mod Naming

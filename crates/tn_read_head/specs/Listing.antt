@@ -19,7 +19,8 @@ use Rattle.tn_read_head.specs.Naming.{one_firm_name, one_trade}
 -- the limits of the document's version
 unfoldable pub limits_at : Data → Result Limits Fault
 limits_at top = do
-  version ← wanted Shape (Word Version ∷ []) (option_and_then as_u64 (option_and_then as_number (get (codes "version") top)))
+  version ← wanted Shape (Word Version ∷ []) (option_and_then as_u64
+      (option_and_then as_number (get (codes "version") top)))
   wanted Shape (Word Version ∷ []) (limits_of version)
 
 -- the head, and the list of the firms

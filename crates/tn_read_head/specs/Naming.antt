@@ -53,7 +53,13 @@ ends_at firms before t trade = do
   seller ← firm_at firms (Word Trades ∷ Index t ∷ Word Seller ∷ []) (get (codes "seller") trade)
   buyer ← firm_at firms (Word Trades ∷ Index t ∷ Word Buyer ∷ []) (get (codes "buyer") trade)
   apart ← holds SelfTrade (Word Trades ∷ Index t ∷ []) (not (seller == buyer))
-  Ok (record { seller = seller; buyer = buyer; at_seller = length (sides_of before seller); at_buyer = length (sides_of before buyer) })
+  Ok (record {
+    seller = seller;
+    buyer = buyer;
+    at_seller = length (sides_of before seller);
+    at_buyer =
+        length (sides_of before buyer);
+  })
 
 -- the names so far, and the ends of the trades so far
 pub record NamedTrades : Type 0 where

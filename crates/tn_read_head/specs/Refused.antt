@@ -12,7 +12,8 @@ abbrev pub refusal_of : NameLists → ReadError → DocRefusal
 refusal_of names (FaultIs fault) = Fault fault names
 refusal_of names OutOfMemoryIs = OutOfMemory
 
--- what a function returned, seen by view, is what reading gives, or the first fault beside the names, unless memory ran out
+-- what a function returned, seen by view, is what reading gives, or the first fault beside the names, unless memory ran
+-- out
 abbrev pub Reads : {X Y : Type 0} → (X → Y) → Result X DocRefusal → Result Y Stop → Type 0
 Reads view (Ok x) reading = reading ≡ Ok (view x)
 Reads view (Err (Fault fault names)) reading = reading ≡ Err (record { fault = fault; names = names })

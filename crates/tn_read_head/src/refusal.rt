@@ -1,3 +1,5 @@
+//! Why no document is read.
+
 ghost use Rattle.std.specs.Prelude.{◌≡◌};
 ghost use Rattle.tn_read_head.specs.declared.refusal.DocRefusal.TheVariants.{OutOfMemory};
 ghost use Rattle.tn_read_head.specs.Refused.{refusal_of};

@@ -27,7 +27,8 @@ module _ (trades : List (List ℕ)) where
       leads_after HasSet (wanted Shape (Word Arrangement ∷ []) (get (codes "arrangement") top)) _ (λ part.
       leads_after HasSet (object_of ArrangementObject (Word Arrangement ∷ []) (Some part)) _ (λ object.
       leads_after HasSet (list_at on_place (get (codes "on") part)) _ (λ references.
-      leads_bind (IsSetOf trades on_place) HasSet (each (one_on trades on_place) 0 references) _ (set_leads trades on_place references) (λ on below.
+      leads_bind (IsSetOf trades on_place) HasSet (each (one_on trades on_place) 0 references) _
+      (set_leads trades on_place references) (λ on below.
       leads_ok HasSet (part, on) below))))
 
   pub trades_on_leads : (top : Data) → Leads (IsSetOf trades on_place) (trades_on_of trades top)
@@ -36,12 +37,19 @@ module _ (trades : List (List ℕ)) where
       leads_bind HasSet (IsSetOf trades on_place) (on_of trades top) _ (on_leads top) (λ part below.
       leads_ok (IsSetOf trades on_place) part.1 below)
 
-pub arrangement_leads : (listed : Listed) → AreLimits listed.limits → (top : Data) → Leads (IsArrangement (length listed.names.trades)) (arrangement_of listed top)
+pub arrangement_leads : (listed : Listed) → AreLimits listed.limits → (top : Data)
+    → Leads (IsArrangement (length listed.names.trades)) (arrangement_of listed top)
 unfolding arrangement_of
 arrangement_leads listed limits top =
     let trades = listed.names.trades in
     let limit = listed.limits.price in
     leads_bind (HasSet trades) (IsArrangement (length trades)) (on_of trades top) _ (on_leads trades top) (λ part below.
     leads_after (IsArrangement (length trades)) (list_at prices_place (get (codes "prices") part.0)) _ (λ entries.
-    leads_bind (AreNumbers (length trades) limit) (IsArrangement (length trades)) (prices_of trades prices_place limit entries) _ (prices_lead trades prices_place limit entries) (λ prices are.
-    leads_ok (IsArrangement (length trades)) (record { on = part.1; prices = prices }) (record { on = below; count = are.count; small = all_within limit most_price prices limits.price are.small }))))
+    leads_bind (AreNumbers (length trades) limit) (IsArrangement (length trades))
+    (prices_of trades prices_place limit entries) _ (prices_lead trades prices_place limit entries) (λ prices are.
+    leads_ok (IsArrangement (length trades)) (record { on = part.1; prices = prices }) (record {
+      on = below;
+      count =
+          are.count;
+      small = all_within limit most_price prices limits.price are.small;
+    }))))

@@ -45,18 +45,31 @@ module _ (names : NameLists) where
 
   all_lead : (place : List PlaceStep) (value : Data) → Leads AreKnown (trade_or_all names.trades place value)
   unfolding trade_or_all
-  all_lead place value = leads_after AreKnown (text_at place (Some value)) _ (λ text. by_test (bytes_eq text all_trades))
+  all_lead place value =
+      leads_after AreKnown (text_at place (Some value)) _ (λ text. by_test (bytes_eq text all_trades))
     where
-      by_test : (stands_for_all : Bool) → Leads AreKnown (cond stands_for_all (Ok None) (trade_at names.trades place value >>= (λ t. Ok (Some t))))
+      by_test : (stands_for_all : Bool)
+          → Leads AreKnown (cond stands_for_all (Ok None) (trade_at names.trades place value >>= (λ t. Ok (Some t))))
       by_test true = leads_ok AreKnown None tt
-      by_test false = leads_bind (λ t. t < length names.trades) AreKnown (trade_at names.trades place value) _ (trade_leads names.trades place value) (λ t known. leads_ok AreKnown (Some t) known)
+      by_test false =
+          leads_bind (λ t. t < length names.trades) AreKnown (trade_at names.trades place value) _
+          (trade_leads names.trades place value) (λ t known. leads_ok AreKnown (Some t) known)
 
-  change_leads : (change : Change) (place : List PlaceStep) (value : Data) → Leads IsKnown (edit_of names change place value)
+  change_leads : (change : Change) (place : List PlaceStep) (value : Data)
+      → Leads IsKnown (edit_of names change place value)
   unfolding edit_of
-  change_leads Admit place value = leads_bind AreKnown IsKnown (trade_or_all names.trades place value) _ (all_lead place value) (λ t known. leads_ok IsKnown (admit_of t) (admit_known t known))
-  change_leads Bar place value = leads_bind AreKnown IsKnown (trade_or_all names.trades place value) _ (all_lead place value) (λ t known. leads_ok IsKnown (bar_of t) (bar_known t known))
-  change_leads Leave place value = leads_bind (λ f. f < length names.firms) IsKnown (firm_at names.firms place (Some value)) _ (firm_at_leads names.firms place (Some value)) (λ f known. leads_ok IsKnown (LeaveOf f) known)
-  change_leads Join place value = leads_bind (λ f. f < length names.firms) IsKnown (firm_at names.firms place (Some value)) _ (firm_at_leads names.firms place (Some value)) (λ f known. leads_ok IsKnown (JoinOf f) known)
+  change_leads Admit place value =
+      leads_bind AreKnown IsKnown (trade_or_all names.trades place value) _ (all_lead place value)
+      (λ t known. leads_ok IsKnown (admit_of t) (admit_known t known))
+  change_leads Bar place value =
+      leads_bind AreKnown IsKnown (trade_or_all names.trades place value) _ (all_lead place value)
+      (λ t known. leads_ok IsKnown (bar_of t) (bar_known t known))
+  change_leads Leave place value =
+      leads_bind (λ f. f < length names.firms) IsKnown (firm_at names.firms place (Some value)) _
+      (firm_at_leads names.firms place (Some value)) (λ f known. leads_ok IsKnown (LeaveOf f) known)
+  change_leads Join place value =
+      leads_bind (λ f. f < length names.firms) IsKnown (firm_at names.firms place (Some value)) _
+      (firm_at_leads names.firms place (Some value)) (λ f known. leads_ok IsKnown (JoinOf f) known)
 
   edit_leads : (k : ℕ) (entry : Data) → Leads IsKnown (edit_at names k entry)
   unfolding edit_at
@@ -66,25 +79,33 @@ module _ (names : NameLists) where
       leads_after IsKnown (wanted Shape (edit_place k ++ Index 0 ∷ []) (change_named text)) _ (λ change.
       change_leads change (edit_place k ++ Index 1 ∷ []) two.1)))
 
-  one_edit_leads : (edits : List Edit) (entry : Data) → All IsKnown edits → Leads (All IsKnown) (one_edit names edits entry)
+  one_edit_leads : (edits : List Edit) (entry : Data) → All IsKnown edits
+      → Leads (All IsKnown) (one_edit names edits entry)
   unfolding one_edit
   one_edit_leads edits entry known =
-      leads_bind IsKnown (All IsKnown) (edit_at names (length edits) entry) _ (edit_leads (length edits) entry) (λ edit is.
+      leads_bind IsKnown (All IsKnown) (edit_at names (length edits) entry) _ (edit_leads (length edits) entry)
+      (λ edit is.
       leads_ok (All IsKnown) (edits ++ edit ∷ []) (All-push IsKnown edits edit known is))
 
-  pub one_edit_counts : (edits : List Edit) (entry : Data) → Leads (λ next. length next ≡ length edits + 1) (one_edit names edits entry)
+  pub one_edit_counts : (edits : List Edit) (entry : Data)
+      → Leads (λ next. length next ≡ length edits + 1) (one_edit names edits entry)
   unfolding one_edit
   one_edit_counts edits entry =
       leads_after (λ next. length next ≡ length edits + 1) (edit_at names (length edits) entry) _ (λ edit.
       leads_ok (λ next. length next ≡ length edits + 1) (edits ++ edit ∷ []) (length-append edits (edit ∷ [])))
 
-pub edits_lead : (listed : Listed) → AreLimits listed.limits → (top : Data) → Leads (AreEdits (length listed.names.firms) (length listed.names.trades)) (edits_of listed top)
+pub edits_lead : (listed : Listed) → AreLimits listed.limits → (top : Data)
+    → Leads (AreEdits (length listed.names.firms) (length listed.names.trades)) (edits_of listed top)
 unfolding edits_of
 edits_lead listed limits top =
     let names = listed.names in
     let limit = listed.limits.edits in
-    leads_bind (λ items. items_len items ≤ limit) (AreEdits (length names.firms) (length names.trades)) (few_at limit (Word Edits ∷ []) (get (codes "edits") top)) _ (few_lead limit (Word Edits ∷ []) (get (codes "edits") top)) (λ entries few.
-    leads_as (λ edits. All (IsKnown names) edits × (length edits ≡ 0 + items_len entries)) (AreEdits (length names.firms) (length names.trades)) (each (one_edit names) [] entries) (λ edits are. record { few = omega (arith, few, are.1, limits.edits); known = are.0 })
+    leads_bind (λ items. items_len items ≤ limit) (AreEdits (length names.firms) (length names.trades))
+    (few_at limit (Word Edits ∷ []) (get (codes "edits") top)) _
+    (few_lead limit (Word Edits ∷ []) (get (codes "edits") top)) (λ entries few.
+    leads_as (λ edits. All (IsKnown names) edits × (length edits ≡ 0 + items_len entries))
+    (AreEdits (length names.firms) (length names.trades)) (each (one_edit names) [] entries)
+    (λ edits are. record { few = omega (arith, few, are.1, limits.edits); known = are.0 })
     (leads_both (All (IsKnown names)) (λ edits. length edits ≡ 0 + items_len entries) (each (one_edit names) [] entries)
     (leads_each (All (IsKnown names)) (one_edit names) (one_edit_leads names) [] entries (All-nil (IsKnown names)))
     (leads_count length (one_edit names) (one_edit_counts names) [] entries)))

@@ -33,31 +33,46 @@ module _ (names : NameLists) where
   module _ (place : List PlaceStep) (plain : IsPlainPlace place) (value : Data) where
     all_stop : StopsPlainly (trade_or_all names.trades place value)
     unfolding trade_or_all
-    all_stop = stops_bind IsPlain (text_at place (Some value)) _ (text_stops place plain (Some value)) (λ text. by_test (bytes_eq text all_trades))
+    all_stop = stops_bind IsPlain (text_at place (Some value)) _ (text_stops place plain (Some value))
+        (λ text. by_test (bytes_eq text all_trades))
       where
-        by_test : (stands_for_all : Bool) → StopsPlainly (cond stands_for_all (Ok None) (trade_at names.trades place value >>= (λ t. Ok (Some t))))
+        by_test : (stands_for_all : Bool)
+            → StopsPlainly (cond stands_for_all (Ok None) (trade_at names.trades place value >>= (λ t. Ok (Some t))))
         by_test true = stops_ok IsPlain None
-        by_test false = stops_bind IsPlain (trade_at names.trades place value) _ (trade_at_stops place plain names.trades value) (λ t. stops_ok IsPlain (Some t))
+        by_test false =
+            stops_bind IsPlain (trade_at names.trades place value) _ (trade_at_stops place plain names.trades value)
+            (λ t. stops_ok IsPlain (Some t))
 
     change_stops : (change : Change) → StopsPlainly (edit_of names change place value)
     unfolding edit_of
-    change_stops Admit = stops_bind IsPlain (trade_or_all names.trades place value) _ all_stop (λ t. stops_ok IsPlain (admit_of t))
-    change_stops Bar = stops_bind IsPlain (trade_or_all names.trades place value) _ all_stop (λ t. stops_ok IsPlain (bar_of t))
-    change_stops Leave = stops_bind IsPlain (firm_at names.firms place (Some value)) _ (firm_at_stops place plain names.firms (Some value)) (λ f. stops_ok IsPlain (LeaveOf f))
-    change_stops Join = stops_bind IsPlain (firm_at names.firms place (Some value)) _ (firm_at_stops place plain names.firms (Some value)) (λ f. stops_ok IsPlain (JoinOf f))
+    change_stops Admit =
+        stops_bind IsPlain (trade_or_all names.trades place value) _ all_stop (λ t. stops_ok IsPlain (admit_of t))
+    change_stops Bar =
+        stops_bind IsPlain (trade_or_all names.trades place value) _ all_stop (λ t. stops_ok IsPlain (bar_of t))
+    change_stops Leave =
+        stops_bind IsPlain (firm_at names.firms place (Some value)) _
+        (firm_at_stops place plain names.firms (Some value)) (λ f. stops_ok IsPlain (LeaveOf f))
+    change_stops Join =
+        stops_bind IsPlain (firm_at names.firms place (Some value)) _
+        (firm_at_stops place plain names.firms (Some value)) (λ f. stops_ok IsPlain (JoinOf f))
 
   edit_stops : (k : ℕ) (entry : Data) → k ≤ 16384 → StopsPlainly (edit_at names k entry)
   unfolding edit_at
   edit_stops k entry few =
       stops_bind IsPlain (two_at (edit_place k) entry) _ (two_stops (edit_place k) (tt, (few, tt)) entry) (λ two.
-      stops_bind IsPlain (text_at (edit_place k ++ Index 0 ∷ []) (Some two.0)) _ (text_stops (edit_place k ++ Index 0 ∷ []) (part_plain k 0 few (omega arith)) (Some two.0)) (λ text.
-      stops_bind IsPlain (wanted Shape (edit_place k ++ Index 0 ∷ []) (change_named text)) _ (plain_wanted Shape (edit_place k ++ Index 0 ∷ []) (change_named text) refl (part_plain k 0 few (omega arith))) (λ change.
+      stops_bind IsPlain (text_at (edit_place k ++ Index 0 ∷ []) (Some two.0)) _
+      (text_stops (edit_place k ++ Index 0 ∷ []) (part_plain k 0 few (omega arith)) (Some two.0)) (λ text.
+      stops_bind IsPlain (wanted Shape (edit_place k ++ Index 0 ∷ []) (change_named text)) _
+      (plain_wanted Shape (edit_place k ++ Index 0 ∷ []) (change_named text) refl
+      (part_plain k 0 few (omega arith))) (λ change.
       change_stops (edit_place k ++ Index 1 ∷ []) (part_plain k 1 few (omega arith)) two.1 change)))
 
-  one_edit_stops : (edits : List Edit) (entry : Data) → length edits + 1 ≤ most_edits → StopsPlainly (one_edit names edits entry)
+  one_edit_stops : (edits : List Edit) (entry : Data) → length edits + 1 ≤ most_edits
+      → StopsPlainly (one_edit names edits entry)
   unfolding one_edit
   one_edit_stops edits entry room =
-      stops_bind IsPlain (edit_at names (length edits) entry) _ (edit_stops (length edits) entry (omega (arith, room))) (λ edit.
+      stops_bind IsPlain (edit_at names (length edits) entry) _ (edit_stops (length edits) entry (omega (arith, room)))
+      (λ edit.
       stops_ok IsPlain (edits ++ edit ∷ []))
 
 pub edits_stop : (listed : Listed) → AreLimits listed.limits → (top : Data) → StopsPlainly (edits_of listed top)
@@ -65,6 +80,10 @@ unfolding edits_of
 edits_stop listed limits top =
     let names = listed.names in
     let limit = listed.limits.edits in
-    stops_after IsPlain (λ items. items_len items ≤ limit) (few_at limit (Word Edits ∷ []) (get (codes "edits") top)) _ (few_lead limit (Word Edits ∷ []) (get (codes "edits") top)) (few_stops (Word Edits ∷ []) (tt, tt) limit (get (codes "edits") top)) (λ entries few.
+    stops_after IsPlain (λ items. items_len items ≤ limit) (few_at limit (Word Edits ∷ []) (get (codes "edits") top)) _
+    (few_lead limit (Word Edits ∷ []) (get (codes "edits") top))
+    (few_stops (Word Edits ∷ []) (tt, tt) limit (get (codes "edits") top)) (λ entries few.
     stops_each_few IsPlain (λ edits. Unit {0}) length most_edits (one_edit names)
-    (λ edits d start. leads_as (λ next. length next ≡ length edits + 1) _ _ (λ next more. (tt, more)) (one_edit_counts names edits d)) (λ edits d start room. one_edit_stops names edits d room) [] entries tt (omega (arith, few, limits.edits)))
+    (λ edits d start. leads_as (λ next. length next ≡ length edits + 1) _ _ (λ next more. (tt, more))
+    (one_edit_counts names edits d)) (λ edits d start room. one_edit_stops names edits d room) [] entries tt
+    (omega (arith, few, limits.edits)))

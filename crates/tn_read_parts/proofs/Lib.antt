@@ -1,3 +1,4 @@
+-- The files of lemmas of this crate.
 pub mod PriceLemmas
 pub mod ListLeads
 pub mod ListStops

@@ -22,19 +22,29 @@ module _ (trades : List (List ℕ)) (place : List PlaceStep) where
   pub one_on_leads : (on : ℕ) (value : Data) → IsSetOf on → Leads IsSetOf (one_on trades place on value)
   unfolding one_on
   one_on_leads on value below =
-      leads_bind (λ t. t < length trades) IsSetOf (new_trade trades (place ++ Index (size on) ∷ []) on value) _ (new_trade_leads trades (place ++ Index (size on) ∷ []) on value) (λ t known.
+      leads_bind (λ t. t < length trades) IsSetOf (new_trade trades (place ++ Index (size on) ∷ []) on value) _
+      (new_trade_leads trades (place ++ Index (size on) ∷ []) on value) (λ t known.
       leads_ok IsSetOf (toggle on t) (toggle_within on t (length trades) below known))
 
   pub set_leads : (references : Items) → Leads IsSetOf (each (one_on trades place) 0 references)
   set_leads references = leads_each IsSetOf (one_on trades place) one_on_leads 0 references (pow_pos (length trades))
 
-  pub named_lead : (limit : ℕ) (entries : Items) → Leads (λ end. AreNumbers (length trades) limit end.numbers) (named_prices trades place limit entries)
+  pub named_lead : (limit : ℕ) (entries : Items)
+      → Leads (λ end. AreNumbers (length trades) limit end.numbers) (named_prices trades place limit entries)
   unfolding named_prices
   named_lead limit entries =
-      entries_lead (new_trade trades) place (length trades) limit (record { named = 0; numbers = replicate (length trades) (pos 0) }) entries (zeros (length trades) limit)
+      entries_lead (new_trade trades) place (length trades) limit (record {
+        named = 0;
+        numbers =
+            replicate (length trades) (pos 0);
+      }) entries (zeros (length trades) limit)
 
-  pub prices_lead : (limit : ℕ) (entries : Items) → Leads (AreNumbers (length trades) limit) (prices_of trades place limit entries)
+  pub prices_lead : (limit : ℕ) (entries : Items)
+      → Leads (AreNumbers (length trades) limit) (prices_of trades place limit entries)
   unfolding prices_of
   prices_lead limit entries =
-      leads_bind (λ end. AreNumbers (length trades) limit end.numbers) (AreNumbers (length trades) limit) (named_prices trades place limit entries) _ (named_lead limit entries) (λ priced are.
-      leads_after (AreNumbers (length trades) limit) (unless_missing place (first_without priced.named 0 (length trades))) _ (λ u. leads_ok (AreNumbers (length trades) limit) priced.numbers are))
+      leads_bind (λ end. AreNumbers (length trades) limit end.numbers) (AreNumbers (length trades) limit)
+      (named_prices trades place limit entries) _ (named_lead limit entries) (λ priced are.
+      leads_after (AreNumbers (length trades) limit) (unless_missing place
+      (first_without priced.named 0 (length trades))) _ (λ u. leads_ok (AreNumbers (length trades) limit)
+      priced.numbers are))

@@ -24,20 +24,28 @@ first_without_within : (named t n s : ℕ) → first_without named t n ≡ Some 
 first_without_within named t zero s e = absurd (none-some s e)
 first_without_within named t (suc n) s e = by_test (has named t) e (first_without_within named (t + 1) n s)
   where
-    by_test : (b : Bool) → cond b (first_without named (t + 1) n) (Some t) ≡ Some s → (first_without named (t + 1) n ≡ Some s → s < t + 1 + n) → s < t + suc n
+    by_test : (b : Bool) → cond b (first_without named (t + 1) n) (Some t) ≡ Some s
+        → (first_without named (t + 1) n ≡ Some s → s < t + 1 + n) → s < t + suc n
     by_test true is later = omega (arith, later is)
     by_test false is later = let same = same_Some t s is in omega (arith, same)
 
-module _ (trades : List (List ℕ)) (few : length trades ≤ 16384) (place : List PlaceStep) (plain : IsPlainPlace place) where
+module _ (trades : List (List ℕ)) (few : length trades ≤ 16384) (place : List PlaceStep)
+    (plain : IsPlainPlace place) where
   one_on_stops : (on : ℕ) (value : Data) → IsSetOf trades place on → StopsPlainly (one_on trades place on value)
   unfolding one_on
   one_on_stops on value below =
       let few_before : size on ≤ 16384 = few_members (length trades) on below few in
-      stops_bind IsPlain (new_trade trades (place ++ Index (size on) ∷ []) on value) _ (new_trade_stops (place ++ Index (size on) ∷ []) (plain_within place (Index (size on) ∷ []) plain (few_before, tt)) trades on value) (λ t.
+      stops_bind IsPlain (new_trade trades (place ++ Index (size on) ∷ []) on value) _
+      (new_trade_stops (place ++ Index (size on) ∷ []) (plain_within place (Index (size on) ∷ []) plain (
+        few_before,
+        tt,
+      )) trades on value) (λ t.
       stops_ok IsPlain (toggle on t))
 
   pub set_stops : (references : Items) → StopsPlainly (each (one_on trades place) 0 references)
-  set_stops references = stops_each IsPlain (IsSetOf trades place) (one_on trades place) (one_on_leads trades place) one_on_stops 0 references (pow_pos (length trades))
+  set_stops references =
+      stops_each IsPlain (IsSetOf trades place) (one_on trades place) (one_on_leads trades place) one_on_stops 0
+      references (pow_pos (length trades))
 
   pub trades_refer : RefersPlainly (length trades) (new_trade trades)
   trades_refer = record {
@@ -46,7 +54,13 @@ module _ (trades : List (List ℕ)) (few : length trades ≤ 16384) (place : Lis
   }
 
   missing_told : (t : ℕ) → t < length trades → IsTold trades (fault PriceMissing (place ++ Trade t ∷ []))
-  missing_told t known = record { sayable = sayable; short = All-push HasShortIndex place (Trade t) (short_place place plain) tt; ascending = tt; read = λ same. absurd (cc) }
+  missing_told t known = record {
+    sayable = sayable;
+    short =
+        All-push HasShortIndex place (Trade t) (short_place place plain) tt;
+    ascending = tt;
+    read = λ same. absurd (cc);
+  }
     where
       sayable : IsSayableFault trades (fault PriceMissing (place ++ Trade t ∷ []))
       sayable = record {
@@ -55,18 +69,24 @@ module _ (trades : List (List ℕ)) (few : length trades ≤ 16384) (place : Lis
         exactly = (λ there. absurd (true≢false (sym there)), λ same. absurd (cc));
       }
 
-  missing_stops : (found : Option ℕ) → ((t : ℕ) → found ≡ Some t → t < length trades) → Stops (IsTold trades) (unless_missing place found)
+  missing_stops : (found : Option ℕ) → ((t : ℕ) → found ≡ Some t → t < length trades)
+      → Stops (IsTold trades) (unless_missing place found)
   missing_stops None known = stops_ok (IsTold trades) tt
-  missing_stops (Some t) known = stops_err (IsTold trades) (fault PriceMissing (place ++ Trade t ∷ [])) (missing_told t (known t refl))
+  missing_stops (Some t) known =
+      stops_err (IsTold trades) (fault PriceMissing (place ++ Trade t ∷ [])) (missing_told t (known t refl))
 
   pub named_stops : (limit : ℕ) (entries : Items) → StopsPlainly (named_prices trades place limit entries)
   unfolding named_prices
-  named_stops limit entries = entries_stop (length trades) few (new_trade trades) trades_refer place plain limit (replicate (length trades) (pos 0)) entries
+  named_stops limit entries =
+      entries_stop (length trades) few (new_trade trades) trades_refer place plain limit
+      (replicate (length trades) (pos 0)) entries
 
   pub prices_stop : (limit : ℕ) (entries : Items) → Stops (IsTold trades) (prices_of trades place limit entries)
   unfolding prices_of
   prices_stop limit entries =
-      stops_bind (IsTold trades) (named_prices trades place limit entries) _ (told_from_plain trades _ (named_stops limit entries)) (λ priced.
+      stops_bind (IsTold trades) (named_prices trades place limit entries) _
+      (told_from_plain trades _ (named_stops limit entries)) (λ priced.
       stops_bind (IsTold trades) (unless_missing place (first_without priced.named 0 (length trades))) _
-      (missing_stops (first_without priced.named 0 (length trades)) (λ t e. let below = first_without_within priced.named 0 (length trades) t e in omega (arith, below))) (λ complete.
+      (missing_stops (first_without priced.named 0 (length trades)) (λ t e. let below =
+      first_without_within priced.named 0 (length trades) t e in omega (arith, below))) (λ complete.
       stops_ok (IsTold trades) priced.numbers))

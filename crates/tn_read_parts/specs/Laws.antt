@@ -42,7 +42,8 @@ pub record IsNamedIn (trades : List (List ℕ)) (references : Items) (t : ℕ) :
   pub there : get_item at references ≡ Some reference
   pub names : IsNameOf trades reference t
 
--- a document's arrangement has exactly the trades on that its references name, and exactly the prices that its entries say
+-- a document's arrangement has exactly the trades on that its references name, and exactly the prices that its entries
+-- say
 pub record SaysArrangement (trades : List (List ℕ)) (top : Data) (arranged : Arranged) : Type 0 where
   pub part : Data
   pub part_is : get (codes "arrangement") top ≡ Some part
@@ -51,10 +52,12 @@ pub record SaysArrangement (trades : List (List ℕ)) (top : Data) (arranged : A
   pub on : (t : ℕ) → (has arranged.on t ≡ true) ↔ IsNamedIn trades references t
   pub entries : Items
   pub entries_are : option_and_then as_array (get (codes "prices") part) ≡ Some entries
-  pub prices : (t : ℕ) (price : ℤ) → (slice_get arranged.prices t ≡ Some price) ↔ IsSaid trades entries (record { trade = t; price = price })
+  pub prices : (t : ℕ) (price : ℤ) → (slice_get arranged.prices t ≡ Some price)
+      ↔ IsSaid trades entries (record { trade = t; price = price })
 
 abbrev pub ArrangementsHaveTheirEntries : Type 0
-ArrangementsHaveTheirEntries = (listed : Listed) (top : Data) (arranged : Arranged) → arrangement_of listed top ≡ Ok arranged → SaysArrangement listed.names.trades top arranged
+ArrangementsHaveTheirEntries = (listed : Listed) (top : Data) (arranged : Arranged)
+    → arrangement_of listed top ≡ Ok arranged → SaysArrangement listed.names.trades top arranged
 
 -- a document's outcome has the denominator that it says, and exactly the contracts that its entries say
 pub record SaysOutcome (trades : List (List ℕ)) (top : Data) (outcome : Outcome) : Type 0 where
@@ -66,7 +69,8 @@ pub record SaysOutcome (trades : List (List ℕ)) (top : Data) (outcome : Outcom
   pub contracts : (contract : Contract) → Contains outcome.contracts contract ↔ IsSaid trades entries contract
 
 abbrev pub OutcomesHaveTheirEntries : Type 0
-OutcomesHaveTheirEntries = (listed : Listed) (top : Data) (outcome : Outcome) → outcome_of listed top ≡ Ok outcome → SaysOutcome listed.names.trades top outcome
+OutcomesHaveTheirEntries = (listed : Listed) (top : Data) (outcome : Outcome) → outcome_of listed top ≡ Ok outcome
+    → SaysOutcome listed.names.trades top outcome
 
 -- the text of what an edit does
 abbrev pub edit_text : Edit → List ℕ
@@ -108,4 +112,5 @@ pub record SaysEdits (names : NameLists) (top : Data) (edits : List Edit) : Type
   pub each : (k : ℕ) (edit : Edit) → slice_get edits k ≡ Some edit → IsEditAt names entries k edit
 
 abbrev pub EditsHaveTheirEntries : Type 0
-EditsHaveTheirEntries = (listed : Listed) (top : Data) (edits : List Edit) → edits_of listed top ≡ Ok edits → SaysEdits listed.names top edits
+EditsHaveTheirEntries = (listed : Listed) (top : Data) (edits : List Edit) → edits_of listed top ≡ Ok edits
+    → SaysEdits listed.names top edits

@@ -41,7 +41,8 @@ unless_missing place (Some t) = Err (fault PriceMissing (place ++ Trade t ∷ []
 
 -- the trades that the entries of a list name, and the prices by trade, 0 without an entry
 unfoldable pub named_prices : List (List ℕ) → List PlaceStep → ℕ → Items → Result Numbered Fault
-named_prices trades place limit entries = each (one_price trades place limit) (record { named = 0; numbers = replicate (length trades) (pos 0) }) entries
+named_prices trades place limit entries =
+    each (one_price trades place limit) (record { named = 0; numbers = replicate (length trades) (pos 0) }) entries
 
 -- the prices of all trades
 unfoldable pub prices_of : List (List ℕ) → List PlaceStep → ℕ → Items → Result (List ℤ) Fault

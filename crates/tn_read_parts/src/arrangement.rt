@@ -1,3 +1,5 @@
+//! Reads the arrangement.
+
 ghost use Rattle.serde_json.specs.View.{view};
 ghost use Rattle.tn_shape.specs.Reading.{Gives};
 ghost use Rattle.tn_read_parts.specs.Arranged.{Arranged, arrangement_of, on_of, trades_on_of};

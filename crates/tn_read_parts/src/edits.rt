@@ -1,3 +1,5 @@
+//! Reads the edits.
+
 ghost use Rattle.std.specs.Prelude.{◌≡◌, ◌+◌, ◌<◌, ◌≤◌, [], length, OnOk};
 ghost use Rattle.serde_json.specs.View.{view, items_view};
 ghost use Rattle.tn_plain_data.specs.Limits.{most_edits};

@@ -102,7 +102,8 @@ fn contracts_of(
     prices: &[i128],
 ) -> Result<Vec<Contract>, OutOfMemory>
     requires { length prices.now ≤ most_listed }
-    ensures { IfOk result (λ contracts. contracts.items ≡ contracts_of named.now (price_at prices.now) (length prices.now)) }
+    ensures { IfOk result (λ contracts. contracts.items
+        ≡ contracts_of named.now (price_at prices.now) (length prices.now)) }
 {
     let mut contracts = Vec::new(alloc);
     for (t, price) in prices.iter().enumerate() {

@@ -1,3 +1,5 @@
+//! Reads the outcome.
+
 ghost use Rattle.std.specs.Prelude.{option_map};
 ghost use Rattle.serde_json.specs.View.{view};
 ghost use Rattle.tn_shape.specs.Reading.{Gives};

@@ -1,3 +1,4 @@
+-- The files of lemmas of this crate.
 pub mod EndsLemmas
 pub mod ReferenceLeads
 pub mod EntryLeads

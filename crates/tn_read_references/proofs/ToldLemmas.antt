@@ -16,9 +16,11 @@ named_step trades (Word word) plain = tt
 named_step trades (Index k) plain = tt
 named_step trades (Trade t) plain = absurd plain
 
-pub named_place : (trades : List (List ℕ)) (place : List PlaceStep) → IsPlainPlace place → All (IsNamedStep trades) place
+pub named_place : (trades : List (List ℕ)) (place : List PlaceStep) → IsPlainPlace place
+    → All (IsNamedStep trades) place
 named_place trades [] plain = All-nil (IsNamedStep trades)
-named_place trades (step ∷ place) plain = All-cons (IsNamedStep trades) step place (named_step trades step plain.0) (named_place trades place plain.1)
+named_place trades (step ∷ place) plain =
+    All-cons (IsNamedStep trades) step place (named_step trades step plain.0) (named_place trades place plain.1)
 
 short_step : (step : PlaceStep) → IsPlainStep step → HasShortIndex step
 short_step (Word word) plain = tt
@@ -27,7 +29,8 @@ short_step (Trade t) plain = absurd plain
 
 pub short_place : (place : List PlaceStep) → IsPlainPlace place → All HasShortIndex place
 short_place [] plain = All-nil HasShortIndex
-short_place (step ∷ place) plain = All-cons HasShortIndex step place (short_step step plain.0) (short_place place plain.1)
+short_place (step ∷ place) plain =
+    All-cons HasShortIndex step place (short_step step plain.0) (short_place place plain.1)
 
 -- a fault that speaks of named trades in ascending lists, and whose numbers are short
 pub record IsTold (trades : List (List ℕ)) (f : Fault) : Type 0 where
@@ -42,12 +45,16 @@ told_plain trades f is = record {
   sayable = record {
     place = named_place trades f.place is.place;
     triple = subst (λ (shown : Option Shown). IfSome shown (IsNamedTriple trades)) (sym is.none) tt;
-    exactly = (λ there. absurd (true≢false (sym (subst IsSome is.none there))), λ same. absurd (true≢false (sym is.other ∙ ap is_plain_kind same)));
+    exactly = (
+      λ there. absurd (true≢false (sym (subst IsSome is.none there))),
+      λ same. absurd (true≢false (sym is.other ∙ ap is_plain_kind same)),
+    );
   };
   short = short_place f.place is.place;
   ascending = subst (λ (shown : Option Shown). IfSome shown IsAscendingTriple) (sym is.none) tt;
   read = λ same. absurd (true≢false (sym is.other ∙ ap is_plain_kind same));
 }
 
-pub told_from_plain : {A : Type 0} (trades : List (List ℕ)) (r : Result A Fault) → StopsPlainly r → Stops (IsTold trades) r
+pub told_from_plain : {A : Type 0} (trades : List (List ℕ)) (r : Result A Fault) → StopsPlainly r
+    → Stops (IsTold trades) r
 told_from_plain trades r plain = stops_as IsPlain (IsTold trades) r (told_plain trades) plain

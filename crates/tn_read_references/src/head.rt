@@ -1,3 +1,5 @@
+//! The head of a document, which readers of its parts take.
+
 ghost use Rattle.std.specs.Prelude.{◌≡◌};
 ghost use Rattle.tn_read_references.specs.Ordered.{AreTrades, Listed};
 
@@ -5,9 +7,9 @@ use std::marker::Model;
 use tn_names::Names;
 use tn_plain_data::{Ends, Limits};
 
-/// The head of a document: the limits of its version, the names of its firms and trades, and the two ends of each trade.
-/// Names and ends are of the same trades. There are no more firms and trades than the limits allow, each trade has two
-/// different firms, and it stands at each of them after the trades before it.
+/// The head of a document: the limits of its version, the names of its firms and trades, and the two ends of each
+/// trade. Names and ends are of the same trades. There are no more firms and trades than the limits allow, each trade
+/// has two different firms, and it stands at each of them after the trades before it.
 #[derive(Drop)]
 pub struct Head {
     limits: Limits,

@@ -1,5 +1,5 @@
-//! The head of a document, which readers of its parts take; reads references to trades and own trades, and entries with a number.
-//! What a head keeps, and the lists of references and of entries, stand in `specs/`.
+//! The head of a document, which readers of its parts take; reads references to trades and own trades, and entries with
+//! a number. What a head keeps, and the lists of references and of entries, stand in `specs/`.
 #![tactic(auto)]
 
 mod head;

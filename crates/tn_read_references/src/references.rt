@@ -72,8 +72,8 @@ pub fn new_trade(
     Ok(t)
 }
 
-/// The position of the own trade of firm `f` that a reference names, on one side if it is given; the faults are, in this
-/// order, no text, no trade of the name, and a trade that isn't an own one on that side.
+/// The position of the own trade of firm `f` that a reference names, on one side if it is given; the faults are, in
+/// this order, no text, no trade of the name, and a trade that isn't an own one on that side.
 #[tactic(auto, unfolding(crate::specs::References::own_position))]
 pub fn own_position(
     alloc: Global,

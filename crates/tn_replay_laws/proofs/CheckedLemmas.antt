@@ -40,13 +40,17 @@ pub record IsReadFrom (need : Need) (top : Data) (doc : DocumentData) : Type 0 w
   pub parts : AreParts need top doc
   pub is : IsDocument need doc
 
-pub read_from : (need : Need) (top : Data) (doc : DocumentData) → document_of need top ≡ Ok doc → IsReadFrom need top doc
+pub read_from : (need : Need) (top : Data) (doc : DocumentData) → document_of need top ≡ Ok doc
+    → IsReadFrom need top doc
 read_from need top doc e = record { parts = parts need top doc e; is = (document_leads need top).at doc e }
 
 module _ (need : Need) (top : Data) (doc : DocumentData) (from : IsReadFrom need top doc) where
   pub are_read : AreRead (listed_in from.parts.limits doc) doc.firms
   are_read = record {
-    limits = ((listed_leads top).at (listed_in from.parts.limits doc, from.parts.items) from.parts.listed).trades.limits;
+    limits = ((listed_leads top).at (
+      listed_in from.parts.limits doc,
+      from.parts.items,
+    ) from.parts.listed).trades.limits;
     firm_names = from.is.firm_names;
     trade_names = from.is.trade_names;
     firms_named = from.is.firms_named;
@@ -55,35 +59,48 @@ module _ (need : Need) (top : Data) (doc : DocumentData) (from : IsReadFrom need
   }
 
   -- the answer is there as the claim
-  pub there : (said : Said) → get (codes "claim") (with_claim (answer_data doc.names said) top) ≡ Some (answer_data doc.names said)
-  there said = claim_is_there (answer_data doc.names said) top (listed_in from.parts.limits doc, from.parts.items) from.parts.listed
+  pub there : (said : Said) → get (codes "claim") (with_claim (answer_data doc.names said) top)
+      ≡ Some (answer_data doc.names said)
+  there said = claim_is_there (answer_data doc.names said) top (
+    listed_in from.parts.limits doc,
+    from.parts.items,
+  ) from.parts.listed
 
   -- a claim that is read, whose answer needs the same test of the firms, is the extra part of the document
-  pub replayed : (said : Said) (text : List ℕ) (read : ClaimIs) → option_and_then as_str (get (codes "answer") (answer_data doc.names said)) ≡ Some text → is_tested need top ≡ not (names_raw text)
-      → claim_of (listed_in from.parts.limits doc) (with_claim (answer_data doc.names said) top) ≡ Ok read → IsValid doc.firms doc.ends read → IsReplayed top doc said
+  pub replayed : (said : Said) (text : List ℕ) (read : ClaimIs)
+      → option_and_then as_str (get (codes "answer") (answer_data doc.names said)) ≡ Some text
+      → is_tested need top ≡ not (names_raw text)
+      → claim_of (listed_in from.parts.limits doc) (with_claim (answer_data doc.names said) top) ≡ Ok read
+      → IsValid doc.firms doc.ends read → IsReplayed top doc said
   replayed said text read answer tested claimed valid = record {
     read = read;
-    reads = document_back need top (answer_data doc.names said) doc read from.parts (tested ∙ ap not (sym (raw_there (answer_data doc.names said) top text (there said) answer))) claimed;
+    reads = document_back need top (answer_data doc.names said) doc read from.parts (tested
+        ∙ ap not (sym (raw_there (answer_data doc.names said) top text (there said) answer))) claimed;
     valid = valid;
   }
 
 -- ---- `check`
 
 -- what has a utility has a worth
-pub worth_there : (worth : Option ℤ) (g : ℤ → ℤ) (value : ℤ) → option_map g worth ≡ Some value → (a : ℤ) × (worth ≡ Some a)
+pub worth_there : (worth : Option ℤ) (g : ℤ → ℤ) (value : ℤ) → option_map g worth ≡ Some value → (a : ℤ)
+    × (worth ≡ Some a)
 worth_there (Some a) g value e = (a, refl)
 worth_there None g value e = absurd (none-some value e)
 
 module _ (top : Data) (doc : DocumentData) (at : Arranged) (from : IsReadFrom Arrangement top doc) (extra : doc.extra ≡ arrangement at) where
   -- the arrangement is still there
   part : (value : Data) → arrangement_of (listed_in from.parts.limits doc) (with_claim value top) ≡ Ok at
-  part value = arrangement_other (listed_in from.parts.limits doc) value top ∙ arranged (listed_in from.parts.limits doc) top at (from.parts.extra ∙ ap Ok extra)
+  part value = arrangement_other (listed_in from.parts.limits doc) value top
+      ∙ arranged (listed_in from.parts.limits doc) top at (from.parts.extra ∙ ap Ok extra)
 
   equilibrium_replays : (surplus : ℤ) → Judges doc.firms doc.ends (pos 1) at.on (price_at at.prices) (Equilibrium surplus) → FitsClaim (Equilibrium surplus) → IsReplayed top doc (Equilibrium surplus)
   equilibrium_replays surplus judges within =
       let said = Equilibrium surplus in
-      replayed Arrangement top doc from said (codes "equilibrium") (EquilibriumClaim (record { on = at.on; prices = at.prices }) surplus) refl refl
-      (equilibrium_back (listed_in from.parts.limits doc) doc.firms (are_read Arrangement top doc from) (with_claim (answer_data doc.names said) top) at surplus (there Arrangement top doc from said) (part (answer_data doc.names said)) within)
+      replayed Arrangement top doc from said (codes "equilibrium")
+      (EquilibriumClaim (record { on = at.on; prices = at.prices }) surplus) refl refl
+      (equilibrium_back (listed_in from.parts.limits doc) doc.firms (are_read Arrangement top doc from)
+      (with_claim (answer_data doc.names said) top) at surplus (there Arrangement top doc from said)
+      (part (answer_data doc.names said)) within)
       judges
 
   better_replays : (f x : ℕ) (gain : ℤ) (is : IsFirstBettered doc.firms doc.ends (pos 1) at.on (price_at at.prices) f x gain) → FitsClaim (Equilibrium gain)
@@ -92,61 +109,95 @@ module _ (top : Data) (doc : DocumentData) (at : Arranged) (from : IsReadFrom Ar
       let said = Better f (trades_of doc.ends f is.firm.count x) gain in
       let worth = worth_there (is.firm.worth x) _ is.best_value is.best.is in
       let below : x < 2 ^ is.firm.count = from.is.own_bundles f is.firm is.is x worth.0 worth.1 in
-      replayed Arrangement top doc from said (codes "better") (BetterClaim (record { on = at.on; prices = at.prices }) f x gain) refl refl
-      (better_back (listed_in from.parts.limits doc) doc.firms (are_read Arrangement top doc from) (with_claim (answer_data doc.names said) top) at f is.firm x gain is.is below (there Arrangement top doc from said) (part (answer_data doc.names said)) within)
-      ((is.firm, is.is, record { value = is.best_value; value_is = is.best.is; other = is.own_value; other_is = is.own_is; gain_is = is.gain_is }), is.gains)
+      replayed Arrangement top doc from said (codes "better")
+      (BetterClaim (record { on = at.on; prices = at.prices }) f x gain) refl refl
+      (better_back (listed_in from.parts.limits doc) doc.firms (are_read Arrangement top doc from)
+      (with_claim (answer_data doc.names said) top) at f is.firm x gain is.is below
+      (there Arrangement top doc from said) (part (answer_data doc.names said)) within) (
+        (
+          is.firm,
+          is.is,
+          record {
+            value = is.best_value;
+            value_is = is.best.is;
+            other = is.own_value;
+            other_is =
+                is.own_is;
+            gain_is = is.gain_is;
+          },
+        ),
+        is.gains,
+      )
 
   impossible_replays : (f : ℕ) → IsFirstImpossible doc.firms doc.ends (pos 1) at.on (price_at at.prices) f → IsReplayed top doc (Impossible f)
   impossible_replays f is =
       let said = Impossible f in
       let value = answer_data doc.names said in
       replayed Arrangement top doc from said (codes "impossible") (ImpossibleClaim at.on f) refl refl
-      (impossible_back (listed_in from.parts.limits doc) doc.firms (are_read Arrangement top doc from) (with_claim value top) at.on f (slice_get_within doc.firms f is.firm is.is) (there Arrangement top doc from said)
+      (impossible_back (listed_in from.parts.limits doc) doc.firms (are_read Arrangement top doc from)
+      (with_claim value top) at.on f (slice_get_within doc.firms f is.firm is.is)
+      (there Arrangement top doc from said)
       (on_arranged (listed_in from.parts.limits doc) (with_claim value top) at (part value)))
       (is.firm, is.is, is.impossible)
 
 -- the answer of `check`
 judged : (top : Data) (doc : DocumentData) (at : Arranged) (said : Said) → IsReadFrom Arrangement top doc → doc.extra ≡ arrangement at
     → Judges doc.firms doc.ends (pos 1) at.on (price_at at.prices) said → FitsClaim said → IsReplayed top doc said
-judged top doc at (Equilibrium surplus) from extra judges within = equilibrium_replays top doc at from extra surplus judges within
+judged top doc at (Equilibrium surplus) from extra judges within =
+    equilibrium_replays top doc at from extra surplus judges within
 judged top doc at (Better f bundle gain) from extra judges within =
-    subst (λ b. IsReplayed top doc (Better f b gain)) (sym judges.2) (better_replays top doc at from extra f judges.0 gain judges.1 within)
+    subst (λ b. IsReplayed top doc (Better f b gain)) (sym judges.2)
+    (better_replays top doc at from extra f judges.0 gain judges.1 within)
 judged top doc at (Impossible f) from extra judges within = impossible_replays top doc at from extra f judges
 judged top doc at said from extra judges within = absurd judges
 
 pub verdicts_replay : VerdictsReplay
-verdicts_replay top doc at said read extra judges within = judged top doc at said (read_from Arrangement top doc read) extra judges within
+verdicts_replay top doc at said read extra judges within =
+    judged top doc at said (read_from Arrangement top doc read) extra judges within
 
 -- ---- `test`
 
 module _ (top : Data) (doc : DocumentData) (from : IsReadFrom Raw top doc) where
-  acceptance_replays : ((f : ℕ) (firm : Firm) → slice_get doc.firms f ≡ Some firm → MeetsExchange firm) → IsReplayed top doc Accepted
+  acceptance_replays : ((f : ℕ) (firm : Firm) → slice_get doc.firms f ≡ Some firm → MeetsExchange firm)
+      → IsReplayed top doc Accepted
   acceptance_replays meet =
       replayed Raw top doc from Accepted (codes "accepted") AcceptedClaim refl refl
-      (accepted_back (listed_in from.parts.limits doc) doc.firms (are_read Raw top doc from) (with_claim (answer_data doc.names Accepted) top) (there Raw top doc from Accepted))
+      (accepted_back (listed_in from.parts.limits doc) doc.firms (are_read Raw top doc from)
+      (with_claim (answer_data doc.names Accepted) top) (there Raw top doc from Accepted))
       meet
 
   -- the position of a failing triple is an own one
-  own_at : (f : ℕ) (firm : Firm) → slice_get doc.firms f ≡ Some firm → (x y : ℕ) (at : Option ℕ) → Fails firm x y at → IfSome at (λ k. k < firm.count)
+  own_at : (f : ℕ) (firm : Firm) → slice_get doc.firms f ≡ Some firm → (x y : ℕ) (at : Option ℕ) → Fails firm x y at
+      → IfSome at (λ k. k < firm.count)
   own_at f firm is x y None fails = tt
-  own_at f firm is x y (Some k) fails = own_position_of firm (record { x = x; y = y; at = Some k }) (from.is.own_bundles f firm is) fails k refl
+  own_at f firm is x y (Some k) fails =
+      own_position_of firm (record { x = x; y = y; at = Some k }) (from.is.own_bundles f firm is) fails k refl
 
-  failure_replays : (f : ℕ) (firm : Firm) (x y : ℕ) (at : Option ℕ) → slice_get doc.firms f ≡ Some firm → Fails firm x y at
-      → IsReplayed top doc (ExchangeFails f (trades_of doc.ends f firm.count x) (trades_of doc.ends f firm.count y) (option_map (own doc.ends f) at))
+  failure_replays : (f : ℕ) (firm : Firm) (x y : ℕ) (at : Option ℕ) → slice_get doc.firms f ≡ Some firm
+      → Fails firm x y at
+      → IsReplayed top doc (ExchangeFails f (trades_of doc.ends f firm.count x) (trades_of doc.ends f firm.count y)
+      (option_map (own doc.ends f) at))
   failure_replays f firm x y at is fails =
-      let said = ExchangeFails f (trades_of doc.ends f firm.count x) (trades_of doc.ends f firm.count y) (option_map (own doc.ends f) at) in
+      let said = ExchangeFails f (trades_of doc.ends f firm.count x) (trades_of doc.ends f firm.count y)
+      (option_map (own doc.ends f) at) in
       replayed Raw top doc from said (codes "exchange_fails") (FailureClaim f x y at) refl refl
-      (failure_back (listed_in from.parts.limits doc) doc.firms (are_read Raw top doc from) (with_claim (answer_data doc.names said) top) f firm x y at is
-      (from.is.own_bundles f firm is x fails.first fails.first_is) (from.is.own_bundles f firm is y fails.second fails.second_is) (own_at f firm is x y at fails) (there Raw top doc from said))
+      (failure_back (listed_in from.parts.limits doc) doc.firms (are_read Raw top doc from)
+      (with_claim (answer_data doc.names said) top) f firm x y at is
+      (from.is.own_bundles f firm is x fails.first fails.first_is)
+      (from.is.own_bundles f firm is y fails.second fails.second_is) (own_at f firm is x y at fails)
+      (there Raw top doc from said))
       (firm, is, fails)
 
 -- a firm that fails, with its first triple
 failed : (top : Data) (doc : DocumentData) (f : ℕ) (x y : List ℕ) (at : Option ℕ) → IsReadFrom Raw top doc → IsFirstToFail doc.firms doc.ends f x y at → IsReplayed top doc (ExchangeFails f x y at)
 failed top doc f x y at from first =
     subst (λ l. IsReplayed top doc (ExchangeFails f l y at)) (sym first.x_is)
-    (subst (λ l. IsReplayed top doc (ExchangeFails f (trades_of doc.ends f first.firm.count first.triple.x) l at)) (sym first.y_is)
-    (subst (λ t. IsReplayed top doc (ExchangeFails f (trades_of doc.ends f first.firm.count first.triple.x) (trades_of doc.ends f first.firm.count first.triple.y) t)) (sym first.at_is)
-    (failure_replays top doc from f first.firm first.triple.x first.triple.y first.triple.at first.is (triple_fails first.firm first.triple first.first))))
+    (subst (λ l. IsReplayed top doc (ExchangeFails f (trades_of doc.ends f first.firm.count first.triple.x) l at))
+    (sym first.y_is)
+    (subst (λ t. IsReplayed top doc (ExchangeFails f (trades_of doc.ends f first.firm.count first.triple.x)
+    (trades_of doc.ends f first.firm.count first.triple.y) t)) (sym first.at_is)
+    (failure_replays top doc from f first.firm first.triple.x first.triple.y first.triple.at first.is
+    (triple_fails first.firm first.triple first.first))))
 
 pub tests_replay : TestsReplay
 tests_replay = record {

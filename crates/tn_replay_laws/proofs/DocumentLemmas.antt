@@ -35,33 +35,56 @@ pub record AreParts (need : Need) (top : Data) (doc : DocumentData) : Type 0 whe
 pub itself : {A E : Type 0} (r : Result A E) → Leads (λ x. r ≡ Ok x) r
 itself r = record { at = λ x e. e }
 
-record IsContent (need : Need) (listed : Listed) (items : Items) (top : Data) (content : List Firm × ExtraData) : Type 0 where
+record IsContent (need : Need) (listed : Listed) (items : Items) (top : Data) (content : List Firm
+    × ExtraData) : Type 0 where
   firms : each (one_firm (is_tested need top) listed) [] items ≡ Ok content.0
   extra : extra_of need listed top ≡ Ok content.1
 
-content_lead : (need : Need) (listed : Listed) (items : Items) (top : Data) → Leads (IsContent need listed items top) (content_of need listed items top)
+content_lead : (need : Need) (listed : Listed) (items : Items) (top : Data)
+    → Leads (IsContent need listed items top) (content_of need listed items top)
 unfolding content_of
 content_lead need listed items top =
-    leads_bind (λ firms. each (one_firm (is_tested need top) listed) [] items ≡ Ok firms) (IsContent need listed items top) (each (one_firm (is_tested need top) listed) [] items) _
+    leads_bind (λ firms. each (one_firm (is_tested need top) listed) [] items ≡ Ok firms)
+    (IsContent need listed items top) (each (one_firm (is_tested need top) listed) [] items) _
     (itself (each (one_firm (is_tested need top) listed) [] items)) (λ firms firms_are.
-    leads_bind (λ extra. extra_of need listed top ≡ Ok extra) (IsContent need listed items top) (extra_of need listed top) _ (itself (extra_of need listed top)) (λ extra extra_is.
+    leads_bind (λ extra. extra_of need listed top ≡ Ok extra) (IsContent need listed items top)
+    (extra_of need listed top) _ (itself (extra_of need listed top)) (λ extra extra_is.
     leads_ok (IsContent need listed items top) (firms, extra) (record { firms = firms_are; extra = extra_is })))
 
 parts_lead : (need : Need) (top : Data) → Leads (AreParts need top) (document_of need top)
 unfolding document_of
 parts_lead need top =
-    leads_bind (λ network. listed_of top ≡ Ok network) (AreParts need top) (listed_of top) _ (itself (listed_of top)) (λ network at.
-    leads_bind (IsContent need network.0 network.1 top) (AreParts need top) (with_names network.0.names (content_of need network.0 network.1 top)) _
-    (leads_beside (IsContent need network.0 network.1 top) network.0.names (content_of need network.0 network.1 top) (content_lead need network.0 network.1 top)) (λ content is.
-    leads_ok (AreParts need top) (record { names = network.0.names; firms = content.0; ends = network.0.ends; extra = content.1 }) (record { limits = network.0.limits; items = network.1; listed = at; firms = is.firms; extra = is.extra })))
+    leads_bind (λ network. listed_of top ≡ Ok network) (AreParts need top) (listed_of top) _ (itself (listed_of top))
+    (λ network at.
+    leads_bind (IsContent need network.0 network.1 top) (AreParts need top)
+    (with_names network.0.names (content_of need network.0 network.1 top)) _
+    (leads_beside (IsContent need network.0 network.1 top) network.0.names (content_of need network.0 network.1 top)
+    (content_lead need network.0 network.1 top)) (λ content is.
+    leads_ok (AreParts need top) (record {
+      names = network.0.names;
+      firms = content.0;
+      ends = network.0.ends;
+      extra =
+          content.1;
+    }) (record {
+      limits = network.0.limits;
+      items = network.1;
+      listed = at;
+      firms = is.firms;
+      extra =
+          is.extra;
+    })))
 
 pub parts : (need : Need) (top : Data) (doc : DocumentData) → document_of need top ≡ Ok doc → AreParts need top doc
 parts need top doc e = (parts_lead need top).at doc e
 
-pub document_back : (need : Need) (top value : Data) (doc : DocumentData) (read : ClaimIs) → (are : AreParts need top doc) → is_tested need top ≡ not (claims_raw (with_claim value top))
-    → claim_of (listed_in are.limits doc) (with_claim value top) ≡ Ok read → document_of Claim (with_claim value top) ≡ Ok (claimed_in doc read)
+pub document_back : (need : Need) (top value : Data) (doc : DocumentData) (read : ClaimIs)
+    → (are : AreParts need top doc) → is_tested need top ≡ not (claims_raw (with_claim value top))
+    → claim_of (listed_in are.limits doc) (with_claim value top) ≡ Ok read
+    → document_of Claim (with_claim value top) ≡ Ok (claimed_in doc read)
 unfolding document_of content_of extra_of
 document_back need top value doc read are tested claimed =
-    let firms : each (one_firm (not (claims_raw (with_claim value top))) (listed_in are.limits doc)) [] are.items ≡ Ok doc.firms =
+    let firms : each (one_firm (not (claims_raw (with_claim value top))) (listed_in are.limits doc)) [] are.items
+    ≡ Ok doc.firms =
     ap (λ b. each (one_firm b (listed_in are.limits doc)) [] are.items) (sym tested) ∙ are.firms in
     rw (listed_other value top, are.listed, firms, claimed)

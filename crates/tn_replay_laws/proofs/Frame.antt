@@ -26,12 +26,14 @@ use Rattle.tn_replay_laws.specs.Replayed.{with_claim}
 apart : (q k : List ℕ) → bytes_eq q k ≡ false → q ≡ k → ⊥
 apart q k other same = true≢false (sym ((bytes_eq-Decides q k).1 same) ∙ other)
 
-pub claim_there : (value : Data) (members : Members) → get (codes "claim") (with_claim value (object members)) ≡ Some value
+pub claim_there : (value : Data) (members : Members)
+    → get (codes "claim") (with_claim value (object members)) ≡ Some value
 unfolding with_claim
 claim_there value members = get_member-put (codes "claim") value members
 
 -- each other member is the same
-pub get_other : (q : List ℕ) (value top : Data) → bytes_eq q (codes "claim") ≡ false → get q (with_claim value top) ≡ get q top
+pub get_other : (q : List ℕ) (value top : Data) → bytes_eq q (codes "claim") ≡ false
+    → get q (with_claim value top) ≡ get q top
 unfolding with_claim
 get_other q value null other = refl
 get_other q value (boolean b) other = refl
@@ -41,16 +43,20 @@ get_other q value (array ds) other = refl
 get_other q value (object ms) other = get_member-put_other q (codes "claim") value ms (apart q (codes "claim") other)
 
 module _ (kind : ObjectKind) where
-  allows_at : (o : Ordering) (k l : List ℕ) (d e : Data) (ms : Members) → allows kind k ≡ true → allows_all kind (put k d ms) ≡ allows_all kind ms
-      → allows_all kind (match_ordering o (member k d (member l e ms)) (member l d ms) (member l e (put k d ms))) ≡ allows_all kind (member l e ms)
+  allows_at : (o : Ordering) (k l : List ℕ) (d e : Data) (ms : Members) → allows kind k ≡ true
+      → allows_all kind (put k d ms) ≡ allows_all kind ms
+      → allows_all kind (match_ordering o (member k d (member l e ms)) (member l d ms) (member l e (put k d ms)))
+      ≡ allows_all kind (member l e ms)
   allows_at Less k l d e ms allowed later = ap (λ b. b && (allows kind l && allows_all kind ms)) allowed
   allows_at Equal k l d e ms allowed later = refl
   allows_at Greater k l d e ms allowed later = ap (λ b. allows kind l && b) later
 
   -- one more allowed member changes nothing
-  allows_put : (k : List ℕ) (d : Data) (ms : Members) → allows kind k ≡ true → allows_all kind (put k d ms) ≡ allows_all kind ms
+  allows_put : (k : List ℕ) (d : Data) (ms : Members) → allows kind k ≡ true
+      → allows_all kind (put k d ms) ≡ allows_all kind ms
   allows_put k d no_members allowed = ap (λ b. b && true) allowed
-  allows_put k d (member l e ms) allowed = allows_at (slice_cmp nat_cmp k l) k l d e ms allowed (allows_put k d ms allowed)
+  allows_put k d (member l e ms) allowed =
+      allows_at (slice_cmp nat_cmp k l) k l d e ms allowed (allows_put k d ms allowed)
 
 claim_allowed : allows Top (codes "claim") ≡ true
 unfolding allows
@@ -73,10 +79,16 @@ limits_other value top = rw (get_other (codes "version") value top refl)
 
 pub listed_other : (value top : Data) → listed_of (with_claim value top) ≡ listed_of top
 unfolding listed_of
-listed_other value top = rw (top_other value top, limits_other value top, get_other (codes "firms") value top refl, get_other (codes "trades") value top refl)
+listed_other value top = rw (
+  top_other value top,
+  limits_other value top,
+  get_other (codes "firms") value top refl,
+  get_other (codes "trades") value top refl,
+)
 
 -- a document that is listed is an object, so the claim is there
-pub claim_is_there : (value top : Data) (found : Listed × Items) → listed_of top ≡ Ok found → get (codes "claim") (with_claim value top) ≡ Some value
+pub claim_is_there : (value top : Data) (found : Listed × Items) → listed_of top ≡ Ok found
+    → get (codes "claim") (with_claim value top) ≡ Some value
 unfolding listed_of object_of
 claim_is_there value null found listed = absurd (cc)
 claim_is_there value (boolean b) found listed = absurd (cc)
@@ -91,21 +103,26 @@ on_other : (trades : List (List ℕ)) (value top : Data) → on_of trades (with_
 unfolding on_of
 on_other trades value top = rw (get_other (codes "arrangement") value top refl)
 
-pub arrangement_other : (listed : Listed) (value top : Data) → arrangement_of listed (with_claim value top) ≡ arrangement_of listed top
+pub arrangement_other : (listed : Listed) (value top : Data)
+    → arrangement_of listed (with_claim value top) ≡ arrangement_of listed top
 unfolding arrangement_of
 arrangement_other listed value top = rw (on_other listed.names.trades value top)
 
-pub trades_on_other : (trades : List (List ℕ)) (value top : Data) → trades_on_of trades (with_claim value top) ≡ trades_on_of trades top
+pub trades_on_other : (trades : List (List ℕ)) (value top : Data)
+    → trades_on_of trades (with_claim value top) ≡ trades_on_of trades top
 unfolding trades_on_of
 trades_on_other trades value top = rw (on_other trades value top)
 
-pub outcome_other : (listed : Listed) (value top : Data) → outcome_of listed (with_claim value top) ≡ outcome_of listed top
+pub outcome_other : (listed : Listed) (value top : Data)
+    → outcome_of listed (with_claim value top) ≡ outcome_of listed top
 unfolding outcome_of
 outcome_other listed value top = rw (get_other (codes "outcome") value top refl)
 
 -- whether the claim's network is read raw is told by its answer
-pub raw_there : (value top : Data) (text : List ℕ) → get (codes "claim") (with_claim value top) ≡ Some value → option_and_then as_str (get (codes "answer") value) ≡ Some text
+pub raw_there : (value top : Data) (text : List ℕ) → get (codes "claim") (with_claim value top) ≡ Some value
+    → option_and_then as_str (get (codes "answer") value) ≡ Some text
     → claims_raw (with_claim value top) ≡ names_raw text
 raw_there value top text there answer =
-    ap (λ found. unwrap_or (option_map names_raw (option_and_then as_str (option_and_then (get (codes "answer")) found))) false) there
+    ap (λ found. unwrap_or
+    (option_map names_raw (option_and_then as_str (option_and_then (get (codes "answer")) found))) false) there
     ∙ ap (λ found. unwrap_or (option_map names_raw found) false) answer

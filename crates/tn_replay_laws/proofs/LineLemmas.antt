@@ -52,14 +52,25 @@ number_readable : (deep : ℕ) (z : ℤ) → IsAtMost z most_number → IsReadab
 number_readable deep (pos n) small =
     let high = small.high in
     let below : n < 2 ^ 64 = omega (arith, ints, high) in
-    record { reads = ap (option_map number) (number_of-decimal n below); numbers = IsNumber-decimal n below; shallow = omega arith }
+    record {
+      reads = ap (option_map number) (number_of-decimal n below);
+      numbers = IsNumber-decimal n below;
+      shallow =
+          omega arith;
+    }
 number_readable deep (negsuc n) small =
     let low = small.low in
-    record { reads = ap (option_map number) (number_of-negative n (omega (arith, ints, low))); numbers = IsNumber-signed_decimal (negsuc n) (omega (arith, ints, low)); shallow = omega arith }
+    record {
+      reads = ap (option_map number) (number_of-negative n (omega (arith, ints, low)));
+      numbers =
+          IsNumber-signed_decimal (negsuc n) (omega (arith, ints, low));
+      shallow = omega arith;
+    }
 
 -- ---- lists
 
-items_read : (deep : ℕ) (ds : List Data) → AreReadable deep ds → of_items (items_outline (items_of ds)) ≡ Some (items_of ds)
+items_read : (deep : ℕ) (ds : List Data) → AreReadable deep ds
+    → of_items (items_outline (items_of ds)) ≡ Some (items_of ds)
 items_read deep [] are = refl
 items_read deep (d ∷ ds) are = rw (are.0.reads, items_read deep ds are.1)
 
@@ -69,7 +80,9 @@ items_numbers deep (d ∷ ds) are = (are.0.numbers, items_numbers deep ds are.1)
 
 items_shallow : (deep : ℕ) (ds : List Data) → AreReadable deep ds → items_depth (items_outline (items_of ds)) ≤ deep
 items_shallow deep [] are = omega arith
-items_shallow deep (d ∷ ds) are = max_least (depth (outline d)) (items_depth (items_outline (items_of ds))) deep are.0.shallow (items_shallow deep ds are.1)
+items_shallow deep (d ∷ ds) are =
+    max_least (depth (outline d)) (items_depth (items_outline (items_of ds))) deep are.0.shallow
+    (items_shallow deep ds are.1)
 
 list_readable : (deep : ℕ) (ds : List Data) → AreReadable deep ds → IsReadable (suc deep) (array (items_of ds))
 list_readable deep ds are = record {
@@ -92,17 +105,25 @@ module _ (names : List (List ℕ)) where
   nodes_readable (node ∷ nodes) = (option_readable 0 node, nodes_readable nodes)
 
   price_readable : (k : ℕ) (price : ℤ) → IsAtMost price most_number → IsReadable 1 (price_data names k price)
-  price_readable k price small = list_readable 0 (name_data names k ∷ integer_data price ∷ []) (text_readable 0 _, (number_readable 0 price small, tt))
+  price_readable k price small = list_readable 0 (name_data names k ∷ integer_data price ∷ []) (
+    text_readable 0 _,
+    (number_readable 0 price small, tt),
+  )
 
-  prices_readable : (k : ℕ) (prices : List ℤ) → All (λ z. IsAtMost z most_number) prices → AreReadable 1 (prices_from names k prices)
+  prices_readable : (k : ℕ) (prices : List ℤ) → All (λ z. IsAtMost z most_number) prices
+      → AreReadable 1 (prices_from names k prices)
   prices_readable k [] small = tt
-  prices_readable k (price ∷ prices) small =
-      (price_readable k price (All-head (λ z. IsAtMost z most_number) price prices small), prices_readable (suc k) prices (All-tail (λ z. IsAtMost z most_number) price prices small))
+  prices_readable k (price ∷ prices) small = (
+    price_readable k price (All-head (λ z. IsAtMost z most_number) price prices small),
+    prices_readable (suc k) prices (All-tail (λ z. IsAtMost z most_number) price prices small),
+  )
 
-  contracts_readable : (contracts : List Contract) → All (λ contract. IsAtMost contract.price most_number) contracts → AreReadable 1 (map (contract_data names) contracts)
+  contracts_readable : (contracts : List Contract) → All (λ contract. IsAtMost contract.price most_number) contracts
+      → AreReadable 1 (map (contract_data names) contracts)
   contracts_readable [] small = tt
   contracts_readable (contract ∷ contracts) small = (
-    price_readable contract.trade contract.price (All-head (λ (c : Contract). IsAtMost c.price most_number) contract contracts small),
+    price_readable contract.trade contract.price (All-head (λ (c : Contract). IsAtMost c.price most_number) contract
+        contracts small),
     contracts_readable contracts (All-tail (λ (c : Contract). IsAtMost c.price most_number) contract contracts small),
   )
 
@@ -120,52 +141,101 @@ module _ (names : NameLists) where
   answer_readable (Better firm bundle gain) claim within =
       let a = list_readable 0 (map (name_data names.trades) bundle) (names_readable names.trades bundle) in
       let b = number_readable 0 gain within in
-      record { reads = rw (a.reads, b.reads); numbers = (tt, (a.numbers, (tt, (b.numbers, tt)))); shallow = let p = a.shallow in let q = b.shallow in grind (arith, p, q) }
-  answer_readable (Impossible firm) claim within = record { reads = refl; numbers = (tt, (tt, tt)); shallow = omega arith }
+      record {
+        reads = rw (a.reads, b.reads);
+        numbers = (tt, (a.numbers, (tt, (b.numbers, tt))));
+        shallow = let p =
+            a.shallow in let q = b.shallow in grind (arith, p, q);
+      }
+  answer_readable (Impossible firm) claim within = record {
+    reads = refl;
+    numbers = (tt, (tt, tt));
+    shallow =
+        omega arith;
+  }
   answer_readable Accepted claim within = record { reads = refl; numbers = (tt, tt); shallow = omega arith }
   answer_readable (ExchangeFails firm x y at) claim within =
       let a = option_readable names.trades 0 at in
       let b = list_readable 0 (map (name_data names.trades) x) (names_readable names.trades x) in
       let c = list_readable 0 (map (name_data names.trades) y) (names_readable names.trades y) in
-      record { reads = rw (a.reads, b.reads, c.reads); numbers = (tt, (a.numbers, (tt, (b.numbers, (c.numbers, tt))))); shallow = let p = a.shallow in let q = b.shallow in let r = c.shallow in grind (arith, p, q, r) }
+      record {
+        reads = rw (a.reads, b.reads, c.reads);
+        numbers =
+            (tt, (a.numbers, (tt, (b.numbers, (c.numbers, tt)))));
+        shallow = let p = a.shallow in let q = b.shallow in
+            let r = c.shallow in grind (arith, p, q, r);
+      }
   answer_readable (Supported on prices ends) claim within =
-      let a = list_readable 1 (prices_from names.trades 0 prices) (prices_readable names.trades 0 prices (prices_within prices within)) in
+      let a = list_readable 1 (prices_from names.trades 0 prices)
+      (prices_readable names.trades 0 prices (prices_within prices within)) in
       record { reads = rw a.reads; numbers = (tt, (a.numbers, tt)); shallow = let p = a.shallow in grind (arith, p) }
   answer_readable (Cycle nodes cost) claim within =
       let a = number_readable 0 cost within in
       let b = list_readable 0 (map (option_data names.trades) nodes) (nodes_readable names.trades nodes) in
-      record { reads = rw (a.reads, b.reads); numbers = (tt, (a.numbers, (b.numbers, tt))); shallow = let p = a.shallow in let q = b.shallow in grind (arith, p, q) }
+      record {
+        reads = rw (a.reads, b.reads);
+        numbers = (tt, (a.numbers, (b.numbers, tt)));
+        shallow = let p = a.shallow
+            in let q = b.shallow in grind (arith, p, q);
+      }
   answer_readable (Solved on prices surplus ends) claim within =
       let a = list_readable 0 (map (name_data names.trades) on) (names_readable names.trades on) in
-      let b = list_readable 1 (prices_from names.trades 0 prices) (prices_readable names.trades 0 prices (prices_within prices within.0)) in
+      let b = list_readable 1 (prices_from names.trades 0 prices)
+      (prices_readable names.trades 0 prices (prices_within prices within.0)) in
       let c = number_readable 0 surplus within.1 in
-      record { reads = rw (a.reads, b.reads, c.reads); numbers = (tt, (a.numbers, (b.numbers, (c.numbers, tt)))); shallow = let p = a.shallow in let q = b.shallow in let r = c.shallow in grind (arith, p, q, r) }
+      record {
+        reads = rw (a.reads, b.reads, c.reads);
+        numbers =
+            (tt, (a.numbers, (b.numbers, (c.numbers, tt))));
+        shallow = let p = a.shallow in let q = b.shallow in let r =
+            c.shallow in grind (arith, p, q, r);
+      }
   answer_readable (Drops firm keeps gain over) claim within =
       let a = gain_readable gain within.0 in
       let b = list_readable 0 (map (name_data names.trades) keeps) (names_readable names.trades keeps) in
       let c = number_readable 0 over within.1 in
-      record { reads = rw (a.reads, b.reads, c.reads); numbers = (tt, (tt, (a.numbers, (b.numbers, (c.numbers, tt))))); shallow = let p = a.shallow in let q = b.shallow in let r = c.shallow in grind (arith, p, q, r) }
+      record {
+        reads = rw (a.reads, b.reads, c.reads);
+        numbers =
+            (tt, (tt, (a.numbers, (b.numbers, (c.numbers, tt)))));
+        shallow = let p = a.shallow in let q = b.shallow in
+            let r = c.shallow in grind (arith, p, q, r);
+      }
   answer_readable (Completes prices over) claim within =
       let a = number_readable 0 over within.1 in
       let b = list_readable 1 (prices_from names.trades 0 prices) (prices_readable names.trades 0 prices within.0) in
-      record { reads = rw (a.reads, b.reads); numbers = (tt, (a.numbers, (b.numbers, tt))); shallow = let p = a.shallow in let q = b.shallow in grind (arith, p, q) }
+      record {
+        reads = rw (a.reads, b.reads);
+        numbers = (tt, (a.numbers, (b.numbers, tt)));
+        shallow = let p = a.shallow
+            in let q = b.shallow in grind (arith, p, q);
+      }
   answer_readable (Blocks contracts over) claim within =
-      let a = list_readable 1 (map (contract_data names.trades) contracts) (contracts_readable names.trades contracts within.0) in
+      let a = list_readable 1 (map (contract_data names.trades) contracts)
+      (contracts_readable names.trades contracts within.0) in
       let b = number_readable 0 over within.1 in
-      record { reads = rw (a.reads, b.reads); numbers = (tt, (a.numbers, (b.numbers, tt))); shallow = let p = a.shallow in let q = b.shallow in grind (arith, p, q) }
+      record {
+        reads = rw (a.reads, b.reads);
+        numbers = (tt, (a.numbers, (b.numbers, tt)));
+        shallow = let p = a.shallow
+            in let q = b.shallow in grind (arith, p, q);
+      }
   answer_readable said claim within = absurd (true≢false (sym claim))
 
 text_read : (d : Data) → IsReadable 4 d → read (compact_text d) ≡ Some d
 text_read d is =
     let shallow : depth (outline d) ≤ max_depth = let h = is.shallow in omega (arith, h) in
     let same : tokens (compact_text d) ≡ json_tokens (outline d) ++ [] =
-    ap tokens (sym (print-outline d)) ∙ tokens-print (json_tokens (outline d)) (ArePrintable-json_tokens (outline d) is.numbers) ∙ sym (append-nil (json_tokens (outline d))) in
+    ap tokens (sym (print-outline d)) ∙ tokens-print (json_tokens (outline d))
+    (ArePrintable-json_tokens (outline d) is.numbers) ∙ sym (append-nil (json_tokens (outline d))) in
     ap (λ ts. option_and_then of_json (option_and_then (λ p. if_last p.0 p.1) (value max_depth ts))) same
-    ∙ ap (λ o. option_and_then of_json (option_and_then (λ p. if_last p.0 p.1) o)) (value-json_tokens (outline d) max_depth [] shallow)
+    ∙ ap (λ o. option_and_then of_json (option_and_then (λ p. if_last p.0 p.1) o))
+    (value-json_tokens (outline d) max_depth [] shallow)
     ∙ is.reads
 
 -- a claim is written as one line of JSON
-claim_line : (names : NameLists) (said : Said) → is_claim said ≡ true → answer_line Object names said ≡ compact_text (answer_data names said) ++ 10 ∷ []
+claim_line : (names : NameLists) (said : Said) → is_claim said ≡ true
+    → answer_line Object names said ≡ compact_text (answer_data names said) ++ 10 ∷ []
 unfolding answer_line
 claim_line names (Equilibrium surplus) claim = refl
 claim_line names (Better firm bundle gain) claim = refl
@@ -181,4 +251,7 @@ claim_line names (Blocks contracts over) claim = refl
 claim_line names said claim = absurd (true≢false (sym claim))
 
 pub lines_are_read : LinesAreRead
-lines_are_read names said claim within = (claim_line names said claim, text_read (answer_data names said) (answer_readable names said claim within))
+lines_are_read names said claim within = (
+  claim_line names said claim,
+  text_read (answer_data names said) (answer_readable names said claim within),
+)

@@ -31,13 +31,17 @@ use Rattle.tn_replay_laws.proofs.NameLemmas.{trade_back}
 -- ---- reading a list after another
 
 module _ {A : Type 0} (step : A → Data → Result A Fault) where
-  pub each-append : (xs ys : List Data) (start : A) → each step start (items_of (xs ++ ys)) ≡ (each step start (items_of xs) >>= λ middle. each step middle (items_of ys))
+  pub each-append : (xs ys : List Data) (start : A) → each step start (items_of (xs ++ ys))
+      ≡ (each step start (items_of xs) >>= λ middle. each step middle (items_of ys))
   unfolding each
   each-append [] ys start = refl
   each-append (d ∷ xs) ys start = by_step (step start d) (each-append xs ys)
     where
-      by_step : (r : Result A Fault) → ((next : A) → each step next (items_of (xs ++ ys)) ≡ (each step next (items_of xs) >>= λ middle. each step middle (items_of ys)))
-          → (r >>= λ next. each step next (items_of (xs ++ ys))) ≡ ((r >>= λ next. each step next (items_of xs)) >>= λ middle. each step middle (items_of ys))
+      by_step : (r : Result A Fault)
+          → ((next : A) → each step next (items_of (xs ++ ys))
+          ≡ (each step next (items_of xs) >>= λ middle. each step middle (items_of ys)))
+          → (r >>= λ next. each step next (items_of (xs ++ ys)))
+          ≡ ((r >>= λ next. each step next (items_of xs)) >>= λ middle. each step middle (items_of ys))
       by_step (Ok next) rest = rest next
       by_step (Err e) rest = refl
 
@@ -58,7 +62,8 @@ on-chosen x (suc n) = ap (λ front. front ++ (if has x n then n ∷ [] else []))
 
 of-chosen : (trades : List Ends) (f n x : ℕ) → trades_of trades f n x ≡ chosen (own trades f) x n
 of-chosen trades f zero x = refl
-of-chosen trades f (suc n) x = ap (λ front. front ++ (if has x n then own trades f n ∷ [] else [])) (of-chosen trades f n x)
+of-chosen trades f (suc n) x =
+    ap (λ front. front ++ (if has x n then own trades f n ∷ [] else [])) (of-chosen trades f n x)
 
 -- k isn't among the members below it
 not_yet : (x k : ℕ) → has (set_of (has x) k) k ≡ false
@@ -80,7 +85,8 @@ module _ {B : Type 0} (step : ℕ → Data → Result ℕ Fault) (data_of : B �
   each_chosen (suc n) one = by_test (has x n) (each_chosen n (λ k below. one k (omega (arith, below))))
     where
       by_test : (b : Bool) → each step 0 (items_of (map data_of (chosen g x n))) ≡ Ok (set_of (has x) n)
-          → each step 0 (items_of (map data_of (chosen g x n ++ cond b (g n ∷ []) []))) ≡ Ok (cond b (toggle (set_of (has x) n) n) (set_of (has x) n))
+          → each step 0 (items_of (map data_of (chosen g x n ++ cond b (g n ∷ []) [])))
+          ≡ Ok (cond b (toggle (set_of (has x) n) n) (set_of (has x) n))
       by_test true front =
           ap (λ l. each step 0 (items_of l)) (map-append data_of (chosen g x n) (g n ∷ []))
           ∙ each-append step (map data_of (chosen g x n)) (data_of (g n) ∷ []) 0
@@ -91,15 +97,19 @@ module _ {B : Type 0} (step : ℕ → Data → Result ℕ Fault) (data_of : B �
 -- ---- a set of trades
 
 module _ (names : List (List ℕ)) (are : IsNameList names) (place : List PlaceStep) where
-  pub new_trade_back : (at : List PlaceStep) (named t : ℕ) → t < length names → has named t ≡ false → new_trade names at named (name_data names t) ≡ Ok t
+  pub new_trade_back : (at : List PlaceStep) (named t : ℕ) → t < length names → has named t ≡ false
+      → new_trade names at named (name_data names t) ≡ Ok t
   unfolding new_trade
   new_trade_back at named t below new = rw (trade_back names are at t below, new)
 
-  on_step : (x k : ℕ) → k < length names → one_on names place (set_of (has x) k) (name_data names k) ≡ Ok (toggle (set_of (has x) k) k)
+  on_step : (x k : ℕ) → k < length names → one_on names place (set_of (has x) k) (name_data names k)
+      ≡ Ok (toggle (set_of (has x) k) k)
   unfolding one_on
-  on_step x k below = rw (new_trade_back (place ++ Index (size (set_of (has x) k)) ∷ []) (set_of (has x) k) k below (not_yet x k))
+  on_step x k below =
+      rw (new_trade_back (place ++ Index (size (set_of (has x) k)) ∷ []) (set_of (has x) k) k below (not_yet x k))
 
-  pub set_back : (x : ℕ) → each (one_on names place) 0 (items_of (map (name_data names) (trades_on x (length names)))) ≡ Ok (set_of (has x) (length names))
+  pub set_back : (x : ℕ) → each (one_on names place) 0 (items_of (map (name_data names) (trades_on x (length names))))
+      ≡ Ok (set_of (has x) (length names))
   set_back x =
       ap (λ l. each (one_on names place) 0 (items_of (map (name_data names) l))) (on-chosen x (length names))
       ∙ each_chosen (one_on names place) (name_data names) (λ k. k) x (length names) (on_step x)
@@ -107,14 +117,17 @@ module _ (names : List (List ℕ)) (are : IsNameList names) (place : List PlaceS
 -- ---- bundles and positions of a firm
 
 -- where a trade stands is its position
-position_of : (f k : ℕ) (trade : Ends) → trade.seller ≢ trade.buyer → stands_at trade f k ≡ true → position_in f trade ≡ Some k
+position_of : (f k : ℕ) (trade : Ends) → trade.seller ≢ trade.buyer → stands_at trade f k ≡ true
+    → position_in f trade ≡ Some k
 position_of f k trade different stands = by_tests (nat_eq trade.seller f) (nat_eq trade.buyer f) refl refl stands
   where
     by_tests : (sells buys : Bool) → nat_eq trade.seller f ≡ sells → nat_eq trade.buyer f ≡ buys
         → ((sells && nat_eq trade.at_seller k) || (buys && nat_eq trade.at_buyer k)) ≡ true
         → cond sells (Some trade.at_seller) (cond buys (Some trade.at_buyer) None) ≡ Some k
-    by_tests true true seller buyer stands = absurd (different (eqb-true trade.seller f seller ∙ sym (eqb-true trade.buyer f buyer)))
-    by_tests true false seller buyer stands = ap Some (eqb-true trade.at_seller k (at_first (nat_eq trade.at_seller k) stands))
+    by_tests true true seller buyer stands =
+        absurd (different (eqb-true trade.seller f seller ∙ sym (eqb-true trade.buyer f buyer)))
+    by_tests true false seller buyer stands =
+        ap Some (eqb-true trade.at_seller k (at_first (nat_eq trade.at_seller k) stands))
       where
         at_first : (b : Bool) → (b || false) ≡ true → b ≡ true
         at_first true e = refl
@@ -130,28 +143,42 @@ pub record AreRead (listed : Listed) (firms : List Firm) : Type 0 where
   pub trades_named : length listed.names.trades ≡ length listed.ends
   pub network : IsNetwork firms listed.ends
 
-module _ (listed : Listed) (firms : List Firm) (are : AreRead listed firms) (f : ℕ) (firm : Firm) (is : slice_get firms f ≡ Some firm) where
-  own_at : (k : ℕ) → k < firm.count → option_and_then (position_on None f) (slice_get listed.ends (own listed.ends f k)) ≡ Some k
+module _ (listed : Listed) (firms : List Firm) (are : AreRead listed firms) (f : ℕ) (firm : Firm)
+    (is : slice_get firms f ≡ Some firm) where
+  own_at : (k : ℕ) → k < firm.count → option_and_then (position_on None f) (slice_get listed.ends (own listed.ends f k))
+      ≡ Some k
   own_at k below =
       let there = own_stands listed.ends f k (are.network.whole f k firm is below) in
-      ap (option_and_then (position_in f)) there.is ∙ position_of f k there.trade (are.network.apart (own listed.ends f k) there.trade there.is) there.stands
+      ap (option_and_then (position_in f)) there.is ∙ position_of f k there.trade
+      (are.network.apart (own listed.ends f k) there.trade there.is) there.stands
 
   pub own_named : (k : ℕ) → k < firm.count → own listed.ends f k < length listed.names.trades
-  own_named k below = let inside = are.network.whole f k firm is below in let counted = are.trades_named in omega (arith, inside, counted)
+  own_named k below = let inside = are.network.whole f k firm is below in let counted = are.trades_named in
+      omega (arith, inside, counted)
 
-  pub position_back : (place : List PlaceStep) (k : ℕ) → k < firm.count → own_position listed f None place (name_data listed.names.trades (own listed.ends f k)) ≡ Ok k
+  pub position_back : (place : List PlaceStep) (k : ℕ) → k < firm.count
+      → own_position listed f None place (name_data listed.names.trades (own listed.ends f k)) ≡ Ok k
   unfolding own_position
-  position_back place k below = rw (trade_back listed.names.trades are.trade_names place (own listed.ends f k) (own_named k below), own_at k below)
+  position_back place k below =
+      rw (
+        trade_back listed.names.trades are.trade_names place (own listed.ends f k) (own_named k below),
+        own_at k below,
+      )
 
-  own_step : (place : List PlaceStep) (x k : ℕ) → k < firm.count → own_reference listed f place (set_of (has x) k) (name_data listed.names.trades (own listed.ends f k)) ≡ Ok (toggle (set_of (has x) k) k)
+  own_step : (place : List PlaceStep) (x k : ℕ) → k < firm.count
+      → own_reference listed f place (set_of (has x) k) (name_data listed.names.trades (own listed.ends f k))
+      ≡ Ok (toggle (set_of (has x) k) k)
   unfolding own_reference new_own
   own_step place x k below = rw (position_back (place ++ Index (size (set_of (has x) k)) ∷ []) k below, not_yet x k)
 
-  pub bundle_back : (place : List PlaceStep) (x : ℕ) → x < 2 ^ firm.count → bundle_at listed f place (Some (names_data listed.names.trades (trades_of listed.ends f firm.count x))) ≡ Ok x
+  pub bundle_back : (place : List PlaceStep) (x : ℕ) → x < 2 ^ firm.count
+      → bundle_at listed f place (Some (names_data listed.names.trades (trades_of listed.ends f firm.count x))) ≡ Ok x
   unfolding bundle_at
   bundle_back place x below =
-      ap (λ l. each (own_reference listed f place) 0 (items_of (map (name_data listed.names.trades) l))) (of-chosen listed.ends f firm.count x)
-      ∙ each_chosen (own_reference listed f place) (name_data listed.names.trades) (own listed.ends f) x firm.count (own_step place x)
+      ap (λ l. each (own_reference listed f place) 0 (items_of (map (name_data listed.names.trades) l)))
+      (of-chosen listed.ends f firm.count x)
+      ∙ each_chosen (own_reference listed f place) (name_data listed.names.trades) (own listed.ends f) x firm.count
+      (own_step place x)
       ∙ ap Ok (set_whole x firm.count below)
 
   -- a position as its trade, or null
@@ -166,15 +193,19 @@ module _ (names : List (List ℕ)) (are : IsNameList names) where
   abbrev IsKnown : Option ℕ → Type 0
   IsKnown node = IfSome node (λ t. t < length names)
 
-  one_node_back : (nodes : List (Option ℕ)) (node : Option ℕ) → IsKnown node → one_node names nodes (option_data names node) ≡ Ok (nodes ++ node ∷ [])
+  one_node_back : (nodes : List (Option ℕ)) (node : Option ℕ) → IsKnown node
+      → one_node names nodes (option_data names node) ≡ Ok (nodes ++ node ∷ [])
   unfolding one_node
   one_node_back nodes None known = refl
-  one_node_back nodes (Some t) known = rw (trade_back names are (member_place Nodes ++ Index (length nodes) ∷ []) t known)
+  one_node_back nodes (Some t) known =
+      rw (trade_back names are (member_place Nodes ++ Index (length nodes) ∷ []) t known)
 
-  pub each_node_back : (before nodes : List (Option ℕ)) → All IsKnown nodes → each (one_node names) before (items_of (map (option_data names) nodes)) ≡ Ok (before ++ nodes)
+  pub each_node_back : (before nodes : List (Option ℕ)) → All IsKnown nodes
+      → each (one_node names) before (items_of (map (option_data names) nodes)) ≡ Ok (before ++ nodes)
   unfolding each
   each_node_back before [] known = ap Ok (sym (append-nil before))
   each_node_back before (node ∷ nodes) known =
-      ap (λ r. r >>= λ next. each (one_node names) next (items_of (map (option_data names) nodes))) (one_node_back before node (All-head IsKnown node nodes known))
+      ap (λ r. r >>= λ next. each (one_node names) next (items_of (map (option_data names) nodes)))
+      (one_node_back before node (All-head IsKnown node nodes known))
       ∙ each_node_back (before ++ node ∷ []) nodes (All-tail IsKnown node nodes known)
       ∙ ap Ok (append_assoc before (node ∷ []) nodes)

@@ -21,7 +21,8 @@ use Rattle.tn_answer.specs.Values.{integer_data, name_data}
 -- ---- names
 
 -- a name that is there is found
-position_there : (name : List ℕ) (names : List (List ℕ)) (k : ℕ) → slice_get names k ≡ Some name → position_or_len (bytes_eq name) names < length names
+position_there : (name : List ℕ) (names : List (List ℕ)) (k : ℕ) → slice_get names k ≡ Some name
+    → position_or_len (bytes_eq name) names < length names
 position_there name names k at = elim (cases_lt (position_or_len (bytes_eq name) names) (length names)) [
   | inl below ↦ below
   | inr past ↦
@@ -31,29 +32,38 @@ position_there name names k at = elim (cases_lt (position_or_len (bytes_eq name)
       absurd (true≢false (sym ((bytes_eq-Decides name (get_or names k [])).1 (sym is)) ∙ fails))
 ]
 
-found_number : (names : List (List ℕ)) (name : List ℕ) (k : ℕ) → slice_get names k ≡ Some name → number_of names name ≡ Some (position_or_len (bytes_eq name) names)
+found_number : (names : List (List ℕ)) (name : List ℕ) (k : ℕ) → slice_get names k ≡ Some name
+    → number_of names name ≡ Some (position_or_len (bytes_eq name) names)
 found_number names name k at = by_test (nat_lt (position_or_len (bytes_eq name) names) (length names)) refl
   where
-    by_test : (b : Bool) → nat_lt (position_or_len (bytes_eq name) names) (length names) ≡ b → cond b (Some (position_or_len (bytes_eq name) names)) None ≡ Some (position_or_len (bytes_eq name) names)
+    by_test : (b : Bool) → nat_lt (position_or_len (bytes_eq name) names) (length names) ≡ b
+        → cond b (Some (position_or_len (bytes_eq name) names)) None ≡ Some (position_or_len (bytes_eq name) names)
     by_test true e = refl
     by_test false e = let below = position_there name names k at in absurd (grind (arith, e, below))
 
-pub number_of_name : (names : List (List ℕ)) → IsNameList names → (k : ℕ) (name : List ℕ) → slice_get names k ≡ Some name → number_of names name ≡ Some k
+pub number_of_name : (names : List (List ℕ)) → IsNameList names → (k : ℕ) (name : List ℕ)
+    → slice_get names k ≡ Some name → number_of names name ≡ Some k
 number_of_name names are k name at =
     let found = found_number names name k at in
-    found ∙ ap Some (are.once (position_or_len (bytes_eq name) names) k name (name_at_number names name (position_or_len (bytes_eq name) names) found) at)
+    found ∙ ap Some (are.once (position_or_len (bytes_eq name) names) k name
+    (name_at_number names name (position_or_len (bytes_eq name) names) found) at)
 
-name_is : (names : List (List ℕ)) (k : ℕ) → k < length names → slice_get names k ≡ Some (unwrap_or (slice_get names k) [])
-name_is names k below = let at = slice_get-get_or names k [] below in at ∙ ap (λ found. Some (unwrap_or found [])) (sym at)
+name_is : (names : List (List ℕ)) (k : ℕ) → k < length names
+    → slice_get names k ≡ Some (unwrap_or (slice_get names k) [])
+name_is names k below = let at = slice_get-get_or names k [] below in
+    at ∙ ap (λ found. Some (unwrap_or found [])) (sym at)
 
-pub name_number : (names : List (List ℕ)) → IsNameList names → (k : ℕ) → k < length names → number_of names (unwrap_or (slice_get names k) []) ≡ Some k
+pub name_number : (names : List (List ℕ)) → IsNameList names → (k : ℕ) → k < length names
+    → number_of names (unwrap_or (slice_get names k) []) ≡ Some k
 name_number names are k below = number_of_name names are k (unwrap_or (slice_get names k) []) (name_is names k below)
 
-pub trade_back : (names : List (List ℕ)) → IsNameList names → (place : List PlaceStep) (k : ℕ) → k < length names → trade_at names place (name_data names k) ≡ Ok k
+pub trade_back : (names : List (List ℕ)) → IsNameList names → (place : List PlaceStep) (k : ℕ) → k < length names
+    → trade_at names place (name_data names k) ≡ Ok k
 unfolding trade_at
 trade_back names are place k below = rw (name_number names are k below)
 
-pub firm_back : (names : List (List ℕ)) → IsNameList names → (place : List PlaceStep) (k : ℕ) → k < length names → firm_at names place (Some (name_data names k)) ≡ Ok k
+pub firm_back : (names : List (List ℕ)) → IsNameList names → (place : List PlaceStep) (k : ℕ) → k < length names
+    → firm_at names place (Some (name_data names k)) ≡ Ok k
 unfolding firm_at
 firm_back names are place k below = rw (name_number names are k below)
 
@@ -68,11 +78,13 @@ whole_back (pos n) limit short small = let high = small.high in
     ap (λ b. cond b (Some (pos n)) None) below
 whole_back (negsuc n) limit short small = refl
 
-pub number_back : (limit : ℕ) (place : List PlaceStep) (z : ℤ) → limit < 2 ^ 63 → IsAtMost z limit → number_in limit place (Some (integer_data z)) ≡ Ok z
+pub number_back : (limit : ℕ) (place : List PlaceStep) (z : ℤ) → limit < 2 ^ 63 → IsAtMost z limit
+    → number_in limit place (Some (integer_data z)) ≡ Ok z
 unfolding number_in
 number_back limit place z short small = rw (whole_back z limit short small, is_small z limit small)
 
-pub over_back : (limit : ℕ) (place : List PlaceStep) (z : ℤ) → limit < 2 ^ 63 → pos 1 ≤ℤ z → z ≤ℤ pos limit → over_at limit place (Some (integer_data z)) ≡ Ok z
+pub over_back : (limit : ℕ) (place : List PlaceStep) (z : ℤ) → limit < 2 ^ 63 → pos 1 ≤ℤ z → z ≤ℤ pos limit
+    → over_at limit place (Some (integer_data z)) ≡ Ok z
 unfolding over_at
 over_back limit place z short least most =
     let small : IsAtMost z limit = record { low = omega (arith, ints, least); high = most } in

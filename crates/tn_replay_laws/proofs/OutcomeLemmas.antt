@@ -49,9 +49,11 @@ product_least d e d_least e_least =
     let one : d *ℤ pos 1 ≡ d = omega (arith, ints) in
     omega (arith, ints, more, one, d_least)
 
-module _ (top : Data) (doc : DocumentData) (signed : OutcomeIs) (from : IsReadFrom Outcome top doc) (extra : doc.extra ≡ outcome signed) where
+module _ (top : Data) (doc : DocumentData) (signed : OutcomeIs) (from : IsReadFrom Outcome top doc) (extra : doc.extra
+    ≡ outcome signed) where
   outcome_there : (value : Data) → outcome_of (listed_in from.parts.limits doc) (with_claim value top) ≡ Ok signed
-  outcome_there value = outcome_other (listed_in from.parts.limits doc) value top ∙ outcome_read (listed_in from.parts.limits doc) top signed (from.parts.extra ∙ ap Ok extra)
+  outcome_there value = outcome_other (listed_in from.parts.limits doc) value top
+      ∙ outcome_read (listed_in from.parts.limits doc) top signed (from.parts.extra ∙ ap Ok extra)
 
   within_limits : IsOutcomeWithin (length doc.ends) signed
   within_limits = subst (IsExtra doc.firms doc.ends) extra from.is.extra
@@ -64,7 +66,8 @@ module _ (top : Data) (doc : DocumentData) (signed : OutcomeIs) (from : IsReadFr
 
   -- ---- a firm that would drop contracts
 
-  module _ (f keeps : ℕ) (gain : Option ℤ) (first : IsFirstDrop doc.firms doc.ends signed.over signed.contracts f keeps gain) where
+  module _ (f keeps : ℕ) (gain : Option ℤ) (first : IsFirstDrop doc.firms doc.ends signed.over signed.contracts f keeps
+      gain) where
     abbrev firm : Firm
     firm = first.firm
 
@@ -72,28 +75,40 @@ module _ (top : Data) (doc : DocumentData) (signed : OutcomeIs) (from : IsReadFr
     signer = record { network = from.is.network; feasible = feasible; is = first.is }
 
     keeps_below : keeps < 2 ^ firm.count
-    keeps_below = subst (λ x. x < 2 ^ firm.count) first.drops.bundle (set_of_within (λ k. is_traded signed.contracts first.drops.kept (own doc.ends f k) (length signed.contracts)) firm.count)
+    keeps_below =
+        subst (λ x. x < 2 ^ firm.count) first.drops.bundle (set_of_within
+        (λ k. is_traded signed.contracts first.drops.kept (own doc.ends f k) (length signed.contracts)) firm.count)
 
     -- it keeps contracts alone
     are_signed : AreSigned doc.ends signed f keeps
     are_signed k kept =
-        let inside = bundle_signed doc.firms doc.ends signed.contracts f firm signer first.drops.kept k (ap (λ x. has x k) first.drops.bundle ∙ kept) in
-        sym (has-signed_bundle doc.firms doc.ends from.is.network signed.contracts f k firm first.is (has_below keeps firm.count k keeps_below kept)) ∙ inside
+        let inside =
+        bundle_signed doc.firms doc.ends signed.contracts f firm signer first.drops.kept k
+        (ap (λ x. has x k) first.drops.bundle ∙ kept) in
+        sym (has-signed_bundle doc.firms doc.ends from.is.network signed.contracts f k firm first.is
+        (has_below keeps firm.count k keeps_below kept)) ∙ inside
 
     -- its utilities, by bundles
-    kept_utility : utility_at doc.ends signed.over (signed_price signed.contracts) f firm keeps ≡ Some first.drops.choice.value
+    kept_utility : utility_at doc.ends signed.over (signed_price signed.contracts) f firm keeps
+        ≡ Some first.drops.choice.value
     kept_utility =
-        subst (λ x. utility_at doc.ends signed.over (signed_price signed.contracts) f firm x ≡ Some first.drops.choice.value) first.drops.bundle
-        (sym (part_is_bundle doc.firms doc.ends signed.over signed.contracts f firm signer first.drops.kept first.drops.choice.part) ∙ first.drops.choice.is)
+        subst (λ x. utility_at doc.ends signed.over (signed_price signed.contracts) f firm x
+        ≡ Some first.drops.choice.value) first.drops.bundle
+        (sym (part_is_bundle doc.firms doc.ends signed.over signed.contracts f firm signer first.drops.kept
+        first.drops.choice.part) ∙ first.drops.choice.is)
 
     own_utility : part_utility doc.ends signed.over f firm signed.contracts (own_part doc.ends f signed.contracts)
-        ≡ utility_at doc.ends signed.over (signed_price signed.contracts) f firm (signed_bundle doc.ends signed.contracts f firm)
+        ≡ utility_at doc.ends signed.over (signed_price signed.contracts) f firm
+        (signed_bundle doc.ends signed.contracts f firm)
     own_utility =
-        part_is_bundle doc.firms doc.ends signed.over signed.contracts f firm signer (own_part doc.ends f signed.contracts) (own_is_part doc.ends signed.contracts feasible f)
-        ∙ ap (utility_at doc.ends signed.over (signed_price signed.contracts) f firm) (own_bundle doc.firms doc.ends signed.contracts f firm signer)
+        part_is_bundle doc.firms doc.ends signed.over signed.contracts f firm signer
+        (own_part doc.ends f signed.contracts) (own_is_part doc.ends signed.contracts feasible f)
+        ∙ ap (utility_at doc.ends signed.over (signed_price signed.contracts) f firm)
+        (own_bundle doc.firms doc.ends signed.contracts f firm signer)
 
     -- it has more than by all its contracts, since these are no choice
-    more : (all : ℤ) → part_utility doc.ends signed.over f firm signed.contracts (own_part doc.ends f signed.contracts) ≡ Some all → IsPositive (first.drops.choice.value -ℤ all)
+    more : (all : ℤ) → part_utility doc.ends signed.over f firm signed.contracts (own_part doc.ends f signed.contracts)
+        ≡ Some all → IsPositive (first.drops.choice.value -ℤ all)
     more all is = by_test (int_le first.drops.choice.value all) refl
       where
         by_test : (b : Bool) → int_le first.drops.choice.value all ≡ b → IsPositive (first.drops.choice.value -ℤ all)
@@ -104,71 +119,107 @@ module _ (top : Data) (doc : DocumentData) (signed : OutcomeIs) (from : IsReadFr
               part = own_is_part doc.ends signed.contracts feasible f;
               value = all;
               is = is;
-              most = λ y other part y_is. let most = first.drops.choice.most y other part y_is in omega (arith, ints, le, most);
+              most = λ y other part y_is. let most = first.drops.choice.most y other part y_is in
+                  omega (arith, ints, le, most);
             }))
 
-    gains_by : (all : Option ℤ) → part_utility doc.ends signed.over f firm signed.contracts (own_part doc.ends f signed.contracts) ≡ all
-        → GainsByKeeping doc.ends signed f firm keeps (option_map (λ own. first.drops.choice.value -ℤ own) all) × IfSome (option_map (λ own. first.drops.choice.value -ℤ own) all) IsPositive
-    gains_by (Some all) is = (record { value = first.drops.choice.value; value_is = kept_utility; other = all; other_is = sym own_utility ∙ is; gain_is = refl }, more all is)
-    gains_by None is =
-        ((possible_worth _ (firm.worth keeps) first.drops.choice.value kept_utility, impossible_worth _ (firm.worth (signed_bundle doc.ends signed.contracts f firm)) (sym own_utility ∙ is)), tt)
+    gains_by : (all : Option ℤ)
+        → part_utility doc.ends signed.over f firm signed.contracts (own_part doc.ends f signed.contracts) ≡ all
+        → GainsByKeeping doc.ends signed f firm keeps (option_map (λ own. first.drops.choice.value -ℤ own) all)
+        × IfSome (option_map (λ own. first.drops.choice.value -ℤ own) all) IsPositive
+    gains_by (Some all) is = (
+      record {
+        value = first.drops.choice.value;
+        value_is = kept_utility;
+        other = all;
+        other_is =
+            sym own_utility ∙ is;
+        gain_is = refl;
+      },
+      more all is,
+    )
+    gains_by None is = (
+      (
+        possible_worth _ (firm.worth keeps) first.drops.choice.value kept_utility,
+        impossible_worth _ (firm.worth (signed_bundle doc.ends signed.contracts f firm)) (sym own_utility ∙ is),
+      ),
+      tt,
+    )
 
     drops_valid : GainsByKeeping doc.ends signed f firm keeps gain × IfSome gain IsPositive
     drops_valid =
         subst (λ g. GainsByKeeping doc.ends signed f firm keeps g × IfSome g IsPositive) (sym first.drops.gains)
-        (gains_by (part_utility doc.ends signed.over f firm signed.contracts (own_part doc.ends f signed.contracts)) refl)
+        (gains_by (part_utility doc.ends signed.over f firm signed.contracts (own_part doc.ends f signed.contracts))
+        refl)
 
-    drops_replay : IfSome gain (λ z. IsAtMost z most_number) → IsReplayed top doc (Drops f (trades_of doc.ends f firm.count keeps) gain signed.over)
+    drops_replay : IfSome gain (λ z. IsAtMost z most_number)
+        → IsReplayed top doc (Drops f (trades_of doc.ends f firm.count keeps) gain signed.over)
     drops_replay small =
         let said = Drops f (trades_of doc.ends f firm.count keeps) gain signed.over in
         let value = answer_data doc.names said in
         let valid = drops_valid in
         replayed Outcome top doc from said (codes "drops") (DropsClaim signed f keeps gain signed.over) refl refl
-        (drops_back (listed_in from.parts.limits doc) doc.firms (are_read Outcome top doc from) (with_claim value top) signed f firm keeps gain signed.over first.is keeps_below small within_limits.least over_most
+        (drops_back (listed_in from.parts.limits doc) doc.firms (are_read Outcome top doc from) (with_claim value top)
+        signed f firm keeps gain signed.over first.is keeps_below small within_limits.least over_most
         (there Outcome top doc from said) (outcome_there value))
         (refl, are_signed, (firm, first.is, valid.0), valid.1)
 
   -- ---- prices that complete the outcome
 
-  completes_replay : (prices : List ℤ) → IsCompletedBy doc.firms doc.ends signed.over signed.contracts prices → All (λ z. IsAtMost z most_number) prices → IsReplayed top doc (Completes prices signed.over)
+  completes_replay : (prices : List ℤ) → IsCompletedBy doc.firms doc.ends signed.over signed.contracts prices
+      → All (λ z. IsAtMost z most_number) prices → IsReplayed top doc (Completes prices signed.over)
   completes_replay prices completed small =
       let said = Completes prices signed.over in
       let value = answer_data doc.names said in
       replayed Outcome top doc from said (codes "completes") (CompletesClaim signed prices signed.over) refl refl
-      (completes_back (listed_in from.parts.limits doc) doc.firms (are_read Outcome top doc from) (with_claim value top) signed prices signed.over (completed.one_each ∙ sym from.is.trades_named) small within_limits.least over_most
+      (completes_back (listed_in from.parts.limits doc) doc.firms (are_read Outcome top doc from) (with_claim value top)
+      signed prices signed.over (completed.one_each ∙ sym from.is.trades_named) small within_limits.least over_most
       (there Outcome top doc from said) (outcome_there value))
       (refl, completed.completes)
 
   -- ---- contracts that block it
 
-  blocks_replay : (offers : List Contract) → (over : ℤ) → pos 1 ≤ℤ over → over ≤ℤ pos most_claimed_over → DoBlock doc.firms doc.ends signed.over signed.contracts over offers
+  blocks_replay : (offers : List Contract) → (over : ℤ) → pos 1 ≤ℤ over → over ≤ℤ pos most_claimed_over
+      → DoBlock doc.firms doc.ends signed.over signed.contracts over offers
       → All (λ contract. IsAtMost contract.price most_number) offers → IsReplayed top doc (Blocks offers over)
   blocks_replay offers over least most blocks small =
       let said = Blocks offers over in
       let value = answer_data doc.names said in
       replayed Outcome top doc from said (codes "blocks") (BlocksClaim signed offers over) refl refl
-      (blocks_back (listed_in from.parts.limits doc) doc.firms (are_read Outcome top doc from) (with_claim value top) signed offers over
-      (λ k contract at. subst (λ n. contract.trade < n) (sym from.is.trades_named) (blocks.feasible.known k contract at)) blocks.feasible.once small least most
+      (blocks_back (listed_in from.parts.limits doc) doc.firms (are_read Outcome top doc from) (with_claim value top)
+      signed offers over
+      (λ k contract at. subst (λ n. contract.trade < n) (sym from.is.trades_named)
+      (blocks.feasible.known k contract at)) blocks.feasible.once small least most
       (there Outcome top doc from said) (outcome_there value))
       blocks
 
-  chain_replays : (offers : List Contract) (told : ℤ) → IsBlockedBy doc.firms doc.ends signed.over signed.contracts offers told → All (λ contract. IsAtMost contract.price most_number) offers
+  chain_replays : (offers : List Contract) (told : ℤ)
+      → IsBlockedBy doc.firms doc.ends signed.over signed.contracts offers told
+      → All (λ contract. IsAtMost contract.price most_number) offers
       → IsReplayed top doc (Blocks offers told)
   chain_replays offers told blocked small =
       let scale = chain_scale (length doc.ends) signed.contracts in
-      let least : pos 1 ≤ℤ (signed.over *ℤ scale) = product_least signed.over scale within_limits.least (omega (arith, ints)) in
-      let most = scale_small signed.over (length doc.ends) signed.contracts from.is.few_trades within_limits.least within_limits.most in
-      subst (λ over. IsReplayed top doc (Blocks offers over)) (sym blocked.over_is) (blocks_replay offers (signed.over *ℤ scale) least most blocked.chain.blocks small)
+      let least : pos 1 ≤ℤ (signed.over *ℤ scale) =
+      product_least signed.over scale within_limits.least (omega (arith, ints)) in
+      let most = scale_small signed.over (length doc.ends) signed.contracts from.is.few_trades within_limits.least
+      within_limits.most in
+      subst (λ over. IsReplayed top doc (Blocks offers over)) (sym blocked.over_is)
+      (blocks_replay offers (signed.over *ℤ scale) least most blocked.chain.blocks small)
 
-judged : (top : Data) (doc : DocumentData) (signed : OutcomeIs) (said : Said) → IsReadFrom Outcome top doc → doc.extra ≡ outcome signed
+judged : (top : Data) (doc : DocumentData) (signed : OutcomeIs) (said : Said) → IsReadFrom Outcome top doc
+    → doc.extra ≡ outcome signed
     → JudgesOutcome doc.firms doc.ends signed.over signed.contracts said → FitsClaim said → IsReplayed top doc said
 judged top doc signed (Drops f keeps gain told) from extra judges within =
     subst (λ over. IsReplayed top doc (Drops f keeps gain over)) (sym judges.3)
-    (subst (λ l. IsReplayed top doc (Drops f l gain signed.over)) (sym judges.2) (drops_replay top doc signed from extra f judges.0 gain judges.1 within))
+    (subst (λ l. IsReplayed top doc (Drops f l gain signed.over)) (sym judges.2)
+    (drops_replay top doc signed from extra f judges.0 gain judges.1 within))
 judged top doc signed (Completes prices told) from extra judges within =
-    subst (λ over. IsReplayed top doc (Completes prices over)) (sym judges.2) (completes_replay top doc signed from extra prices judges.1 within)
-judged top doc signed (Blocks offers told) from extra judges within = chain_replays top doc signed from extra offers told judges within
+    subst (λ over. IsReplayed top doc (Completes prices over)) (sym judges.2)
+    (completes_replay top doc signed from extra prices judges.1 within)
+judged top doc signed (Blocks offers told) from extra judges within =
+    chain_replays top doc signed from extra offers told judges within
 judged top doc signed said from extra judges within = absurd judges
 
 pub judgements_replay : JudgementsReplay
-judgements_replay top doc signed said read extra judges within = judged top doc signed said (read_from Outcome top doc read) extra judges within
+judgements_replay top doc signed said read extra judges within =
+    judged top doc signed said (read_from Outcome top doc read) extra judges within

@@ -30,24 +30,30 @@ use Rattle.tn_run.specs.Tested.{Tests}
 use Rattle.tn_run.specs.Words.{need_of}
 
 module _ (top : Data) (doc : DocumentData) (said : Said) (within : FitsClaim said) where
-  checked : document_of (need_of Check) top ≡ Ok doc → (extra : ExtraData) → doc.extra ≡ extra → ChecksExtra doc extra said → IsReplayed top doc said
+  checked : document_of (need_of Check) top ≡ Ok doc → (extra : ExtraData) → doc.extra ≡ extra
+      → ChecksExtra doc extra said → IsReplayed top doc said
   checked read (arrangement at) is checks = verdicts_replay top doc at said read is checks.0 within
   checked read extra is checks = absurd checks
 
-  judged : document_of (need_of Judge) top ≡ Ok doc → (extra : ExtraData) → doc.extra ≡ extra → JudgesExtra doc extra said → IsReplayed top doc said
+  judged : document_of (need_of Judge) top ≡ Ok doc → (extra : ExtraData) → doc.extra ≡ extra
+      → JudgesExtra doc extra said → IsReplayed top doc said
   judged read (outcome signed) is judges = judgements_replay top doc signed said read is judges within
   judged read extra is judges = absurd judges
 
-  supported : document_of (need_of Support) top ≡ Ok doc → (extra : ExtraData) → doc.extra ≡ extra → SupportsExtra doc extra said → IsReplayed top doc said
+  supported : document_of (need_of Support) top ≡ Ok doc → (extra : ExtraData) → doc.extra ≡ extra
+      → SupportsExtra doc extra said → IsReplayed top doc said
   supported read (on_alone on) is supports = supports_replay top doc on said read is supports within
   supported read extra is supports = absurd supports
 
-tested : (top : Data) (doc : DocumentData) (said : Said) → document_of (need_of Test) top ≡ Ok doc → Tests doc.firms doc.ends said → IsReplayed top doc said
-tested top doc Accepted read meet = tests_replay.accepted top doc read (λ f firm is. meet f firm (slice_get_within doc.firms f firm is) is)
+tested : (top : Data) (doc : DocumentData) (said : Said) → document_of (need_of Test) top ≡ Ok doc
+    → Tests doc.firms doc.ends said → IsReplayed top doc said
+tested top doc Accepted read meet =
+    tests_replay.accepted top doc read (λ f firm is. meet f firm (slice_get_within doc.firms f firm is) is)
 tested top doc (ExchangeFails f x y at) read fails = tests_replay.failing top doc f x y at read fails
 tested top doc said read tests = absurd tests
 
-replayed : (command : Command) (top : Data) (doc : DocumentData) (said : Said) → answers_claims command ≡ true → document_of (need_of command) top ≡ Ok doc → IsAnswerOf command doc said → FitsClaim said
+replayed : (command : Command) (top : Data) (doc : DocumentData) (said : Said) → answers_claims command ≡ true
+    → document_of (need_of command) top ≡ Ok doc → IsAnswerOf command doc said → FitsClaim said
     → IsReplayed top doc said
 replayed Check top doc said claims read answer within = checked top doc said within read doc.extra refl answer
 replayed Judge top doc said claims read answer within = judged top doc said within read doc.extra refl answer
@@ -60,23 +66,31 @@ replayed Support top doc said claims read answer within = supported top doc said
 replayed Test top doc said claims read answer within = tested top doc said read answer
 
 -- what bytes are read as, by their JSON value
-read_as : (need : Need) (bytes : List ℕ) (top : Data) → json_of bytes ≡ Some top → reading_of need bytes ≡ document_of need top
+read_as : (need : Need) (bytes : List ℕ) (top : Data) → json_of bytes ≡ Some top
+    → reading_of need bytes ≡ document_of need top
 unfolding reading_of
 read_as need bytes top is = rw is
 
 -- a claim that is valid has no other decision
-only_valid : RefutedIsNotValid → (firms : List Firm) (trades : List Ends) (claim : Claim) → IsValid firms trades claim → (answer : Said) → DecidesClaim firms trades claim answer → answer ≡ Valid
+only_valid : RefutedIsNotValid → (firms : List Firm) (trades : List Ends) (claim : Claim) → IsValid firms trades claim
+    → (answer : Said) → DecidesClaim firms trades claim answer → answer ≡ Valid
 only_valid refuted firms trades claim valid Valid decides = refl
-only_valid refuted firms trades claim valid (Invalid reason) decides = absurd (refuted.never firms trades claim reason decides valid)
+only_valid refuted firms trades claim valid (Invalid reason) decides =
+    absurd (refuted.never firms trades claim reason decides valid)
 only_valid refuted firms trades claim valid answer decides = absurd decides
 
 pub answers_replay : RefutedIsNotValid → AnswersReplay
 answers_replay refuted command bytes claimed top doc said claims is read answered within there names answer =
-    let replays = replayed command top doc said claims (sym (read_as (need_of command) bytes top is) ∙ read) answered within in
-    let reads : reading_of (need_of Replay) claimed ≡ Ok (claimed_in doc replays.read) = read_as (need_of Replay) claimed (with_claim (answer_data doc.names said) top) there ∙ replays.reads in
+    let replays =
+    replayed command top doc said claims (sym (read_as (need_of command) bytes top is) ∙ read) answered within in
+    let reads : reading_of (need_of Replay) claimed ≡ Ok (claimed_in doc replays.read) =
+    read_as (need_of Replay) claimed (with_claim (answer_data doc.names said) top) there ∙ replays.reads in
     let is_document = documents_are_networks (need_of Replay) claimed (claimed_in doc replays.read) reads in
     let implied = claim_implies doc.firms doc.ends replays.read is_document.network is_document.extra replays.valid in
     subst (λ r. IsAnswerTo Replay r names answer ↔ ((answer ≡ Valid) × (names ≡ doc.names))) (sym reads) (
       λ to. (only_valid refuted doc.firms doc.ends replays.read replays.valid answer to.0, to.1),
-      λ is_valid. (subst (DecidesClaim doc.firms doc.ends replays.read) (sym is_valid.0) (replays.valid, implied), is_valid.1),
+      λ is_valid. (
+        subst (DecidesClaim doc.firms doc.ends replays.read) (sym is_valid.0) (replays.valid, implied),
+        is_valid.1,
+      ),
     )

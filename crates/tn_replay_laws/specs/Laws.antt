@@ -1,5 +1,5 @@
--- Every answer replays, command by command: of any document that is read, any answer that the command's definition allows
--- is a valid claim once it is put into the document, where its numbers are within the limits of claims.
+-- Every answer replays, command by command: of any document that is read, any answer that the command's definition
+-- allows is a valid claim once it is put into the document, where its numbers are within the limits of claims.
 use Rattle.std.specs.Prelude.{◌≡◌, ℕ, pos, List, slice_get, Option, Some, Ok}
 use Rattle.serde_json.specs.Data.{Data}
 use Rattle.tn_replay_laws.specs.Fits.{FitsClaim}
@@ -26,9 +26,11 @@ VerdictsReplay = (top : Data) (doc : DocumentData) (at : Arranged) (said : Said)
 
 -- that every firm meets the exchange property, or the first triple of the first firm that doesn't
 pub record TestsReplay : Type 0 where
-  pub accepted : (top : Data) (doc : DocumentData) → document_of Raw top ≡ Ok doc → ((f : ℕ) (firm : Firm) → slice_get doc.firms f ≡ Some firm → MeetsExchange firm)
+  pub accepted : (top : Data) (doc : DocumentData) → document_of Raw top ≡ Ok doc
+      → ((f : ℕ) (firm : Firm) → slice_get doc.firms f ≡ Some firm → MeetsExchange firm)
       → IsReplayed top doc Accepted
-  pub failing : (top : Data) (doc : DocumentData) (f : ℕ) (x y : List ℕ) (at : Option ℕ) → document_of Raw top ≡ Ok doc → IsFirstToFail doc.firms doc.ends f x y at
+  pub failing : (top : Data) (doc : DocumentData) (f : ℕ) (x y : List ℕ) (at : Option ℕ) → document_of Raw top ≡ Ok doc
+      → IsFirstToFail doc.firms doc.ends f x y at
       → IsReplayed top doc (ExchangeFails f x y at)
 
 -- prices for the trades of the document's arrangement that are on, or why there are none
@@ -42,5 +44,6 @@ SolutionsReplay = (top : Data) (doc : DocumentData) (said : Said) → document_o
 
 -- the verdict on the document's outcome
 abbrev pub JudgementsReplay : Type 0
-JudgementsReplay = (top : Data) (doc : DocumentData) (signed : OutcomeIs) (said : Said) → document_of Outcome top ≡ Ok doc → doc.extra ≡ outcome signed
+JudgementsReplay = (top : Data) (doc : DocumentData) (signed : OutcomeIs) (said : Said)
+    → document_of Outcome top ≡ Ok doc → doc.extra ≡ outcome signed
     → JudgesOutcome doc.firms doc.ends signed.over signed.contracts said → FitsClaim said → IsReplayed top doc said

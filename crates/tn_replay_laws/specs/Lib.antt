@@ -1,3 +1,4 @@
+-- The files of definitions of this crate.
 pub mod Fits
 pub mod Replayed
 pub mod Laws

@@ -27,4 +27,5 @@ is_claim said = false
 -- its line, without the end of it, is read as its value
 abbrev pub LinesAreRead : Type 0
 LinesAreRead = (names : NameLists) (said : Said) → is_claim said ≡ true → IsWithinClaims said
-    → (answer_line Object names said ≡ compact_text (answer_data names said) ++ 10 ∷ []) × (read (compact_text (answer_data names said)) ≡ Some (answer_data names said))
+    → (answer_line Object names said ≡ compact_text (answer_data names said) ++ 10 ∷ [])
+    × (read (compact_text (answer_data names said)) ≡ Some (answer_data names said))

@@ -29,6 +29,9 @@ answers_claims Test = true
 -- to bytes that stand for a document with an answer to it as its claim, `replay` answers that the claim is valid, and
 -- nothing else, over the same names
 abbrev pub AnswersReplay : Type 0
-AnswersReplay = (command : Command) (bytes claimed : List ℕ) (top : Data) (doc : DocumentData) (said : Said) → answers_claims command ≡ true → json_of bytes ≡ Some top → reading_of (need_of command) bytes ≡ Ok doc
-    → IsAnswerOf command doc said → FitsClaim said → json_of claimed ≡ Some (with_claim (answer_data doc.names said) top)
-    → (names : NameLists) (answer : Said) → IsAnswerTo Replay (reading_of (need_of Replay) claimed) names answer ↔ ((answer ≡ Valid) × (names ≡ doc.names))
+AnswersReplay = (command : Command) (bytes claimed : List ℕ) (top : Data) (doc : DocumentData) (said : Said)
+    → answers_claims command ≡ true → json_of bytes ≡ Some top → reading_of (need_of command) bytes ≡ Ok doc
+    → IsAnswerOf command doc said → FitsClaim said → json_of claimed
+    ≡ Some (with_claim (answer_data doc.names said) top)
+    → (names : NameLists) (answer : Said) → IsAnswerTo Replay (reading_of (need_of Replay) claimed) names answer
+    ↔ ((answer ≡ Valid) × (names ≡ doc.names))

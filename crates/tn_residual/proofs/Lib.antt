@@ -1,3 +1,4 @@
+-- The files of lemmas of this crate.
 pub mod HeldLemmas
 pub mod TradeLemmas
 pub mod ResidualLemmas

@@ -27,7 +27,8 @@ pub record HoldsSigned (trades : List Ends) (contracts : List Contract) (f n hel
 pub record IsBestPart (x given : ℕ) (value_of : ℕ → Option ℤ) (part : ℕ) (value : ℤ) : Type 0 where
   pub inside : IsSubset part given
   pub is : value_of (union x part) ≡ Some value
-  pub most : (other_part : ℕ) (other : ℤ) → IsSubset other_part given → value_of (union x other_part) ≡ Some other → other ≤ℤ value
+  pub most : (other_part : ℕ) (other : ℤ) → IsSubset other_part given → value_of (union x other_part) ≡ Some other
+      → other ≤ℤ value
 
 -- such a part with the value, or none where x is impossible with each of them
 abbrev pub GivesPart : ℕ → ℕ → (ℕ → Option ℤ) → Option (ℕ × ℤ) → Type 0

@@ -1,5 +1,6 @@
--- The residual market of an outcome: the unsigned trades, and for each contract a firm outside the market that buys from
--- the contract's seller and sells to its buyer at the contract's price. So each end may drop its contract by itself.
+-- The residual market of an outcome: the unsigned trades, and for each contract a firm outside the market that buys
+-- from the contract's seller and sells to its buyer at the contract's price. So each end may drop its contract by
+-- itself.
 use Rattle.std.specs.Prelude.{ℕ, zero, suc, unsigned_abs, ◌+◌, ◌*◌, ℤ, ◌*ℤ◌, List, [], ◌∷◌, ◌++◌, length, map, slice_get, not, ◌&&◌, if◌then◌else◌, Option, Some, None}
 use Rattle.tn_base.specs.Sets.{has, set_of}
 use Rattle.tn_base.specs.Firm.{Firm}
@@ -16,7 +17,8 @@ use Rattle.tn_market.specs.Widths.{most_worth}
 -- the unsigned ones of some trades, which are numbered from t
 abbrev pub unsigned_from : List Contract → ℕ → List Ends → List Ends
 unsigned_from contracts t [] = []
-unsigned_from contracts t (trade ∷ trades) = if is_signed contracts t then unsigned_from contracts (t + 1) trades else trade ∷ unsigned_from contracts (t + 1) trades
+unsigned_from contracts t (trade ∷ trades) = if is_signed contracts t then unsigned_from contracts (t + 1) trades
+    else trade ∷ unsigned_from contracts (t + 1) trades
 
 -- the trade on which a contract's seller sells to firm g, and the one on which firm g sells to its buyer
 abbrev pub sold_to : ℕ → Ends → Ends
@@ -32,7 +34,8 @@ halves_of g (Some trade) = sold_to g trade ∷ bought_from g trade ∷ []
 -- these two for each contract, with firms numbered from g
 abbrev pub halves_from : List Ends → ℕ → List Contract → List Ends
 halves_from trades g [] = []
-halves_from trades g (contract ∷ contracts) = halves_of g (slice_get trades contract.trade) ++ halves_from trades (g + 1) contracts
+halves_from trades g (contract ∷ contracts) = halves_of g (slice_get trades contract.trade)
+    ++ halves_from trades (g + 1) contracts
 
 -- the unsigned trades in order, and then two for each contract; the firms outside are numbered from `firms` on
 abbrev pub residual_trades : ℕ → List Ends → List Contract → List Ends
@@ -48,7 +51,8 @@ unsigned n contracts = set_of (λ t. not (is_signed contracts t)) n
 abbrev pub levied_from : List Ends → List Contract → ℤ → ℤ → ℕ → List Firm → List Firm
 levied_from trades contracts scale tax f [] = []
 levied_from trades contracts scale tax f (firm ∷ firms) =
-    levied scale (part trades f firm.count (unsigned (length trades) contracts)) tax firm ∷ levied_from trades contracts scale tax (f + 1) firms
+    levied scale (part trades f firm.count (unsigned (length trades) contracts)) tax firm ∷ levied_from trades contracts
+    scale tax (f + 1) firms
 
 -- the firms outside, one for each contract
 abbrev pub outsides : ℤ → List Contract → List Firm
@@ -56,7 +60,8 @@ outsides scale contracts = map (λ contract. outside (scale *ℤ contract.price)
 
 -- the firms of an outcome over a denominator, where prices count `scale` times, and then those outside
 abbrev pub residual_of : List Firm → List Ends → ℤ → List Contract → ℤ → ℤ → List Firm
-residual_of firms trades over contracts scale tax = levied_from trades contracts (over *ℤ scale) tax 0 firms ++ outsides scale contracts
+residual_of firms trades over contracts scale tax =
+    levied_from trades contracts (over *ℤ scale) tax 0 firms ++ outsides scale contracts
 
 -- a bound on the size of every worth of a firm, where worths, and prices that are no larger, count `scale` times
 abbrev pub residual_limit : ℤ → ℕ

@@ -51,8 +51,8 @@ fn bought_from(outside: u32, trade: Ends) -> Ends
     }
 }
 
-/// Adds the two trades of each contract with a firm outside the market, from firm number `firms` on. It fails only where
-/// memory runs out.
+/// Adds the two trades of each contract with a firm outside the market, from firm number `firms` on. It fails only
+/// where memory runs out.
 fn add_halves<V: Valuation>(
     trades: &mut Vec<Ends>,
     market: &Market<V>,
@@ -62,7 +62,8 @@ fn add_halves<V: Valuation>(
     requires few_firms { firms ≤ most_firms }
     requires known { All (λ contract. contract.trade < length market.now.trades) outcome.now.contracts }
     requires few { length outcome.now.contracts ≤ most_trades }
-    ensures { IfOk result (λ done. trades.new.items ≡ trades.old.items ++ halves_from market.now.trades firms outcome.now.contracts) }
+    ensures { IfOk result (λ done. trades.new.items ≡ trades.old.items
+        ++ halves_from market.now.trades firms outcome.now.contracts) }
 {
     for c in 0..outcome.contracts.len() {
         let outside = firms + c as u32;
@@ -73,8 +74,8 @@ fn add_halves<V: Valuation>(
     Ok(())
 }
 
-/// The trades of the residual market: the unsigned ones, and then two for each contract. It fails only where memory runs
-/// out.
+/// The trades of the residual market: the unsigned ones, and then two for each contract. It fails only where memory
+/// runs out.
 pub fn all_trades<V: Valuation>(
     alloc: Global,
     market: &Market<V>,
@@ -82,7 +83,8 @@ pub fn all_trades<V: Valuation>(
 ) -> Result<Vec<Ends>, OutOfMemory>
     requires limits { IsWithinLimits V.firm V.limit market.now }
     requires outcome { IsOutcomeOf market.now.trades outcome.now.over outcome.now.contracts }
-    ensures trades { IfOk result (λ trades. trades.items ≡ residual_trades (length market.now.firms) market.now.trades outcome.now.contracts) }
+    ensures trades { IfOk result (λ trades. trades.items
+        ≡ residual_trades (length market.now.firms) market.now.trades outcome.now.contracts) }
     ensures network { network_of V.firm market.now IsNetwork }
 {
     let firms = market.firms();

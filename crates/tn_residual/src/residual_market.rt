@@ -1,3 +1,5 @@
+//! The residual market of an outcome.
+
 ghost use Rattle.std.specs.Prelude.{◌≡◌, ◌++◌, ◌*◌, ◌+◌, ◌<◌, ◌≤◌, All, IfOk, pos, ◌≤ℤ◌, ◌*ℤ◌, length, map};
 ghost use Rattle.tn_market.specs.Limits.{IsOutcomeOf, IsWithinLimits};
 ghost use Rattle.tn_plain_data.specs.Limits.{most_claimed_over};
@@ -12,14 +14,14 @@ use tn_base::OutOfMemory;
 use tn_market::{Market, Outcome, Party, Valuation};
 
 /// The residual market of an outcome. Its trades are the unsigned ones, in order, and two for each contract: by the
-/// first its seller sells to a firm outside, and by the second that firm sells to its buyer. Its firms are the market's,
-/// their worths counted `over * scale` times with a tax on each unsigned trade, and then the firms outside, each at
-/// `scale` times the price of its contract. It fails only where memory runs out.
+/// first its seller sells to a firm outside, and by the second that firm sells to its buyer. Its firms are the
+/// market's, their worths counted `over * scale` times with a tax on each unsigned trade, and then the firms outside,
+/// each at `scale` times the price of its contract. It fails only where memory runs out.
 ///
 /// For each set of unsigned trades its greatest surplus is that of their reduced worths: each end of a contract is on
 /// where its own firm likes it, and the firm outside pays the one end what it gets from the other. The limits of firms
-/// and outcomes hold (at most 1,024 firms and 1,024 trades, 32 own trades, worths and numerators of at most 10^11 in size,
-/// a denominator of 1 to 100); `over * scale` is 1 to 100,000, and the tax is 0 or 1.
+/// and outcomes hold (at most 1,024 firms and 1,024 trades, 32 own trades, worths and numerators of at most 10^11 in
+/// size, a denominator of 1 to 100); `over * scale` is 1 to 100,000, and the tax is 0 or 1.
 pub fn residual<'a, V: Valuation>(
     alloc: Global,
     market: &'a Market<V>,

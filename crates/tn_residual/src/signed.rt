@@ -1,3 +1,5 @@
+//! Contracts by their trades.
+
 ghost use Rattle.std.specs.Prelude.{◌≡◌, ◌*◌, ◌<◌, ◌≤◌, length, map, slice_get, Some};
 ghost use Rattle.tn_base.specs.Widths.{most_limbs};
 ghost use Rattle.tn_market.specs.Limits.{IsOutcomeOf, IsWithinLimits};
@@ -48,7 +50,8 @@ pub fn signed_by<V: Valuation>(market: &Market<V>, f: u32, outcome: &Outcome) ->
     requires limits { IsWithinLimits V.firm V.limit market.now }
     requires outcome { IsOutcomeOf market.now.trades outcome.now.over outcome.now.contracts }
     requires firm { f < length market.now.firms }
-    ensures { (v : V) → slice_get market.now.firms f ≡ Some v → HoldsSigned market.now.trades outcome.now.contracts f (V.firm v).count result.signed result.prices }
+    ensures { (v : V) → slice_get market.now.firms f ≡ Some v
+        → HoldsSigned market.now.trades outcome.now.contracts f (V.firm v).count result.signed result.prices }
 {
     let mut signed = Bundle::empty();
     let mut prices = [0; MOST_OWN];

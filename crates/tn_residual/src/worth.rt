@@ -1,3 +1,5 @@
+//! The reduced worth of a firm's unsigned trades.
+
 ghost use Rattle.std.specs.Prelude.{◌≡◌, ◌^◌, ◌<◌, length, slice_get, Some, option_map};
 ghost use Rattle.tn_base.specs.Sets.{meet, minus};
 ghost use Rattle.tn_market.specs.Limits.{IsOutcomeOf, IsWithinLimits};
@@ -9,8 +11,8 @@ use crate::signed::signed_by;
 use tn_base::Bundle;
 use tn_market::{Market, Oracle, Outcome, Room};
 
-/// The reduced worth of a firm's unsigned trades `x`: the greatest utility, over the outcome's denominator, of `x` with a
-/// part of the firm's contracts, at their prices and without prices for `x`; and a part that reaches it. None exactly
+/// The reduced worth of a firm's unsigned trades `x`: the greatest utility, over the outcome's denominator, of `x` with
+/// a part of the firm's contracts, at their prices and without prices for `x`; and a part that reaches it. None exactly
 /// where `x` is impossible with each part. It takes no memory. The limits of firms and outcomes hold, and `x` has own
 /// unsigned trades alone.
 pub fn reduced_best<V: Oracle>(
@@ -24,11 +26,14 @@ pub fn reduced_best<V: Oracle>(
     requires outcome { IsOutcomeOf market.now.trades outcome.now.over outcome.now.contracts }
     requires firm { firm < length market.now.firms }
     requires own { (v : V) → slice_get market.now.firms firm ≡ Some v → x < 2 ^ (V.firm v).count }
-    requires unsigned { (v : V) → slice_get market.now.firms firm ≡ Some v → meet x (signed_bundle market.now.trades outcome.now.contracts firm (V.firm v)) ≡ 0 }
-    ensures part { (v : V) → slice_get market.now.firms firm ≡ Some v → GivesPart x (signed_bundle market.now.trades outcome.now.contracts firm (V.firm v))
+    requires unsigned { (v : V) → slice_get market.now.firms firm ≡ Some v
+        → meet x (signed_bundle market.now.trades outcome.now.contracts firm (V.firm v)) ≡ 0 }
+    ensures part { (v : V) → slice_get market.now.firms firm ≡ Some v
+        → GivesPart x (signed_bundle market.now.trades outcome.now.contracts firm (V.firm v))
         (contract_utility market.now.trades outcome.now.over outcome.now.contracts firm (V.firm v)) result }
     ensures worth { (v : V) → slice_get market.now.firms firm ≡ Some v
-        → option_map (λ found. found.1) result ≡ (reduced market.now.trades outcome.now.over outcome.now.contracts firm (V.firm v)).worth x }
+        → option_map (λ found. found.1) result
+        ≡ (reduced market.now.trades outcome.now.over outcome.now.contracts firm (V.firm v)).worth x }
 {
     let held = signed_by(market, firm, outcome);
     let firm = market.firm(firm);

@@ -23,12 +23,15 @@ use Rattle.tn_run.specs.Words.{case_command, case_layout}
 
 -- a run of a case comes to what the case says, or to something else
 pub passed_or_not : (case : CaseData) (names : NameLists) (said : Said) (status : ℕ) (text : List ℕ) (agrees : Bool)
-    → IsCaseAnswer (case_command case.command) case.document names said → status ≡ status_of said → text ≡ answer_line (case_layout case.command) names said
+    → IsCaseAnswer (case_command case.command) case.document names said → status ≡ status_of said
+    → text ≡ answer_line (case_layout case.command) names said
     → agrees ≡ agrees_with status text case → IsPassed agrees case
 passed_or_not case names said status text agrees answer status_is text_is decided =
-    by_tests agrees (status == case.status) (bytes_eq text case.text) (Decides-eqb status case.status) (bytes_eq-Decides text case.text) decided
+    by_tests agrees (status == case.status) (bytes_eq text case.text) (Decides-eqb status case.status)
+    (bytes_eq-Decides text case.text) decided
   where
-    by_tests : (agrees same_status same_text : Bool) → Decides same_status (status ≡ case.status) → Decides same_text (text ≡ case.text)
+    by_tests : (agrees same_status same_text : Bool) → Decides same_status (status ≡ case.status)
+        → Decides same_text (text ≡ case.text)
         → agrees ≡ (same_status && same_text) → IsPassed agrees case
     by_tests true true true tells_status tells_text both = record {
       names = names;
@@ -46,13 +49,18 @@ passed_or_not case names said status text agrees answer status_is text_is decide
       differs = λ one other. true≢false (sym (both ∙ (λ i. tells_status.1 one i && tells_text.1 other i)));
     }
 
-pub run_decides : {E : Type 0} (found : Option CaseData) (case : CaseData) (names : NameLists) (said : Said) (result : Result Bool E)
+pub run_decides : {E : Type 0} (found : Option CaseData) (case : CaseData) (names : NameLists) (said : Said)
+    (result : Result Bool E)
     → found ≡ Some case → IsCaseAnswer (case_command case.command) case.document names said
-    → IfOk result (λ agrees. Some agrees ≡ option_map (agrees_with (status_of said) (answer_line (case_layout case.command) names said)) found) → IfOk result (λ agrees. IfSome found (IsPassed agrees))
+    → IfOk result (λ agrees. Some agrees
+    ≡ option_map (agrees_with (status_of said) (answer_line (case_layout case.command) names said)) found)
+    → IfOk result (λ agrees. IfSome found (IsPassed agrees))
 run_decides found case names said (Ok agrees) is answer decided =
     subst (λ (one : Option CaseData). IfSome one (IsPassed agrees)) (sym is)
-    (passed_or_not case names said (status_of said) (answer_line (case_layout case.command) names said) agrees answer refl refl
-    (same_Some agrees (agrees_with (status_of said) (answer_line (case_layout case.command) names said) case) (decided ∙ ap (option_map (agrees_with (status_of said) (answer_line (case_layout case.command) names said))) is)))
+    (passed_or_not case names said (status_of said) (answer_line (case_layout case.command) names said) agrees answer
+    refl refl
+    (same_Some agrees (agrees_with (status_of said) (answer_line (case_layout case.command) names said) case) (decided
+    ∙ ap (option_map (agrees_with (status_of said) (answer_line (case_layout case.command) names said))) is)))
 run_decides found case names said (Err error) is answer decided = decided
 
 -- no case is run yet
@@ -67,11 +75,14 @@ none_failed cases = record {
 module _ (count : ℕ) (cases : List CaseData) (failed : List ℕ) (are : AreFailed count cases failed) where
   -- the numbers of the cases before are those of one more too
   still_among : All (λ number. (1 ≤ number) × (number ≤ count + 1)) failed
-  still_among = All-weaker (λ number. (1 ≤ number) × (number ≤ count)) (λ number. (1 ≤ number) × (number ≤ count + 1)) (λ number within. let most = within.1 in (within.0, omega (arith, most))) failed are.among
+  still_among = All-weaker (λ number. (1 ≤ number) × (number ≤ count)) (λ number. (1 ≤ number)
+      × (number ≤ count + 1)) (λ number within. let most = within.1 in (within.0, omega (arith, most))) failed are.among
 
   -- one more case is the last one
-  at_last : (passes : Bool) (k : ℕ) (case : CaseData) → k ≡ count → slice_get cases k ≡ Some case → IfSome (slice_get cases count) (IsPassed passes) → IsPassed passes case
-  at_last passes k case same is last = subst (λ (found : Option CaseData). IfSome found (IsPassed passes)) (ap (slice_get cases) (sym same) ∙ is) last
+  at_last : (passes : Bool) (k : ℕ) (case : CaseData) → k ≡ count → slice_get cases k ≡ Some case
+      → IfSome (slice_get cases count) (IsPassed passes) → IsPassed passes case
+  at_last passes k case same is last =
+      subst (λ (found : Option CaseData). IfSome found (IsPassed passes)) (ap (slice_get cases) (sym same) ∙ is) last
 
   -- one more case, which passed
   pub one_more_passed : IfSome (slice_get cases count) (IsPassed true) → AreFailed (count + 1) cases failed
@@ -84,27 +95,36 @@ module _ (count : ℕ) (cases : List CaseData) (failed : List ℕ) (are : AreFai
     ];
     failing = λ k case below is listed. elim (cases_lt k count) [
       | inl before ↦ are.failing k case before is listed
-      | inr after ↦ let within = (All-contains (λ number. (1 ≤ number) × (number ≤ count)) failed (k + 1) are.among listed).1 in absurd (omega (arith, after, within))
+      | inr after ↦ let within = (All-contains (λ number. (1 ≤ number)
+          × (number ≤ count)) failed (k + 1) are.among listed).1 in absurd (omega (arith, after, within))
     ];
   }
 
   -- a number after those before is the last one
   is_last : (k : ℕ) → Contains ((count + 1) ∷ []) (k + 1) → k ≡ count
   is_last k listed =
-      let same = All-contains (λ number. number ≡ count + 1) ((count + 1) ∷ []) (k + 1) (All-cons (λ number. number ≡ count + 1) (count + 1) [] refl (All-nil _)) listed in omega (arith, same)
+      let same = All-contains (λ number. number ≡ count + 1) ((count + 1) ∷ []) (k + 1)
+      (All-cons (λ number. number ≡ count + 1) (count + 1) [] refl (All-nil _)) listed in omega (arith, same)
 
   -- one more case, which failed
-  pub one_more_failed : IfSome (slice_get cases count) (IsPassed false) → AreFailed (count + 1) cases (failed ++ (count + 1) ∷ [])
+  pub one_more_failed : IfSome (slice_get cases count) (IsPassed false)
+      → AreFailed (count + 1) cases (failed ++ (count + 1) ∷ [])
   one_more_failed last = record {
     ascending = λ k inside.
         all_pairs_push (λ x y. x < y) failed (count + 1) (AllPairs-from_increasing failed are.ascending)
         (λ j d within. let most = (are.among j d within).1 in omega (arith, most)) k (k + 1) 0 (omega arith) inside;
-    among = All-push (λ number. (1 ≤ number) × (number ≤ count + 1)) failed (count + 1) still_among (omega arith, omega arith);
+    among = All-push (λ number. (1 ≤ number) × (number ≤ count + 1)) failed (count + 1) still_among (
+      omega arith,
+      omega arith,
+    );
     passed = λ k case below is unlisted. elim (cases_lt k count) [
-      | inl before ↦ are.passed k case before is (λ listed. unlisted (Contains-append_left failed ((count + 1) ∷ []) (k + 1) listed))
+      | inl before ↦
+          are.passed k case before is
+          (λ listed. unlisted (Contains-append_left failed ((count + 1) ∷ []) (k + 1) listed))
       | inr after ↦
           let same : k ≡ count = omega (arith, below, after) in
-          absurd (unlisted (subst (λ n. Contains (failed ++ (count + 1) ∷ []) (n + 1)) (sym same) (Contains-append_right failed ((count + 1) ∷ []) (count + 1) (0, omega arith, refl))))
+          absurd (unlisted (subst (λ n. Contains (failed ++ (count + 1) ∷ []) (n + 1)) (sym same)
+          (Contains-append_right failed ((count + 1) ∷ []) (count + 1) (0, omega arith, refl))))
     ];
     failing = λ k case below is listed. elim (cases_lt k count) [
       | inl before ↦ elim (Contains-append_cases failed ((count + 1) ∷ []) (k + 1) listed) [
@@ -118,6 +138,7 @@ module _ (count : ℕ) (cases : List CaseData) (failed : List ℕ) (are : AreFai
 -- the documents of the book are within the limit
 pub book_is_within : All (λ case. length case.document ≤ document_limit) cases_of_the_book
 book_is_within =
-    All-weaker (λ case. nat_le (length case.document) document_limit ≡ true) (λ case. length case.document ≤ document_limit)
+    All-weaker (λ case. nat_le (length case.document) document_limit ≡ true) (λ case. length case.document
+    ≤ document_limit)
     (λ case within. leb-true (length case.document) document_limit within) cases_of_the_book
     (AllPass-from_list_all (λ case. nat_le (length case.document) document_limit) cases_of_the_book refl)

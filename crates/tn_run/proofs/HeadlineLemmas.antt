@@ -13,11 +13,16 @@ use Rattle.tn_run.specs.Headline.{IsHeadline, KeepsPromise, ShowsFault, is_headl
 use Rattle.tn_run.specs.Words.{need_of}
 
 -- what is promised of the document that the bytes stand for, or their first fault
-pub kept_or_shown : (command : Command) (bytes : List ℕ) (read : Result DocumentData Stop) (names : NameLists) (said : Said) → is_headlined command ≡ true
-    → reading_of (need_of command) bytes ≡ read → IsAnswerTo command read names said → KeepsPromise command bytes said ⊎ ShowsFault command bytes said
-kept_or_shown command bytes (Err stop) names said headlined reads answer = inr (record { stop = stop; reads = reads; said_is = answer.0 })
-kept_or_shown Solve bytes (Ok doc) names said headlined reads answer = inl (record { doc = doc; reads = reads; promised = answer.0 })
-kept_or_shown Judge bytes (Ok doc) names said headlined reads answer = inl (record { doc = doc; reads = reads; promised = answer.0 })
+pub kept_or_shown : (command : Command) (bytes : List ℕ) (read : Result DocumentData Stop) (names : NameLists)
+    (said : Said) → is_headlined command ≡ true
+    → reading_of (need_of command) bytes ≡ read → IsAnswerTo command read names said → KeepsPromise command bytes said
+    ⊎ ShowsFault command bytes said
+kept_or_shown command bytes (Err stop) names said headlined reads answer =
+    inr (record { stop = stop; reads = reads; said_is = answer.0 })
+kept_or_shown Solve bytes (Ok doc) names said headlined reads answer =
+    inl (record { doc = doc; reads = reads; promised = answer.0 })
+kept_or_shown Judge bytes (Ok doc) names said headlined reads answer =
+    inl (record { doc = doc; reads = reads; promised = answer.0 })
 kept_or_shown Check bytes (Ok doc) names said headlined reads answer = absurd (true≢false (sym headlined))
 kept_or_shown Firms bytes (Ok doc) names said headlined reads answer = absurd (true≢false (sym headlined))
 kept_or_shown Range bytes (Ok doc) names said headlined reads answer = absurd (true≢false (sym headlined))
@@ -26,7 +31,8 @@ kept_or_shown Session bytes (Ok doc) names said headlined reads answer = absurd 
 kept_or_shown Support bytes (Ok doc) names said headlined reads answer = absurd (true≢false (sym headlined))
 kept_or_shown Test bytes (Ok doc) names said headlined reads answer = absurd (true≢false (sym headlined))
 
-headline_of_bytes : (command : Command) (old new : Option (List ℕ)) (before after : ℕ) (names : NameLists) (said : Said) → is_headlined command ≡ true
+headline_of_bytes : (command : Command) (old new : Option (List ℕ)) (before after : ℕ) (names : NameLists) (said : Said)
+    → is_headlined command ≡ true
     → AnswersBytes command old new names said → IsHeadline command old new before after said
 headline_of_bytes command old new before after names said headlined answers = elim answers [
   | inl long ↦ inr (inl long)
@@ -34,13 +40,16 @@ headline_of_bytes command old new before after names said headlined answers = el
     bytes = whole.bytes;
     taken = whole.taken;
     end = whole.end;
-    answer = kept_or_shown command whole.bytes (reading_of (need_of command) whole.bytes) names said headlined refl whole.answer;
+    answer = kept_or_shown command whole.bytes (reading_of (need_of command) whole.bytes) names said headlined refl
+        whole.answer;
   })
 ]
 
-pub headline : (command : Command) (old new : Option (List ℕ)) (before after : ℕ) (names : NameLists) (said : Said) → is_headlined command ≡ true
+pub headline : (command : Command) (old new : Option (List ℕ)) (before after : ℕ) (names : NameLists) (said : Said)
+    → is_headlined command ≡ true
     → MayBeSaid command old new before after names said → IsHeadline command old new before after said
 headline command old new before after names Usage headlined may = absurd may
 headline command old new before after names ReadFault headlined may = inr (inr (inl (refl, may.0)))
 headline command old new before after names NoMemory headlined may = inr (inr (inr refl))
-headline command old new before after names said headlined may = headline_of_bytes command old new before after names said headlined may
+headline command old new before after names said headlined may =
+    headline_of_bytes command old new before after names said headlined may

@@ -1,3 +1,4 @@
+-- The files of lemmas of this crate.
 pub mod TestLemmas
 pub mod TakenLemmas
 pub mod VerdictLemmas

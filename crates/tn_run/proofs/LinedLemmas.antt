@@ -32,58 +32,73 @@ use Rattle.tn_run.proofs.HeadlineLemmas.{kept_or_shown}
 
 -- what is answered to a line that isn't too long
 pub short_line : (command : Command) (line : List ℕ) (names : NameLists) (said : Said) → length line ≤ document_limit
-    → (said ≡ NoMemory) ⊎ IsAnswerTo command (reading_of (need_of command) line) names said → IsLineAnswer command (record { line = line; names = names; said = said })
+    → (said ≡ NoMemory) ⊎ IsAnswerTo command (reading_of (need_of command) line) names said
+    → IsLineAnswer command (record { line = line; names = names; said = said })
 short_line command line names said few answer = elim answer [
   | inl none ↦ inl none
   | inr is ↦ inr (record { few = λ _. is; many = λ many. absurd (omega (arith, few, many)) })
 ]
 
-pub long_line : (command : Command) (line : List ℕ) (names : NameLists) (said : Said) → document_limit < length line → said ≡ too_long
+pub long_line : (command : Command) (line : List ℕ) (names : NameLists) (said : Said) → document_limit < length line
+    → said ≡ too_long
     → IsLineAnswer command (record { line = line; names = names; said = said })
-long_line command line names said many is = inr (record { few = λ few. absurd (omega (arith, few, many)); many = λ _. is })
+long_line command line names said many is =
+    inr (record { few = λ few. absurd (omega (arith, few, many)); many = λ _. is })
 
-line_headline : (command : Command) (entry : Entry) → is_headlined command ≡ true → IsLineAnswer command entry → IsLineHeadline command entry
+line_headline : (command : Command) (entry : Entry) → is_headlined command ≡ true → IsLineAnswer command entry
+    → IsLineHeadline command entry
 line_headline command entry headlined answer = elim answer [
   | inl none ↦ inr (inr none)
   | inr all ↦ elim (cases_lt document_limit (length entry.line)) [
     | inl many ↦ inr (inl (many, all.many many))
-    | inr few ↦ inl (kept_or_shown command entry.line (reading_of (need_of command) entry.line) entry.names entry.said headlined refl (all.few few))
+    | inr few ↦ inl (kept_or_shown command entry.line (reading_of (need_of command) entry.line) entry.names entry.said
+        headlined refl (all.few few))
   ]
 ]
 
 -- ---- one more line
 
-answered_more : (command : Command) (entries : List Entry) (entry : Entry) → AreAnswered command entries → IsLineAnswer command entry → AreAnswered command (entries ++ entry ∷ [])
+answered_more : (command : Command) (entries : List Entry) (entry : Entry) → AreAnswered command entries
+    → IsLineAnswer command entry → AreAnswered command (entries ++ entry ∷ [])
 answered_more command entries entry answered answer = record {
   answers = All-push (IsLineAnswer command) entries entry answered.answers answer;
-  headline = λ headlined. All-push (IsLineHeadline command) entries entry (answered.headline headlined) (line_headline command entry headlined answer);
+  headline = λ headlined. All-push (IsLineHeadline command) entries entry (answered.headline headlined)
+      (line_headline command entry headlined answer);
 }
 
-texts_more : (entries : List Entry) (entry : Entry) → texts_of (entries ++ entry ∷ []) ≡ texts_of entries ++ answer_line Object entry.names entry.said
-texts_more entries entry = flat_map-append (λ (e : Entry). answer_line Object e.names e.said) entries (entry ∷ []) ∙ ap (λ l. texts_of entries ++ l) (append-nil (answer_line Object entry.names entry.said))
+texts_more : (entries : List Entry) (entry : Entry)
+    → texts_of (entries ++ entry ∷ []) ≡ texts_of entries ++ answer_line Object entry.names entry.said
+texts_more entries entry = flat_map-append (λ (e : Entry). answer_line Object e.names e.said) entries (entry ∷ [])
+    ∙ ap (λ l. texts_of entries ++ l) (append-nil (answer_line Object entry.names entry.said))
 
 or_false : (b : Bool) → (b || false) ≡ b
 or_false true = refl
 or_false false = refl
 
-has_more : (status : ℕ) (entries : List Entry) (entry : Entry) → has_status status (entries ++ entry ∷ []) ≡ (has_status status entries || (status_of entry.said == status))
+has_more : (status : ℕ) (entries : List Entry) (entry : Entry)
+    → has_status status (entries ++ entry ∷ []) ≡ (has_status status entries || (status_of entry.said == status))
 has_more status entries entry =
-    list_any-append (λ (e : Entry). status_of e.said == status) entries (entry ∷ []) ∙ ap (λ (b : Bool). has_status status entries || b) (or_false (status_of entry.said == status))
+    list_any-append (λ (e : Entry). status_of e.said == status) entries (entry ∷ [])
+    ∙ ap (λ (b : Bool). has_status status entries || b) (or_false (status_of entry.said == status))
 
 abbrev status_for : Bool → Bool → ℕ
 status_for ran_out fault = if ran_out then 5 else if fault then 1 else 0
 
 abbrev pub with_status : ℕ → ℕ → ℕ
-with_status status answer = if (status == 5) || (answer == 5) then 5 else if (status == 1) || (answer == 1) then 1 else 0
+with_status status answer = if (status == 5) || (answer == 5) then 5 else if (status == 1) || (answer == 1) then 1
+    else 0
 
-status_for_more : (ran_out fault : Bool) (answer : ℕ) → with_status (status_for ran_out fault) answer ≡ status_for (ran_out || (answer == 5)) (fault || (answer == 1))
+status_for_more : (ran_out fault : Bool) (answer : ℕ)
+    → with_status (status_for ran_out fault) answer ≡ status_for (ran_out || (answer == 5)) (fault || (answer == 1))
 status_for_more true fault answer = refl
 status_for_more false true answer = refl
 status_for_more false false answer = refl
 
-status_more : (entries : List Entry) (entry : Entry) → with_status (lines_status entries) (status_of entry.said) ≡ lines_status (entries ++ entry ∷ [])
+status_more : (entries : List Entry) (entry : Entry)
+    → with_status (lines_status entries) (status_of entry.said) ≡ lines_status (entries ++ entry ∷ [])
 status_more entries entry = status_for_more (has_status 5 entries) (has_status 1 entries) (status_of entry.said)
-    ∙ ap (λ (b : Bool). status_for b (has_status 1 entries || (status_of entry.said == 1))) (sym (has_more 5 entries entry))
+    ∙ ap (λ (b : Bool). status_for b (has_status 1 entries || (status_of entry.said == 1)))
+    (sym (has_more 5 entries entry))
     ∙ ap (λ (b : Bool). status_for (has_status 5 (entries ++ entry ∷ [])) b) (sym (has_more 1 entries entry))
 
 -- ---- the lines so far
@@ -97,7 +112,8 @@ pub record SoFar (command : Command) (told left old new : Option (List ℕ)) (tu
   pub status_is : status ≡ lines_status entries
   pub turns_are : length entries ≡ turns
 
-pub none_so_far : (command : Command) (told old : Option (List ℕ)) (ahead : List ℕ) → ahead ≡ [] → SoFar command told (prepend_known ahead told) old old 0 0
+pub none_so_far : (command : Command) (told old : Option (List ℕ)) (ahead : List ℕ) → ahead ≡ []
+    → SoFar command told (prepend_known ahead told) old old 0 0
 none_so_far command told old ahead none = record {
   entries = [];
   answered = record { answers = All-nil (IsLineAnswer command); headline = λ _. All-nil (IsLineHeadline command) };
@@ -112,49 +128,69 @@ none_so_far command told old ahead none = record {
     none_taken (Some all) = λ _. ap (λ l. l ++ all) (sym none)
 
 -- a line that was taken and its answer, as they are told of a call
-pub record NextAnswer (command : Command) (left after : Option (List ℕ)) (names : NameLists) (said : Said) : Type 0 where
+pub record NextAnswer (command : Command) (left after : Option (List ℕ)) (names : NameLists) (said : Said) : Type
+    0 where
   pub line : List ℕ
   pub taken : TakesLines left after (line ∷ [])
   pub answer : IsLineAnswer command (record { line = line; names = names; said = said })
 
 -- what was told may be want of memory in its place
 pub may_run_out : (command : Command) (left after : Option (List ℕ)) (names : NameLists) (said told : Said)
-    → (line : List ℕ) × TakesLines left after (line ∷ []) × IsLineAnswer command (record { line = line; names = names; said = said })
+    → (line : List ℕ) × TakesLines left after (line ∷ [])
+    × IsLineAnswer command (record { line = line; names = names; said = said })
     → (told ≡ said) ⊎ (told ≡ NoMemory) → NextAnswer command left after names told
 may_run_out command left after names said told next is = record {
   line = next.0;
   taken = next.1;
-  answer = elim is [ inl same ↦ subst (λ (s : Said). IsLineAnswer command (record { line = next.0; names = names; said = s })) (sym same) next.2 | inr none ↦ inl none ];
+  answer = elim is [
+    | inl same ↦
+        subst (λ (s : Said). IsLineAnswer command (record { line = next.0; names = names; said = s })) (sym same) next.2
+    | inr none ↦ inl none
+  ];
 }
 
 module _ (command : Command) (told left after : Option (List ℕ)) (names : NameLists) (said : Said) where
   abbrev entry_of : NextAnswer command left after names said → Entry
   entry_of next = record { line = next.line; names = names; said = said }
 
-  lines_more : (entries : List Entry) (next : NextAnswer command left after names said) → TakesLines told left (lines_of entries) → TakesLines told after (lines_of (entries ++ entry_of next ∷ []))
+  lines_more : (entries : List Entry) (next : NextAnswer command left after names said)
+      → TakesLines told left (lines_of entries) → TakesLines told after (lines_of (entries ++ entry_of next ∷ []))
   lines_more entries next lines =
-      subst (TakesLines told after) (sym (map-append (λ (e : Entry). e.line) entries (entry_of next ∷ []))) (TakesLines-trans told left after (lines_of entries) (next.line ∷ []) lines next.taken)
+      subst (TakesLines told after) (sym (map-append (λ (e : Entry). e.line) entries (entry_of next ∷ [])))
+      (TakesLines-trans told left after (lines_of entries) (next.line ∷ []) lines next.taken)
 
-  first_more : (entries : List Entry) (next : NextAnswer command left after names said) → AreAnswered command entries → TakesLines told left (lines_of entries)
+  first_more : (entries : List Entry) (next : NextAnswer command left after names said) → AreAnswered command entries
+      → TakesLines told left (lines_of entries)
       → AnswersFirst command told (entries ++ entry_of next ∷ [])
   first_more entries next answered lines =
-      let rest = TakesLines-rest told after (lines_of (entries ++ entry_of next ∷ [])) (lines_more entries next lines) in
-      record { answered = answered_more command entries (entry_of next) answered next.answer; rest = rest.0; lines = rest.1 }
+      let rest = TakesLines-rest told after (lines_of (entries ++ entry_of next ∷ [])) (lines_more entries next lines)
+      in
+      record {
+        answered = answered_more command entries (entry_of next) answered next.answer;
+        rest = rest.0;
+        lines =
+            rest.1;
+      }
 
-  pub one_more : (old middle new : Option (List ℕ)) (turns before status : ℕ) → SoFar command told left old middle turns before → NextAnswer command left after names said
-      → Grows middle new (answer_line Object names said) → status ≡ with_status before (status_of said) → SoFar command told after old new (turns + 1) status
+  pub one_more : (old middle new : Option (List ℕ)) (turns before status : ℕ)
+      → SoFar command told left old middle turns before → NextAnswer command left after names said
+      → Grows middle new (answer_line Object names said) → status ≡ with_status before (status_of said)
+      → SoFar command told after old new (turns + 1) status
   one_more old middle new turns before status so_far next grown is = record {
     entries = so_far.entries ++ entry_of next ∷ [];
     answered = answered_more command so_far.entries (entry_of next) so_far.answered next.answer;
     lines = lines_more so_far.entries next so_far.lines;
-    written = subst (Grows old new) (sym (texts_more so_far.entries (entry_of next))) (Grows-trans old middle new (texts_of so_far.entries) (answer_line Object names said) so_far.written grown);
-    status_is = is ∙ ap (λ (n : ℕ). with_status n (status_of said)) so_far.status_is ∙ status_more so_far.entries (entry_of next);
+    written = subst (Grows old new) (sym (texts_more so_far.entries (entry_of next)))
+        (Grows-trans old middle new (texts_of so_far.entries) (answer_line Object names said) so_far.written grown);
+    status_is = is ∙ ap (λ (n : ℕ). with_status n (status_of said)) so_far.status_is
+        ∙ status_more so_far.entries (entry_of next);
     turns_are = length_push so_far.entries (entry_of next) ∙ ap (λ (n : ℕ). n + 1) so_far.turns_are;
   }
 
 -- ---- the end of the run
 
-pub all_answered : (command : Command) (told left old new : Option (List ℕ)) (turns status : ℕ) → SoFar command told left old new turns status → IsAtEnd left → AnswersLines command told old new status
+pub all_answered : (command : Command) (told left old new : Option (List ℕ)) (turns status : ℕ)
+    → SoFar command told left old new turns status → IsAtEnd left → AnswersLines command told old new status
 all_answered command told left old new turns status so_far end = record {
   entries = so_far.entries;
   answered = so_far.answered;
@@ -164,20 +200,26 @@ all_answered command told left old new turns status so_far end = record {
 }
 
 -- more lines were answered than few bytes have
-pub all_turns : (command : Command) (told left old new : Option (List ℕ)) (turns status : ℕ) → SoFar command told left old new turns status → most_turns ≤ turns
+pub all_turns : (command : Command) (told left old new : Option (List ℕ)) (turns status : ℕ)
+    → SoFar command told left old new turns status → most_turns ≤ turns
     → AnswersLines command told old new status
 all_turns command told left old new turns status so_far most = record {
   entries = so_far.entries;
   answered = so_far.answered;
   lines = TakesLines-most told left (lines_of so_far.entries) so_far.lines
-      (let many : most_turns ≤ length so_far.entries = omega (arith, so_far.turns_are, most) in subst (λ (n : ℕ). most_turns ≤ n) (sym (length-map so_far.entries (λ (e : Entry). e.line))) many);
+      (let many : most_turns ≤ length so_far.entries = omega (arith, so_far.turns_are, most) in
+      subst (λ (n : ℕ). most_turns ≤ n) (sym (length-map so_far.entries (λ (e : Entry). e.line))) many);
   written = so_far.written;
   status_is = so_far.status_is;
 }
 
 -- a count that rose after it had not fallen rose
 pub Rose_later : (first middle last : ℕ) → first ≤ middle → Rose middle last → Rose first last
-Rose_later first middle last later rose = elim rose [ inl more ↦ inl (omega (arith, later, more)) | inr full ↦ inr full ]
+Rose_later first middle last later rose = elim rose [
+  | inl more ↦ inl (omega (arith, later, more))
+  | inr full ↦
+      inr full
+]
 
 abbrev status_if : Bool → ℕ
 status_if holds = if holds then 0 else 6
@@ -222,9 +264,12 @@ pub record Faults : Type 0 where
   pub sink_last : ℕ
 
 -- what was written of the text after those of the entries, where a write failed
-cut_text : (command : Command) (told old middle new : Option (List ℕ)) (faults : Faults) (entries : List Entry) (text : List ℕ) (status : ℕ)
-    → AnswersFirst command told entries → IsNextText command told faults.source_first faults.source_last entries text → Grows old middle (texts_of entries)
-    → faults.sink_first ≤ faults.sink_middle → Rose faults.sink_middle faults.sink_last → GrowsByPrefix middle new text → status ≡ 4
+cut_text : (command : Command) (told old middle new : Option (List ℕ)) (faults : Faults) (entries : List Entry)
+    (text : List ℕ) (status : ℕ)
+    → AnswersFirst command told entries → IsNextText command told faults.source_first faults.source_last entries text
+    → Grows old middle (texts_of entries)
+    → faults.sink_first ≤ faults.sink_middle → Rose faults.sink_middle faults.sink_last → GrowsByPrefix middle new text
+    → status ≡ 4
     → StopsAtWrite command told faults.source_first faults.source_last old new faults.sink_first faults.sink_last status
 cut_text command told old middle new faults entries text status first next written later rose cut is = record {
   entries = entries;
@@ -238,12 +283,15 @@ cut_text command told old middle new faults entries text status first next writt
   status_is = is;
 }
 
-first_so_far : (command : Command) (told left old new : Option (List ℕ)) (turns status : ℕ) (so_far : SoFar command told left old new turns status) → AnswersFirst command told so_far.entries
+first_so_far : (command : Command) (told left old new : Option (List ℕ)) (turns status : ℕ)
+    (so_far : SoFar command told left old new turns status) → AnswersFirst command told so_far.entries
 first_so_far command told left old new turns status so_far =
-    let rest = TakesLines-rest told left (lines_of so_far.entries) so_far.lines in record { answered = so_far.answered; rest = rest.0; lines = rest.1 }
+    let rest = TakesLines-rest told left (lines_of so_far.entries) so_far.lines in
+    record { answered = so_far.answered; rest = rest.0; lines = rest.1 }
 
 -- a read failed, and that was written or cut short
-pub read_failed : (command : Command) (told left old middle new : Option (List ℕ)) (turns before status : ℕ) (faults : Faults) → SoFar command told left old middle turns before
+pub read_failed : (command : Command) (told left old middle new : Option (List ℕ)) (turns before status : ℕ)
+    (faults : Faults) → SoFar command told left old middle turns before
     → Rose faults.source_first faults.source_last → faults.sink_first ≤ faults.sink_middle
     → IsWritten middle new faults.sink_middle faults.sink_last Object no_names ReadFault status
     → IsLinedRun command told faults.source_first faults.source_last old new faults.sink_first faults.sink_last status
@@ -254,45 +302,63 @@ read_failed command told left old middle new turns before status faults so_far r
         entries = so_far.entries;
         first = first;
         cause = rose;
-        written = Grows-trans old middle new (texts_of so_far.entries) (answer_line Object no_names ReadFault) so_far.written whole.grown;
+        written = Grows-trans old middle new (texts_of so_far.entries) (answer_line Object no_names ReadFault)
+            so_far.written whole.grown;
         status_is = whole.status_is;
       }))
-      | inr cut ↦ inr (inr (cut_text command told old middle new faults so_far.entries (answer_line Object no_names ReadFault) status first
+      | inr cut ↦ inr
+          (inr (cut_text command told old middle new faults so_far.entries (answer_line Object no_names ReadFault)
+          status first
           (inr (rose, refl)) so_far.written later cut.cause cut.grown cut.status_is))
     ]
 
 -- the answer to a line was cut short
-pub write_failed : (command : Command) (told left after old middle new : Option (List ℕ)) (turns before status : ℕ) (faults : Faults) (names : NameLists) (said : Said)
-    → SoFar command told left old middle turns before → NextAnswer command left after names said → faults.sink_first ≤ faults.sink_middle
+pub write_failed : (command : Command) (told left after old middle new : Option (List ℕ)) (turns before status : ℕ)
+    (faults : Faults) (names : NameLists) (said : Said)
+    → SoFar command told left old middle turns before → NextAnswer command left after names said
+    → faults.sink_first ≤ faults.sink_middle
     → IsWritten middle new faults.sink_middle faults.sink_last Object names said status → status ≡ 4
     → IsLinedRun command told faults.source_first faults.source_last old new faults.sink_first faults.sink_last 4
 write_failed command told left after old middle new turns before status faults names said so_far next later written is =
     let first = first_so_far command told left old middle turns before so_far in
     elim written [
       | inl whole ↦ absurd (never_failed said (sym whole.status_is ∙ is))
-      | inr cut ↦ inr (inr (cut_text command told old middle new faults so_far.entries (answer_line Object names said) 4 first
-          (inl (record { line = next.line; names = names; said = said }, first_more command told left after names said so_far.entries next so_far.answered so_far.lines, refl))
+      | inr cut ↦ inr
+          (inr (cut_text command told old middle new faults so_far.entries (answer_line Object names said) 4 first
+          (inl (
+            record { line = next.line; names = names; said = said },
+            first_more command told left after names said so_far.entries next so_far.answered so_far.lines,
+            refl,
+          ))
           so_far.written later cut.cause cut.grown refl))
     ]
 
 -- an answer whose status isn't that of a failed write was written whole
-pub whole_answer : (old new : Option (List ℕ)) (before after : ℕ) (names : NameLists) (said : Said) (status : ℕ) → IsWritten old new before after Object names said status
+pub whole_answer : (old new : Option (List ℕ)) (before after : ℕ) (names : NameLists) (said : Said) (status : ℕ)
+    → IsWritten old new before after Object names said status
     → (status ≡ 4 → ⊥) → IsWrittenWhole old new Object names said status
-whole_answer old new before after names said status written kept = elim written [ inl whole ↦ whole | inr cut ↦ absurd (kept cut.status_is) ]
+whole_answer old new before after names said status written kept =
+    elim written [ inl whole ↦ whole | inr cut ↦ absurd (kept cut.status_is) ]
 
 -- all lines are answered where neither end counts a fault
-pub complete_lines : (command : Command) (told old new : Option (List ℕ)) (source_before source_after sink_before sink_after status : ℕ)
-    → IsLinedRun command told source_before source_after old new sink_before sink_after status → NoneCounted source_before source_after → NoneCounted sink_before sink_after
+pub complete_lines : (command : Command) (told old new : Option (List ℕ))
+    (source_before source_after sink_before sink_after status : ℕ)
+    → IsLinedRun command told source_before source_after old new sink_before sink_after status
+    → NoneCounted source_before source_after → NoneCounted sink_before sink_after
     → AnswersLines command told old new status
-complete_lines command told old new source_before source_after sink_before sink_after status run quiet_source quiet_sink = elim run [
-  | inl all ↦ all
-  | inr stops ↦ elim stops [ inl read ↦ absurd (quiet_source read.cause) | inr write ↦ absurd (quiet_sink write.cause) ]
-]
+complete_lines command told old new source_before source_after sink_before sink_after status run quiet_source
+    quiet_sink = elim run [
+      | inl all ↦ all
+      | inr stops ↦ elim stops [ inl read ↦ absurd (quiet_source read.cause) | inr write ↦ absurd (quiet_sink write.cause) ]
+    ]
 
 -- what a run by lines came to, of the command that the words ask for and of the program's exit status
-pub lined_as_asked : (found : Option Command) (ran asked : Command) (told old new : Option (List ℕ)) (faults : Faults) (status exit : ℕ) → found ≡ Some ran → found ≡ Some asked → exit ≡ status
+pub lined_as_asked : (found : Option Command) (ran asked : Command) (told old new : Option (List ℕ)) (faults : Faults)
+    (status exit : ℕ) → found ≡ Some ran → found ≡ Some asked → exit ≡ status
     → IsLinedRun ran told faults.source_first faults.source_last old new faults.sink_first faults.sink_last status
     → IsLinedRun asked told faults.source_first faults.source_last old new faults.sink_first faults.sink_last exit
 lined_as_asked found ran asked told old new faults status exit runs asks is run =
-    subst (λ (n : ℕ). IsLinedRun asked told faults.source_first faults.source_last old new faults.sink_first faults.sink_last n) (sym is)
-    (subst (λ (command : Command). IsLinedRun command told faults.source_first faults.source_last old new faults.sink_first faults.sink_last status) (same_Some ran asked (sym runs ∙ asks)) run)
+    subst (λ (n : ℕ). IsLinedRun asked told faults.source_first faults.source_last old new faults.sink_first
+    faults.sink_last n) (sym is)
+    (subst (λ (command : Command). IsLinedRun command told faults.source_first faults.source_last old new
+    faults.sink_first faults.sink_last status) (same_Some ran asked (sym runs ∙ asks)) run)

@@ -50,12 +50,14 @@ use Rattle.tn_run.specs.declared.command.Command.TheVariants.{Check, Firms, Judg
 
 module _ (need : Need) (doc : DocumentData) (is : IsDocument need doc) where
   -- the answer of `check`
-  judged_named : (scale : ℤ) (on : ℕ) (prices : ℕ → ℤ) (said : Said) → Judges doc.firms doc.ends scale on prices said → IsNamedAnswer doc.names said
+  judged_named : (scale : ℤ) (on : ℕ) (prices : ℕ → ℤ) (said : Said) → Judges doc.firms doc.ends scale on prices said
+      → IsNamedAnswer doc.names said
   judged_named scale on prices (Equilibrium surplus) judges = tt
   judged_named scale on prices (Better f bundle gain) judges =
       let bettered = judges.1 in (
         firm_named need doc is f bettered.firm bettered.is,
-        subst (All (IsNamed doc.names.trades)) (sym judges.2) (bundle_named need doc is f bettered.firm judges.0 bettered.is),
+        subst (All (IsNamed doc.names.trades)) (sym judges.2)
+            (bundle_named need doc is f bettered.firm judges.0 bettered.is),
       )
   judged_named scale on prices (Impossible f) judges = firm_named need doc is f judges.firm judges.is
   judged_named scale on prices said judges = absurd judges
@@ -65,7 +67,8 @@ module _ (need : Need) (doc : DocumentData) (is : IsDocument need doc) where
   checked_named extra said checks = absurd checks
 
   -- the answer of `firms`
-  told_named : (on : ℕ) (prices : ℕ → ℤ) (said : Said) → TellsHoldings doc.firms doc.ends (pos 1) on prices said → IsNamedAnswer doc.names said
+  told_named : (on : ℕ) (prices : ℕ → ℤ) (said : Said) → TellsHoldings doc.firms doc.ends (pos 1) on prices said
+      → IsNamedAnswer doc.names said
   told_named on prices (FirmsIs content told surplus) tells = (
     tells.one_each ∙ sym is.firms_named,
     (λ k d below.
@@ -73,8 +76,10 @@ module _ (need : Need) (doc : DocumentData) (is : IsDocument need doc) where
         let firm = some_item doc.firms k (omega (arith, below, one_each)) in
         let holding = tells.each k firm.0 (get_or told k d) firm.1 (slice_get-get_or told k d below) in
         record {
-          best = subst (All (IsNamed doc.names.trades)) (sym holding.best_is) (bundle_named need doc is k firm.0 holding.bundle firm.1);
-          has = subst (All (IsNamed doc.names.trades)) (sym holding.has_is) (bundle_named need doc is k firm.0 (part doc.ends k firm.0.count on) firm.1);
+          best = subst (All (IsNamed doc.names.trades)) (sym holding.best_is)
+              (bundle_named need doc is k firm.0 holding.bundle firm.1);
+          has = subst (All (IsNamed doc.names.trades)) (sym holding.has_is)
+              (bundle_named need doc is k firm.0 (part doc.ends k firm.0.count on) firm.1);
         }),
   )
   told_named on prices said tells = absurd tells
@@ -83,14 +88,17 @@ module _ (need : Need) (doc : DocumentData) (is : IsDocument need doc) where
   firms_named (arrangement at) said tells = told_named at.on (price_at at.prices) said tells
   firms_named extra said tells = absurd tells
 
-  told_ascends : (on : ℕ) (prices : ℕ → ℤ) (said : Said) → TellsHoldings doc.firms doc.ends (pos 1) on prices said → HasAscendingTrades said
+  told_ascends : (on : ℕ) (prices : ℕ → ℤ) (said : Said) → TellsHoldings doc.firms doc.ends (pos 1) on prices said
+      → HasAscendingTrades said
   told_ascends on prices (FirmsIs content told surplus) tells = λ k d below.
       let one_each = tells.one_each in
       let firm = some_item doc.firms k (omega (arith, below, one_each)) in
       let holding = tells.each k firm.0 (get_or told k d) firm.1 (slice_get-get_or told k d below) in
       record {
-        best = subst IsStrictlyIncreasing (sym holding.best_is) (bundle_ascends need doc is k firm.0 holding.bundle firm.1);
-        has = subst IsStrictlyIncreasing (sym holding.has_is) (bundle_ascends need doc is k firm.0 (part doc.ends k firm.0.count on) firm.1);
+        best = subst IsStrictlyIncreasing (sym holding.best_is)
+            (bundle_ascends need doc is k firm.0 holding.bundle firm.1);
+        has = subst IsStrictlyIncreasing (sym holding.has_is)
+            (bundle_ascends need doc is k firm.0 (part doc.ends k firm.0.count on) firm.1);
       }
   told_ascends on prices said tells = absurd tells
 
@@ -105,10 +113,12 @@ module _ (need : Need) (doc : DocumentData) (is : IsDocument need doc) where
   tested_named said tests = absurd tests
 
   -- their lists of trades ascend
-  judged_ascends : (scale : ℤ) (on : ℕ) (prices : ℕ → ℤ) (said : Said) → Judges doc.firms doc.ends scale on prices said → HasAscendingTrades said
+  judged_ascends : (scale : ℤ) (on : ℕ) (prices : ℕ → ℤ) (said : Said) → Judges doc.firms doc.ends scale on prices said
+      → HasAscendingTrades said
   judged_ascends scale on prices (Equilibrium surplus) judges = tt
   judged_ascends scale on prices (Better f bundle gain) judges =
-      let bettered = judges.1 in subst IsStrictlyIncreasing (sym judges.2) (bundle_ascends need doc is f bettered.firm judges.0 bettered.is)
+      let bettered = judges.1 in
+      subst IsStrictlyIncreasing (sym judges.2) (bundle_ascends need doc is f bettered.firm judges.0 bettered.is)
   judged_ascends scale on prices (Impossible f) judges = tt
   judged_ascends scale on prices said judges = absurd judges
 
@@ -127,11 +137,14 @@ module _ (need : Need) (doc : DocumentData) (is : IsDocument need doc) where
     one_each = ap length same ∙ sym is.trades_named;
     sellers = λ t d below.
         let trade = get_or ends t d in
-        let sold = is.network.sold t trade (subst (λ (all : List Ends). slice_get all t ≡ Some trade) same (slice_get-get_or ends t d below)) in
+        let sold = is.network.sold t trade (subst (λ (all : List Ends). slice_get all t ≡ Some trade) same
+        (slice_get-get_or ends t d below)) in
         firm_named need doc is trade.seller sold.0 sold.1;
     buyers = λ t d below.
         let trade = get_or ends t d in
-        let bought = is.network.bought t trade (subst (λ (all : List Ends). slice_get all t ≡ Some trade) same (slice_get-get_or ends t d below)) in
+        let bought =
+        is.network.bought t trade (subst (λ (all : List Ends). slice_get all t ≡ Some trade) same
+        (slice_get-get_or ends t d below)) in
         firm_named need doc is trade.buyer bought.0 bought.1;
   }
 
@@ -155,28 +168,34 @@ module _ (need : Need) (doc : DocumentData) (is : IsDocument need doc) where
         let inside : k < length doc.ends = omega (arith, below, one_each) in
         record {
           high = subst (λ n. All (λ node. IfSome node (λ t. t < n)) (get_or ranges k d).high_path) (sym is.trades_named)
-              (high_inside doc.firms doc.ends tells.0.set is.network k (get_or ranges k d).high (get_or ranges k d).high_path inside range.high_shown);
+              (high_inside doc.firms doc.ends tells.0.set is.network k (get_or ranges k d).high
+              (get_or ranges k d).high_path inside range.high_shown);
           low = subst (λ n. All (λ node. IfSome node (λ t. t < n)) (get_or ranges k d).low_path) (sym is.trades_named)
-              (low_inside doc.firms doc.ends tells.0.set is.network k (get_or ranges k d).low (get_or ranges k d).low_path inside range.low_shown);
+              (low_inside doc.firms doc.ends tells.0.set is.network k (get_or ranges k d).low
+              (get_or ranges k d).low_path inside range.low_shown);
         }),
     ends_named ends tells.1,
   )
   ranged_named said tells = absurd tells
 
   ranged_ascends : (said : Said) → TellsRanges doc.firms doc.ends said → HasAscendingTrades said
-  ranged_ascends (Ranges on ranges ends) tells = subst IsStrictlyIncreasing (sym tells.0.on_is) (on_ascends tells.0.set (length doc.ends))
+  ranged_ascends (Ranges on ranges ends) tells =
+      subst IsStrictlyIncreasing (sym tells.0.on_is) (on_ascends tells.0.set (length doc.ends))
   ranged_ascends said tells = absurd tells
 
   -- the answer of `session`
-  states_named : (listed : List Edit) (said : Said) → TellsStates doc.firms doc.ends listed said → IsNamedAnswer doc.names said
+  states_named : (listed : List Edit) (said : Said) → TellsStates doc.firms doc.ends listed said
+      → IsNamedAnswer doc.names said
   states_named listed (SessionIs states) tells = λ k d below.
       let state = (tells.each k (get_or states k d) (slice_get-get_or states k d below)).is in
       let allowed = (tells.each k (get_or states k d) (slice_get-get_or states k d below)).allowed in
       record {
         on = set_named need doc is state.set (get_or states k d).on state.on_is;
         prices = subst (All (λ contract. IsNamed doc.names.trades contract.trade)) (sym state.prices_are)
-            (subst (λ n. All (λ contract. contract.trade < n) (contracts_of allowed (price_at state.prices) (length doc.ends))) (sym is.trades_named)
-            (contracts_are allowed (price_at state.prices) (λ contract. contract.trade < length doc.ends) (length doc.ends) (λ t inside there. inside)));
+            (subst (λ n. All (λ contract. contract.trade < n) (contracts_of allowed (price_at state.prices)
+            (length doc.ends))) (sym is.trades_named)
+            (contracts_are allowed (price_at state.prices) (λ contract. contract.trade < length doc.ends)
+            (length doc.ends) (λ t inside there. inside)));
       }
   states_named listed said tells = absurd tells
 
@@ -184,13 +203,17 @@ module _ (need : Need) (doc : DocumentData) (is : IsDocument need doc) where
   edited_named (edits listed) said tells = states_named listed said tells
   edited_named extra said tells = absurd tells
 
-  states_ascend : (listed : List Edit) (said : Said) → TellsStates doc.firms doc.ends listed said → HasAscendingTrades said
+  states_ascend : (listed : List Edit) (said : Said) → TellsStates doc.firms doc.ends listed said
+      → HasAscendingTrades said
   states_ascend listed (SessionIs states) tells = λ k d below.
       let after = tells.each k (get_or states k d) (slice_get-get_or states k d below) in
       record {
         on = subst IsStrictlyIncreasing (sym after.is.on_is) (on_ascends after.is.set (length doc.ends));
-        prices = subst (λ (contracts : List Contract). IsStrictlyIncreasing (map (λ (contract : Contract). contract.trade) contracts)) (sym after.is.prices_are)
-            (subst IsStrictlyIncreasing (sym (contract_trades after.allowed (price_at after.is.prices) (length doc.ends))) (on_ascends after.allowed (length doc.ends)));
+        prices = subst (λ (contracts : List Contract). IsStrictlyIncreasing
+            (map (λ (contract : Contract). contract.trade) contracts)) (sym after.is.prices_are)
+            (subst IsStrictlyIncreasing
+            (sym (contract_trades after.allowed (price_at after.is.prices) (length doc.ends)))
+            (on_ascends after.allowed (length doc.ends)));
       }
   states_ascend listed said tells = absurd tells
 
@@ -201,9 +224,14 @@ module _ (need : Need) (doc : DocumentData) (is : IsDocument need doc) where
   -- the answer of `support`
   supported_named : (on : ℕ) (said : Said) → SupportsSet doc.firms doc.ends on said → IsNamedAnswer doc.names said
   supported_named on (Impossible f) supports = firm_named need doc is f supports.0.firm supports.0.is
-  supported_named on (Supported listed prices ends) supports = (set_named need doc is on listed supports.2, supports.0.one_each ∙ sym is.trades_named, ends_named ends supports.3)
+  supported_named on (Supported listed prices ends) supports = (
+    set_named need doc is on listed supports.2,
+    supports.0.one_each ∙ sym is.trades_named,
+    ends_named ends supports.3,
+  )
   supported_named on (Cycle nodes cost) supports =
-      subst (λ n. All (λ node. IfSome node (λ t. t < n)) nodes) (sym is.trades_named) (nodes_inside doc.firms doc.ends on nodes cost supports.0)
+      subst (λ n. All (λ node. IfSome node (λ t. t < n)) nodes) (sym is.trades_named)
+      (nodes_inside doc.firms doc.ends on nodes cost supports.0)
   supported_named on said supports = absurd supports
 
   priced_named : (extra : ExtraData) (said : Said) → SupportsExtra doc extra said → IsNamedAnswer doc.names said
@@ -212,7 +240,8 @@ module _ (need : Need) (doc : DocumentData) (is : IsDocument need doc) where
 
   supported_ascends : (on : ℕ) (said : Said) → SupportsSet doc.firms doc.ends on said → HasAscendingTrades said
   supported_ascends on (Impossible f) supports = tt
-  supported_ascends on (Supported listed prices ends) supports = subst IsStrictlyIncreasing (sym supports.2) (on_ascends on (length doc.ends))
+  supported_ascends on (Supported listed prices ends) supports =
+      subst IsStrictlyIncreasing (sym supports.2) (on_ascends on (length doc.ends))
   supported_ascends on (Cycle nodes cost) supports = tt
   supported_ascends on said supports = absurd supports
 
@@ -221,11 +250,13 @@ module _ (need : Need) (doc : DocumentData) (is : IsDocument need doc) where
   priced_ascends extra said supports = absurd supports
 
   solved_ascends : (said : Said) → Solves doc.firms doc.ends said → HasAscendingTrades said
-  solved_ascends (Solved on prices surplus ends) solves = subst IsStrictlyIncreasing (sym solves.0.on_is) (on_ascends solves.0.set (length doc.ends))
+  solved_ascends (Solved on prices surplus ends) solves =
+      subst IsStrictlyIncreasing (sym solves.0.on_is) (on_ascends solves.0.set (length doc.ends))
   solved_ascends said solves = absurd solves
 
   -- the answer of `judge`
-  outcome_named : (over : ℤ) (contracts : List Contract) (said : Said) → JudgesOutcome doc.firms doc.ends over contracts said → IsNamedAnswer doc.names said
+  outcome_named : (over : ℤ) (contracts : List Contract) (said : Said)
+      → JudgesOutcome doc.firms doc.ends over contracts said → IsNamedAnswer doc.names said
   outcome_named over contracts (Drops f keeps gain told) judges =
       let first = judges.1 in (
         firm_named need doc is f first.firm first.is,
@@ -233,16 +264,19 @@ module _ (need : Need) (doc : DocumentData) (is : IsDocument need doc) where
       )
   outcome_named over contracts (Completes prices told) judges = judges.1.one_each ∙ sym is.trades_named
   outcome_named over contracts (Blocks offers told) judges = λ k d below.
-      subst (λ n. (get_or offers k d).trade < n) (sym is.trades_named) (judges.chain.blocks.feasible.known k (get_or offers k d) (slice_get-get_or offers k d below))
+      subst (λ n. (get_or offers k d).trade < n) (sym is.trades_named)
+      (judges.chain.blocks.feasible.known k (get_or offers k d) (slice_get-get_or offers k d below))
   outcome_named over contracts said judges = absurd judges
 
   judged_outcome_named : (extra : ExtraData) (said : Said) → JudgesExtra doc extra said → IsNamedAnswer doc.names said
   judged_outcome_named (outcome signed) said judges = outcome_named signed.over signed.contracts said judges
   judged_outcome_named extra said judges = absurd judges
 
-  outcome_ascends : (over : ℤ) (contracts : List Contract) (said : Said) → JudgesOutcome doc.firms doc.ends over contracts said → HasAscendingTrades said
+  outcome_ascends : (over : ℤ) (contracts : List Contract) (said : Said)
+      → JudgesOutcome doc.firms doc.ends over contracts said → HasAscendingTrades said
   outcome_ascends over contracts (Drops f keeps gain told) judges =
-      let first = judges.1 in subst IsStrictlyIncreasing (sym judges.2) (bundle_ascends need doc is f first.firm judges.0 first.is)
+      let first = judges.1 in
+      subst IsStrictlyIncreasing (sym judges.2) (bundle_ascends need doc is f first.firm judges.0 first.is)
   outcome_ascends over contracts (Completes prices told) judges = tt
   outcome_ascends over contracts (Blocks offers told) judges = tt
   outcome_ascends over contracts said judges = absurd judges
@@ -252,7 +286,8 @@ module _ (need : Need) (doc : DocumentData) (is : IsDocument need doc) where
   judged_outcome_ascends extra said judges = absurd judges
 
   -- the answer of `replay`
-  replayed_named : (extra : ExtraData) (said : Said) → IsExtra doc.firms doc.ends extra → ReplaysExtra doc extra said → IsNamedAnswer doc.names said
+  replayed_named : (extra : ExtraData) (said : Said) → IsExtra doc.firms doc.ends extra → ReplaysExtra doc extra said
+      → IsNamedAnswer doc.names said
   replayed_named (claim claimed) said within decides = decided_named need doc is claimed said within decides
   replayed_named extra said within decides = absurd decides
 
@@ -261,7 +296,8 @@ module _ (need : Need) (doc : DocumentData) (is : IsDocument need doc) where
   replayed_ascends extra said decides = absurd decides
 
 -- the answer of a command on a document
-document_ascends : (command : Command) (doc : DocumentData) → IsDocument (need_of command) doc → (said : Said) → IsAnswerOf command doc said → HasAscendingTrades said
+document_ascends : (command : Command) (doc : DocumentData) → IsDocument (need_of command) doc → (said : Said)
+    → IsAnswerOf command doc said → HasAscendingTrades said
 document_ascends Check doc is said answer = checked_ascends (need_of Check) doc is doc.extra said answer
 document_ascends Firms doc is said answer = firms_ascend (need_of Firms) doc is doc.extra said answer
 document_ascends Judge doc is said answer = judged_outcome_ascends (need_of Judge) doc is doc.extra said answer
@@ -272,7 +308,8 @@ document_ascends Solve doc is said answer = solved_ascends (need_of Solve) doc i
 document_ascends Support doc is said answer = priced_ascends (need_of Support) doc is doc.extra said answer
 document_ascends Test doc is said answer = tested_ascends (need_of Test) doc is said answer
 
-document_named : (command : Command) (doc : DocumentData) → IsDocument (need_of command) doc → (said : Said) → IsAnswerOf command doc said → IsNamedAnswer doc.names said
+document_named : (command : Command) (doc : DocumentData) → IsDocument (need_of command) doc → (said : Said)
+    → IsAnswerOf command doc said → IsNamedAnswer doc.names said
 document_named Check doc is said answer = checked_named (need_of Check) doc is doc.extra said answer
 document_named Firms doc is said answer = firms_named (need_of Firms) doc is doc.extra said answer
 document_named Judge doc is said answer = judged_outcome_named (need_of Judge) doc is doc.extra said answer
@@ -320,12 +357,14 @@ no_fault Session doc fault answer = by_extra doc.extra answer
     by_extra extra states = states
 
 -- and its numbers are short within the limits of claims
-document_short : (command : Command) (doc : DocumentData) (said : Said) → IsAnswerOf command doc said → IsWithinClaims said → HasShortNumbers said
+document_short : (command : Command) (doc : DocumentData) (said : Said) → IsAnswerOf command doc said
+    → IsWithinClaims said → HasShortNumbers said
 document_short command doc (Fault fault) answer within = absurd (no_fault command doc fault answer)
 document_short command doc said answer within = within_sayable said within
 
 -- it keeps the rules
-document_kept : (command : Command) (doc : DocumentData) → IsDocument (need_of command) doc → (said : Said) → IsAnswerOf command doc said → IsWithinClaims said → KeepsRules doc.names said
+document_kept : (command : Command) (doc : DocumentData) → IsDocument (need_of command) doc → (said : Said)
+    → IsAnswerOf command doc said → IsWithinClaims said → KeepsRules doc.names said
 document_kept command doc is said answer within = record {
   named = document_named command doc is said answer;
   short = document_short command doc said answer within;
@@ -336,19 +375,26 @@ document_kept command doc is said answer within = record {
   trade_names = is.trade_names;
 }
 
-pub kept_if_ok : {E : Type 0} (command : Command) (doc : DocumentData) → IsDocument (need_of command) doc → (result : Result (Said × NameLists) E)
-    → IfOk result (λ told. IsAnswerOf command doc told.0) → IfOk result (λ told. told.1 ≡ doc.names) → IfOk result (λ told. IsWithinClaims told.0) → IfOk result (λ told. KeepsRules told.1 told.0)
-kept_if_ok command doc is (Ok told) answer named within = subst (λ (names : NameLists). KeepsRules names told.0) (sym named) (document_kept command doc is told.0 answer within)
+pub kept_if_ok : {E : Type 0} (command : Command) (doc : DocumentData) → IsDocument (need_of command) doc
+    → (result : Result (Said × NameLists) E)
+    → IfOk result (λ told. IsAnswerOf command doc told.0) → IfOk result (λ told. told.1 ≡ doc.names)
+    → IfOk result (λ told. IsWithinClaims told.0) → IfOk result (λ told. KeepsRules told.1 told.0)
+kept_if_ok command doc is (Ok told) answer named within =
+    subst (λ (names : NameLists). KeepsRules names told.0) (sym named)
+    (document_kept command doc is told.0 answer within)
 kept_if_ok command doc is (Err e) answer named within = tt
 
 -- it is the answer to what was read
-pub answered_if_ok : {E : Type 0} (command : Command) (doc : DocumentData) (reading : Result DocumentData Stop) → reading ≡ Ok doc → (result : Result (Said × NameLists) E)
-    → IfOk result (λ told. IsAnswerOf command doc told.0) → IfOk result (λ told. told.1 ≡ doc.names) → IfOk result (λ told. IsAnswerTo command reading told.1 told.0)
+pub answered_if_ok : {E : Type 0} (command : Command) (doc : DocumentData) (reading : Result DocumentData Stop)
+    → reading ≡ Ok doc → (result : Result (Said × NameLists) E)
+    → IfOk result (λ told. IsAnswerOf command doc told.0) → IfOk result (λ told. told.1 ≡ doc.names)
+    → IfOk result (λ told. IsAnswerTo command reading told.1 told.0)
 answered_if_ok command doc reading reads (Ok told) answer named = rw reads (answer, named)
 answered_if_ok command doc reading reads (Err e) answer named = tt
 
 -- so does a fault
-pub stop_kept : (fault : FaultIs) (names : NameLists) → IsStop (record { fault = fault; names = names }) → KeepsRules names (Fault fault)
+pub stop_kept : (fault : FaultIs) (names : NameLists) → IsStop (record { fault = fault; names = names })
+    → KeepsRules names (Fault fault)
 stop_kept fault names stop = record {
   named = (stop.fault.place, stop.fault.triple);
   short = stop.short;
@@ -360,11 +406,15 @@ stop_kept fault names stop = record {
 }
 
 -- a document that was read for a command
-pub document_read : (command : Command) (need : Need) (bytes : List ℕ) (doc : DocumentData) → need ≡ need_of command → reading_of need bytes ≡ Ok doc → IsDocument (need_of command) doc
-document_read command need bytes doc same e = subst (λ (n : Need). IsDocument n doc) same (documents_are_networks need bytes doc e)
+pub document_read : (command : Command) (need : Need) (bytes : List ℕ) (doc : DocumentData) → need ≡ need_of command
+    → reading_of need bytes ≡ Ok doc → IsDocument (need_of command) doc
+document_read command need bytes doc same e =
+    subst (λ (n : Need). IsDocument n doc) same (documents_are_networks need bytes doc e)
 
 -- a refusal for a fault is a stop
-pub stop_read : (need : Need) (bytes : List ℕ) (refusal : DocRefusal) (fault : FaultIs) (names : NameLists) → refusal ≡ DocRefusal.Fault fault names → Reads document_view (Err refusal) (reading_of need bytes)
+pub stop_read : (need : Need) (bytes : List ℕ) (refusal : DocRefusal) (fault : FaultIs) (names : NameLists)
+    → refusal ≡ DocRefusal.Fault fault names → Reads document_view (Err refusal) (reading_of need bytes)
     → IsStop (record { fault = fault; names = names })
 stop_read need bytes refusal fault names same reads =
-    faults_are_sayable need bytes (record { fault = fault; names = names }) (subst (λ (e : DocRefusal). Reads document_view (Err e) (reading_of need bytes)) same reads)
+    faults_are_sayable need bytes (record { fault = fault; names = names })
+    (subst (λ (e : DocRefusal). Reads document_view (Err e) (reading_of need bytes)) same reads)

@@ -39,9 +39,11 @@ use Rattle.tn_run.proofs.OwnLemmas.{firm_named, own_named, trade_named, bundle_n
 module _ (need : Need) (doc : DocumentData) (is : IsDocument need doc) where
   -- the claimed firm
   claimed_named : {holds : Firm → Type 0} (f g : ℕ) → g ≡ f → IsFirmWith doc.firms f holds → IsNamed doc.names.firms g
-  claimed_named f g same with_firm = subst (IsNamed doc.names.firms) (sym same) (firm_named need doc is f with_firm.0 with_firm.1)
+  claimed_named f g same with_firm =
+      subst (IsNamed doc.names.firms) (sym same) (firm_named need doc is f with_firm.0 with_firm.1)
 
-  lack_named : (scale : ℤ) (on : ℕ) (prices : ℕ → ℤ) (reason : Reason) → LacksBest doc.firms doc.ends scale on prices reason → IsNamedReason doc.names reason
+  lack_named : (scale : ℤ) (on : ℕ) (prices : ℕ → ℤ) (reason : Reason)
+      → LacksBest doc.firms doc.ends scale on prices reason → IsNamedReason doc.names reason
   lack_named scale on prices (ImpossibleIs f) lacks = firm_named need doc is f lacks.firm lacks.is
   lack_named scale on prices (BetterIs f bundle) lacks =
       let first = lacks.2 in (
@@ -50,96 +52,132 @@ module _ (need : Need) (doc : DocumentData) (is : IsDocument need doc) where
       )
   lack_named scale on prices reason lacks = absurd lacks
 
-  equilibrium_named : (on : ℕ) (prices : ℕ → ℤ) (claimed : ℤ) (reason : Reason) → RefutesEquilibrium doc.firms doc.ends on prices claimed reason → IsNamedReason doc.names reason
+  equilibrium_named : (on : ℕ) (prices : ℕ → ℤ) (claimed : ℤ) (reason : Reason)
+      → RefutesEquilibrium doc.firms doc.ends on prices claimed reason → IsNamedReason doc.names reason
   equilibrium_named on prices claimed (Surplus surplus) refutes = tt
   equilibrium_named on prices claimed reason refutes = lack_named (pos 1) on prices reason refutes
 
-  better_named : (on : ℕ) (prices : ℕ → ℤ) (f x : ℕ) (claimed : ℤ) (reason : Reason) → RefutesBetter doc.firms doc.ends on prices f x claimed reason → IsNamedReason doc.names reason
+  better_named : (on : ℕ) (prices : ℕ → ℤ) (f x : ℕ) (claimed : ℤ) (reason : Reason)
+      → RefutesBetter doc.firms doc.ends on prices f x claimed reason → IsNamedReason doc.names reason
   better_named on prices f x claimed (ImpossibleIs g) refutes = claimed_named f g refutes.0 refutes.1
   better_named on prices f x claimed (Gain g (Some gain)) refutes = claimed_named f g refutes.0 refutes.1
   better_named on prices f x claimed reason refutes = absurd refutes
 
-  cycle_named : (on : ℕ) (nodes : List ℕ) (claimed : ℤ) (reason : Reason) → RefutesCycle doc.firms doc.ends on nodes claimed reason → IsNamedReason doc.names reason
+  cycle_named : (on : ℕ) (nodes : List ℕ) (claimed : ℤ) (reason : Reason)
+      → RefutesCycle doc.firms doc.ends on nodes claimed reason → IsNamedReason doc.names reason
   cycle_named on nodes claimed (ImpossibleIs f) refutes = firm_named need doc is f refutes.firm refutes.is
   cycle_named on nodes claimed (Arc index) refutes = tt
   cycle_named on nodes claimed (Cost cost) refutes = tt
   cycle_named on nodes claimed reason refutes = absurd refutes
 
-  unsigned_named : (outcome : Outcome) (f keeps t : ℕ) → IsFirmWith doc.firms f (λ firm. keeps < 2 ^ firm.count) → IsFirstUnsigned doc.ends outcome f keeps t → IsNamed doc.names.trades t
+  unsigned_named : (outcome : Outcome) (f keeps t : ℕ) → IsFirmWith doc.firms f (λ firm. keeps < 2 ^ firm.count)
+      → IsFirstUnsigned doc.ends outcome f keeps t → IsNamed doc.names.trades t
   unsigned_named outcome f keeps t own_firm unsigned =
       subst (IsNamed doc.names.trades) unsigned.is
-      (own_named need doc is f own_firm.0 own_firm.1 unsigned.at (has_below keeps own_firm.0.count unsigned.at own_firm.2 unsigned.member))
+      (own_named need doc is f own_firm.0 own_firm.1 unsigned.at
+      (has_below keeps own_firm.0.count unsigned.at own_firm.2 unsigned.member))
 
-  drops_named : (outcome : Outcome) (f keeps : ℕ) (claimed : Option ℤ) (over : ℤ) (reason : Reason) → IsFirmWith doc.firms f (λ firm. keeps < 2 ^ firm.count)
+  drops_named : (outcome : Outcome) (f keeps : ℕ) (claimed : Option ℤ) (over : ℤ) (reason : Reason)
+      → IsFirmWith doc.firms f (λ firm. keeps < 2 ^ firm.count)
       → RefutesDrops doc.firms doc.ends outcome f keeps claimed over reason → IsNamedReason doc.names reason
   drops_named outcome f keeps claimed over (Over told) own_firm refutes = tt
-  drops_named outcome f keeps claimed over (ContractIs t) own_firm refutes = unsigned_named outcome f keeps t own_firm refutes.1
+  drops_named outcome f keeps claimed over (ContractIs t) own_firm refutes =
+      unsigned_named outcome f keeps t own_firm refutes.1
   drops_named outcome f keeps claimed over (ImpossibleIs g) own_firm refutes = claimed_named f g refutes.2 refutes.3
   drops_named outcome f keeps claimed over (Gain g gain) own_firm refutes = claimed_named f g refutes.2 refutes.3
   drops_named outcome f keeps claimed over reason own_firm refutes = absurd refutes
 
-  mispriced_named : (outcome : Outcome) (prices : ℕ → ℤ) (t : ℕ) → IsOutcomeWithin (length doc.ends) outcome → IsFirstMispriced outcome.contracts prices t → IsNamed doc.names.trades t
+  mispriced_named : (outcome : Outcome) (prices : ℕ → ℤ) (t : ℕ) → IsOutcomeWithin (length doc.ends) outcome
+      → IsFirstMispriced outcome.contracts prices t → IsNamed doc.names.trades t
   mispriced_named outcome prices t within mispriced =
-      let known = All-get_or (λ (contract : Contract). contract.trade < length doc.ends) outcome.contracts mispriced.at mispriced.contract (slice_get_within outcome.contracts mispriced.at mispriced.contract mispriced.is) within.contracts.known in
+      let known = All-get_or (λ (contract : Contract). contract.trade < length doc.ends) outcome.contracts mispriced.at
+      mispriced.contract (slice_get_within outcome.contracts mispriced.at mispriced.contract mispriced.is)
+      within.contracts.known in
       trade_named need doc is t
       (subst (λ n. n < length doc.ends) mispriced.trade
-      (subst (λ (contract : Contract). contract.trade < length doc.ends) (get_or_from_slice_get outcome.contracts mispriced.at mispriced.contract mispriced.contract mispriced.is) known))
+      (subst (λ (contract : Contract). contract.trade < length doc.ends)
+      (get_or_from_slice_get outcome.contracts mispriced.at mispriced.contract mispriced.contract mispriced.is)
+      known))
 
-  completes_named : (outcome : Outcome) (prices : ℕ → ℤ) (over : ℤ) (reason : Reason) → IsOutcomeWithin (length doc.ends) outcome
+  completes_named : (outcome : Outcome) (prices : ℕ → ℤ) (over : ℤ) (reason : Reason)
+      → IsOutcomeWithin (length doc.ends) outcome
       → RefutesCompletes doc.firms doc.ends outcome prices over reason → IsNamedReason doc.names reason
   completes_named outcome prices over (Over told) within refutes = tt
   completes_named outcome prices over (Price t) within refutes = mispriced_named outcome prices t within refutes.1
-  completes_named outcome prices over reason within refutes = lack_named over (signed (length doc.ends) outcome.contracts) prices reason refutes.2
+  completes_named outcome prices over reason within refutes =
+      lack_named over (signed (length doc.ends) outcome.contracts) prices reason refutes.2
 
-  offer_named : (offers : List Contract) (k t : ℕ) (offer : Contract) → AreOffersWithin doc.ends offers → slice_get offers k ≡ Some offer → offer.trade ≡ t → IsNamed doc.names.trades t
-  offer_named offers k t offer within at same = subst (IsNamed doc.names.trades) same (trade_named need doc is offer.trade (within.feasible.known k offer at))
+  offer_named : (offers : List Contract) (k t : ℕ) (offer : Contract) → AreOffersWithin doc.ends offers
+      → slice_get offers k ≡ Some offer → offer.trade ≡ t → IsNamed doc.names.trades t
+  offer_named offers k t offer within at same =
+      subst (IsNamed doc.names.trades) same (trade_named need doc is offer.trade (within.feasible.known k offer at))
 
-  blocks_named : (outcome : Outcome) (offers : List Contract) (e : ℤ) (reason : Reason) → AreOffersWithin doc.ends offers
+  blocks_named : (outcome : Outcome) (offers : List Contract) (e : ℤ) (reason : Reason)
+      → AreOffersWithin doc.ends offers
       → RefutesBlocks doc.firms doc.ends outcome offers e reason → IsNamedReason doc.names reason
   blocks_named outcome offers e Empty within refutes = tt
-  blocks_named outcome offers e (Signed t) within refutes = offer_named offers refutes.at t refutes.offer within refutes.is refutes.trade
+  blocks_named outcome offers e (Signed t) within refutes =
+      offer_named offers refutes.at t refutes.offer within refutes.is refutes.trade
   blocks_named outcome offers e (Choice f t) within refutes =
-      let leaves = refutes.2 in (firm_named need doc is f leaves.firm leaves.is, offer_named offers leaves.at t leaves.offer within leaves.offered leaves.trade)
+      let leaves = refutes.2 in (
+        firm_named need doc is f leaves.firm leaves.is,
+        offer_named offers leaves.at t leaves.offer within leaves.offered leaves.trade,
+      )
   blocks_named outcome offers e reason within refutes = absurd refutes
 
-  plan_named : (plan : List Part) (over : ℤ) (reason : Reason) → RefutesPlan doc.firms doc.ends plan over reason → IsNamedReason doc.names reason
+  plan_named : (plan : List Part) (over : ℤ) (reason : Reason) → RefutesPlan doc.firms doc.ends plan over reason
+      → IsNamedReason doc.names reason
   plan_named plan over (Shares f) refutes = subst (λ n. f < n) (sym is.firms_named) refutes.0
   plan_named plan over (ImpossibleIs f) refutes = claimed_named f f refl refutes.2
   plan_named plan over (Balance t) refutes = trade_named need doc is t (slice_get_within doc.ends t refutes.3 refutes.4)
-  plan_named plan over (Whole on surplus) refutes = let whole = refutes.3 in set_named need doc is whole.on on whole.listed_is
+  plan_named plan over (Whole on surplus) refutes = let whole = refutes.3 in
+      set_named need doc is whole.on on whole.listed_is
   plan_named plan over reason refutes = absurd refutes
 
-  reason_named : (claim : Claim) (reason : Reason) → IsClaimWithin doc.firms doc.ends claim → Refutes doc.firms doc.ends claim reason → IsNamedReason doc.names reason
-  reason_named (Equilibrium at surplus) reason within refutes = equilibrium_named at.on (price_at at.prices) surplus reason refutes
-  reason_named (Solved at surplus) reason within refutes = equilibrium_named at.on (price_at at.prices) surplus reason refutes
+  reason_named : (claim : Claim) (reason : Reason) → IsClaimWithin doc.firms doc.ends claim
+      → Refutes doc.firms doc.ends claim reason → IsNamedReason doc.names reason
+  reason_named (Equilibrium at surplus) reason within refutes =
+      equilibrium_named at.on (price_at at.prices) surplus reason refutes
+  reason_named (Solved at surplus) reason within refutes =
+      equilibrium_named at.on (price_at at.prices) surplus reason refutes
   reason_named (Supported on prices) reason within refutes = lack_named (pos 1) on (price_at prices) reason refutes
-  reason_named (Better at f x gain) reason within refutes = better_named at.on (price_at at.prices) f x gain reason refutes
+  reason_named (Better at f x gain) reason within refutes =
+      better_named at.on (price_at at.prices) f x gain reason refutes
   reason_named (Impossible on f) (Possible g) within refutes = claimed_named f g refutes.0 refutes.1
   reason_named (Impossible on f) reason within refutes = absurd refutes
-  reason_named (Cycle on nodes cost) reason within refutes = cycle_named on (map (node_of (length doc.ends)) nodes) cost reason refutes
-  reason_named (Drops outcome f keeps gain over) reason within refutes = drops_named outcome f keeps gain over reason within.1 refutes
-  reason_named (Completes outcome prices over) reason within refutes = completes_named outcome (price_at prices) over reason within.0 refutes
-  reason_named (Blocks outcome contracts over) reason within refutes = blocks_named outcome contracts over reason within.1 refutes
+  reason_named (Cycle on nodes cost) reason within refutes =
+      cycle_named on (map (node_of (length doc.ends)) nodes) cost reason refutes
+  reason_named (Drops outcome f keeps gain over) reason within refutes =
+      drops_named outcome f keeps gain over reason within.1 refutes
+  reason_named (Completes outcome prices over) reason within refutes =
+      completes_named outcome (price_at prices) over reason within.0 refutes
+  reason_named (Blocks outcome contracts over) reason within refutes =
+      blocks_named outcome contracts over reason within.1 refutes
   reason_named (NoPrices plan over) reason within refutes = plan_named plan over reason refutes
   reason_named Accepted (Exchange f x y at) within refutes = failure_named need doc is f x y at refutes
   reason_named Accepted reason within refutes = absurd refutes
   reason_named (ExchangeFails f x y at) Holds within refutes = tt
   reason_named (ExchangeFails f x y at) reason within refutes = absurd refutes
 
-  pub decided_named : (claim : Claim) (said : Said) → IsClaimWithin doc.firms doc.ends claim → DecidesClaim doc.firms doc.ends claim said → IsNamedAnswer doc.names said
+  pub decided_named : (claim : Claim) (said : Said) → IsClaimWithin doc.firms doc.ends claim
+      → DecidesClaim doc.firms doc.ends claim said → IsNamedAnswer doc.names said
   decided_named claim Valid within decides = tt
   decided_named claim (Invalid reason) within decides = reason_named claim reason within decides
   decided_named claim said within decides = absurd decides
 
   -- the bundles of a reason ascend
-  better_ascends : (scale : ℤ) (on : ℕ) (prices : ℕ → ℤ) (f : ℕ) (bundle : List ℕ) → LacksBest doc.firms doc.ends scale on prices (BetterIs f bundle) → IsStrictlyIncreasing bundle
-  better_ascends scale on prices f bundle lacks = let first = lacks.2 in subst IsStrictlyIncreasing (sym lacks.3) (bundle_ascends need doc is f first.firm lacks.0 first.is)
+  better_ascends : (scale : ℤ) (on : ℕ) (prices : ℕ → ℤ) (f : ℕ) (bundle : List ℕ)
+      → LacksBest doc.firms doc.ends scale on prices (BetterIs f bundle) → IsStrictlyIncreasing bundle
+  better_ascends scale on prices f bundle lacks = let first = lacks.2 in
+      subst IsStrictlyIncreasing (sym lacks.3) (bundle_ascends need doc is f first.firm lacks.0 first.is)
 
-  better_reason : (claim : Claim) (f : ℕ) (bundle : List ℕ) → Refutes doc.firms doc.ends claim (BetterIs f bundle) → IsStrictlyIncreasing bundle
+  better_reason : (claim : Claim) (f : ℕ) (bundle : List ℕ) → Refutes doc.firms doc.ends claim (BetterIs f bundle)
+      → IsStrictlyIncreasing bundle
   better_reason (Equilibrium at surplus) f bundle refutes = better_ascends (pos 1) at.on (price_at at.prices) f bundle refutes
   better_reason (Solved at surplus) f bundle refutes = better_ascends (pos 1) at.on (price_at at.prices) f bundle refutes
   better_reason (Supported on prices) f bundle refutes = better_ascends (pos 1) on (price_at prices) f bundle refutes
-  better_reason (Completes outcome prices over) f bundle refutes = better_ascends over (signed (length doc.ends) outcome.contracts) (price_at prices) f bundle refutes.2
+  better_reason (Completes outcome prices over) f bundle refutes =
+      better_ascends over (signed (length doc.ends) outcome.contracts) (price_at prices) f bundle refutes.2
   better_reason (Better at g x gain) f bundle refutes = absurd refutes
   better_reason (Impossible on g) f bundle refutes = absurd refutes
   better_reason (Cycle on nodes cost) f bundle refutes = absurd refutes
@@ -149,7 +187,8 @@ module _ (need : Need) (doc : DocumentData) (is : IsDocument need doc) where
   better_reason Accepted f bundle refutes = absurd refutes
   better_reason (ExchangeFails g x y at) f bundle refutes = absurd refutes
 
-  exchange_reason : (claim : Claim) (f : ℕ) (x y : List ℕ) (at : Option ℕ) → Refutes doc.firms doc.ends claim (Exchange f x y at) → HasAscendingBundles (Exchange f x y at)
+  exchange_reason : (claim : Claim) (f : ℕ) (x y : List ℕ) (at : Option ℕ)
+      → Refutes doc.firms doc.ends claim (Exchange f x y at) → HasAscendingBundles (Exchange f x y at)
   exchange_reason Accepted f x y at refutes = failure_ascends need doc is f x y at refutes
   exchange_reason (Equilibrium arranged surplus) f x y at refutes = absurd refutes
   exchange_reason (Solved arranged surplus) f x y at refutes = absurd refutes
@@ -163,8 +202,10 @@ module _ (need : Need) (doc : DocumentData) (is : IsDocument need doc) where
   exchange_reason (ExchangeFails g one other position) f x y at refutes = absurd refutes
   exchange_reason (NoPrices plan over) f x y at refutes = absurd refutes
 
-  whole_reason : (claim : Claim) (on : List ℕ) (surplus : ℤ) → Refutes doc.firms doc.ends claim (Whole on surplus) → IsStrictlyIncreasing on
-  whole_reason (NoPrices plan over) on surplus refutes = let whole = refutes.3 in set_ascends need doc is whole.on on whole.listed_is
+  whole_reason : (claim : Claim) (on : List ℕ) (surplus : ℤ) → Refutes doc.firms doc.ends claim (Whole on surplus)
+      → IsStrictlyIncreasing on
+  whole_reason (NoPrices plan over) on surplus refutes = let whole = refutes.3 in
+      set_ascends need doc is whole.on on whole.listed_is
   whole_reason (Equilibrium at told) on surplus refutes = absurd refutes
   whole_reason (Solved at told) on surplus refutes = absurd refutes
   whole_reason (Supported set prices) on surplus refutes = absurd refutes
@@ -177,7 +218,8 @@ module _ (need : Need) (doc : DocumentData) (is : IsDocument need doc) where
   whole_reason Accepted on surplus refutes = absurd refutes
   whole_reason (ExchangeFails f x y at) on surplus refutes = absurd refutes
 
-  reason_ascends : (claim : Claim) (reason : Reason) → Refutes doc.firms doc.ends claim reason → HasAscendingBundles reason
+  reason_ascends : (claim : Claim) (reason : Reason) → Refutes doc.firms doc.ends claim reason
+      → HasAscendingBundles reason
   reason_ascends claim (BetterIs f bundle) refutes = better_reason claim f bundle refutes
   reason_ascends claim (Exchange f x y at) refutes = exchange_reason claim f x y at refutes
   reason_ascends claim (Whole on surplus) refutes = whole_reason claim on surplus refutes
@@ -197,18 +239,21 @@ module _ (need : Need) (doc : DocumentData) (is : IsDocument need doc) where
   reason_ascends claim (Shares f) refutes = tt
   reason_ascends claim (Balance t) refutes = tt
 
-  pub decided_ascends : (claim : Claim) (said : Said) → DecidesClaim doc.firms doc.ends claim said → HasAscendingTrades said
+  pub decided_ascends : (claim : Claim) (said : Said) → DecidesClaim doc.firms doc.ends claim said
+      → HasAscendingTrades said
   decided_ascends claim Valid decides = tt
   decided_ascends claim (Invalid reason) decides = reason_ascends claim reason decides
   decided_ascends claim said decides = absurd decides
 
 -- trades at positions of a firm have no surplus
-pub small_in : (trades : List Ends) (reason : Reason) → HasSmallSurplus (InvalidIs reason) → HasSmallSurplus (InvalidIs (reason_in trades reason))
+pub small_in : (trades : List Ends) (reason : Reason) → HasSmallSurplus (InvalidIs reason)
+    → HasSmallSurplus (InvalidIs (reason_in trades reason))
 small_in trades (Exchange f x y at) small = tt
 small_in trades reason small = small
 
 -- a reason against a claim on a network that is read raw has no number but a surplus
-pub raw_reason_small : (firms : List Firm) (trades : List Ends) (claim : Claim) (reason : Reason) → is_raw claim ≡ true → Refutes firms trades claim reason → HasSmallSurplus (InvalidIs reason) → IsReasonWithin reason
+pub raw_reason_small : (firms : List Firm) (trades : List Ends) (claim : Claim) (reason : Reason) → is_raw claim ≡ true
+    → Refutes firms trades claim reason → HasSmallSurplus (InvalidIs reason) → IsReasonWithin reason
 raw_reason_small firms trades Accepted (Exchange f x y at) kind refutes small = tt
 raw_reason_small firms trades Accepted reason kind refutes small = absurd refutes
 raw_reason_small firms trades (ExchangeFails f x y at) Holds kind refutes small = tt
@@ -221,7 +266,8 @@ raw_reason_small firms trades (NoPrices plan over) reason kind refutes small = a
 raw_reason_small firms trades claim reason kind refutes small = cc
 
 -- one position more that is named
-pub named_push : (f : ℕ → ℕ) (xs : List ℕ) (i x y : ℕ) (done : List ℕ) → done ≡ map f (take i xs) → slice_get xs i ≡ Some x → y ≡ f x → done ++ y ∷ [] ≡ map f (take (i + 1) xs)
+pub named_push : (f : ℕ → ℕ) (xs : List ℕ) (i x y : ℕ) (done : List ℕ) → done ≡ map f (take i xs)
+    → slice_get xs i ≡ Some x → y ≡ f x → done ++ y ∷ [] ≡ map f (take (i + 1) xs)
 named_push f xs i x y done so_far at is =
     ap (λ front. front ++ y ∷ []) so_far
     ∙ ap (λ last. map f (take i xs) ++ last ∷ []) (is ∙ ap f (sym (get_or_from_slice_get xs i x x at)))

@@ -1,4 +1,5 @@
--- Of the two stalls of the tests: they are a network, and trade at a price between what the seller gains and what the buyer loses.
+-- Of the two stalls of the tests: they are a network, and trade at a price between what the seller gains and what the
+-- buyer loses.
 use Rattle.std.proofs.Common.{◌≡◌, Bool, true, false, if◌then◌else◌, ℤ, pos, negsuc, ◌+ℤ◌, arith, ap, ap₂, ◌∙◌, refl, sym, subst, ◌≢◌, ℕ, zero, suc, ◌<◌, List, [], ◌∷◌, slice_get, Some, lit<, ◌==◌, ◌&&◌, ◌⊎◌, inl, inr, ◌*ℤ◌, ◌≤ℤ◌}
 use Rattle.std.specs.Prelude.{IsSome, is_some}
 use Rattle.std.proofs.lemmas.Int.{ints}
@@ -20,7 +21,8 @@ use Rattle.tn_run.specs.Stall.{amounts, amounts_of, stall, trade_between}
 use Rattle.tn_run.specs.StallLemmas.{stall-worth}
 
 -- what the code computes
-pub counted_sum : (buys sells b s : Bool) (cost gain : ℤ) → b ≡ buys → s ≡ sells → cost ≡ (if b then negsuc 2 else pos 0) → gain ≡ (if s then pos 5 else pos 0)
+pub counted_sum : (buys sells b s : Bool) (cost gain : ℤ) → b ≡ buys → s ≡ sells
+    → cost ≡ (if b then negsuc 2 else pos 0) → gain ≡ (if s then pos 5 else pos 0)
     → to_z w128 (of_z w128 (to_z w128 (of_z w128 cost) +ℤ to_z w128 (of_z w128 gain))) ≡ amounts_of buys sells
 counted_sum buys sells b s cost gain b_is s_is cost_is gain_is = by_case b s cost_is gain_is ∙ ap₂ amounts_of b_is s_is
   where
@@ -38,20 +40,26 @@ abbrev trades : List Ends
 trades = trade_between 0 1 ∷ trade_between 1 0 ∷ []
 
 sold_there : (t : ℕ) (trade : Ends) → slice_get trades t ≡ Some trade
-    → (firm : Firm) × (slice_get firms trade.seller ≡ Some firm) × (trade.at_seller < firm.count) × (has firm.buys trade.at_seller ≡ false)
+    → (firm : Firm) × (slice_get firms trade.seller ≡ Some firm) × (trade.at_seller < firm.count)
+    × (has firm.buys trade.at_seller ≡ false)
 unfolding has
-sold_there zero trade is = subst (λ (x : Ends). (firm : Firm) × (slice_get firms x.seller ≡ Some firm) × (x.at_seller < firm.count) × (has firm.buys x.at_seller ≡ false))
+sold_there zero trade is = subst (λ (x : Ends). (firm : Firm) × (slice_get firms x.seller ≡ Some firm)
+    × (x.at_seller < firm.count) × (has firm.buys x.at_seller ≡ false))
     (same_Some _ _ is) (stall, refl, lit< tt, refl)
-sold_there (suc zero) trade is = subst (λ (x : Ends). (firm : Firm) × (slice_get firms x.seller ≡ Some firm) × (x.at_seller < firm.count) × (has firm.buys x.at_seller ≡ false))
+sold_there (suc zero) trade is = subst (λ (x : Ends). (firm : Firm) × (slice_get firms x.seller ≡ Some firm)
+    × (x.at_seller < firm.count) × (has firm.buys x.at_seller ≡ false))
     (same_Some _ _ is) (stall, refl, lit< tt, refl)
 sold_there (suc (suc t)) trade is = absurd (cc is)
 
 bought_there : (t : ℕ) (trade : Ends) → slice_get trades t ≡ Some trade
-    → (firm : Firm) × (slice_get firms trade.buyer ≡ Some firm) × (trade.at_buyer < firm.count) × (has firm.buys trade.at_buyer ≡ true)
+    → (firm : Firm) × (slice_get firms trade.buyer ≡ Some firm) × (trade.at_buyer < firm.count)
+    × (has firm.buys trade.at_buyer ≡ true)
 unfolding has
-bought_there zero trade is = subst (λ (x : Ends). (firm : Firm) × (slice_get firms x.buyer ≡ Some firm) × (x.at_buyer < firm.count) × (has firm.buys x.at_buyer ≡ true))
+bought_there zero trade is = subst (λ (x : Ends). (firm : Firm) × (slice_get firms x.buyer ≡ Some firm)
+    × (x.at_buyer < firm.count) × (has firm.buys x.at_buyer ≡ true))
     (same_Some _ _ is) (stall, refl, lit< tt, refl)
-bought_there (suc zero) trade is = subst (λ (x : Ends). (firm : Firm) × (slice_get firms x.buyer ≡ Some firm) × (x.at_buyer < firm.count) × (has firm.buys x.at_buyer ≡ true))
+bought_there (suc zero) trade is = subst (λ (x : Ends). (firm : Firm) × (slice_get firms x.buyer ≡ Some firm)
+    × (x.at_buyer < firm.count) × (has firm.buys x.at_buyer ≡ true))
     (same_Some _ _ is) (stall, refl, lit< tt, refl)
 bought_there (suc (suc t)) trade is = absurd (cc is)
 
@@ -60,23 +68,36 @@ whole zero zero firm is inside = lit< tt
 whole zero (suc zero) firm is inside = lit< tt
 whole (suc zero) zero firm is inside = lit< tt
 whole (suc zero) (suc zero) firm is inside = lit< tt
-whole zero (suc (suc k)) firm is inside = let two : firm.count ≡ 2 = ap (λ (x : Firm). x.count) (sym (same_Some _ _ is)) in absurd (omega (arith, inside, two))
-whole (suc zero) (suc (suc k)) firm is inside = let two : firm.count ≡ 2 = ap (λ (x : Firm). x.count) (sym (same_Some _ _ is)) in absurd (omega (arith, inside, two))
+whole zero (suc (suc k)) firm is inside = let two : firm.count ≡ 2 = ap (λ (x : Firm). x.count) (sym (same_Some _ _ is))
+    in absurd (omega (arith, inside, two))
+whole (suc zero) (suc (suc k)) firm is inside = let two : firm.count ≡ 2 =
+    ap (λ (x : Firm). x.count) (sym (same_Some _ _ is)) in absurd (omega (arith, inside, two))
 whole (suc (suc f)) k firm is inside = absurd (cc is)
 
 -- where a trade stands, by numbers
 where_at : (trade : Ends) (f k : ℕ) → stands_at trade f k ≡ true
     → ((trade.seller ≡ f) × (trade.at_seller ≡ k)) ⊎ ((trade.buyer ≡ f) × (trade.at_buyer ≡ k))
-where_at trade f k stands = elim (or_cases (trade.seller == f && trade.at_seller == k) (trade.buyer == f && trade.at_buyer == k) stands) [
-  | inl h ↦ let parts = and_parts (trade.seller == f) (trade.at_seller == k) h in inl (eqb-true _ _ parts.0, eqb-true _ _ parts.1)
-  | inr h ↦ let parts = and_parts (trade.buyer == f) (trade.at_buyer == k) h in inr (eqb-true _ _ parts.0, eqb-true _ _ parts.1)
-]
+where_at trade f k stands =
+    elim (or_cases (trade.seller == f && trade.at_seller == k) (trade.buyer == f && trade.at_buyer == k) stands) [
+      | inl h ↦ let parts = and_parts (trade.seller == f) (trade.at_seller == k) h in
+          inl (eqb-true _ _ parts.0, eqb-true _ _ parts.1)
+      | inr h ↦ let parts = and_parts (trade.buyer == f) (trade.at_buyer == k) h in
+          inr (eqb-true _ _ parts.0, eqb-true _ _ parts.1)
+    ]
 
 -- the two trades stand nowhere both
 apart_at : (f k : ℕ) → stands_at (trade_between 0 1) f k ≡ true → stands_at (trade_between 1 0) f k ≡ true → ⊥
 apart_at f k one other = elim (where_at (trade_between 0 1) f k one) [
-  | inl p ↦ elim (where_at (trade_between 1 0) f k other) [ inl q ↦ absurd (omega (arith, p.0, q.0)) | inr q ↦ absurd (omega (arith, p.1, q.1)) ]
-  | inr p ↦ elim (where_at (trade_between 1 0) f k other) [ inl q ↦ absurd (omega (arith, p.1, q.1)) | inr q ↦ absurd (omega (arith, p.0, q.0)) ]
+  | inl p ↦ elim (where_at (trade_between 1 0) f k other) [
+    | inl q ↦ absurd (omega (arith, p.0, q.0))
+    | inr q ↦
+        absurd (omega (arith, p.1, q.1))
+  ]
+  | inr p ↦ elim (where_at (trade_between 1 0) f k other) [
+    | inl q ↦ absurd (omega (arith, p.1, q.1))
+    | inr q ↦
+        absurd (omega (arith, p.0, q.0))
+  ]
 ]
 
 once_there : (f k s t : ℕ) (one other : Ends) → slice_get trades s ≡ Some one → slice_get trades t ≡ Some other
@@ -84,21 +105,32 @@ once_there : (f k s t : ℕ) (one other : Ends) → slice_get trades s ≡ Some 
 once_there f k zero zero one other is is' here here' = refl
 once_there f k (suc zero) (suc zero) one other is is' here here' = refl
 once_there f k zero (suc zero) one other is is' here here' =
-    absurd (apart_at f k (subst (λ (x : Ends). stands_at x f k ≡ true) (sym (same_Some _ _ is)) here) (subst (λ (x : Ends). stands_at x f k ≡ true) (sym (same_Some _ _ is')) here'))
+    absurd (apart_at f k (subst (λ (x : Ends). stands_at x f k ≡ true) (sym (same_Some _ _ is)) here)
+    (subst (λ (x : Ends). stands_at x f k ≡ true) (sym (same_Some _ _ is')) here'))
 once_there f k (suc zero) zero one other is is' here here' =
-    absurd (apart_at f k (subst (λ (x : Ends). stands_at x f k ≡ true) (sym (same_Some _ _ is')) here') (subst (λ (x : Ends). stands_at x f k ≡ true) (sym (same_Some _ _ is)) here))
+    absurd (apart_at f k (subst (λ (x : Ends). stands_at x f k ≡ true) (sym (same_Some _ _ is')) here')
+    (subst (λ (x : Ends). stands_at x f k ≡ true) (sym (same_Some _ _ is)) here))
 once_there f k (suc (suc s)) t one other is is' here here' = absurd (cc is)
 once_there f k zero (suc (suc t)) one other is is' here here' = absurd (cc is')
 once_there f k (suc zero) (suc (suc t)) one other is is' here here' = absurd (cc is')
 
 apart_there : (t : ℕ) (trade : Ends) → slice_get trades t ≡ Some trade → trade.seller ≢ trade.buyer
-apart_there zero trade is = λ e. absurd (let x = ap (λ (x : Ends). x.seller) (same_Some _ _ is) in let y = ap (λ (x : Ends). x.buyer) (same_Some _ _ is) in omega (arith, x, y, e))
-apart_there (suc zero) trade is = λ e. absurd (let x = ap (λ (x : Ends). x.seller) (same_Some _ _ is) in let y = ap (λ (x : Ends). x.buyer) (same_Some _ _ is) in omega (arith, x, y, e))
+apart_there zero trade is = λ e. absurd (let x = ap (λ (x : Ends). x.seller) (same_Some _ _ is) in let y =
+    ap (λ (x : Ends). x.buyer) (same_Some _ _ is) in omega (arith, x, y, e))
+apart_there (suc zero) trade is = λ e. absurd (let x = ap (λ (x : Ends). x.seller) (same_Some _ _ is) in let y =
+    ap (λ (x : Ends). x.buyer) (same_Some _ _ is) in omega (arith, x, y, e))
 apart_there (suc (suc t)) trade is = absurd (cc is)
 
 -- two stalls, of which each sells what the other buys, are a network
 pub stalls-network : IsNetwork (stall ∷ stall ∷ []) (trade_between 0 1 ∷ trade_between 1 0 ∷ [])
-stalls-network = record { apart = apart_there; sold = sold_there; bought = bought_there; whole = whole; once = once_there }
+stalls-network = record {
+  apart = apart_there;
+  sold = sold_there;
+  bought = bought_there;
+  whole = whole;
+  once =
+      once_there;
+}
 
 -- each firm of the two is a stall
 each_is : (f : ℕ) (firm : Firm) → slice_get firms f ≡ Some firm → stall ≡ firm
@@ -107,9 +139,11 @@ each_is (suc zero) firm is = same_Some stall firm is
 each_is (suc (suc f)) firm is = absurd (cc is)
 
 -- whatever two stalls trade, their bundles are possible
-pub stalls-possible : (firms : List Firm) (trades : List Ends) (on : ℕ) → firms ≡ stall ∷ stall ∷ [] → ArePossible firms trades on
+pub stalls-possible : (firms : List Firm) (trades : List Ends) (on : ℕ) → firms ≡ stall ∷ stall ∷ []
+    → ArePossible firms trades on
 stalls-possible fs ts on are f firm is =
-    subst (λ (z : Firm). IsSome (z.worth (part ts f z.count on))) (each_is f firm (sym (ap (λ (xs : List Firm). slice_get xs f) are) ∙ is))
+    subst (λ (z : Firm). IsSome (z.worth (part ts f z.count on)))
+    (each_is f firm (sym (ap (λ (xs : List Firm). slice_get xs f) are) ∙ is))
     (ap is_some (stall-worth (part ts f 2 on) (set_of_within (λ k. has on (own ts f k)) 2)))
 
 -- each trade costs 3 less than nothing
@@ -120,7 +154,8 @@ prices t = negsuc 2
 paid_for : Bool → Bool → ℤ
 paid_for buys sells = (pos 0 +ℤ (if buys then pos 3 else pos 0)) +ℤ (if sells then negsuc 2 else pos 0)
 
-sum_over-payments : (f x : ℕ) → sum_over (payments stall.buys (prices_at trades prices f)) 2 x ≡ paid_for (has x 0) (has x 1)
+sum_over-payments : (f x : ℕ) → sum_over (payments stall.buys (prices_at trades prices f)) 2 x
+    ≡ paid_for (has x 0) (has x 1)
 unfolding sum_over has paid_for
 sum_over-payments f x = refl
 
@@ -135,7 +170,8 @@ at_most_two false false = omega (arith, ints)
 stall_most : (f y : ℕ) (value : ℤ) → utility_at trades (pos 1) prices f stall y ≡ Some value → value ≤ℤ pos 2
 stall_most f y value is =
     let worth = option_map-some _ (stall.worth y) value is in
-    let amount : worth.0 ≡ amounts_of (has y 0) (has y 1) = same_Some _ _ (sym worth.1 ∙ stall-worth y ((meets-additive 2 1 amounts).0 y worth.0 worth.1)) in
+    let amount : worth.0 ≡ amounts_of (has y 0) (has y 1) =
+    same_Some _ _ (sym worth.1 ∙ stall-worth y ((meets-additive 2 1 amounts).0 y worth.0 worth.1)) in
     let first : value ≡ pos 1 *ℤ amounts_of (has y 0) (has y 1) +ℤ paid_for (has y 0) (has y 1) =
     sym worth.2 ∙ ap (λ (a : ℤ). pos 1 *ℤ a +ℤ sum_over (payments stall.buys (prices_at trades prices f)) 2 y) amount
     ∙ ap (λ (p : ℤ). pos 1 *ℤ amounts_of (has y 0) (has y 1) +ℤ p) (sum_over-payments f y) in

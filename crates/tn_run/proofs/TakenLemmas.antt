@@ -14,11 +14,13 @@ one_past : (old new : Option (List ℕ)) → TakesAtMost old new document_limit 
 one_past old new taken = let few : taken.0 ≤ document_limit = taken.1 in (taken.0, omega (arith, few), taken.2)
 
 -- a document that is too long, or read whole, takes at most one byte more than the limit
-taken_or_long : (command : Command) (old new : Option (List ℕ)) (names : NameLists) (said : Said) → AnswersBytes command old new names said
+taken_or_long : (command : Command) (old new : Option (List ℕ)) (names : NameLists) (said : Said)
+    → AnswersBytes command old new names said
     → TakesAtMost old new (document_limit + 1)
 taken_or_long command old new names said answer = elim answer [
   | inl long ↦ (document_limit + 1, omega arith, long.taken)
-  | inr whole ↦ let few : length whole.bytes ≤ document_limit = whole.few in (length whole.bytes, omega (arith, few), Consumes-TakesFirst old new whole.bytes whole.taken)
+  | inr whole ↦ let few : length whole.bytes ≤ document_limit = whole.few in
+      (length whole.bytes, omega (arith, few), Consumes-TakesFirst old new whole.bytes whole.taken)
 ]
 
 -- whatever may be said, at most one byte more than the limit was taken
@@ -30,9 +32,12 @@ taken_at_most command old new before after names NoMemory may = may
 taken_at_most command old new before after names said may = taken_or_long command old new names said may
 
 -- where something may be said, it may be said that memory ran out
-pub may_run_out : (command : Command) (old new : Option (List ℕ)) (before after : ℕ) (names : NameLists) (said told : Said)
-    → MayBeSaid command old new before after names said → (told ≡ said) ⊎ (told ≡ NoMemory) → MayBeSaid command old new before after names told
+pub may_run_out : (command : Command) (old new : Option (List ℕ)) (before after : ℕ) (names : NameLists)
+    (said told : Said)
+    → MayBeSaid command old new before after names said → (told ≡ said) ⊎ (told ≡ NoMemory)
+    → MayBeSaid command old new before after names told
 may_run_out command old new before after names said told may which = elim which [
   | inl e ↦ subst (MayBeSaid command old new before after names) (sym e) may
-  | inr e ↦ subst (MayBeSaid command old new before after names) (sym e) (taken_at_most command old new before after names said may)
+  | inr e ↦ subst (MayBeSaid command old new before after names) (sym e)
+      (taken_at_most command old new before after names said may)
 ]

@@ -20,10 +20,17 @@ use Rattle.tn_run.specs.declared.command.Command.TheVariants.{Check, Firms}
 use Rattle.tn_run.specs.Answer.{IsAnswerOf}
 use Rattle.tn_run.specs.Words.{need_of}
 
-pub verdict_answers : {E : Type 0} (command : Command) (names : NameLists) (market : Traded FirmValue) (at : ArrangementIs 2) (result : Result Said E) → IsFor (need_of command) (Market market (Arrangement at))
+pub verdict_answers : {E : Type 0} (command : Command) (names : NameLists) (market : Traded FirmValue)
+    (at : ArrangementIs 2) (result : Result Said E) → IsFor (need_of command) (Market market (Arrangement at))
     → IsDocument (need_of command) (document_view (record { names = names; content = Market market (Arrangement at) })) → IfOk result (Judges (map firm_of market.firms) market.trades (pos 1) at.on (price_at at.prices))
-    → IfOk result (IsAnswerOf command (document_view (record { names = names; content = Market market (Arrangement at) })))
+    → IfOk result
+    (IsAnswerOf command (document_view (record { names = names; content = Market market (Arrangement at) })))
 verdict_answers Check names market at result needed document judges =
-    IfOk-weaker result _ _ (λ said verdict. (verdict, judged_implies (map firm_of market.firms) market.trades at.on (price_at at.prices) said document.network verdict)) judges
+    IfOk-weaker result _ _
+    (λ said verdict. (
+      verdict,
+      judged_implies (map firm_of market.firms) market.trades at.on (price_at at.prices)
+          said document.network verdict,
+    )) judges
 verdict_answers Firms names market at result needed document judges = absurd (true≢false (sym needed.1))
 verdict_answers command names market at result needed document judges = absurd needed.0

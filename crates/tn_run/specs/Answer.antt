@@ -85,8 +85,8 @@ abbrev pub IsAnswerTo : Command → Result DocumentData Stop → NameLists → S
 IsAnswerTo command (Ok doc) names said = IsAnswerOf command doc said × (names ≡ doc.names)
 IsAnswerTo command (Err stop) names said = (said ≡ Fault stop.fault) × (names ≡ stop.names)
 
--- the answer speaks only of firms and trades that have a name, its numbers are short and within the limits of claims, its
--- lists of trades ascend strictly, it isn't that the document is too long, and the names keep the rules
+-- the answer speaks only of firms and trades that have a name, its numbers are short and within the limits of claims,
+-- its lists of trades ascend strictly, it isn't that the document is too long, and the names keep the rules
 pub record KeepsRules (names : NameLists) (said : Said) : Type 0 where
   pub named : IsNamedAnswer names said
   pub short : HasShortNumbers said
@@ -124,6 +124,7 @@ AnswersBytes command old new names said = FindsTooLong old new said ⊎ AnswersW
 -- faults; memory may run out at any time, and even then at most one byte more than the limit was taken
 abbrev pub MayBeSaid : Command → Option (List ℕ) → Option (List ℕ) → ℕ → ℕ → NameLists → Said → Type 0
 MayBeSaid command old new faults_old faults_new names Usage = ⊥
-MayBeSaid command old new faults_old faults_new names ReadFault = Rose faults_old faults_new × TakesAtMost old new document_limit
+MayBeSaid command old new faults_old faults_new names ReadFault = Rose faults_old faults_new
+    × TakesAtMost old new document_limit
 MayBeSaid command old new faults_old faults_new names NoMemory = TakesAtMost old new (document_limit + 1)
 MayBeSaid command old new faults_old faults_new names said = AnswersBytes command old new names said

@@ -43,8 +43,10 @@ IsPassed false case = MayDiffer case
 pub record AreFailed (count : ℕ) (cases : List CaseData) (failed : List ℕ) : Type 0 where
   pub ascending : IsStrictlyIncreasing failed
   pub among : All (λ number. (1 ≤ number) × (number ≤ count)) failed
-  pub passed : (k : ℕ) (case : CaseData) → k < count → slice_get cases k ≡ Some case → (Contains failed (k + 1) → ⊥) → IsPassed true case
-  pub failing : (k : ℕ) (case : CaseData) → k < count → slice_get cases k ≡ Some case → Contains failed (k + 1) → IsPassed false case
+  pub passed : (k : ℕ) (case : CaseData) → k < count → slice_get cases k ≡ Some case → (Contains failed (k + 1) → ⊥)
+      → IsPassed true case
+  pub failing : (k : ℕ) (case : CaseData) → k < count → slice_get cases k ≡ Some case → Contains failed (k + 1)
+      → IsPassed false case
 
 -- the answer of `cases`: the numbers of those of the book that failed
 abbrev pub TellsCases : Said → Type 0

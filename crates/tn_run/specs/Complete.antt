@@ -20,7 +20,9 @@ pub record IsAnswerToAll (command : Command) (all : List ℕ) (names : NameLists
   pub few : length all ≤ document_limit → IsAnswerTo command (reading_of (need_of command) all) names said
   pub many : document_limit < length all → said ≡ too_long
 
--- the answer to all bytes, or want of memory, was said; its text in a layout was written whole, and the status is its own
-pub record AnswersAll (command : Command) (layout : Layout) (all : List ℕ) (old new : Option (List ℕ)) (names : NameLists) (said : Said) (status : ℕ) : Type 0 where
+-- the answer to all bytes, or want of memory, was said; its text in a layout was written whole, and the status is its
+-- own
+pub record AnswersAll (command : Command) (layout : Layout) (all : List ℕ) (old new : Option (List ℕ))
+    (names : NameLists) (said : Said) (status : ℕ) : Type 0 where
   pub answer : (said ≡ NoMemory) ⊎ IsAnswerToAll command all names said
   pub written : IsWrittenWhole old new layout names said status

@@ -25,8 +25,8 @@ is_headlined Support = false
 is_headlined Test = false
 
 -- for `solve`, trades and whole prices for all trades at which every firm's bundle is among its best, so no trades have
--- more surplus and no contracts block; for `judge`, a firm that drops contracts, prices that complete an equilibrium, so
--- no trades have more surplus and no contracts block the outcome, or contracts that block it
+-- more surplus and no contracts block; for `judge`, a firm that drops contracts, prices that complete an equilibrium,
+-- so no trades have more surplus and no contracts block the outcome, or contracts that block it
 abbrev pub IsPromised : Command → DocumentData → Said → Type 0
 IsPromised Solve doc said = Solves doc.firms doc.ends said
 IsPromised Judge doc said = JudgesExtra doc doc.extra said
@@ -51,8 +51,9 @@ pub record AnswersInput (command : Command) (old new : Option (List ℕ)) (said 
   pub end : IsAtEnd new
   pub answer : KeepsPromise command bytes said ⊎ ShowsFault command bytes said
 
--- the answer is what is promised; or a fault that the input shows, its length among them, or that the source shows by its
--- count of faults; or memory ran out
+-- the answer is what is promised; or a fault that the input shows, its length among them, or that the source shows by
+-- its count of faults; or memory ran out
 abbrev pub IsHeadline : Command → Option (List ℕ) → Option (List ℕ) → ℕ → ℕ → Said → Type 0
 IsHeadline command old new before after said =
-    AnswersInput command old new said ⊎ (FindsTooLong old new said ⊎ (((said ≡ ReadFault) × Rose before after) ⊎ (said ≡ NoMemory)))
+    AnswersInput command old new said ⊎ (FindsTooLong old new said
+    ⊎ (((said ≡ ReadFault) × Rose before after) ⊎ (said ≡ NoMemory)))

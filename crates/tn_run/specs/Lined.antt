@@ -25,13 +25,15 @@ pub record Entry : Type 0 where
 abbrev pub IsLineAnswer : Command → Entry → Type 0
 IsLineAnswer command entry = (entry.said ≡ NoMemory) ⊎ IsAnswerToAll command entry.line entry.names entry.said
 
--- the headline of a line: the answer is what is promised, or the line's first fault, or that it is too long; or memory ran out
+-- the headline of a line: the answer is what is promised, or the line's first fault, or that it is too long; or memory
+-- ran out
 abbrev pub IsLineHeadline : Command → Entry → Type 0
 IsLineHeadline command entry =
     (KeepsPromise command entry.line entry.said ⊎ ShowsFault command entry.line entry.said)
     ⊎ (((document_limit < length entry.line) × (entry.said ≡ too_long)) ⊎ (entry.said ≡ NoMemory))
 
--- what was said of each line is the command's answer to it or want of memory, and keeps the headline where that speaks of the command
+-- what was said of each line is the command's answer to it or want of memory, and keeps the headline where that speaks
+-- of the command
 pub record AreAnswered (command : Command) (entries : List Entry) : Type 0 where
   pub answers : All (IsLineAnswer command) entries
   pub headline : is_headlined command ≡ true → All (IsLineHeadline command) entries
@@ -48,8 +50,8 @@ texts_of entries = flat_map (λ entry. answer_line Object entry.names entry.said
 abbrev pub has_status : ℕ → List Entry → Bool
 has_status status entries = list_any (λ entry. status_of entry.said == status) entries
 
--- the exit status of a run whose lines were all answered: 5 where memory ran out for some line, else 1 where some line had a
--- fault, else 0
+-- the exit status of a run whose lines were all answered: 5 where memory ran out for some line, else 1 where some line
+-- had a fault, else 0
 abbrev pub lines_status : List Entry → ℕ
 lines_status entries = if has_status 5 entries then 5 else if has_status 1 entries then 1 else 0
 
@@ -68,7 +70,8 @@ pub record AnswersFirst (command : Command) (told : Option (List ℕ)) (entries 
   pub lines : TakesLines told (Some rest) (lines_of entries)
 
 -- a read failed after the answers to the first lines, and that it failed was written after them
-pub record StopsAtRead (command : Command) (told : Option (List ℕ)) (before after : ℕ) (old new : Option (List ℕ)) (status : ℕ) : Type 0 where
+pub record StopsAtRead (command : Command) (told : Option (List ℕ)) (before after : ℕ) (old new : Option (List ℕ))
+    (status : ℕ) : Type 0 where
   pub entries : List Entry
   pub first : AnswersFirst command told entries
   pub cause : Rose before after
@@ -78,11 +81,14 @@ pub record StopsAtRead (command : Command) (told : Option (List ℕ)) (before af
 -- the text that comes after those of the entries: the next line's answer, or that a read failed
 abbrev pub IsNextText : Command → Option (List ℕ) → ℕ → ℕ → List Entry → List ℕ → Type 0
 IsNextText command told before after entries text =
-    ((entry : Entry) × AnswersFirst command told (entries ++ entry ∷ []) × (text ≡ answer_line Object entry.names entry.said))
+    ((entry : Entry) × AnswersFirst command told (entries ++ entry ∷ [])
+    × (text ≡ answer_line Object entry.names entry.said))
     ⊎ (Rose before after × (text ≡ answer_line Object no_names ReadFault))
 
--- a write failed after the whole answers to the first lines, and at most a prefix of the next text was written after them
-pub record StopsAtWrite (command : Command) (told : Option (List ℕ)) (before after : ℕ) (old new : Option (List ℕ)) (faults_old faults_new status : ℕ) : Type 0 where
+-- a write failed after the whole answers to the first lines, and at most a prefix of the next text was written after
+-- them
+pub record StopsAtWrite (command : Command) (told : Option (List ℕ)) (before after : ℕ) (old new : Option (List ℕ))
+    (faults_old faults_new status : ℕ) : Type 0 where
   pub entries : List Entry
   pub first : AnswersFirst command told entries
   pub text : List ℕ
@@ -97,4 +103,5 @@ pub record StopsAtWrite (command : Command) (told : Option (List ℕ)) (before a
 abbrev pub IsLinedRun : Command → Option (List ℕ) → ℕ → ℕ → Option (List ℕ) → Option (List ℕ) → ℕ → ℕ → ℕ → Type 0
 IsLinedRun command told before after old new faults_old faults_new status =
     AnswersLines command told old new status
-    ⊎ (StopsAtRead command told before after old new status ⊎ StopsAtWrite command told before after old new faults_old faults_new status)
+    ⊎ (StopsAtRead command told before after old new status
+    ⊎ StopsAtWrite command told before after old new faults_old faults_new status)

@@ -36,16 +36,19 @@ status_of (PageIs page) = 0
 status_of (Firms content firms surplus) = if content == length firms then 0 else 6
 
 -- the text of the answer in a layout was written whole
-pub record IsWrittenWhole (old new : Option (List ℕ)) (layout : Layout) (names : NameLists) (said : Said) (status : ℕ) : Type 0 where
+pub record IsWrittenWhole (old new : Option (List ℕ)) (layout : Layout) (names : NameLists) (said : Said)
+    (status : ℕ) : Type 0 where
   pub status_is : status ≡ status_of said
   pub grown : Grows old new (answer_line layout names said)
 
 -- a write failed, and a prefix of the text was written
-pub record IsCutShort (old new : Option (List ℕ)) (faults_old faults_new : ℕ) (layout : Layout) (names : NameLists) (said : Said) (status : ℕ) : Type 0 where
+pub record IsCutShort (old new : Option (List ℕ)) (faults_old faults_new : ℕ) (layout : Layout) (names : NameLists)
+    (said : Said) (status : ℕ) : Type 0 where
   pub status_is : status ≡ 4
   pub cause : Rose faults_old faults_new
   pub grown : GrowsByPrefix old new (answer_line layout names said)
 
 -- what was written of an answer in a layout over some names, and the exit status
 abbrev pub IsWritten : Option (List ℕ) → Option (List ℕ) → ℕ → ℕ → Layout → NameLists → Said → ℕ → Type 0
-IsWritten old new faults_old faults_new layout names said status = IsWrittenWhole old new layout names said status ⊎ IsCutShort old new faults_old faults_new layout names said status
+IsWritten old new faults_old faults_new layout names said status = IsWrittenWhole old new layout names said status
+    ⊎ IsCutShort old new faults_old faults_new layout names said status

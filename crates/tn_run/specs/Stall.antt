@@ -1,5 +1,6 @@
 -- A firm for tests: a stall that may buy one thing for 3 and sell another for 5, each by itself. It stands here, and in
--- public, since the laws of an impl may be cited only from the specs/ of its crate, and proofs read nothing private there.
+-- public, since the laws of an impl may be cited only from the specs/ of its crate, and proofs read nothing private
+-- there.
 use Rattle.std.specs.Prelude.{ℕ, Bool, ◌==◌, if◌then◌else◌, ℤ, pos, negsuc, ◌+ℤ◌}
 use Rattle.tn_base.specs.Firm.{Firm}
 use Rattle.tn_law.specs.Additive.{additive}

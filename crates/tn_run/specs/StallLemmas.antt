@@ -24,7 +24,8 @@ sum_over-amounts x = by_case (has x 0) (has x 1)
 
 pub stall-worth : (x : ℕ) → x < 4 → stall.worth x ≡ Some (amounts_of (has x 0) (has x 1))
 stall-worth x below =
-    ap (λ (b : Bool). if b then Some (sum_over amounts 2 x) else None) (lt-ltb x 4 below) ∙ ap (λ (z : ℤ). Some z) (sum_over-amounts x)
+    ap (λ (b : Bool). if b then Some (sum_over amounts 2 x) else None) (lt-ltb x 4 below)
+    ∙ ap (λ (z : ℤ). Some z) (sum_over-amounts x)
 
 pub stall-within : IsWorthAtMost 8 stall
 stall-within x a is = by_case (nat_lt x 4) is
@@ -36,7 +37,9 @@ stall-within x a is = by_case (nat_lt x 4) is
     small false false = record { low = omega (arith, ints); high = omega (arith, ints) }
 
     by_case : (b : Bool) → (if b then Some (sum_over amounts 2 x) else None) ≡ Some a → IsAtMost a 8
-    by_case true e = subst (λ (z : ℤ). IsAtMost z 8) (same_Some _ _ e) (subst (λ (z : ℤ). IsAtMost z 8) (sym (sum_over-amounts x)) (small (has x 0) (has x 1)))
+    by_case true e =
+        subst (λ (z : ℤ). IsAtMost z 8) (same_Some _ _ e) (subst (λ (z : ℤ). IsAtMost z 8) (sym (sum_over-amounts x))
+        (small (has x 0) (has x 1)))
     by_case false e = absurd (cc e)
 
 pub stall-lawful : IsLawful 8 stall

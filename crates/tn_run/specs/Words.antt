@@ -80,11 +80,13 @@ need_of Test = Raw
 
 -- a number's text: digits, and no zero before others
 abbrev pub is_numeral : List ℕ → Bool
-is_numeral word = not (length word == 0) && list_all is_ascii_digit word && (length word == 1 || not (get_or word 0 0 == 48))
+is_numeral word = not (length word == 0) && list_all is_ascii_digit word
+    && (length word == 1 || not (get_or word 0 0 == 48))
 
 -- the number whose text a word is, none where it isn't one from the least to the most
 abbrev pub number_within : ℕ → ℕ → List ℕ → Option ℕ
-number_within least most word = if is_numeral word && nat_le least (digits_value 10 word) && nat_le (digits_value 10 word) most then Some (digits_value 10 word) else None
+number_within least most word = if is_numeral word && nat_le least (digits_value 10 word)
+    && nat_le (digits_value 10 word) most then Some (digits_value 10 word) else None
 
 abbrev pub two_numbers : Option ℕ → Option ℕ → Option (ℕ × ℕ)
 two_numbers (Some size) (Some start) = Some (size, start)
@@ -92,7 +94,8 @@ two_numbers size start = None
 
 -- the size and the start of a drill, by the words
 abbrev pub drill_of : List (List ℕ) → Option (ℕ × ℕ)
-drill_of (word ∷ size ∷ start ∷ []) = if bytes_eq word (codes "drill") then two_numbers (number_within 1 most_drilled size) (number_within 0 most_start start) else None
+drill_of (word ∷ size ∷ start ∷ []) = if bytes_eq word (codes "drill")
+    then two_numbers (number_within 1 most_drilled size) (number_within 0 most_start start) else None
 drill_of words = None
 
 -- whether the words ask for the program's own cases

@@ -83,7 +83,8 @@ fn answer_read(alloc: Global, command: Command, doc: Document) -> Result<(Said, 
     Ok((said?, names))
 }
 
-/// The answer of a command to the bytes of a document, with the names that were read. It fails only where memory runs out.
+/// The answer of a command to the bytes of a document, with the names that were read. It fails only where memory runs
+/// out.
 pub fn answer_bytes(
     alloc: Global,
     command: Command,
@@ -113,7 +114,8 @@ pub(crate) fn too_long(alloc: Global) -> Said
 
 /// The answer of a command to what a source gives, with the names that were read.
 pub fn answer_source<S: Source>(alloc: Global, command: Command, source: &mut S) -> (Said, Names)
-    ensures answer { MayBeSaid command (S.left source.old) (S.left source.new) (S.faults source.old) (S.faults source.new) result.1 result.0 }
+    ensures answer { MayBeSaid command (S.left source.old) (S.left source.new) (S.faults source.old)
+        (S.faults source.new) result.1 result.0 }
     ensures within { IsWithinClaims result.0 }
     ensures later { S.faults source.old ≤ S.faults source.new }
 {

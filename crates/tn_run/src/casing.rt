@@ -20,7 +20,8 @@ use tn_market::{Numbers, Said};
 
 /// The answer to a case's command on its document, with the names that were read.
 fn answer_case(alloc: Global, case: &Case) -> Result<(Said, Names), OutOfMemory>
-    ensures answer { IfOk result (λ told. IsCaseAnswer (case_command case.now.command.now) case.now.document.now told.1 told.0) }
+    ensures answer { IfOk result (λ told. IsCaseAnswer (case_command case.now.command.now) case.now.document.now told.1
+        told.0) }
     ensures within { IfOk result (λ told. IsWithinClaims told.0) }
 {
     match case_command(case.command) {
@@ -59,9 +60,9 @@ fn passes<const N: usize>(alloc: Global, book: &CaseBook<N>, k: usize) -> Result
     is_told(alloc, book, k, &names, &said, case_layout(one.command))
 }
 
-/// Runs each case's command on its document, and lists the numbers, from 1, of the cases that fail, ascending. What isn't
-/// listed has the status and the text of a defined answer; of what is listed some defined answer has others. There are at
-/// most 64 cases, with documents of at most 4,194,304 bytes. It fails only where memory runs out.
+/// Runs each case's command on its document, and lists the numbers, from 1, of the cases that fail, ascending. What
+/// isn't listed has the status and the text of a defined answer; of what is listed some defined answer has others.
+/// There are at most 64 cases, with documents of at most 4,194,304 bytes. It fails only where memory runs out.
 pub fn run_cases<const N: usize>(alloc: Global, book: &CaseBook<N>) -> Result<Numbers, OutOfMemory>
     requires few { N ≤ 64 }
     requires documents { All (λ case. length case.document ≤ document_limit) book.now }

@@ -1,3 +1,5 @@
+//! The words of the program.
+
 ghost use Rattle.std.specs.Prelude.{◌≡◌, ◌≤◌, map, string_bytes, IfSome};
 ghost use Rattle.tn_drill.specs.Draws.{most_drilled, most_start};
 ghost use Rattle.tn_run.specs.Words.{asks_for_cases, case_command, case_layout, command_of, drill_of, layout_of, layout_with, lines_command_of, need_of, page_of, rows_layout, two_numbers, word_command, word_layout};

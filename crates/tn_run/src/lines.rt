@@ -24,7 +24,8 @@ const WRITE_FAILED: u8 = 4;
 
 /// The answer of a command to the bytes of a line, or that memory ran out; with the names that were read.
 fn answer_line(alloc: Global, command: Command, line: &[u8]) -> (Said, Names)
-    ensures answer { (result.0 ≡ Said.NoMemory) ⊎ IsAnswerTo command (reading_of (need_of command) line.now) result.1 result.0 }
+    ensures answer { (result.0 ≡ Said.NoMemory)
+        ⊎ IsAnswerTo command (reading_of (need_of command) line.now) result.1 result.0 }
     ensures within { IsWithinClaims result.0 }
 {
     match answer_bytes(alloc, command, line) {
@@ -41,7 +42,8 @@ fn next_answer<S: Source>(
     source: &mut S,
 ) -> Result<Option<(Said, Names)>, ReadFailed>
     ensures answer { IfOk result (λ next. IfSome next (λ told. (line : List ℕ)
-        × TakesLines (prepend_known reader.old (S.left source.old)) (prepend_known reader.new (S.left source.new)) (line ∷ [])
+        × TakesLines (prepend_known reader.old (S.left source.old)) (prepend_known reader.new (S.left source.new))
+        (line ∷ [])
         × IsLineAnswer command (record { line = line; names = told.1; said = told.0 }))) }
     ensures end { IfOk result (λ next. IfNone next (IsAtEnd (prepend_known reader.old (S.left source.old)))) }
     ensures within { IfOk result (λ next. IfSome next (λ told. IsWithinClaims told.0)) }
@@ -70,7 +72,8 @@ fn with_status(status: u8, answer: u8) -> u8
     }
 }
 
-/// Answers each line of a source, and writes each answer before the next line is read. What comes back is the exit status.
+/// Answers each line of a source, and writes each answer before the next line is read. What comes back is the exit
+/// status.
 pub(crate) fn run_lines<S: Source, K: Sink>(
     alloc: Global,
     command: Command,

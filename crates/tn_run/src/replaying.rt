@@ -59,8 +59,8 @@ fn reason_in(alloc: Global, net: &RawNet, reason: Reason) -> Result<Reason, OutO
     }
 }
 
-/// Whether a claim of the exchange property holds, or one that there are no prices, or else the first of its conditions that
-/// fails. There are at most 1,024 firms and 1,024 trades, and firms and trades fit together.
+/// Whether a claim of the exchange property holds, or one that there are no prices, or else the first of its conditions
+/// that fails. There are at most 1,024 firms and 1,024 trades, and firms and trades fit together.
 pub fn replay_raw(alloc: Global, net: &RawNet, claim: &Claim) -> Result<Said, OutOfMemory>
     requires few_firms { length net.now.firms ≤ most_firms }
     requires few_trades { length net.now.ends ≤ most_trades }

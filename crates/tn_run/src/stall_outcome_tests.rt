@@ -102,7 +102,8 @@ fn nothing_signed_is_blocked(rt: HostRuntime) {
 #[tactic(auto, unfolding(tn_base::specs::Sets::toggle))]
 fn both_on(alloc: Global, surplus: i128) -> Result<Claim, OutOfMemory>
     requires { IsNumberWithin surplus }
-    ensures within { IfOk result (λ claim. (firms : List Firm) → IsClaimWithin firms (trade_between 0 1 ∷ trade_between 1 0 ∷ []) claim) }
+    ensures within { IfOk result (λ claim. (firms : List Firm)
+        → IsClaimWithin firms (trade_between 0 1 ∷ trade_between 1 0 ∷ []) claim) }
     ensures kind { IfOk result (λ claim. is_raw claim ≡ false) }
 {
     let mut on = TradeSet::empty();
@@ -116,7 +117,8 @@ fn both_on(alloc: Global, surplus: i128) -> Result<Claim, OutOfMemory>
 /// Trade 0 put on, from null and back, at this cost.
 fn round(alloc: Global, cost: i128) -> Result<Claim, OutOfMemory>
     requires { IsNumberWithin cost }
-    ensures within { IfOk result (λ claim. (firms : List Firm) → IsClaimWithin firms (trade_between 0 1 ∷ trade_between 1 0 ∷ []) claim) }
+    ensures within { IfOk result (λ claim. (firms : List Firm)
+        → IsClaimWithin firms (trade_between 0 1 ∷ trade_between 1 0 ∷ []) claim) }
     ensures kind { IfOk result (λ claim. is_raw claim ≡ false) }
 {
     let on = TradeSet::empty();

@@ -88,7 +88,8 @@ pub(crate) fn nothing_signed(alloc: Global) -> Outcome
 
 /// The first stall has sold to the second at 4.
 pub(crate) fn sold_at_4(alloc: Global) -> Result<Outcome, OutOfMemory>
-    ensures outcome { IfOk result (λ outcome. IsOutcomeOf (trade_between 0 1 ∷ trade_between 1 0 ∷ []) outcome.over outcome.contracts) }
+    ensures outcome { IfOk result (λ outcome. IsOutcomeOf (trade_between 0 1 ∷ trade_between 1 0 ∷ []) outcome.over
+        outcome.contracts) }
     ensures over { IfOk result (λ outcome. outcome.over ≡ pos 1) }
 {
     let contracts = vec![in alloc; Contract { trade: 0, price: 4 }]?;
@@ -100,7 +101,8 @@ pub(crate) fn sold_at_4(alloc: Global) -> Result<Outcome, OutOfMemory>
 
 /// Each stall has sold to the other at -4.
 pub(crate) fn both_sold(alloc: Global) -> Result<Outcome, OutOfMemory>
-    ensures { IfOk result (λ outcome. IsOutcomeOf (trade_between 0 1 ∷ trade_between 1 0 ∷ []) outcome.over outcome.contracts) }
+    ensures { IfOk result (λ outcome. IsOutcomeOf (trade_between 0 1 ∷ trade_between 1 0 ∷ []) outcome.over
+        outcome.contracts) }
 {
     let contracts = vec![in alloc;
         Contract {

@@ -78,7 +78,8 @@ pub fn status_of(said: &Said) -> u8
 pub(crate) fn write_line<K: Sink>(sink: &mut K, line: &[u8], said: Said) -> Run
     ensures said { result.said ≡ said }
     ensures written { (layout : Layout) (names : NameLists) → line.now ≡ answer_line layout names said
-        → IsWritten (K.written sink.old) (K.written sink.new) (K.faults sink.old) (K.faults sink.new) layout names said result.status }
+        → IsWritten (K.written sink.old) (K.written sink.new) (K.faults sink.old) (K.faults sink.new) layout names said
+        result.status }
     ensures later { K.faults sink.old ≤ K.faults sink.new }
 {
     match write_all(sink, line) {
@@ -101,7 +102,8 @@ pub(crate) fn tell<K: Sink>(
     requires { IsWithinClaims said }
     ensures said { (result.said ≡ said) ⊎ (result.said ≡ Said.NoMemory) }
     ensures within { IsWithinClaims result.said }
-    ensures written { IsWritten (K.written sink.old) (K.written sink.new) (K.faults sink.old) (K.faults sink.new) layout names.now result.said result.status }
+    ensures written { IsWritten (K.written sink.old) (K.written sink.new) (K.faults sink.old) (K.faults sink.new) layout
+        names.now result.said result.status }
     ensures later { K.faults sink.old ≤ K.faults sink.new }
 {
     match said {
@@ -137,13 +139,16 @@ fn run_without_reading<K: Sink>(
     names: &Names,
     layout: Layout,
 ) -> Run
-    ensures usage { drill_of (map string_bytes words.now) ≡ None → asks_for_cases (map string_bytes words.now) ≡ false → page_of (map string_bytes words.now) ≡ None
+    ensures usage { drill_of (map string_bytes words.now) ≡ None → asks_for_cases (map string_bytes words.now) ≡ false
+        → page_of (map string_bytes words.now) ≡ None
         → result.said ≡ Said.Usage }
     ensures page { (page : Page) → page_of (map string_bytes words.now) ≡ Some page → result.said ≡ Said.Page page }
     ensures cases { asks_for_cases (map string_bytes words.now) ≡ true → MayBeCases result.said }
-    ensures drill { (size start : ℕ) → drill_of (map string_bytes words.now) ≡ Some (size, start) → MayBeDrilled size start result.said }
+    ensures drill { (size start : ℕ) → drill_of (map string_bytes words.now) ≡ Some (size, start)
+        → MayBeDrilled size start result.said }
     ensures within { IsWithinClaims result.said }
-    ensures written { IsWritten (K.written sink.old) (K.written sink.new) (K.faults sink.old) (K.faults sink.new) layout names.now result.said result.status }
+    ensures written { IsWritten (K.written sink.old) (K.written sink.new) (K.faults sink.old) (K.faults sink.new) layout
+        names.now result.said result.status }
 {
     if asks_for_cases(words) {
         let said = cases(alloc);
@@ -168,15 +173,21 @@ fn run_with<S: Source, K: Sink>(
     source: &mut S,
     sink: &mut K,
 ) -> (Run, Names)
-    ensures usage { command_of (map string_bytes words.now) ≡ None → drill_of (map string_bytes words.now) ≡ None → asks_for_cases (map string_bytes words.now) ≡ false → page_of (map string_bytes words.now) ≡ None
+    ensures usage { command_of (map string_bytes words.now) ≡ None → drill_of (map string_bytes words.now) ≡ None
+        → asks_for_cases (map string_bytes words.now) ≡ false → page_of (map string_bytes words.now) ≡ None
         → (result.0.said ≡ Said.Usage) × (source.new ≡ source.old) }
-    ensures page { (page : Page) → page_of (map string_bytes words.now) ≡ Some page → (source.new ≡ source.old) × (result.0.said ≡ Said.Page page) }
-    ensures cases { asks_for_cases (map string_bytes words.now) ≡ true → (source.new ≡ source.old) × MayBeCases result.0.said }
-    ensures drill { (size start : ℕ) → drill_of (map string_bytes words.now) ≡ Some (size, start) → (source.new ≡ source.old) × MayBeDrilled size start result.0.said }
+    ensures page { (page : Page) → page_of (map string_bytes words.now) ≡ Some page → (source.new ≡ source.old)
+        × (result.0.said ≡ Said.Page page) }
+    ensures cases { asks_for_cases (map string_bytes words.now) ≡ true → (source.new ≡ source.old)
+        × MayBeCases result.0.said }
+    ensures drill { (size start : ℕ) → drill_of (map string_bytes words.now) ≡ Some (size, start)
+        → (source.new ≡ source.old) × MayBeDrilled size start result.0.said }
     ensures answer { (command : Command) → command_of (map string_bytes words.now) ≡ Some command
-        → MayBeSaid command (S.left source.old) (S.left source.new) (S.faults source.old) (S.faults source.new) result.1 result.0.said }
+        → MayBeSaid command (S.left source.old) (S.left source.new) (S.faults source.old) (S.faults source.new) result.1
+        result.0.said }
     ensures within { IsWithinClaims result.0.said }
-    ensures written { IsWritten (K.written sink.old) (K.written sink.new) (K.faults sink.old) (K.faults sink.new) (layout_of (map string_bytes words.now)) result.1 result.0.said result.0.status }
+    ensures written { IsWritten (K.written sink.old) (K.written sink.new) (K.faults sink.old) (K.faults sink.new)
+        (layout_of (map string_bytes words.now)) result.1 result.0.said result.0.status }
 {
     let layout = layout_of(words);
     match command_of(words) {
@@ -192,8 +203,8 @@ fn run_with<S: Source, K: Sink>(
     }
 }
 
-/// Runs the program on its words: reads the source, unless they are no command, a drill, the cases or a page, answers, and
-/// writes the answer's text to the sink.
+/// Runs the program on its words: reads the source, unless they are no command, a drill, the cases or a page, answers,
+/// and writes the answer's text to the sink.
 pub fn run_market<S: Source, K: Sink>(
     alloc: Global,
     words: &[String],
@@ -201,24 +212,35 @@ pub fn run_market<S: Source, K: Sink>(
     sink: &mut K,
 ) -> Run
     // Words that are no command: the source is as at entry.
-    ensures usage { command_of (map string_bytes words.now) ≡ None → drill_of (map string_bytes words.now) ≡ None → asks_for_cases (map string_bytes words.now) ≡ false → page_of (map string_bytes words.now) ≡ None
+    ensures usage { command_of (map string_bytes words.now) ≡ None → drill_of (map string_bytes words.now) ≡ None
+        → asks_for_cases (map string_bytes words.now) ≡ false → page_of (map string_bytes words.now) ≡ None
         → (result.said ≡ Said.Usage) × (source.new ≡ source.old) }
-    ensures page { (page : Page) → page_of (map string_bytes words.now) ≡ Some page → (source.new ≡ source.old) × (result.said ≡ Said.Page page) }
-    ensures cases { asks_for_cases (map string_bytes words.now) ≡ true → (source.new ≡ source.old) × MayBeCases result.said }
-    ensures drill { (size start : ℕ) → drill_of (map string_bytes words.now) ≡ Some (size, start) → (source.new ≡ source.old) × MayBeDrilled size start result.said }
-    // Words that are a command: what the source gave is answered. A source that tells its bytes, and no fault counted at
-    // either end: the defined answer for them, or want of memory. What was written is the answer's text, or a prefix.
+    ensures page { (page : Page) → page_of (map string_bytes words.now) ≡ Some page → (source.new ≡ source.old)
+        × (result.said ≡ Said.Page page) }
+    ensures cases { asks_for_cases (map string_bytes words.now) ≡ true → (source.new ≡ source.old)
+        × MayBeCases result.said }
+    ensures drill { (size start : ℕ) → drill_of (map string_bytes words.now) ≡ Some (size, start)
+        → (source.new ≡ source.old) × MayBeDrilled size start result.said }
+    // Words that are a command: what the source gave is answered. A source that tells its bytes, and no fault counted
+    // at either end: the defined answer for them, or want of memory. What was written is the answer's text, or a
+    // prefix.
     ensures answer { (names : NameLists)
         × ((command : Command) → command_of (map string_bytes words.now) ≡ Some command
-        → MayBeSaid command (S.left source.old) (S.left source.new) (S.faults source.old) (S.faults source.new) names result.said)
-        × ((command : Command) (all : List ℕ) → command_of (map string_bytes words.now) ≡ Some command → S.left source.old ≡ Some all
+        → MayBeSaid command (S.left source.old) (S.left source.new) (S.faults source.old) (S.faults source.new) names
+        result.said)
+        × ((command : Command) (all : List ℕ) → command_of (map string_bytes words.now) ≡ Some command
+        → S.left source.old ≡ Some all
         → NoneCounted (S.faults source.old) (S.faults source.new) → NoneCounted (K.faults sink.old) (K.faults sink.new)
-        → AnswersAll command (layout_of (map string_bytes words.now)) all (K.written sink.old) (K.written sink.new) names result.said result.status)
-        × IsWritten (K.written sink.old) (K.written sink.new) (K.faults sink.old) (K.faults sink.new) (layout_of (map string_bytes words.now)) names result.said result.status }
-    // The headline, of `solve` and `judge`: whatever bytes they read, the answer is what is promised, or a fault that the input
-    // or the source shows, or want of memory. (That the sink shows a fault is in `answer`.)
-    ensures headline { (command : Command) → command_of (map string_bytes words.now) ≡ Some command → is_headlined command ≡ true
-        → IsHeadline command (S.left source.old) (S.left source.new) (S.faults source.old) (S.faults source.new) result.said }
+        → AnswersAll command (layout_of (map string_bytes words.now)) all (K.written sink.old) (K.written sink.new)
+        names result.said result.status)
+        × IsWritten (K.written sink.old) (K.written sink.new) (K.faults sink.old) (K.faults sink.new)
+        (layout_of (map string_bytes words.now)) names result.said result.status }
+    // The headline, of `solve` and `judge`: whatever bytes they read, the answer is what is promised, or a fault that
+    // the input or the source shows, or want of memory. (That the sink shows a fault is in `answer`.)
+    ensures headline { (command : Command) → command_of (map string_bytes words.now) ≡ Some command
+        → is_headlined command ≡ true
+        → IsHeadline command (S.left source.old) (S.left source.new) (S.faults source.old) (S.faults source.new)
+        result.said }
     ensures within { IsWithinClaims result.said }
 {
     let (run, _names) = run_with(alloc, words, source, sink);
@@ -232,19 +254,25 @@ pub fn run_steadily(
     source: &mut SteadySource,
     sink: &mut SteadySink,
 ) -> Run
-    ensures usage { command_of (map string_bytes words.now) ≡ None → drill_of (map string_bytes words.now) ≡ None → asks_for_cases (map string_bytes words.now) ≡ false → page_of (map string_bytes words.now) ≡ None
+    ensures usage { command_of (map string_bytes words.now) ≡ None → drill_of (map string_bytes words.now) ≡ None
+        → asks_for_cases (map string_bytes words.now) ≡ false → page_of (map string_bytes words.now) ≡ None
         → (result.said ≡ Said.Usage) × (source.new ≡ source.old) }
-    ensures page { (page : Page) → page_of (map string_bytes words.now) ≡ Some page → (source.new ≡ source.old) × (result.said ≡ Said.Page page) }
-    ensures cases { asks_for_cases (map string_bytes words.now) ≡ true → (source.new ≡ source.old) × MayBeCases result.said }
-    ensures drill { (size start : ℕ) → drill_of (map string_bytes words.now) ≡ Some (size, start) → (source.new ≡ source.old) × MayBeDrilled size start result.said }
-    // Words that are a command: what the source gave is answered, by the defined answer for all bytes or want of memory. The
-    // answer's text was written whole.
+    ensures page { (page : Page) → page_of (map string_bytes words.now) ≡ Some page → (source.new ≡ source.old)
+        × (result.said ≡ Said.Page page) }
+    ensures cases { asks_for_cases (map string_bytes words.now) ≡ true → (source.new ≡ source.old)
+        × MayBeCases result.said }
+    ensures drill { (size start : ℕ) → drill_of (map string_bytes words.now) ≡ Some (size, start)
+        → (source.new ≡ source.old) × MayBeDrilled size start result.said }
+    // Words that are a command: what the source gave is answered, by the defined answer for all bytes or want of
+    // memory. The answer's text was written whole.
     ensures answer { (names : NameLists)
         × ((command : Command) → command_of (map string_bytes words.now) ≡ Some command
         → MayBeSaid command (Some source.old.unread) (Some source.new.unread) 0 0 names result.said)
         × ((command : Command) → command_of (map string_bytes words.now) ≡ Some command
-        → AnswersAll command (layout_of (map string_bytes words.now)) source.old.unread sink.old.told sink.new.told names result.said result.status)
-        × IsWrittenWhole sink.old.told sink.new.told (layout_of (map string_bytes words.now)) names result.said result.status }
+        → AnswersAll command (layout_of (map string_bytes words.now)) source.old.unread sink.old.told sink.new.told
+        names result.said result.status)
+        × IsWrittenWhole sink.old.told sink.new.told (layout_of (map string_bytes words.now)) names result.said
+        result.status }
     ensures within { IsWithinClaims result.said }
     ensures read { result.status ≢ 3 }
     ensures written { result.status ≢ 4 }

@@ -42,7 +42,8 @@ pub record HasLaws {V : Type 0} (firm_of : V → Firm) (limit_of : V → ℕ) (m
   pub abstain : (f : ℕ) (firm : Firm) → slice_get (map firm_of market.firms) f ≡ Some firm → MayAbstain firm
   pub within : (v : V) → IsWorthAtMost (limit_of v) (firm_of v)
 
-pub laws_of : {V : Type 0} (firm_of : V → Firm) (limit_of : V → ℕ) (market : Traded V) → IsNetwork (map firm_of market.firms) market.trades
+pub laws_of : {V : Type 0} (firm_of : V → Firm) (limit_of : V → ℕ) (market : Traded V)
+    → IsNetwork (map firm_of market.firms) market.trades
     → ((v : V) → IsLawful (limit_of v) (firm_of v)) → HasLaws firm_of limit_of market
 laws_of firm_of limit_of market network lawful = record {
   network = network;
@@ -52,81 +53,108 @@ laws_of firm_of limit_of market network lawful = record {
 }
 
 -- no arc costs too much for a graph
-pub firms_small : {V : Type 0} (limit_of : V → ℕ) (market : Traded V) → AreFirmsSmall limit_of market → (f : ℕ) (v : V) → slice_get market.firms f ≡ Some v → 2 * limit_of v ≤ most_cost
-firms_small limit_of market small f v is = small_bound (limit_of v) (length market.trades) (let most = small f v is in omega (arith, most))
+pub firms_small : {V : Type 0} (limit_of : V → ℕ) (market : Traded V) → AreFirmsSmall limit_of market → (f : ℕ) (v : V)
+    → slice_get market.firms f ≡ Some v → 2 * limit_of v ≤ most_cost
+firms_small limit_of market small f v is = small_bound (limit_of v) (length market.trades) (let most = small f v is in
+    omega (arith, most))
 
 -- ---- one bound for all firms
 
 -- what holds of each item's limit and of 0 holds of a bound of all limits
-one_bound : {V : Type 0} (limit_of : V → ℕ) (P : ℕ → Type 0) → P 0 → (items : List V) → ((f : ℕ) (v : V) → slice_get items f ≡ Some v → P (limit_of v))
+one_bound : {V : Type 0} (limit_of : V → ℕ) (P : ℕ → Type 0) → P 0 → (items : List V)
+    → ((f : ℕ) (v : V) → slice_get items f ≡ Some v → P (limit_of v))
     → (bound : ℕ) × ((f : ℕ) (v : V) → slice_get items f ≡ Some v → limit_of v ≤ bound) × P bound
 one_bound limit_of P none [] each = (0, λ f v is. absurd (cc is), none)
-one_bound {V} limit_of P none (first ∷ items) each = with_rest (one_bound limit_of P none items (λ f v is. each (suc f) v is))
+one_bound {V} limit_of P none (first ∷ items) each =
+    with_rest (one_bound limit_of P none items (λ f v is. each (suc f) v is))
   where
     with_rest : (bound : ℕ) × ((f : ℕ) (v : V) → slice_get items f ≡ Some v → limit_of v ≤ bound) × P bound
         → (bound : ℕ) × ((f : ℕ) (v : V) → slice_get (first ∷ items) f ≡ Some v → limit_of v ≤ bound) × P bound
     with_rest rest = elim (cases_lt rest.0 (limit_of first)) [
-      | inl above ↦ (limit_of first, all (limit_of first) (omega arith) (λ f v is. let low = rest.1 f v is in omega (arith, low, above)), each 0 first refl)
+      | inl above ↦ (
+        limit_of first,
+        all (limit_of first) (omega arith) (λ f v is. let low = rest.1 f v is in
+            omega (arith, low, above)),
+        each 0 first refl,
+      )
       | inr most ↦ (rest.0, all rest.0 most rest.1, rest.2)
     ]
       where
         all : (bound : ℕ) → limit_of first ≤ bound → ((f : ℕ) (v : V) → slice_get items f ≡ Some v → limit_of v ≤ bound)
             → (f : ℕ) (v : V) → slice_get (first ∷ items) f ≡ Some v → limit_of v ≤ bound
-        all bound here others zero v is = let same : first ≡ v = cc is in subst (λ (x : V). limit_of x ≤ bound) same here
+        all bound here others zero v is = let same : first ≡ v = cc is in
+            subst (λ (x : V). limit_of x ≤ bound) same here
         all bound here others (suc f) v is = others f v is
 
 -- a bound that is small enough
-pub small_bound_of : {V : Type 0} (limit_of : V → ℕ) (market : Traded V) → AreFirmsSmall limit_of market → (bound : ℕ) × IsBound limit_of market bound × (2 * bound * (length market.trades + 1) ≤ most_path)
-small_bound_of limit_of market small = one_bound limit_of (λ b. 2 * b * (length market.trades + 1) ≤ most_path) (omega arith) market.firms small
+pub small_bound_of : {V : Type 0} (limit_of : V → ℕ) (market : Traded V) → AreFirmsSmall limit_of market → (bound : ℕ)
+    × IsBound limit_of market bound × (2 * bound * (length market.trades + 1) ≤ most_path)
+small_bound_of limit_of market small =
+    one_bound limit_of (λ b. 2 * b * (length market.trades + 1) ≤ most_path) (omega arith) market.firms small
 
 -- ---- the prices
 
 one_each : (count : ℕ) (labels : List ℤ) → length (differences count labels) ≡ count
 one_each count labels = length-map-range_with_len (λ t. label_in labels t -ℤ label_in labels count) 0 count
 
-pub price-is : (count : ℕ) (labels : List ℤ) (t : ℕ) → t < count → price_at (differences count labels) t ≡ label_in labels t -ℤ label_in labels count
-price-is count labels t below = get_or-map-range_with_len (λ t. label_in labels t -ℤ label_in labels count) 0 count t t (pos 0) below (omega arith)
+pub price-is : (count : ℕ) (labels : List ℤ) (t : ℕ) → t < count
+    → price_at (differences count labels) t ≡ label_in labels t -ℤ label_in labels count
+price-is count labels t below =
+    get_or-map-range_with_len (λ t. label_in labels t -ℤ label_in labels count) 0 count t t (pos 0) below (omega arith)
 
 -- the numbers that the prices are made of go no further than a path may cost
-pub numbers_near : {V : Type 0} (limit_of : V → ℕ) (market : Traded V) (numbers : List ℤ) → AreFirmsSmall limit_of market
+pub numbers_near : {V : Type 0} (limit_of : V → ℕ) (market : Traded V) (numbers : List ℤ)
+    → AreFirmsSmall limit_of market
     → length numbers ≡ length market.trades + 1 → AreSettled limit_of market numbers → AreNear most_path numbers
 numbers_near limit_of market numbers small counted settled t below =
     let bound = small_bound_of limit_of market small in
     let inside : t < length market.trades + 1 = subst (λ (n : ℕ). t < n) counted below in
     within bound.0 (length market.trades) bound.2 (settled.high t inside) (settled.low bound.0 t bound.1 inside)
   where
-    within : (bound count : ℕ) → 2 * bound * (count + 1) ≤ most_path → label_in numbers t ≤ℤ pos 0 → neg_ℤ (pos (2 * bound * count)) ≤ℤ label_in numbers t → IsAtMost (label_in numbers t) most_path
+    within : (bound count : ℕ) → 2 * bound * (count + 1) ≤ most_path → label_in numbers t ≤ℤ pos 0
+        → neg_ℤ (pos (2 * bound * count)) ≤ℤ label_in numbers t → IsAtMost (label_in numbers t) most_path
     within bound count most high low =
         let e : 2 * bound * (count + 1) ≡ 2 * bound * count + 2 * bound = grind arith in
         record { low = omega (arith, ints, most, e, low); high = omega (arith, ints, high) }
 
-pub numbers_small : {V : Type 0} (limit_of : V → ℕ) (market : Traded V) (numbers : List ℤ) → AreFirmsSmall limit_of market
-    → length numbers ≡ length market.trades + 1 → AreSettled limit_of market numbers → (t : ℕ) → t < length numbers → IsAtMost (label_in numbers t) most_read
-numbers_small limit_of market numbers small counted settled = near-wider most_path most_read numbers (omega arith) (numbers_near limit_of market numbers small counted settled)
+pub numbers_small : {V : Type 0} (limit_of : V → ℕ) (market : Traded V) (numbers : List ℤ)
+    → AreFirmsSmall limit_of market
+    → length numbers ≡ length market.trades + 1 → AreSettled limit_of market numbers → (t : ℕ) → t < length numbers
+    → IsAtMost (label_in numbers t) most_read
+numbers_small limit_of market numbers small counted settled =
+    near-wider most_path most_read numbers (omega arith) (numbers_near limit_of market numbers small counted settled)
 
 -- one round goes no further than labels may
-pub round_near : (count : ℕ) (labels : List ℤ) → count ≤ most_market_trades → AreNear (most_path + label_step (count + 1)) labels → AreNear most_label labels
+pub round_near : (count : ℕ) (labels : List ℤ) → count ≤ most_market_trades
+    → AreNear (most_path + label_step (count + 1)) labels → AreNear most_label labels
 round_near count labels few = near-wider (most_path + label_step (count + 1)) most_label labels (omega (arith, few))
 
 -- ---- the equilibrium
 
 -- labels that are found anew are small
-pub settled : {V : Type 0} (firm_of : V → Firm) (limit_of : V → ℕ) (market : Traded V) (allowed on : ℕ) (labels : List ℤ) → HasLaws firm_of limit_of market
-    → AreLabels (length market.trades + 1) (arcs_among (is_admitted (length market.trades) allowed) (exchange_arc (map firm_of market.firms) market.trades on)) labels
+pub settled : {V : Type 0} (firm_of : V → Firm) (limit_of : V
+    → ℕ) (market : Traded V) (allowed on : ℕ) (labels : List ℤ) → HasLaws firm_of limit_of market
+    → AreLabels (length market.trades + 1) (arcs_among (is_admitted (length market.trades) allowed)
+    (exchange_arc (map firm_of market.firms) market.trades on)) labels
     → AreSettled limit_of market labels
 settled firm_of limit_of market allowed on labels laws are = record {
   high = are.high;
   low = λ bound v bounded below.
       let e : (length market.trades + 1 - 1) * (2 * bound) ≡ 2 * bound * length market.trades = grind arith in
       subst (λ (n : ℕ). neg_ℤ (pos n) ≤ℤ label_in labels v) e
-      (are.low (2 * bound) v (small-arcs_among (is_admitted (length market.trades) allowed) (2 * bound) (exchange_arc (map firm_of market.firms) market.trades on)
-      (arcs_small (map firm_of market.firms) market.trades laws.network bound on (each_within firm_of limit_of market.firms laws.within bound bounded))) below);
+      (are.low (2 * bound) v (small-arcs_among (is_admitted (length market.trades) allowed) (2 * bound)
+      (exchange_arc (map firm_of market.firms) market.trades on)
+      (arcs_small (map firm_of market.firms) market.trades laws.network bound on
+      (each_within firm_of limit_of market.firms laws.within bound bounded))) below);
 }
 
-pub holds : {V : Type 0} (firm_of : V → Firm) (limit_of : V → ℕ) (market : Traded V) (graph : Matrix) (finder : Reading) (allowed on : ℕ) → HasLaws firm_of limit_of market
-    → AreUnderWay (map firm_of market.firms) market.trades graph finder allowed on → HoldsEquilibrium firm_of (standing_of market allowed on finder.labels)
+pub holds : {V : Type 0} (firm_of : V → Firm) (limit_of : V
+    → ℕ) (market : Traded V) (graph : Matrix) (finder : Reading) (allowed on : ℕ) → HasLaws firm_of limit_of market
+    → AreUnderWay (map firm_of market.firms) market.trades graph finder allowed on
+    → HoldsEquilibrium firm_of (standing_of market allowed on finder.labels)
 holds firm_of limit_of market graph finder allowed on laws way =
-    solution_from (map firm_of market.firms) market.trades graph finder allowed allowed on finder.labels (differences (length market.trades) finder.labels) laws.network laws.meet way refl way.labels.keeps
+    solution_from (map firm_of market.firms) market.trades graph finder allowed allowed on finder.labels
+    (differences (length market.trades) finder.labels) laws.network laws.meet way refl way.labels.keeps
     (one_each (length market.trades) finder.labels) (price-is (length market.trades) finder.labels)
 
 pub small_prices : {V : Type 0} (limit_of : V → ℕ) (market : Traded V) (allowed on : ℕ) (numbers : List ℤ)
@@ -134,40 +162,53 @@ pub small_prices : {V : Type 0} (limit_of : V → ℕ) (market : Traded V) (allo
 small_prices limit_of market allowed on numbers are bound bounded k d below =
     let inside : k < length market.trades = subst (λ (n : ℕ). k < n) (one_each (length market.trades) numbers) below in
     subst (λ (z : ℤ). IsAtMost z (2 * bound * length market.trades))
-    (sym (get_or_default (differences (length market.trades) numbers) k d (pos 0) below ∙ price-is (length market.trades) numbers k inside))
-    (apart (2 * bound * length market.trades) _ _ (are.high k (omega (arith, inside))) (are.low bound k bounded (omega (arith, inside)))
+    (sym (get_or_default (differences (length market.trades) numbers) k d (pos 0) below
+    ∙ price-is (length market.trades) numbers k inside))
+    (apart (2 * bound * length market.trades) _ _ (are.high k (omega (arith, inside)))
+    (are.low bound k bounded (omega (arith, inside)))
     (are.high (length market.trades) (omega arith)) (are.low bound (length market.trades) bounded (omega arith)))
   where
-    apart : (most : ℕ) (a b : ℤ) → a ≤ℤ pos 0 → neg_ℤ (pos most) ≤ℤ a → b ≤ℤ pos 0 → neg_ℤ (pos most) ≤ℤ b → IsAtMost (a -ℤ b) most
-    apart most a b a_high a_low b_high b_low = record { low = omega (arith, ints, a_high, a_low, b_high, b_low); high = omega (arith, ints, a_high, a_low, b_high, b_low) }
+    apart : (most : ℕ) (a b : ℤ) → a ≤ℤ pos 0 → neg_ℤ (pos most) ≤ℤ a → b ≤ℤ pos 0 → neg_ℤ (pos most) ≤ℤ b
+        → IsAtMost (a -ℤ b) most
+    apart most a b a_high a_low b_high b_low = record {
+      low = omega (arith, ints, a_high, a_low, b_high, b_low);
+      high =
+          omega (arith, ints, a_high, a_low, b_high, b_low);
+    }
 
 -- ---- the admitted trades
 
 -- with one more
 pub gained : (before t k : ℕ) → has before t ≡ false → has (toggle before t) k ≡ (k == t || has before k)
 gained before t k out = elim (cases_eq k t) [
-  | inl e ↦ ap (has (toggle before t)) e ∙ has-toggle_same before t ∙ ap not out ∙ sym (ap (λ (b : Bool). b || has before k) (eq-eqb k t e))
+  | inl e ↦ ap (has (toggle before t)) e ∙ has-toggle_same before t ∙ ap not out
+      ∙ sym (ap (λ (b : Bool). b || has before k) (eq-eqb k t e))
   | inr other ↦ has-toggle_other before t k other ∙ sym (ap (λ (b : Bool). b || has before k) (ne_eqb k t other))
 ]
 
 -- and with one less
 pub lost : (before t k : ℕ) → has before t ≡ true → has (toggle before t) k ≡ (not (k == t) && has before k)
 lost before t k there = elim (cases_eq k t) [
-  | inl e ↦ ap (has (toggle before t)) e ∙ has-toggle_same before t ∙ ap not there ∙ sym (ap (λ (b : Bool). not b && has before k) (eq-eqb k t e))
+  | inl e ↦ ap (has (toggle before t)) e ∙ has-toggle_same before t ∙ ap not there
+      ∙ sym (ap (λ (b : Bool). not b && has before k) (eq-eqb k t e))
   | inr other ↦ has-toggle_other before t k other ∙ sym (ap (λ (b : Bool). not b && has before k) (ne_eqb k t other))
 ]
 
 -- the admitted trades before are those after with the trade
-pub with_trade : (allowed t after : ℕ) → after ≡ toggle allowed t → (P : ℕ → ℕ → Type 0) (on : ℕ) → P allowed on → P (toggle after t) on
-with_trade allowed t after e P on before = subst (λ (x : ℕ). P x on) (sym (ap (λ (x : ℕ). toggle x t) e ∙ toggle-toggle allowed t)) before
+pub with_trade : (allowed t after : ℕ) → after ≡ toggle allowed t → (P : ℕ → ℕ → Type 0) (on : ℕ) → P allowed on
+    → P (toggle after t) on
+with_trade allowed t after e P on before =
+    subst (λ (x : ℕ). P x on) (sym (ap (λ (x : ℕ). toggle x t) e ∙ toggle-toggle allowed t)) before
 
 -- which isn't among these
 pub without : (allowed t after : ℕ) → after ≡ toggle allowed t → has allowed t ≡ true → has after t ≡ false
 without allowed t after e there = ap (λ (x : ℕ). has x t) e ∙ has-toggle_same allowed t ∙ ap not there
 
 -- a session in which a trade is barred that is off
-pub barred_off : {V : Type 0} (firm_of : V → Firm) (limit_of : V → ℕ) (width : ℕ) (market : Traded V) (graph : Matrix) (finder : Reading) (allowed on t after : ℕ)
-    → IsSession firm_of limit_of width market graph finder allowed on → after ≡ toggle allowed t → has allowed t ≡ true → has on t ≡ false → IsSession firm_of limit_of width market graph finder after on
+pub barred_off : {V : Type 0} (firm_of : V → Firm) (limit_of : V
+    → ℕ) (width : ℕ) (market : Traded V) (graph : Matrix) (finder : Reading) (allowed on t after : ℕ)
+    → IsSession firm_of limit_of width market graph finder allowed on → after ≡ toggle allowed t → has allowed t ≡ true
+    → has on t ≡ false → IsSession firm_of limit_of width market graph finder after on
 barred_off firm_of limit_of width market graph finder allowed on t after session e there off = record {
   network = session.network;
   wide = session.wide;
@@ -176,11 +217,15 @@ barred_off firm_of limit_of width market graph finder allowed on t after session
   under_way = record {
     arcs = session.under_way.arcs;
     sized = session.under_way.sized;
-    kept = one_cycle_bars_a_trade.still (map firm_of market.firms) market.trades after on t (with_trade allowed t after e (IsKept (map firm_of market.firms) market.trades) on session.under_way.kept) out off;
+    kept = one_cycle_bars_a_trade.still (map firm_of market.firms) market.trades after on t
+        (with_trade allowed t after e (IsKept (map firm_of market.firms) market.trades) on session.under_way.kept) out
+        off;
     labels = record {
       one_each = session.under_way.labels.one_each;
-      keeps = one_cycle_bars_a_trade.off_labels (map firm_of market.firms) market.trades after on t out (label_in finder.labels)
-          (with_trade allowed t after e (λ x y. AreKept (map firm_of market.firms) market.trades x y finder.labels) on session.under_way.labels).keeps;
+      keeps = one_cycle_bars_a_trade.off_labels (map firm_of market.firms) market.trades after on t out
+          (label_in finder.labels)
+          (with_trade allowed t after e (λ x y. AreKept (map firm_of market.firms) market.trades x y finder.labels) on
+          session.under_way.labels).keeps;
     };
   };
   settled = session.settled;

@@ -34,7 +34,8 @@ standing_of market admitted on numbers = record {
 
 -- the trades that are on and the prices are an equilibrium of the market that the admitted trades make
 abbrev pub HoldsEquilibrium : {V : Type 0} → (V → Firm) → Standing V → Type 0
-HoldsEquilibrium firm_of standing = IsSolution (map firm_of standing.market.firms) standing.market.trades standing.admitted standing.solution
+HoldsEquilibrium firm_of standing =
+    IsSolution (map firm_of standing.market.firms) standing.market.trades standing.admitted standing.solution
 
 -- no firm's worths are above this size
 abbrev pub IsBound : {V : Type 0} → (V → ℕ) → Traded V → ℕ → Type 0
@@ -42,19 +43,23 @@ IsBound {V} limit_of market bound = (f : ℕ) (v : V) → slice_get market.firms
 
 -- no price is above twice a bound of all worths for each trade
 abbrev pub HasSmallPrices : {V : Type 0} → (V → ℕ) → Standing V → Type 0
-HasSmallPrices limit_of standing = (bound : ℕ) → IsBound limit_of standing.market bound → AreSmallPrices (2 * bound * length standing.market.trades) standing.solution.prices
+HasSmallPrices limit_of standing = (bound : ℕ) → IsBound limit_of standing.market bound
+    → AreSmallPrices (2 * bound * length standing.market.trades) standing.solution.prices
 
 -- twice the bound of each firm's worths, for each trade and once more, is no more than a path may cost
 abbrev pub AreFirmsSmall : {V : Type 0} → (V → ℕ) → Traded V → Type 0
-AreFirmsSmall {V} limit_of market = (f : ℕ) (v : V) → slice_get market.firms f ≡ Some v → 2 * limit_of v * (length market.trades + 1) ≤ most_path
+AreFirmsSmall {V} limit_of market = (f : ℕ) (v : V) → slice_get market.firms f ≡ Some v
+    → 2 * limit_of v * (length market.trades + 1) ≤ most_path
 
 -- labels that are no more than 0, and no further below it than a path may cost
 pub record AreSettled {V : Type 0} (limit_of : V → ℕ) (market : Traded V) (numbers : List ℤ) : Type 0 where
   pub high : (v : ℕ) → v < length market.trades + 1 → label_in numbers v ≤ℤ pos 0
-  pub low : (bound v : ℕ) → IsBound limit_of market bound → v < length market.trades + 1 → neg_ℤ (pos (2 * bound * length market.trades)) ≤ℤ label_in numbers v
+  pub low : (bound v : ℕ) → IsBound limit_of market bound → v < length market.trades + 1
+      → neg_ℤ (pos (2 * bound * length market.trades)) ≤ℤ label_in numbers v
 
 -- what a session keeps: rounds that are under way, with such labels
-pub record IsSession {V : Type 0} (firm_of : V → Firm) (limit_of : V → ℕ) (width : ℕ) (market : Traded V) (graph : Matrix) (finder : Reading) (allowed on : ℕ) : Type 0 where
+pub record IsSession {V : Type 0} (firm_of : V → Firm) (limit_of : V
+    → ℕ) (width : ℕ) (market : Traded V) (graph : Matrix) (finder : Reading) (allowed on : ℕ) : Type 0 where
   pub network : IsNetwork (map firm_of market.firms) market.trades
   pub wide : length market.trades ≤ 64 * width
   pub small : AreFirmsSmall limit_of market
@@ -64,7 +69,8 @@ pub record IsSession {V : Type 0} (firm_of : V → Firm) (limit_of : V → ℕ) 
   pub settled : AreSettled limit_of market finder.labels
 
 -- rounds that are under way with a trade that is on, beside the admitted ones
-pub record IsLeaving (firms : List Firm) (trades : List Ends) (graph : Matrix) (finder : Reading) (allowed on t : ℕ) : Type 0 where
+pub record IsLeaving (firms : List Firm) (trades : List Ends) (graph : Matrix) (finder : Reading)
+    (allowed on t : ℕ) : Type 0 where
   pub under_way : AreUnderWay firms trades graph finder (toggle allowed t) on
   pub trade : t < length trades
   pub out : has allowed t ≡ false

@@ -25,14 +25,18 @@ fn find_cycle<V: Valuation, const W: usize>(
     t: u32,
 ) -> u32
     requires wide { length market.now.trades ≤ 64 * W }
-    requires leaving { network_of V.firm market.now IsLeaving rounds.old.graph rounds.old.finder rounds.old.allowed rounds.old.on t }
+    requires leaving { network_of V.firm market.now IsLeaving rounds.old.graph rounds.old.finder rounds.old.allowed
+        rounds.old.on t }
     requires near { AreNear most_label rounds.old.finder.labels }
     ensures rest { rounds.new ≡ record rounds.old { finder = rounds.new.finder } }
     ensures sized { rounds.new.finder.nodes ≡ rounds.old.finder.nodes }
     ensures counted { result ≡ length rounds.new.finder.listed }
-    ensures kept { network_of V.firm market.now IsKept rounds.old.allowed (along (length market.now.trades) rounds.old.on rounds.new.finder.listed) }
-    ensures labels { network_of V.firm market.now AreKept rounds.old.allowed (along (length market.now.trades) rounds.old.on rounds.new.finder.listed) rounds.new.finder.labels }
-    ensures near { (reach : ℕ) → AreNear reach rounds.old.finder.labels → AreNear (reach + label_step (length market.now.trades + 1)) rounds.new.finder.labels }
+    ensures kept { network_of V.firm market.now IsKept rounds.old.allowed
+        (along (length market.now.trades) rounds.old.on rounds.new.finder.listed) }
+    ensures labels { network_of V.firm market.now AreKept rounds.old.allowed
+        (along (length market.now.trades) rounds.old.on rounds.new.finder.listed) rounds.new.finder.labels }
+    ensures near { (reach : ℕ) → AreNear reach rounds.old.finder.labels
+        → AreNear (reach + label_step (length market.now.trades + 1)) rounds.new.finder.labels }
 {
     let _trades = market.trades();
     match rounds
@@ -54,13 +58,16 @@ pub fn switch_off<V: Valuation, const W: usize>(
 )
     requires wide { length market.now.trades ≤ 64 * W }
     requires small { AreFirmsSmall V.limit market.now }
-    requires under_way { network_of V.firm market.now AreUnderWay rounds.old.graph rounds.old.finder rounds.old.allowed rounds.old.on }
+    requires under_way { network_of V.firm market.now AreUnderWay rounds.old.graph rounds.old.finder rounds.old.allowed
+        rounds.old.on }
     requires trade { t < length market.now.trades }
     requires admitted { has rounds.old.allowed t ≡ true }
     requires on { has rounds.old.on t ≡ true }
     requires near { AreNear most_label rounds.old.finder.labels }
-    ensures under_way { network_of V.firm market.now AreUnderWay rounds.new.graph rounds.new.finder rounds.new.allowed rounds.new.on }
-    ensures near { (reach : ℕ) → AreNear reach rounds.old.finder.labels → AreNear (reach + label_step (length market.now.trades + 1)) rounds.new.finder.labels }
+    ensures under_way { network_of V.firm market.now AreUnderWay rounds.new.graph rounds.new.finder rounds.new.allowed
+        rounds.new.on }
+    ensures near { (reach : ℕ) → AreNear reach rounds.old.finder.labels
+        → AreNear (reach + label_step (length market.now.trades + 1)) rounds.new.finder.labels }
     ensures barred { rounds.new.allowed ≡ toggle rounds.old.allowed t }
     ensures asked { steps.new ≤ steps.old + graph_worths (map V.firm market.now.firms) }
 {

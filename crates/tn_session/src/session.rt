@@ -1,3 +1,5 @@
+//! Sessions: trades are admitted and barred one after another.
+
 ghost use Rattle.std.specs.Prelude.{◌≡◌, ℕ, ◌+◌, ◌*◌, ◌≤◌, ◌<◌, ◌==◌, ◌&&◌, ◌||◌, not, true, false, length, map, IfOk};
 ghost use Rattle.tn_base.specs.Sets.{has};
 ghost use Rattle.tn_base.specs.Widths.{most_limbs};
@@ -35,20 +37,26 @@ impl<'a, V: Valuation, const W: usize> Model for Session<'a, V, W> {
 
     ghost Value = { Standing V };
 
-    ghost view = { λ session. standing_of session.market.now session.rounds.allowed session.rounds.on session.rounds.finder.labels };
+    ghost view = { λ session. standing_of session.market.now session.rounds.allowed session.rounds.on
+        session.rounds.finder.labels };
 
-    ghost invariant = { λ session. IsSession V.firm V.limit W session.market.now session.rounds.graph session.rounds.finder session.rounds.allowed session.rounds.on };
+    ghost invariant = { λ session. IsSession V.firm V.limit W session.market.now session.rounds.graph
+        session.rounds.finder session.rounds.allowed session.rounds.on };
 }
 
 /// Settles rounds that are under way, at most one round since they were settled last: then a session may hold them.
 fn settle<V: Valuation, const W: usize>(rounds: &mut Rounds<W>, market: &Market<V>)
     requires wide { length market.now.trades ≤ 64 * W }
     requires small { AreFirmsSmall V.limit market.now }
-    requires under_way { network_of V.firm market.now AreUnderWay rounds.old.graph rounds.old.finder rounds.old.allowed rounds.old.on }
+    requires under_way { network_of V.firm market.now AreUnderWay rounds.old.graph rounds.old.finder rounds.old.allowed
+        rounds.old.on }
     requires near { AreNear (most_path + label_step (length market.now.trades + 1)) rounds.old.finder.labels }
-    ensures settled { IsSession V.firm V.limit W market.now rounds.new.graph rounds.new.finder rounds.new.allowed rounds.new.on }
-    ensures equilibrium { HoldsEquilibrium V.firm (standing_of market.now rounds.new.allowed rounds.new.on rounds.new.finder.labels) }
-    ensures prices { HasSmallPrices V.limit (standing_of market.now rounds.new.allowed rounds.new.on rounds.new.finder.labels) }
+    ensures settled { IsSession V.firm V.limit W market.now rounds.new.graph rounds.new.finder rounds.new.allowed
+        rounds.new.on }
+    ensures equilibrium { HoldsEquilibrium V.firm (standing_of market.now rounds.new.allowed rounds.new.on
+        rounds.new.finder.labels) }
+    ensures prices { HasSmallPrices V.limit (standing_of market.now rounds.new.allowed rounds.new.on
+        rounds.new.finder.labels) }
     ensures admitted { rounds.new.allowed ≡ rounds.old.allowed }
     ensures on { rounds.new.on ≡ rounds.old.on }
 {
@@ -81,9 +89,9 @@ impl<'a, V: Valuation, const W: usize> Session<'a, V, W> {
         Ok(Session { market, rounds })
     }
 
-    /// Admits a trade, and answers true, where it isn't admitted; otherwise it answers false, changes nothing and asks for
-    /// no worth. It asks for at most a worth for each two places of each firm, and takes no memory. The trade is one of the
-    /// market.
+    /// Admits a trade, and answers true, where it isn't admitted; otherwise it answers false, changes nothing and asks
+    /// for no worth. It asks for at most a worth for each two places of each firm, and takes no memory. The trade is
+    /// one of the market.
     pub fn admit(&mut self, t: u32, steps: &mut Steps<V::Mark>) -> bool
         requires trade { t < length self.old.market.trades }
         ensures answer { result ≡ not (has self.old.admitted t) }
@@ -102,9 +110,10 @@ impl<'a, V: Valuation, const W: usize> Session<'a, V, W> {
         true
     }
 
-    /// Bars a trade, and answers true, where it is admitted; otherwise it answers false, changes nothing and asks for no
-    /// worth. Where the trade is off, what is on and the prices stay; where it is on, trades are toggled along one cycle.
-    /// It asks for at most a worth for each two places of each firm, and takes no memory. The trade is one of the market.
+    /// Bars a trade, and answers true, where it is admitted; otherwise it answers false, changes nothing and asks for
+    /// no worth. Where the trade is off, what is on and the prices stay; where it is on, trades are toggled along one
+    /// cycle. It asks for at most a worth for each two places of each firm, and takes no memory. The trade is one of
+    /// the market.
     pub fn bar(&mut self, t: u32, steps: &mut Steps<V::Mark>) -> bool
         requires trade { t < length self.old.market.trades }
         ensures answer { result ≡ has self.old.admitted t }

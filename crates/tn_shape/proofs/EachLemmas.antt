@@ -11,7 +11,8 @@ use Rattle.tn_shape.specs.Reading.{◌>>=◌, each, Fails}
 module _ {A E : Type 0} (step : A → Data → Result A E) where
   -- the next item
   pub each_at : (vs : List Value) (k : ℕ) (d : Value) (found : A) → k < length vs
-      → each step found (items_view (drop k vs)) ≡ (step found (view (get_or vs k d)) >>= λ next. each step next (items_view (drop (suc k) vs)))
+      → each step found (items_view (drop k vs))
+      ≡ (step found (view (get_or vs k d)) >>= λ next. each step next (items_view (drop (suc k) vs)))
   unfolding each
   each_at [] k d found h = absurd (omega (arith, h))
   each_at (v ∷ vs) zero d found h = refl
@@ -20,7 +21,9 @@ module _ {A E : Type 0} (step : A → Data → Result A E) where
   pub each_goes_on : (vs : List Value) (k : ℕ) (d : Value) (found next : A) (total : Result A E) → k < length vs
       → step found (view (get_or vs k d)) ≡ Ok next
       → each step found (items_view (drop k vs)) ≡ total → each step next (items_view (drop (k + 1) vs)) ≡ total
-  each_goes_on vs k d found next total h is so_far = ap (λ (n : ℕ). each step next (items_view (drop n vs))) (add-one k) ∙ sym (ap (λ r. r >>= λ next. each step next (items_view (drop (suc k) vs))) is) ∙ sym (each_at vs k d found h) ∙ so_far
+  each_goes_on vs k d found next total h is so_far = ap (λ (n : ℕ). each step next (items_view (drop n vs))) (add-one k)
+      ∙ sym (ap (λ r. r >>= λ next. each step next (items_view (drop (suc k) vs))) is) ∙ sym (each_at vs k d found h)
+      ∙ so_far
 
   pub each_is_done : (vs : List Value) (k : ℕ) (found : A) (total : Result A E) → length vs ≤ k
       → each step found (items_view (drop k vs)) ≡ total → total ≡ Ok found
@@ -33,15 +36,18 @@ module _ {A E : Type 0} (step : A → Data → Result A E) where
   pub each_stops_at : (vs : List Value) (k : ℕ) (d : Value) (found : A) (stop : E) (total : Result A E) → k < length vs
       → step found (view (get_or vs k d)) ≡ Err stop
       → each step found (items_view (drop k vs)) ≡ total → total ≡ Err stop
-  each_stops_at vs k d found stop total h is so_far = sym so_far ∙ each_at vs k d found h ∙ ap (λ r. r >>= λ next. each step next (items_view (drop (suc k) vs))) is
+  each_stops_at vs k d found stop total h is so_far =
+      sym so_far ∙ each_at vs k d found h ∙ ap (λ r. r >>= λ next. each step next (items_view (drop (suc k) vs))) is
 
-pub each_fails : {A : Type 0} (step : A → Data → Result A Fault) (e : ReadError) (vs : List Value) (k : ℕ) (d : Value) (found : A) (total : Result A Fault) → k < length vs
+pub each_fails : {A : Type 0} (step : A → Data → Result A Fault) (e : ReadError) (vs : List Value) (k : ℕ) (d : Value)
+    (found : A) (total : Result A Fault) → k < length vs
     → Fails e (step found (view (get_or vs k d)))
     → each step found (items_view (drop k vs)) ≡ total → Fails e total
 each_fails step OutOfMemory vs k d found total h fails so_far = tt
 each_fails step (FaultIs f) vs k d found total h fails so_far = each_stops_at step vs k d found f total h fails so_far
 
 -- what stops reading stops what follows too
-pub fails_then : {A B : Type 0} (e : ReadError) (r : Result A Fault) (f : A → Result B Fault) → Fails e r → Fails e (r >>= f)
+pub fails_then : {A B : Type 0} (e : ReadError) (r : Result A Fault) (f : A → Result B Fault) → Fails e r
+    → Fails e (r >>= f)
 fails_then OutOfMemory r f h = tt
 fails_then (FaultIs fault) r f h = ap (λ r. r >>= f) h

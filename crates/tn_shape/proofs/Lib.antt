@@ -1,3 +1,4 @@
+-- The files of lemmas of this crate.
 pub mod ShapeLemmas
 pub mod EachLemmas
 pub mod LeadLemmas

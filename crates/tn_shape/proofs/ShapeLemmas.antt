@@ -1,4 +1,5 @@
--- The keys of a map against the members of the object that it stands for, and lists that are not of two, or not of three.
+-- The keys of a map against the members of the object that it stands for, and lists that are not of two, or not of
+-- three.
 use Rattle.std.proofs.Common.{◌≡◌, suc, ◌<◌, ◌≤◌, List, [], ◌∷◌, ◌&&◌, length, None, refl, ap, map, arith}
 use Rattle.std.specs.Prelude.{String, string_bytes}
 use Rattle.std.specs.declared.alloc.Global.{Global}
@@ -10,7 +11,8 @@ use Rattle.tn_shape.specs.declared.members.ObjectKind.{ObjectKind}
 use Rattle.tn_shape.specs.Members.{allows, allows_all}
 use Rattle.tn_shape.specs.Shapes.{three_of, two_of}
 
-pub all_keys : (kind : ObjectKind) (entries : List (String Global × Value)) → list_all (λ k. allows kind (string_bytes k)) (map (λ m. m.0) entries) ≡ allows_all kind (members_view entries)
+pub all_keys : (kind : ObjectKind) (entries : List (String Global × Value))
+    → list_all (λ k. allows kind (string_bytes k)) (map (λ m. m.0) entries) ≡ allows_all kind (members_view entries)
 all_keys kind [] = refl
 all_keys kind (m ∷ ms) = ap (λ b. allows kind (string_bytes m.0) && b) (all_keys kind ms)
 

@@ -27,7 +27,8 @@ module _ (place : List PlaceStep) (plain : IsPlainPlace place) where
   unfolding few_at
   few_stops limit value =
       stops_bind IsPlain (list_at place value) _ (list_stops value) (λ items.
-      stops_bind IsPlain (holds Limit place (nat_le (items_len items) limit)) _ (plain_holds Limit place (nat_le (items_len items) limit) refl plain) (λ few. stops_ok IsPlain items))
+      stops_bind IsPlain (holds Limit place (nat_le (items_len items) limit)) _
+      (plain_holds Limit place (nat_le (items_len items) limit) refl plain) (λ few. stops_ok IsPlain items))
 
   pub object_at_stops : (value : Option Data) → StopsPlainly (object_at place value)
   object_at_stops value = plain_holds Shape place (is_some (option_and_then as_object value)) refl plain
@@ -35,16 +36,21 @@ module _ (place : List PlaceStep) (plain : IsPlainPlace place) where
   pub object_stops : (kind : ObjectKind) (value : Option Data) → StopsPlainly (object_of kind place value)
   unfolding object_of
   object_stops kind value =
-      stops_bind IsPlain (wanted Shape place (option_and_then as_object value)) _ (plain_wanted Shape place (option_and_then as_object value) refl plain) (λ members.
+      stops_bind IsPlain (wanted Shape place (option_and_then as_object value)) _
+      (plain_wanted Shape place (option_and_then as_object value) refl plain) (λ members.
       plain_holds Shape place (allows_all kind members) refl plain)
 
   pub two_stops : (value : Data) → StopsPlainly (two_at place value)
   unfolding two_at
-  two_stops value = stops_bind IsPlain (list_at place (Some value)) _ (list_stops (Some value)) (λ items. plain_wanted Shape place (two_of items) refl plain)
+  two_stops value =
+      stops_bind IsPlain (list_at place (Some value)) _ (list_stops (Some value))
+      (λ items. plain_wanted Shape place (two_of items) refl plain)
 
   pub three_stops : (value : Data) → StopsPlainly (three_at place value)
   unfolding three_at
-  three_stops value = stops_bind IsPlain (list_at place (Some value)) _ (list_stops (Some value)) (λ items. plain_wanted Shape place (three_of items) refl plain)
+  three_stops value =
+      stops_bind IsPlain (list_at place (Some value)) _ (list_stops (Some value))
+      (λ items. plain_wanted Shape place (three_of items) refl plain)
 
   pub whole_stops : (value : Option Data) → StopsPlainly (whole_at place value)
   whole_stops value = plain_wanted Shape place (option_and_then as_i64 (option_and_then as_number value)) refl plain
@@ -53,4 +59,5 @@ module _ (place : List PlaceStep) (plain : IsPlainPlace place) where
   unfolding number_in
   number_stops limit value =
       stops_bind IsPlain (whole_at place value) _ (whole_stops value) (λ z.
-      stops_bind IsPlain (holds AmountRange place (nat_le (unsigned_abs z) limit)) _ (plain_holds AmountRange place (nat_le (unsigned_abs z) limit) refl plain) (λ small. stops_ok IsPlain z))
+      stops_bind IsPlain (holds AmountRange place (nat_le (unsigned_abs z) limit)) _
+      (plain_holds AmountRange place (nat_le (unsigned_abs z) limit) refl plain) (λ small. stops_ok IsPlain z))

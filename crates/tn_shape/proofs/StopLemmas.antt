@@ -27,38 +27,47 @@ module _ {E : Type 0} (Q : E → Type 0) where
   pub stops_err : {A : Type 0} (d : E) → Q d → Stops {A = A} Q (Err d)
   stops_err {A} d q = record { at = λ e is. subst Q (err_is {A = A} d e is) q }
 
-  pub stops_bind : {A B : Type 0} (r : Result A E) (f : A → Result B E) → Stops Q r → ((x : A) → Stops Q (f x)) → Stops Q (r >>= f)
+  pub stops_bind : {A B : Type 0} (r : Result A E) (f : A → Result B E) → Stops Q r → ((x : A) → Stops Q (f x))
+      → Stops Q (r >>= f)
   stops_bind (Ok x) f first rest = rest x
   stops_bind {A} {B} (Err d) f first rest = stops_err d (first.at d refl)
 
   -- what is said of the value holds of what is read after it
-  pub stops_after : {A B : Type 0} (P : A → Type 0) (r : Result A E) (f : A → Result B E) → Leads P r → Stops Q r → ((x : A) → P x → Stops Q (f x)) → Stops Q (r >>= f)
+  pub stops_after : {A B : Type 0} (P : A → Type 0) (r : Result A E) (f : A → Result B E) → Leads P r → Stops Q r
+      → ((x : A) → P x → Stops Q (f x)) → Stops Q (r >>= f)
   stops_after P (Ok x) f lead first rest = rest x (lead.at x refl)
   stops_after P (Err d) f lead first rest = stops_err d (first.at d refl)
 
   -- what each step keeps holds before each
-  pub stops_each : {A : Type 0} (P : A → Type 0) (step : A → Data → Result A E) → ((found : A) (d : Data) → P found → Leads P (step found d)) → ((found : A) (d : Data) → P found → Stops Q (step found d))
+  pub stops_each : {A : Type 0} (P : A → Type 0) (step : A → Data → Result A E)
+      → ((found : A) (d : Data) → P found → Leads P (step found d))
+      → ((found : A) (d : Data) → P found → Stops Q (step found d))
       → (found : A) (ds : Items) → P found → Stops Q (each step found ds)
   unfolding each
   stops_each P step lead one found no_items start = stops_ok found
-  stops_each P step lead one found (item d ds) start = stops_after P (step found d) _ (lead found d start) (one found d start) (λ next kept. stops_each P step lead one next ds kept)
+  stops_each P step lead one found (item d ds) start =
+      stops_after P (step found d) _ (lead found d start) (one found d start)
+      (λ next kept. stops_each P step lead one next ds kept)
 
   -- each step adds one, and so no more are there before a step than items
   pub stops_each_few : {A : Type 0} (P : A → Type 0) (size : A → ℕ) (most : ℕ) (step : A → Data → Result A E)
-      → ((found : A) (d : Data) → P found → Leads (λ next. P next × (size next ≡ size found + 1)) (step found d)) → ((found : A) (d : Data) → P found → size found + 1 ≤ most → Stops Q (step found d))
+      → ((found : A) (d : Data) → P found → Leads (λ next. P next × (size next ≡ size found + 1)) (step found d))
+      → ((found : A) (d : Data) → P found → size found + 1 ≤ most → Stops Q (step found d))
       → (found : A) (ds : Items) → P found → size found + items_len ds ≤ most → Stops Q (each step found ds)
   unfolding each
   stops_each_few P size most step lead one found no_items start few = stops_ok found
   stops_each_few P size most step lead one found (item d ds) start few =
-      stops_after (λ next. P next × (size next ≡ size found + 1)) (step found d) _ (lead found d start) (one found d start (omega (arith, few)))
-      (λ next kept. stops_each_few P size most step lead one next ds kept.0 (let more = kept.1 in omega (arith, few, more)))
+      stops_after (λ next. P next × (size next ≡ size found + 1)) (step found d) _ (lead found d start)
+      (one found d start (omega (arith, few)))
+      (λ next kept. stops_each_few P size most step lead one next ds kept.0 (let more = kept.1 in
+      omega (arith, few, more)))
 
 -- less may be said of the error
 pub stops_as : {A E : Type 0} (Q R : E → Type 0) (r : Result A E) → ((e : E) → Q e → R e) → Stops Q r → Stops R r
 stops_as Q R r turn first = record { at = λ e is. turn e (first.at e is) }
 
--- whether a kind is neither that the input is too long, which no reading of it says, nor that exchange fails, beside which
--- a triple is shown
+-- whether a kind is neither that the input is too long, which no reading of it says, nor that exchange fails, beside
+-- which a triple is shown
 abbrev pub is_plain_kind : FaultKind → Bool
 is_plain_kind NotJson = true
 is_plain_kind TooLong = false
@@ -102,14 +111,17 @@ pub record IsPlain (fault : Fault) : Type 0 where
 abbrev pub StopsPlainly : {A : Type 0} → Result A Fault → Type 0
 StopsPlainly r = Stops IsPlain r
 
-pub plain_fault : (kind : FaultKind) (place : List PlaceStep) → is_plain_kind kind ≡ true → IsPlainPlace place → IsPlain (fault kind place)
+pub plain_fault : (kind : FaultKind) (place : List PlaceStep) → is_plain_kind kind ≡ true → IsPlainPlace place
+    → IsPlain (fault kind place)
 plain_fault kind place other plain = record { other = other; place = plain; none = refl }
 
-pub plain_wanted : {A : Type 0} (kind : FaultKind) (place : List PlaceStep) (found : Option A) → is_plain_kind kind ≡ true → IsPlainPlace place → StopsPlainly (wanted kind place found)
+pub plain_wanted : {A : Type 0} (kind : FaultKind) (place : List PlaceStep) (found : Option A)
+    → is_plain_kind kind ≡ true → IsPlainPlace place → StopsPlainly (wanted kind place found)
 plain_wanted kind place (Some x) other plain = stops_ok IsPlain x
 plain_wanted kind place None other plain = stops_err IsPlain (fault kind place) (plain_fault kind place other plain)
 
-pub plain_holds : (kind : FaultKind) (place : List PlaceStep) (test : Bool) → is_plain_kind kind ≡ true → IsPlainPlace place → StopsPlainly (holds kind place test)
+pub plain_holds : (kind : FaultKind) (place : List PlaceStep) (test : Bool) → is_plain_kind kind ≡ true
+    → IsPlainPlace place → StopsPlainly (holds kind place test)
 plain_holds kind place true other plain = stops_ok IsPlain tt
 plain_holds kind place false other plain = stops_err IsPlain (fault kind place) (plain_fault kind place other plain)
 

@@ -1,3 +1,4 @@
+-- The files of definitions of this crate.
 pub mod Reading
 pub mod Shapes
 pub mod Claims

@@ -1,3 +1,5 @@
+//! Why a part of a document isn't read.
+
 ghost use Rattle.std.specs.Prelude.{◌≡◌};
 ghost use Rattle.tn_shape.specs.declared.error.ReadError.TheVariants.{OutOfMemory};
 

@@ -94,7 +94,8 @@ pub fn optional_list<'a>(
     value: Option<&'a Value>,
     place: &[PlaceStep],
 ) -> Result<&'a [Value], ReadError>
-    ensures { Gives (λ s. items_view s.now) result (optional_list_at place.now (option_map (λ v. view v.now) value.entry)) }
+    ensures { Gives (λ s. items_view s.now) result (optional_list_at place.now
+        (option_map (λ v. view v.now) value.entry)) }
 {
     match value {
         Some(value) => list(alloc, Some(value), place),

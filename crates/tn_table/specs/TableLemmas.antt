@@ -24,7 +24,8 @@ at_most_bound z small =
 pub table_laws : (table : Table) → IsLawful most_worth (firm_of table)
 table_laws table =
     let few = table.within.few in
-    let meets : MeetsExchange (firm_of table) = exchange_from_none_fails (firm_of table) (own_bundles table.raw) table.none_fails in
+    let meets : MeetsExchange (firm_of table) =
+    exchange_from_none_fails (firm_of table) (own_bundles table.raw) table.none_fails in
     record {
       few_trades = omega (arith, few);
       own_purchases = buys_of_within table.raw.sides;

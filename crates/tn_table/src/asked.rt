@@ -1,3 +1,5 @@
+//! A tested table as a firm that may be asked.
+
 ghost use Rattle.tn_market.specs.Widths.{most_worth};
 ghost use Rattle.tn_table.specs.Tables.{firm_of};
 ghost use Rattle.tn_table.specs.TableLemmas.{table_laws};

@@ -1,3 +1,5 @@
+//! A table that was tested.
+
 ghost use Rattle.std.specs.Prelude.{◌↔◌};
 ghost use Rattle.tn_base.specs.Exchange.{NoneFails};
 ghost use Rattle.tn_exchange.specs.Rows.{firm_of_table, IsWithinLimits};

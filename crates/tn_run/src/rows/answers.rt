@@ -1,5 +1,5 @@
-//! Verdicts on arrangements and tables, equilibria and prices, ranges, states and drills, words that are no command, and
-//! documents with faults beside them.
+//! Verdicts on arrangements and tables, equilibria and prices, ranges, states and drills, words that are no command,
+//! and documents with faults beside them.
 
 pub(crate) const ANSWERS: &str = r#"test
 {"version":1,"firms":[{"name":"S","kind":"table","rows":[[["a"],-1]]},{"name":"M","kind":"table","rows":[[[],0],[["a","b"],5]]},{"name":"B","kind":"table","rows":[[["b"],6]]}],"trades":[{"name":"a","seller":"S","buyer":"M"},{"name":"b","seller":"M","buyer":"B"}]}

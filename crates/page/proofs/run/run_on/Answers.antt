@@ -1,3 +1,4 @@
+-- What shows the clauses of `run_on` of `src/run.rt`.
 use Rattle.std.proofs.Common.{◌≡◌, ℕ, List, ◌++◌, map, string_bytes, refl, ap, subst, arith, inr, ◌∙◌}
 use Rattle.std.specs.Prelude.{Some}
 use Rattle.tn_answer.specs.AnswerText.{answer_line}
@@ -14,10 +15,14 @@ returns-clause-answer c =
     let names = run.answer.0 in
     let asked = c.as_slice.result.now in
     let document = c.args.document.now in
-    let are_words : map string_bytes asked ≡ words_in c.args.words.now = ap (map string_bytes) c.as_slice.ensures.value ∙ c.in_ok-words.ensures in
-    let is_document = ap (λ source. Some source.unread) c.new-source.ensures ∙ ap Some c.in_ok-from_slice.ensures.items in
-    let quiet = none_counted c.new-sink.result.faults c.run_market.new.sink.faults (omega (arith, c.if-sink-gt0.false)) in
-    let whole = whole_of (Some c.new-sink.result.bytes.items) (Some c.run_market.new.sink.bytes.items) c.new-sink.result.faults c.run_market.new.sink.faults (layout_of (map string_bytes asked)) names said
+    let are_words : map string_bytes asked ≡ words_in c.args.words.now =
+    ap (map string_bytes) c.as_slice.ensures.value ∙ c.in_ok-words.ensures in
+    let is_document = ap (λ source. Some source.unread) c.new-source.ensures ∙ ap Some c.in_ok-from_slice.ensures.items
+    in
+    let quiet = none_counted c.new-sink.result.faults c.run_market.new.sink.faults (omega (arith, c.if-sink-gt0.false))
+    in
+    let whole = whole_of (Some c.new-sink.result.bytes.items) (Some c.run_market.new.sink.bytes.items)
+    c.new-sink.result.faults c.run_market.new.sink.faults (layout_of (map string_bytes asked)) names said
     c.run_market.result.status quiet run.answer.3 in
     let may : MayBeAnswered (map string_bytes asked) document names said = record {
       usage = λ no_command no_drill no_cases no_page. inr (run.usage no_command no_drill no_cases no_page).0;
@@ -29,6 +34,7 @@ returns-clause-answer c =
       names,
       said,
       subst (λ (words : List (List ℕ)). MayBeAnswered words document names said) are_words may,
-      whole.grown ∙ ap (λ (bytes : List ℕ). bytes ++ answer_line (layout_of (map string_bytes asked)) names said) c.new-sink.ensures.bytes ∙ ap (λ (words : List (List ℕ)). answer_line (layout_of words) names said) are_words,
+      whole.grown ∙ ap (λ (bytes : List ℕ). bytes ++ answer_line (layout_of (map string_bytes asked)) names said)
+          c.new-sink.ensures.bytes ∙ ap (λ (words : List (List ℕ)). answer_line (layout_of words) names said) are_words,
       c.status_of_run-status.ensures ∙ whole.status_is,
     )

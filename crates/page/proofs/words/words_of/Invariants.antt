@@ -1,3 +1,4 @@
+-- What the loops of `words_of` of `src/words.rt` keep.
 use Rattle.std.proofs.Common.{◌≡◌, map}
 use Rattle.std.specs.Prelude.{string_bytes}
 use Rattle.page.proofs.words.words_of.Given as goal

@@ -1,3 +1,4 @@
+-- What the loops of `bundle_text` of `src/cells.rt` keep.
 use Rattle.std.proofs.Common.{◌≡◌, take, string_bytes}
 use Rattle.tn_answer.specs.Rows.{bundle_text}
 use Rattle.tn_answer.proofs.cells.bundle_text.Given as goal

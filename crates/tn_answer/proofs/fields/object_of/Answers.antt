@@ -1,3 +1,4 @@
+-- What shows the clauses of `object_of` of `src/fields.rt`.
 use Rattle.std.proofs.Common.{sym, subst, ap, ◌∙◌, ℕ, List, Bor}
 use Rattle.serde_json.specs.Data.{object}
 use Rattle.serde_json.proofs.Views.{view-Object}

@@ -1,3 +1,4 @@
+-- What the loops of `object_of` of `src/fields.rt` keep.
 use Rattle.std.proofs.Common.{◌≡◌, take}
 use Rattle.serde_json.specs.View.{members_view}
 use Rattle.tn_answer.specs.Fields.{members_of}

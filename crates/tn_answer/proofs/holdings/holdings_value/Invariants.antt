@@ -1,3 +1,4 @@
+-- What the loops of `holdings_value` of `src/holdings.rt` keep.
 use Rattle.std.proofs.Common.{◌≡◌, map, take}
 use Rattle.serde_json.specs.View.{view}
 use Rattle.tn_answer.specs.AnswerText.{holding_data}

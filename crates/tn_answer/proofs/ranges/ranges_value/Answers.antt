@@ -1,3 +1,4 @@
+-- What shows the clauses of `ranges_value` of `src/ranges.rt`.
 use Rattle.std.proofs.Common.{ap, map, ◌∙◌, arith}
 use Rattle.serde_json.specs.Data.{array}
 use Rattle.serde_json.proofs.Views.{view-Array}
@@ -9,9 +10,11 @@ use Rattle.tn_answer.proofs.ranges.ranges_value.Goals as goal
 pub loop-k-preserved : goal.loop-k-preserved
 loop-k-preserved c =
     ap (map view) c.in_ok-push.ensures.items
-    ∙ each-push view (range_data c.args.names.now.trades) c.loop-k.values.items c.args.ranges.now c.loop-k.k c.loop-k.invariant _ c.at.result.now c.at.ensures c.in_ok-range_value.ensures
+    ∙ each-push view (range_data c.args.names.now.trades) c.loop-k.values.items c.args.ranges.now c.loop-k.k
+    c.loop-k.invariant _ c.at.result.now c.at.ensures c.in_ok-range_value.ensures
 
 pub returns : goal.returns
 returns c =
-    let items = each-all view (range_data c.args.names.now.trades) c.loop-k.values.items c.args.ranges.now c.loop-k.k c.loop-k.invariant (omega arith) in
+    let items = each-all view (range_data c.args.names.now.trades) c.loop-k.values.items c.args.ranges.now c.loop-k.k
+    c.loop-k.invariant (omega arith) in
     view-Array c.loop-k.values ∙ ap (λ ds. array (items_of ds)) items

@@ -1,3 +1,4 @@
+-- What the loops of `ranges_value` of `src/ranges.rt` keep.
 use Rattle.std.proofs.Common.{◌≡◌, map, take}
 use Rattle.serde_json.specs.View.{view}
 use Rattle.tn_answer.specs.AnswerText.{range_data}

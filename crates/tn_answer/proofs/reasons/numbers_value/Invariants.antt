@@ -1,3 +1,4 @@
+-- What the loops of `numbers_value` of `src/reasons.rt` keep.
 use Rattle.std.proofs.Common.{◌≡◌, map, take}
 use Rattle.serde_json.specs.Data.{number, unsigned}
 use Rattle.serde_json.specs.View.{view}

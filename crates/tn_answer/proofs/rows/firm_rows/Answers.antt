@@ -1,3 +1,4 @@
+-- What shows the clauses of `firm_rows` of `src/rows.rt`.
 use Rattle.std.proofs.Common.{◌≡◌, ◌∷◌, Some, refl, sym, subst, arith, append-nil, take}
 use Rattle.std.specs.Prelude.{IfOk}
 use Rattle.csv.specs.Writing.{default_writer, fields_written, has_written, row_text, text_written, writer_setup}
@@ -8,20 +9,28 @@ use Rattle.tn_answer.proofs.rows.firm_rows.Goals as goal
 pub loop-k-init : goal.loop-k-init
 loop-k-init c =
     let written = c.in_ok-writer.writer in
-    subst (IsBetweenRows (text_written (λ v. Some v.items) written) (writer_setup written) (fields_written written) (has_written written))
+    subst (IsBetweenRows (text_written (λ v. Some v.items) written) (writer_setup written) (fields_written written)
+    (has_written written))
     (sym (append-nil (row_text default_writer firm_head))) c.in_ok-writer.ensures
 
 pub loop-k-preserved : goal.loop-k-preserved
 loop-k-preserved c =
     let written = c.write_firm.new.writer in
-    subst (IsBetweenRows (text_written (λ v. Some v.items) written) (writer_setup written) (fields_written written) (has_written written))
-    (rows-more firm_head (firm_row c.args.names.now) c.args.firms.now c.loop-k.k c.at.result.now (firm_row c.args.names.now c.loop-k.k c.at.result.now) c.at.ensures
+    subst (IsBetweenRows (text_written (λ v. Some v.items) written) (writer_setup written) (fields_written written)
+    (has_written written))
+    (rows-more firm_head (firm_row c.args.names.now) c.args.firms.now c.loop-k.k c.at.result.now
+    (firm_row c.args.names.now c.loop-k.k c.at.result.now) c.at.ensures
     (refl))
-    (c.in_ok-write_firm.ensures (rows_text (firm_head ∷ take c.loop-k.k (each_from (firm_row c.args.names.now) 0 c.args.firms.now))) c.loop-k.invariant)
+    (c.in_ok-write_firm.ensures
+    (rows_text (firm_head ∷ take c.loop-k.k (each_from (firm_row c.args.names.now) 0 c.args.firms.now)))
+    c.loop-k.invariant)
 
 pub returns : goal.returns
 returns c =
     let end = c.loop-k-test.false in
     let counted = c.len-k-end.ensures in
-    subst (λ text. IfOk c.finish.result (λ written. written.items ≡ text)) (rows-whole firm_head (firm_row c.args.names.now) c.args.firms.now c.loop-k.k (omega (arith, end, counted)))
-    (c.finish.ensures (rows_text (firm_head ∷ take c.loop-k.k (each_from (firm_row c.args.names.now) 0 c.args.firms.now))) c.loop-k.invariant)
+    subst (λ text. IfOk c.finish.result (λ written. written.items ≡ text))
+    (rows-whole firm_head (firm_row c.args.names.now) c.args.firms.now c.loop-k.k (omega (arith, end, counted)))
+    (c.finish.ensures
+    (rows_text (firm_head ∷ take c.loop-k.k (each_from (firm_row c.args.names.now) 0 c.args.firms.now)))
+    c.loop-k.invariant)

@@ -1,3 +1,4 @@
+-- What the loops of `is_listed` of `src/rows.rt` keep.
 use Rattle.std.proofs.Common.{◌≡◌, false, take}
 use Rattle.tn_answer.specs.Rows.{is_listed}
 use Rattle.tn_answer.proofs.rows.is_listed.Given as goal

@@ -1,3 +1,4 @@
+-- What shows the clauses of `write_price` of `src/rows.rt`.
 use Rattle.std.proofs.Common.{◌≡◌, ℕ, List, ◌∷◌, [], ◌++◌, Some, subst, to_z, of_z}
 use Rattle.std.specs.Prelude.{OnOk}
 use Rattle.std.specs.Fmt.{signed_decimal}
@@ -10,7 +11,11 @@ use Rattle.tn_answer.proofs.rows.write_price.Goals as goal
 pub returns : goal.returns
 returns c = λ text before.
     let written = c.write_row.new.writer in
-    let same : c.name_at.result.now ∷ flag_text c.is_listed.result ∷ signed_decimal (to_z w128 (of_z w128 c.args.price)) ∷ [] ≡ price_row c.args.names.now c.args.on.now c.args.k c.args.price =
-    λ j. c.name_at.ensures j ∷ flag_text (c.is_listed.ensures j) ∷ signed_decimal (to_z-of_z w128 c.args.price c.ranges.price j) ∷ [] in
-    subst (λ (row : List (List ℕ)). OnOk c.write_row.result (IsBetweenRows (text_written (λ v. Some v.items) written) (writer_setup written) (fields_written written) (has_written written) (text ++ row_text default_writer row)))
+    let same : c.name_at.result.now ∷ flag_text c.is_listed.result ∷ signed_decimal (to_z w128 (of_z w128 c.args.price))
+    ∷ [] ≡ price_row c.args.names.now c.args.on.now c.args.k c.args.price =
+    λ j. c.name_at.ensures j ∷ flag_text (c.is_listed.ensures j) ∷ signed_decimal
+    (to_z-of_z w128 c.args.price c.ranges.price j) ∷ [] in
+    subst (λ (row : List (List ℕ)). OnOk c.write_row.result
+    (IsBetweenRows (text_written (λ v. Some v.items) written) (writer_setup written) (fields_written written)
+    (has_written written) (text ++ row_text default_writer row)))
     same (c.write_row.ensures text before)

@@ -1,3 +1,4 @@
+-- What the loops of `contracts_value` of `src/states.rt` keep.
 use Rattle.std.proofs.Common.{◌≡◌, map, take}
 use Rattle.serde_json.specs.View.{view}
 use Rattle.tn_answer.specs.AnswerText.{contract_data}

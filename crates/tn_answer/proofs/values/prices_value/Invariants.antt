@@ -1,3 +1,4 @@
+-- What the loops of `prices_value` of `src/values.rt` keep.
 use Rattle.std.proofs.Common.{◌≡◌, map, take}
 use Rattle.serde_json.specs.View.{view}
 use Rattle.tn_answer.specs.AnswerText.{prices_from}

@@ -1,3 +1,4 @@
+-- What shows the clauses of `trades_value` of `src/values.rt`.
 use Rattle.std.proofs.Common.{ap, map, ◌∙◌, arith}
 use Rattle.serde_json.specs.Data.{array}
 use Rattle.serde_json.proofs.Views.{view-Array}
@@ -9,9 +10,11 @@ use Rattle.tn_answer.proofs.values.trades_value.Goals as goal
 pub loop-k-preserved : goal.loop-k-preserved
 loop-k-preserved c =
     ap (map view) c.in_ok-push.ensures.items
-    ∙ map-push view (name_data c.args.names.now.trades) c.loop-k.values.items c.args.trades.now c.loop-k.k c.loop-k.invariant _ c.at.result c.at.ensures c.in_ok-trade_value.ensures
+    ∙ map-push view (name_data c.args.names.now.trades) c.loop-k.values.items c.args.trades.now c.loop-k.k
+    c.loop-k.invariant _ c.at.result c.at.ensures c.in_ok-trade_value.ensures
 
 pub returns : goal.returns
 returns c =
-    let items = map-whole view (name_data c.args.names.now.trades) c.loop-k.values.items c.args.trades.now c.loop-k.k c.loop-k.invariant (omega arith) in
+    let items = map-whole view (name_data c.args.names.now.trades) c.loop-k.values.items c.args.trades.now c.loop-k.k
+    c.loop-k.invariant (omega arith) in
     view-Array c.loop-k.values ∙ ap (λ ds. array (items_of ds)) items

@@ -1,3 +1,4 @@
+-- What the loops of `trades_value` of `src/values.rt` keep.
 use Rattle.std.proofs.Common.{◌≡◌, map, take}
 use Rattle.serde_json.specs.View.{view}
 use Rattle.tn_answer.specs.Values.{name_data}

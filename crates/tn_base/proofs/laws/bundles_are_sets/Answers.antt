@@ -1,3 +1,4 @@
+-- What shows the clauses of `bundles_are_sets` of `src/laws.rt`.
 use Rattle.tn_base.proofs.SetLemmas.{same_set, has-zero, has-toggle_same, has-toggle_other, has-union, has-meet, has-minus, member_of_set}
 use Rattle.tn_base.proofs.SizeLemmas.{size_at}
 use Rattle.tn_base.proofs.LimbLemmas.{has-limb}

@@ -1,3 +1,4 @@
+-- What the loops of `purchases` of `src/side.rt` keep.
 use Rattle.std.proofs.Common.{◌≡◌}
 use Rattle.tn_base.specs.Sets.{has, set_of}
 use Rattle.tn_base.specs.Table.{buys_of}

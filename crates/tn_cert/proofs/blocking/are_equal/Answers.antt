@@ -1,3 +1,4 @@
+-- What shows the clauses of `are_equal` of `src/blocking.rt`.
 use Rattle.std.proofs.Common.{nat_eq, sym, ap₂, subst, ℤ, ◌*ℤ◌}
 use Rattle.std.proofs.lemmas.Int.{to_z-of_z}
 use mir.Syntax.{w128}
@@ -10,7 +11,11 @@ pub returns : goal.returns
 returns c =
     let first = ap₂ (λ (x y : ℤ). x *ℤ y) (to_z-of_z w128 c.args.a c.ranges.a) (to_z-of_z w128 c.args.b c.ranges.b) in
     let second = ap₂ (λ (x y : ℤ). x *ℤ y) (to_z-of_z w128 c.args.c c.ranges.c) (to_z-of_z w128 c.args.d c.ranges.d) in
-    subst (λ (z : ℤ). DecidesEqual (c.args.a *ℤ c.args.b) (c.args.c *ℤ c.args.d) (nat_eq (of_z w128 z) (of_z w128 (to_z w128 (of_z w128 c.args.c) *ℤ to_z w128 (of_z w128 c.args.d))))) (sym first)
-    (subst (λ (z : ℤ). DecidesEqual (c.args.a *ℤ c.args.b) (c.args.c *ℤ c.args.d) (nat_eq (of_z w128 (c.args.a *ℤ c.args.b)) (of_z w128 z))) (sym second)
-    (decided_equal (c.args.a *ℤ c.args.b) (c.args.c *ℤ c.args.d) (product_fits c.args.a c.args.b c.requires.small_a c.requires.small_b)
+    subst (λ (z : ℤ). DecidesEqual (c.args.a *ℤ c.args.b) (c.args.c *ℤ c.args.d)
+    (nat_eq (of_z w128 z) (of_z w128 (to_z w128 (of_z w128 c.args.c) *ℤ to_z w128 (of_z w128 c.args.d)))))
+    (sym first)
+    (subst (λ (z : ℤ). DecidesEqual (c.args.a *ℤ c.args.b) (c.args.c *ℤ c.args.d)
+    (nat_eq (of_z w128 (c.args.a *ℤ c.args.b)) (of_z w128 z))) (sym second)
+    (decided_equal (c.args.a *ℤ c.args.b) (c.args.c *ℤ c.args.d)
+    (product_fits c.args.a c.args.b c.requires.small_a c.requires.small_b)
     (product_fits c.args.c c.args.d c.requires.small_c c.requires.small_d)))

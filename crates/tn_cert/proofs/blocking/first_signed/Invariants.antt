@@ -1,3 +1,4 @@
+-- What the loops of `first_signed` of `src/blocking.rt` keep.
 use Rattle.tn_cert.proofs.BlockingLemmas.{FindsContract}
 use Rattle.tn_cert.proofs.blocking.first_signed.Given as goal
 

@@ -1,3 +1,4 @@
+-- What shows the clauses of `first_to_leave` of `src/blocking.rt`.
 use Rattle.std.proofs.Common.{rules, ◌∙◌, ◌<◌, ◌+◌, sym, ap, ap₂, subst, arith, map, length, ℤ, ◌*ℤ◌, Some, None}
 use Rattle.std.specs.List.{All}
 use Rattle.std.proofs.lemmas.Int.{ints, to_z-of_z}
@@ -17,17 +18,22 @@ use Rattle.tn_cert.proofs.blocking.first_to_leave.Goals as goal
 pub first_left-requires-clause-known : goal.first_left-requires-clause-known
 first_left-requires-clause-known g c =
     subst (All (λ (contract : Contract). contract.trade < length c.args.market.now.trades)) (sym c.in_ok-pool.ensures)
-    (pool_known (length c.args.market.now.trades) _ _ c.args.offers.now c.args.outcome.now.contracts c.requires.offers.feasible.known c.requires.outcome.contracts.known)
+    (pool_known (length c.args.market.now.trades) _ _ c.args.offers.now c.args.outcome.now.contracts
+    c.requires.offers.feasible.known c.requires.outcome.contracts.known)
 
 pub first_left-requires-clause-small : goal.first_left-requires-clause-small
 first_left-requires-clause-small g c =
     let plain = to_z-of_z w128 c.args.over c.ranges.over in
-    let pool_is = c.in_ok-pool.ensures ∙ ap (λ (e : ℤ). together e c.args.offers.now c.args.outcome.now.over c.args.outcome.now.contracts) plain in
+    let pool_is =
+    c.in_ok-pool.ensures
+    ∙ ap (λ (e : ℤ). together e c.args.offers.now c.args.outcome.now.over c.args.outcome.now.contracts) plain in
     let over_least = c.requires.over.least in
     let outcome_least = c.requires.outcome.least in
     subst (All (λ (contract : Contract). IsAtMost contract.price most_asked_price)) (sym pool_is)
-    (pool_small c.args.over c.args.outcome.now.over c.args.offers.now c.args.outcome.now.contracts (omega (arith, ints, over_least)) c.requires.over.most
-    (omega (arith, ints, outcome_least)) c.requires.outcome.most c.requires.offers.small c.requires.outcome.contracts.small)
+    (pool_small c.args.over c.args.outcome.now.over c.args.offers.now c.args.outcome.now.contracts
+    (omega (arith, ints, over_least)) c.requires.over.most
+    (omega (arith, ints, outcome_least)) c.requires.outcome.most c.requires.offers.small
+    c.requires.outcome.contracts.small)
 
 pub returns-in-Some : goal.returns-in-Some
 returns-in-Some g c =
@@ -35,16 +41,22 @@ returns-in-Some g c =
     let plain = to_z-of_z w128 c.args.over c.ranges.over in
     let outcome_fits : SFits w128 c.args.outcome.now.over = search rules in
     let scale_fits : SFits w128 c.common-scale.result = search rules in
-    let pool_is = c.in_ok-pool.ensures ∙ ap (λ (e : ℤ). together e c.args.offers.now c.args.outcome.now.over c.args.outcome.now.contracts) plain in
+    let pool_is =
+    c.in_ok-pool.ensures
+    ∙ ap (λ (e : ℤ). together e c.args.offers.now c.args.outcome.now.over c.args.outcome.now.contracts) plain in
     let scale_is = to_z-of_z w128 c.common-scale.result scale_fits ∙ c.common-scale.ensures.product
     ∙ ap₂ (λ (x y : ℤ). x *ℤ y) (to_z-of_z w128 c.args.outcome.now.over outcome_fits) plain in
-    let before = subst (λ (e : ℤ). AreTakenBefore firms c.args.market.now.trades c.args.outcome.now e c.args.offers.now c.loop-f.f) plain c.loop-f.invariant in
+    let before =
+    subst (λ (e : ℤ). AreTakenBefore firms c.args.market.now.trades c.args.outcome.now e c.args.offers.now
+    c.loop-f.f) plain c.loop-f.invariant in
     let test = c.loop-f-test.true in
     let count = c.firms-f-end.ensures.count in
     let item = firm_at c.args.market.now.firms c.loop-f.f (omega (arith, test, count)) in
-    first_leaver firms c.args.market.now.trades c.args.outcome.now c.args.over c.args.offers.now c.loop-f.f c.in-Some.trade (g.V.Valuation.firm item.0) before
+    first_leaver firms c.args.market.now.trades c.args.outcome.now c.args.over c.args.offers.now c.loop-f.f
+    c.in-Some.trade (g.V.Valuation.firm item.0) before
     (listed g.V.Valuation.firm c.args.market.now.firms c.loop-f.f item.0 item.1)
-    (left_at c.args.market.now.trades c.args.outcome.now c.args.over c.args.offers.now c.loop-f.f (g.V.Valuation.firm item.0) c.in_ok-pool.pool (to_z w128 (of_z w128 c.common-scale.result))
+    (left_at c.args.market.now.trades c.args.outcome.now c.args.over c.args.offers.now c.loop-f.f
+    (g.V.Valuation.firm item.0) c.in_ok-pool.pool (to_z w128 (of_z w128 c.common-scale.result))
     c.len.result (Some c.in-Some.trade) pool_is scale_is c.len.ensures (c.in-Some.ensures item.0 item.1))
 
 pub loop-f-preserved : goal.loop-f-preserved
@@ -53,14 +65,22 @@ loop-f-preserved g c =
     let plain = to_z-of_z w128 c.args.over c.ranges.over in
     let outcome_fits : SFits w128 c.args.outcome.now.over = search rules in
     let scale_fits : SFits w128 c.common-scale.result = search rules in
-    let pool_is = c.in_ok-pool.ensures ∙ ap (λ (e : ℤ). together e c.args.offers.now c.args.outcome.now.over c.args.outcome.now.contracts) plain in
+    let pool_is =
+    c.in_ok-pool.ensures
+    ∙ ap (λ (e : ℤ). together e c.args.offers.now c.args.outcome.now.over c.args.outcome.now.contracts) plain in
     let scale_is = to_z-of_z w128 c.common-scale.result scale_fits ∙ c.common-scale.ensures.product
     ∙ ap₂ (λ (x y : ℤ). x *ℤ y) (to_z-of_z w128 c.args.outcome.now.over outcome_fits) plain in
-    let before = subst (λ (e : ℤ). AreTakenBefore firms c.args.market.now.trades c.args.outcome.now e c.args.offers.now c.loop-f.f) plain c.loop-f.invariant in
-    subst (λ (e : ℤ). AreTakenBefore firms c.args.market.now.trades c.args.outcome.now e c.args.offers.now (c.loop-f.f + 1)) (sym plain)
+    let before =
+    subst (λ (e : ℤ). AreTakenBefore firms c.args.market.now.trades c.args.outcome.now e c.args.offers.now
+    c.loop-f.f) plain c.loop-f.invariant in
+    subst (λ (e : ℤ). AreTakenBefore firms c.args.market.now.trades c.args.outcome.now e c.args.offers.now (c.loop-f.f
+    + 1)) (sym plain)
     (one_taken firms c.args.market.now.trades c.args.outcome.now c.args.over c.args.offers.now c.loop-f.f before
-    (for_firm g.V.Valuation.firm c.args.market.now.firms c.loop-f.f (λ firm. FindsLeftAt c.args.market.now.trades c.args.outcome.now c.args.over c.args.offers.now c.loop-f.f firm None) (λ v is.
-    left_at c.args.market.now.trades c.args.outcome.now c.args.over c.args.offers.now c.loop-f.f (g.V.Valuation.firm v) c.in_ok-pool.pool (to_z w128 (of_z w128 c.common-scale.result))
+    (for_firm g.V.Valuation.firm c.args.market.now.firms c.loop-f.f
+    (λ firm. FindsLeftAt c.args.market.now.trades c.args.outcome.now c.args.over c.args.offers.now c.loop-f.f firm
+    None) (λ v is.
+    left_at c.args.market.now.trades c.args.outcome.now c.args.over c.args.offers.now c.loop-f.f (g.V.Valuation.firm v)
+    c.in_ok-pool.pool (to_z w128 (of_z w128 c.common-scale.result))
     c.len.result None pool_is scale_is c.len.ensures (c.in_default.ensures v is))))
 
 pub returns : goal.returns
@@ -70,6 +90,7 @@ returns g c = λ f firm k offer is offered own.
     let end = c.loop-f.auto.f-end in
     let inside = slice_get_within (map g.V.Valuation.firm c.args.market.now.firms) f firm is in
     let mapped = length-map c.args.market.now.firms g.V.Valuation.firm in
-    let taken = subst (λ (e : ℤ). AreTakenBefore (map g.V.Valuation.firm c.args.market.now.firms) c.args.market.now.trades c.args.outcome.now e c.args.offers.now c.loop-f.f)
+    let taken = subst (λ (e : ℤ). AreTakenBefore (map g.V.Valuation.firm c.args.market.now.firms)
+    c.args.market.now.trades c.args.outcome.now e c.args.offers.now c.loop-f.f)
     (to_z-of_z w128 c.args.over c.ranges.over) c.loop-f.invariant in
     taken f firm k offer (omega (arith, test, count, end, inside, mapped)) is offered own

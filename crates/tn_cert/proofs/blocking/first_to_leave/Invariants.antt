@@ -1,6 +1,8 @@
+-- What the loops of `first_to_leave` of `src/blocking.rt` keep.
 use Rattle.std.proofs.Common.{map}
 use Rattle.tn_cert.proofs.BlockingLemmas.{AreTakenBefore}
 use Rattle.tn_cert.proofs.blocking.first_to_leave.Given as goal
 
 abbrev pub invariant-loop-f : goal.invariant-loop-f
-invariant-loop-f g l = AreTakenBefore (map g.V.Valuation.firm l.market.firms) l.market.trades l.outcome l.over l.offers l.f
+invariant-loop-f g l =
+    AreTakenBefore (map g.V.Valuation.firm l.market.firms) l.market.trades l.outcome l.over l.offers l.f

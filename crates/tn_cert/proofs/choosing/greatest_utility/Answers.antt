@@ -1,3 +1,4 @@
+-- What shows the clauses of `greatest_utility` of `src/choosing.rt`.
 use Rattle.std.proofs.Common.{rules, ◌∙◌, ℤ, map, take, sym, subst}
 use Rattle.std.proofs.lemmas.Int.{to_z-of_z}
 use Rattle.std.proofs.lemmas.Option.{same_Some}
@@ -22,13 +23,21 @@ returns-clause-greatest g c = λ v is.
     let value_fits : SFits w128 c.best_from-best.result.1 = search rules in
     let firms = map g.V.Valuation.firm c.args.market.now.firms in
     let now = c.firm-firm.result.now in
-    let best = subst (λ (scale : ℤ). IsBestBetween 0 c.terms_of-terms.result.free (utility scale (price_at (take c.trades.result c.terms_of-terms.result.prices)) (g.V.Valuation.firm now))
+    let best = subst (λ (scale : ℤ). IsBestBetween 0 c.terms_of-terms.result.free
+    (utility scale (price_at (take c.trades.result c.terms_of-terms.result.prices)) (g.V.Valuation.firm now))
     c.best_from-best.result.0 c.best_from-best.result.1)
     (to_z-of_z w128 c.args.scale fits) c.best_from-best.ensures.best.best in
     let greatest = greatest_from_best firms c.args.market.now.trades c.args.scale c.args.f (g.V.Valuation.firm now)
-    (record { network = c.requires.network; is = listed g.V.Valuation.firm c.args.market.now.firms c.args.f now c.firm-firm.ensures })
-    c.args.contracts.now c.args.left_out c.terms_of-terms.result.free c.trades.result c.best_from-best.result.0 c.terms_of-terms.result.prices c.best_from-best.result.1
+    (record {
+      network = c.requires.network;
+      is =
+          listed g.V.Valuation.firm c.args.market.now.firms c.args.f now c.firm-firm.ensures;
+    })
+    c.args.contracts.now c.args.left_out c.terms_of-terms.result.free c.trades.result c.best_from-best.result.0
+    c.terms_of-terms.result.prices c.best_from-best.result.1
     c.trades.ensures.count (c.terms_of-terms.ensures now c.firm-firm.ensures) best in
-    subst (λ (w : g.row.V.Denot). IsGreatest c.args.market.now.trades c.args.scale c.args.f (g.V.Valuation.firm w) c.args.contracts.now c.args.left_out (to_z w128 (of_z w128 c.best_from-best.result.1)))
+    subst (λ (w : g.row.V.Denot). IsGreatest c.args.market.now.trades c.args.scale c.args.f (g.V.Valuation.firm w)
+    c.args.contracts.now c.args.left_out (to_z w128 (of_z w128 c.best_from-best.result.1)))
     (same_Some now v (sym c.firm-firm.ensures ∙ is))
-    (subst (IsGreatest c.args.market.now.trades c.args.scale c.args.f (g.V.Valuation.firm now) c.args.contracts.now c.args.left_out) (sym (to_z-of_z w128 c.best_from-best.result.1 value_fits)) greatest)
+    (subst (IsGreatest c.args.market.now.trades c.args.scale c.args.f (g.V.Valuation.firm now) c.args.contracts.now
+    c.args.left_out) (sym (to_z-of_z w128 c.best_from-best.result.1 value_fits)) greatest)

@@ -1,3 +1,4 @@
+-- What the loops of `go_round` of `src/cycles.rt` keep.
 use Rattle.std.proofs.Common.{map}
 use Rattle.tn_cert.specs.Claims.{node_of}
 use Rattle.tn_cert.proofs.RoundLemmas.{AreWalked}

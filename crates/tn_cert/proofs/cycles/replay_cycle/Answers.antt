@@ -1,3 +1,4 @@
+-- What shows the clauses of `replay_cycle` of `src/cycles.rt`.
 use Rattle.std.proofs.Common.{rules, arith, ℕ, sym, ap, ◌∙◌, subst, map, length, Ok, Err}
 use Rattle.std.proofs.lemmas.Int.{ints, to_z-of_z}
 use mir.Syntax.{w128}
@@ -14,8 +15,10 @@ pub returns-in-Err : goal.returns-in-Err
 returns-in-Err g c =
     let arc = exchange_arc (map g.V.Valuation.firm c.args.market.now.firms) c.args.market.now.trades c.args.on.now in (
       c.in_default.ensures.found,
-      rounds-same (arcs_of c.fill.new.self) arc c.fill.ensures.graph.arcs (map (node_of (length c.args.market.now.trades)) c.args.nodes.now) (Err c.in-Err.index)
-          (subst (λ (n : ℕ). Rounds (arcs_of c.fill.new.self) (map (node_of n) c.args.nodes.now) (Err c.in-Err.index)) c.trades-null.ensures.count c.in-Err.ensures),
+      rounds-same (arcs_of c.fill.new.self) arc c.fill.ensures.graph.arcs
+          (map (node_of (length c.args.market.now.trades)) c.args.nodes.now) (Err c.in-Err.index)
+          (subst (λ (n : ℕ). Rounds (arcs_of c.fill.new.self) (map (node_of n) c.args.nodes.now) (Err c.in-Err.index))
+          c.trades-null.ensures.count c.in-Err.ensures),
     )
 
 pub returns : goal.returns
@@ -26,9 +29,12 @@ returns g c =
       c.in_default.ensures.found,
       subst (GoesRound arc nodes) (sym (to_z-of_z w128 c.in-Ok.actual fits))
           (rounds-same (arcs_of c.fill.new.self) arc c.fill.ensures.graph.arcs nodes (Ok c.in-Ok.actual)
-          (subst (λ (n : ℕ). Rounds (arcs_of c.fill.new.self) (map (node_of n) c.args.nodes.now) (Ok c.in-Ok.actual)) c.trades-null.ensures.count c.in-Ok.ensures)),
+          (subst (λ (n : ℕ). Rounds (arcs_of c.fill.new.self) (map (node_of n) c.args.nodes.now) (Ok c.in-Ok.actual))
+          c.trades-null.ensures.count c.in-Ok.ensures)),
       elim c.else-actual-lt0.branch [
-        | else-actual-lt0-via-then-actual-lt0+else-actual-cost w ↦ (λ low same. w.if-actual-cost.false (ap (of_z w128) (sym (to_z-of_z w128 c.in-Ok.actual fits) ∙ same)))
-        | else-actual-lt0-via-else-actual-lt0 w ↦ (λ low same. let high = w.if-actual-lt0.false in absurd (omega (arith, ints, high, low)))
+        | else-actual-lt0-via-then-actual-lt0+else-actual-cost w ↦
+            (λ low same. w.if-actual-cost.false (ap (of_z w128) (sym (to_z-of_z w128 c.in-Ok.actual fits) ∙ same)))
+        | else-actual-lt0-via-else-actual-lt0 w ↦ (λ low same. let high = w.if-actual-lt0.false in
+            absurd (omega (arith, ints, high, low)))
       ],
     )

@@ -1,3 +1,4 @@
+-- What the loops of `first_unsigned` of `src/dropping.rt` keep.
 use Rattle.tn_cert.proofs.KeptLemmas.{FindsOpen}
 use Rattle.tn_cert.proofs.dropping.first_unsigned.Given as goal
 

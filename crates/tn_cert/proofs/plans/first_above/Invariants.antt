@@ -1,3 +1,4 @@
+-- What the loops of `first_above` of `src/plans.rt` keep.
 use Rattle.tn_cert.specs.Plans.{HaveShares}
 use Rattle.tn_cert.proofs.plans.first_above.Given as goal
 

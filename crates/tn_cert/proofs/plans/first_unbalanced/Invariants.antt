@@ -1,3 +1,4 @@
+-- What the loops of `first_unbalanced` of `src/plans.rt` keep.
 use Rattle.tn_cert.specs.Plans.{AreBalanced}
 use Rattle.tn_cert.proofs.plans.first_unbalanced.Given as goal
 

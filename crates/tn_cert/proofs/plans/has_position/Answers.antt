@@ -1,3 +1,4 @@
+-- What shows the clauses of `has_position` of `src/plans.rt`.
 use Rattle.std.proofs.Common.{◌^◌, ◌<◌, sym, arith, rules}
 use Rattle.tn_base.proofs.SetLemmas.{has_above}
 use Rattle.tn_cert.proofs.plans.has_position.Goals as goal

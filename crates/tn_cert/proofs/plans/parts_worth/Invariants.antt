@@ -1,3 +1,4 @@
+-- What the loops of `parts_worth` of `src/plans.rt` keep.
 use Rattle.tn_firm.specs.Raw.{raw_firm_of}
 use Rattle.tn_cert.proofs.PlanSums.{IsWorth}
 use Rattle.tn_cert.proofs.plans.parts_worth.Given as goal

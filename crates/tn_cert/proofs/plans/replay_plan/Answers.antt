@@ -1,3 +1,4 @@
+-- What shows the clauses of `replay_plan` of `src/plans.rt`.
 use Rattle.std.proofs.Common.{◌∙◌, sym, ap, subst, arith, map, ℤ, ◌≤ℤ◌}
 use Rattle.std.proofs.Common.{rules}
 use Rattle.std.proofs.lemmas.Int.{to_z-of_z}
@@ -22,14 +23,17 @@ returns-in-None-clause-replays c =
     let count = length-map c.args.firms.now raw_firm_of in
     let few = c.requires.few_firms in
     let fits : SFits w128 c.in-Ok.worth = search rules in
-    let worth = to_z-of_z w128 c.in-Ok.worth fits ∙ c.in-Ok.ensures.1 ∙ ap (λ (o : ℤ). worth_of_plan firms plan o) over in
+    let worth = to_z-of_z w128 c.in-Ok.worth fits ∙ c.in-Ok.ensures.1 ∙ ap (λ (o : ℤ). worth_of_plan firms plan o) over
+    in
     record {
-      shares = λ f below. subst (λ (o : ℤ). share_of plan f ≤ℤ o) over (c.in_default.ensures f (omega (arith, below, count, few)));
+      shares = λ f below. subst (λ (o : ℤ). share_of plan f ≤ℤ o) over
+          (c.in_default.ensures f (omega (arith, below, count, few)));
       possible = c.in-Ok.ensures.0;
       abstain = all_abstain c.args.firms.now;
       balanced = c.in_default-first_unbalanced.ensures;
       greater = subst (λ (w : ℤ). IsWorthMore firms ends c.args.over w) worth
-          (subst (λ (o : ℤ). IsWorthMore firms ends o (to_z w128 (of_z w128 c.in-Ok.worth))) over c.in-None.ensures.whole);
+          (subst (λ (o : ℤ). IsWorthMore firms ends o (to_z w128 (of_z w128 c.in-Ok.worth))) over
+          c.in-None.ensures.whole);
     }
 
 pub returns-in_ok-on-in-Some-first_whole-clause-replays : goal.returns-in_ok-on-in-Some-first_whole-clause-replays
@@ -43,13 +47,25 @@ returns-in_ok-on-in-Some-first_whole-clause-replays c =
     let found = c.in-Some-first_whole.found in
     let whole = c.in-Some-first_whole.ensures.whole in
     let fits : SFits w128 c.in-Ok.worth = search rules in
-    let worth = to_z-of_z w128 c.in-Ok.worth fits ∙ c.in-Ok.ensures.1 ∙ ap (λ (o : ℤ). worth_of_plan firms plan o) over in
-    let plain = as_is found.1 (smaller found.1 most_number most_utility (omega arith) c.in-Some-first_whole.ensures.small) in (
-      (λ f below. subst (λ (o : ℤ). share_of plan f ≤ℤ o) over (c.in_default.ensures f (omega (arith, below, count, few)))),
+    let worth = to_z-of_z w128 c.in-Ok.worth fits ∙ c.in-Ok.ensures.1 ∙ ap (λ (o : ℤ). worth_of_plan firms plan o) over
+    in
+    let plain = as_is found.1 (smaller found.1 most_number most_utility (omega arith)
+    c.in-Some-first_whole.ensures.small) in (
+      (λ f below. subst (λ (o : ℤ). share_of plan f ≤ℤ o) over
+          (c.in_default.ensures f (omega (arith, below, count, few)))),
       c.in-Ok.ensures.0,
       c.in_default-first_unbalanced.ensures,
-      subst (IsWholeAsGreat firms ends c.args.over (worth_of_plan firms plan c.args.over) c.in_ok-on-in-Some-first_whole.on) (sym plain)
+      subst (IsWholeAsGreat firms ends c.args.over (worth_of_plan firms plan c.args.over)
+          c.in_ok-on-in-Some-first_whole.on) (sym plain)
           (subst (λ (w : ℤ). IsWholeAsGreat firms ends c.args.over w c.in_ok-on-in-Some-first_whole.on found.1) worth
-          (subst (λ (o : ℤ). IsWholeAsGreat firms ends o (to_z w128 (of_z w128 c.in-Ok.worth)) c.in_ok-on-in-Some-first_whole.on found.1) over
-          (record { on = found.0; within = whole.0; listed_is = c.in_ok-on-in-Some-first_whole.ensures; surplus_is = whole.1; as_great = whole.2 }))),
+          (subst (λ (o : ℤ). IsWholeAsGreat firms ends o (to_z w128 (of_z w128 c.in-Ok.worth))
+          c.in_ok-on-in-Some-first_whole.on found.1) over
+          (record {
+            on = found.0;
+            within = whole.0;
+            listed_is = c.in_ok-on-in-Some-first_whole.ensures;
+            surplus_is =
+                whole.1;
+            as_great = whole.2;
+          }))),
     )

@@ -1,3 +1,4 @@
+-- What shows the clauses of `share_of` of `src/plans.rt`.
 use Rattle.std.proofs.Common.{◌+◌, sym, subst, arith, ℤ, ◌+ℤ◌}
 use Rattle.std.proofs.lemmas.Int.{ints, to_z-of_z}
 use mir.Syntax.{w128}
@@ -20,6 +21,8 @@ loop-k-preserved c =
     let few = c.requires.few in
     let plain = to_z-of_z w128 more (omega (arith, ints, least, most)) in
     let whole = to_z-of_z w128 (sum +ℤ more) (omega (arith, ints, low, high, least, most, inside, count, few)) in
-    subst (λ (w : ℤ). IsWeight term c.args.f c.args.plan.now (c.loop-k.k + 1) (to_z w128 (of_z w128 (sum +ℤ w)))) (sym plain)
+    subst (λ (w : ℤ). IsWeight term c.args.f c.args.plan.now (c.loop-k.k + 1) (to_z w128 (of_z w128 (sum +ℤ w))))
+    (sym plain)
     (subst (IsWeight term c.args.f c.args.plan.now (c.loop-k.k + 1)) (sym whole)
-    (one_weighed term c.args.f c.args.plan.now c.loop-k.k c.at.result sum more c.loop-k.invariant c.at.ensures c.weight_for-share.ensures.weight least most))
+    (one_weighed term c.args.f c.args.plan.now c.loop-k.k c.at.result sum more c.loop-k.invariant c.at.ensures
+    c.weight_for-share.ensures.weight least most))

@@ -1,3 +1,4 @@
+-- What the loops of `share_of` of `src/plans.rt` keep.
 use Rattle.tn_cert.proofs.PlanSums.{IsWeight}
 use Rattle.tn_cert.proofs.plans.share_of.Given as goal
 

@@ -1,3 +1,4 @@
+-- What the loops of `surplus_at` of `src/plans.rt` keep.
 use Rattle.std.proofs.Common.{map}
 use Rattle.tn_firm.specs.Raw.{raw_firm_of}
 use Rattle.tn_cert.proofs.PlanSums.{IsSurplus}

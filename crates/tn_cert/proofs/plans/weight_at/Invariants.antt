@@ -1,3 +1,4 @@
+-- What the loops of `weight_at` of `src/plans.rt` keep.
 use Rattle.std.specs.Prelude.{pos, if◌then◌else◌}
 use Rattle.tn_base.specs.Sets.{has}
 use Rattle.tn_cert.proofs.PlanSums.{IsWeight}

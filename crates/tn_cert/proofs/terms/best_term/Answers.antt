@@ -1,3 +1,4 @@
+-- What shows the clauses of `best_term` of `src/terms.rt`.
 use Rattle.std.proofs.Common.{rules, ◌∙◌, ◌+◌, sym, ap, subst, ℤ, Some}
 use Rattle.std.proofs.lemmas.Int.{to_z-of_z}
 use mir.Syntax.{w128}
@@ -22,7 +23,8 @@ loop-k-preserved c = elim c.if-contract-t.branch [
       let best = w.best-is ∙ ap (λ (z : ℤ). Some z) (to_z-of_z w128 w.better.result fits ∙ w.better.ensures
       ∙ ap (better c.args.buys c.loop-k.best) (to_z-of_z w128 c.at-contract.result.price price_fits)) in
       subst (FindsTerm c.args.contracts.now c.args.left_out c.args.t c.args.buys (c.loop-k.k + 1)) (sym best)
-      (term_more c.args.contracts.now c.args.left_out c.args.t c.args.buys c.loop-k.k c.loop-k.best c.at-contract.result c.loop-k.invariant offered)
+      (term_more c.args.contracts.now c.args.left_out c.args.t c.args.buys c.loop-k.k c.loop-k.best c.at-contract.result
+      c.loop-k.invariant offered)
   | else-contract-t w ↦ elim w.else-contract-t.branch [
     | else-contract-t-via-then-contract-t+else-ne u ↦
         subst (FindsTerm c.args.contracts.now c.args.left_out c.args.t c.args.buys (c.loop-k.k + 1)) (sym w.best-is)
@@ -31,6 +33,7 @@ loop-k-preserved c = elim c.if-contract-t.branch [
     | else-contract-t-via-else-contract-t u ↦
         subst (FindsTerm c.args.contracts.now c.args.left_out c.args.t c.args.buys (c.loop-k.k + 1)) (sym w.best-is)
         (term_same c.args.contracts.now c.args.left_out c.args.t c.args.buys c.loop-k.k c.loop-k.best c.loop-k.invariant
-        (λ other offered. u.if-contract-t.false (ap (λ (z : Contract). z.trade) (same_Some _ _ (sym c.at-contract.ensures ∙ offered.is)) ∙ offered.trade)))
+        (λ other offered. u.if-contract-t.false (ap (λ (z : Contract). z.trade)
+        (same_Some _ _ (sym c.at-contract.ensures ∙ offered.is)) ∙ offered.trade)))
   ]
 ]

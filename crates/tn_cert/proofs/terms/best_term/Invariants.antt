@@ -1,3 +1,4 @@
+-- What the loops of `best_term` of `src/terms.rt` keep.
 use Rattle.tn_cert.specs.Terms.{FindsTerm}
 use Rattle.tn_cert.proofs.terms.best_term.Given as goal
 

@@ -1,3 +1,4 @@
+-- What the loops of `terms_of` of `src/terms.rt` keep.
 use Rattle.tn_cert.specs.Terms.{HasTerms}
 use Rattle.tn_cert.proofs.terms.terms_of.Given as goal
 

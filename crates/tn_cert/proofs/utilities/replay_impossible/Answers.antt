@@ -1,3 +1,4 @@
+-- What shows the clauses of `replay_impossible` of `src/utilities.rt`.
 use Rattle.std.proofs.Common.{sym, subst, refl}
 use Rattle.std.specs.Prelude.{IsSome}
 use Rattle.tn_price.proofs.JudgeLemmas.{firm_is, some_item}

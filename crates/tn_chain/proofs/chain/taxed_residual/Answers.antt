@@ -1,3 +1,4 @@
+-- What shows the clauses of `taxed_residual` of `src/chain.rt`.
 use Rattle.std.proofs.Common.{rules, ◌∙◌, ℕ, ℤ, pos, map, length, arith, sym, ap, subst, ◌*ℤ◌, ◌≤ℤ◌}
 use Rattle.std.proofs.lemmas.Int.{to_z-of_z}
 use Rattle.std.proofs.lemmas.List.{length-map}
@@ -15,14 +16,19 @@ residual-requires-clause-small_scale g c =
     let fits : SFits w128 c.chain_scale-scale.result = search rules in
     let count = c.trades.ensures.count in
     let few = c.requires.few in
-    subst (λ (s : ℤ). (c.args.outcome.now.over *ℤ s) ≤ℤ pos most_claimed_over) (sym (to_z-of_z w128 c.chain_scale-scale.result fits ∙ c.chain_scale-scale.ensures))
-    (scale_small c.args.outcome.now.over c.trades.result c.args.outcome.now.contracts (omega (arith, count, few)) c.requires.outcome.least c.requires.outcome.most)
+    subst (λ (s : ℤ). (c.args.outcome.now.over *ℤ s) ≤ℤ pos most_claimed_over)
+    (sym (to_z-of_z w128 c.chain_scale-scale.result fits ∙ c.chain_scale-scale.ensures))
+    (scale_small c.args.outcome.now.over c.trades.result c.args.outcome.now.contracts (omega (arith, count, few))
+    c.requires.outcome.least c.requires.outcome.most)
 
 pub returns : goal.returns
 returns g c =
     let fits : SFits w128 c.chain_scale-scale.result = search rules in
-    let scale = to_z-of_z w128 c.chain_scale-scale.result fits ∙ c.chain_scale-scale.ensures ∙ ap (λ (n : ℕ). chain_scale n c.args.outcome.now.contracts) c.trades.ensures.count in
+    let scale = to_z-of_z w128 c.chain_scale-scale.result fits ∙ c.chain_scale-scale.ensures
+    ∙ ap (λ (n : ℕ). chain_scale n c.args.outcome.now.contracts) c.trades.ensures.count in
     three_ok _ _ _ _ c.residual.result
-    (is_residual (party_firm g.V.Valuation) (party_limit g.V.Valuation) (map g.V.Valuation.firm c.args.market.now.firms) (length c.args.market.now.firms) c.args.market.now.trades
-    c.args.outcome.now.over c.args.outcome.now.contracts (to_z w128 (of_z w128 c.chain_scale-scale.result)) (sym (length-map c.args.market.now.firms g.V.Valuation.firm)) c.requires.few
+    (is_residual (party_firm g.V.Valuation) (party_limit g.V.Valuation) (map g.V.Valuation.firm c.args.market.now.firms)
+    (length c.args.market.now.firms) c.args.market.now.trades
+    c.args.outcome.now.over c.args.outcome.now.contracts (to_z w128 (of_z w128 c.chain_scale-scale.result))
+    (sym (length-map c.args.market.now.firms g.V.Valuation.firm)) c.requires.few
     c.requires.outcome scale) c.residual.ensures.firms c.residual.ensures.trades c.residual.ensures.limits

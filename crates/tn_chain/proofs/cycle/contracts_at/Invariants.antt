@@ -1,3 +1,4 @@
+-- What the loops of `contracts_at` of `src/cycle.rt` keep.
 use Rattle.tn_chain.specs.Listed.{AreAtNodes}
 use Rattle.tn_chain.proofs.cycle.contracts_at.Given as goal
 

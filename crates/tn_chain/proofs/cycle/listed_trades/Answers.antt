@@ -1,3 +1,4 @@
+-- What shows the clauses of `listed_trades` of `src/cycle.rt`.
 use Rattle.std.proofs.Common.{◌≡◌, ℕ, arith, subst}
 use Rattle.tn_chain.specs.Listed.{HasNodes}
 use Rattle.tn_chain.proofs.CycleLemmas.{no_nodes, one_node}
@@ -8,7 +9,8 @@ loop-k-init c = no_nodes c.args.null c.args.finder.now.listed c.empty-trades.res
 
 pub loop-k-preserved : goal.loop-k-preserved
 loop-k-preserved c =
-    one_node c.args.null c.args.finder.now.listed c.loop-k.k c.at.result c.loop-k.trades c.toggle_trade.new.set c.requires.different c.loop-k.invariant c.at.ensures c.toggle_trade.ensures
+    one_node c.args.null c.args.finder.now.listed c.loop-k.k c.at.result c.loop-k.trades c.toggle_trade.new.set
+    c.requires.different c.loop-k.invariant c.at.ensures c.toggle_trade.ensures
 
 pub returns : goal.returns
 returns c =

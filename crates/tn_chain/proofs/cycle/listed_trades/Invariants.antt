@@ -1,3 +1,4 @@
+-- What the loops of `listed_trades` of `src/cycle.rt` keep.
 use Rattle.tn_chain.specs.Listed.{HasNodes}
 use Rattle.tn_chain.proofs.cycle.listed_trades.Given as goal
 

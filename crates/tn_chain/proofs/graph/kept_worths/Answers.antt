@@ -1,3 +1,4 @@
+-- What shows the clauses of `kept_worths` of `src/graph.rt`.
 use Rattle.std.proofs.Common.{map, arith}
 use Rattle.std.proofs.lemmas.List.{length-map}
 use Rattle.tn_chain.proofs.CostLemmas.{one_kept, all_kept, item_kept}
@@ -5,9 +6,11 @@ use Rattle.tn_chain.proofs.graph.kept_worths.Goals as goal
 
 pub loop-f-preserved : goal.loop-f-preserved
 loop-f-preserved g c =
-    one_kept (map g.V.Valuation.firm c.args.market.now.firms) c.args.market.now.trades c.args.outcome.now.over c.args.outcome.now.contracts c.loop-f.f c.loop-f.kept.items
+    one_kept (map g.V.Valuation.firm c.args.market.now.firms) c.args.market.now.trades c.args.outcome.now.over
+    c.args.outcome.now.contracts c.loop-f.f c.loop-f.kept.items
     c.push.new.self.items c.kept_worth.result c.loop-f.invariant c.in_ok-push.ensures.items
-    (item_kept g.V.Valuation.firm c.args.market.now.firms c.args.market.now.trades c.args.outcome.now.over c.args.outcome.now.contracts c.loop-f.f c.kept_worth.result c.kept_worth.ensures.worth)
+    (item_kept g.V.Valuation.firm c.args.market.now.firms c.args.market.now.trades c.args.outcome.now.over
+    c.args.outcome.now.contracts c.loop-f.f c.kept_worth.result c.kept_worth.ensures.worth)
 
 pub returns : goal.returns
 returns g c =
@@ -15,5 +18,6 @@ returns g c =
     let end = c.loop-f.auto.f-end in
     let count = c.firms-f-end.ensures.count in
     let mapped = length-map c.args.market.now.firms g.V.Valuation.firm in
-    all_kept (map g.V.Valuation.firm c.args.market.now.firms) c.args.market.now.trades c.args.outcome.now.over c.args.outcome.now.contracts c.loop-f.f c.loop-f.kept.items
+    all_kept (map g.V.Valuation.firm c.args.market.now.firms) c.args.market.now.trades c.args.outcome.now.over
+    c.args.outcome.now.contracts c.loop-f.f c.loop-f.kept.items
     (omega (arith, test, end, count, mapped)) c.loop-f.invariant

@@ -1,3 +1,4 @@
+-- What shows the clauses of `reduced_graph` of `src/graph.rt`.
 use Rattle.std.proofs.Common.{ℕ, ◌+◌, map, length, arith, subst}
 use Rattle.tn_graph.specs.Reading.{IsWithoutArcs}
 use Rattle.tn_chain.specs.Limits.{most_reduced_cost}
@@ -9,7 +10,8 @@ use Rattle.tn_chain.proofs.graph.reduced_graph.Goals as goal
 pub loop-u-init : goal.loop-u-init
 loop-u-init g c =
     let count = c.trades-nodes.ensures.count in
-    none_written (reduced_arc (map g.V.Valuation.firm c.args.market.now.firms) c.args.market.now.trades c.args.outcome.now.over c.args.outcome.now.contracts) (length c.args.market.now.trades + 1) c.in_ok-graph.graph
+    none_written (reduced_arc (map g.V.Valuation.firm c.args.market.now.firms) c.args.market.now.trades
+    c.args.outcome.now.over c.args.outcome.now.contracts) (length c.args.market.now.trades + 1) c.in_ok-graph.graph
     (subst (λ (n : ℕ). IsWithoutArcs (n + 1) c.in_ok-graph.graph) count c.in_ok-graph.ensures)
 
 pub write_row-requires-clause-written : goal.write_row-requires-clause-written
@@ -22,11 +24,14 @@ pub returns-clause-graph : goal.returns-clause-graph
 returns-clause-graph g c =
     let test = c.loop-u-test.false in
     let count = c.trades-nodes.ensures.count in
-    all_written (reduced_firms c.args.market.now.trades c.args.outcome.now.over c.args.outcome.now.contracts (map g.V.Valuation.firm c.args.market.now.firms)) c.args.market.now.trades 0
+    all_written (reduced_firms c.args.market.now.trades c.args.outcome.now.over c.args.outcome.now.contracts
+    (map g.V.Valuation.firm c.args.market.now.firms)) c.args.market.now.trades 0
     c.loop-u.u c.loop-u.graph c.loop-u.invariant (omega (arith, test, count))
 
 pub returns-clause-small : goal.returns-clause-small
 returns-clause-small g c =
-    small_graph (reduced_arc (map g.V.Valuation.firm c.args.market.now.firms) c.args.market.now.trades c.args.outcome.now.over c.args.outcome.now.contracts) most_reduced_cost c.loop-u.graph
-    (reduced_arcs_small g.V.Valuation.firm g.V.Valuation.limit c.args.market.now c.args.outcome.now.over c.args.outcome.now.contracts c.trades-nodes.ensures.network c.requires.limits
+    small_graph (reduced_arc (map g.V.Valuation.firm c.args.market.now.firms) c.args.market.now.trades
+    c.args.outcome.now.over c.args.outcome.now.contracts) most_reduced_cost c.loop-u.graph
+    (reduced_arcs_small g.V.Valuation.firm g.V.Valuation.limit c.args.market.now c.args.outcome.now.over
+    c.args.outcome.now.contracts c.trades-nodes.ensures.network c.requires.limits
     c.requires.outcome (λ v. (g.met.V.Valuation.lawful v).within)) (returns-clause-graph g c).arcs

@@ -1,3 +1,4 @@
+-- What shows the clauses of `write_row` of `src/graph.rt`.
 use Rattle.std.proofs.Common.{◌+◌, map, length, arith}
 use Rattle.tn_market.specs.Reduced.{reduced_arc}
 use Rattle.tn_chain.proofs.MoveLemmas.{reduced_arcs_small}
@@ -22,17 +23,24 @@ set-requires-clause-to g c =
 
 pub set-requires-clause-small : goal.set-requires-clause-small
 set-requires-clause-small g c =
-    cost_small (reduced_arc (map g.V.Valuation.firm c.args.market.now.firms) c.args.market.now.trades c.args.outcome.now.over c.args.outcome.now.contracts)
-    (reduced_arcs_small g.V.Valuation.firm g.V.Valuation.limit c.args.market.now c.args.outcome.now.over c.args.outcome.now.contracts c.requires.network c.requires.limits c.requires.outcome
-    (λ v. (g.met.V.Valuation.lawful v).within)) c.args.u c.loop-v.v c.reduced_cost-cost.result c.reduced_cost-cost.ensures.cost
+    cost_small (reduced_arc (map g.V.Valuation.firm c.args.market.now.firms) c.args.market.now.trades
+    c.args.outcome.now.over c.args.outcome.now.contracts)
+    (reduced_arcs_small g.V.Valuation.firm g.V.Valuation.limit c.args.market.now c.args.outcome.now.over
+    c.args.outcome.now.contracts c.requires.network c.requires.limits c.requires.outcome
+    (λ v. (g.met.V.Valuation.lawful v).within)) c.args.u c.loop-v.v c.reduced_cost-cost.result
+    c.reduced_cost-cost.ensures.cost
 
 pub loop-v-preserved : goal.loop-v-preserved
 loop-v-preserved g c =
-    one_written (reduced_arc (map g.V.Valuation.firm c.args.market.now.firms) c.args.market.now.trades c.args.outcome.now.over c.args.outcome.now.contracts) (length c.args.market.now.trades + 1) c.args.u c.loop-v.v c.loop-v.graph c.set.new.self c.reduced_cost-cost.result
+    one_written (reduced_arc (map g.V.Valuation.firm c.args.market.now.firms) c.args.market.now.trades
+    c.args.outcome.now.over c.args.outcome.now.contracts) (length c.args.market.now.trades + 1) c.args.u c.loop-v.v
+    c.loop-v.graph c.set.new.self c.reduced_cost-cost.result
     c.loop-v.invariant c.set.ensures c.reduced_cost-cost.ensures.cost
 
 pub returns : goal.returns
 returns g c =
     let test = c.loop-v-test.false in
     let count = c.trades-v-end.ensures.count in
-    row_written (reduced_arc (map g.V.Valuation.firm c.args.market.now.firms) c.args.market.now.trades c.args.outcome.now.over c.args.outcome.now.contracts) (length c.args.market.now.trades + 1) c.args.u c.loop-v.v c.loop-v.graph c.loop-v.invariant (omega (arith, test, count))
+    row_written (reduced_arc (map g.V.Valuation.firm c.args.market.now.firms) c.args.market.now.trades
+    c.args.outcome.now.over c.args.outcome.now.contracts) (length c.args.market.now.trades + 1) c.args.u c.loop-v.v
+    c.loop-v.graph c.loop-v.invariant (omega (arith, test, count))

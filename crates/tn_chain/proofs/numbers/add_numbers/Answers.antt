@@ -1,3 +1,4 @@
+-- What shows the clauses of `add_numbers` of `src/numbers.rt`.
 use Rattle.std.proofs.Common.{◌≡◌, ℕ, arith, subst}
 use Rattle.tn_chain.specs.Numbers.{AreNumbersUpTo}
 use Rattle.tn_chain.proofs.NumberLemmas.{none_added, one_added}
@@ -7,7 +8,9 @@ pub loop-s-init : goal.loop-s-init
 loop-s-init c = none_added c.args.numbers.now c.args.from c.requires.none
 
 pub loop-s-preserved : goal.loop-s-preserved
-loop-s-preserved c = one_added c.args.numbers.now c.args.from c.loop-s.s c.loop-s.numbers c.toggle.new.self c.loop-s.auto.s c.loop-s.invariant c.toggle.ensures.toggled
+loop-s-preserved c =
+    one_added c.args.numbers.now c.args.from c.loop-s.s c.loop-s.numbers c.toggle.new.self c.loop-s.auto.s
+    c.loop-s.invariant c.toggle.ensures.toggled
 
 pub returns : goal.returns
 returns c =

@@ -1,3 +1,4 @@
+-- What the loops of `add_numbers` of `src/numbers.rt` keep.
 use Rattle.tn_chain.specs.Numbers.{AreNumbersUpTo}
 use Rattle.tn_chain.proofs.numbers.add_numbers.Given as goal
 

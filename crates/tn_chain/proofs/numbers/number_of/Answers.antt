@@ -1,3 +1,4 @@
+-- What shows the clauses of `number_of` of `src/numbers.rt`.
 use Rattle.std.proofs.Common.{arith}
 use Rattle.tn_chain.proofs.NumberLemmas.{number_small}
 use Rattle.tn_chain.proofs.numbers.number_of.Goals as goal

@@ -1,3 +1,4 @@
+-- What the loops of `numbers_of` of `src/numbers.rt` keep.
 use Rattle.tn_chain.specs.Numbers.{AreNumbers}
 use Rattle.tn_chain.proofs.numbers.numbers_of.Given as goal
 

@@ -1,3 +1,4 @@
+-- What shows the clauses of `trades_numbered` of `src/numbers.rt`.
 use Rattle.std.proofs.Common.{◌≡◌, ◌∙◌, ℕ, ap, arith, Bool}
 use Rattle.tn_base.specs.Sets.{set_of}
 use Rattle.tn_residual.specs.Residual.{unsigned_part}
@@ -11,7 +12,8 @@ loop-t-init c = c.empty-trades.ensures
 
 pub loop-t-preserved : goal.loop-t-preserved
 loop-t-preserved c =
-    part_more c.args.contracts.now c.loop-t.t c.args.numbers.now c.loop-t.trades c.toggle_if.new.set c.number_of.result c.loop-t.invariant c.number_of.ensures.number
+    part_more c.args.contracts.now c.loop-t.t c.args.numbers.now c.loop-t.trades c.toggle_if.new.set c.number_of.result
+    c.loop-t.invariant c.number_of.ensures.number
     (c.toggle_if.ensures ∙ ap (λ (b : Bool). toggled_if b c.loop-t.trades c.loop-t.t) c.is_among-on.ensures)
 
 pub returns : goal.returns

@@ -1,3 +1,4 @@
+-- What the loops of `trades_numbered` of `src/numbers.rt` keep.
 use Rattle.std.proofs.Common.{◌≡◌}
 use Rattle.tn_residual.specs.Residual.{unsigned_part}
 use Rattle.tn_chain.proofs.numbers.trades_numbered.Given as goal

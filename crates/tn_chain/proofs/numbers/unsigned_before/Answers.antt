@@ -1,3 +1,4 @@
+-- What shows the clauses of `unsigned_before` of `src/numbers.rt`.
 use Rattle.std.proofs.Common.{◌≡◌, ◌∙◌, ap, arith}
 use Rattle.tn_residual.specs.Residual.{number_from}
 use Rattle.tn_residual.proofs.MakingLemmas.{priced_or_not}
@@ -14,8 +15,10 @@ one_more_if-number-requires c =
 
 pub loop-i-preserved : goal.loop-i-preserved
 loop-i-preserved c =
-    number_more c.args.contracts.now c.loop-i.i c.loop-i.number c.one_more_if-number.result c.is_none.result c.loop-i.invariant
-    (priced_or_not c.args.contracts.now c.loop-i.i c.contract_price.result c.is_none.result c.contract_price.ensures c.is_none.ensures) c.one_more_if-number.ensures
+    number_more c.args.contracts.now c.loop-i.i c.loop-i.number c.one_more_if-number.result c.is_none.result
+    c.loop-i.invariant
+    (priced_or_not c.args.contracts.now c.loop-i.i c.contract_price.result c.is_none.result c.contract_price.ensures
+    c.is_none.ensures) c.one_more_if-number.ensures
 
 pub returns : goal.returns
 returns c =

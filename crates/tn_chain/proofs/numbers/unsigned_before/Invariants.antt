@@ -1,3 +1,4 @@
+-- What the loops of `unsigned_before` of `src/numbers.rt` keep.
 use Rattle.std.proofs.Common.{◌≡◌}
 use Rattle.tn_residual.specs.Residual.{number_from}
 use Rattle.tn_chain.proofs.numbers.unsigned_before.Given as goal

@@ -1,3 +1,4 @@
+-- What shows the clauses of `unsigned_trades` of `src/numbers.rt`.
 use Rattle.std.proofs.Common.{◌≡◌, ◌∙◌, ℕ, ap, arith}
 use Rattle.tn_base.specs.Sets.{set_of}
 use Rattle.tn_residual.specs.Residual.{unsigned}
@@ -11,8 +12,10 @@ loop-t-init c = c.empty-unsigned.ensures
 
 pub loop-t-preserved : goal.loop-t-preserved
 loop-t-preserved c =
-    unsigned_more c.args.contracts.now c.loop-t.t c.loop-t.unsigned c.toggle_if.new.set c.is_none.result c.loop-t.invariant
-    (priced_or_not c.args.contracts.now c.loop-t.t c.contract_price.result c.is_none.result c.contract_price.ensures c.is_none.ensures) c.toggle_if.ensures
+    unsigned_more c.args.contracts.now c.loop-t.t c.loop-t.unsigned c.toggle_if.new.set c.is_none.result
+    c.loop-t.invariant
+    (priced_or_not c.args.contracts.now c.loop-t.t c.contract_price.result c.is_none.result c.contract_price.ensures
+    c.is_none.ensures) c.toggle_if.ensures
 
 pub returns : goal.returns
 returns c =

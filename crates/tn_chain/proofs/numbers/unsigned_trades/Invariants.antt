@@ -1,3 +1,4 @@
+-- What the loops of `unsigned_trades` of `src/numbers.rt` keep.
 use Rattle.std.proofs.Common.{◌≡◌}
 use Rattle.tn_residual.specs.Residual.{unsigned}
 use Rattle.tn_chain.proofs.numbers.unsigned_trades.Given as goal

@@ -1,3 +1,4 @@
+-- What the loops of `admitted_prices` of `src/editing.rt` keep.
 use Rattle.std.proofs.Common.{◌≡◌}
 use Rattle.tn_plain_data.specs.Prices.{price_at}
 use Rattle.tn_plain_data.specs.Choices.{contracts_of}

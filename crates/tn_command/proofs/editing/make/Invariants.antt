@@ -1,3 +1,4 @@
+-- What the loops of `make` of `src/editing.rt` keep.
 use Rattle.std.proofs.Common.{take}
 use Rattle.tn_command.proofs.EditLemmas.{AreBelowAfter}
 use Rattle.tn_command.proofs.editing.make.Given as goal

@@ -1,3 +1,4 @@
+-- What shows the clauses of `put` of `src/editing.rt`.
 use Rattle.std.proofs.Common.{◌≡◌, ℕ, arith, subst, sym}
 use Rattle.tn_base.specs.Sets.{has}
 use Rattle.tn_base.proofs.SetLemmas.{has-toggle_other, has-toggle_same}
@@ -13,4 +14,5 @@ returns-then-has-is_in-clause-here c =
 
 pub returns-then-has-is_in-clause-elsewhere : goal.returns-then-has-is_in-clause-elsewhere
 returns-then-has-is_in-clause-elsewhere c = λ k apart.
-    subst (λ (set : ℕ). has set k ≡ has c.args.set.now k) (sym c.toggle.ensures.toggled) (has-toggle_other c.args.set.now c.args.t k apart)
+    subst (λ (set : ℕ). has set k ≡ has c.args.set.now k) (sym c.toggle.ensures.toggled)
+    (has-toggle_other c.args.set.now c.args.t k apart)

@@ -1,3 +1,4 @@
+-- What the loops of `states_after` of `src/editing.rt` keep.
 use Rattle.std.proofs.Common.{take, All}
 use Rattle.tn_answer.specs.Kept.{IsWithinState}
 use Rattle.tn_command.specs.Edited.{StandsAfter}
@@ -6,4 +7,6 @@ use Rattle.tn_command.proofs.editing.states_after.Given as goal
 
 abbrev pub invariant-loop-k : goal.invariant-loop-k
 invariant-loop-k l =
-    AreStatesBefore l.market.firms l.market.trades l.edits l.k l.states.items × StandsAfter l.market.firms l.market.trades (take l.k l.edits) l.kept l.session × All IsWithinState l.states.items
+    AreStatesBefore l.market.firms l.market.trades l.edits l.k l.states.items
+    × StandsAfter l.market.firms l.market.trades (take l.k l.edits) l.kept l.session
+    × All IsWithinState l.states.items

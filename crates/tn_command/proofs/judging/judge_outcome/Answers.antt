@@ -1,3 +1,4 @@
+-- What shows the clauses of `judge_outcome` of `src/judging.rt`.
 use Rattle.std.proofs.Common.{◌≡◌, map, subst, arith, to_z, of_z}
 use Rattle.std.specs.Int.{w128}
 use Rattle.std.proofs.lemmas.Int.{ints}
@@ -19,7 +20,8 @@ returns-in-Drops-clause-answer c =
     let high = c.requires.outcome.most in (
       c.in-Drops.keeps,
       first,
-      drop_keeps firms trades over contracts c.in-Drops.firm c.in-Drops.keeps c.in-Drops.gain c.in_ok-keeps-in-Drops.keeps first c.in_ok-keeps-in-Drops.ensures,
+      drop_keeps firms trades over contracts c.in-Drops.firm c.in-Drops.keeps c.in-Drops.gain
+          c.in_ok-keeps-in-Drops.keeps first c.in_ok-keeps-in-Drops.ensures,
       omega (arith, ints, low, high),
     )
 
@@ -33,7 +35,8 @@ returns-in-Drops-clause-within c =
     let low = c.requires.outcome.least in
     let high = c.requires.outcome.most in
     let same : to_z w128 (of_z w128 over) ≡ over = omega (arith, ints, low, high) in (
-      drop_small firms trades over contracts c.in-Drops.firm c.in-Drops.keeps c.in-Drops.gain c.requires.outcome c.requires.wide first,
+      drop_small firms trades over contracts c.in-Drops.firm c.in-Drops.keeps c.in-Drops.gain c.requires.outcome
+          c.requires.wide first,
       record { low = omega (arith, ints, low, same); high = omega (arith, ints, high, same) },
     )
 
@@ -43,13 +46,15 @@ returns-in-Completes-clause-answer c =
     let trades = c.args.market.now.trades in
     let over = c.args.outcome.now.over in
     let contracts = c.args.outcome.now.contracts in
-    let completed = subst (JudgesContracts (map firm_of firms) trades over contracts) c.in-Completes.is c.in_ok-firm.ensures in
+    let completed =
+    subst (JudgesContracts (map firm_of firms) trades over contracts) c.in-Completes.is c.in_ok-firm.ensures in
     let low = c.requires.outcome.least in
     let high = c.requires.outcome.most in (
       completed.0,
       completed.1,
       omega (arith, ints, low, high),
-      completed_lasts (map firm_of firms) trades over contracts (price_at c.in-Completes.prices) c.trades-count.ensures.network c.requires.outcome completed.1.completes,
+      completed_lasts (map firm_of firms) trades over contracts (price_at c.in-Completes.prices)
+          c.trades-count.ensures.network c.requires.outcome completed.1.completes,
     )
 
 pub returns-clause-within : goal.returns-clause-within
@@ -58,8 +63,10 @@ returns-clause-within c =
     let trades = c.args.market.now.trades in
     let over = c.args.outcome.now.over in
     let contracts = c.args.outcome.now.contracts in
-    let blocked = subst (JudgesContracts (map firm_of firms) trades over contracts) c.in-Blocks.is c.in_ok-firm.ensures in
-    let small = blocking_over_small (map firm_of firms) trades over contracts c.in-Blocks.contracts c.in-Blocks.over c.requires.outcome c.requires.wide blocked in
+    let blocked = subst (JudgesContracts (map firm_of firms) trades over contracts) c.in-Blocks.is c.in_ok-firm.ensures
+    in
+    let small = blocking_over_small (map firm_of firms) trades over contracts c.in-Blocks.contracts c.in-Blocks.over
+    c.requires.outcome c.requires.wide blocked in
     let low = small.low in
     let high = small.high in
     let same : to_z w128 (of_z w128 c.in-Blocks.over) ≡ c.in-Blocks.over = omega (arith, ints, low, high) in (

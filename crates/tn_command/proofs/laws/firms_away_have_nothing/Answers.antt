@@ -1,3 +1,4 @@
+-- What shows the clauses of `firms_away_have_nothing` of `src/laws.rt`.
 use Rattle.tn_command.proofs.AwayLemmas.{firms_away_have_nothing}
 use Rattle.tn_command.proofs.laws.firms_away_have_nothing.Goals as goal
 

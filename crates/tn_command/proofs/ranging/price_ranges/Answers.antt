@@ -1,13 +1,18 @@
+-- What shows the clauses of `price_ranges` of `src/ranging.rt`.
 use Rattle.tn_plain_data.specs.Prices.{price_at}
 use Rattle.tn_command.proofs.RangeLemmas.{ranged_from, ranges_small}
 use Rattle.tn_command.proofs.ranging.price_ranges.Goals as goal
 
 pub returns-clause-answer : goal.returns-clause-answer
 returns-clause-answer c = (
-  ranged_from c.args.market.now.firms c.args.market.now.trades c.in_ok-at.at.on c.in_ok-trades_on.field-0 (price_at c.in_ok-at.at.prices) c.in_ok-ranges.ranges c.trades.result
-      c.trades.ensures.network c.trades.ensures.count c.in_ok-trades_on.ensures c.in_ok-at.ensures.equilibrium c.in_ok-ranges.ensures.ranges,
+  ranged_from c.args.market.now.firms c.args.market.now.trades c.in_ok-at.at.on c.in_ok-trades_on.field-0
+      (price_at c.in_ok-at.at.prices) c.in_ok-ranges.ranges c.trades.result
+      c.trades.ensures.network c.trades.ensures.count c.in_ok-trades_on.ensures c.in_ok-at.ensures.equilibrium
+      c.in_ok-ranges.ensures.ranges,
   c.in_ok-ends.ensures,
 )
 
 pub returns-clause-within : goal.returns-clause-within
-returns-clause-within c = ranges_small c.args.market.now.firms c.args.market.now.trades c.in_ok-at.at.on c.in_ok-ranges.ranges c.trades.ensures.network c.requires.wide c.in_ok-ranges.ensures.ranges
+returns-clause-within c =
+    ranges_small c.args.market.now.firms c.args.market.now.trades c.in_ok-at.at.on c.in_ok-ranges.ranges
+    c.trades.ensures.network c.requires.wide c.in_ok-ranges.ensures.ranges

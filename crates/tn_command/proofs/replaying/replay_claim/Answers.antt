@@ -1,3 +1,4 @@
+-- What shows the clauses of `replay_claim` of `src/replaying.rt`.
 use Rattle.std.proofs.Common.{map, subst, arith}
 use Rattle.tn_cert.specs.Replays.{Replays}
 use Rattle.tn_firm.specs.Firms.{firm_of}
@@ -10,7 +11,8 @@ returns-clause-within c =
     let firms = c.args.market.now.firms in
     let trades = c.args.market.now.trades in
     let few = c.requires.few_firms in
-    reason_small firms trades c.args.claim.now c.in-Invalid.reason (omega (arith, few)) c.trades-count.ensures.network c.requires.claim
+    reason_small firms trades c.args.claim.now c.in-Invalid.reason (omega (arith, few)) c.trades-count.ensures.network
+    c.requires.claim
     (subst (Replays (map firm_of firms) trades c.args.claim.now) c.in-Invalid.is c.in_ok-replay.ensures)
 
 pub returns-in-Valid-clause-answer : goal.returns-in-Valid-clause-answer

@@ -1,3 +1,4 @@
+-- What shows the clauses of `ends_of` of `src/solving.rt`.
 use Rattle.std.proofs.Common.{[], ◌∷◌, ◌++◌, ap, sym, ◌∙◌, arith, take, add-one}
 use Rattle.tn_answer.proofs.MapLemmas.{take-suc-at, take-whole}
 use Rattle.tn_command.proofs.solving.ends_of.Goals as goal
@@ -5,7 +6,9 @@ use Rattle.tn_command.proofs.solving.ends_of.Goals as goal
 pub loop-t-preserved : goal.loop-t-preserved
 loop-t-preserved c =
     let trades = c.args.market.now.trades in
-    c.in_ok-push.ensures.items ∙ (λ i. c.loop-t.invariant i ++ c.ends.result ∷ []) ∙ sym (take-suc-at trades c.loop-t.t c.ends.result c.ends.ensures) ∙ ap (λ n. take n trades) (sym (add-one c.loop-t.t))
+    c.in_ok-push.ensures.items ∙ (λ i. c.loop-t.invariant i ++ c.ends.result ∷ [])
+    ∙ sym (take-suc-at trades c.loop-t.t c.ends.result c.ends.ensures)
+    ∙ ap (λ n. take n trades) (sym (add-one c.loop-t.t))
 
 pub returns : goal.returns
 returns c =

@@ -1,3 +1,4 @@
+-- What shows the clauses of `equilibrium` of `src/solving.rt`.
 use Rattle.std.proofs.Common.{ℕ, ℤ, ◌+◌, ◌*◌, ◌≤◌, List, pos, arith, length, map, sym, subst, ap, ◌∙◌}
 use Rattle.std.specs.Prelude.{All}
 use Rattle.tn_base.specs.Arcs.{IsAtMost}
@@ -15,14 +16,18 @@ few : (trades : ℕ) → trades ≤ most_answered_trades → 2 * most_worth * (t
 few trades most = omega (arith, most)
 
 pub solve_in-requires : goal.solve_in-requires
-solve_in-requires c = (omega arith, (c.requires, (c.in_ok-solver.ensures.one_each, (λ f v is. few (length c.args.market.now.trades) c.requires))))
+solve_in-requires c = (
+  omega arith,
+  (c.requires, (c.in_ok-solver.ensures.one_each, (λ f v is. few (length c.args.market.now.trades) c.requires))),
+)
 
 pub returns-clause-equilibrium : goal.returns-clause-equilibrium
 returns-clause-equilibrium c =
     let firms = map firm_of c.args.market.now.firms in
     let trades = c.args.market.now.trades in
     subst (λ (on : ℕ). IsEquilibrium firms trades (pos 1) on (price_at c.in_ok-prices_of.field-0)) (sym c.on.ensures)
-    (subst (λ (prices : List ℤ). IsEquilibrium firms trades (pos 1) c.solve_in.new.self.on (price_at prices)) (sym c.in_ok-prices_of.ensures) c.solve_in.ensures.equilibrium)
+    (subst (λ (prices : List ℤ). IsEquilibrium firms trades (pos 1) c.solve_in.new.self.on (price_at prices))
+    (sym c.in_ok-prices_of.ensures) c.solve_in.ensures.equilibrium)
 
 pub returns-clause-one_each : goal.returns-clause-one_each
 returns-clause-one_each c = ap length c.in_ok-prices_of.ensures ∙ c.solve_in.ensures.one_each
@@ -30,4 +35,5 @@ returns-clause-one_each c = ap length c.in_ok-prices_of.ensures ∙ c.solve_in.e
 pub returns-clause-small : goal.returns-clause-small
 returns-clause-small c =
     subst (λ (prices : List ℤ). All (λ p. IsAtMost p most_price) prices) (sym c.in_ok-prices_of.ensures)
-    (small_prices (length c.args.market.now.trades) c.solve_in.new.self.prices c.requires (c.solve_in.ensures.prices most_worth (λ f v is. omega arith)))
+    (small_prices (length c.args.market.now.trades) c.solve_in.new.self.prices c.requires
+    (c.solve_in.ensures.prices most_worth (λ f v is. omega arith)))

@@ -1,3 +1,4 @@
+-- What the loops of `prices_of` of `src/solving.rt` keep.
 use Rattle.std.proofs.Common.{◌≡◌, take}
 use Rattle.tn_command.proofs.solving.prices_of.Given as goal
 

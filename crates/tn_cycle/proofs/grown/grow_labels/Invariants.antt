@@ -1,3 +1,4 @@
+-- What the loops of `grow_labels` of `src/grown.rt` keep.
 use Rattle.std.proofs.Common.{◌-◌, ◌*◌}
 use Rattle.tn_base.specs.Walks.{arcs_among, KeepsArcs}
 use Rattle.tn_cycle.specs.Answers.{AreNear, label_in}

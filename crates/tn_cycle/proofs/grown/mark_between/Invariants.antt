@@ -1,3 +1,4 @@
+-- What the loops of `mark_between` of `src/grown.rt` keep.
 use Rattle.std.proofs.Common.{◌≡◌, ℕ, ◌<◌}
 use Rattle.tn_cycle.specs.Graphs.{is_between}
 use Rattle.tn_cycle.specs.Kept.{flag_at}

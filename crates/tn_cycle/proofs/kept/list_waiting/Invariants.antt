@@ -1,3 +1,4 @@
+-- What the loops of `list_waiting` of `src/kept.rt` keep.
 use Rattle.std.proofs.Common.{◌≤◌}
 use Rattle.tn_cycle.specs.Kept.{AreWaiting, flag_at}
 use Rattle.tn_cycle.proofs.kept.list_waiting.Given as goal

@@ -1,3 +1,4 @@
+-- What shows the clauses of `nearer` of `src/kept.rt`.
 use Rattle.std.proofs.Common.{ℤ, subst, rules}
 use Rattle.std.proofs.lemmas.Int.{to_z-of_z}
 use mir.Syntax.{w128}
@@ -30,5 +31,7 @@ returns-in_default-best c =
     let no = c.is_not_after.ensures.no c.if-is_not_after.false in
     let before = simp to_z-of_z at no in
     let key_is = simp to_z-of_z at c.key.ensures in
-    simp to_z-of_z (nearer_taken c.args.best c.args.place c.args.own c.args.label c.in-Some.cost c.key.result c.in-Some.is key_is
-    (λ other is. subst (λ (n : Near). IsNotAfter c.key.result c.args.own.round n.key n.round) (same_near c.args.best near other c.in-Some-best.is is) before))
+    simp to_z-of_z (nearer_taken c.args.best c.args.place c.args.own c.args.label c.in-Some.cost c.key.result
+    c.in-Some.is key_is
+    (λ other is. subst (λ (n : Near). IsNotAfter c.key.result c.args.own.round n.key n.round)
+    (same_near c.args.best near other c.in-Some-best.is is) before))

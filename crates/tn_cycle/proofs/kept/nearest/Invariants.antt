@@ -1,3 +1,4 @@
+-- What the loops of `nearest` of `src/kept.rt` keep.
 use Rattle.tn_cycle.specs.Answers.{label_in}
 use Rattle.tn_cycle.specs.Cells.{cell_at}
 use Rattle.tn_cycle.specs.Kept.{IsNearest, cell_by, every, label_by}

@@ -1,3 +1,4 @@
+-- What shows the clauses of `next_place` of `src/kept.rt`.
 use Rattle.std.proofs.Common.{ℤ, subst, rules}
 use Rattle.std.proofs.lemmas.Int.{to_z-of_z}
 use mir.Syntax.{w128}
@@ -28,5 +29,6 @@ returns-then-is_past c =
     let yes = c.is_past.ensures c.if-is_past.true in
     let past : IsPast c.args.sought own c.over.result near.round = simp to_z-of_z at yes in
     let over_is = simp to_z-of_z at c.over.ensures in
-    past_all c.args.count c.args.base c.args.sought (label_by (label_in c.args.labels.now) c.args.list.now) (cell_by (cell_at c.args.row.now) c.args.list.now) own every near.place near.key near.round c.in_ok-near.ensures
+    past_all c.args.count c.args.base c.args.sought (label_by (label_in c.args.labels.now) c.args.list.now)
+    (cell_by (cell_at c.args.row.now) c.args.list.now) own every near.place near.key near.round c.in_ok-near.ensures
     (subst (λ (z : ℤ). IsPast c.args.sought own z near.round) over_is past)

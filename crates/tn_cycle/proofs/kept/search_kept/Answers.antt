@@ -1,3 +1,4 @@
+-- What shows the clauses of `search_kept` of `src/kept.rt`.
 use Rattle.std.proofs.Common.{◌≡◌, ◌≢◌, ◌+◌, ◌-◌, ◌<◌, ◌∙◌, ℕ, sym, subst, arith, true, false, length}
 use Rattle.std.proofs.lemmas.Bool.{false≢true}
 use Rattle.std.proofs.lemmas.List.{get_or-set_same, get_or-set_other}
@@ -12,17 +13,26 @@ use Rattle.tn_cycle.proofs.kept.search_kept.Goals as goal
 pub loop-settled-init : goal.loop-settled-init
 loop-settled-init g c =
     let nodes = g.C.Costs.node_count c.args.costs.now in
-    let fewer : waiting nodes (flag_at c.args.waits.now) < nodes = waiting_fewer nodes (flag_at c.args.waits.now) c.args.end c.requires.inside c.requires.shut in
+    let fewer : waiting nodes (flag_at c.args.waits.now) < nodes =
+    waiting_fewer nodes (flag_at c.args.waits.now) c.args.end c.requires.inside c.requires.shut in
     record {
-      known = begun nodes (g.C.Costs.arc c.args.costs.now) c.args.end (label_in c.args.labels.now) (cell_at c.begin.new.row) (flag_at c.args.waits.now)
-          (g.met.C.Costs.between_nodes c.args.costs.now) c.requires.shut c.requires.begins c.requires.passes c.begin.ensures;
+      known = begun nodes (g.C.Costs.arc c.args.costs.now) c.args.end (label_in c.args.labels.now)
+          (cell_at c.begin.new.row) (flag_at c.args.waits.now)
+          (g.met.C.Costs.between_nodes c.args.costs.now) c.requires.shut c.requires.begins c.requires.passes
+          c.begin.ensures;
       fewer = omega (arith, fewer);
-      listed = subst (λ (n : ℕ). AreWaiting n (flag_at c.args.waits.now) c.list_waiting-count.new.list c.list_waiting-count.result) c.nodes-nodes.ensures c.list_waiting-count.ensures.waiting;
+      listed = subst (λ (n : ℕ). AreWaiting n (flag_at c.args.waits.now) c.list_waiting-count.new.list
+          c.list_waiting-count.result) c.nodes-nodes.ensures c.list_waiting-count.ensures.waiting;
       few = omega (arith, c.list_waiting-count.ensures.few, c.nodes-nodes.ensures);
     }
 
 pub next_place-requires-clause-places : goal.next_place-requires-clause-places
-next_place-requires-clause-places g c = omega (arith, c.loop-settled.invariant.few, c.requires.places, c.loop-settled.auto.list)
+next_place-requires-clause-places g c = omega (
+  arith,
+  c.loop-settled.invariant.few,
+  c.requires.places,
+  c.loop-settled.auto.list,
+)
 
 pub next_place-requires-clause-inside : goal.next_place-requires-clause-inside
 next_place-requires-clause-inside g c i below =
@@ -34,14 +44,16 @@ next_place-requires-clause-labelled g c i below =
     let own = c.loop-settled.invariant.listed.each i below in
     let v = node_at c.loop-settled.list i in
     c.requires.labelled v own.0
-    (λ e. false≢true (sym c.loop-settled.invariant.known.shut ∙ subst (λ (z : ℕ). flag_at c.loop-settled.waits z ≡ true) e own.1))
+    (λ e. false≢true (sym c.loop-settled.invariant.known.shut
+    ∙ subst (λ (z : ℕ). flag_at c.loop-settled.waits z ≡ true) e own.1))
 
 pub next_place-requires-clause-room : goal.next_place-requires-clause-room
 next_place-requires-clause-room g c i below =
     let nodes = g.C.Costs.node_count c.args.costs.now in
     let known = c.loop-settled.invariant.known in
     let fewer : c.loop-settled.settled < nodes = omega (arith, c.loop-settled.invariant.fewer) in
-    let room = led_room nodes (g.C.Costs.arc c.args.costs.now) c.args.end (cell_at c.loop-settled.row) (g.met.C.Costs.small c.args.costs.now) c.requires.few known.leads
+    let room = led_room nodes (g.C.Costs.arc c.args.costs.now) c.args.end (cell_at c.loop-settled.row)
+    (g.met.C.Costs.small c.args.costs.now) c.requires.few known.leads
     (λ x within. omega (arith, known.few x within, fewer)) in
     room (node_at c.loop-settled.list i) (c.loop-settled.invariant.listed.each i below).0
 
@@ -50,9 +62,11 @@ offer-requires-clause-room g c =
     let nodes = g.C.Costs.node_count c.args.costs.now in
     let known = c.loop-settled.invariant.known in
     let fewer : c.loop-settled.settled < nodes = omega (arith, c.loop-settled.invariant.fewer) in
-    let room = led_room nodes (g.C.Costs.arc c.args.costs.now) c.args.end (cell_at c.loop-settled.row) (g.met.C.Costs.small c.args.costs.now) c.requires.few known.leads
+    let room = led_room nodes (g.C.Costs.arc c.args.costs.now) c.args.end (cell_at c.loop-settled.row)
+    (g.met.C.Costs.small c.args.costs.now) c.requires.few known.leads
     (λ x within. omega (arith, known.few x within, fewer)) in
-    room (node_at c.loop-settled.list c.in-Some.place) (c.loop-settled.invariant.listed.each c.in-Some.place c.in-Some.ensures.2.inside).0
+    room (node_at c.loop-settled.list c.in-Some.place) (c.loop-settled.invariant.listed.each c.in-Some.place
+    c.in-Some.ensures.2.inside).0
 
 pub loop-settled-preserved : goal.loop-settled-preserved
 loop-settled-preserved g c =
@@ -68,19 +82,32 @@ loop-settled-preserved g c =
     let listed = c.loop-settled.invariant.listed in
     let first = c.in-Some.ensures in
     let one_more : rest + 1 ≡ c.loop-settled.count = omega (arith, first.2.inside) in
-    let chosen : ComesFirst nodes label cell waits u first.0 first.1 = listed_first nodes label cell waits list c.loop-settled.count listed place first.0 first.1 first.2 in
+    let chosen : ComesFirst nodes label cell waits u first.0 first.1 =
+    listed_first nodes label cell waits list c.loop-settled.count listed place first.0 first.1 first.2 in
     let inside : u < nodes = chosen.inside in
-    let places : u < length c.loop-settled.waits = omega (arith, inside, c.loop-settled.auto.waits, c.requires.waits_sized) in
+    let places : u < length c.loop-settled.waits = omega (
+      arith,
+      inside,
+      c.loop-settled.auto.waits,
+      c.requires.waits_sized,
+    ) in
     let closed : now u ≡ false = get_or-set_same c.loop-settled.waits u false false places in
-    let others : (v : ℕ) → v ≢ u → now v ≡ waits v = λ v other. get_or-set_other c.loop-settled.waits u v false false other in
-    let less : waiting nodes now + 1 ≡ waiting nodes waits = waiting_less nodes waits now u inside chosen.waiting closed others in
+    let others : (v : ℕ) → v ≢ u
+    → now v ≡ waits v = λ v other. get_or-set_other c.loop-settled.waits u v false false other in
+    let less : waiting nodes now + 1 ≡ waiting nodes waits =
+    waiting_less nodes waits now u inside chosen.waiting closed others in
     let left : AreWaiting nodes now (lib.ListN.set list place (node_at list rest)) rest =
-    taken_out nodes waits now list place rest (subst (AreWaiting nodes waits list) (sym one_more) listed) (omega (arith, one_more, first.2.inside))
-    (omega (arith, one_more, c.loop-settled.invariant.few, c.requires.places, c.loop-settled.auto.list)) closed others in
+    taken_out nodes waits now list place rest (subst (AreWaiting nodes waits list) (sym one_more) listed)
+    (omega (arith, one_more, first.2.inside))
+    (omega (arith, one_more, c.loop-settled.invariant.few, c.requires.places, c.loop-settled.auto.list)) closed others
+    in
     record {
-      known = known_next nodes (g.C.Costs.arc c.args.costs.now) c.args.end label (g.met.C.Costs.between_nodes c.args.costs.now) c.requires.keeps
-          cell (cell_at c.offer.new.row) waits now c.loop-settled.settled u first.0 first.1 c.loop-settled.invariant.known chosen closed others
-          (listed_after nodes (g.C.Costs.arc c.args.costs.now) c.args.end u now (lib.ListN.set list place (node_at list rest)) rest cell (cell_at c.offer.new.row) left c.offer.ensures);
+      known = known_next nodes (g.C.Costs.arc c.args.costs.now) c.args.end label
+          (g.met.C.Costs.between_nodes c.args.costs.now) c.requires.keeps
+          cell (cell_at c.offer.new.row) waits now c.loop-settled.settled u first.0 first.1
+          c.loop-settled.invariant.known chosen closed others
+          (listed_after nodes (g.C.Costs.arc c.args.costs.now) c.args.end u now
+          (lib.ListN.set list place (node_at list rest)) rest cell (cell_at c.offer.new.row) left c.offer.ensures);
       fewer = omega (arith, less, c.loop-settled.invariant.fewer);
       listed = left;
       few = omega (arith, one_more, c.loop-settled.invariant.few);

@@ -1,3 +1,4 @@
+-- What the loops of `search_kept` of `src/kept.rt` keep.
 use Rattle.std.proofs.Common.{◌+◌, ◌<◌, ◌≤◌}
 use Rattle.tn_cycle.specs.Answers.{label_in}
 use Rattle.tn_cycle.specs.Cells.{cell_at}
@@ -7,7 +8,8 @@ use Rattle.tn_cycle.proofs.kept.search_kept.Given as goal
 
 abbrev pub invariant-loop-settled : goal.invariant-loop-settled
 invariant-loop-settled g l = record {
-  known : IsUnderWay (g.C.Costs.node_count l.costs) (g.C.Costs.arc l.costs) l.end (label_in l.labels) (cell_at l.row) (flag_at l.waits) l.settled;
+  known : IsUnderWay (g.C.Costs.node_count l.costs) (g.C.Costs.arc l.costs) l.end (label_in l.labels) (cell_at l.row)
+      (flag_at l.waits) l.settled;
   fewer : l.settled + waiting (g.C.Costs.node_count l.costs) (flag_at l.waits) < g.C.Costs.node_count l.costs;
   listed : AreWaiting (g.C.Costs.node_count l.costs) (flag_at l.waits) l.list l.count;
   few : l.count ≤ g.C.Costs.node_count l.costs;

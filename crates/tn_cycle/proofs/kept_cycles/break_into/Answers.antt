@@ -1,3 +1,4 @@
+-- What shows the clauses of `break_into` of `src/kept_cycles.rt`.
 use Rattle.std.proofs.Common.{◌≡◌, ◌<◌, ◌∙◌, ℕ, sym, subst, arith, inl, inr, ◌+ℤ◌, ◌≤ℤ◌, Some, length}
 use Rattle.std.proofs.lemmas.Int.{ints, to_z-of_z}
 use Rattle.std.proofs.lemmas.Bool.{cases_eq}
@@ -8,7 +9,12 @@ use Rattle.tn_cycle.proofs.kept_cycles.break_into.Goals as goal
 
 pub is_broken-requires-clause-begin : goal.is_broken-requires-clause-begin
 is_broken-requires-clause-begin g c =
-    let near = c.requires.near c.loop-v.v (omega (arith, c.loop-v-test.true, c.nodes-v-end.ensures, c.requires.labels_sized)) in
+    let near = c.requires.near c.loop-v.v (omega (
+      arith,
+      c.loop-v-test.true,
+      c.nodes-v-end.ensures,
+      c.requires.labels_sized,
+    )) in
     let fits : SFits w128 (label_in c.args.labels.now c.loop-v.v) = omega (arith, ints, near.low, near.high) in
     simp to_z-of_z (record { low = omega (arith, ints, near.low); high = omega (arith, ints, near.high) })
 
@@ -21,7 +27,12 @@ pub loop-v-preserved : goal.loop-v-preserved
 loop-v-preserved g c u cost below is =
     let label = label_in c.args.labels.now in
     let v = c.loop-v.v in
-    let places : v < length c.args.labels.now = omega (arith, c.loop-v-test.true, c.nodes-v-end.ensures, c.requires.labels_sized) in
+    let places : v < length c.args.labels.now = omega (
+      arith,
+      c.loop-v-test.true,
+      c.nodes-v-end.ensures,
+      c.requires.labels_sized,
+    ) in
     let near = c.requires.near v places in
     let fits : SFits w128 (label v) = omega (arith, ints, near.low, near.high) in
     let end_near = c.requires.near c.args.node (omega (arith, c.requires.inside, c.requires.labels_sized)) in
@@ -29,7 +40,8 @@ loop-v-preserved g c u cost below is =
     let kept = simp to_z-of_z at c.is_broken.ensures in
     elim (cases_eq u v) [
       | inl same ↦
-          let here : c.cost.result ≡ Some cost = c.cost.ensures ∙ subst (λ (z : ℕ). g.C.Costs.arc c.args.costs.now z c.args.node ≡ Some cost) same is in
+          let here : c.cost.result ≡ Some cost = c.cost.ensures
+          ∙ subst (λ (z : ℕ). g.C.Costs.arc c.args.costs.now z c.args.node ≡ Some cost) same is in
           let last : label c.args.node ≤ℤ (label v +ℤ cost) = kept cost c.if-is_broken.false here in
           subst (λ (z : ℕ). label c.args.node ≤ℤ (label z +ℤ cost)) (sym same) last
       | inr other ↦ c.loop-v.invariant u cost (omega (arith, below, other)) is

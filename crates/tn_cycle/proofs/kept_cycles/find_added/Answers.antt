@@ -1,3 +1,4 @@
+-- What shows the clauses of `find_added` of `src/kept_cycles.rt`.
 use Rattle.std.proofs.Common.{◌+◌, ◌<◌, length, set, refl, arith, rules}
 use Rattle.std.proofs.lemmas.Int.{ints, to_z-of_z}
 use mir.Syntax.{w128}
@@ -12,23 +13,27 @@ use Rattle.tn_cycle.proofs.kept_cycles.find_added.Goals as goal
 pub find_kept-requires-clause-near : goal.find_kept-requires-clause-near
 find_kept-requires-clause-near g c =
     let fits : SFits w128 c.node_label.result = search rules in
-    simp to_z-of_z (set_near most_label c.args.labels.now c.args.node c.node_label.result c.requires.near (c.node_label.ensures.near most_label c.requires.near))
+    simp to_z-of_z (set_near most_label c.args.labels.now c.args.node c.node_label.result c.requires.near
+    (c.node_label.ensures.near most_label c.requires.near))
 
 pub find_kept-requires-clause-keeps : goal.find_kept-requires-clause-keeps
 find_kept-requires-clause-keeps g c =
     let fits : SFits w128 c.node_label.result = search rules in
     let places : c.args.node < length c.args.labels.now = omega (arith, c.requires.inside, c.requires.labels_sized) in
-    simp to_z-of_z (set_keep (g.C.Costs.arc c.args.costs.now) c.args.labels.now c.args.node c.node_label.result places c.requires.keeps c.node_label.ensures.keeps)
+    simp to_z-of_z (set_keep (g.C.Costs.arc c.args.costs.now) c.args.labels.now c.args.node c.node_label.result places
+    c.requires.keeps c.node_label.ensures.keeps)
 
 pub break_into-requires-clause-near : goal.break_into-requires-clause-near
 break_into-requires-clause-near g c =
     let fits : SFits w128 c.node_label.result = search rules in
-    simp to_z-of_z (set_near most_label c.args.labels.now c.args.node c.node_label.result c.requires.near (c.node_label.ensures.near most_label c.requires.near))
+    simp to_z-of_z (set_near most_label c.args.labels.now c.args.node c.node_label.result c.requires.near
+    (c.node_label.ensures.near most_label c.requires.near))
 
 pub returns-then-break_into-clause-near : goal.returns-then-break_into-clause-near
 returns-then-break_into-clause-near g c reach near v inside =
     let fits : SFits w128 c.node_label.result = search rules in
-    let moved = set_near reach c.args.labels.now c.args.node c.node_label.result near (c.node_label.ensures.near reach near) in
+    let moved = set_near reach c.args.labels.now c.args.node c.node_label.result near
+    (c.node_label.ensures.near reach near) in
     let all = simp to_z-of_z at c.find_kept.ensures.near in
     let far = all (reach + most_cost) moved v inside in
     record { low = omega (arith, ints, far.low); high = omega (arith, ints, far.high) }
@@ -39,7 +44,9 @@ returns-else-break_into-clause-answer g c =
     let arc = g.C.Costs.arc c.args.costs.now in
     let labels = set c.args.labels.now c.args.node c.node_label.result in
     let places : c.args.node < length c.args.labels.now = omega (arith, c.requires.inside, c.requires.labels_sized) in
-    let keeps : KeepsArcsOff arc c.args.node (label_in labels) = set_keep arc c.args.labels.now c.args.node c.node_label.result places c.requires.keeps c.node_label.ensures.keeps in
+    let keeps : KeepsArcsOff arc c.args.node (label_in labels) =
+    set_keep arc c.args.labels.now c.args.node c.node_label.result places c.requires.keeps
+    c.node_label.ensures.keeps in
     let into = simp to_z-of_z at c.break_into.ensures in
     (entered_none arc c.args.node (label_in labels) keeps (λ u cost is. into u cost c.if-break_into.false is), refl)
 
@@ -49,12 +56,17 @@ returns-else-break_into-clause-keeps g c =
     let arc = g.C.Costs.arc c.args.costs.now in
     let labels = set c.args.labels.now c.args.node c.node_label.result in
     let places : c.args.node < length c.args.labels.now = omega (arith, c.requires.inside, c.requires.labels_sized) in
-    let keeps : KeepsArcsOff arc c.args.node (label_in labels) = set_keep arc c.args.labels.now c.args.node c.node_label.result places c.requires.keeps c.node_label.ensures.keeps in
+    let keeps : KeepsArcsOff arc c.args.node (label_in labels) =
+    set_keep arc c.args.labels.now c.args.node c.node_label.result places c.requires.keeps
+    c.node_label.ensures.keeps in
     let into = simp to_z-of_z at c.break_into.ensures in
-    simp to_z-of_z (entered_own arc c.args.node (label_in labels) keeps (λ u cost is. into u cost c.if-break_into.false is))
+    simp to_z-of_z (entered_own arc c.args.node (label_in labels) keeps
+    (λ u cost is. into u cost c.if-break_into.false is))
 
 pub returns-else-break_into-clause-near : goal.returns-else-break_into-clause-near
 returns-else-break_into-clause-near g c reach near =
     let fits : SFits w128 c.node_label.result = search rules in
-    let moved = set_near reach c.args.labels.now c.args.node c.node_label.result near (c.node_label.ensures.near reach near) in
-    simp to_z-of_z (λ v inside. let far = moved v inside in record { low = omega (arith, ints, far.low); high = omega (arith, ints, far.high) })
+    let moved = set_near reach c.args.labels.now c.args.node c.node_label.result near
+    (c.node_label.ensures.near reach near) in
+    simp to_z-of_z (λ v inside. let far = moved v inside in
+    record { low = omega (arith, ints, far.low); high = omega (arith, ints, far.high) })

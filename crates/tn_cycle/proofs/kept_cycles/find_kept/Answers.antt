@@ -1,3 +1,4 @@
+-- What shows the clauses of `find_kept` of `src/kept_cycles.rt`.
 use Rattle.std.proofs.Common.{◌≡◌, ◌∙◌, ℕ, ℤ, ◌+ℤ◌, length, sym, ap, subst, arith, rules}
 use Rattle.std.specs.Prelude.{take}
 use Rattle.std.proofs.lemmas.Int.{ints, to_z-of_z}
@@ -20,16 +21,25 @@ pub gain-requires-clause-cost : goal.gain-requires-clause-cost
 gain-requires-clause-cost g c =
     let nodes = g.C.Costs.node_count c.args.costs.now in
     let fits : SFits w128 c.cost.result = search rules in
-    let small = read_small nodes (g.C.Costs.arc c.args.costs.now) c.args.node c.args.cap (label_in c.args.labels.now) (cell_at c.search_kept.new.row) (flag_at c.search_kept.new.waits)
-    (g.met.C.Costs.between_nodes c.args.costs.now) (g.met.C.Costs.small c.args.costs.now) c.requires.keeps c.search_kept.ensures c.requires.inside
-    (take (arc_count c.read_cycle-found.result) c.read_cycle-found.new.path) c.read_cycle-found.result c.read_cycle-found.ensures in
-    simp to_z-of_z (record { low = omega (arith, ints, c.cost.ensures, small.low, c.requires.few); high = omega (arith, ints, c.cost.ensures, small.high, c.requires.few) })
+    let small = read_small nodes (g.C.Costs.arc c.args.costs.now) c.args.node c.args.cap (label_in c.args.labels.now)
+    (cell_at c.search_kept.new.row) (flag_at c.search_kept.new.waits)
+    (g.met.C.Costs.between_nodes c.args.costs.now) (g.met.C.Costs.small c.args.costs.now) c.requires.keeps
+    c.search_kept.ensures c.requires.inside
+    (take (arc_count c.read_cycle-found.result) c.read_cycle-found.new.path) c.read_cycle-found.result
+    c.read_cycle-found.ensures in
+    simp to_z-of_z (record {
+      low = omega (arith, ints, c.cost.ensures, small.low, c.requires.few);
+      high =
+          omega (arith, ints, c.cost.ensures, small.high, c.requires.few);
+    })
 
 pub raise-requires-clause-room : goal.raise-requires-clause-room
 raise-requires-clause-room g c =
     let nodes = g.C.Costs.node_count c.args.costs.now in
-    let room = kept_room nodes (g.C.Costs.arc c.args.costs.now) c.args.node c.args.cap (label_in c.args.labels.now) (cell_at c.search_kept.new.row) (flag_at c.search_kept.new.waits)
-    (g.met.C.Costs.between_nodes c.args.costs.now) (g.met.C.Costs.small c.args.costs.now) c.requires.keeps c.search_kept.ensures c.requires.inside c.requires.few in
+    let room = kept_room nodes (g.C.Costs.arc c.args.costs.now) c.args.node c.args.cap (label_in c.args.labels.now)
+    (cell_at c.search_kept.new.row) (flag_at c.search_kept.new.waits)
+    (g.met.C.Costs.between_nodes c.args.costs.now) (g.met.C.Costs.small c.args.costs.now) c.requires.keeps
+    c.search_kept.ensures c.requires.inside c.requires.few in
     subst (λ (n : ℕ). HasRoom n (cell_at c.search_kept.new.row)) (sym c.requires.labels_sized) room
 
 pub raise-requires-clause-near : goal.raise-requires-clause-near
@@ -44,9 +54,12 @@ raise-requires-clause-limit g c =
     let label_fits : SFits w128 (label_in c.args.labels.now c.args.node) = omega (arith, ints, near.low, near.high) in
     let fits : SFits w128 c.cost.result = search rules in
     let gain_fits : SFits w128 c.gain.result = search rules in
-    let small = read_small nodes (g.C.Costs.arc c.args.costs.now) c.args.node c.args.cap (label_in c.args.labels.now) (cell_at c.search_kept.new.row) (flag_at c.search_kept.new.waits)
-    (g.met.C.Costs.between_nodes c.args.costs.now) (g.met.C.Costs.small c.args.costs.now) c.requires.keeps c.search_kept.ensures c.requires.inside
-    (take (arc_count c.read_cycle-found.result) c.read_cycle-found.new.path) c.read_cycle-found.result c.read_cycle-found.ensures in
+    let small = read_small nodes (g.C.Costs.arc c.args.costs.now) c.args.node c.args.cap (label_in c.args.labels.now)
+    (cell_at c.search_kept.new.row) (flag_at c.search_kept.new.waits)
+    (g.met.C.Costs.between_nodes c.args.costs.now) (g.met.C.Costs.small c.args.costs.now) c.requires.keeps
+    c.search_kept.ensures c.requires.inside
+    (take (arc_count c.read_cycle-found.result) c.read_cycle-found.new.path) c.read_cycle-found.result
+    c.read_cycle-found.ensures in
     let gain = simp to_z-of_z at c.gain.ensures in
     simp to_z-of_z (record {
       low = omega (arith, ints, gain, c.cost.ensures, small.low, near.low, c.requires.few);
@@ -55,22 +68,30 @@ raise-requires-clause-limit g c =
 
 pub returns-clause-negative : goal.returns-clause-negative
 returns-clause-negative g c cap_is =
-    read_negative (g.C.Costs.node_count c.args.costs.now) (g.C.Costs.arc c.args.costs.now) c.args.node c.args.cap (label_in c.args.labels.now) (cell_at c.search_kept.new.row) (flag_at c.search_kept.new.waits)
-    (g.met.C.Costs.between_nodes c.args.costs.now) (g.met.C.Costs.small c.args.costs.now) c.requires.keeps c.search_kept.ensures c.requires.inside
-    cap_is (take (arc_count c.read_cycle-found.result) c.read_cycle-found.new.path) c.read_cycle-found.result c.read_cycle-found.ensures
+    read_negative (g.C.Costs.node_count c.args.costs.now) (g.C.Costs.arc c.args.costs.now) c.args.node c.args.cap
+    (label_in c.args.labels.now) (cell_at c.search_kept.new.row) (flag_at c.search_kept.new.waits)
+    (g.met.C.Costs.between_nodes c.args.costs.now) (g.met.C.Costs.small c.args.costs.now) c.requires.keeps
+    c.search_kept.ensures c.requires.inside
+    cap_is (take (arc_count c.read_cycle-found.result) c.read_cycle-found.new.path) c.read_cycle-found.result
+    c.read_cycle-found.ensures
 
 pub returns-clause-least : goal.returns-clause-least
 returns-clause-least g c uncapped =
-    read_least (g.C.Costs.node_count c.args.costs.now) (g.C.Costs.arc c.args.costs.now) c.args.node c.args.cap (label_in c.args.labels.now) (cell_at c.search_kept.new.row) (flag_at c.search_kept.new.waits)
-    (g.met.C.Costs.between_nodes c.args.costs.now) (g.met.C.Costs.small c.args.costs.now) c.requires.keeps c.search_kept.ensures c.requires.inside
-    uncapped (take (arc_count c.read_cycle-found.result) c.read_cycle-found.new.path) c.read_cycle-found.result c.read_cycle-found.ensures
+    read_least (g.C.Costs.node_count c.args.costs.now) (g.C.Costs.arc c.args.costs.now) c.args.node c.args.cap
+    (label_in c.args.labels.now) (cell_at c.search_kept.new.row) (flag_at c.search_kept.new.waits)
+    (g.met.C.Costs.between_nodes c.args.costs.now) (g.met.C.Costs.small c.args.costs.now) c.requires.keeps
+    c.search_kept.ensures c.requires.inside
+    uncapped (take (arc_count c.read_cycle-found.result) c.read_cycle-found.new.path) c.read_cycle-found.result
+    c.read_cycle-found.ensures
 
 -- the labels are raised to the node's own and the cost of the cycle
-limit_is : (nodes places node : ℕ) (label new : ℕ → ℤ) (cell : ℕ → Cell) (limit gained gap : ℤ) → places ≡ nodes → limit ≡ label node +ℤ gained → gained ≡ gap
+limit_is : (nodes places node : ℕ) (label new : ℕ → ℤ) (cell : ℕ → Cell) (limit gained gap : ℤ) → places ≡ nodes
+    → limit ≡ label node +ℤ gained → gained ≡ gap
     → AreRaised places node label cell limit new → AreRaised nodes node label cell (label node +ℤ gap) new
 limit_is nodes places node label new cell limit gained gap same limit_at gained_at raised =
     subst (λ (n : ℕ). AreRaised n node label cell (label node +ℤ gap) new) same
-    (subst (λ (z : ℤ). AreRaised places node label cell z new) (limit_at ∙ ap (λ (z : ℤ). label node +ℤ z) gained_at) raised)
+    (subst (λ (z : ℤ). AreRaised places node label cell z new) (limit_at ∙ ap (λ (z : ℤ). label node +ℤ z) gained_at)
+    raised)
 
 pub returns-clause-keeps : goal.returns-clause-keeps
 returns-clause-keeps g c which =
@@ -85,10 +106,13 @@ returns-clause-keeps g c which =
     let gain_fits : SFits w128 c.gain.result = search rules in
     let gain = simp to_z-of_z at c.gain.ensures in
     let raised = simp to_z-of_z at c.raise.ensures in
-    let under = read_under cell c.args.node c.args.cap which (take (arc_count found) c.read_cycle-found.new.path) found c.read_cycle-found.ensures in
-    raised_keep nodes (g.C.Costs.arc c.args.costs.now) c.args.node c.args.cap label cell (flag_at c.search_kept.new.waits) (g.met.C.Costs.between_nodes c.args.costs.now)
+    let under = read_under cell c.args.node c.args.cap which (take (arc_count found) c.read_cycle-found.new.path) found
+    c.read_cycle-found.ensures in
+    raised_keep nodes (g.C.Costs.arc c.args.costs.now) c.args.node c.args.cap label cell
+    (flag_at c.search_kept.new.waits) (g.met.C.Costs.between_nodes c.args.costs.now)
     c.requires.keeps c.search_kept.ensures (cost_of found) new c.requires.inside under.0 under.1
-    (limit_is nodes (length c.args.labels.now) c.args.node label new cell c.gain.result c.cost.result (cost_of found) c.requires.labels_sized gain c.cost.ensures raised)
+    (limit_is nodes (length c.args.labels.now) c.args.node label new cell c.gain.result c.cost.result (cost_of found)
+    c.requires.labels_sized gain c.cost.ensures raised)
 
 pub returns-clause-near : goal.returns-clause-near
 returns-clause-near g c reach all v inside =
@@ -106,9 +130,12 @@ returns-clause-near g c reach all v inside =
     let between = g.met.C.Costs.between_nodes c.args.costs.now in
     let small = g.met.C.Costs.small c.args.costs.now in
     let waits = flag_at c.search_kept.new.waits in
-    raised_near nodes (g.C.Costs.arc c.args.costs.now) c.args.node c.args.cap label cell waits between small c.requires.keeps c.search_kept.ensures c.requires.inside reach (cost_of found) new
+    raised_near nodes (g.C.Costs.arc c.args.costs.now) c.args.node c.args.cap label cell waits between small
+    c.requires.keeps c.search_kept.ensures c.requires.inside reach (cost_of found) new
     (λ u within. all u (omega (arith, within, c.requires.labels_sized)))
-    (read_small nodes (g.C.Costs.arc c.args.costs.now) c.args.node c.args.cap label cell waits between small c.requires.keeps c.search_kept.ensures c.requires.inside
+    (read_small nodes (g.C.Costs.arc c.args.costs.now) c.args.node c.args.cap label cell waits between small
+    c.requires.keeps c.search_kept.ensures c.requires.inside
     (take (arc_count found) c.read_cycle-found.new.path) found c.read_cycle-found.ensures)
-    (limit_is nodes (length c.args.labels.now) c.args.node label new cell c.gain.result c.cost.result (cost_of found) c.requires.labels_sized gain c.cost.ensures raised)
+    (limit_is nodes (length c.args.labels.now) c.args.node label new cell c.gain.result c.cost.result (cost_of found)
+    c.requires.labels_sized gain c.cost.ensures raised)
     v (omega (arith, inside, c.raise.auto.labels, c.requires.labels_sized))

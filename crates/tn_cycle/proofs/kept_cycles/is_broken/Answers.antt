@@ -1,3 +1,4 @@
+-- What shows the clauses of `is_broken` of `src/kept_cycles.rt`.
 use Rattle.std.proofs.Common.{◌≡◌, ◌∙◌, sym, arith, rules}
 use Rattle.std.proofs.lemmas.Int.{ints, to_z-of_z}
 use Rattle.std.proofs.lemmas.Option.{same_Some}

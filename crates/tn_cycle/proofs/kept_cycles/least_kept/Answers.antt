@@ -1,3 +1,4 @@
+-- What shows the clauses of `least_kept` of `src/kept_cycles.rt`.
 use Rattle.std.proofs.Common.{arith}
 use Rattle.std.proofs.lemmas.Int.{ints}
 use Rattle.tn_cycle.proofs.kept_cycles.least_kept.Goals as goal

@@ -1,3 +1,4 @@
+-- What the loops of `least_number` of `src/kept_cycles.rt` keep.
 use Rattle.std.proofs.Common.{ℕ, ◌+◌}
 use Rattle.std.specs.Option.{ForSome}
 use Rattle.tn_base.specs.Arcs.{IsAtMost}

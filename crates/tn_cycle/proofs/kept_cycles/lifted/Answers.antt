@@ -1,3 +1,4 @@
+-- What shows the clauses of `lifted` of `src/kept_cycles.rt`.
 use Rattle.std.proofs.Common.{rules}
 use Rattle.std.proofs.lemmas.Int.{to_z-of_z}
 use mir.Syntax.{w128}
@@ -14,4 +15,5 @@ returns-in-Some-clause-others c other =
     let second = simp to_z-of_z at c.greater_of.ensures.second in
     let one = simp to_z-of_z at c.greater_of.ensures.one in
     let lack = simp to_z-of_z at c.lack.ensures in
-    simp to_z-of_z (lifted_some c.args.least c.args.label c.in-Some.cost c.lack.result c.greater_of.result c.args.cost c.in-Some.is lack c.greater_of.ensures.first second one)
+    simp to_z-of_z (lifted_some c.args.least c.args.label c.in-Some.cost c.lack.result c.greater_of.result c.args.cost
+    c.in-Some.is lack c.greater_of.ensures.first second one)

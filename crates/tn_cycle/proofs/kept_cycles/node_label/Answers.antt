@@ -1,3 +1,4 @@
+-- What shows the clauses of `node_label` of `src/kept_cycles.rt`.
 use Rattle.std.proofs.Common.{◌≡◌, ◌+◌, ℤ, true, sym, ◌∙◌, subst, arith, rules}
 use Rattle.std.proofs.lemmas.Int.{ints, to_z-of_z}
 use Rattle.std.proofs.lemmas.Option.{same_Some}
@@ -12,8 +13,13 @@ use Rattle.tn_cycle.proofs.kept_cycles.node_label.Goals as goal
 pub signed-requires : goal.signed-requires
 signed-requires g c =
     let fits : SFits w128 c.unwrap_or.result = search rules in
-    let near = unwrap_near c.least_number-in-None.result (most_label + most_cost) (c.least_number-in-None.ensures.near most_label c.requires.near) in
-    simp to_z-of_z (record { low = omega (arith, ints, c.unwrap_or.ensures, near.low); high = omega (arith, ints, c.unwrap_or.ensures, near.high) })
+    let near = unwrap_near c.least_number-in-None.result (most_label + most_cost)
+    (c.least_number-in-None.ensures.near most_label c.requires.near) in
+    simp to_z-of_z (record {
+      low = omega (arith, ints, c.unwrap_or.ensures, near.low);
+      high =
+          omega (arith, ints, c.unwrap_or.ensures, near.high);
+    })
 
 pub returns-in-Some-clause-keeps : goal.returns-in-Some-clause-keeps
 returns-in-Some-clause-keeps g c v cost off is =
@@ -27,7 +33,10 @@ pub returns-in-None-clause-near : goal.returns-in-None-clause-near
 returns-in-None-clause-near g c reach all =
     let fits : SFits w128 c.unwrap_or.result = search rules in
     let signed_fits : SFits w128 c.signed.result = search rules in
-    let near = unwrap_near c.least_number-in-None.result (reach + most_cost) (c.least_number-in-None.ensures.near reach all) in
-    let own : IsAtMost c.unwrap_or.result (reach + most_cost) = subst (λ (z : ℤ). IsAtMost z (reach + most_cost)) (sym c.unwrap_or.ensures) near in
+    let near = unwrap_near c.least_number-in-None.result (reach + most_cost)
+    (c.least_number-in-None.ensures.near reach all) in
+    let own : IsAtMost c.unwrap_or.result (reach + most_cost) =
+    subst (λ (z : ℤ). IsAtMost z (reach + most_cost)) (sym c.unwrap_or.ensures) near in
     let is = simp to_z-of_z at c.signed.ensures in
-    simp to_z-of_z (subst (λ (z : ℤ). IsAtMost z (reach + most_cost)) (sym is) (signed_near true c.unwrap_or.result (reach + most_cost) own))
+    simp to_z-of_z (subst (λ (z : ℤ). IsAtMost z (reach + most_cost)) (sym is)
+    (signed_near true c.unwrap_or.result (reach + most_cost) own))

@@ -1,3 +1,4 @@
+-- What shows the clauses of `raise` of `src/kept_cycles.rt`.
 use Rattle.std.proofs.Common.{◌≡◌, ◌≢◌, ◌<◌, ◌∙◌, ℤ, length, subst, arith, rules}
 use Rattle.std.proofs.lemmas.Int.{ints, to_z-of_z}
 use mir.Syntax.{w128}
@@ -22,12 +23,17 @@ loop-v-preserved c =
     let limit_fits : SFits w128 c.args.limit = c.ranges.limit in
     let result_fits : SFits w128 c.raised.result = search rules in
     let places : v < length labels = omega (arith, c.loop-v-test.true, c.loop-v.auto.labels) in
-    let own : v ≡ c.args.node → c.raised.result ≡ label_in labels v = λ e. c.raised.ensures.own e ∙ to_z-of_z w128 (label_in labels v) label_fits in
-    let others : v ≢ c.args.node → IsRaised (label_in labels v) (cell_at c.args.row.now v).cost c.args.limit c.raised.result =
-    λ off. subst (λ (z : ℤ). IsRaised z (cell_at c.args.row.now v).cost c.args.limit c.raised.result) (to_z-of_z w128 (label_in labels v) label_fits)
-    (subst (λ (z : ℤ). IsRaised (to_z w128 (of_z w128 (label_in labels v))) (cell_at c.args.row.now v).cost z c.raised.result) (to_z-of_z w128 c.args.limit limit_fits) (c.raised.ensures.others off)) in
+    let own : v ≡ c.args.node → c.raised.result ≡ label_in labels v =
+    λ e. c.raised.ensures.own e ∙ to_z-of_z w128 (label_in labels v) label_fits in
+    let others : v ≢ c.args.node
+    → IsRaised (label_in labels v) (cell_at c.args.row.now v).cost c.args.limit c.raised.result =
+    λ off. subst (λ (z : ℤ). IsRaised z (cell_at c.args.row.now v).cost c.args.limit c.raised.result)
+    (to_z-of_z w128 (label_in labels v) label_fits)
+    (subst (λ (z : ℤ). IsRaised (to_z w128 (of_z w128 (label_in labels v))) (cell_at c.args.row.now v).cost z
+    c.raised.result) (to_z-of_z w128 c.args.limit limit_fits) (c.raised.ensures.others off)) in
     let before = simp to_z-of_z at c.loop-v.invariant.raised in
     simp to_z-of_z (record {
-      raised = raise_next labels old (cell_at c.args.row.now) c.args.node v c.args.limit c.raised.result places before c.loop-v.invariant.left own others;
+      raised = raise_next labels old (cell_at c.args.row.now) c.args.node v c.args.limit c.raised.result places before
+          c.loop-v.invariant.left own others;
       left = raise_left labels old v c.raised.result c.loop-v.invariant.left;
     })

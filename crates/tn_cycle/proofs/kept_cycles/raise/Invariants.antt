@@ -1,3 +1,4 @@
+-- What the loops of `raise` of `src/kept_cycles.rt` keep.
 use Rattle.std.proofs.Common.{◌≡◌, ◌≢◌, ℕ, ◌<◌, ◌≤◌}
 use Rattle.tn_cycle.specs.Answers.{label_in}
 use Rattle.tn_cycle.specs.Cells.{cell_at}

@@ -1,3 +1,4 @@
+-- What shows the clauses of `raised` of `src/kept_cycles.rt`.
 use Rattle.std.proofs.Common.{rules}
 use Rattle.std.proofs.lemmas.Int.{to_z-of_z}
 use mir.Syntax.{w128}
@@ -16,4 +17,5 @@ returns-in-Some-clause-others c other =
     let second = simp to_z-of_z at c.greater.ensures.second in
     let one = simp to_z-of_z at c.greater.ensures.one in
     let lack = simp to_z-of_z at c.lack.ensures in
-    simp to_z-of_z (raised_some c.args.label c.in-Some.cost c.args.limit c.lack.result c.greater.result c.args.cost c.in-Some.is lack first second one)
+    simp to_z-of_z (raised_some c.args.label c.in-Some.cost c.args.limit c.lack.result c.greater.result c.args.cost
+    c.in-Some.is lack first second one)

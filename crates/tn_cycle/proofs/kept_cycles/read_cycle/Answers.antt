@@ -1,3 +1,4 @@
+-- What shows the clauses of `read_cycle` of `src/kept_cycles.rt`.
 use Rattle.std.proofs.Common.{rules}
 use Rattle.std.proofs.lemmas.Int.{to_z-of_z}
 use mir.Syntax.{w128}
@@ -14,6 +15,7 @@ returns-in-Some c =
     simp to_z-of_z (
       c.in-Some.is,
       counted,
-      way-front c.args.node (cell_at c.args.row.now) c.args.node c.list_way.new.path c.list_way.result c.list_way.ensures.arcs c.list_way.ensures.nodes,
+      way-front c.args.node (cell_at c.args.row.now) c.args.node c.list_way.new.path c.list_way.result
+          c.list_way.ensures.arcs c.list_way.ensures.nodes,
       c.list_way.ensures.arcs,
     )

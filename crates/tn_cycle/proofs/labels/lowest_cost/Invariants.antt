@@ -1,3 +1,4 @@
+-- What the loops of `lowest_cost` of `src/labels.rt` keep.
 use Rattle.tn_cycle.specs.Cells.{cell_at}
 use Rattle.tn_cycle.specs.Answers.{IsLowest}
 use Rattle.tn_cycle.proofs.labels.lowest_cost.Given as goal

@@ -1,3 +1,4 @@
+-- What the loops of `write_labels` of `src/labels.rt` keep.
 use Rattle.std.proofs.Common.{◌≡◌, ℕ, ◌<◌, pos, ◌-ℤ◌}
 use Rattle.std.specs.Prelude.{unwrap_or}
 use Rattle.tn_cycle.specs.Cells.{cell_at}

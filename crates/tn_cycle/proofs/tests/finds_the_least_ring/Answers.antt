@@ -1,3 +1,4 @@
+-- What shows the clauses of `finds_the_least_ring` of `src/tests.rt`.
 use Rattle.std.proofs.Common.{◌≡◌, ◌-◌, ap, arith, false, length}
 use Rattle.tn_base.specs.Walks.{arcs_among, is_admitted, is_looked_at}
 use Rattle.tn_cycle.specs.Reading.{Reading, nothing}
@@ -24,7 +25,8 @@ least_through-path-requires g c =
               sized,
               (
                 all_zero_near labelled.labels c.label_all.ensures.zero,
-                all_zero_keep (arcs_among test (ring 4 false)) labelled.labels c.label_all.ensures.zero (zeros_keep_among test 4),
+                all_zero_keep (arcs_among test (ring 4 false)) labelled.labels c.label_all.ensures.zero
+                    (zeros_keep_among test 4),
               ),
             ),
           ),
@@ -38,7 +40,8 @@ relabel-requires g c =
     let made : c.in_ok-finder.finder ≡ nothing 4 = c.in_ok-finder.ensures in
     let had : c.in_ok-finder.finder.nodes ≡ 4 = ap (λ (reading : Reading). reading.nodes) made in
     let first : c.label_all.new.self.nodes ≡ 4 = omega (arith, had, c.label_all.ensures.rest.same_nodes) in
-    let second : c.least_through-path.new.self.nodes ≡ 4 = omega (arith, first, c.least_through-path.ensures.rest.same_nodes) in
+    let second : c.least_through-path.new.self.nodes ≡ 4 =
+    omega (arith, first, c.least_through-path.ensures.rest.same_nodes) in
     let nodes : labelled.nodes ≡ 4 = omega (arith, second, c.label_all-2.ensures.rest.same_nodes) in
     let test = is_admitted (labelled.nodes - 1) c.toggle-3.new.self in (
       omega arith,
@@ -50,7 +53,8 @@ relabel-requires g c =
             omega (arith, nodes, second, c.label_all-2.ensures.one_each),
             (
               all_zero_near labelled.labels c.label_all-2.ensures.zero,
-              all_zero_keep (arcs_among test (ring 4 false)) labelled.labels c.label_all-2.ensures.zero (zeros_keep_among test 4),
+              all_zero_keep (arcs_among test (ring 4 false)) labelled.labels c.label_all-2.ensures.zero
+                  (zeros_keep_among test 4),
             ),
           ),
         ),

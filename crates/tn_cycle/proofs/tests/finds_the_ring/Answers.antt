@@ -1,3 +1,4 @@
+-- What shows the clauses of `finds_the_ring` of `src/tests.rt`.
 use Rattle.std.proofs.Common.{◌≡◌, ◌-◌, ap, ◌∙◌, arith, ℕ, true, false, length}
 use Rattle.tn_base.specs.Sets.{has}
 use Rattle.tn_base.proofs.SetLemmas.{has-toggle_other, has-zero}
@@ -16,7 +17,8 @@ through-path-requires g c =
     let sized : length labelled.labels ≡ labelled.nodes = omega (arith, had, nodes, c.label_all.ensures.one_each) in
     let lacks : has c.toggle-2.new.self 0 ≡ false =
     ap (λ (x : ℕ). has x 0) c.toggle-2.ensures.toggled ∙ has-toggle_other c.toggle.new.self 2 0 (λ e. omega (arith, e))
-    ∙ ap (λ (x : ℕ). has x 0) c.toggle.ensures.toggled ∙ has-toggle_other c.empty-admitted.result 1 0 (λ e. omega (arith, e))
+    ∙ ap (λ (x : ℕ). has x 0) c.toggle.ensures.toggled ∙ has-toggle_other c.empty-admitted.result 1 0
+    (λ e. omega (arith, e))
     ∙ ap (λ (x : ℕ). has x 0) c.empty-admitted.ensures ∙ has-zero 0 in
     let null = labelled.nodes - 1 in (
       omega arith,
@@ -30,7 +32,8 @@ through-path-requires g c =
               sized,
               (
                 all_zero_near labelled.labels c.label_all.ensures.zero,
-                all_zero_keep (arcs_among (is_admitted null c.toggle-2.new.self) (ring 4 true)) labelled.labels c.label_all.ensures.zero
+                all_zero_keep (arcs_among (is_admitted null c.toggle-2.new.self) (ring 4 true)) labelled.labels
+                    c.label_all.ensures.zero
                     (zeros_keep null c.toggle-2.new.self 4 true (λ e. omega (arith, e, nodes)) lacks),
               ),
             ),

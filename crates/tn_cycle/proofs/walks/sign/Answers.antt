@@ -1,3 +1,4 @@
+-- What shows the clauses of `sign` of `src/walks.rt`.
 use Rattle.std.proofs.Common.{◌≡◌, ◌<◌, ◌∙◌, length, ap, arith, rules}
 use Rattle.std.proofs.lemmas.Int.{ints, to_z-of_z}
 use mir.Syntax.{w128}
@@ -26,7 +27,8 @@ loop-v-preserved c =
     let fits : SFits w128 (label_in labels v) = omega (arith, ints, was, near.low, near.high) in
     let result_fits : SFits w128 c.signed.result = search rules in
     let places : v < length labels = omega (arith, c.loop-v-test.true, c.loop-v.auto.labels) in
-    let is : c.signed.result ≡ signed c.args.negates (label_in old v) = c.signed.ensures ∙ ap (signed c.args.negates) (to_z-of_z w128 (label_in labels v) fits ∙ was) in
+    let is : c.signed.result ≡ signed c.args.negates (label_in old v) =
+    c.signed.ensures ∙ ap (signed c.args.negates) (to_z-of_z w128 (label_in labels v) fits ∙ was) in
     simp to_z-of_z (record {
       written = sign_next labels old c.args.negates v c.signed.result places c.loop-v.invariant.written is;
       left = raise_left labels old v c.signed.result c.loop-v.invariant.left;

@@ -1,3 +1,4 @@
+-- What the loops of `sign` of `src/walks.rt` keep.
 use Rattle.std.proofs.Common.{◌≡◌, ℕ, ◌<◌, ◌≤◌}
 use Rattle.tn_cycle.specs.Answers.{label_in}
 use Rattle.tn_cycle.specs.Kept.{signed}

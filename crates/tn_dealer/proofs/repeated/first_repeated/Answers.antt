@@ -1,3 +1,4 @@
+-- What shows the clauses of `first_repeated` of `src/repeated.rt`.
 use Rattle.std.proofs.Common.{arith}
 use Rattle.tn_dealer.proofs.RepeatLemmas.{few_different, different_all}
 use Rattle.tn_dealer.proofs.repeated.first_repeated.Goals as goal

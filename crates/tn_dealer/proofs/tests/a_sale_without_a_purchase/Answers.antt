@@ -1,3 +1,4 @@
+-- What shows the clauses of `a_sale_without_a_purchase` of `src/tests.rt`.
 use Rattle.std.proofs.Common.{rules, ◌≡◌, [], ◌∷◌}
 use Rattle.tn_dealer.proofs.TestLemmas.{two_items, pair_at, list_own, one_sale}
 use Rattle.tn_dealer.proofs.tests.a_sale_without_a_purchase.Goals as goal

@@ -1,3 +1,4 @@
+-- What the loops of `keeps_beside` of `src/worth.rt` keep.
 use Rattle.tn_dealer.specs.Certificates.{number_at, KeepsBeside}
 use Rattle.tn_dealer.proofs.worth.keeps_beside.Given as goal
 

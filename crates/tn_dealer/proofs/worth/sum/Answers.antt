@@ -1,3 +1,4 @@
+-- What shows the clauses of `sum` of `src/worth.rt`.
 use Rattle.std.proofs.Common.{arith}
 use Rattle.std.proofs.lemmas.Int.{ints}
 use Rattle.tn_dealer.specs.Certificates.{number_at}

@@ -1,3 +1,4 @@
+-- What the loops of `sum` of `src/worth.rt` keep.
 use Rattle.std.proofs.Common.{◌≡◌, ◌*◌, ◌^◌}
 use Rattle.tn_base.specs.Arcs.{IsAtMost}
 use Rattle.tn_base.specs.Sets.{sum_over}

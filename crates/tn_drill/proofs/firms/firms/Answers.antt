@@ -1,3 +1,4 @@
+-- What shows the clauses of `firms` of `src/firms.rt`.
 use Rattle.std.proofs.Common.{◌++◌, ◌∷◌, [], List, map, ap, ap₂, ◌∙◌, sym, arith}
 use Rattle.std.proofs.lemmas.List.{map-append}
 use Rattle.std.proofs.lemmas.List.FromFn.{map-range_with_len_more}

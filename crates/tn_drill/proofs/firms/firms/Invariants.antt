@@ -1,3 +1,4 @@
+-- What the loops of `firms` of `src/firms.rt` keep.
 use Rattle.std.proofs.Common.{◌≡◌, map}
 use Rattle.std.specs.List.{range_with_len}
 use Rattle.tn_firm.specs.Firms.{firm_of}

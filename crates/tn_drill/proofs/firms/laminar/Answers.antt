@@ -1,3 +1,4 @@
+-- What shows the clauses of `laminar` of `src/firms.rt`.
 use Rattle.std.proofs.Common.{rules, ℤ, pos, List, sym, subst}
 use Rattle.std.specs.Prelude.{IsSome}
 use Rattle.std.proofs.lemmas.Int.{to_z-of_z}
@@ -13,8 +14,15 @@ pub want_of_memory-requires : goal.want_of_memory-requires
 want_of_memory-requires c =
     let fits : SFits w32 c.args.low = search rules in
     let same = to_z-of_z w32 c.args.low fits in
-    one_set_sound (record { members = c.from_bits.result; low = to_z w32 (of_z w32 c.args.low); numbers = c.from_vec.result }) c.in-Err.refusal
+    one_set_sound (record {
+      members = c.from_bits.result;
+      low = to_z w32 (of_z w32 c.args.low);
+      numbers =
+          c.from_vec.result;
+    }) c.in-Err.refusal
     (subst (λ (low : ℤ). IsSome (listed_from low c.from_vec.result (pos 0))) (sym same)
-    (subst (λ (numbers : List ℤ). IsSome (listed_from c.args.low numbers (pos 0))) (sym c.from_vec.ensures) c.requires.empty))
+    (subst (λ (numbers : List ℤ). IsSome (listed_from c.args.low numbers (pos 0))) (sym c.from_vec.ensures)
+    c.requires.empty))
     (subst IsConcaveList (sym c.from_vec.ensures) c.requires.concave)
-    (subst (λ (sets : List LaminarSet). IsRefusedFor sets c.in-Err.refusal) c.in_ok-vec.ensures.items c.in-Err.ensures.refused)
+    (subst (λ (sets : List LaminarSet). IsRefusedFor sets c.in-Err.refusal) c.in_ok-vec.ensures.items
+    c.in-Err.ensures.refused)

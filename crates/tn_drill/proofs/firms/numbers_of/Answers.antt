@@ -1,3 +1,4 @@
+-- What shows the clauses of `numbers_of` of `src/firms.rt`.
 use Rattle.std.proofs.Common.{ℤ, List, ap, sym, ◌∙◌, ◌++◌, ◌∷◌, [], Vec, Global, rules}
 use Rattle.std.proofs.lemmas.Int.{to_z-of_z}
 use mir.Syntax.{w128}
@@ -14,8 +15,10 @@ loop-draw-preserved c =
           ap (λ (v : Vec ℤ Global). v.items) w.numbers-is ∙ w.in_ok-push.ensures.items
           ∙ ap (λ (z : ℤ). c.loop-draw.numbers.items ++ z ∷ []) (to_z-of_z w128 w.in-Some.number fits)
           ∙ ap (λ (numbers : List ℤ). numbers ++ w.in-Some.number ∷ []) c.loop-draw.invariant
-          ∙ sym (numbers_own c.args.f c.args.draws.now c.loop-draw.draw-index _ w.in-Some.number c.loop-draw-test.true (sym c.number_to.ensures ∙ w.in-Some.is))
+          ∙ sym (numbers_own c.args.f c.args.draws.now c.loop-draw.draw-index _ w.in-Some.number c.loop-draw-test.true
+          (sym c.number_to.ensures ∙ w.in-Some.is))
       | in_default w ↦
           ap (λ (v : Vec ℤ Global). v.items) w.numbers-is ∙ c.loop-draw.invariant
-          ∙ sym (numbers_other c.args.f c.args.draws.now c.loop-draw.draw-index _ c.loop-draw-test.true (sym c.number_to.ensures ∙ w.in_default.is))
+          ∙ sym (numbers_other c.args.f c.args.draws.now c.loop-draw.draw-index _ c.loop-draw-test.true
+          (sym c.number_to.ensures ∙ w.in_default.is))
     ]

@@ -1,3 +1,4 @@
+-- What the loops of `numbers_of` of `src/firms.rt` keep.
 use Rattle.std.proofs.Common.{◌≡◌, take}
 use Rattle.std.specs.List.{filter_map}
 use Rattle.tn_drill.specs.Drill.{number_to}

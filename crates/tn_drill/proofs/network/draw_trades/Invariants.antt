@@ -1,3 +1,4 @@
+-- What the loops of `draw_trades` of `src/network.rt` keep.
 use Rattle.std.proofs.Common.{◌≡◌, ◌*◌}
 use Rattle.tn_drill.specs.Draws.{state_after}
 use Rattle.tn_drill.specs.Drill.{draws_of, trades_of}

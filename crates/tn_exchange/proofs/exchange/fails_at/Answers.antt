@@ -1,3 +1,4 @@
+-- What shows the clauses of `fails_at` of `src/exchange.rt`.
 use Rattle.std.proofs.Common.{sym, rules, ◌+ℤ◌, SFits}
 use Rattle.std.specs.Int.{w128}
 use Rattle.std.proofs.lemmas.Int.{to_z-of_z}
@@ -15,5 +16,6 @@ returns-in-Some-Some c =
     let second_small : IsAtMost c.in-Some-Some.second most_amount = c.in-Some-Some.ensures'.small in
     let both_fit : SFits w128 (c.in-Some-Some.first +ℤ c.in-Some-Some.second) = sum_fits _ _ first_small second_small in
     let wrong = simp to_z-of_z at c.is_wrong_at.ensures in
-    fails_iff (firm_of_table c.args.table.now) c.args.x c.args.y c.in-Some-Some.first c.in-Some-Some.second c.args.at c.is_wrong_at.result
+    fails_iff (firm_of_table c.args.table.now) c.args.x c.args.y c.in-Some-Some.first c.in-Some-Some.second c.args.at
+    c.is_wrong_at.result
     (sym c.in-Some-Some.ensures.worth) (sym c.in-Some-Some.ensures'.worth) wrong

@@ -1,3 +1,4 @@
+-- What the loops of `test` of `src/exchange.rt` keep.
 use Rattle.std.proofs.Common.{◌≤◌}
 use Rattle.tn_exchange.specs.Rows.{firm_of_table}
 use Rattle.tn_exchange.specs.TestOrder.{Triple, TripleFails}

@@ -1,3 +1,4 @@
+-- What the loops of `test_pair` of `src/exchange.rt` keep.
 use Rattle.std.proofs.Common.{ℕ, ◌<◌, Some}
 use Rattle.tn_base.specs.Exchange.{IsWrongAt}
 use Rattle.tn_exchange.specs.Rows.{firm_of_table}

@@ -1,3 +1,4 @@
+-- What shows the clauses of `up` of `src/exchange.rt`.
 use Rattle.tn_base.specs.Firm.{up}
 use Rattle.tn_exchange.proofs.exchange.up.Goals as goal
 

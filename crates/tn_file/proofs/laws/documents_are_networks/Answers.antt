@@ -1,3 +1,4 @@
+-- What shows the clauses of `documents_are_networks` of `src/laws.rt`.
 use Rattle.tn_file.proofs.DocumentLeads.{documents_are_networks}
 use Rattle.tn_file.proofs.laws.documents_are_networks.Goals as goal
 

@@ -1,3 +1,4 @@
+-- What shows the clauses of `faults_are_sayable` of `src/laws.rt`.
 use Rattle.tn_file.proofs.DocumentStops.{faults_are_sayable}
 use Rattle.tn_file.proofs.laws.faults_are_sayable.Goals as goal
 

@@ -1,3 +1,4 @@
+-- What shows the clauses of `read_market` of `src/network.rt`.
 use Rattle.std.proofs.Common.{◌≡◌, sym, ap, subst, ◌∙◌, List, map, [], length, true, Ok, arith}
 use Rattle.std.proofs.lemmas.List.{length-map}
 use Rattle.serde_json.specs.View.{items_view}
@@ -22,7 +23,17 @@ new-requires c =
     let same : c.into_parts-names.result.1.items ≡ listed.ends = c.into_parts-names.ensures.ends in
     let as_many = ap length same in
     record {
-      few_firms = omega (arith, count, length-map c.in-Ok.made.items firm_of, items_len_is c.args.firms.now, c.requires.count, trades.few_firms, trades.limits.firms);
+      few_firms = omega (
+        arith,
+        count,
+        length-map c.in-Ok.made.items firm_of,
+        items_len_is c.args.firms.now,
+        c.requires.count,
+        trades.few_firms,
+        trades.limits.firms,
+      );
       few_trades = omega (arith, as_many, trades.few, trades.limits.trades);
-      network = subst (λ (ends : List Ends). IsNetwork firms ends) (sym same) (network_from_reading true listed trades items firms (c.requires.count ∙ sym (items_len_is c.args.firms.now)) given);
+      network = subst (λ (ends : List Ends). IsNetwork firms ends) (sym same)
+          (network_from_reading true listed trades items firms (c.requires.count ∙ sym (items_len_is c.args.firms.now))
+          given);
     }

@@ -1,3 +1,4 @@
+-- What shows the clauses of `read_doc` of `src/read.rt`.
 use Rattle.tn_file.proofs.DocumentLeads.{networks_from}
 use Rattle.tn_file.proofs.read.read_doc.Goals as goal
 

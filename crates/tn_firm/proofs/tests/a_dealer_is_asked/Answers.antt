@@ -1,3 +1,4 @@
+-- What shows the clauses of `a_dealer_is_asked` of `src/tests.rt`.
 use Rattle.std.proofs.Common.{rules, ◌≡◌, List, [], ◌∷◌, length, refl, sym, subst, arith, pos}
 use Rattle.std.specs.Prelude.{All}
 use Rattle.std.proofs.lemmas.Int.{ints}
@@ -23,10 +24,12 @@ one_own = record {
   small = record { low = omega (arith, ints); high = omega (arith, ints) };
 }
 
-list_own : (sides : List Side) (pairs : List Pair) → sides ≡ Buy ∷ Sell ∷ [] → pairs ≡ one_pair ∷ [] → All (IsOwnPair (length sides) (buys_of sides)) pairs
+list_own : (sides : List Side) (pairs : List Pair) → sides ≡ Buy ∷ Sell ∷ [] → pairs ≡ one_pair ∷ []
+    → All (IsOwnPair (length sides) (buys_of sides)) pairs
 list_own sides pairs sides_is pairs_is =
     subst (λ s. All (IsOwnPair (length s) (buys_of s)) pairs) (sym sides_is)
-    (subst (All (IsOwnPair 2 1)) (sym pairs_is) (All-cons (IsOwnPair 2 1) one_pair [] one_own (All-nil (IsOwnPair 2 1))))
+    (subst (All (IsOwnPair 2 1)) (sym pairs_is) (All-cons (IsOwnPair 2 1) one_pair [] one_own
+    (All-nil (IsOwnPair 2 1))))
 
 pub new-requires-clause-own : goal.new-requires-clause-own
 new-requires-clause-own g c =

@@ -1,3 +1,4 @@
+-- What the loops of `first_trades` of `src/solver.rt` keep.
 use Rattle.std.proofs.Common.{◌≡◌, true}
 use Rattle.tn_base.specs.Sets.{set_of}
 use Rattle.tn_flow.proofs.solver.first_trades.Given as goal

@@ -1,3 +1,4 @@
+-- What the loops of `bundle_of` of `src/holding.rt` keep.
 use Rattle.std.proofs.Common.{◌≡◌}
 use Rattle.tn_plain_data.specs.Network.{part}
 use Rattle.tn_holding.proofs.holding.bundle_of.Given as goal

@@ -1,3 +1,4 @@
+-- What shows the clauses of `firm_holdings` of `src/holding.rt`.
 use Rattle.std.proofs.Common.{List, ◌+◌, map, refl, sym, subst, ap, arith, rules}
 use Rattle.std.proofs.lemmas.List.{length-map}
 use Rattle.std.proofs.lemmas.Option.{slice_get_read}
@@ -21,7 +22,9 @@ holding_of-requires g c = (
       c.requires.wide,
       (
         (λ k below. c.requires.network.whole c.loop-f.f k (raw_firm_of c.index-firms-f.result)
-            (firm_is raw_firm_of c.args.firms.now c.loop-f.f c.index-firms-f.result (slice_get_read c.args.firms.now _ c.loop-f.f c.index-firms-f.result refl c.loop-f-test.true c.index-firms-f.is)) below),
+            (firm_is raw_firm_of c.args.firms.now c.loop-f.f c.index-firms-f.result
+            (slice_get_read c.args.firms.now _ c.loop-f.f c.index-firms-f.result refl c.loop-f-test.true
+            c.index-firms-f.is)) below),
         (c.requires.priced, c.requires.small),
       ),
     ),
@@ -32,20 +35,28 @@ pub sum-surplus-requires-clause-total : goal.sum-surplus-requires-clause-total
 sum-surplus-requires-clause-total g c =
     let inside = c.loop-f-test.true in
     let few = c.requires.few_firms in
-    sum_small c.loop-f.f most_number c.loop-f.surplus (omega (arith, inside, few)) (omega arith) c.loop-f.invariant.small
+    sum_small c.loop-f.f most_number c.loop-f.surplus (omega (arith, inside, few)) (omega arith)
+    c.loop-f.invariant.small
 
 pub loop-f-preserved : goal.loop-f-preserved
 loop-f-preserved g c =
-    one_told (map raw_firm_of c.args.firms.now) c.args.ends.now c.args.at.now.on (price_at c.args.at.now.prices) c.loop-f.f c.loop-f.holdings.items c.push.new.self.items c.loop-f.content _
-    c.loop-f.surplus c.sum-surplus.result (raw_firm_of c.index-firms-f.result) c.in_ok-holding.holding c.loop-f.invariant
-    (firm_is raw_firm_of c.args.firms.now c.loop-f.f c.index-firms-f.result (slice_get_read c.args.firms.now _ c.loop-f.f c.index-firms-f.result refl c.loop-f-test.true c.index-firms-f.is))
-    c.in_ok-holding.ensures.told c.in_ok-holding.ensures.within c.in_ok-holding.ensures.worth c.in_ok-push.ensures.items (ap (λ n. c.loop-f.content + n) c.count_content-content.ensures) c.sum-surplus.ensures
+    one_told (map raw_firm_of c.args.firms.now) c.args.ends.now c.args.at.now.on (price_at c.args.at.now.prices)
+    c.loop-f.f c.loop-f.holdings.items c.push.new.self.items c.loop-f.content _
+    c.loop-f.surplus c.sum-surplus.result (raw_firm_of c.index-firms-f.result) c.in_ok-holding.holding
+    c.loop-f.invariant
+    (firm_is raw_firm_of c.args.firms.now c.loop-f.f c.index-firms-f.result
+    (slice_get_read c.args.firms.now _ c.loop-f.f c.index-firms-f.result refl c.loop-f-test.true
+    c.index-firms-f.is))
+    c.in_ok-holding.ensures.told c.in_ok-holding.ensures.within c.in_ok-holding.ensures.worth c.in_ok-push.ensures.items
+    (ap (λ n. c.loop-f.content + n) c.count_content-content.ensures) c.sum-surplus.ensures
 
 pub returns-clause-answer : goal.returns-clause-answer
 returns-clause-answer g c =
     let outside = c.loop-f-test.false in
     let as_many = length-map c.args.firms.now raw_firm_of in
-    subst (λ (told : List Holding). TellsHoldings (map raw_firm_of c.args.firms.now) c.args.ends.now (pos 1) c.args.at.now.on (price_at c.args.at.now.prices) (Firms c.loop-f.content told c.loop-f.surplus))
+    subst (λ (told : List Holding). TellsHoldings (map raw_firm_of c.args.firms.now) c.args.ends.now (pos 1)
+    c.args.at.now.on (price_at c.args.at.now.prices) (Firms c.loop-f.content told c.loop-f.surplus))
     (sym c.from_vec.ensures)
-    (all_told (map raw_firm_of c.args.firms.now) c.args.ends.now c.args.at.now.on (price_at c.args.at.now.prices) c.loop-f.f c.loop-f.holdings.items c.loop-f.content c.loop-f.surplus
+    (all_told (map raw_firm_of c.args.firms.now) c.args.ends.now c.args.at.now.on (price_at c.args.at.now.prices)
+    c.loop-f.f c.loop-f.holdings.items c.loop-f.content c.loop-f.surplus
     c.loop-f.invariant (omega (arith, outside, as_many)))

@@ -1,3 +1,4 @@
+-- What the loops of `own_prices` of `src/holding.rt` keep.
 use Rattle.tn_plain_data.specs.Prices.{price_at}
 use Rattle.tn_price.specs.Standings.{AreOwnPrices}
 use Rattle.tn_holding.proofs.holding.own_prices.Given as goal

@@ -1,3 +1,4 @@
+-- What the loops of `best_of_table` of `src/table.rt` keep.
 use Rattle.std.proofs.Common.{pos}
 use Rattle.tn_base.specs.Firm.{utility}
 use Rattle.tn_exchange.specs.Rows.{firm_of_table}

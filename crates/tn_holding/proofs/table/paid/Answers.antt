@@ -1,3 +1,4 @@
+-- What shows the clauses of `paid` of `src/table.rt`.
 use Rattle.std.proofs.Common.{arith}
 use Rattle.std.proofs.lemmas.Int.{ints}
 use Rattle.tn_base.specs.Firm.{payments}
@@ -17,5 +18,9 @@ loop-k-preserved c =
     let inside = c.loop-k-test.true in
     record {
       sum = omega (arith, ints, next, sum, term, low, high, small.low, small.high, few, inside);
-      small = record { low = omega (arith, ints, low, small.low, high, small.high, few, inside); high = omega (arith, ints, high, small.high, low, small.low, few, inside) };
+      small = record {
+        low = omega (arith, ints, low, small.low, high, small.high, few, inside);
+        high =
+            omega (arith, ints, high, small.high, low, small.low, few, inside);
+      };
     }

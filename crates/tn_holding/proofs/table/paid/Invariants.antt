@@ -1,3 +1,4 @@
+-- What the loops of `paid` of `src/table.rt` keep.
 use Rattle.std.proofs.Common.{◌≡◌, ◌*◌}
 use Rattle.tn_base.specs.Arcs.{IsAtMost}
 use Rattle.tn_market.specs.Widths.{most_asked_price}

@@ -1,3 +1,4 @@
+-- What shows the clauses of `start` of `src/table.rt`.
 use Rattle.std.proofs.Common.{sym, subst, ℤ, Option, IsSome}
 use Rattle.tn_plain_data.specs.Prices.{price_at}
 use Rattle.tn_holding.proofs.TableLemmas.{empty_valued}

@@ -1,3 +1,4 @@
+-- What shows the clauses of `before_feed` of `src/lines.rt`.
 use Rattle.std.proofs.Common.{sym, ◌∙◌}
 use Rattle.tn_io.proofs.LineLemmas.{feed-None, feed-Some}
 use Rattle.tn_io.proofs.lines.before_feed.Goals as goal

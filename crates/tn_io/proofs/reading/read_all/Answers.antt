@@ -1,3 +1,4 @@
+-- What shows the clauses of `read_all` of `src/reading.rt`.
 use Rattle.std.proofs.Common.{arith, length-take}
 use Rattle.tn_io.proofs.Taken.{TakesFirst-more, TakesAtMost-more}
 use Rattle.tn_io.proofs.reading.read_all.Goals as goal

@@ -1,3 +1,4 @@
+-- What the loops of `read_all` of `src/reading.rt` keep.
 use Rattle.std.proofs.Common.{◌+◌, ◌≤◌, length, ◌-◌}
 use Rattle.std.specs.Io.KnownBytes.{Consumes}
 use Rattle.tn_io.proofs.reading.read_all.Given as goal

@@ -1,3 +1,4 @@
+-- What shows the clauses of `write_all` of `src/writing.rt`.
 use Rattle.std.proofs.Common.{arith}
 use Rattle.tn_io.proofs.Grown.{Grows-slice, slice-within}
 use Rattle.tn_io.proofs.writing.write_all.Goals as goal

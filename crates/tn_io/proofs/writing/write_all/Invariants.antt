@@ -1,3 +1,4 @@
+-- What the loops of `write_all` of `src/writing.rt` keep.
 use Rattle.std.proofs.Common.{length, ◌-◌, ◌≤◌, take}
 use Rattle.tn_io.specs.Sink.{Grows}
 use Rattle.tn_io.proofs.writing.write_all.Given as goal

@@ -1,3 +1,4 @@
+-- What the loops of `completing_prices` of `src/completing.rt` keep.
 use Rattle.tn_judge.specs.Completion.{ArePricesTo}
 use Rattle.tn_judge.proofs.completing.completing_prices.Given as goal
 

@@ -1,3 +1,4 @@
+-- What the loops of `node_prices` of `src/completing.rt` keep.
 use Rattle.tn_judge.proofs.CompletionLemmas.{ArePricedBelow}
 use Rattle.tn_judge.proofs.completing.node_prices.Given as goal
 

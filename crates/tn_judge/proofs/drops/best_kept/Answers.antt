@@ -1,3 +1,4 @@
+-- What shows the clauses of `best_kept` of `src/drops.rt`.
 use Rattle.std.proofs.Common.{rules, ◌∙◌, ◌^◌, ◌<◌, ℕ, ℤ, Option, sym, subst, take}
 use Rattle.std.proofs.lemmas.Int.{to_z-of_z}
 use Rattle.std.proofs.lemmas.Option.{same_Some}
@@ -14,7 +15,8 @@ use Rattle.tn_judge.proofs.drops.best_kept.Goals as goal
 pub best_from-requires-clause-own : goal.best_from-requires-clause-own
 best_from-requires-clause-own g c =
     let holds = c.signed_by-held.ensures c.firm-firm.result.now c.firm-firm.ensures in
-    subst (λ (x : ℕ). x < 2 ^ (g.V.Valuation.firm c.firm-firm.result.now).count) (sym holds.bundle) (set_of_within _ (g.V.Valuation.firm c.firm-firm.result.now).count)
+    subst (λ (x : ℕ). x < 2 ^ (g.V.Valuation.firm c.firm-firm.result.now).count) (sym holds.bundle)
+    (set_of_within _ (g.V.Valuation.firm c.firm-firm.result.now).count)
 
 pub returns-clause-best : goal.returns-clause-best
 returns-clause-best g c = λ v is.
@@ -27,10 +29,16 @@ returns-clause-best g c = λ v is.
     let over = c.args.outcome.now.over in
     let contracts = c.args.outcome.now.contracts in
     let found = c.best_from.result in
-    let at_scale = subst (λ (scale : ℤ). IsBestBetween 0 c.signed_by-held.result.signed (utility scale (price_at (take c.trades.result c.signed_by-held.result.prices)) firm) found.0 found.1)
+    let at_scale =
+    subst (λ (scale : ℤ). IsBestBetween 0 c.signed_by-held.result.signed
+    (utility scale (price_at (take c.trades.result c.signed_by-held.result.prices)) firm) found.0 found.1)
     (to_z-of_z w128 over fits) c.best_from.ensures.best.best in
     let at_contracts = subst (λ (u : ℕ → Option ℤ). IsBestBetween 0 c.signed_by-held.result.signed u found.0 found.1)
-    (held_utility trades over contracts c.args.f firm c.trades.result c.signed_by-held.result.signed c.signed_by-held.result.prices c.trades.ensures.count few holds) at_scale in
-    let signed = subst (λ (x : ℕ). IsBestBetween 0 x (contract_utility trades over contracts c.args.f firm) found.0 found.1) holds.bundle at_contracts in
-    subst (λ (w : g.row.V.Denot). IsBestBetween 0 (signed_bundle trades contracts c.args.f (g.V.Valuation.firm w)) (contract_utility trades over contracts c.args.f (g.V.Valuation.firm w)) found.0 found.1)
+    (held_utility trades over contracts c.args.f firm c.trades.result c.signed_by-held.result.signed
+    c.signed_by-held.result.prices c.trades.ensures.count few holds) at_scale in
+    let signed =
+    subst (λ (x : ℕ). IsBestBetween 0 x (contract_utility trades over contracts c.args.f firm) found.0 found.1)
+    holds.bundle at_contracts in
+    subst (λ (w : g.row.V.Denot). IsBestBetween 0 (signed_bundle trades contracts c.args.f (g.V.Valuation.firm w))
+    (contract_utility trades over contracts c.args.f (g.V.Valuation.firm w)) found.0 found.1)
     (same_Some now v (sym c.firm-firm.ensures ∙ is)) signed

@@ -1,3 +1,4 @@
+-- What shows the clauses of `blocking_over` of `src/judging.rt`.
 use Rattle.std.proofs.Common.{rules, ◌∙◌, ◌+◌, ◌*◌, ℤ, ◌*ℤ◌, sym, ap₂, subst, arith}
 use Rattle.std.proofs.lemmas.Int.{to_z-of_z, ints}
 use mir.Syntax.{w128}
@@ -16,13 +17,17 @@ pub overflow_mul-result : goal.overflow_mul-result
 overflow_mul-result c =
     let first : SFits w128 c.args.outcome.now.over = search rules in
     let second : SFits w128 c.chain_scale.result = search rules in
-    subst (SFits w128) (sym (ap₂ (λ (a b : ℤ). a *ℤ b) (to_z-of_z w128 c.args.outcome.now.over first) (to_z-of_z w128 c.chain_scale.result second ∙ c.chain_scale.ensures)))
+    subst (SFits w128)
+    (sym (ap₂ (λ (a b : ℤ). a *ℤ b) (to_z-of_z w128 c.args.outcome.now.over first)
+    (to_z-of_z w128 c.chain_scale.result second ∙ c.chain_scale.ensures)))
     (small_fits (c.args.outcome.now.over *ℤ chain_scale c.args.count c.args.outcome.now.contracts)
-    (scale_bound c.args.outcome.now.over c.args.count c.args.outcome.now.contracts c.requires.few c.requires.from_one c.requires.small))
+    (scale_bound c.args.outcome.now.over c.args.count c.args.outcome.now.contracts c.requires.few c.requires.from_one
+    c.requires.small))
 
 pub returns : goal.returns
 returns c =
     let first : SFits w128 c.args.outcome.now.over = search rules in
     let second : SFits w128 c.chain_scale.result = search rules in
     to_z-of_z w128 _ (overflow_mul-result c)
-    ∙ ap₂ (λ (a b : ℤ). a *ℤ b) (to_z-of_z w128 c.args.outcome.now.over first) (to_z-of_z w128 c.chain_scale.result second ∙ c.chain_scale.ensures)
+    ∙ ap₂ (λ (a b : ℤ). a *ℤ b) (to_z-of_z w128 c.args.outcome.now.over first)
+    (to_z-of_z w128 c.chain_scale.result second ∙ c.chain_scale.ensures)

@@ -1,3 +1,4 @@
+-- What shows the clauses of `bends_at` of `src/faults.rt`.
 use Rattle.std.proofs.Common.{rules, ◌+◌, ◌<◌, length}
 use Rattle.std.proofs.lemmas.Int.{to_z-of_z}
 use mir.Syntax.{w128}
@@ -12,6 +13,7 @@ returns-then-place-len c =
     let after : SFits w128 c.at-then-place-len-2.result = search rules in
     let inside : c.args.place + 1 < length c.args.numbers.now = search rules in
     let tested = simp to_z-of_z at c.bends.ensures in
-    let bend = bend_from c.args.numbers.now c.args.place c.at.result c.at-then-place-len.result c.at-then-place-len-2.result
+    let bend = bend_from c.args.numbers.now c.args.place c.at.result c.at-then-place-len.result
+    c.at-then-place-len-2.result
     c.requires.after_first inside c.at.ensures c.at-then-place-len.ensures c.at-then-place-len-2.ensures in
     ((λ h. bend.0 (tested.0 h)), (λ h. tested.1 (bend.1 h)))

@@ -1,3 +1,4 @@
+-- What shows the clauses of `first_bend` of `src/faults.rt`.
 use Rattle.std.proofs.Common.{arith}
 use Rattle.tn_laminar.proofs.FaultLemmas.{concave_from}
 use Rattle.tn_laminar.proofs.faults.first_bend.Goals as goal

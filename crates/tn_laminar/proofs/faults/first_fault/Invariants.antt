@@ -1,3 +1,4 @@
+-- What the loops of `first_fault` of `src/faults.rt` keep.
 use Rattle.tn_laminar.specs.Faults.{AreSoundBelow}
 use Rattle.tn_laminar.proofs.faults.first_fault.Given as goal
 

@@ -1,3 +1,4 @@
+-- What the loops of `masks` of `src/laminar.rt` keep.
 use Rattle.std.proofs.Common.{◌≡◌, map, take}
 use Rattle.tn_laminar.specs.Masked.{masks_of}
 use Rattle.tn_laminar.proofs.laminar.masks.Given as goal

@@ -1,3 +1,4 @@
+-- What shows the clauses of `close_pairs_decide` of `src/close.rt`.
 use Rattle.tn_law.proofs.ClosePairs.{close_pairs_decide}
 use Rattle.tn_law.proofs.close.close_pairs_decide.Goals as goal
 

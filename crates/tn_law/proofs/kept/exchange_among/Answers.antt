@@ -1,3 +1,4 @@
+-- What shows the clauses of `exchange_among` of `src/kept.rt`.
 use Rattle.tn_law.proofs.KeepLemmas.{meets-among}
 use Rattle.tn_law.proofs.kept.exchange_among.Goals as goal
 

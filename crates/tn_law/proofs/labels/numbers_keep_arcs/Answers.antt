@@ -1,3 +1,4 @@
+-- What shows the clauses of `numbers_keep_arcs` of `src/labels.rt`.
 use Rattle.tn_law.proofs.LabelLemmas.{numbers_keep_arcs}
 use Rattle.tn_law.proofs.labels.numbers_keep_arcs.Goals as goal
 

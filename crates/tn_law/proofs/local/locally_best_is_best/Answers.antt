@@ -1,3 +1,4 @@
+-- What shows the clauses of `locally_best_is_best` of `src/local.rt`.
 use Rattle.tn_law.proofs.LocalLemmas.{local_to_global}
 use Rattle.tn_law.proofs.local.locally_best_is_best.Goals as goal
 

@@ -1,3 +1,4 @@
+-- What shows the clauses of `listed_numbers_are_concave` of `src/nested.rt`.
 use Rattle.tn_law.proofs.ConcaveLemmas.{concave-listed}
 use Rattle.tn_law.proofs.nested.listed_numbers_are_concave.Goals as goal
 

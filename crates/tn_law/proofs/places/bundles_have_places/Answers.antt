@@ -1,3 +1,4 @@
+-- What shows the clauses of `bundles_have_places` of `src/places.rt`.
 use Rattle.tn_law.proofs.PlaceLemmas.{places}
 use Rattle.tn_law.proofs.places.bundles_have_places.Goals as goal
 

@@ -1,3 +1,4 @@
+-- What shows the clauses of `exchange_over_places` of `src/places.rt`.
 use Rattle.tn_law.proofs.ExchangeLemmas.{exchange_to_places, exchange_from_places}
 use Rattle.tn_law.proofs.places.exchange_over_places.Goals as goal
 

@@ -1,3 +1,4 @@
+-- What shows the clauses of `local_test` of `src/local.rt`.
 use Rattle.std.proofs.Common.{◌≡◌, ℕ, ◌^◌, ◌≤◌, ◌-◌, sym, ◌∙◌, subst, refl, arith, length}
 use Rattle.tn_exchange.specs.Rows.{firm_of_table}
 use Rattle.tn_exchange.specs.Verdicts.{IfFails, IsVerdictOn}
@@ -16,26 +17,41 @@ loop-bits-init c =
 
 pub loop-bits-preserved-in-Holds : goal.loop-bits-preserved-in-Holds
 loop-bits-preserved-in-Holds c =
-    no_more_close (firm_of_table c.args.table.now) (c.loop-bits.bits - 1) (λ s above. c.loop-bits.invariant s (omega (arith, above)))
-    (λ s within f. subst (IsVerdictOn (firm_of_table c.args.table.now) (λ t. (t.x ≡ c.from_bits-x.result) × AreClose (buys_of c.args.table.now.sides) c.from_bits-x.result t.y)) c.in-Holds.is c.test_from.ensures s
-    (within.0 ∙ sym c.from_bits-x.ensures, subst (λ (z : ℕ). AreClose (buys_of c.args.table.now.sides) z s.y) (sym c.from_bits-x.ensures) within.1) f)
+    no_more_close (firm_of_table c.args.table.now) (c.loop-bits.bits - 1)
+    (λ s above. c.loop-bits.invariant s (omega (arith, above)))
+    (λ s within f. subst (IsVerdictOn (firm_of_table c.args.table.now) (λ t. (t.x ≡ c.from_bits-x.result)
+    × AreClose (buys_of c.args.table.now.sides) c.from_bits-x.result t.y)) c.in-Holds.is c.test_from.ensures s (
+      within.0 ∙ sym c.from_bits-x.ensures,
+      subst (λ (z : ℕ). AreClose (buys_of c.args.table.now.sides) z s.y)
+          (sym c.from_bits-x.ensures) within.1,
+    ) f)
 
 pub returns-in_default-test_from-clause-first : goal.returns-in_default-test_from-clause-first
 returns-in_default-test_from-clause-first c =
-    first_close (firm_of_table c.args.table.now) c.from_bits-x.result c.test_from.result c.in_default-test_from.not-Holds c.test_from.ensures
+    first_close (firm_of_table c.args.table.now) c.from_bits-x.result c.test_from.result
+    c.in_default-test_from.not-Holds c.test_from.ensures
     (λ s above. c.loop-bits.invariant s (omega (arith, above, c.from_bits-x.ensures)))
 
 pub returns-in_default-test_from-clause-holds : goal.returns-in_default-test_from-clause-holds
 returns-in_default-test_from-clause-holds c =
     let first : IfFails c.test_from.result (IsFirstCloseFailure (firm_of_table c.args.table.now)) =
-    first_close (firm_of_table c.args.table.now) c.from_bits-x.result c.test_from.result c.in_default-test_from.not-Holds c.test_from.ensures
-    (λ s above. c.loop-bits.invariant s (omega (arith, above, c.from_bits-x.ensures))) in
-    ((λ e. absurd (c.in_default-test_from.not-Holds e)), close_not_none (firm_of_table c.args.table.now) c.test_from.result first)
+    first_close (firm_of_table c.args.table.now) c.from_bits-x.result c.test_from.result
+    c.in_default-test_from.not-Holds c.test_from.ensures
+    (λ s above. c.loop-bits.invariant s (omega (arith, above, c.from_bits-x.ensures))) in (
+      (λ e. absurd (c.in_default-test_from.not-Holds e)),
+      close_not_none (firm_of_table c.args.table.now) c.test_from.result first,
+    )
 
 pub returns-clause-holds : goal.returns-clause-holds
-returns-clause-holds c =
-    ((λ e. none_fails_close (firm_of_table c.args.table.now) (own_bundles c.args.table.now) c.requires (λ s above. c.loop-bits.invariant s (omega (arith, above)))), (λ none. refl))
+returns-clause-holds c = (
+  (λ e. none_fails_close (firm_of_table c.args.table.now) (own_bundles c.args.table.now) c.requires
+      (λ s above. c.loop-bits.invariant s (omega (arith, above)))),
+  (λ none. refl),
+)
 
 pub returns-then-quads_exchange-clause-holds : goal.returns-then-quads_exchange-clause-holds
-returns-then-quads_exchange-clause-holds c =
-    ((λ e. none_fails_from_quads (firm_of_table c.args.table.now) (own_bundles c.args.table.now) c.requires (c.quads_exchange.ensures.0 c.if-quads_exchange.true)), λ none. refl)
+returns-then-quads_exchange-clause-holds c = (
+  (λ e. none_fails_from_quads (firm_of_table c.args.table.now) (own_bundles c.args.table.now) c.requires
+      (c.quads_exchange.ensures.0 c.if-quads_exchange.true)),
+  λ none. refl,
+)

@@ -1,3 +1,4 @@
+-- What the loops of `exchange_at` of `src/quads.rt` keep.
 use Rattle.tn_exchange.specs.Rows.{firm_of_table}
 use Rattle.tn_local.specs.Quads.{OneExchanges}
 use Rattle.tn_local.proofs.QuadLemmas.{AllLowFrom}

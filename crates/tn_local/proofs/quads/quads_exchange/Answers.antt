@@ -1,3 +1,4 @@
+-- What shows the clauses of `quads_exchange` of `src/quads.rt`.
 use Rattle.std.proofs.Common.{ℕ, refl, sym, ◌∙◌, subst, arith, inl, inr}
 use Rattle.std.proofs.lemmas.Bool.{cases_eq, false≢true}
 use Rattle.tn_law.specs.Quads.{QuadsExchangeAt}
@@ -13,9 +14,18 @@ returns-then-not-exchange_at c = (
 
 pub loop-bits-preserved : goal.loop-bits-preserved
 loop-bits-preserved c = λ z below. elim (cases_eq z c.loop-bits.bits) [
-  | inl e ↦ subst (λ (w : ℕ). QuadsExchangeAt (firm_of_table c.args.table.now) w) (c.from_bits.ensures ∙ sym e) (c.exchange_at.ensures.0 c.if-not-exchange_at.false)
+  | inl e ↦ subst (λ (w : ℕ). QuadsExchangeAt (firm_of_table c.args.table.now) w) (c.from_bits.ensures ∙ sym e)
+      (c.exchange_at.ensures.0 c.if-not-exchange_at.false)
   | inr d ↦ c.loop-bits.invariant z (omega (arith, below, d))
 ]
 
 pub returns : goal.returns
-returns c = ((λ t z own. c.loop-bits.invariant z (omega (arith, own, c.loop-bits-test.false, c.bundles-bits-end.ensures))), λ quads. refl)
+returns c = (
+  (λ t z own. c.loop-bits.invariant z (omega (
+    arith,
+    own,
+    c.loop-bits-test.false,
+    c.bundles-bits-end.ensures,
+  ))),
+  λ quads. refl,
+)

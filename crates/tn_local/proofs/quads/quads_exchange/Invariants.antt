@@ -1,3 +1,4 @@
+-- What the loops of `quads_exchange` of `src/quads.rt` keep.
 use Rattle.std.proofs.Common.{ℕ, ◌<◌}
 use Rattle.tn_exchange.specs.Rows.{firm_of_table}
 use Rattle.tn_law.specs.Quads.{QuadsExchangeAt}

@@ -1,3 +1,4 @@
+-- What shows the clauses of `three_exchange` of `src/quads.rt`.
 use Rattle.std.proofs.Common.{◌≡◌, ℕ, ap, ◌∙◌, rules, SFits, arith}
 use Rattle.std.specs.Int.{w128}
 use Rattle.std.proofs.lemmas.Int.{to_z-of_z, ints}
@@ -26,9 +27,13 @@ returns c =
     let both = c.requires.both in
     let first = c.requires.first in
     let second = c.requires.second in
-    let third : c.worth_of-third.result ≡ value firm (toggle c.args.z c.args.c) = c.worth_of-third.ensures.worth ∙ ap (value firm) c.toggled.ensures.toggled in
+    let third : c.worth_of-third.result ≡ value firm (toggle c.args.z c.args.c) =
+    c.worth_of-third.ensures.worth ∙ ap (value firm) c.toggled.ensures.toggled in
     let with_first : c.worth_of-with_first.result ≡ value firm (toggle (toggle c.args.z c.args.a) c.args.c) =
-    c.worth_of-with_first.ensures.worth ∙ ap (value firm) (c.toggled-3.ensures.toggled ∙ ap (λ (x : ℕ). toggle x c.args.c) c.toggled-2.ensures.toggled) in
+    c.worth_of-with_first.ensures.worth ∙ ap (value firm) (c.toggled-3.ensures.toggled
+    ∙ ap (λ (x : ℕ). toggle x c.args.c) c.toggled-2.ensures.toggled) in
     let with_second : c.worth_of-with_second.result ≡ value firm (toggle (toggle c.args.z c.args.b) c.args.c) =
-    c.worth_of-with_second.ensures.worth ∙ ap (value firm) (c.toggled-5.ensures.toggled ∙ ap (λ (x : ℕ). toggle x c.args.c) c.toggled-4.ensures.toggled) in
-    same_sums _ _ _ _ _ _ _ (omega (arith, ints, one, both, third)) (omega (arith, ints, two, with_first, second)) (omega (arith, ints, three, with_second, first)) stands
+    c.worth_of-with_second.ensures.worth ∙ ap (value firm) (c.toggled-5.ensures.toggled
+    ∙ ap (λ (x : ℕ). toggle x c.args.c) c.toggled-4.ensures.toggled) in
+    same_sums _ _ _ _ _ _ _ (omega (arith, ints, one, both, third)) (omega (arith, ints, two, with_first, second))
+    (omega (arith, ints, three, with_second, first)) stands

@@ -1,3 +1,4 @@
+-- What shows the clauses of `worth_of` of `src/quads.rt`.
 use Rattle.std.proofs.Common.{sym, rules, SFits}
 use Rattle.std.specs.Int.{w128}
 use Rattle.std.proofs.lemmas.Int.{to_z-of_z}

@@ -1,3 +1,4 @@
+-- What shows the clauses of `best_by_ascent` of `src/ascent.rt`.
 use Rattle.std.proofs.Common.{◌∙◌, ℕ, ℤ, sym, subst}
 use Rattle.std.proofs.lemmas.Int.{to_z-of_z}
 use mir.Syntax.{w128}
@@ -14,7 +15,8 @@ use Rattle.tn_market.proofs.ascent.best_by_ascent.Goals as goal
 pub returns-then-ne : goal.returns-then-ne
 returns-then-ne g c =
     let firm = g.V.Valuation.firm c.args.firm.now in
-    let question : IsQuestion firm (g.V.Valuation.limit c.args.firm.now) c.args.need c.args.free c.args.scale c.args.prices.now c.gains-gains.result = record {
+    let question : IsQuestion firm (g.V.Valuation.limit c.args.firm.now) c.args.need c.args.free c.args.scale
+    c.args.prices.now c.gains-gains.result = record {
       own = c.requires.own;
       priced = c.requires.priced;
       small_prices = c.requires.small_prices;
@@ -26,17 +28,23 @@ returns-then-ne g c =
       gains_are = c.gains-gains.ensures.each;
     } in
     let scale_fits : SFits w128 c.args.scale = c.ranges.scale in
-    let climbed = subst (λ (scale : ℤ). IsBest (aimed c.union.result scale c.gains-gains.result firm).worth c.climb-found.result.bundle c.climb-found.result.value)
+    let climbed =
+    subst (λ (scale : ℤ). IsBest (aimed c.union.result scale c.gains-gains.result firm).worth
+    c.climb-found.result.bundle c.climb-found.result.value)
     (to_z-of_z w128 c.args.scale scale_fits) c.climb-found.ensures.best in
-    let best = subst (λ (allowed : ℕ). IsBest (aimed allowed c.args.scale c.gains-gains.result firm).worth c.climb-found.result.bundle c.climb-found.result.value)
+    let best = subst (λ (allowed : ℕ). IsBest (aimed allowed c.args.scale c.gains-gains.result firm).worth
+    c.climb-found.result.bundle c.climb-found.result.value)
     c.union.ensures climbed in
-    best_none firm (g.V.Valuation.limit c.args.firm.now) c.args.need c.args.free c.args.scale c.args.prices.now c.gains-gains.result question c.climb-found.result.bundle c.climb-found.result.value best
-    (λ e. not_emptied c.minus.result c.empty-2.result c.ne.result c.ne.ensures c.if-ne.true c.empty-2.ensures (c.minus.ensures ∙ e))
+    best_none firm (g.V.Valuation.limit c.args.firm.now) c.args.need c.args.free c.args.scale c.args.prices.now
+    c.gains-gains.result question c.climb-found.result.bundle c.climb-found.result.value best
+    (λ e. not_emptied c.minus.result c.empty-2.result c.ne.result c.ne.ensures c.if-ne.true c.empty-2.ensures
+    (c.minus.ensures ∙ e))
 
 pub overflow_sub-result : goal.overflow_sub-result
 overflow_sub-result g c =
     let firm = g.V.Valuation.firm c.args.firm.now in
-    let question : IsQuestion firm (g.V.Valuation.limit c.args.firm.now) c.args.need c.args.free c.args.scale c.args.prices.now c.gains-gains.result = record {
+    let question : IsQuestion firm (g.V.Valuation.limit c.args.firm.now) c.args.need c.args.free c.args.scale
+    c.args.prices.now c.gains-gains.result = record {
       own = c.requires.own;
       priced = c.requires.priced;
       small_prices = c.requires.small_prices;
@@ -48,17 +56,23 @@ overflow_sub-result g c =
       gains_are = c.gains-gains.ensures.each;
     } in
     let scale_fits : SFits w128 c.args.scale = c.ranges.scale in
-    let climbed = subst (λ (scale : ℤ). IsBest (aimed c.union.result scale c.gains-gains.result firm).worth c.climb-found.result.bundle c.climb-found.result.value)
+    let climbed =
+    subst (λ (scale : ℤ). IsBest (aimed c.union.result scale c.gains-gains.result firm).worth
+    c.climb-found.result.bundle c.climb-found.result.value)
     (to_z-of_z w128 c.args.scale scale_fits) c.climb-found.ensures.best in
-    let best = subst (λ (allowed : ℕ). IsBest (aimed allowed c.args.scale c.gains-gains.result firm).worth c.climb-found.result.bundle c.climb-found.result.value)
+    let best = subst (λ (allowed : ℕ). IsBest (aimed allowed c.args.scale c.gains-gains.result firm).worth
+    c.climb-found.result.bundle c.climb-found.result.value)
     c.union.ensures climbed in
-    let small = value_small firm (g.V.Valuation.limit c.args.firm.now) c.args.need c.args.free c.args.scale c.args.prices.now c.gains-gains.result question c.climb-found.result.bundle c.climb-found.result.value best.is in
+    let small = value_small firm (g.V.Valuation.limit c.args.firm.now) c.args.need c.args.free c.args.scale
+    c.args.prices.now c.gains-gains.result question c.climb-found.result.bundle c.climb-found.result.value best.is
+    in
     plain_fits c.climb-found.result.value c.count.result small c.count.ensures.few
 
 pub returns : goal.returns
 returns g c =
     let firm = g.V.Valuation.firm c.args.firm.now in
-    let question : IsQuestion firm (g.V.Valuation.limit c.args.firm.now) c.args.need c.args.free c.args.scale c.args.prices.now c.gains-gains.result = record {
+    let question : IsQuestion firm (g.V.Valuation.limit c.args.firm.now) c.args.need c.args.free c.args.scale
+    c.args.prices.now c.gains-gains.result = record {
       own = c.requires.own;
       priced = c.requires.priced;
       small_prices = c.requires.small_prices;
@@ -70,15 +84,25 @@ returns g c =
       gains_are = c.gains-gains.ensures.each;
     } in
     let scale_fits : SFits w128 c.args.scale = c.ranges.scale in
-    let climbed = subst (λ (scale : ℤ). IsBest (aimed c.union.result scale c.gains-gains.result firm).worth c.climb-found.result.bundle c.climb-found.result.value)
+    let climbed =
+    subst (λ (scale : ℤ). IsBest (aimed c.union.result scale c.gains-gains.result firm).worth
+    c.climb-found.result.bundle c.climb-found.result.value)
     (to_z-of_z w128 c.args.scale scale_fits) c.climb-found.ensures.best in
-    let best = subst (λ (allowed : ℕ). IsBest (aimed allowed c.args.scale c.gains-gains.result firm).worth c.climb-found.result.bundle c.climb-found.result.value)
+    let best = subst (λ (allowed : ℕ). IsBest (aimed allowed c.args.scale c.gains-gains.result firm).worth
+    c.climb-found.result.bundle c.climb-found.result.value)
     c.union.ensures climbed in
-    let small = value_small firm (g.V.Valuation.limit c.args.firm.now) c.args.need c.args.free c.args.scale c.args.prices.now c.gains-gains.result question c.climb-found.result.bundle c.climb-found.result.value best.is in
+    let small = value_small firm (g.V.Valuation.limit c.args.firm.now) c.args.need c.args.free c.args.scale
+    c.args.prices.now c.gains-gains.result question c.climb-found.result.bundle c.climb-found.result.value best.is
+    in
     let size = size_at firm.count c.args.need (need_within firm c.args.need c.args.free c.requires.own) in
     let members = c.count.ensures.members in
     let counted = c.count.ensures.few in
-    let has_all = sym c.minus.ensures ∙ emptied c.minus.result c.empty-2.result c.ne.result c.ne.ensures c.if-ne.false c.empty-2.ensures in
-    let some = best_some firm (g.V.Valuation.limit c.args.firm.now) c.args.need c.args.free c.args.scale c.args.prices.now c.gains-gains.result question c.climb-found.result.bundle c.climb-found.result.value best has_all in
+    let has_all =
+    sym c.minus.ensures ∙ emptied c.minus.result c.empty-2.result c.ne.result c.ne.ensures c.if-ne.false
+    c.empty-2.ensures in
+    let some = best_some firm (g.V.Valuation.limit c.args.firm.now) c.args.need c.args.free c.args.scale
+    c.args.prices.now c.gains-gains.result question c.climb-found.result.bundle c.climb-found.result.value best
+    has_all in
     let plain = plain_value c.climb-found.result.value c.count.result _ small (members ∙ size) counted in
-    subst (IsBestBetween c.args.need c.args.free (utility c.args.scale (price_at c.args.prices.now) firm) c.climb-found.result.bundle) (sym plain) some
+    subst (IsBestBetween c.args.need c.args.free (utility c.args.scale (price_at c.args.prices.now) firm)
+    c.climb-found.result.bundle) (sym plain) some

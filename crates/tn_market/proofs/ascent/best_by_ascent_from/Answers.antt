@@ -1,3 +1,4 @@
+-- What shows the clauses of `best_by_ascent_from` of `src/ascent.rt`.
 use Rattle.std.proofs.Common.{rules, ◌^◌, ◌<◌, ℕ, ℤ, Some, sym, subst}
 use Rattle.std.proofs.lemmas.Int.{to_z-of_z}
 use mir.Syntax.{w128}
@@ -14,8 +15,10 @@ use Rattle.tn_market.proofs.ascent.best_by_ascent_from.Goals as goal
 pub returns-clause-best : goal.returns-clause-best
 returns-clause-best g c =
     let firm = g.V.Valuation.firm c.args.firm.now in
-    let question : IsQuestion firm (g.V.Valuation.limit c.args.firm.now) c.empty.result c.args.allowed c.args.scale c.args.prices.now c.gains-gains.result = record {
-      own = subst (λ (x : ℕ). x < 2 ^ firm.count) (sym (beside_none c.empty.result c.args.allowed c.empty.ensures)) c.requires.own;
+    let question : IsQuestion firm (g.V.Valuation.limit c.args.firm.now) c.empty.result c.args.allowed c.args.scale
+    c.args.prices.now c.gains-gains.result = record {
+      own = subst (λ (x : ℕ). x < 2 ^ firm.count) (sym (beside_none c.empty.result c.args.allowed c.empty.ensures))
+          c.requires.own;
       priced = c.requires.priced;
       small_prices = c.requires.small_prices;
       from_one = c.requires.scaled;
@@ -27,24 +30,32 @@ returns-clause-best g c =
     } in
     let scale_fits : SFits w128 c.args.scale = c.ranges.scale in
     let value_fits : SFits w128 c.climb-found.result.value = search rules in
-    let climbed = subst (λ (scale : ℤ). IsBest (aimed c.args.allowed scale c.gains-gains.result firm).worth c.climb-found.result.bundle c.climb-found.result.value)
+    let climbed =
+    subst (λ (scale : ℤ). IsBest (aimed c.args.allowed scale c.gains-gains.result firm).worth
+    c.climb-found.result.bundle c.climb-found.result.value)
     (to_z-of_z w128 c.args.scale scale_fits) c.climb-found.ensures.best in
-    let best = plain_best firm (g.V.Valuation.limit c.args.firm.now) c.empty.result c.args.allowed c.args.scale c.args.prices.now c.gains-gains.result c.empty.ensures question
+    let best = plain_best firm (g.V.Valuation.limit c.args.firm.now) c.empty.result c.args.allowed c.args.scale
+    c.args.prices.now c.gains-gains.result c.empty.ensures question
     c.climb-found.result.bundle c.climb-found.result.value climbed in
-    let kept = subst (λ (scale : ℤ). StaysAt (aimed c.args.allowed scale c.gains-gains.result firm).worth c.args.from c.climb-found.result.bundle)
+    let kept = subst (λ (scale : ℤ). StaysAt (aimed c.args.allowed scale c.gains-gains.result firm).worth c.args.from
+    c.climb-found.result.bundle)
     (to_z-of_z w128 c.args.scale scale_fits) c.climb-found.ensures.kept in
     record {
-      best = subst (IsBestBetween 0 c.args.allowed (utility c.args.scale (price_at c.args.prices.now) firm) c.climb-found.result.bundle)
+      best = subst (IsBestBetween 0 c.args.allowed (utility c.args.scale (price_at c.args.prices.now) firm)
+          c.climb-found.result.bundle)
           (sym (to_z-of_z w128 c.climb-found.result.value value_fits)) best;
-      kept = λ value greatest. kept value (best_plain firm (g.V.Valuation.limit c.args.firm.now) c.empty.result c.args.allowed c.args.scale c.args.prices.now c.gains-gains.result
+      kept = λ value greatest. kept value (best_plain firm (g.V.Valuation.limit c.args.firm.now) c.empty.result
+          c.args.allowed c.args.scale c.args.prices.now c.gains-gains.result
           c.empty.ensures question c.args.from value greatest);
     }
 
 pub returns-clause-small : goal.returns-clause-small
 returns-clause-small g c =
     let firm = g.V.Valuation.firm c.args.firm.now in
-    let question : IsQuestion firm (g.V.Valuation.limit c.args.firm.now) c.empty.result c.args.allowed c.args.scale c.args.prices.now c.gains-gains.result = record {
-      own = subst (λ (x : ℕ). x < 2 ^ firm.count) (sym (beside_none c.empty.result c.args.allowed c.empty.ensures)) c.requires.own;
+    let question : IsQuestion firm (g.V.Valuation.limit c.args.firm.now) c.empty.result c.args.allowed c.args.scale
+    c.args.prices.now c.gains-gains.result = record {
+      own = subst (λ (x : ℕ). x < 2 ^ firm.count) (sym (beside_none c.empty.result c.args.allowed c.empty.ensures))
+          c.requires.own;
       priced = c.requires.priced;
       small_prices = c.requires.small_prices;
       from_one = c.requires.scaled;
@@ -56,10 +67,14 @@ returns-clause-small g c =
     } in
     let scale_fits : SFits w128 c.args.scale = c.ranges.scale in
     let value_fits : SFits w128 c.climb-found.result.value = search rules in
-    let climbed = subst (λ (scale : ℤ). IsBest (aimed c.args.allowed scale c.gains-gains.result firm).worth c.climb-found.result.bundle c.climb-found.result.value)
+    let climbed =
+    subst (λ (scale : ℤ). IsBest (aimed c.args.allowed scale c.gains-gains.result firm).worth
+    c.climb-found.result.bundle c.climb-found.result.value)
     (to_z-of_z w128 c.args.scale scale_fits) c.climb-found.ensures.best in
-    let best = plain_best firm (g.V.Valuation.limit c.args.firm.now) c.empty.result c.args.allowed c.args.scale c.args.prices.now c.gains-gains.result c.empty.ensures question
+    let best = plain_best firm (g.V.Valuation.limit c.args.firm.now) c.empty.result c.args.allowed c.args.scale
+    c.args.prices.now c.gains-gains.result c.empty.ensures question
     c.climb-found.result.bundle c.climb-found.result.value climbed in
     subst (λ (z : ℤ). IsAtMost z most_utility) (sym (to_z-of_z w128 c.climb-found.result.value value_fits))
-    (plain_small firm (g.V.Valuation.limit c.args.firm.now) c.empty.result c.args.allowed c.args.scale c.args.prices.now c.gains-gains.result question
+    (plain_small firm (g.V.Valuation.limit c.args.firm.now) c.empty.result c.args.allowed c.args.scale c.args.prices.now
+    c.gains-gains.result question
     c.climb-found.result.bundle (Some c.climb-found.result.value) (sym best.is))

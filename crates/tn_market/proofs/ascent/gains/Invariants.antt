@@ -1,3 +1,4 @@
+-- What the loops of `gains` of `src/ascent.rt` keep.
 use Rattle.tn_market.specs.Ascent.{AreGains}
 use Rattle.tn_market.proofs.ascent.gains.Given as goal
 

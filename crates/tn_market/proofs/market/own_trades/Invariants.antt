@@ -1,3 +1,4 @@
+-- What the loops of `own_trades` of `src/market.rt` keep.
 use Rattle.tn_market.specs.Traded.{ArePlaced}
 use Rattle.tn_market.proofs.market.own_trades.Given as goal
 

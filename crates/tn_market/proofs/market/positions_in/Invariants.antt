@@ -1,3 +1,4 @@
+-- What the loops of `positions_in` of `src/market.rt` keep.
 use Rattle.std.proofs.Common.{◌≡◌, get_or}
 use Rattle.tn_base.specs.Sets.{has, set_of}
 use Rattle.tn_market.proofs.market.positions_in.Given as goal

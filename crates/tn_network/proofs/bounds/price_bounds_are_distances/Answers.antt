@@ -1,3 +1,4 @@
+-- What shows the clauses of `price_bounds_are_distances` of `src/bounds.rt`.
 use Rattle.tn_network.proofs.BoundLemmas.{price_bounds_are_distances}
 use Rattle.tn_network.proofs.bounds.price_bounds_are_distances.Goals as goal
 

@@ -1,3 +1,4 @@
+-- What shows the clauses of `one_cycle_for_each_trade` of `src/rounds.rt`.
 use Rattle.tn_network.proofs.KeptLemmas.{one_cycle_for_each_trade}
 use Rattle.tn_network.proofs.rounds.one_cycle_for_each_trade.Goals as goal
 

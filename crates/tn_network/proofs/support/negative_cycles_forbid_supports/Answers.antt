@@ -1,3 +1,4 @@
+-- What shows the clauses of `negative_cycles_forbid_supports` of `src/support.rt`.
 use Rattle.tn_network.proofs.SupportLemmas.{negative_cycles}
 use Rattle.tn_network.proofs.support.negative_cycles_forbid_supports.Goals as goal
 

@@ -1,3 +1,4 @@
+-- What shows the clauses of `supports_keep_arcs` of `src/support.rt`.
 use Rattle.tn_network.proofs.SupportLemmas.{supports_keep_arcs}
 use Rattle.tn_network.proofs.support.supports_keep_arcs.Goals as goal
 

@@ -1,3 +1,4 @@
+-- What shows the clauses of `completed_outcomes_are_rational` of `src/completion.rt`.
 use Rattle.tn_outcome.proofs.FixedLemmas.{completed_is_rational}
 use Rattle.tn_outcome.proofs.completion.completed_outcomes_are_rational.Goals as goal
 

@@ -1,3 +1,4 @@
+-- What the loops of `own` of `src/positions.rt` keep.
 use Rattle.std.proofs.Common.{◌≡◌, ◌+◌, drop}
 use Rattle.tn_plain_data.specs.Network.{own}
 use Rattle.tn_plain_data.proofs.positions.own.Given as goal

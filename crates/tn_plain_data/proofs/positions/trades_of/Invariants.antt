@@ -1,3 +1,4 @@
+-- What the loops of `trades_of` of `src/positions.rt` keep.
 use Rattle.std.proofs.Common.{◌≡◌}
 use Rattle.tn_plain_data.specs.Network.{trades_of}
 use Rattle.tn_plain_data.proofs.positions.trades_of.Given as goal

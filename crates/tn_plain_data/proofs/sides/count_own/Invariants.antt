@@ -1,3 +1,4 @@
+-- What the loops of `count_own` of `src/sides.rt` keep.
 use Rattle.std.proofs.Common.{◌≡◌, ◌≤◌, length, take}
 use Rattle.tn_plain_data.specs.InOrder.{sides_of}
 use Rattle.tn_plain_data.proofs.sides.count_own.Given as goal

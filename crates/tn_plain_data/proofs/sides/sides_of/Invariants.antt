@@ -1,3 +1,4 @@
+-- What the loops of `sides_of` of `src/sides.rt` keep.
 use Rattle.std.proofs.Common.{◌≡◌, take}
 use Rattle.tn_plain_data.specs.InOrder.{sides_of}
 use Rattle.tn_plain_data.proofs.sides.sides_of.Given as goal

@@ -1,3 +1,4 @@
+-- What the loops of `trades_in` of `src/bundle.rt` keep.
 use Rattle.std.proofs.Common.{◌≡◌}
 use Rattle.tn_plain_data.specs.Network.{trades_of}
 use Rattle.tn_price.proofs.bundle.trades_in.Given as goal

@@ -1,3 +1,4 @@
+-- What the loops of `all_positions` of `src/firm.rt` keep.
 use Rattle.std.proofs.Common.{◌≡◌, true}
 use Rattle.tn_base.specs.Sets.{set_of}
 use Rattle.tn_price.proofs.firm.all_positions.Given as goal

@@ -1,3 +1,4 @@
+-- What shows the clauses of `support_by_labels` of `src/supporting.rt`.
 use Rattle.std.proofs.Common.{rules, map, length, List, ◌≡◌, ◌+◌, ◌≤◌, ◌∙◌, ℕ, ap, arith, sym, subst}
 use Rattle.std.proofs.lemmas.Int.{to_z-of_z}
 use mir.Syntax.{w128}
@@ -13,26 +14,35 @@ few : (nodes trades : ℕ) → trades ≤ most_market_trades → nodes ≡ trade
 few nodes trades most sized = omega (arith, most, sized)
 
 pub prices_from-requires-clause-small : goal.prices_from-requires-clause-small
-prices_from-requires-clause-small g c = exchange_small c.in_ok-finder.finder.nodes c.fill.new.self c.labels.new.self.labels (few c.in_ok-finder.finder.nodes c.trades-trades.result c.trades-trades.ensures.few (search rules)) c.in-Feasible.ensures.answer.1
+prices_from-requires-clause-small g c =
+    exchange_small c.in_ok-finder.finder.nodes c.fill.new.self c.labels.new.self.labels
+    (few c.in_ok-finder.finder.nodes c.trades-trades.result c.trades-trades.ensures.few (search rules))
+    c.in-Feasible.ensures.answer.1
 
 pub returns-in-Feasible-clause-answer : goal.returns-in-Feasible-clause-answer
 returns-in-Feasible-clause-answer g c =
     let firms = map g.V.Valuation.firm c.args.market.now.firms in
     let trades = c.args.market.now.trades in
-    labels_support firms trades c.args.on.now c.labels.new.self.labels c.in_ok-prices_from-in-Feasible.field-0 c.trades-trades.ensures.network
+    labels_support firms trades c.args.on.now c.labels.new.self.labels c.in_ok-prices_from-in-Feasible.field-0
+    c.trades-trades.ensures.network
     (meet_all g.V.Valuation.firm c.args.market.now.firms g.met.V.Valuation.lawful) c.requires.possible
-    (exchange_labels firms trades c.args.on.now c.in_ok-finder.finder.nodes c.fill.new.self c.labels.new.self.labels c.fill.ensures.graph (search rules) c.in-Feasible.ensures.answer.1)
-    (read c.trades-trades.result (length trades) c.labels.new.self.labels c.in_ok-prices_from-in-Feasible.field-0 c.trades-trades.ensures.count c.in_ok-prices_from-in-Feasible.ensures.one_each
+    (exchange_labels firms trades c.args.on.now c.in_ok-finder.finder.nodes c.fill.new.self c.labels.new.self.labels
+    c.fill.ensures.graph (search rules) c.in-Feasible.ensures.answer.1)
+    (read c.trades-trades.result (length trades) c.labels.new.self.labels c.in_ok-prices_from-in-Feasible.field-0
+    c.trades-trades.ensures.count c.in_ok-prices_from-in-Feasible.ensures.one_each
     c.in_ok-prices_from-in-Feasible.ensures.each)
 
 pub returns-in-Feasible-clause-prices : goal.returns-in-Feasible-clause-prices
 returns-in-Feasible-clause-prices g c =
     let firms = map g.V.Valuation.firm c.args.market.now.firms in
     let trades = c.args.market.now.trades in
-    priced_within g.V.Valuation.firm g.V.Valuation.limit c.args.market.now.firms trades c.args.on.now c.labels.new.self.labels c.in_ok-prices_from-in-Feasible.field-0 c.trades-trades.ensures.network
+    priced_within g.V.Valuation.firm g.V.Valuation.limit c.args.market.now.firms trades c.args.on.now
+    c.labels.new.self.labels c.in_ok-prices_from-in-Feasible.field-0 c.trades-trades.ensures.network
     (λ v. (g.met.V.Valuation.lawful v).within)
-    (exchange_labels firms trades c.args.on.now c.in_ok-finder.finder.nodes c.fill.new.self c.labels.new.self.labels c.fill.ensures.graph (search rules) c.in-Feasible.ensures.answer.1)
-    (read c.trades-trades.result (length trades) c.labels.new.self.labels c.in_ok-prices_from-in-Feasible.field-0 c.trades-trades.ensures.count c.in_ok-prices_from-in-Feasible.ensures.one_each
+    (exchange_labels firms trades c.args.on.now c.in_ok-finder.finder.nodes c.fill.new.self c.labels.new.self.labels
+    c.fill.ensures.graph (search rules) c.in-Feasible.ensures.answer.1)
+    (read c.trades-trades.result (length trades) c.labels.new.self.labels c.in_ok-prices_from-in-Feasible.field-0
+    c.trades-trades.ensures.count c.in_ok-prices_from-in-Feasible.ensures.one_each
     c.in_ok-prices_from-in-Feasible.ensures.each)
 
 pub returns-clause-answer : goal.returns-clause-answer
@@ -40,9 +50,15 @@ returns-clause-answer g c =
     let firms = map g.V.Valuation.firm c.args.market.now.firms in
     let trades = c.args.market.now.trades in
     let network = c.trades-trades.ensures.network in
-    let found = exchange_cycle firms trades c.args.on.now c.in_ok-finder.finder.nodes _ c.trades-trades.result c.fill.new.self c.labels.new.self.listed
-    c.in_ok-said_nodes-in-Negative.field-0 c.in-Negative.cost c.fill.ensures.graph (search rules) c.trades-trades.ensures.count c.requires.possible c.in-Negative.ensures.answer.0 (c.in_ok-said_nodes-in-Negative.ensures ∙ ap (λ (nodes : List ℕ). map (said_node c.trades-trades.result) nodes) c.listed.ensures) in
+    let found = exchange_cycle firms trades c.args.on.now c.in_ok-finder.finder.nodes _ c.trades-trades.result
+    c.fill.new.self c.labels.new.self.listed
+    c.in_ok-said_nodes-in-Negative.field-0 c.in-Negative.cost c.fill.ensures.graph (search rules)
+    c.trades-trades.ensures.count c.requires.possible c.in-Negative.ensures.answer.0
+    (c.in_ok-said_nodes-in-Negative.ensures ∙ ap (λ (nodes : List ℕ). map (said_node c.trades-trades.result) nodes)
+    c.listed.ensures) in
     let fits : SFits w128 c.in-Negative.cost = search rules in (
-      subst (IsNegativeCycle firms trades c.args.on.now c.in_ok-said_nodes-in-Negative.field-0) (sym (to_z-of_z w128 c.in-Negative.cost fits)) found,
-      cycle_unsupported firms trades c.args.on.now c.in_ok-said_nodes-in-Negative.field-0 c.in-Negative.cost network found,
+      subst (IsNegativeCycle firms trades c.args.on.now c.in_ok-said_nodes-in-Negative.field-0)
+          (sym (to_z-of_z w128 c.in-Negative.cost fits)) found,
+      cycle_unsupported firms trades c.args.on.now c.in_ok-said_nodes-in-Negative.field-0 c.in-Negative.cost network
+          found,
     )

@@ -1,3 +1,4 @@
+-- What shows the clauses of `surplus_of` of `src/surplus.rt`.
 use Rattle.std.proofs.Common.{◌+◌, map, arith, sym, subst, ℤ, ◌+ℤ◌}
 use Rattle.std.proofs.lemmas.Int.{to_z-of_z}
 use Rattle.std.proofs.lemmas.List.{length-map}
@@ -15,7 +16,8 @@ overflow_add-surplus g c =
     let small = c.in-Some.ensures.small in
     let plain = as_is c.in-Some.worth (smaller c.in-Some.worth most_limit most_utility (omega arith) small) in
     subst (λ (z : ℤ). SFits w128 (to_z w128 c.loop-f.surplus-bits +ℤ z)) (sym plain)
-    (added_fits (to_z w128 c.loop-f.surplus-bits) c.in-Some.worth c.loop-f.f c.firms-f-end.result c.loop-f.invariant.0.small small c.loop-f-test.true c.firms-f-end.ensures.few)
+    (added_fits (to_z w128 c.loop-f.surplus-bits) c.in-Some.worth c.loop-f.f c.firms-f-end.result
+    c.loop-f.invariant.0.small small c.loop-f-test.true c.firms-f-end.ensures.few)
 
 pub loop-f-preserved : goal.loop-f-preserved
 loop-f-preserved g c =
@@ -27,12 +29,15 @@ loop-f-preserved g c =
     let small = c.in-Some.ensures.small in
     let plain = as_is c.in-Some.worth (smaller c.in-Some.worth most_limit most_utility (omega arith) small) in
     let sum = to_z-of_z w128 (to_z w128 c.loop-f.surplus-bits +ℤ c.in-Some.worth)
-    (added_fits (to_z w128 c.loop-f.surplus-bits) c.in-Some.worth c.loop-f.f c.firms-f-end.result c.loop-f.invariant.0.small small inside c.firms-f-end.ensures.few) in
+    (added_fits (to_z w128 c.loop-f.surplus-bits) c.in-Some.worth c.loop-f.f c.firms-f-end.result
+    c.loop-f.invariant.0.small small inside c.firms-f-end.ensures.few) in
     let asked = c.in-Some.ensures.asked in
     let before = c.loop-f.invariant.1 in (
-      subst (λ (w : ℤ). AreAdded firms c.args.market.now.trades c.args.on.now (c.loop-f.f + 1) (to_z w128 (of_z w128 (to_z w128 c.loop-f.surplus-bits +ℤ w)))) (sym plain)
+      subst (λ (w : ℤ). AreAdded firms c.args.market.now.trades c.args.on.now (c.loop-f.f + 1)
+          (to_z w128 (of_z w128 (to_z w128 c.loop-f.surplus-bits +ℤ w)))) (sym plain)
           (subst (λ (z : ℤ). AreAdded firms c.args.market.now.trades c.args.on.now (c.loop-f.f + 1) z) (sym sum)
-          (one_added firms c.args.market.now.trades c.args.on.now c.loop-f.f (to_z w128 c.loop-f.surplus-bits) c.in-Some.worth (g.V.Valuation.firm found.0) c.loop-f.invariant.0 at
+          (one_added firms c.args.market.now.trades c.args.on.now c.loop-f.f (to_z w128 c.loop-f.surplus-bits)
+          c.in-Some.worth (g.V.Valuation.firm found.0) c.loop-f.invariant.0 at
           (sym (c.in-Some.ensures.worth (g.V.Valuation.firm found.0) at)) small)),
       omega (arith, asked, before),
     )
@@ -47,7 +52,8 @@ returns-in-None g c =
     let asked = c.in-None.ensures.asked in
     let before = c.loop-f.invariant.1 in
     record {
-      surplus = none_at firms c.args.market.now.trades c.args.on.now c.loop-f.f (g.V.Valuation.firm found.0) at (sym (c.in-None.ensures.worth (g.V.Valuation.firm found.0) at));
+      surplus = none_at firms c.args.market.now.trades c.args.on.now c.loop-f.f (g.V.Valuation.firm found.0) at
+          (sym (c.in-None.ensures.worth (g.V.Valuation.firm found.0) at));
       asked = omega (arith, asked, before, inside, count);
     }
 
@@ -60,7 +66,8 @@ returns g c =
     let as_many = length-map c.args.market.now.firms g.V.Valuation.firm in
     let asked = c.loop-f.invariant.1 in
     record {
-      surplus = all_added firms c.args.market.now.trades c.args.on.now c.loop-f.f (to_z w128 c.loop-f.surplus-bits) c.loop-f.invariant.0
+      surplus = all_added firms c.args.market.now.trades c.args.on.now c.loop-f.f (to_z w128 c.loop-f.surplus-bits)
+          c.loop-f.invariant.0
           (omega (arith, outside, end, count, as_many)) (omega (arith, outside, end, count, as_many));
       asked = omega (arith, asked, end, count);
     }

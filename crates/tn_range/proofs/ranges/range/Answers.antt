@@ -1,3 +1,4 @@
+-- What shows the clauses of `range` of `src/ranges.rt`.
 use Rattle.std.proofs.Common.{◌≡◌, ℕ, ◌+◌, ◌∙◌, ℤ, List, rules, length, map, pos, sym, subst}
 use Rattle.std.proofs.lemmas.Result.{IfOk-weaker}
 use Rattle.tn_base.specs.Walks.{KeepsArcs}
@@ -18,7 +19,8 @@ fill-requires g c = (
     (
       search rules,
       (
-        equilibrium_possible (map g.V.Valuation.firm c.args.market.now.firms) c.args.market.now.trades (pos 1) c.args.on.now c.requires.supported.prices c.requires.supported.equilibrium,
+        equilibrium_possible (map g.V.Valuation.firm c.args.market.now.firms) c.args.market.now.trades (pos 1)
+            c.args.on.now c.requires.supported.prices c.requires.supported.equilibrium,
         c.requires.small,
       ),
     ),
@@ -27,19 +29,23 @@ fill-requires g c = (
 
 pub label_graph-requires-clause-none_negative : goal.label_graph-requires-clause-none_negative
 label_graph-requires-clause-none_negative g c =
-    none_negative (map g.V.Valuation.firm c.args.market.now.firms) c.args.market.now.trades c.args.on.now c.fill.new.self c.trades-trades.ensures.network c.requires.supported c.fill.ensures.graph
+    none_negative (map g.V.Valuation.firm c.args.market.now.firms) c.args.market.now.trades c.args.on.now
+    c.fill.new.self c.trades-trades.ensures.network c.requires.supported c.fill.ensures.graph
 
 pub least_to-requires-clause-near : goal.least_to-requires-clause-near
-least_to-requires-clause-near g c = subst (AreNear most_label) (sym c.label_as.ensures.labels) c.label_graph.ensures.near
+least_to-requires-clause-near g c =
+    subst (AreNear most_label) (sym c.label_as.ensures.labels) c.label_graph.ensures.near
 
 pub least_to-requires-clause-keeps : goal.least_to-requires-clause-keeps
 least_to-requires-clause-keeps g c =
-    subst (λ (labels : List ℤ). KeepsArcs (arcs_of c.fill.new.self) (label_in labels)) (sym c.label_as.ensures.labels) c.label_graph.ensures.keeps
+    subst (λ (labels : List ℤ). KeepsArcs (arcs_of c.fill.new.self) (label_in labels)) (sym c.label_as.ensures.labels)
+    c.label_graph.ensures.keeps
 
 pub ranges_from-requires-clause-small : goal.ranges_from-requires-clause-small
 ranges_from-requires-clause-small g c =
     let made : c.in_ok-to_null.to_null.nodes ≡ c.trades-trades.result + 1 = search rules in
-    costs_small c.fill.new.self c.label_as.new.self.nodes c.trades-trades.result c.trades-trades.result c.least_to.new.self (search rules) (c.label_as.ensures.rest.same_nodes ∙ made)
+    costs_small c.fill.new.self c.label_as.new.self.nodes c.trades-trades.result c.trades-trades.result
+    c.least_to.new.self (search rules) (c.label_as.ensures.rest.same_nodes ∙ made)
     c.trades-trades.ensures.few c.least_to.ensures.walks
 
 pub returns-clause-ranges : goal.returns-clause-ranges
@@ -48,8 +54,12 @@ returns-clause-ranges g c =
     let trades = c.args.market.now.trades in
     let from_made : c.in_ok-from_null.from_null.nodes ≡ length trades + 1 = search rules in
     let to_made : c.in_ok-to_null.to_null.nodes ≡ length trades + 1 = search rules in
-    IfOk-weaker c.ranges_from.result _ _ (λ ranges are. all_ranges firms trades c.args.on.now c.least_from.new.self c.least_to.new.self c.trades-trades.ensures.network
+    IfOk-weaker c.ranges_from.result _ _ (λ ranges are. all_ranges firms trades c.args.on.now c.least_from.new.self
+    c.least_to.new.self c.trades-trades.ensures.network
     (meet_all g.V.Valuation.firm c.args.market.now.firms g.met.V.Valuation.lawful) c.requires.supported
-    (found firms trades c.args.on.now c.label_graph.new.self.nodes c.label_as.new.self.nodes c.trades-trades.result c.fill.new.self c.least_from.new.self c.least_to.new.self c.fill.ensures.graph
-    (c.label_graph.ensures.rest.same_nodes ∙ from_made) (c.label_as.ensures.rest.same_nodes ∙ to_made) c.trades-trades.ensures.count c.least_from.ensures.walks c.least_to.ensures.walks)
-    ranges (subst (λ (n : ℕ). AreRangesBy n n c.least_from.new.self c.least_to.new.self ranges) c.trades-trades.ensures.count are)) c.ranges_from.ensures
+    (found firms trades c.args.on.now c.label_graph.new.self.nodes c.label_as.new.self.nodes c.trades-trades.result
+    c.fill.new.self c.least_from.new.self c.least_to.new.self c.fill.ensures.graph
+    (c.label_graph.ensures.rest.same_nodes ∙ from_made) (c.label_as.ensures.rest.same_nodes ∙ to_made)
+    c.trades-trades.ensures.count c.least_from.ensures.walks c.least_to.ensures.walks)
+    ranges (subst (λ (n : ℕ). AreRangesBy n n c.least_from.new.self c.least_to.new.self ranges)
+    c.trades-trades.ensures.count are)) c.ranges_from.ensures

@@ -1,3 +1,4 @@
+-- What shows the clauses of `claims_are_within` of `src/laws.rt`.
 use Rattle.tn_read_claims.proofs.ClaimLeads.{claims_are_within}
 use Rattle.tn_read_claims.proofs.laws.claims_are_within.Goals as goal
 

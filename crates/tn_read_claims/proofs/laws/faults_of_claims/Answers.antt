@@ -1,3 +1,4 @@
+-- What shows the clauses of `faults_of_claims` of `src/laws.rt`.
 use Rattle.tn_read_claims.proofs.FaultKinds.{faults_of_claims}
 use Rattle.tn_read_claims.proofs.laws.faults_of_claims.Goals as goal
 

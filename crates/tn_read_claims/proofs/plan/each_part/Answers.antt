@@ -1,3 +1,4 @@
+-- What shows the clauses of `each_part` of `src/plan.rt`.
 use Rattle.std.proofs.Common.{arith}
 use Rattle.std.proofs.lemmas.Result.{err_from_is_err_and}
 use Rattle.tn_read_claims.specs.Planned.{one_part}
@@ -7,13 +8,17 @@ use Rattle.tn_read_claims.proofs.plan.each_part.Goals as goal
 pub returns-in_err-add_part : goal.returns-in_err-add_part
 returns-in_err-add_part c =
     let p = err_from_is_err_and c.from_residual.result c.from_residual.ensures.1 in
-    rw (p.1, p.2) (each_fails (one_part c.args.head.now) c.in_err-add_part.field-0.0 c.args.entries.now c.loop-entry.entry-index c.entry-item.result _ _ c.loop-entry-test.true (rw (← c.entry-item.is) c.in_err-add_part.ensures.gives) c.loop-entry.invariant.rest)
+    rw (p.1, p.2) (each_fails (one_part c.args.head.now) c.in_err-add_part.field-0.0 c.args.entries.now
+    c.loop-entry.entry-index c.entry-item.result _ _ c.loop-entry-test.true
+    (rw (← c.entry-item.is) c.in_err-add_part.ensures.gives) c.loop-entry.invariant.rest)
 
 pub loop-entry-preserved : goal.loop-entry-preserved
 loop-entry-preserved c = record {
   count = omega (arith, c.in_ok-add_part.ensures.count, c.loop-entry.invariant.count);
-  rest = each_goes_on (one_part c.args.head.now) c.args.entries.now c.loop-entry.entry-index c.entry-item.result _ _ _ c.loop-entry-test.true (rw (← c.entry-item.is) c.in_ok-add_part.ensures.gives) c.loop-entry.invariant.rest;
+  rest = each_goes_on (one_part c.args.head.now) c.args.entries.now c.loop-entry.entry-index c.entry-item.result _ _ _
+      c.loop-entry-test.true (rw (← c.entry-item.is) c.in_ok-add_part.ensures.gives) c.loop-entry.invariant.rest;
 }
 
 pub returns : goal.returns
-returns c = each_is_done (one_part c.args.head.now) c.args.entries.now c.loop-entry.entry-index _ _ c.loop-entry-test.false c.loop-entry.invariant.rest
+returns c = each_is_done (one_part c.args.head.now) c.args.entries.now c.loop-entry.entry-index _ _
+    c.loop-entry-test.false c.loop-entry.invariant.rest

@@ -1,3 +1,4 @@
+-- What shows the clauses of `dealer_of` of `src/dealers.rt`.
 use Rattle.std.proofs.Common.{length, subst, sym, ap, ◌∙◌}
 use Rattle.std.specs.Prelude.{All, List}
 use Rattle.tn_base.specs.Table.{buys_of}
@@ -9,10 +10,13 @@ use Rattle.tn_read_firms.proofs.dealers.dealer_of.Goals as goal
 
 pub new-requires-clause-own : goal.new-requires-clause-own
 new-requires-clause-own c =
-    subst (λ (sides : List Side). All (IsOwnPair (length sides) (buys_of sides)) c.in_ok-pairs.pairs.items) (sym (c.in_ok-sides.ensures ∙ ap (λ ends. sides_of ends c.args.f) c.ends.ensures.is))
-    ((pairs_lead c.args.head.now c.ends.ensures.trades c.args.f _).at c.in_ok-pairs.pairs.items c.in_ok-pairs.ensures).own
+    subst (λ (sides : List Side). All (IsOwnPair (length sides) (buys_of sides)) c.in_ok-pairs.pairs.items)
+    (sym (c.in_ok-sides.ensures ∙ ap (λ ends. sides_of ends c.args.f) c.ends.ensures.is))
+    ((pairs_lead c.args.head.now c.ends.ensures.trades c.args.f _).at c.in_ok-pairs.pairs.items
+    c.in_ok-pairs.ensures).own
 
 pub unreachable-requires : goal.unreachable-requires
 unreachable-requires c =
-    ((pairs_lead c.args.head.now c.ends.ensures.trades c.args.f _).at c.in_ok-pairs.pairs.items c.in_ok-pairs.ensures).different
+    ((pairs_lead c.args.head.now c.ends.ensures.trades c.args.f _).at c.in_ok-pairs.pairs.items
+    c.in_ok-pairs.ensures).different
     c.in-Err.field-0.index c.in-Err.ensures.refused.repeated

@@ -1,3 +1,4 @@
+-- What shows the clauses of `read_pairs` of `src/dealers.rt`.
 use Rattle.std.proofs.Common.{◌≡◌, ◌∷◌, ◌++◌, [], length, List, Ok, refl, sym, subst, ◌*◌, ◌≤◌, rules}
 use Rattle.std.specs.Prelude.{All}
 use Rattle.std.proofs.lemmas.Result.{err_from_is_err_and}
@@ -21,7 +22,8 @@ loop-entry-init c =
     record {
       own = subst (All (IsOwn listed c.requires.trades c.args.f)) (sym start) none.own;
       different = subst AreDifferent (sym start) none.different;
-      rest = subst (λ (pairs : List Pair). each (one_pair listed c.args.f) pairs (items_view c.args.entries.now) ≡ each (one_pair listed c.args.f) [] (items_view c.args.entries.now)) (sym start) refl;
+      rest = subst (λ (pairs : List Pair). each (one_pair listed c.args.f) pairs (items_view c.args.entries.now)
+          ≡ each (one_pair listed c.args.f) [] (items_view c.args.entries.now)) (sym start) refl;
     }
 
 pub new_pair-requires : goal.new_pair-requires
@@ -36,24 +38,33 @@ returns-in_err-pair c =
     let listed : Listed = c.args.head.now in
     let p = err_from_is_err_and c.from_residual.result c.from_residual.ensures.1 in
     let same : c.deref.result.now ≡ c.loop-entry.pairs.items = search rules in
-    let fails : Fails c.in_err-pair.field-0.0 (one_pair listed c.args.f c.loop-entry.pairs.items (view c.entry-item.result)) =
-    subst (λ (pairs : List Pair). Fails c.in_err-pair.field-0.0 (one_pair listed c.args.f pairs (view c.entry-item.result))) same c.in_err-pair.ensures in
-    rw (p.1, p.2) (each_fails (one_pair listed c.args.f) c.in_err-pair.field-0.0 c.args.entries.now c.loop-entry.entry-index c.entry-item.result _ _ c.loop-entry-test.true (rw (← c.entry-item.is) fails) c.loop-entry.invariant.rest)
+    let fails : Fails c.in_err-pair.field-0.0 (one_pair listed c.args.f c.loop-entry.pairs.items
+    (view c.entry-item.result)) =
+    subst (λ (pairs : List Pair). Fails c.in_err-pair.field-0.0
+    (one_pair listed c.args.f pairs (view c.entry-item.result))) same c.in_err-pair.ensures in
+    rw (p.1, p.2) (each_fails (one_pair listed c.args.f) c.in_err-pair.field-0.0 c.args.entries.now
+    c.loop-entry.entry-index c.entry-item.result _ _ c.loop-entry-test.true (rw (← c.entry-item.is) fails)
+    c.loop-entry.invariant.rest)
 
 pub loop-entry-preserved : goal.loop-entry-preserved
 loop-entry-preserved c =
     let listed : Listed = c.args.head.now in
     let items = c.in_ok-push.ensures.items in
     let same : c.deref.result.now ≡ c.loop-entry.pairs.items = search rules in
-    let read : one_pair listed c.args.f c.loop-entry.pairs.items (view c.entry-item.result) ≡ Ok (c.loop-entry.pairs.items ++ c.in_ok-pair.pair ∷ []) =
-    subst (λ (pairs : List Pair). one_pair listed c.args.f pairs (view c.entry-item.result) ≡ Ok (pairs ++ c.in_ok-pair.pair ∷ [])) same c.in_ok-pair.ensures in
-    let are = (one_pair_leads listed c.requires.trades c.args.f c.loop-entry.pairs.items (view c.entry-item.result) (record { own = c.loop-entry.invariant.own; different = c.loop-entry.invariant.different })).at
+    let read : one_pair listed c.args.f c.loop-entry.pairs.items (view c.entry-item.result)
+    ≡ Ok (c.loop-entry.pairs.items ++ c.in_ok-pair.pair ∷ []) =
+    subst (λ (pairs : List Pair). one_pair listed c.args.f pairs (view c.entry-item.result)
+    ≡ Ok (pairs ++ c.in_ok-pair.pair ∷ [])) same c.in_ok-pair.ensures in
+    let are = (one_pair_leads listed c.requires.trades c.args.f c.loop-entry.pairs.items (view c.entry-item.result)
+    (record { own = c.loop-entry.invariant.own; different = c.loop-entry.invariant.different })).at
     (c.loop-entry.pairs.items ++ c.in_ok-pair.pair ∷ []) read in
     record {
       own = subst (All (IsOwn listed c.requires.trades c.args.f)) (sym items) are.own;
       different = subst AreDifferent (sym items) are.different;
-      rest = rw items (each_goes_on (one_pair listed c.args.f) c.args.entries.now c.loop-entry.entry-index c.entry-item.result _ _ _ c.loop-entry-test.true (rw (← c.entry-item.is) read) c.loop-entry.invariant.rest);
+      rest = rw items (each_goes_on (one_pair listed c.args.f) c.args.entries.now c.loop-entry.entry-index
+          c.entry-item.result _ _ _ c.loop-entry-test.true (rw (← c.entry-item.is) read) c.loop-entry.invariant.rest);
     }
 
 pub returns : goal.returns
-returns c = each_is_done (one_pair c.args.head.now c.args.f) c.args.entries.now c.loop-entry.entry-index _ _ c.loop-entry-test.false c.loop-entry.invariant.rest
+returns c = each_is_done (one_pair c.args.head.now c.args.f) c.args.entries.now c.loop-entry.entry-index _ _
+    c.loop-entry-test.false c.loop-entry.invariant.rest

@@ -1,3 +1,4 @@
+-- What the loops of `read_pairs` of `src/dealers.rt` keep.
 use Rattle.std.proofs.Common.{◌≡◌, length, drop, []}
 use Rattle.std.specs.Prelude.{All}
 use Rattle.serde_json.specs.View.{items_view}
@@ -12,5 +13,6 @@ abbrev pub invariant-loop-entry : goal.invariant-loop-entry
 invariant-loop-entry l = record {
   own : All (IsOwnPair (length (sides_of l.head.ends l.f)) (buys_of (sides_of l.head.ends l.f))) l.pairs.items;
   different : AreDifferent l.pairs.items;
-  rest : each (one_pair l.head l.f) (l.pairs.items) (items_view (drop l.entry-index l.entries)) ≡ each (one_pair l.head l.f) ([]) (items_view l.entries);
+  rest : each (one_pair l.head l.f) (l.pairs.items) (items_view (drop l.entry-index l.entries))
+      ≡ each (one_pair l.head l.f) ([]) (items_view l.entries);
 }

@@ -1,3 +1,4 @@
+-- What shows the clauses of `three_of` of `src/dealers.rt`.
 use Rattle.std.proofs.Common.{sym, arith}
 use Rattle.tn_read_firms.proofs.ThreeLemmas.{three_of-shorter, three_of-longer}
 use Rattle.tn_read_firms.proofs.dealers.three_of.Goals as goal

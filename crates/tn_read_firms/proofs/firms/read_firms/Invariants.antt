@@ -1,3 +1,4 @@
+-- What the loops of `read_firms` of `src/firms.rt` keep.
 use Rattle.std.proofs.Common.{◌≡◌, ℕ, ◌<◌, ◌≤◌, length, drop, map, []}
 use Rattle.std.specs.Prelude.{All}
 use Rattle.serde_json.specs.View.{items_view}
@@ -12,5 +13,6 @@ invariant-loop-firm g l = record {
   count : length l.made.items ≡ l.firm-index;
   few : (f : ℕ) → f < l.firm-index → length (sides_of l.head.ends f) ≤ most_own_trades;
   known : All g.F.FromKinds.known l.made.items;
-  rest : each (one_firm g.F.FromKinds.tested l.head) (map g.F.FromKinds.firm l.made.items) (items_view (drop l.firm-index l.firms)) ≡ each (one_firm g.F.FromKinds.tested l.head) [] (items_view l.firms);
+  rest : each (one_firm g.F.FromKinds.tested l.head) (map g.F.FromKinds.firm l.made.items)
+      (items_view (drop l.firm-index l.firms)) ≡ each (one_firm g.F.FromKinds.tested l.head) [] (items_view l.firms);
 }

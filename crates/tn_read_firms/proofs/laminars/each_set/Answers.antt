@@ -1,3 +1,4 @@
+-- What shows the clauses of `each_set` of `src/laminars.rt`.
 use Rattle.std.proofs.Common.{arith}
 use Rattle.std.proofs.lemmas.Result.{err_from_is_err_and}
 use Rattle.tn_read_firms.specs.Laminars.{one_set}
@@ -7,13 +8,17 @@ use Rattle.tn_read_firms.proofs.laminars.each_set.Goals as goal
 pub returns-in_err-add_set : goal.returns-in_err-add_set
 returns-in_err-add_set c =
     let p = err_from_is_err_and c.from_residual.result c.from_residual.ensures.1 in
-    rw (p.1, p.2) (each_fails (one_set c.args.head.now c.args.f) c.in_err-add_set.field-0.0 c.args.items.now c.loop-item.item-index c.item-item.result _ _ c.loop-item-test.true (rw (← c.item-item.is) c.in_err-add_set.ensures.gives) c.loop-item.invariant.rest)
+    rw (p.1, p.2) (each_fails (one_set c.args.head.now c.args.f) c.in_err-add_set.field-0.0 c.args.items.now
+    c.loop-item.item-index c.item-item.result _ _ c.loop-item-test.true
+    (rw (← c.item-item.is) c.in_err-add_set.ensures.gives) c.loop-item.invariant.rest)
 
 pub loop-item-preserved : goal.loop-item-preserved
 loop-item-preserved c = record {
   count = omega (arith, c.in_ok-add_set.ensures.count, c.loop-item.invariant.count);
-  rest = each_goes_on (one_set c.args.head.now c.args.f) c.args.items.now c.loop-item.item-index c.item-item.result _ _ _ c.loop-item-test.true (rw (← c.item-item.is) c.in_ok-add_set.ensures.gives) c.loop-item.invariant.rest;
+  rest = each_goes_on (one_set c.args.head.now c.args.f) c.args.items.now c.loop-item.item-index c.item-item.result _ _
+      _ c.loop-item-test.true (rw (← c.item-item.is) c.in_ok-add_set.ensures.gives) c.loop-item.invariant.rest;
 }
 
 pub returns : goal.returns
-returns c = each_is_done (one_set c.args.head.now c.args.f) c.args.items.now c.loop-item.item-index _ _ c.loop-item-test.false c.loop-item.invariant.rest
+returns c = each_is_done (one_set c.args.head.now c.args.f) c.args.items.now c.loop-item.item-index _ _
+    c.loop-item-test.false c.loop-item.invariant.rest

@@ -1,3 +1,4 @@
+-- What the loops of `each_set` of `src/laminars.rt` keep.
 use Rattle.std.proofs.Common.{◌≡◌, length, drop, []}
 use Rattle.serde_json.specs.View.{items_view}
 use Rattle.tn_shape.specs.Reading.{each}
@@ -7,5 +8,6 @@ use Rattle.tn_read_firms.proofs.laminars.each_set.Given as goal
 abbrev pub invariant-loop-item : goal.invariant-loop-item
 invariant-loop-item l = record {
   count : length l.sets.items ≡ l.item-index;
-  rest : each (one_set l.head l.f) (l.sets.items) (items_view (drop l.item-index l.items)) ≡ each (one_set l.head l.f) ([]) (items_view l.items);
+  rest : each (one_set l.head l.f) (l.sets.items) (items_view (drop l.item-index l.items))
+      ≡ each (one_set l.head l.f) ([]) (items_view l.items);
 }

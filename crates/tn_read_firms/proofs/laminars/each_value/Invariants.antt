@@ -1,3 +1,4 @@
+-- What the loops of `each_value` of `src/laminars.rt` keep.
 use Rattle.std.proofs.Common.{◌≡◌, length, drop, []}
 use Rattle.serde_json.specs.View.{items_view}
 use Rattle.tn_shape.specs.Reading.{each}
@@ -7,5 +8,6 @@ use Rattle.tn_read_firms.proofs.laminars.each_value.Given as goal
 abbrev pub invariant-loop-value : goal.invariant-loop-value
 invariant-loop-value l = record {
   count : length l.numbers.items ≡ l.value-index;
-  rest : each (one_value l.head.limits l.f l.s) (l.numbers.items) (items_view (drop l.value-index l.values)) ≡ each (one_value l.head.limits l.f l.s) ([]) (items_view l.values);
+  rest : each (one_value l.head.limits l.f l.s) (l.numbers.items) (items_view (drop l.value-index l.values))
+      ≡ each (one_value l.head.limits l.f l.s) ([]) (items_view l.values);
 }

@@ -1,3 +1,4 @@
+-- What shows the clauses of `laminar_of` of `src/laminars.rt`.
 use Rattle.std.proofs.Common.{rules, ◌≡◌, length, subst, sym, ap, ◌∙◌}
 use Rattle.std.specs.Prelude.{ℤ, List, All}
 use Rattle.tn_base.specs.Widths.{most_amount}
@@ -16,14 +17,23 @@ checked-requires-clause-small c =
     let n = length (sides_of c.args.head.now.ends c.args.f) in
     let start : c.in_ok-zeros.zeros.items ≡ no_numbers c.args.head.now.ends c.args.f = search rules in
     let limit = c.args.head.now.limits.amount in
-    let are : AreNumbers n limit c.in_ok-zeros.zeros.items = subst (λ (numbers : List ℤ). AreNumbers n limit numbers) (sym start) (zeros n limit) in
-    all_within limit most_amount c.in_ok-amounts.amounts.items c.ends.ensures.trades.limits.amount ((own_numbers_lead c.args.head.now (amounts_list c.args.f) n c.in_ok-zeros.zeros.items _ are).at c.in_ok-amounts.amounts.items c.in_ok-amounts.ensures.gives).small
+    let are : AreNumbers n limit c.in_ok-zeros.zeros.items =
+    subst (λ (numbers : List ℤ). AreNumbers n limit numbers) (sym start) (zeros n limit) in
+    all_within limit most_amount c.in_ok-amounts.amounts.items c.ends.ensures.trades.limits.amount
+    ((own_numbers_lead c.args.head.now (amounts_list c.args.f) n c.in_ok-zeros.zeros.items _ are).at
+    c.in_ok-amounts.amounts.items c.in_ok-amounts.ensures.gives).small
 
 pub checked-requires-clause-few_sets : goal.checked-requires-clause-few_sets
-checked-requires-clause-few_sets c = ((sets_lead c.args.head.now c.ends.ensures.trades c.args.f _).at c.in_ok-sets.sets.items c.in_ok-sets.ensures).1
+checked-requires-clause-few_sets c =
+    ((sets_lead c.args.head.now c.ends.ensures.trades c.args.f _).at c.in_ok-sets.sets.items c.in_ok-sets.ensures).1
 
 pub checked-requires-clause-own : goal.checked-requires-clause-own
-checked-requires-clause-own c = subst (λ (sides : List Side). All (IsOwnSet (length sides)) c.in_ok-sets.sets.items) (sym (c.in_ok-sides.ensures ∙ ap (λ ends. sides_of ends c.args.f) c.ends.ensures.is)) ((sets_lead c.args.head.now c.ends.ensures.trades c.args.f _).at c.in_ok-sets.sets.items c.in_ok-sets.ensures).0.own
+checked-requires-clause-own c =
+    subst (λ (sides : List Side). All (IsOwnSet (length sides)) c.in_ok-sets.sets.items)
+    (sym (c.in_ok-sides.ensures ∙ ap (λ ends. sides_of ends c.args.f) c.ends.ensures.is))
+    ((sets_lead c.args.head.now c.ends.ensures.trades c.args.f _).at c.in_ok-sets.sets.items c.in_ok-sets.ensures).0.own
 
 pub checked-requires-clause-numbered : goal.checked-requires-clause-numbered
-checked-requires-clause-numbered c = ((sets_lead c.args.head.now c.ends.ensures.trades c.args.f _).at c.in_ok-sets.sets.items c.in_ok-sets.ensures).0.numbered
+checked-requires-clause-numbered c =
+    ((sets_lead c.args.head.now c.ends.ensures.trades c.args.f _).at c.in_ok-sets.sets.items
+    c.in_ok-sets.ensures).0.numbered

@@ -1,3 +1,4 @@
+-- What shows the clauses of `first_failures_are_first` of `src/laws.rt`.
 use Rattle.tn_read_firms.proofs.FailureLemmas.{found, none, first, holds}
 use Rattle.tn_read_firms.proofs.laws.first_failures_are_first.Goals as goal
 

@@ -1,3 +1,4 @@
+-- What shows the clauses of `middle_of` of `src/middlemen.rt`.
 use Rattle.std.proofs.Common.{rules, ◌≡◌, length, subst, sym}
 use Rattle.std.specs.Prelude.{ℤ, List}
 use Rattle.tn_base.specs.Widths.{most_amount}
@@ -14,9 +15,14 @@ new-requires-clause-small c =
     let n = length (sides_of c.args.head.now.ends c.args.f) in
     let start : c.in_ok-zeros.zeros.items ≡ no_numbers c.args.head.now.ends c.args.f = search rules in
     let limit = c.args.head.now.limits.amount in
-    let none : AreNumbers n limit c.in_ok-zeros.zeros.items = subst (λ (numbers : List ℤ). AreNumbers n limit numbers) (sym start) (zeros n limit) in
-    let costs = (own_numbers_lead c.args.head.now (costs_list c.args.f) n c.in_ok-zeros.zeros.items _ none).at c.in_ok-numbers.numbers.items c.in_ok-numbers.ensures.gives in
-    all_within limit most_amount c.in_ok-numbers-2.numbers.items c.ends.ensures.trades.limits.amount ((own_numbers_lead c.args.head.now (gains_list c.args.f) n c.in_ok-numbers.numbers.items _ costs).at c.in_ok-numbers-2.numbers.items c.in_ok-numbers-2.ensures.gives).small
+    let none : AreNumbers n limit c.in_ok-zeros.zeros.items =
+    subst (λ (numbers : List ℤ). AreNumbers n limit numbers) (sym start) (zeros n limit) in
+    let costs = (own_numbers_lead c.args.head.now (costs_list c.args.f) n c.in_ok-zeros.zeros.items _ none).at
+    c.in_ok-numbers.numbers.items c.in_ok-numbers.ensures.gives in
+    all_within limit most_amount c.in_ok-numbers-2.numbers.items c.ends.ensures.trades.limits.amount
+    ((own_numbers_lead c.args.head.now (gains_list c.args.f) n c.in_ok-numbers.numbers.items _ costs).at
+    c.in_ok-numbers-2.numbers.items c.in_ok-numbers-2.ensures.gives).small
 
 pub new-requires-clause-small_keep : goal.new-requires-clause-small_keep
-new-requires-clause-small_keep c = (keep_leads c.args.head.now.limits c.ends.ensures.trades.limits _ _).at c.in_ok-keep.keep c.in_ok-keep.ensures
+new-requires-clause-small_keep c =
+    (keep_leads c.args.head.now.limits c.ends.ensures.trades.limits _ _).at c.in_ok-keep.keep c.in_ok-keep.ensures

@@ -1,3 +1,4 @@
+-- What shows the clauses of `check_full` of `src/rows.rt`.
 use Rattle.std.proofs.Common.{◌≡◌, ◌++◌, [], ◌∷◌, length, Bool, ap, sym, ◌∙◌, subst, arith}
 use Rattle.std.specs.Prelude.{nat_le, ◌||◌}
 use Rattle.std.proofs.lemmas.Bool.{le-leb, lt-leb, or_left}
@@ -18,8 +19,12 @@ returns-clause-gives c =
     let many = length table.sides in
     let each = has_each_row table.rows in
     let same : c.if-trades-le10.full ≡ (nat_le many 10 || each) = elim c.if-trades-le10.branch [
-      | then-trades-le10 w ↦ w.full-is ∙ le-leb c.trades.result 10 w.if-trades-le10.true ∙ sym (or_left (nat_le many 10) each (le-leb many 10 (omega (arith, c.trades.ensures.count, w.if-trades-le10.true))))
-      | else-trades-le10 w ↦ w.full-is ∙ full_is table w.full-full.result c.trades.ensures.within.places w.full-full.ensures
+      | then-trades-le10 w ↦ w.full-is ∙ le-leb c.trades.result 10 w.if-trades-le10.true
+          ∙ sym (or_left (nat_le many 10) each (le-leb many 10
+          (omega (arith, c.trades.ensures.count, w.if-trades-le10.true))))
+      | else-trades-le10 w ↦
+          w.full-is ∙ full_is table w.full-full.result c.trades.ensures.within.places w.full-full.ensures
           ∙ sym (ap (λ b. b || each) (lt-leb many 10 (omega (arith, c.trades.ensures.count, w.if-trades-le10.false))))
     ] in
-    subst (λ (b : Bool). Gives (λ _. tt) c.require.result (holds Limit (firm_place c.args.f ++ Word RowsWord ∷ []) b)) same c.require.ensures.gives
+    subst (λ (b : Bool). Gives (λ _. tt) c.require.result (holds Limit (firm_place c.args.f ++ Word RowsWord ∷ []) b))
+    same c.require.ensures.gives

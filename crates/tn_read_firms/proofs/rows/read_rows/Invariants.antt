@@ -1,3 +1,4 @@
+-- What the loops of `read_rows` of `src/rows.rt` keep.
 use Rattle.std.proofs.Common.{◌≡◌, ◌^◌, length, drop}
 use Rattle.serde_json.specs.View.{items_view}
 use Rattle.tn_exchange.specs.Rows.{without_rows}
@@ -11,5 +12,7 @@ invariant-loop-row l = record {
   sides : l.table.sides ≡ sides_of l.head.ends l.f;
   places : length l.table.rows ≡ 2 ^ length l.table.sides;
   filled : l.count ≡ filled l.table.rows;
-  rest : each (one_row l.head l.f) (record { count = l.count; table = l.table }) (items_view (drop l.row-index l.rows)) ≡ each (one_row l.head l.f) (record { count = 0; table = without_rows (sides_of l.head.ends l.f) }) (items_view l.rows);
+  rest : each (one_row l.head l.f) (record { count = l.count; table = l.table }) (items_view (drop l.row-index l.rows))
+      ≡ each (one_row l.head l.f) (record { count = 0; table = without_rows (sides_of l.head.ends l.f) })
+      (items_view l.rows);
 }

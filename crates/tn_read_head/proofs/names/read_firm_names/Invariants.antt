@@ -1,3 +1,4 @@
+-- What the loops of `read_firm_names` of `src/names.rt` keep.
 use Rattle.std.proofs.Common.{◌≡◌, length, drop}
 use Rattle.serde_json.specs.View.{items_view}
 use Rattle.tn_shape.specs.Reading.{each}
@@ -8,5 +9,6 @@ abbrev pub invariant-loop-firm : goal.invariant-loop-firm
 invariant-loop-firm l = record {
   count : length l.names.firms ≡ l.firm-index;
   trades : l.names.trades ≡ l.initial.names.trades;
-  rest : each one_firm_name l.names (items_view (drop l.firm-index l.firms)) ≡ each one_firm_name l.initial.names (items_view l.firms);
+  rest : each one_firm_name l.names (items_view (drop l.firm-index l.firms))
+      ≡ each one_firm_name l.initial.names (items_view l.firms);
 }

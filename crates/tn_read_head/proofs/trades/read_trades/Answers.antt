@@ -1,3 +1,4 @@
+-- What shows the clauses of `read_trades` of `src/trades.rt`.
 use Rattle.std.proofs.Common.{ap, ◌∙◌, ◌∷◌, [], length, arith, length-append}
 use Rattle.std.proofs.lemmas.Result.{err_from_is_err_and}
 use Rattle.tn_read_head.specs.Naming.{one_trade}
@@ -9,7 +10,11 @@ use Rattle.tn_read_head.proofs.trades.read_trades.Goals as goal
 pub returns-in_err-next-clause-gives : goal.returns-in_err-next-clause-gives
 returns-in_err-next-clause-gives c =
     let p = err_from_is_err_and c.from_residual.result c.from_residual.ensures.1 in
-    rw (p.1, p.2) (each_fails_beside one_trade _ c.in_err-next.field-0.0 c.args.trades.now c.loop-trade.trade-index c.trade-item.result _ _ c.loop-trade-test.true (rw (← c.trade-item.is, ← c.deref.ensures.value) c.in_err-next.ensures.gives) c.loop-trade.invariant.rest)
+    rw (p.1, p.2) (each_fails_beside one_trade _ c.in_err-next.field-0.0 c.args.trades.now c.loop-trade.trade-index
+    c.trade-item.result _ _ c.loop-trade-test.true (rw (
+      ← c.trade-item.is,
+      ← c.deref.ensures.value,
+    ) c.in_err-next.ensures.gives) c.loop-trade.invariant.rest)
 
 pub loop-trade-preserved : goal.loop-trade-preserved
 loop-trade-preserved c =
@@ -20,9 +25,13 @@ loop-trade-preserved c =
       named = omega (arith, c.in_ok-next.ensures.count, i.count);
       count = ap length items ∙ omega (arith, length-append c.loop-trade.ends.items (c.in_ok-next.next ∷ []), i.count);
       firms = firms ∙ i.firms;
-      order = rw items (AreInOrder-push (length c.read_trade.new.names.firms) c.loop-trade.ends.items c.in_ok-next.next (rw firms i.order) (rw (← c.deref.ensures.value) c.in_ok-next.ensures.next));
-      rest = rw items (each_goes_on one_trade c.args.trades.now c.loop-trade.trade-index c.trade-item.result _ _ _ c.loop-trade-test.true (rw (← c.trade-item.is, ← c.deref.ensures.value) c.in_ok-next.ensures.gives) i.rest);
+      order = rw items (AreInOrder-push (length c.read_trade.new.names.firms) c.loop-trade.ends.items c.in_ok-next.next
+          (rw firms i.order) (rw (← c.deref.ensures.value) c.in_ok-next.ensures.next));
+      rest = rw items (each_goes_on one_trade c.args.trades.now c.loop-trade.trade-index c.trade-item.result _ _ _
+          c.loop-trade-test.true (rw (← c.trade-item.is, ← c.deref.ensures.value) c.in_ok-next.ensures.gives) i.rest);
     }
 
 pub returns-clause-gives : goal.returns-clause-gives
-returns-clause-gives c = each_is_done one_trade c.args.trades.now c.loop-trade.trade-index _ _ c.loop-trade-test.false c.loop-trade.invariant.rest
+returns-clause-gives c =
+    each_is_done one_trade c.args.trades.now c.loop-trade.trade-index _ _ c.loop-trade-test.false
+    c.loop-trade.invariant.rest

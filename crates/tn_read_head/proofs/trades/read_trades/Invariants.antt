@@ -1,3 +1,4 @@
+-- What the loops of `read_trades` of `src/trades.rt` keep.
 use Rattle.std.proofs.Common.{◌≡◌, length, drop, []}
 use Rattle.serde_json.specs.View.{items_view}
 use Rattle.tn_shape.specs.Reading.{each}
@@ -11,5 +12,6 @@ invariant-loop-trade l = record {
   count : length l.ends.items ≡ l.trade-index;
   firms : l.names.firms ≡ l.initial.names.firms;
   order : AreInOrder (length l.names.firms) l.ends.items;
-  rest : each one_trade (record { names = l.names; ends = l.ends.items }) (items_view (drop l.trade-index l.trades)) ≡ each one_trade (record { names = l.initial.names; ends = [] }) (items_view l.trades);
+  rest : each one_trade (record { names = l.names; ends = l.ends.items }) (items_view (drop l.trade-index l.trades))
+      ≡ each one_trade (record { names = l.initial.names; ends = [] }) (items_view l.trades);
 }

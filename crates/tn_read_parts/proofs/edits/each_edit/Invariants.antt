@@ -1,3 +1,4 @@
+-- What the loops of `each_edit` of `src/edits.rt` keep.
 use Rattle.std.proofs.Common.{◌≡◌, length, drop, []}
 use Rattle.serde_json.specs.View.{items_view}
 use Rattle.tn_shape.specs.Reading.{each}
@@ -7,5 +8,6 @@ use Rattle.tn_read_parts.proofs.edits.each_edit.Given as goal
 abbrev pub invariant-loop-entry : goal.invariant-loop-entry
 invariant-loop-entry l = record {
   count : length l.edits.items ≡ l.entry-index;
-  rest : each (one_edit l.head.names) l.edits.items (items_view (drop l.entry-index l.entries)) ≡ each (one_edit l.head.names) [] (items_view l.entries);
+  rest : each (one_edit l.head.names) l.edits.items (items_view (drop l.entry-index l.entries))
+      ≡ each (one_edit l.head.names) [] (items_view l.entries);
 }

@@ -1,3 +1,4 @@
+-- What the loops of `check_complete` of `src/lists.rt` keep.
 use Rattle.std.proofs.Common.{◌≡◌, ◌-◌}
 use Rattle.tn_read_parts.specs.Lists.{first_without}
 use Rattle.tn_read_parts.proofs.lists.check_complete.Given as goal

@@ -1,3 +1,4 @@
+-- What shows the clauses of `read_entries` of `src/lists.rt`.
 use Rattle.std.proofs.Common.{◌∙◌}
 use Rattle.std.proofs.lemmas.Result.{err_from_is_err_and}
 use Rattle.tn_read_parts.specs.Lists.{list_place, one_price}
@@ -7,13 +8,19 @@ use Rattle.tn_read_parts.proofs.lists.read_entries.Goals as goal
 pub returns-in_err-add_price-clause-gives : goal.returns-in_err-add_price-clause-gives
 returns-in_err-add_price-clause-gives c =
     let p = err_from_is_err_and c.from_residual.result c.from_residual.ensures.1 in
-    rw (p.1, p.2) (each_fails (one_price c.args.head.now.names.trades (list_place c.args.at) c.args.limit) c.in_err-add_price.field-0.0 c.args.entries.now c.loop-entry.entry-index c.entry-item.result _ _ c.loop-entry-test.true (rw (← c.entry-item.is) c.in_err-add_price.ensures.gives) c.loop-entry.invariant.rest)
+    rw (p.1, p.2) (each_fails (one_price c.args.head.now.names.trades (list_place c.args.at) c.args.limit)
+    c.in_err-add_price.field-0.0 c.args.entries.now c.loop-entry.entry-index c.entry-item.result _ _
+    c.loop-entry-test.true (rw (← c.entry-item.is) c.in_err-add_price.ensures.gives) c.loop-entry.invariant.rest)
 
 pub loop-entry-preserved : goal.loop-entry-preserved
 loop-entry-preserved c = record {
   places = c.in_ok-add_price.ensures.places ∙ c.loop-entry.invariant.places;
-  rest = each_goes_on (one_price c.args.head.now.names.trades (list_place c.args.at) c.args.limit) c.args.entries.now c.loop-entry.entry-index c.entry-item.result _ _ _ c.loop-entry-test.true (rw (← c.entry-item.is) c.in_ok-add_price.ensures.gives) c.loop-entry.invariant.rest;
+  rest = each_goes_on (one_price c.args.head.now.names.trades (list_place c.args.at) c.args.limit) c.args.entries.now
+      c.loop-entry.entry-index c.entry-item.result _ _ _ c.loop-entry-test.true
+      (rw (← c.entry-item.is) c.in_ok-add_price.ensures.gives) c.loop-entry.invariant.rest;
 }
 
 pub returns-clause-gives : goal.returns-clause-gives
-returns-clause-gives c = each_is_done (one_price c.args.head.now.names.trades (list_place c.args.at) c.args.limit) c.args.entries.now c.loop-entry.entry-index _ _ c.loop-entry-test.false c.loop-entry.invariant.rest
+returns-clause-gives c =
+    each_is_done (one_price c.args.head.now.names.trades (list_place c.args.at) c.args.limit) c.args.entries.now
+    c.loop-entry.entry-index _ _ c.loop-entry-test.false c.loop-entry.invariant.rest

@@ -1,3 +1,4 @@
+-- What shows the clauses of `own_position` of `src/references.rt`.
 use Rattle.std.proofs.Common.{sym, ◌∙◌, arith}
 use Rattle.std.proofs.lemmas.Option.{slice_get-get_or}
 use Rattle.tn_plain_data.specs.declared.ends.Ends.{Ends}

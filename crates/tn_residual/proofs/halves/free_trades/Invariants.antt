@@ -1,3 +1,4 @@
+-- What the loops of `free_trades` of `src/halves.rt` keep.
 use Rattle.std.proofs.Common.{◌≡◌, take}
 use Rattle.tn_residual.specs.Residual.{unsigned_from}
 use Rattle.tn_residual.proofs.halves.free_trades.Given as goal

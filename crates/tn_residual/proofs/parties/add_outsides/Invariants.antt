@@ -1,3 +1,4 @@
+-- What the loops of `add_outsides` of `src/parties.rt` keep.
 use Rattle.std.proofs.Common.{◌≡◌, ◌≤◌, ◌++◌, map, take, ℕ}
 use Rattle.std.specs.List.{All}
 use Rattle.tn_market.specs.Parties.{party_firm, party_limit}
@@ -6,6 +7,8 @@ use Rattle.tn_residual.proofs.parties.add_outsides.Given as goal
 
 abbrev pub invariant-loop-c : goal.invariant-loop-c
 invariant-loop-c g l =
-    (map (party_firm g.V.Valuation) l.parties.items ≡ map (party_firm g.V.Valuation) l.initial.parties.items ++ outsides l.fn.scale (take l.c l.outcome.contracts))
-    × ((limit : ℕ) → residual_limit l.fn.scale ≤ limit → All (λ party. party_limit g.V.Valuation party ≤ limit) l.initial.parties.items
+    (map (party_firm g.V.Valuation) l.parties.items ≡ map (party_firm g.V.Valuation) l.initial.parties.items
+    ++ outsides l.fn.scale (take l.c l.outcome.contracts))
+    × ((limit : ℕ) → residual_limit l.fn.scale ≤ limit
+    → All (λ party. party_limit g.V.Valuation party ≤ limit) l.initial.parties.items
     → All (λ party. party_limit g.V.Valuation party ≤ limit) l.parties.items)

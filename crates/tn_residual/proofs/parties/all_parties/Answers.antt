@@ -1,3 +1,4 @@
+-- What shows the clauses of `all_parties` of `src/parties.rt`.
 use Rattle.std.proofs.Common.{rules, ◌∙◌, arith, ap, ◌++◌, ◌*ℤ◌, List}
 use Rattle.std.proofs.lemmas.Int.{ints, to_z-of_z}
 use mir.Syntax.{w128}
@@ -11,13 +12,15 @@ pub add_outsides-requires-clause-from_one : goal.add_outsides-requires-clause-fr
 add_outsides-requires-clause-from_one g c =
     let fits : SFits w128 c.args.scale = c.ranges.scale in
     let outcome = c.requires.outcome in
-    simp to_z-of_z (scale_fits c.args.outcome.now.over c.args.scale outcome.least c.requires.scaled c.requires.small_scale).0
+    simp to_z-of_z (scale_fits c.args.outcome.now.over c.args.scale outcome.least c.requires.scaled
+    c.requires.small_scale).0
 
 pub add_outsides-requires-clause-small_scale : goal.add_outsides-requires-clause-small_scale
 add_outsides-requires-clause-small_scale g c =
     let fits : SFits w128 c.args.scale = c.ranges.scale in
     let outcome = c.requires.outcome in
-    simp to_z-of_z (scale_fits c.args.outcome.now.over c.args.scale outcome.least c.requires.scaled c.requires.small_scale).1
+    simp to_z-of_z (scale_fits c.args.outcome.now.over c.args.scale outcome.least c.requires.scaled
+    c.requires.small_scale).1
 
 pub returns-clause-firms : goal.returns-clause-firms
 returns-clause-firms g c =
@@ -42,4 +45,5 @@ returns-clause-limits g c =
     let from_one = (scale_fits c.args.outcome.now.over c.args.scale outcome.least low high).0 in
     let first = simp to_z-of_z at c.in_ok-parties.ensures.limits in
     let second = simp to_z-of_z at c.in_ok-add_outsides.ensures.limits in
-    second (residual_limit (c.args.outcome.now.over *ℤ c.args.scale)) (limit_grows c.args.outcome.now.over c.args.scale outcome.least from_one) first
+    second (residual_limit (c.args.outcome.now.over *ℤ c.args.scale))
+    (limit_grows c.args.outcome.now.over c.args.scale outcome.least from_one) first

@@ -1,3 +1,4 @@
+-- What the loops of `unsigned_of` of `src/parties.rt` keep.
 use Rattle.std.proofs.Common.{◌≡◌, length}
 use Rattle.tn_plain_data.specs.Network.{part}
 use Rattle.tn_residual.specs.Residual.{unsigned}

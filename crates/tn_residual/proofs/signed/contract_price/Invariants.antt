@@ -1,3 +1,4 @@
+-- What the loops of `contract_price` of `src/signed.rt` keep.
 use Rattle.tn_residual.proofs.HeldLemmas.{NoneOn}
 use Rattle.tn_residual.proofs.signed.contract_price.Given as goal
 

@@ -1,3 +1,4 @@
+-- What the loops of `signed_by` of `src/signed.rt` keep.
 use Rattle.tn_residual.specs.Held.{HoldsSigned}
 use Rattle.tn_residual.proofs.signed.signed_by.Given as goal
 

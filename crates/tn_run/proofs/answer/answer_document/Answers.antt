@@ -1,3 +1,4 @@
+-- What shows the clauses of `answer_document` of `src/answer.rt`.
 use Rattle.std.proofs.Common.{ap, subst, sym, ◌∙◌}
 use Rattle.std.specs.Prelude.{IfOk}
 use Rattle.tn_file.specs.declared.document.Content.{Content}
@@ -17,5 +18,9 @@ returns-in-Arrangement-clause-answer c =
     let market = c.in-Market.market in
     let at = c.in-Arrangement.at in
     let content = c.in-Market.is ∙ ap (λ (extra : Extra). Market market extra) c.in-Arrangement.is in
-    subst (λ (held : Content). IsFor (need_of command) held → IsDocument (need_of command) (document_view (record { names = names; content = held })) → IfOk c.check.result (IsAnswerOf command (document_view (record { names = names; content = held })))) (sym content)
-    (λ needed document. verdict_answers command names market at c.check.result needed document c.check.ensures.answer) c.requires.needed c.requires.document
+    subst (λ (held : Content). IsFor (need_of command) held
+    → IsDocument (need_of command) (document_view (record { names = names; content = held }))
+    → IfOk c.check.result (IsAnswerOf command (document_view (record { names = names; content = held }))))
+    (sym content)
+    (λ needed document. verdict_answers command names market at c.check.result needed document c.check.ensures.answer)
+    c.requires.needed c.requires.document

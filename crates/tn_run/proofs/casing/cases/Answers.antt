@@ -1,3 +1,4 @@
+-- What shows the clauses of `cases` of `src/casing.rt`.
 use Rattle.std.proofs.Common.{arith}
 use Rattle.tn_run.proofs.CaseLemmas.{book_is_within}
 use Rattle.tn_run.proofs.casing.cases.Goals as goal

@@ -1,3 +1,4 @@
+-- What shows the clauses of `passes` of `src/casing.rt`.
 use Rattle.std.proofs.Common.{subst, ◌≡◌}
 use Rattle.std.specs.Prelude.{IfOk, Some, option_map, slice_get}
 use Rattle.tn_answer.specs.AnswerText.{answer_line}
@@ -12,4 +13,6 @@ returns g c =
     let found = slice_get c.args.book.now c.args.k in
     run_decides found (case_data c.case-one.result.now) c.in_ok-said.names c.in_ok-said.said c.is_told.result
     c.case-one.ensures.case c.in_ok-said.ensures.answer
-    (subst (λ (layout : Layout). IfOk c.is_told.result (λ agrees. Some agrees ≡ option_map (agrees_with (status_of c.in_ok-said.said) (answer_line layout c.in_ok-said.names c.in_ok-said.said)) found)) c.case_layout.ensures c.is_told.ensures)
+    (subst (λ (layout : Layout). IfOk c.is_told.result (λ agrees. Some agrees
+    ≡ option_map (agrees_with (status_of c.in_ok-said.said)
+    (answer_line layout c.in_ok-said.names c.in_ok-said.said)) found)) c.case_layout.ensures c.is_told.ensures)

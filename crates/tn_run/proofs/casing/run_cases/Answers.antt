@@ -1,3 +1,4 @@
+-- What shows the clauses of `run_cases` of `src/casing.rt`.
 use Rattle.std.proofs.Common.{subst}
 use Rattle.std.specs.Prelude.{Bool, IfSome, slice_get}
 use Rattle.tn_run.specs.Cases.{IsPassed}
@@ -13,8 +14,12 @@ loop-k-preserved g c =
       | then-not-branch+in_ok-push w ↦
           rw w.failed-is
           (rw w.in_ok-push.ensures.items
-          (one_more_failed k book c.loop-k.failed.items c.loop-k.invariant (subst (λ (passed : Bool). IfSome (slice_get book k) (IsPassed passed)) w.if-not-branch.true c.in_ok-passes.ensures)))
+          (one_more_failed k book c.loop-k.failed.items c.loop-k.invariant
+          (subst (λ (passed : Bool). IfSome (slice_get book k) (IsPassed passed)) w.if-not-branch.true
+          c.in_ok-passes.ensures)))
       | else-not-branch w ↦
           rw w.failed-is
-          (one_more_passed k book c.loop-k.failed.items c.loop-k.invariant (subst (λ (passed : Bool). IfSome (slice_get book k) (IsPassed passed)) w.if-not-branch.false c.in_ok-passes.ensures))
+          (one_more_passed k book c.loop-k.failed.items c.loop-k.invariant
+          (subst (λ (passed : Bool). IfSome (slice_get book k) (IsPassed passed)) w.if-not-branch.false
+          c.in_ok-passes.ensures))
     ]

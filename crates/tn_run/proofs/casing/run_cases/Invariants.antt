@@ -1,3 +1,4 @@
+-- What the loops of `run_cases` of `src/casing.rt` keep.
 use Rattle.tn_run.specs.Cases.{AreFailed}
 use Rattle.tn_run.proofs.casing.run_cases.Given as goal
 

@@ -1,3 +1,4 @@
+-- What shows the clauses of `run_to_exit` of `src/exit.rt`.
 use Rattle.std.proofs.Common.{ℕ, sym, subst, ◌∙◌, map, string_bytes}
 use Rattle.tn_run.specs.Words.{layout_of}
 use Rattle.tn_run.specs.Complete.{AnswersAll}
@@ -7,7 +8,8 @@ use Rattle.tn_run.proofs.exit.run_to_exit.Goals as goal
 
 pub returns-in-Some-clause-lines : goal.returns-in-Some-clause-lines
 returns-in-Some-clause-lines g c = λ command is.
-    lined_as_asked c.lines_command_of.result c.in-Some.command command (g.S.Source.left c.args.source.now) (g.K.Sink.written c.args.sink.now) (g.K.Sink.written c.run_lines.new.sink)
+    lined_as_asked c.lines_command_of.result c.in-Some.command command (g.S.Source.left c.args.source.now)
+    (g.K.Sink.written c.args.sink.now) (g.K.Sink.written c.run_lines.new.sink)
     (record {
       source_first = g.S.Source.faults c.args.source.now;
       source_last = g.S.Source.faults c.run_lines.new.source;
@@ -35,10 +37,14 @@ returns-in-None-clause-answer g c =
       answers.1,
       c.run_market.ensures.headline,
       λ command all is told quiet_source quiet_sink.
-          subst (λ (status : ℕ). AnswersAll command (layout_of (map string_bytes c.args.words.now)) all (g.K.Sink.written c.args.sink.now) (g.K.Sink.written c.run_market.new.sink) answers.0 run.said status) (sym c.from-in-None.ensures)
+          subst (λ (status : ℕ). AnswersAll command (layout_of (map string_bytes c.args.words.now)) all
+          (g.K.Sink.written c.args.sink.now) (g.K.Sink.written c.run_market.new.sink) answers.0 run.said status)
+          (sym c.from-in-None.ensures)
           (answers.2 command all is told quiet_source quiet_sink),
       c.run_market.ensures.within,
       subst
-          (λ (status : ℕ). IsWritten (g.K.Sink.written c.args.sink.now) (g.K.Sink.written c.run_market.new.sink) (g.K.Sink.faults c.args.sink.now) (g.K.Sink.faults c.run_market.new.sink) (layout_of (map string_bytes c.args.words.now)) answers.0 run.said status)
+          (λ (status : ℕ). IsWritten (g.K.Sink.written c.args.sink.now) (g.K.Sink.written c.run_market.new.sink)
+          (g.K.Sink.faults c.args.sink.now) (g.K.Sink.faults c.run_market.new.sink)
+          (layout_of (map string_bytes c.args.words.now)) answers.0 run.said status)
           (sym c.from-in-None.ensures) answers.3,
     )

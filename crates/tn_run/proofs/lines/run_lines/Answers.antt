@@ -1,3 +1,4 @@
+-- What shows the clauses of `run_lines` of `src/lines.rt`.
 use Rattle.std.proofs.Common.{ap, arith, ◌∙◌, inl}
 use Rattle.tn_answer.specs.declared.layout.Layout.TheVariants.{Object}
 use Rattle.tn_names.specs.Names.{no_names}
@@ -14,7 +15,8 @@ returns-then-answer-eq-WRITE_FAILED g c = write_failed c.args.command _ _ _ _ _ 
       sink_last = g.K.Sink.faults c.tell-answer.new.sink;
     })
     c.in-Ok-Some.names c.tell-answer.result.said c.loop-turn.invariant.so_far
-    (may_run_out c.args.command _ _ c.in-Ok-Some.names c.in-Ok-Some.said c.tell-answer.result.said (rw c.in-Ok-Some.field-0-is at c.in-Ok-Some.ensures.answer) c.tell-answer.ensures.said)
+    (may_run_out c.args.command _ _ c.in-Ok-Some.names c.in-Ok-Some.said c.tell-answer.result.said
+    (rw c.in-Ok-Some.field-0-is at c.in-Ok-Some.ensures.answer) c.tell-answer.ensures.said)
     c.loop-turn.invariant.sink_later c.tell-answer.ensures.written c.if-answer-eq-WRITE_FAILED.true
 
 pub returns-in-Err : goal.returns-in-Err
@@ -26,19 +28,24 @@ returns-in-Err g c = read_failed c.args.command _ _ _ _ _ _ _ _
       sink_middle = g.K.Sink.faults c.loop-turn.sink;
       sink_last = g.K.Sink.faults c.write_line.new.sink;
     })
-    c.loop-turn.invariant.so_far (Rose_later _ _ _ c.loop-turn.invariant.source_later c.in-Err.ensures.failed) c.loop-turn.invariant.sink_later
+    c.loop-turn.invariant.so_far (Rose_later _ _ _ c.loop-turn.invariant.source_later c.in-Err.ensures.failed)
+    c.loop-turn.invariant.sink_later
     (c.write_line.ensures.written Object no_names (c.read_fault_text.ensures Object no_names))
 
 pub loop-turn-preserved : goal.loop-turn-preserved
 loop-turn-preserved g c =
-    let whole = whole_answer _ _ _ _ c.in-Ok-Some.names c.tell-answer.result.said c.tell-answer.result.status c.tell-answer.ensures.written c.if-answer-eq-WRITE_FAILED.false in
+    let whole = whole_answer _ _ _ _ c.in-Ok-Some.names c.tell-answer.result.said c.tell-answer.result.status
+    c.tell-answer.ensures.written c.if-answer-eq-WRITE_FAILED.false in
     record {
-      so_far = one_more c.args.command _ _ _ c.in-Ok-Some.names c.tell-answer.result.said _ _ _ _ _ _ c.loop-turn.invariant.so_far
-          (may_run_out c.args.command _ _ c.in-Ok-Some.names c.in-Ok-Some.said c.tell-answer.result.said (rw c.in-Ok-Some.field-0-is at c.in-Ok-Some.ensures.answer) c.tell-answer.ensures.said)
+      so_far = one_more c.args.command _ _ _ c.in-Ok-Some.names c.tell-answer.result.said _ _ _ _ _ _
+          c.loop-turn.invariant.so_far
+          (may_run_out c.args.command _ _ c.in-Ok-Some.names c.in-Ok-Some.said c.tell-answer.result.said
+          (rw c.in-Ok-Some.field-0-is at c.in-Ok-Some.ensures.answer) c.tell-answer.ensures.said)
           whole.grown (c.with_status-status.ensures ∙ ap (with_status c.loop-turn.status) whole.status_is);
       source_later = omega arith;
       sink_later = omega arith;
     }
 
 pub returns : goal.returns
-returns g c = inl (all_turns c.args.command _ _ _ _ _ _ c.loop-turn.invariant.so_far (omega (arith, c.loop-turn-test.false)))
+returns g c =
+    inl (all_turns c.args.command _ _ _ _ _ _ c.loop-turn.invariant.so_far (omega (arith, c.loop-turn-test.false)))

@@ -1,3 +1,4 @@
+-- What shows the clauses of `own_trades` of `src/replaying.rt`.
 use Rattle.std.proofs.Common.{◌∙◌}
 use Rattle.tn_plain_data.specs.Network.{own}
 use Rattle.tn_run.proofs.ReplayLemmas.{named_push}
@@ -6,4 +7,5 @@ use Rattle.tn_run.proofs.replaying.own_trades.Goals as goal
 pub loop-k-preserved : goal.loop-k-preserved
 loop-k-preserved c =
     c.in_ok-push.ensures.items
-    ∙ named_push (own c.args.net.now.ends c.args.f) c.args.positions.now c.loop-k.k c.at.result c.own_trade.result c.loop-k.trades.items c.loop-k.invariant c.at.ensures c.own_trade.ensures
+    ∙ named_push (own c.args.net.now.ends c.args.f) c.args.positions.now c.loop-k.k c.at.result c.own_trade.result
+    c.loop-k.trades.items c.loop-k.invariant c.at.ensures c.own_trade.ensures

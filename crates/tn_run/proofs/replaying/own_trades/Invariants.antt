@@ -1,3 +1,4 @@
+-- What the loops of `own_trades` of `src/replaying.rt` keep.
 use Rattle.std.proofs.Common.{◌≡◌, map, take}
 use Rattle.tn_plain_data.specs.Network.{own}
 use Rattle.tn_run.proofs.replaying.own_trades.Given as goal

@@ -1,3 +1,4 @@
+-- What shows the clauses of `replay_raw` of `src/replaying.rt`.
 use Rattle.std.proofs.Common.{List, map, sym, subst}
 use Rattle.tn_answer.specs.ReasonText.{IsReasonWithin}
 use Rattle.tn_cert.specs.declared.replayed.Replayed.{Replayed}
@@ -14,28 +15,40 @@ pub returns-in-Valid-clause-answer : goal.returns-in-Valid-clause-answer
 returns-in-Valid-clause-answer c =
     let ends = c.args.net.now.ends in
     let claim = c.args.claim.now in
-    let replays = subst (λ (it : List Ends). Replays (map raw_firm_of c.firms.result.now) it claim (in_trades it c.in_ok-replay_raw.field-0)) c.ends.ensures c.in_ok-replay_raw.ensures.replays in
+    let replays =
+    subst (λ (it : List Ends). Replays (map raw_firm_of c.firms.result.now) it claim
+    (in_trades it c.in_ok-replay_raw.field-0)) c.ends.ensures c.in_ok-replay_raw.ensures.replays in
     let valid =
-    subst (λ (firms : List RawFirm). Replays (map raw_firm_of firms) ends claim (in_trades ends Replayed.Valid)) c.firms.ensures.is
-    (subst (λ (replayed : Replayed). Replays (map raw_firm_of c.firms.result.now) ends claim (in_trades ends replayed)) c.in-Valid.is replays) in
+    subst (λ (firms : List RawFirm). Replays (map raw_firm_of firms) ends claim (in_trades ends Replayed.Valid))
+    c.firms.ensures.is
+    (subst (λ (replayed : Replayed). Replays (map raw_firm_of c.firms.result.now) ends claim (in_trades ends replayed))
+    c.in-Valid.is replays) in
     (valid, claim_implies (map raw_firm_of c.args.net.now.firms) ends claim c.requires.network c.requires.claim valid)
 
 pub returns-in_ok-reason_in-in-Invalid-clause-answer : goal.returns-in_ok-reason_in-in-Invalid-clause-answer
 returns-in_ok-reason_in-in-Invalid-clause-answer c =
     let ends = c.args.net.now.ends in
     let claim = c.args.claim.now in
-    let replays = subst (λ (it : List Ends). Replays (map raw_firm_of c.firms.result.now) it claim (in_trades it c.in_ok-replay_raw.field-0)) c.ends.ensures c.in_ok-replay_raw.ensures.replays in
+    let replays =
+    subst (λ (it : List Ends). Replays (map raw_firm_of c.firms.result.now) it claim
+    (in_trades it c.in_ok-replay_raw.field-0)) c.ends.ensures c.in_ok-replay_raw.ensures.replays in
     subst (Refutes (map raw_firm_of c.args.net.now.firms) ends claim) (sym c.in_ok-reason_in-in-Invalid.ensures)
-    (subst (λ (firms : List RawFirm). Refutes (map raw_firm_of firms) ends claim (reason_in ends c.in-Invalid.reason)) c.firms.ensures.is
-    (subst (λ (replayed : Replayed). Replays (map raw_firm_of c.firms.result.now) ends claim (in_trades ends replayed)) c.in-Invalid.is replays))
+    (subst (λ (firms : List RawFirm). Refutes (map raw_firm_of firms) ends claim (reason_in ends c.in-Invalid.reason))
+    c.firms.ensures.is
+    (subst (λ (replayed : Replayed). Replays (map raw_firm_of c.firms.result.now) ends claim (in_trades ends replayed))
+    c.in-Invalid.is replays))
 
 pub returns-in_ok-reason_in-in-Invalid-clause-within : goal.returns-in_ok-reason_in-in-Invalid-clause-within
 returns-in_ok-reason_in-in-Invalid-clause-within c =
     let ends = c.args.net.now.ends in
     let claim = c.args.claim.now in
-    let replays = subst (λ (it : List Ends). Replays (map raw_firm_of c.firms.result.now) it claim (in_trades it c.in_ok-replay_raw.field-0)) c.ends.ensures c.in_ok-replay_raw.ensures.replays in
+    let replays =
+    subst (λ (it : List Ends). Replays (map raw_firm_of c.firms.result.now) it claim
+    (in_trades it c.in_ok-replay_raw.field-0)) c.ends.ensures c.in_ok-replay_raw.ensures.replays in
     let small = subst HasSmallSurplus c.in-Invalid.is c.in_ok-replay_raw.ensures.small in
     subst IsReasonWithin (sym c.in_ok-reason_in-in-Invalid.ensures)
-    (raw_reason_small (map raw_firm_of c.firms.result.now) ends claim (reason_in ends c.in-Invalid.reason) c.requires.kind
-    (subst (λ (replayed : Replayed). Replays (map raw_firm_of c.firms.result.now) ends claim (in_trades ends replayed)) c.in-Invalid.is replays)
+    (raw_reason_small (map raw_firm_of c.firms.result.now) ends claim (reason_in ends c.in-Invalid.reason)
+    c.requires.kind
+    (subst (λ (replayed : Replayed). Replays (map raw_firm_of c.firms.result.now) ends claim (in_trades ends replayed))
+    c.in-Invalid.is replays)
     (small_in ends c.in-Invalid.reason small))

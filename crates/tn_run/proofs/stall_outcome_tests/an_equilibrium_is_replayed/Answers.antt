@@ -1,3 +1,4 @@
+-- What shows the clauses of `an_equilibrium_is_replayed` of `src/stall_outcome_tests.rt`.
 use Rattle.std.proofs.Common.{◌≡◌, List, [], ◌∷◌, rules}
 use Rattle.tn_base.specs.Firm.{Firm}
 use Rattle.tn_plain_data.specs.ClaimLimits.{IsClaimWithin}
@@ -7,11 +8,13 @@ use Rattle.tn_run.proofs.stall_outcome_tests.an_equilibrium_is_replayed.Goals as
 pub replay-requires-clause-within : goal.replay-requires-clause-within
 replay-requires-clause-within g c =
     let trades : c.expect-market.result.trades ≡ trade_between 0 1 ∷ trade_between 1 0 ∷ [] = search rules in
-    let within : (firms : List Firm) → IsClaimWithin firms (trade_between 0 1 ∷ trade_between 1 0 ∷ []) c.expect-claim.result = search rules in
+    let within : (firms : List Firm)
+    → IsClaimWithin firms (trade_between 0 1 ∷ trade_between 1 0 ∷ []) c.expect-claim.result = search rules in
     rw trades (within _)
 
 pub replay-requires-2-clause-within : goal.replay-requires-2-clause-within
 replay-requires-2-clause-within g c =
     let trades : c.expect-market.result.trades ≡ trade_between 0 1 ∷ trade_between 1 0 ∷ [] = search rules in
-    let within : (firms : List Firm) → IsClaimWithin firms (trade_between 0 1 ∷ trade_between 1 0 ∷ []) c.expect-claim-2.result = search rules in
+    let within : (firms : List Firm)
+    → IsClaimWithin firms (trade_between 0 1 ∷ trade_between 1 0 ∷ []) c.expect-claim-2.result = search rules in
     rw trades (within _)

@@ -1,3 +1,4 @@
+-- What shows the clauses of `stalls_keep_what_they_like` of `src/stall_outcome_tests.rt`.
 use Rattle.tn_market.proofs.AskLemmas.{none_meet}
 use Rattle.tn_run.proofs.stall_outcome_tests.stalls_keep_what_they_like.Goals as goal
 

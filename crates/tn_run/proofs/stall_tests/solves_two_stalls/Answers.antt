@@ -1,3 +1,4 @@
+-- What shows the clauses of `solves_two_stalls` of `src/stall_tests.rt`.
 use Rattle.std.proofs.Common.{◌≡◌, length, lit<, arith, IfOk, Result, subst}
 use Rattle.tn_base.specs.declared.memory.OutOfMemory.{OutOfMemory}
 use Rattle.tn_base.proofs.SetLemmas.{has-zero}
@@ -8,7 +9,8 @@ use Rattle.tn_run.proofs.stall_tests.solves_two_stalls.Goals as goal
 pub solve_among-requires : goal.solve_among-requires
 solve_among-requires g c =
     let trades : length c.expect-market.result.trades ≡ 2 =
-    subst (λ (r : Result (Traded Stall) OutOfMemory). IfOk r (λ market. length market.trades ≡ 2)) c.expect-market.ensures c.two_stalls.ensures.two_trades in (
+    subst (λ (r : Result (Traded Stall) OutOfMemory). IfOk r (λ market. length market.trades ≡ 2))
+    c.expect-market.ensures c.two_stalls.ensures.two_trades in (
       lit< tt,
       (
         lit< tt,

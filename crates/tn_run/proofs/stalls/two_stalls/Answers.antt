@@ -1,3 +1,4 @@
+-- What shows the clauses of `two_stalls` of `src/stalls.rt`.
 use Rattle.std.proofs.Common.{◌≡◌, [], ◌∷◌, ap₂, ◌∙◌}
 use Rattle.tn_plain_data.specs.declared.ends.Ends.{Ends}
 use Rattle.tn_run.specs.Stall.{trade_between}

@@ -1,3 +1,4 @@
+-- What shows the clauses of `find_cycle` of `src/barring.rt`.
 use Rattle.std.proofs.Common.{sym, ◌∙◌, rules, map, arith}
 use Rattle.tn_session.proofs.StandingLemmas.{HasLaws, laws_of}
 use Rattle.tn_session.proofs.LeavingLemmas.{leaving_asks, leaving_never, leaving_finds}
@@ -20,7 +21,9 @@ least_through-requires g c =
               way.labels.one_each ∙ sym way.sized,
               (
                 c.requires.near,
-                leaving_asks (map g.V.Valuation.firm c.args.market.now.firms) c.args.market.now.trades c.args.rounds.now.graph c.args.rounds.now.finder c.args.rounds.now.allowed c.args.rounds.now.on c.args.t
+                leaving_asks (map g.V.Valuation.firm c.args.market.now.firms) c.args.market.now.trades
+                    c.args.rounds.now.graph c.args.rounds.now.finder c.args.rounds.now.allowed c.args.rounds.now.on
+                    c.args.t
                     c.requires.leaving,
               ),
             ),
@@ -31,18 +34,29 @@ least_through-requires g c =
 
 pub unreachable-requires : goal.unreachable-requires
 unreachable-requires g c =
-    let laws : HasLaws g.V.Valuation.firm g.V.Valuation.limit c.args.market.now = laws_of g.V.Valuation.firm g.V.Valuation.limit c.args.market.now c.trades-trades.ensures.network g.met.V.Valuation.lawful in
-    leaving_never (map g.V.Valuation.firm c.args.market.now.firms) c.args.market.now.trades c.args.rounds.now.graph c.args.rounds.now.finder c.args.rounds.now.allowed c.args.rounds.now.on c.args.t
+    let laws : HasLaws g.V.Valuation.firm g.V.Valuation.limit c.args.market.now =
+    laws_of g.V.Valuation.firm g.V.Valuation.limit c.args.market.now c.trades-trades.ensures.network
+    g.met.V.Valuation.lawful in
+    leaving_never (map g.V.Valuation.firm c.args.market.now.firms) c.args.market.now.trades c.args.rounds.now.graph
+    c.args.rounds.now.finder c.args.rounds.now.allowed c.args.rounds.now.on c.args.t
     laws.network laws.meet laws.abstain c.requires.leaving c.in-None.ensures.answer.0
 
 pub returns-clause-kept : goal.returns-clause-kept
 returns-clause-kept g c =
-    let laws : HasLaws g.V.Valuation.firm g.V.Valuation.limit c.args.market.now = laws_of g.V.Valuation.firm g.V.Valuation.limit c.args.market.now c.trades-trades.ensures.network g.met.V.Valuation.lawful in
-    (leaving_finds (map g.V.Valuation.firm c.args.market.now.firms) c.args.market.now.trades c.args.rounds.now.graph c.args.rounds.now.finder c.args.rounds.now.allowed c.args.rounds.now.on c.args.t
-    laws.network laws.meet c.requires.leaving c.least_through.new.self c.in-Cycle.cost c.in-Cycle.length c.in-Cycle.ensures.answer c.least_through.ensures.labelled c.in-Cycle.ensures.keeps).0
+    let laws : HasLaws g.V.Valuation.firm g.V.Valuation.limit c.args.market.now =
+    laws_of g.V.Valuation.firm g.V.Valuation.limit c.args.market.now c.trades-trades.ensures.network
+    g.met.V.Valuation.lawful in
+    (leaving_finds (map g.V.Valuation.firm c.args.market.now.firms) c.args.market.now.trades c.args.rounds.now.graph
+    c.args.rounds.now.finder c.args.rounds.now.allowed c.args.rounds.now.on c.args.t
+    laws.network laws.meet c.requires.leaving c.least_through.new.self c.in-Cycle.cost c.in-Cycle.length
+    c.in-Cycle.ensures.answer c.least_through.ensures.labelled c.in-Cycle.ensures.keeps).0
 
 pub returns-clause-labels : goal.returns-clause-labels
 returns-clause-labels g c =
-    let laws : HasLaws g.V.Valuation.firm g.V.Valuation.limit c.args.market.now = laws_of g.V.Valuation.firm g.V.Valuation.limit c.args.market.now c.trades-trades.ensures.network g.met.V.Valuation.lawful in
-    (leaving_finds (map g.V.Valuation.firm c.args.market.now.firms) c.args.market.now.trades c.args.rounds.now.graph c.args.rounds.now.finder c.args.rounds.now.allowed c.args.rounds.now.on c.args.t
-    laws.network laws.meet c.requires.leaving c.least_through.new.self c.in-Cycle.cost c.in-Cycle.length c.in-Cycle.ensures.answer c.least_through.ensures.labelled c.in-Cycle.ensures.keeps).1
+    let laws : HasLaws g.V.Valuation.firm g.V.Valuation.limit c.args.market.now =
+    laws_of g.V.Valuation.firm g.V.Valuation.limit c.args.market.now c.trades-trades.ensures.network
+    g.met.V.Valuation.lawful in
+    (leaving_finds (map g.V.Valuation.firm c.args.market.now.firms) c.args.market.now.trades c.args.rounds.now.graph
+    c.args.rounds.now.finder c.args.rounds.now.allowed c.args.rounds.now.on c.args.t
+    laws.network laws.meet c.requires.leaving c.least_through.new.self c.in-Cycle.cost c.in-Cycle.length
+    c.in-Cycle.ensures.answer c.least_through.ensures.labelled c.in-Cycle.ensures.keeps).1

@@ -1,3 +1,4 @@
+-- What shows the clauses of `allows_all` of `src/members.rt`.
 use Rattle.std.proofs.Common.{◌∙◌}
 use Rattle.tn_shape.proofs.ShapeLemmas.{all_keys}
 use Rattle.tn_shape.proofs.members.allows_all.Goals as goal

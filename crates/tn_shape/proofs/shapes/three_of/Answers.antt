@@ -1,3 +1,4 @@
+-- What shows the clauses of `three_of` of `src/shapes.rt`.
 use Rattle.std.proofs.Common.{sym, arith}
 use Rattle.tn_shape.proofs.ShapeLemmas.{three_of-shorter, three_of-longer}
 use Rattle.tn_shape.proofs.shapes.three_of.Goals as goal

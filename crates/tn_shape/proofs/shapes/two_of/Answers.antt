@@ -1,3 +1,4 @@
+-- What shows the clauses of `two_of` of `src/shapes.rt`.
 use Rattle.std.proofs.Common.{sym}
 use Rattle.tn_shape.proofs.ShapeLemmas.{two_of-shorter, two_of-longer}
 use Rattle.tn_shape.proofs.shapes.two_of.Goals as goal

@@ -1,3 +1,4 @@
+-- What shows the clauses of `Bundle::count` of `src/bundle.rt`.
 use Rattle.std.proofs.Common.{sym, ap, ◌∙◌}
 use Rattle.std.proofs.lemmas.Nat.{ones-le}
 use Rattle.tn_base.specs.Sets.{size}

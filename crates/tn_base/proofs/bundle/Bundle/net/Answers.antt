@@ -1,3 +1,4 @@
+-- What shows the clauses of `Bundle::net` of `src/bundle.rt`.
 use Rattle.std.proofs.Common.{ap, ◌∙◌, arith}
 use Rattle.std.proofs.lemmas.Int.{ints}
 use Rattle.tn_base.specs.Sets.{size}

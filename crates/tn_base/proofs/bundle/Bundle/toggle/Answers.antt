@@ -1,3 +1,4 @@
+-- What shows the clauses of `Bundle::toggle` of `src/bundle.rt`.
 use Rattle.std.proofs.Common.{◌*◌, ◌^◌, lit<}
 use Rattle.std.proofs.lemmas.Nat.{xor_lt}
 use Rattle.std.proofs.Math.Nat.{mod-lt}

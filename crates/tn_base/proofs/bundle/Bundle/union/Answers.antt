@@ -1,3 +1,4 @@
+-- What shows the clauses of `Bundle::union` of `src/bundle.rt`.
 use Rattle.std.proofs.lemmas.Nat.{or_lt}
 use Rattle.tn_base.proofs.bundle.Bundle.union.Goals as goal
 

@@ -1,3 +1,4 @@
+-- What shows the clauses of `TradeSet::count` of `src/trade_set.rt`.
 use Rattle.std.proofs.Common.{◌≡◌, length, ap, ◌∙◌, arith}
 use Rattle.tn_base.specs.Sets.{size}
 use Rattle.tn_base.proofs.LimbLemmas.{none_counted, one_counted, all_counted, size-joined}
@@ -25,4 +26,9 @@ returns-clause-members g c =
     ∙ size-joined g.row.W c.self.inside.limbs c.self.invariant.1 ∙ ap size c.self.view_is
 
 pub returns-clause-few : goal.returns-clause-few
-returns-clause-few g c = omega (arith, c.loop-limb.invariant.few, c.loop-limb-test.false, c.loop-limb.auto.limb-index-end)
+returns-clause-few g c = omega (
+  arith,
+  c.loop-limb.invariant.few,
+  c.loop-limb-test.false,
+  c.loop-limb.auto.limb-index-end,
+)

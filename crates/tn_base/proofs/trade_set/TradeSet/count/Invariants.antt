@@ -1,3 +1,4 @@
+-- What the loops of `TradeSet::count` of `src/trade_set.rt` keep.
 use Rattle.tn_base.proofs.LimbLemmas.{AreCounted}
 use Rattle.tn_base.proofs.trade_set.TradeSet.count.Given as goal
 

@@ -1,3 +1,4 @@
+-- What shows the clauses of `TradeSet::has` of `src/trade_set.rt`.
 use Rattle.std.proofs.Common.{ℕ, ◌%◌, sym, ap, ◌∙◌}
 use Rattle.std.specs.Prelude.{nat_eq}
 use Rattle.std.proofs.lemmas.Nat.Bits.{shr_and_one}

@@ -1,3 +1,4 @@
+-- What the loops of `TradeSet::meet` of `src/trade_set.rt` keep.
 use Rattle.tn_base.specs.Sets.{meet}
 use Rattle.tn_base.proofs.LimbLemmas.{AreDone}
 use Rattle.tn_base.proofs.trade_set.TradeSet.meet.Given as goal

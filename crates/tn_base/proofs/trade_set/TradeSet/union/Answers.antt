@@ -1,3 +1,4 @@
+-- What shows the clauses of `TradeSet::union` of `src/trade_set.rt`.
 use Rattle.std.proofs.Common.{◌∙◌, ap₂, arith}
 use Rattle.tn_base.specs.Sets.{union}
 use Rattle.tn_base.proofs.LimbLemmas.{one_done, union_done, joined_within}
@@ -10,8 +11,10 @@ loop-k-preserved g c =
     (omega (arith, c.self.told, c.loop-k-test.true))
 
 pub invariant_of-result : goal.invariant_of-result
-invariant_of-result g c =
-    (c.self.invariant.0, (union_done g.row.W _ _ _ _ c.self.invariant.1 c.other.invariant.1 c.loop-k.invariant c.loop-k-test.false).0)
+invariant_of-result g c = (
+  c.self.invariant.0,
+  (union_done g.row.W _ _ _ _ c.self.invariant.1 c.other.invariant.1 c.loop-k.invariant c.loop-k-test.false).0,
+)
 
 pub returns-clause-members : goal.returns-clause-members
 returns-clause-members g c =
@@ -20,4 +23,5 @@ returns-clause-members g c =
 
 pub returns-clause-within : goal.returns-clause-within
 returns-clause-within g c =
-    joined_within g.row.W _ (union_done g.row.W _ _ _ _ c.self.invariant.1 c.other.invariant.1 c.loop-k.invariant c.loop-k-test.false).0
+    joined_within g.row.W _ (union_done g.row.W _ _ _ _ c.self.invariant.1 c.other.invariant.1 c.loop-k.invariant
+    c.loop-k-test.false).0

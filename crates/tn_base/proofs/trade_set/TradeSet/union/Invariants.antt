@@ -1,3 +1,4 @@
+-- What the loops of `TradeSet::union` of `src/trade_set.rt` keep.
 use Rattle.tn_base.specs.Sets.{union}
 use Rattle.tn_base.proofs.LimbLemmas.{AreDone}
 use Rattle.tn_base.proofs.trade_set.TradeSet.union.Given as goal

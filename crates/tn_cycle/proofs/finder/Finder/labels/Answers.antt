@@ -1,3 +1,4 @@
+-- What shows the clauses of `Finder::labels` of `src/finder.rt`.
 use Rattle.std.proofs.Common.{◌≡◌, ◌≤◌, ◌∙◌, ◌++◌, ℕ, List, sym, ap, subst, refl, arith, length, take, drop, rules}
 use Rattle.std.proofs.lemmas.Int.{to_z-of_z}
 use Rattle.std.proofs.lemmas.List.{length-take}
@@ -14,8 +15,10 @@ pub returns-in-None-clause-answer : goal.returns-in-None-clause-answer
 returns-in-None-clause-answer g c =
     let arc = g.C.Costs.arc c.args.costs.now in
     let labels = c.settle.new.self.labels in
-    let same : c.args.self.now.nodes ≡ c.self.inside.nodes = ap (λ (reading : Reading). reading.nodes) (sym c.self.view_is) in
-    let are : AreLabels c.args.self.now.nodes arc labels = subst (λ (n : ℕ). AreLabels n arc labels) (sym same) c.settle.ensures.labels in
+    let same : c.args.self.now.nodes ≡ c.self.inside.nodes =
+    ap (λ (reading : Reading). reading.nodes) (sym c.self.view_is) in
+    let are : AreLabels c.args.self.now.nodes arc labels =
+    subst (λ (n : ℕ). AreLabels n arc labels) (sym same) c.settle.ensures.labels in
     (none_negative_kept arc (label_in labels) are.keeps, are, c.settle.ensures.none_listed)
 
 pub returns-in-Cycle-clause-answer : goal.returns-in-Cycle-clause-answer
@@ -28,17 +31,24 @@ returns-in-Cycle-clause-answer g c =
     let is = c.in-Cycle.is in
     let counted : arc_count grown.result ≡ c.in-Cycle.length = ap arc_count is in
     let arcs : c.arcs-self-inside.result ≡ c.in-Cycle.length = c.arcs-self-inside.ensures ∙ counted in
-    let same : c.args.self.now.nodes ≡ c.self.inside.nodes = ap (λ (reading : Reading). reading.nodes) (sym c.self.view_is) in
+    let same : c.args.self.now.nodes ≡ c.self.inside.nodes =
+    ap (λ (reading : Reading). reading.nodes) (sym c.self.view_is) in
     let few : c.in-Cycle.length ≤ nodes = omega (arith, counted, grown.ensures.few_arcs) in
-    let places : c.in-Cycle.length ≤ c.self.inside.path.len = omega (arith, few, c.requires.sized, same, c.self.invariant.path_sized) in
+    let places : c.in-Cycle.length ≤ c.self.inside.path.len =
+    omega (arith, few, c.requires.sized, same, c.self.invariant.path_sized) in
     let answer : IsNegative nodes arc (take c.in-Cycle.length written) c.in-Cycle.cost c.in-Cycle.length =
-    subst (λ (one : Path). AnswersGrown nodes arc (take (arc_count one) written) grown.new.labels one) is grown.ensures.answer in
-    let size : c.in-Cycle.length ≤ length written = omega (arith, answer.counted, length-take c.in-Cycle.length written) in
-    let listed : take c.arcs-self-inside.result (take c.self.inside.path.len (written ++ rest)) ≡ take c.in-Cycle.length written =
-    ap (λ (k : ℕ). take k (take c.self.inside.path.len (written ++ rest))) arcs ∙ front-written written rest c.in-Cycle.length c.self.inside.path.len places size in
+    subst (λ (one : Path). AnswersGrown nodes arc (take (arc_count one) written) grown.new.labels one) is
+    grown.ensures.answer in
+    let size : c.in-Cycle.length ≤ length written = omega (arith, answer.counted, length-take c.in-Cycle.length written)
+    in
+    let listed : take c.arcs-self-inside.result (take c.self.inside.path.len (written ++ rest))
+    ≡ take c.in-Cycle.length written =
+    ap (λ (k : ℕ). take k (take c.self.inside.path.len (written ++ rest))) arcs
+    ∙ front-written written rest c.in-Cycle.length c.self.inside.path.len places size in
     let fits : SFits w128 c.in-Cycle.cost = search rules in
     simp to_z-of_z (
       subst (λ (xs : List ℕ). IsNegative c.args.self.now.nodes arc xs c.in-Cycle.cost c.in-Cycle.length) (sym listed)
-          (subst (λ (n : ℕ). IsNegative n arc (take c.in-Cycle.length written) c.in-Cycle.cost c.in-Cycle.length) c.requires.sized answer),
+          (subst (λ (n : ℕ). IsNegative n arc (take c.in-Cycle.length written) c.in-Cycle.cost c.in-Cycle.length)
+          c.requires.sized answer),
       refl,
     )

@@ -1,3 +1,4 @@
+-- What the loops of `Admitted::mark_nodes` of `src/graphs.rt` keep.
 use Rattle.std.proofs.Common.{◌≡◌, ℕ, ◌<◌}
 use Rattle.tn_base.specs.Walks.{is_admitted}
 use Rattle.tn_cycle.specs.Kept.{flag_at}

@@ -1,3 +1,4 @@
+-- What the loops of `DealerValuation::row` of `src/asked.rt` keep.
 use Rattle.tn_market.proofs.RowLemmas.{IsRowBelow}
 use Rattle.tn_dealer.specs.Firms.{firm_of}
 use Rattle.tn_dealer.proofs.asked.DealerValuation.row.Given as goal

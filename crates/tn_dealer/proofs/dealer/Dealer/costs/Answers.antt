@@ -1,3 +1,4 @@
+-- What shows the clauses of `Dealer::costs` of `src/dealer.rt`.
 use Rattle.std.proofs.Common.{rules, arith, refl, length, sym, subst, ℕ, ℤ, ◌≡◌, ◌+◌}
 use Rattle.std.specs.Prelude.{set}
 use Rattle.std.proofs.lemmas.Int.{to_z-of_z}
@@ -21,8 +22,13 @@ loop-k-preserved c =
     let fit : SFits w64 c.cost_of.result = search rules in
     let count : c.len-k-end.result ≡ length c.args.self.now.pairs.items = search rules in
     let below = c.loop-k-test.true in
-    let is = slice_get_read pairs (length pairs) c.loop-k.k pair refl (omega (arith, below, count)) c.index-pair.ensures in
-    let more = costs_more pairs c.loop-k.k pair c.loop-k.costs dealer.different is (all_near dealer.trades dealer.buys pairs dealer.dealer.few own) c.loop-k.invariant in
-    let placed = subst (λ (n : ℕ). AreCostsBelow pairs (c.loop-k.k + 1) (set c.loop-k.costs n pair.cost)) (sym c.place.ensures.place) more in
-    let put = subst (λ (z : ℤ). AreCostsBelow pairs (c.loop-k.k + 1) (set c.loop-k.costs c.place.result z)) (sym c.cost_of.ensures) placed in
+    let is = slice_get_read pairs (length pairs) c.loop-k.k pair refl (omega (arith, below, count)) c.index-pair.ensures
+    in
+    let more = costs_more pairs c.loop-k.k pair c.loop-k.costs dealer.different is
+    (all_near dealer.trades dealer.buys pairs dealer.dealer.few own) c.loop-k.invariant in
+    let placed =
+    subst (λ (n : ℕ). AreCostsBelow pairs (c.loop-k.k + 1) (set c.loop-k.costs n pair.cost))
+    (sym c.place.ensures.place) more in
+    let put = subst (λ (z : ℤ). AreCostsBelow pairs (c.loop-k.k + 1) (set c.loop-k.costs c.place.result z))
+    (sym c.cost_of.ensures) placed in
     simp to_z-of_z put

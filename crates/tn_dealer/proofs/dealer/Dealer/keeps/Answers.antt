@@ -1,3 +1,4 @@
+-- What shows the clauses of `Dealer::keeps` of `src/dealer.rt`.
 use Rattle.std.proofs.Common.{◌≡◌, ◌<◌, ℕ, true, arith, ap, ◌∙◌, subst}
 use Rattle.tn_base.specs.Sets.{has, meet, minus}
 use Rattle.tn_dealer.specs.Certificates.{number_at, KeepsBeside}
@@ -13,13 +14,17 @@ pub loop-buy-preserved : goal.loop-buy-preserved
 loop-buy-preserved c =
     let dealer = c.args.self.now in
     let number = number_at c.args.numbers.now in
-    keeps_more c.args.priced c.args.costs.now number (meet c.args.x dealer.buys) (minus c.args.x dealer.buys) c.loop-buy.buy c.loop-buy.invariant
-    (λ member. subst (λ (sales : ℕ). KeepsBeside c.args.priced c.args.costs.now number sales c.loop-buy.buy most_own) c.minus-sales.ensures
-    (c.keeps_beside.ensures c.if-not-keeps_beside.false (ap (λ (z : ℕ). has z c.loop-buy.buy) c.meet-purchases.ensures ∙ member)))
+    keeps_more c.args.priced c.args.costs.now number (meet c.args.x dealer.buys) (minus c.args.x dealer.buys)
+    c.loop-buy.buy c.loop-buy.invariant
+    (λ member. subst (λ (sales : ℕ). KeepsBeside c.args.priced c.args.costs.now number sales c.loop-buy.buy most_own)
+    c.minus-sales.ensures
+    (c.keeps_beside.ensures c.if-not-keeps_beside.false (ap (λ (z : ℕ). has z c.loop-buy.buy) c.meet-purchases.ensures
+    ∙ member)))
 
 pub returns : goal.returns
 returns c = λ _.
     let dealer = c.args.self.now in
-    keeps_listed dealer.trades dealer.buys dealer.pairs.items c.args.costs.now c.args.priced (number_at c.args.numbers.now) c.args.x dealer.dealer.few
+    keeps_listed dealer.trades dealer.buys dealer.pairs.items c.args.costs.now c.args.priced
+    (number_at c.args.numbers.now) c.args.x dealer.dealer.few
     (own_pairs dealer.trades dealer.buys dealer.pairs.items dealer.dealer.own) c.requires.costs
     (λ buy near member. c.loop-buy.invariant buy (let past = c.loop-buy-test.false in omega (arith, near, past)) member)

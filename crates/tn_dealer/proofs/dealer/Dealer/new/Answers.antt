@@ -1,3 +1,4 @@
+-- What shows the clauses of `Dealer::new` of `src/dealer.rt`.
 use Rattle.std.proofs.Common.{rules, ◌≡◌, length}
 use Rattle.tn_base.specs.Table.{buys_of}
 use Rattle.tn_base.proofs.TableLemmas.{buys_of_within}
@@ -8,7 +9,12 @@ invariant_of-result c =
     let count : c.len.result ≡ length c.args.sides.items = search rules in
     let bought : c.purchases.result ≡ buys_of c.args.sides.items = search rules in
     record {
-      dealer = rw (count, bought) (record { few = c.requires.few; bought = buys_of_within c.args.sides.items; own = c.requires.own });
+      dealer = rw (count, bought) (record {
+        few = c.requires.few;
+        bought = buys_of_within c.args.sides.items;
+        own =
+            c.requires.own;
+      });
       different = rw c.deref.ensures.value at c.in_default.ensures;
     }
 

@@ -1,3 +1,4 @@
+-- What shows the clauses of `Dealer::taken` of `src/dealer.rt`.
 use Rattle.std.proofs.Common.{arith, rules, sym, subst, ℕ, pos}
 use Rattle.std.proofs.lemmas.Int.{ints, to_z-of_z}
 use mir.Syntax.{w128}
@@ -10,7 +11,8 @@ use Rattle.tn_dealer.proofs.dealer.Dealer.taken.Goals as goal
 
 pub loop-k-init : goal.loop-k-init
 loop-k-init c = record {
-  worth = subst (λ (x : ℕ). IsWorth (matched_worth c.args.self.now.pairs.items) x (pos 0)) (sym c.empty-bundle.ensures) (no_pairs_taken c.args.self.now.pairs.items);
+  worth = subst (λ (x : ℕ). IsWorth (matched_worth c.args.self.now.pairs.items) x (pos 0)) (sym c.empty-bundle.ensures)
+      (no_pairs_taken c.args.self.now.pairs.items);
   small = record { low = omega (arith, ints); high = omega (arith, ints) };
 }
 
@@ -20,6 +22,8 @@ loop-k-preserved c =
     let dealer = c.args.self.now in
     let own = own_pairs dealer.trades dealer.buys dealer.pairs.items dealer.dealer.own in
     simp to_z-of_z (record {
-      worth = taken_more dealer.trades dealer.buys dealer.pairs.items c.args.costs.now own c.requires.costs _ _ _ _ c.take_in.ensures c.loop-k.invariant.worth;
-      small = taken_small dealer.trades dealer.buys dealer.pairs.items c.args.costs.now own c.requires.costs _ _ _ _ c.loop-k.k c.loop-k.invariant.small c.take_in.ensures;
+      worth = taken_more dealer.trades dealer.buys dealer.pairs.items c.args.costs.now own c.requires.costs _ _ _ _
+          c.take_in.ensures c.loop-k.invariant.worth;
+      small = taken_small dealer.trades dealer.buys dealer.pairs.items c.args.costs.now own c.requires.costs _ _ _ _
+          c.loop-k.k c.loop-k.invariant.small c.take_in.ensures;
     })

@@ -1,3 +1,4 @@
+-- What the loops of `Reach::nearest` of `src/search.rt` keep.
 use Rattle.std.proofs.Common.{◌<◌}
 use Rattle.std.specs.Prelude.{IfSome}
 use Rattle.tn_dealer.proofs.search.Reach.nearest.Given as goal

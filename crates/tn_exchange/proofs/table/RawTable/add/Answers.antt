@@ -1,3 +1,4 @@
+-- What shows the clauses of `RawTable::add` of `src/table.rt`.
 use Rattle.std.proofs.lemmas.Int.{to_z-of_z}
 use Rattle.tn_exchange.proofs.RowLemmas.{limits_with_row}
 use Rattle.tn_exchange.proofs.table.RawTable.add.Goals as goal

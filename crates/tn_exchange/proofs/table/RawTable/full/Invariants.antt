@@ -1,3 +1,4 @@
+-- What the loops of `RawTable::full` of `src/table.rt` keep.
 use Rattle.std.proofs.Common.{ℕ, ◌<◌}
 use Rattle.std.specs.Prelude.{IsSome}
 use Rattle.tn_exchange.specs.Rows.{worth_in}

@@ -1,3 +1,4 @@
+-- What shows the clauses of `RawTable::new` of `src/table.rt`.
 use Rattle.std.proofs.Common.{◌≡◌, ◌^◌, length, rules}
 use Rattle.std.specs.Prelude.{replicate, None}
 use Rattle.tn_exchange.proofs.RowLemmas.{limits_without_rows}

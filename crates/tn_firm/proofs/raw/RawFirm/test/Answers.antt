@@ -1,3 +1,4 @@
+-- What shows the clauses of `RawFirm::test` of `src/raw.rt`.
 use Rattle.std.proofs.Common.{◌≡◌, ◌⊎◌, inl, inr, refl, sym, subst}
 use Rattle.std.specs.Prelude.{◌↔◌}
 use Rattle.tn_base.specs.Firm.{Firm}
@@ -18,7 +19,8 @@ use Rattle.tn_firm.proofs.raw.RawFirm.test.Goals as goal
 use Rattle.tn_market.specs.Widths.{most_worth}
 
 pub returns-in-Table-clause-holds : goal.returns-in-Table-clause-holds
-returns-in-Table-clause-holds c = subst (λ (raw : RawFirm). (c.test_table.result ≡ Holds) ↔ NoneFails (raw_firm_of raw)) (sym c.in-Table.is) c.test_table.ensures.holds
+returns-in-Table-clause-holds c = subst (λ (raw : RawFirm). (c.test_table.result ≡ Holds)
+    ↔ NoneFails (raw_firm_of raw)) (sym c.in-Table.is) c.test_table.ensures.holds
 
 pub returns-in-Laminar-clause-holds : goal.returns-in-Laminar-clause-holds
 returns-in-Laminar-clause-holds c = ((λ _. meets c.args.self.now c.in-Laminar.is), (λ _. refl))
@@ -26,7 +28,12 @@ returns-in-Laminar-clause-holds c = ((λ _. meets c.args.self.now c.in-Laminar.i
     lawful : (firm : Firm) → IsLawful most_worth firm → NoneFails firm
     lawful firm laws = none_fails_from_exchange firm (record { one = laws.exchange_one; net_count = laws.exchange_net })
 
-    meets : (raw : RawFirm) → ((firm : Laminar) × (raw ≡ IsLaminar firm)) ⊎ (((firm : Middle) × (raw ≡ IsMiddle firm)) ⊎ ((firm : Dealer) × (raw ≡ IsDealer firm))) → NoneFails (raw_firm_of raw)
-    meets raw (inl (firm, is)) = subst (λ (raw : RawFirm). NoneFails (raw_firm_of raw)) (sym is) (lawful _ (laminar_laws firm))
-    meets raw (inr (inl (firm, is))) = subst (λ (raw : RawFirm). NoneFails (raw_firm_of raw)) (sym is) (lawful _ (middle_laws firm))
-    meets raw (inr (inr (firm, is))) = subst (λ (raw : RawFirm). NoneFails (raw_firm_of raw)) (sym is) (lawful _ (dealer_laws firm))
+    meets : (raw : RawFirm) → ((firm : Laminar) × (raw ≡ IsLaminar firm))
+        ⊎ (((firm : Middle) × (raw ≡ IsMiddle firm)) ⊎ ((firm : Dealer) × (raw ≡ IsDealer firm)))
+        → NoneFails (raw_firm_of raw)
+    meets raw (inl (firm, is)) =
+        subst (λ (raw : RawFirm). NoneFails (raw_firm_of raw)) (sym is) (lawful _ (laminar_laws firm))
+    meets raw (inr (inl (firm, is))) =
+        subst (λ (raw : RawFirm). NoneFails (raw_firm_of raw)) (sym is) (lawful _ (middle_laws firm))
+    meets raw (inr (inr (firm, is))) =
+        subst (λ (raw : RawFirm). NoneFails (raw_firm_of raw)) (sym is) (lawful _ (dealer_laws firm))

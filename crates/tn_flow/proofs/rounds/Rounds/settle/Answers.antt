@@ -1,3 +1,4 @@
+-- What shows the clauses of `Rounds::settle` of `src/rounds.rt`.
 use Rattle.std.proofs.Common.{rules, sym, ◌∙◌, map, length, arith}
 use Rattle.tn_flow.proofs.RoundLemmas.{last_node, search_asks, settled_labels}
 use Rattle.tn_flow.proofs.rounds.Rounds.settle.Goals as goal
@@ -16,7 +17,8 @@ relabel-requires g c =
             way.labels.one_each ∙ sym way.sized,
             (
               c.requires.near,
-              search_asks (map g.V.Valuation.firm c.args.market.now.firms) c.args.market.now.trades c.args.self.now.graph c.args.self.now.finder c.args.self.now.allowed c.args.self.now.on _ way
+              search_asks (map g.V.Valuation.firm c.args.market.now.firms) c.args.market.now.trades
+                  c.args.self.now.graph c.args.self.now.finder c.args.self.now.allowed c.args.self.now.on _ way
                   (last_node c.args.self.now.finder.nodes (length c.args.market.now.trades) way.sized),
             ),
           ),
@@ -26,8 +28,10 @@ relabel-requires g c =
 
 pub returns-clause-labels : goal.returns-clause-labels
 returns-clause-labels g c =
-    settled_labels (map g.V.Valuation.firm c.args.market.now.firms) c.args.market.now.trades c.args.self.now.graph c.args.self.now.finder c.args.self.now.allowed c.args.self.now.on _
-    c.relabel.new.self.labels c.requires.under_way (last_node c.args.self.now.finder.nodes (length c.args.market.now.trades) c.requires.under_way.sized) c.relabel.ensures.labels
+    settled_labels (map g.V.Valuation.firm c.args.market.now.firms) c.args.market.now.trades c.args.self.now.graph
+    c.args.self.now.finder c.args.self.now.allowed c.args.self.now.on _
+    c.relabel.new.self.labels c.requires.under_way (last_node c.args.self.now.finder.nodes
+    (length c.args.market.now.trades) c.requires.under_way.sized) c.relabel.ensures.labels
 
 pub returns-clause-under_way : goal.returns-clause-under_way
 returns-clause-under_way g c =

@@ -1,3 +1,4 @@
+-- What shows the clauses of `Graph::detach` of `src/graph.rt`.
 use Rattle.std.proofs.Common.{arith}
 use Rattle.tn_graph.proofs.ReadingLemmas.{cut_all}
 use Rattle.tn_graph.proofs.graph.Graph.detach.Goals as goal

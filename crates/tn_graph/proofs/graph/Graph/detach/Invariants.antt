@@ -1,3 +1,4 @@
+-- What the loops of `Graph::detach` of `src/graph.rt` keep.
 use Rattle.tn_graph.proofs.ReadingLemmas.{IsCutOff}
 use Rattle.tn_graph.proofs.graph.Graph.detach.Given as goal
 

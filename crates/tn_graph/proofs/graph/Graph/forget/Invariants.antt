@@ -1,3 +1,4 @@
+-- What the loops of `Graph::forget` of `src/graph.rt` keep.
 use Rattle.tn_graph.specs.Reading.{AreForgotten, is_toggled}
 use Rattle.tn_graph.proofs.graph.Graph.forget.Given as goal
 

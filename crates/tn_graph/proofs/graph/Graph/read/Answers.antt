@@ -1,3 +1,4 @@
+-- What shows the clauses of `Graph::read` of `src/graph.rt`.
 use Rattle.std.proofs.Common.{rules, sym, ap, ◌∙◌, ◌≡◌, Some, map, slice_get, option_map, ℕ, lit<}
 use Rattle.std.proofs.lemmas.Option.{slice_get-map}
 use Rattle.std.proofs.lemmas.Int.{to_z-of_z}
@@ -15,14 +16,17 @@ read_arcs-requires g c =
     slice_get-map g.V.Valuation.firm c.args.market.now.firms c.args.f ∙ ap (option_map g.V.Valuation.firm) is in
     let counted = c.trades.ensures.count in
     let worth : SFits w128 c.unwrap-worth.result = search rules in
-    let known : firm.worth c.bundle_of-bundle.result ≡ Some c.unwrap-worth.result = sym c.value.ensures.worth ∙ c.unwrap-worth.ensures in
-    let stand : IsStand (map g.V.Valuation.firm c.args.market.now.firms) c.args.market.now.trades c.args.on.now c.args.f c.trades.result firm
+    let known : firm.worth c.bundle_of-bundle.result ≡ Some c.unwrap-worth.result =
+    sym c.value.ensures.worth ∙ c.unwrap-worth.ensures in
+    let stand : IsStand (map g.V.Valuation.firm c.args.market.now.firms) c.args.market.now.trades c.args.on.now c.args.f
+    c.trades.result firm
     (g.V.Valuation.limit c.firm-firm.result.now) c.bundle_of-bundle.result c.unwrap-worth.result = record {
       network = c.requires.network;
       is = listed;
       counted = counted;
       few = c.trades.ensures.few;
-      bundle_is = c.bundle_of-bundle.ensures c.firm-firm.result.now is ∙ ap (λ (n : ℕ). part c.args.market.now.trades c.args.f n c.args.on.now) (sym counted);
+      bundle_is = c.bundle_of-bundle.ensures c.firm-firm.result.now is
+          ∙ ap (λ (n : ℕ). part c.args.market.now.trades c.args.f n c.args.on.now) (sym counted);
       worth_is = known;
       within = (g.met.V.Valuation.lawful c.firm-firm.result.now).within;
       small = c.requires.small c.args.f c.firm-firm.result.now is;

@@ -1,3 +1,4 @@
+-- What shows the clauses of `Graph::refresh` of `src/graph.rt`.
 use Rattle.std.proofs.Common.{arith, ap, subst, sym, ◌∙◌, ◌+◌, ◌*◌, ◌<◌, ◌≤◌, ◌⊎◌, ℕ, map, option_map, length, inl, inr, if◌then◌else◌, ◌==◌}
 use Rattle.std.proofs.lemmas.Bool.{cases_eq}
 use Rattle.std.proofs.lemmas.List.{length-map}
@@ -12,10 +13,14 @@ pub loop-f-init : goal.loop-f-init
 loop-f-init g c =
     let firms = map g.V.Valuation.firm c.args.market.now.firms in
     record {
-      right = right_kept (map g.V.Valuation.firm c.args.market.now.firms) c.args.market.now.trades c.trades.ensures.network c.args.before.now c.args.on.now
+      right = right_kept (map g.V.Valuation.firm c.args.market.now.firms) c.args.market.now.trades
+          c.trades.ensures.network c.args.before.now c.args.on.now
           c.args.self.now c.forget.new.self c.requires.graph
-          (subst (λ (n : ℕ). AreForgotten (is_toggled n c.args.before.now c.args.on.now) c.args.self.now c.forget.new.self) c.trades.ensures.count c.forget.ensures)
-          (λ k. (k < 0) ⊎ IsUnchanged (map g.V.Valuation.firm c.args.market.now.firms) c.args.market.now.trades c.args.before.now c.args.on.now k)
+          (subst (λ (n : ℕ). AreForgotten (is_toggled n c.args.before.now c.args.on.now) c.args.self.now
+          c.forget.new.self) c.trades.ensures.count c.forget.ensures)
+          (λ k. (k < 0)
+          ⊎ IsUnchanged (map g.V.Valuation.firm c.args.market.now.firms) c.args.market.now.trades c.args.before.now
+          c.args.on.now k)
           (λ k done. elim done [ inl h ↦ absurd (omega (arith, h)) | inr same ↦ same ]);
       asked = omega arith;
     }
@@ -26,44 +31,61 @@ loop-f-preserved g c =
     let test = c.loop-f-test.true in
     let inside : c.loop-f.f < length c.args.market.now.firms = omega (arith, test, count) in
     let item = some_item c.args.market.now.firms c.loop-f.f inside in
-    let bundles : AreBundles (map g.V.Valuation.firm c.args.market.now.firms) c.args.market.now.trades c.args.before.now c.args.on.now c.loop-f.f (g.V.Valuation.firm item.0)
+    let bundles : AreBundles (map g.V.Valuation.firm c.args.market.now.firms) c.args.market.now.trades c.args.before.now
+    c.args.on.now c.loop-f.f (g.V.Valuation.firm item.0)
     c.bundle_of.result c.bundle_of-in-loop-f.result = record {
-      is = slice_get-map g.V.Valuation.firm c.args.market.now.firms c.loop-f.f ∙ ap (option_map g.V.Valuation.firm) item.1;
+      is = slice_get-map g.V.Valuation.firm c.args.market.now.firms c.loop-f.f
+          ∙ ap (option_map g.V.Valuation.firm) item.1;
       old_is = c.bundle_of.ensures item.0 item.1;
       new_is = c.bundle_of-in-loop-f.ensures item.0 item.1;
     } in
-    let done : ℕ → ℕ → Type 0 = λ f k. (k < f) ⊎ IsUnchanged (map g.V.Valuation.firm c.args.market.now.firms) c.args.market.now.trades c.args.before.now c.args.on.now k in
+    let done : ℕ → ℕ → Type 0 = λ f k. (k < f)
+    ⊎ IsUnchanged (map g.V.Valuation.firm c.args.market.now.firms) c.args.market.now.trades c.args.before.now
+    c.args.on.now k in
     elim c.if-ne.branch [
       | then-ne w ↦ record {
-        right = subst (λ (graph : Matrix). IsRightFor (map g.V.Valuation.firm c.args.market.now.firms) c.args.market.now.trades c.args.on.now (done (c.loop-f.f + 1)) graph) (sym w.self-is)
-            (right_more (map g.V.Valuation.firm c.args.market.now.firms) c.args.market.now.trades c.args.on.now (done c.loop-f.f) (done (c.loop-f.f + 1))
-            c.loop-f.f c.loop-f.self w.read.new.self c.loop-f.invariant.right w.read.ensures.improved w.read.ensures.arcs
+        right = subst (λ (graph : Matrix). IsRightFor (map g.V.Valuation.firm c.args.market.now.firms)
+            c.args.market.now.trades c.args.on.now (done (c.loop-f.f + 1)) graph) (sym w.self-is)
+            (right_more (map g.V.Valuation.firm c.args.market.now.firms) c.args.market.now.trades c.args.on.now
+            (done c.loop-f.f) (done (c.loop-f.f + 1))
+            c.loop-f.f c.loop-f.self w.read.new.self c.loop-f.invariant.right w.read.ensures.improved
+            w.read.ensures.arcs
             (λ k h. elim h [
               | inl below ↦ elim (cases_eq k c.loop-f.f) [ inl e ↦ inl e | inr d ↦ inr (inl (omega (arith, below, d))) ]
               | inr same ↦ inr (inr same)
             ]));
-        asked = changed_step (map g.V.Valuation.firm c.args.market.now.firms) c.args.market.now.trades c.args.before.now c.args.on.now c.loop-f.f (g.V.Valuation.firm item.0)
-            c.bundle_of.result c.bundle_of-in-loop-f.result bundles c.args.steps.now c.loop-f.steps c.if-ne.steps c.loop-f.invariant.asked
+        asked = changed_step (map g.V.Valuation.firm c.args.market.now.firms) c.args.market.now.trades c.args.before.now
+            c.args.on.now c.loop-f.f (g.V.Valuation.firm item.0)
+            c.bundle_of.result c.bundle_of-in-loop-f.result bundles c.args.steps.now c.loop-f.steps c.if-ne.steps
+            c.loop-f.invariant.asked
             (subst (λ (s : ℕ). s ≤ c.loop-f.steps + (if c.bundle_of.result == c.bundle_of-in-loop-f.result then 0
             else ((g.V.Valuation.firm item.0).count + 1) * ((g.V.Valuation.firm item.0).count + 1))) (sym w.steps-is)
-            (asked_where_differs c.bundle_of.result c.bundle_of-in-loop-f.result (g.V.Valuation.firm item.0).count c.loop-f.steps w.read.new.steps c.ne.result c.ne.ensures w.if-ne.true
+            (asked_where_differs c.bundle_of.result c.bundle_of-in-loop-f.result (g.V.Valuation.firm item.0).count
+            c.loop-f.steps w.read.new.steps c.ne.result c.ne.ensures w.if-ne.true
             (w.read.ensures.asked item.0 item.1)));
       }
       | else-ne w ↦ record {
-        right = subst (λ (graph : Matrix). IsRightFor (map g.V.Valuation.firm c.args.market.now.firms) c.args.market.now.trades c.args.on.now (done (c.loop-f.f + 1)) graph) (sym w.self-is)
-            (right_same (map g.V.Valuation.firm c.args.market.now.firms) c.args.market.now.trades c.args.on.now (done c.loop-f.f) (done (c.loop-f.f + 1)) c.loop-f.self
+        right = subst (λ (graph : Matrix). IsRightFor (map g.V.Valuation.firm c.args.market.now.firms)
+            c.args.market.now.trades c.args.on.now (done (c.loop-f.f + 1)) graph) (sym w.self-is)
+            (right_same (map g.V.Valuation.firm c.args.market.now.firms) c.args.market.now.trades c.args.on.now
+            (done c.loop-f.f) (done (c.loop-f.f + 1)) c.loop-f.self
             c.loop-f.invariant.right
             (λ k h. elim h [
               | inl below ↦ elim (cases_eq k c.loop-f.f) [
-                | inl e ↦ inr (subst (IsUnchanged (map g.V.Valuation.firm c.args.market.now.firms) c.args.market.now.trades c.args.before.now c.args.on.now) (sym e)
-                    (unchanged_where_equal (map g.V.Valuation.firm c.args.market.now.firms) c.args.market.now.trades c.args.before.now c.args.on.now c.loop-f.f (g.V.Valuation.firm item.0)
+                | inl e ↦ inr
+                    (subst (IsUnchanged (map g.V.Valuation.firm c.args.market.now.firms) c.args.market.now.trades
+                    c.args.before.now c.args.on.now) (sym e)
+                    (unchanged_where_equal (map g.V.Valuation.firm c.args.market.now.firms) c.args.market.now.trades
+                    c.args.before.now c.args.on.now c.loop-f.f (g.V.Valuation.firm item.0)
                     c.bundle_of.result c.bundle_of-in-loop-f.result bundles c.ne.result c.ne.ensures w.if-ne.false))
                 | inr d ↦ inl (omega (arith, below, d))
               ]
               | inr same ↦ inr same
             ]));
-        asked = changed_step (map g.V.Valuation.firm c.args.market.now.firms) c.args.market.now.trades c.args.before.now c.args.on.now c.loop-f.f (g.V.Valuation.firm item.0)
-            c.bundle_of.result c.bundle_of-in-loop-f.result bundles c.args.steps.now c.loop-f.steps c.if-ne.steps c.loop-f.invariant.asked
+        asked = changed_step (map g.V.Valuation.firm c.args.market.now.firms) c.args.market.now.trades c.args.before.now
+            c.args.on.now c.loop-f.f (g.V.Valuation.firm item.0)
+            c.bundle_of.result c.bundle_of-in-loop-f.result bundles c.args.steps.now c.loop-f.steps c.if-ne.steps
+            c.loop-f.invariant.asked
             (let same = w.steps-is in omega (arith, same));
       }
     ]
@@ -73,6 +95,8 @@ returns-clause-graph g c =
     let count = c.firms-f-end.ensures.count in
     let test = c.loop-f-test.false in
     right_all (map g.V.Valuation.firm c.args.market.now.firms) c.args.market.now.trades c.args.on.now
-    (λ k. (k < c.loop-f.f) ⊎ IsUnchanged (map g.V.Valuation.firm c.args.market.now.firms) c.args.market.now.trades c.args.before.now c.args.on.now k) c.loop-f.self
+    (λ k. (k < c.loop-f.f)
+    ⊎ IsUnchanged (map g.V.Valuation.firm c.args.market.now.firms) c.args.market.now.trades c.args.before.now
+    c.args.on.now k) c.loop-f.self
     c.firms-f-end.ensures.network c.loop-f.invariant.right
     (λ k h. inl (omega (arith, h, test, count, length-map c.args.market.now.firms g.V.Valuation.firm)))

@@ -1,3 +1,4 @@
+-- What the loops of `Graph::refresh` of `src/graph.rt` keep.
 use Rattle.std.proofs.Common.{◌+◌, ◌<◌, ◌≤◌, ◌⊎◌, map, take}
 use Rattle.tn_graph.specs.Reading.{IsRightFor, IsUnchanged, changed_worths_from}
 use Rattle.tn_graph.proofs.graph.Graph.refresh.Given as goal
@@ -6,5 +7,6 @@ abbrev pub invariant-loop-f : goal.invariant-loop-f
 invariant-loop-f g l = record {
   right : IsRightFor (map g.V.Valuation.firm l.market.firms) l.market.trades l.on
       (λ k. (k < l.f) ⊎ IsUnchanged (map g.V.Valuation.firm l.market.firms) l.market.trades l.before l.on k) l.self;
-  asked : l.steps ≤ l.initial.steps + changed_worths_from l.market.trades l.before l.on 0 (take l.f (map g.V.Valuation.firm l.market.firms));
+  asked : l.steps ≤ l.initial.steps + changed_worths_from l.market.trades l.before l.on 0
+      (take l.f (map g.V.Valuation.firm l.market.firms));
 }

@@ -1,3 +1,4 @@
+-- What the loops of `Stand::falls` of `src/stand.rt` keep.
 use Rattle.std.proofs.Common.{◌≡◌}
 use Rattle.tn_graph.specs.Reading.{falling}
 use Rattle.tn_graph.proofs.stand.Stand.falls.Given as goal

@@ -1,3 +1,4 @@
+-- What shows the clauses of `Stand::raised` of `src/stand.rt`.
 use Rattle.tn_graph.proofs.StandLemmas.{raised_own}
 use Rattle.tn_graph.proofs.stand.Stand.raised.Goals as goal
 

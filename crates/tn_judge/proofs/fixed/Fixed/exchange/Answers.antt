@@ -1,3 +1,4 @@
+-- What shows the clauses of `Fixed::exchange` of `src/fixed.rt`.
 use Rattle.std.proofs.Common.{rules, ◌∙◌, ℤ, sym, subst}
 use Rattle.std.proofs.lemmas.Int.{to_z-of_z}
 use mir.Syntax.{w128}

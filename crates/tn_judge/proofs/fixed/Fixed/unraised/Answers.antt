@@ -1,3 +1,4 @@
+-- What shows the clauses of `Fixed::unraised` of `src/fixed.rt`.
 use Rattle.std.proofs.Common.{◌∙◌, ◌*◌, sym, ap₂}
 use Rattle.tn_plain_data.specs.Limits.{most_over}
 use Rattle.tn_outcome.specs.Fixed.{lesser}

@@ -1,3 +1,4 @@
+-- What the loops of `LaminarValuation::row` of `src/asked.rt` keep.
 use Rattle.tn_market.proofs.RowLemmas.{IsRowBelow}
 use Rattle.tn_laminar.specs.Firms.{firm_of}
 use Rattle.tn_laminar.proofs.asked.LaminarValuation.row.Given as goal

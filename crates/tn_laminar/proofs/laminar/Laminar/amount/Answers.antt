@@ -1,3 +1,4 @@
+-- What shows the clauses of `Laminar::amount` of `src/laminar.rt`.
 use Rattle.std.proofs.Common.{arith}
 use Rattle.std.proofs.lemmas.Int.{ints}
 use Rattle.tn_laminar.specs.Sum.{amount_at}

@@ -1,3 +1,4 @@
+-- What the loops of `Laminar::changes` of `src/laminar.rt` keep.
 use Rattle.tn_laminar.specs.Rows.{AreChanges}
 use Rattle.tn_laminar.proofs.laminar.Laminar.changes.Given as goal
 

@@ -1,3 +1,4 @@
+-- What shows the clauses of `Laminar::counted_number` of `src/laminar.rt`.
 use Rattle.std.proofs.Common.{rules, sym, subst, ℤ}
 use Rattle.std.proofs.lemmas.Int.{to_z-of_z}
 use mir.Syntax.{w128}
@@ -10,4 +11,5 @@ use Rattle.tn_laminar.proofs.laminar.Laminar.counted_number.Goals as goal
 pub returns-clause-small : goal.returns-clause-small
 returns-clause-small c =
     let fit : SFits w128 c.counted.result = search rules in
-    simp to_z-of_z (subst (λ (z : ℤ). IsAtMost z most_counted) (sym c.counted.ensures) (counted_small c.number.result c.number.ensures.small))
+    simp to_z-of_z (subst (λ (z : ℤ). IsAtMost z most_counted) (sym c.counted.ensures)
+    (counted_small c.number.result c.number.ensures.small))

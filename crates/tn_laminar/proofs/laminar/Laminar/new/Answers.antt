@@ -1,3 +1,4 @@
+-- What shows the clauses of `Laminar::new` of `src/laminar.rt`.
 use Rattle.std.proofs.Common.{rules, ◌≡◌, length, map}
 use Rattle.tn_base.specs.Table.{buys_of}
 use Rattle.tn_base.proofs.TableLemmas.{buys_of_within}
@@ -13,7 +14,8 @@ invariant_of-result c =
     let sound : AreSound c.args.sets.items = rw c.deref.ensures.value at c.in_default.ensures in
     let count : c.len.result ≡ length c.args.sides.items = search rules in
     let bought : c.purchases-buys.result ≡ buys_of c.args.sides.items = search rules in
-    let masked : c.in-Ok.masks.items ≡ map (λ set. masks_of c.purchases-buys.result set.members) c.args.sets.items = search rules in
+    let masked : c.in-Ok.masks.items ≡ map (λ set. masks_of c.purchases-buys.result set.members) c.args.sets.items =
+    search rules in
     let few = c.requires.few in
     record {
       laminar = rw count (record {

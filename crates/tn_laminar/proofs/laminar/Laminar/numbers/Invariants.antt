@@ -1,3 +1,4 @@
+-- What the loops of `Laminar::numbers` of `src/laminar.rt` keep.
 use Rattle.tn_laminar.proofs.ValueLemmas.{CountsSoFar}
 use Rattle.tn_laminar.proofs.laminar.Laminar.numbers.Given as goal
 

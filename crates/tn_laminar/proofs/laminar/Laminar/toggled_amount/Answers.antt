@@ -1,3 +1,4 @@
+-- What shows the clauses of `Laminar::toggled_amount` of `src/laminar.rt`.
 use Rattle.std.proofs.Common.{arith, rules, sym, ◌∙◌, ◌<◌, length, pos, ◌+ℤ◌, ◌-ℤ◌}
 use Rattle.std.proofs.lemmas.Int.{to_z-of_z}
 use Rattle.std.proofs.lemmas.List.{get_or_read}
@@ -9,9 +10,11 @@ use Rattle.tn_laminar.proofs.laminar.Laminar.toggled_amount.Goals as goal
 pub overflow_sub-result : goal.overflow_sub-result
 overflow_sub-result c =
     let is = c.args.self.now.laminar in
-    let inside : c.args.k < length c.args.self.now.amounts.items = (let below = c.requires.position in let many = is.as_many in omega (arith, below, many)) in
+    let inside : c.args.k < length c.args.self.now.amounts.items =
+    (let below = c.requires.position in let many = is.as_many in omega (arith, below, many)) in
     let own = get_or_read c.args.self.now.amounts.items _ _ inside c.index-own.ensures (pos 0) in
-    let out = amount_out c.args.self.now.trades c.args.self.now.amounts.items c.args.x c.args.k c.args.amount c.index-own.result.now is.few is.as_many is.small c.requires.position c.requires.amount own
+    let out = amount_out c.args.self.now.trades c.args.self.now.amounts.items c.args.x c.args.k c.args.amount
+    c.index-own.result.now is.few is.as_many is.small c.requires.position c.requires.amount own
     (sym c.has.ensures ∙ c.if-has.true) in
     let first : SFits w128 c.args.amount = search rules in
     let second : SFits w128 c.index-own.result.now = search rules in
@@ -20,9 +23,11 @@ overflow_sub-result c =
 pub overflow_add-result : goal.overflow_add-result
 overflow_add-result c =
     let is = c.args.self.now.laminar in
-    let inside : c.args.k < length c.args.self.now.amounts.items = (let below = c.requires.position in let many = is.as_many in omega (arith, below, many)) in
+    let inside : c.args.k < length c.args.self.now.amounts.items =
+    (let below = c.requires.position in let many = is.as_many in omega (arith, below, many)) in
     let own = get_or_read c.args.self.now.amounts.items _ _ inside c.index-own.ensures (pos 0) in
-    let into = amount_in c.args.self.now.trades c.args.self.now.amounts.items c.args.x c.args.k c.args.amount c.index-own.result.now is.few is.as_many is.small c.requires.position c.requires.amount own
+    let into = amount_in c.args.self.now.trades c.args.self.now.amounts.items c.args.x c.args.k c.args.amount
+    c.index-own.result.now is.few is.as_many is.small c.requires.position c.requires.amount own
     (sym c.has.ensures ∙ c.if-has.false) in
     let first : SFits w128 c.args.amount = search rules in
     let second : SFits w128 c.index-own.result.now = search rules in
@@ -31,9 +36,11 @@ overflow_add-result c =
 pub returns-then-has-clause-sum : goal.returns-then-has-clause-sum
 returns-then-has-clause-sum c =
     let is = c.args.self.now.laminar in
-    let inside : c.args.k < length c.args.self.now.amounts.items = (let below = c.requires.position in let many = is.as_many in omega (arith, below, many)) in
+    let inside : c.args.k < length c.args.self.now.amounts.items =
+    (let below = c.requires.position in let many = is.as_many in omega (arith, below, many)) in
     let own = get_or_read c.args.self.now.amounts.items _ _ inside c.index-own.ensures (pos 0) in
-    let out = amount_out c.args.self.now.trades c.args.self.now.amounts.items c.args.x c.args.k c.args.amount c.index-own.result.now is.few is.as_many is.small c.requires.position c.requires.amount own
+    let out = amount_out c.args.self.now.trades c.args.self.now.amounts.items c.args.x c.args.k c.args.amount
+    c.index-own.result.now is.few is.as_many is.small c.requires.position c.requires.amount own
     (sym c.has.ensures ∙ c.if-has.true) in
     let first : SFits w128 c.args.amount = search rules in
     let second : SFits w128 c.index-own.result.now = search rules in
@@ -43,9 +50,11 @@ returns-then-has-clause-sum c =
 pub returns-then-has-clause-small : goal.returns-then-has-clause-small
 returns-then-has-clause-small c =
     let is = c.args.self.now.laminar in
-    let inside : c.args.k < length c.args.self.now.amounts.items = (let below = c.requires.position in let many = is.as_many in omega (arith, below, many)) in
+    let inside : c.args.k < length c.args.self.now.amounts.items =
+    (let below = c.requires.position in let many = is.as_many in omega (arith, below, many)) in
     let own = get_or_read c.args.self.now.amounts.items _ _ inside c.index-own.ensures (pos 0) in
-    let out = amount_out c.args.self.now.trades c.args.self.now.amounts.items c.args.x c.args.k c.args.amount c.index-own.result.now is.few is.as_many is.small c.requires.position c.requires.amount own
+    let out = amount_out c.args.self.now.trades c.args.self.now.amounts.items c.args.x c.args.k c.args.amount
+    c.index-own.result.now is.few is.as_many is.small c.requires.position c.requires.amount own
     (sym c.has.ensures ∙ c.if-has.true) in
     let first : SFits w128 c.args.amount = search rules in
     let second : SFits w128 c.index-own.result.now = search rules in
@@ -55,9 +64,11 @@ returns-then-has-clause-small c =
 pub returns-else-has-clause-sum : goal.returns-else-has-clause-sum
 returns-else-has-clause-sum c =
     let is = c.args.self.now.laminar in
-    let inside : c.args.k < length c.args.self.now.amounts.items = (let below = c.requires.position in let many = is.as_many in omega (arith, below, many)) in
+    let inside : c.args.k < length c.args.self.now.amounts.items =
+    (let below = c.requires.position in let many = is.as_many in omega (arith, below, many)) in
     let own = get_or_read c.args.self.now.amounts.items _ _ inside c.index-own.ensures (pos 0) in
-    let into = amount_in c.args.self.now.trades c.args.self.now.amounts.items c.args.x c.args.k c.args.amount c.index-own.result.now is.few is.as_many is.small c.requires.position c.requires.amount own
+    let into = amount_in c.args.self.now.trades c.args.self.now.amounts.items c.args.x c.args.k c.args.amount
+    c.index-own.result.now is.few is.as_many is.small c.requires.position c.requires.amount own
     (sym c.has.ensures ∙ c.if-has.false) in
     let first : SFits w128 c.args.amount = search rules in
     let second : SFits w128 c.index-own.result.now = search rules in
@@ -67,9 +78,11 @@ returns-else-has-clause-sum c =
 pub returns-else-has-clause-small : goal.returns-else-has-clause-small
 returns-else-has-clause-small c =
     let is = c.args.self.now.laminar in
-    let inside : c.args.k < length c.args.self.now.amounts.items = (let below = c.requires.position in let many = is.as_many in omega (arith, below, many)) in
+    let inside : c.args.k < length c.args.self.now.amounts.items =
+    (let below = c.requires.position in let many = is.as_many in omega (arith, below, many)) in
     let own = get_or_read c.args.self.now.amounts.items _ _ inside c.index-own.ensures (pos 0) in
-    let into = amount_in c.args.self.now.trades c.args.self.now.amounts.items c.args.x c.args.k c.args.amount c.index-own.result.now is.few is.as_many is.small c.requires.position c.requires.amount own
+    let into = amount_in c.args.self.now.trades c.args.self.now.amounts.items c.args.x c.args.k c.args.amount
+    c.index-own.result.now is.few is.as_many is.small c.requires.position c.requires.amount own
     (sym c.has.ensures ∙ c.if-has.false) in
     let first : SFits w128 c.args.amount = search rules in
     let second : SFits w128 c.index-own.result.now = search rules in

@@ -1,3 +1,4 @@
+-- What shows the clauses of `LaminarSet::counted_at` of `src/set.rt`.
 use Rattle.std.proofs.Common.{rules, sym, subst, ℤ}
 use Rattle.std.proofs.lemmas.Int.{to_z-of_z}
 use mir.Syntax.{w128}
@@ -12,4 +13,5 @@ pub returns-clause-small : goal.returns-clause-small
 returns-clause-small c =
     let fit : SFits w128 c.counted.result = search rules in
     let small = number_small c.args.self.now _ c.number_at.result c.requires.numbered c.number_at.ensures in
-    simp to_z-of_z (subst (λ (z : ℤ). IsAtMost z most_counted) (sym c.counted.ensures) (counted_small c.number_at.result small))
+    simp to_z-of_z (subst (λ (z : ℤ). IsAtMost z most_counted) (sym c.counted.ensures)
+    (counted_small c.number_at.result small))

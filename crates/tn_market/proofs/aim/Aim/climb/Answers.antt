@@ -1,3 +1,4 @@
+-- What shows the clauses of `Aim::climb` of `src/aim.rt`.
 use Rattle.std.proofs.Common.{arith, rules}
 use Rattle.std.proofs.lemmas.Int.{ints, to_z-of_z}
 use mir.Syntax.{w128}
@@ -11,7 +12,8 @@ pub step-next-requires : goal.step-next-requires
 step-next-requires g c =
     let aim = c.args.self.now in
     record {
-      within = valued_within aim.allowed aim.scale aim.gains.now (g.V.Valuation.firm aim.firm.now) c.loop-found.found.bundle c.loop-found.found.value c.loop-found.invariant.valued;
+      within = valued_within aim.allowed aim.scale aim.gains.now (g.V.Valuation.firm aim.firm.now)
+          c.loop-found.found.bundle c.loop-found.found.value c.loop-found.invariant.valued;
     }
 
 pub loop-found-preserved : goal.loop-found-preserved
@@ -23,7 +25,8 @@ loop-found-preserved g c =
     let gain = simp to_z-of_z at c.if-next-found.false in
     record {
       valued = c.step-next.ensures.no_worse.valued c.loop-found.invariant.valued;
-      kept = stays values c.args.from c.loop-found.found c.step-next.result c.loop-found.invariant.valued c.step-next.ensures.no_worse
+      kept = stays values c.args.from c.loop-found.found c.step-next.result c.loop-found.invariant.valued
+          c.step-next.ensures.no_worse
           (lt_from_test c.step-next.result.value c.loop-found.found.value gain) c.loop-found.invariant.kept;
     }
 
@@ -35,7 +38,10 @@ returns-then-next-found-clause-best g c =
     let after : SFits w128 c.step-next.result.value = search rules in
     let before : SFits w128 c.loop-found.found.value = search rules in
     let no_gain = simp to_z-of_z at c.if-next-found.true in
-    let meets = meets_exchange firm (g.met.V.Valuation.lawful aim.firm.now).exchange_one (g.met.V.Valuation.lawful aim.firm.now).exchange_net in
-    let laws = aimed_exchanges aim.allowed aim.scale aim.gains.now firm (omega (arith, ints, from_one)) (g.met.V.Valuation.lawful aim.firm.now).own_bundles meets in
-    settled (aimed aim.allowed aim.scale aim.gains.now firm) c.loop-found.found c.step-next.result laws c.loop-found.invariant.valued c.step-next.ensures
+    let meets = meets_exchange firm (g.met.V.Valuation.lawful aim.firm.now).exchange_one
+    (g.met.V.Valuation.lawful aim.firm.now).exchange_net in
+    let laws = aimed_exchanges aim.allowed aim.scale aim.gains.now firm (omega (arith, ints, from_one))
+    (g.met.V.Valuation.lawful aim.firm.now).own_bundles meets in
+    settled (aimed aim.allowed aim.scale aim.gains.now firm) c.loop-found.found c.step-next.result laws
+    c.loop-found.invariant.valued c.step-next.ensures
     (le_from_test c.step-next.result.value c.loop-found.found.value no_gain)

@@ -1,3 +1,4 @@
+-- What the loops of `Aim::climb` of `src/aim.rt` keep.
 use Rattle.std.proofs.Common.{◌^◌, pos, ◌-ℤ◌}
 use borrow.Author.Differences.{up}
 use Rattle.tn_market.specs.Ascent.{aimed, IsValued, StaysAt}
@@ -5,8 +6,10 @@ use Rattle.tn_market.proofs.aim.Aim.climb.Given as goal
 
 abbrev pub invariant-loop-found : goal.invariant-loop-found
 invariant-loop-found g l = record {
-  valued : IsValued (aimed l.self.allowed l.self.scale l.self.gains.now (g.V.Valuation.firm l.self.firm.now)).worth l.found;
-  kept : StaysAt (aimed l.self.allowed l.self.scale l.self.gains.now (g.V.Valuation.firm l.self.firm.now)).worth l.fn.from l.found.bundle;
+  valued : IsValued (aimed l.self.allowed l.self.scale l.self.gains.now (g.V.Valuation.firm l.self.firm.now)).worth
+      l.found;
+  kept : StaysAt (aimed l.self.allowed l.self.scale l.self.gains.now (g.V.Valuation.firm l.self.firm.now)).worth
+      l.fn.from l.found.bundle;
 }
 
 abbrev pub decreases-loop-found : goal.decreases-loop-found

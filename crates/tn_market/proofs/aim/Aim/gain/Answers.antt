@@ -1,3 +1,4 @@
+-- What shows the clauses of `Aim::gain` of `src/aim.rt`.
 use Rattle.std.proofs.Common.{arith}
 use Rattle.std.proofs.lemmas.Int.{ints}
 use Rattle.tn_plain_data.specs.Prices.{price_at}
@@ -16,5 +17,9 @@ loop-k-preserved g c =
     let inside = c.loop-k-test.true in
     record {
       sum = omega (arith, ints, next, sum, term, low, high, small.low, small.high);
-      small = record { low = omega (arith, ints, low, small.low, high, small.high); high = omega (arith, ints, high, small.high, low, small.low) };
+      small = record {
+        low = omega (arith, ints, low, small.low, high, small.high);
+        high =
+            omega (arith, ints, high, small.high, low, small.low);
+      };
     }

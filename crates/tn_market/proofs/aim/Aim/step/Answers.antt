@@ -1,3 +1,4 @@
+-- What shows the clauses of `Aim::step` of `src/aim.rt`.
 use Rattle.std.proofs.Common.{◌≡◌, ◌+◌, ◌<◌, ℕ, arith, sym, subst, ◌∙◌}
 use Rattle.tn_base.specs.Sets.{minus}
 use Rattle.tn_market.specs.declared.bundle_value.BundleValue.{BundleValue}
@@ -7,13 +8,15 @@ use Rattle.tn_market.proofs.aim.Aim.step.Goals as goal
 use Rattle.tn_market.proofs.aim.Aim.step.Goals.{then-has, else-has}
 
 pub row-requires-clause-own : goal.row-requires-clause-own
-row-requires-clause-own g c = allowed_within c.args.from.now.bundle c.args.self.now.allowed _ c.args.self.now.fits.own c.requires.within
+row-requires-clause-own g c =
+    allowed_within c.args.from.now.bundle c.args.self.now.allowed _ c.args.self.now.fits.own c.requires.within
 
 pub loop-i-init : goal.loop-i-init
 loop-i-init g c =
     let aim = c.args.self.now in
     record {
-      tried = none_tried (aimed aim.allowed aim.scale aim.gains.now (g.V.Valuation.firm aim.firm.now)).worth c.args.from.now.bundle c.args.from.now;
+      tried = none_tried (aimed aim.allowed aim.scale aim.gains.now (g.V.Valuation.firm aim.firm.now)).worth
+          c.args.from.now.bundle c.args.from.now;
       earlier = c.empty-earlier.ensures ∙ earlier_none aim.allowed;
     }
 
@@ -30,7 +33,8 @@ best_with-best-requires-clause-within g c =
     (toggled_within c.args.from.now.bundle allowed c.loop-i.i c.requires.within (sym c.has.ensures ∙ c.if-has.true))
 
 pub best_with-best-requires-clause-others : goal.best_with-best-requires-clause-others
-best_with-best-requires-clause-others g c = earlier_within c.args.self.now.allowed c.loop-i.i c.loop-i.earlier c.loop-i.invariant.earlier
+best_with-best-requires-clause-others g c =
+    earlier_within c.args.self.now.allowed c.loop-i.i c.loop-i.earlier c.loop-i.invariant.earlier
 
 pub loop-i-preserved : goal.loop-i-preserved
 loop-i-preserved g c =
@@ -43,21 +47,33 @@ loop-i-preserved g c =
     let inside : c.loop-i.i < firm.count = omega (arith, count, below) in
     elim c.if-has.branch [
       | then-has w ↦
-          let one = subst (λ (y : ℕ). TriesOne values y c.loop-i.best w.better-best.result) w.toggle-toggled.ensures w.better-best.ensures in
-          let pairs = subst (λ (y : ℕ). TriesOthers values y c.loop-i.earlier firm.count w.better-best.result w.best_with-best.result) w.toggle-toggled.ensures w.best_with-best.ensures.tried in
-          let beside = beside_tried aim.allowed aim.scale aim.gains.now firm from.bundle c.loop-i.i c.loop-i.earlier firm.count c.loop-i.best w.better-best.result w.best_with-best.result
+          let one = subst (λ (y : ℕ). TriesOne values y c.loop-i.best w.better-best.result) w.toggle-toggled.ensures
+          w.better-best.ensures in
+          let pairs = subst (λ (y : ℕ). TriesOthers values y c.loop-i.earlier firm.count w.better-best.result
+          w.best_with-best.result) w.toggle-toggled.ensures w.best_with-best.ensures.tried in
+          let beside =
+          beside_tried aim.allowed aim.scale aim.gains.now firm from.bundle c.loop-i.i c.loop-i.earlier firm.count
+          c.loop-i.best w.better-best.result w.best_with-best.result
           c.requires.within inside c.loop-i.invariant.earlier one pairs in
           record {
-            tried = subst (λ (best : BundleValue). TriesNearby values from.bundle (c.loop-i.i + 1) from best) (sym w.best-is)
-                (position_tried values from.bundle c.loop-i.i from c.loop-i.best w.best_with-best.result c.loop-i.invariant.tried beside);
-            earlier = w.earlier-is ∙ w.toggle-earlier.ensures ∙ earlier_more aim.allowed c.loop-i.i c.loop-i.earlier c.loop-i.invariant.earlier (sym c.has.ensures ∙ w.if-has.true);
+            tried = subst (λ (best : BundleValue). TriesNearby values from.bundle (c.loop-i.i + 1) from best)
+                (sym w.best-is)
+                (position_tried values from.bundle c.loop-i.i from c.loop-i.best w.best_with-best.result
+                c.loop-i.invariant.tried beside);
+            earlier = w.earlier-is ∙ w.toggle-earlier.ensures ∙ earlier_more aim.allowed c.loop-i.i c.loop-i.earlier
+                c.loop-i.invariant.earlier (sym c.has.ensures ∙ w.if-has.true);
           }
       | else-has w ↦
           let absent = sym c.has.ensures ∙ w.if-has.false in
-          let beside = beside_outside aim.allowed aim.scale aim.gains.now firm from.bundle c.loop-i.i c.loop-i.best c.requires.within absent in
+          let beside =
+          beside_outside aim.allowed aim.scale aim.gains.now firm from.bundle c.loop-i.i c.loop-i.best
+          c.requires.within absent in
           record {
-            tried = subst (λ (best : BundleValue). TriesNearby values from.bundle (c.loop-i.i + 1) from best) (sym w.best-is)
-                (position_tried values from.bundle c.loop-i.i from c.loop-i.best c.loop-i.best c.loop-i.invariant.tried beside);
-            earlier = w.earlier-is ∙ earlier_same aim.allowed c.loop-i.i c.loop-i.earlier c.loop-i.invariant.earlier absent;
+            tried = subst (λ (best : BundleValue). TriesNearby values from.bundle (c.loop-i.i + 1) from best)
+                (sym w.best-is)
+                (position_tried values from.bundle c.loop-i.i from c.loop-i.best c.loop-i.best c.loop-i.invariant.tried
+                beside);
+            earlier = w.earlier-is ∙ earlier_same aim.allowed c.loop-i.i c.loop-i.earlier c.loop-i.invariant.earlier
+                absent;
           }
     ]

@@ -1,3 +1,4 @@
+-- What shows the clauses of `Levied::levied_worth` of `src/levied.rt`.
 use Rattle.std.proofs.Common.{rules, ap, ◌≡◌, ◌∙◌, sym, Some, ℤ}
 use Rattle.std.proofs.lemmas.Int.{to_z-of_z}
 use mir.Syntax.{w128}
@@ -11,13 +12,16 @@ after_tax-requires-clause-worth g c =
     let inner = c.args.self.now.inner.now in
     let worth : SFits w128 c.in-Some.worth = search rules in
     let scale : SFits w128 c.args.self.now.scale = search rules in
-    let small = (g.met.V.Valuation.lawful inner).within c.args.x c.in-Some.worth (sym c.requires.worth ∙ c.in-Some.is) in
-    simp to_z-of_z (scaled_within c.args.self.now.scale c.args.self.now.tax c.in-Some.worth (g.V.Valuation.limit inner) c.args.self.now.levy small)
+    let small = (g.met.V.Valuation.lawful inner).within c.args.x c.in-Some.worth (sym c.requires.worth ∙ c.in-Some.is)
+    in
+    simp to_z-of_z (scaled_within c.args.self.now.scale c.args.self.now.tax c.in-Some.worth (g.V.Valuation.limit inner)
+    c.args.self.now.levy small)
 
 pub after_tax-requires-clause-taxes : goal.after_tax-requires-clause-taxes
 after_tax-requires-clause-taxes g c =
     let tax : SFits w128 c.args.self.now.tax = search rules in
-    simp to_z-of_z (taxes_within c.args.self.now.scale c.args.self.now.tax (g.V.Valuation.limit c.args.self.now.inner.now) c.count.result c.args.self.now.levy c.count.ensures.few)
+    simp to_z-of_z (taxes_within c.args.self.now.scale c.args.self.now.tax
+    (g.V.Valuation.limit c.args.self.now.inner.now) c.count.result c.args.self.now.levy c.count.ensures.few)
 
 pub returns-in-Some : goal.returns-in-Some
 returns-in-Some g c =
@@ -29,6 +33,7 @@ returns-in-Some g c =
     let computed = simp to_z-of_z at c.after_tax.ensures in
     let counted : c.count.result ≡ size (meet c.args.x c.args.self.now.taxed) =
     c.count.ensures.members ∙ ap size (c.meet-taxed.ensures ∙ ap (meet c.args.x) c.from_bits.ensures) in
-    let is = levied_is c.args.self.now.scale c.args.self.now.tax c.args.self.now.taxed (g.V.Valuation.firm inner) c.args.x c.count.result c.in-Some.worth c.requires.own
+    let is = levied_is c.args.self.now.scale c.args.self.now.tax c.args.self.now.taxed (g.V.Valuation.firm inner)
+    c.args.x c.count.result c.in-Some.worth c.requires.own
     (sym c.requires.worth ∙ c.in-Some.is) counted in
     simp to_z-of_z (ap (λ (z : ℤ). Some z) computed ∙ sym is)

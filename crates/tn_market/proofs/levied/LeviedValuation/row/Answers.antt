@@ -1,3 +1,4 @@
+-- What shows the clauses of `LeviedValuation::row` of `src/levied.rt`.
 use Rattle.std.proofs.Common.{◌≡◌, ◌<◌, ◌^◌, ℕ, arith, sym, subst}
 use Rattle.tn_base.proofs.SetLemmas.{toggle_within}
 use Rattle.tn_market.specs.Levied.{levied}
@@ -18,5 +19,6 @@ returns-clause-worths g c =
     let count = c.trades-k-end.ensures.count in
     let past = c.loop-k-test.false in
     let end : c.loop-k.k ≡ firm.count = omega (arith, count, past, c.loop-k.auto.k-end) in
-    changed_all (levied levy.scale levy.taxed levy.tax firm).worth firm.worth c.args.x c.args.wanted c.loop-k.k c.loop-k.worths c.loop-k.invariant
+    changed_all (levied levy.scale levy.taxed levy.tax firm).worth firm.worth c.args.x c.args.wanted c.loop-k.k
+    c.loop-k.worths c.loop-k.invariant
     (subst (λ (n : ℕ). c.args.wanted < 2 ^ n) (sym end) c.requires.own_wanted)

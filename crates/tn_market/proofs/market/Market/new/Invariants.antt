@@ -1,3 +1,4 @@
+-- What the loops of `Market::new` of `src/market.rt` keep.
 use Rattle.std.proofs.Common.{◌≡◌, length, map}
 use Rattle.tn_market.specs.Traded.{HaveOwn}
 use Rattle.tn_market.proofs.market.Market.new.Given as goal

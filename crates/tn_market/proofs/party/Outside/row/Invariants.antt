@@ -1,3 +1,4 @@
+-- What the loops of `Outside::row` of `src/party.rt` keep.
 use Rattle.tn_market.specs.Outside.{outside}
 use Rattle.tn_market.proofs.RowLemmas.{IsRowBelow}
 use Rattle.tn_market.proofs.party.Outside.row.Given as goal

@@ -1,3 +1,4 @@
+-- What shows the clauses of `Valuation::row` of `src/valuation.rt`.
 use Rattle.std.proofs.Common.{ℕ, ◌+◌, ◌<◌, ◌^◌, ◌≡◌, List, length, Option, ℤ, subst, arith, ◌∙◌, ap, sym}
 use Rattle.tn_base.proofs.SetLemmas.{toggle_within}
 use Rattle.tn_market.proofs.RowLemmas.{IsRowBelow, row_none, row_more, row_same, row_all}
@@ -25,26 +26,36 @@ loop-k-preserved g c = elim c.if-has.branch [
       let long = c.loop-k.auto.worths in
       omega (arith, count, room, below, long)) in
       let is = w.value.ensures.worth ∙ ap worth_of w.toggle.ensures in
-      subst (λ (steps : ℕ). IsRowBelow worth_of c.args.x c.args.wanted c.args.steps.now (c.loop-k.k + 1) c.if-has.worths steps) (sym w.steps-is)
-      (subst (λ (worths : List (Option ℤ)). IsRowBelow worth_of c.args.x c.args.wanted c.args.steps.now (c.loop-k.k + 1) worths w.value.new.steps) (sym w.worths-is)
-      (row_more worth_of c.args.x c.args.wanted c.args.steps.now c.loop-k.k c.loop-k.worths c.loop-k.steps c.loop-k.invariant (sym c.has.ensures ∙ w.if-has.true) inside _ is _ w.value.ensures.asked))
+      subst (λ (steps : ℕ). IsRowBelow worth_of c.args.x c.args.wanted c.args.steps.now (c.loop-k.k + 1) c.if-has.worths
+      steps) (sym w.steps-is)
+      (subst (λ (worths : List (Option ℤ)). IsRowBelow worth_of c.args.x c.args.wanted c.args.steps.now (c.loop-k.k + 1)
+      worths w.value.new.steps) (sym w.worths-is)
+      (row_more worth_of c.args.x c.args.wanted c.args.steps.now c.loop-k.k c.loop-k.worths c.loop-k.steps
+      c.loop-k.invariant (sym c.has.ensures ∙ w.if-has.true) inside _ is _ w.value.ensures.asked))
   | else-has w ↦
       let worth_of = (g.Self.Valuation.firm c.args.self.now).worth in
-      subst (λ (steps : ℕ). IsRowBelow worth_of c.args.x c.args.wanted c.args.steps.now (c.loop-k.k + 1) c.if-has.worths steps) (sym w.steps-is)
-      (subst (λ (worths : List (Option ℤ)). IsRowBelow worth_of c.args.x c.args.wanted c.args.steps.now (c.loop-k.k + 1) worths c.loop-k.steps) (sym w.worths-is)
-      (row_same worth_of c.args.x c.args.wanted c.args.steps.now c.loop-k.k c.loop-k.worths c.loop-k.steps c.loop-k.invariant (sym c.has.ensures ∙ w.if-has.false)))
+      subst (λ (steps : ℕ). IsRowBelow worth_of c.args.x c.args.wanted c.args.steps.now (c.loop-k.k + 1) c.if-has.worths
+      steps) (sym w.steps-is)
+      (subst (λ (worths : List (Option ℤ)). IsRowBelow worth_of c.args.x c.args.wanted c.args.steps.now (c.loop-k.k + 1)
+      worths c.loop-k.steps) (sym w.worths-is)
+      (row_same worth_of c.args.x c.args.wanted c.args.steps.now c.loop-k.k c.loop-k.worths c.loop-k.steps
+      c.loop-k.invariant (sym c.has.ensures ∙ w.if-has.false)))
 ]
 
 pub returns-clause-worths : goal.returns-clause-worths
 returns-clause-worths g c =
     let count = c.trades-k-end.ensures.count in
     let past = c.loop-k-test.false in
-    let end : c.loop-k.k ≡ (g.Self.Valuation.firm c.args.self.now).count = omega (arith, count, past, c.loop-k.auto.k-end) in
-    (row_all _ _ _ _ _ _ _ c.loop-k.invariant (subst (λ (n : ℕ). c.args.wanted < 2 ^ n) (sym end) c.requires.own_wanted)).0
+    let end : c.loop-k.k ≡ (g.Self.Valuation.firm c.args.self.now).count =
+    omega (arith, count, past, c.loop-k.auto.k-end) in
+    (row_all _ _ _ _ _ _ _ c.loop-k.invariant (subst (λ (n : ℕ). c.args.wanted < 2 ^ n) (sym end)
+    c.requires.own_wanted)).0
 
 pub returns-clause-asked : goal.returns-clause-asked
 returns-clause-asked g c =
     let count = c.trades-k-end.ensures.count in
     let past = c.loop-k-test.false in
-    let end : c.loop-k.k ≡ (g.Self.Valuation.firm c.args.self.now).count = omega (arith, count, past, c.loop-k.auto.k-end) in
-    (row_all _ _ _ _ _ _ _ c.loop-k.invariant (subst (λ (n : ℕ). c.args.wanted < 2 ^ n) (sym end) c.requires.own_wanted)).1
+    let end : c.loop-k.k ≡ (g.Self.Valuation.firm c.args.self.now).count =
+    omega (arith, count, past, c.loop-k.auto.k-end) in
+    (row_all _ _ _ _ _ _ _ c.loop-k.invariant (subst (λ (n : ℕ). c.args.wanted < 2 ^ n) (sym end)
+    c.requires.own_wanted)).1

@@ -1,3 +1,4 @@
+-- What the loops of `Valuation::row` of `src/valuation.rt` keep.
 use Rattle.tn_market.proofs.RowLemmas.{IsRowBelow}
 use Rattle.tn_market.proofs.valuation.Valuation.row.Given as goal
 

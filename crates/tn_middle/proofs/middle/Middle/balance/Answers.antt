@@ -1,3 +1,4 @@
+-- What shows the clauses of `Middle::balance` of `src/middle.rt`.
 use Rattle.std.proofs.Common.{arith}
 use Rattle.std.proofs.lemmas.Int.{ints}
 use Rattle.tn_base.specs.Firm.{payments}
@@ -7,7 +8,8 @@ use Rattle.tn_middle.proofs.middle.Middle.balance.Goals as goal
 
 pub loop-k-preserved : goal.loop-k-preserved
 loop-k-preserved c =
-    let next = sum_over-next (payments c.args.self.now.buys (number_at c.args.self.now.numbers.items)) c.loop-k.k c.args.x in
+    let next = sum_over-next (payments c.args.self.now.buys (number_at c.args.self.now.numbers.items)) c.loop-k.k
+    c.args.x in
     let sum = c.loop-k.invariant.sum in
     let low = c.loop-k.invariant.small.low in
     let high = c.loop-k.invariant.small.high in

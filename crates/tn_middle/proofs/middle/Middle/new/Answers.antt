@@ -1,3 +1,4 @@
+-- What shows the clauses of `Middle::new` of `src/middle.rt`.
 use Rattle.std.proofs.Common.{rules, ◌≡◌, length}
 use Rattle.tn_base.specs.Table.{buys_of}
 use Rattle.tn_base.proofs.TableLemmas.{buys_of_within}

@@ -1,3 +1,4 @@
+-- What shows the clauses of `Middle::worth` of `src/middle.rt`.
 use Rattle.std.proofs.Common.{rules, ◌≡◌, ap, ◌∙◌, Some}
 use Rattle.tn_base.specs.Sets.{meet, minus, size}
 use Rattle.tn_middle.proofs.BalanceLemmas.{kept_is, kept_worth}
@@ -19,5 +20,6 @@ returns-in_ok-self-in-1-eq0 c =
     let purchase : size (meet c.args.x c.args.self.now.buys) ≡ 1 = search rules in
     let sale : size (minus c.args.x c.args.self.now.buys) ≡ 0 = search rules in
     ap Some (kept_is c.in_ok-self-in-1-eq0.field-0 c.balance.result kept c.balance.ensures.small)
-    ∙ kept_worth (size (meet c.args.x c.args.self.now.buys)) (size (minus c.args.x c.args.self.now.buys)) c.args.self.now.keep
+    ∙ kept_worth (size (meet c.args.x c.args.self.now.buys)) (size (minus c.args.x c.args.self.now.buys))
+    c.args.self.now.keep
     c.in_ok-self-in-1-eq0.field-0 c.balance.result _ purchase sale there c.balance.ensures.sum

@@ -1,3 +1,4 @@
+-- What shows the clauses of `NameList::number_of` of `src/name_list.rt`.
 use Rattle.std.proofs.Common.{◌≡◌, ◌∙◌, arith, Some}
 use Rattle.std.proofs.lemmas.Grind.{common_steps}
 use Rattle.tn_names.specs.Names.{number_of}
@@ -27,5 +28,6 @@ returns-clause-there c =
 pub returns-clause-found : goal.returns-clause-found
 returns-clause-found c =
     let e = c.get_index_of.ensures.index ∙ number_of-keys c.self.inside.names.keys c.args.name.now in
-    let at : number_of c.args.self.now c.args.name.now ≡ Some c.in_ok-number.number = rw (← c.self.view_is) (grind (arith, e, common_steps)) in
+    let at : number_of c.args.self.now c.args.name.now ≡ Some c.in_ok-number.number =
+    rw (← c.self.view_is) (grind (arith, e, common_steps)) in
     name_at_number _ _ _ at

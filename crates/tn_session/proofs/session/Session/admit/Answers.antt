@@ -1,3 +1,4 @@
+-- What shows the clauses of `Session::admit` of `src/session.rt`.
 use Rattle.std.proofs.Common.{◌∙◌, ℕ, ◌==◌, ◌||◌, sym, ap, rules, subst, arith}
 use Rattle.tn_base.specs.Sets.{has}
 use Rattle.tn_cycle.specs.Widths.{most_label}
@@ -21,7 +22,8 @@ admit-requires g c = (
           (
             search rules,
             near-wider most_path most_label c.self.inside.rounds.finder.labels (omega arith)
-                (numbers_near g.V.Valuation.limit c.self.inside.market.now c.self.inside.rounds.finder.labels c.self.invariant.small c.self.invariant.under_way.labels.one_each c.self.invariant.settled),
+                (numbers_near g.V.Valuation.limit c.self.inside.market.now c.self.inside.rounds.finder.labels
+                c.self.invariant.small c.self.invariant.under_way.labels.one_each c.self.invariant.settled),
           ),
         ),
       ),
@@ -39,7 +41,8 @@ settle-requires g c = (
       (
         c.admit.ensures.under_way,
         c.admit.ensures.near most_path
-            (numbers_near g.V.Valuation.limit c.self.inside.market.now c.self.inside.rounds.finder.labels c.self.invariant.small c.self.invariant.under_way.labels.one_each c.self.invariant.settled),
+            (numbers_near g.V.Valuation.limit c.self.inside.market.now c.self.inside.rounds.finder.labels
+            c.self.invariant.small c.self.invariant.under_way.labels.one_each c.self.invariant.settled),
       ),
     ),
   ),
@@ -47,15 +50,19 @@ settle-requires g c = (
 
 pub returns-then-has-clause-equilibrium : goal.returns-then-has-clause-equilibrium
 returns-then-has-clause-equilibrium g c = subst (HoldsEquilibrium g.V.Valuation.firm) c.self.view_is
-    (holds g.V.Valuation.firm g.V.Valuation.limit c.self.inside.market.now c.self.inside.rounds.graph c.self.inside.rounds.finder c.self.inside.rounds.allowed c.self.inside.rounds.on
-    (laws_of g.V.Valuation.firm g.V.Valuation.limit c.self.inside.market.now c.self.invariant.network g.met.V.Valuation.lawful)
+    (holds g.V.Valuation.firm g.V.Valuation.limit c.self.inside.market.now c.self.inside.rounds.graph
+    c.self.inside.rounds.finder c.self.inside.rounds.allowed c.self.inside.rounds.on
+    (laws_of g.V.Valuation.firm g.V.Valuation.limit c.self.inside.market.now c.self.invariant.network
+    g.met.V.Valuation.lawful)
     c.self.invariant.under_way)
 
 pub returns-then-has-clause-prices : goal.returns-then-has-clause-prices
 returns-then-has-clause-prices g c = subst (HasSmallPrices g.V.Valuation.limit) c.self.view_is
-    (small_prices g.V.Valuation.limit c.self.inside.market.now c.self.inside.rounds.allowed c.self.inside.rounds.on c.self.inside.rounds.finder.labels c.self.invariant.settled)
+    (small_prices g.V.Valuation.limit c.self.inside.market.now c.self.inside.rounds.allowed c.self.inside.rounds.on
+    c.self.inside.rounds.finder.labels c.self.invariant.settled)
 
 pub returns-clause-admitted : goal.returns-clause-admitted
 returns-clause-admitted g c k =
-    ap (λ (x : ℕ). has x k) (c.settle.ensures.admitted ∙ c.admit.ensures.admitted) ∙ gained c.self.inside.rounds.allowed c.args.t k (sym c.has.ensures ∙ c.if-has.false)
+    ap (λ (x : ℕ). has x k) (c.settle.ensures.admitted ∙ c.admit.ensures.admitted)
+    ∙ gained c.self.inside.rounds.allowed c.args.t k (sym c.has.ensures ∙ c.if-has.false)
     ∙ ap (λ (s : Standing g.row.V.Denot). k == c.args.t || has s.admitted k) c.self.view_is

@@ -1,3 +1,4 @@
+-- What shows the clauses of `TableValuation::side` of `src/asked.rt`.
 use Rattle.tn_table.proofs.SideLemmas.{side_is}
 use Rattle.tn_table.proofs.asked.TableValuation.side.Goals as goal
 
