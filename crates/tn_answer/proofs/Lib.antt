@@ -8,4 +8,5 @@ pub mod PlainAnswers
 pub mod EachLemmas
 pub mod RowLemmas
 pub mod BundleLemmas
+pub mod SameRows
 pub mod ApartLemmas
