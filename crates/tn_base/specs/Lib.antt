@@ -6,6 +6,7 @@ pub mod Table
 pub mod Faults
 pub mod Widths
 pub mod Arcs
+pub mod ArcLemmas
 pub mod Options
 pub mod Walks
 pub mod Ticks
