@@ -1,5 +1,5 @@
 -- A graph that lists all its nodes for each node.
-use Rattle.std.specs.Prelude.{◌≡◌, ℕ, ℤ, Option}
+use Rattle.std.specs.Prelude.{ℕ, ℤ, Option}
 use Rattle.std.proofs.Common.{refl}
 use Rattle.tn_base.specs.Arcs.{AreBetweenNodes, ListsPredecessors, ListsSuccessors}
 

@@ -13,12 +13,16 @@ pub trait Costs {
     /// The cost of the arc from one node to another, none where there is no arc.
     ghost arc: { Self → ℕ → ℕ → Option ℤ };
 
-    /// The nodes from which arcs may lead to a node: how many there are, and each of them.
+    /// How many nodes are listed from which arcs may lead to a node.
     ghost predecessor_count: { Self → ℕ → ℕ };
+
+    /// The node at each place of them.
     ghost predecessor_at: { Self → ℕ → ℕ → ℕ };
 
-    /// The nodes to which arcs may lead from a node.
+    /// How many nodes are listed to which arcs may lead from a node.
     ghost successor_count: { Self → ℕ → ℕ };
+
+    /// The node at each place of them.
     ghost successor_at: { Self → ℕ → ℕ → ℕ };
 
     /// How many nodes there are.

@@ -6,7 +6,7 @@ use Rattle.std.proofs.lemmas.Int.{ints}
 use Rattle.std.proofs.lemmas.Bool.{cases_eq, ne_eqb, and_parts}
 use Rattle.std.proofs.lemmas.Option.{none-some, same_Some}
 use Rattle.std.proofs.lemmas.List.{get_or-set_same, get_or-set_other, length-set}
-use Rattle.tn_base.specs.Arcs.{AreBetweenNodes, AreSmall, IsAtMost}
+use Rattle.tn_base.specs.Arcs.{AreBetweenNodes, AreSmall, IsAtMost, ListsSuccessors}
 use Rattle.tn_base.specs.Walks.{CyclesCostAtLeast, KeepsArcs, KeepsArcsEntering, arcs_among, is_admitted, is_looked_at}
 use Rattle.tn_base.specs.Widths.{most_cost}
 use Rattle.tn_cycle.specs.declared.cell.Cell.{Cell}
@@ -85,32 +85,53 @@ sign_next labels old negates v new places before is k below = elim (cases_eq k v
   | inr other ↦ get_or-set_other labels v k new (pos 0) other ∙ before k (omega (arith, below, other))
 ]
 
--- one arc more is kept
-pub lifted_next : (arc : ℕ → ℕ → Option ℤ) (node : ℕ) (label : ℕ → ℤ) (count : ℕ) (least found : Option ℤ)
-    → IsLifted count arc node label least
-    → (count ≡ node → found ≡ least) → (count ≢ node → IsLiftedBy least (label count) (arc node count) found)
-    → IsLifted (count + 1) arc node label found
-lifted_next arc node label count least found before own others v cost below off is = elim (cases_eq count node) [
-  | inl same ↦
-      let had = before v cost (omega (arith, below, off, same)) off is in
-      (had.0, own same ∙ had.1, had.2)
-  | inr other ↦ elim (cases_eq v count) [
-    | inl here ↦
-        let by = (others other).by_arc cost (subst (λ (z : ℕ). arc node z ≡ Some cost) here is) in
-        (by.0, by.1, subst (λ (z : ℕ). label z ≤ℤ (by.0 +ℤ cost)) (sym here) by.2)
-    | inr earlier ↦
-        let had = before v cost (omega (arith, below, earlier)) off is in
-        let by = (others other).by_least had.0 had.1 in
-        (by.0, by.1, omega (arith, ints, by.2, had.2))
-  ]
-]
+-- a number for a node that keeps the arcs from it to the first so many nodes of a numbering, but for itself
+abbrev pub AreLifted : (ℕ → ℕ → Option ℤ) → ℕ → (ℕ → ℤ) → (ℕ → ℕ) → ℕ → Option ℤ → Type 0
+AreLifted arc node label at count found = (i : ℕ) (cost : ℤ) → i < count → at i ≢ node
+    → arc node (at i) ≡ Some cost → (p : ℤ) × (found ≡ Some p) × (label (at i) ≤ℤ (p +ℤ cost))
 
-pub lifted_near : (limit reach m : ℕ) (node count : ℕ) (label : ℤ) (least cost found : Option ℤ) → reach + m ≤ limit
+-- one arc more is kept
+pub lifted_next : (arc : ℕ → ℕ → Option ℤ) (node : ℕ) (label : ℕ → ℤ) (at : ℕ → ℕ) (count : ℕ) (least found : Option ℤ)
+    → AreLifted arc node label at count least
+    → (at count ≡ node → found ≡ least)
+    → (at count ≢ node → IsLiftedBy least (label (at count)) (arc node (at count)) found)
+    → AreLifted arc node label at (count + 1) found
+lifted_next arc node label at count least found before own others i cost below off is =
+    elim (cases_eq (at count) node) [
+      | inl same ↦
+          let had = before i cost (earlier same) off is in
+          (had.0, own same ∙ had.1, had.2)
+      | inr other ↦ elim (cases_eq i count) [
+        | inl here ↦
+            let by = (others other).by_arc cost (subst (λ (z : ℕ). arc node (at z) ≡ Some cost) here is) in
+            (by.0, by.1, subst (λ (z : ℕ). label (at z) ≤ℤ (by.0 +ℤ cost)) (sym here) by.2)
+        | inr earlier ↦
+            let had = before i cost (omega (arith, below, earlier)) off is in
+            let by = (others other).by_least had.0 had.1 in
+            (by.0, by.1, omega (arith, ints, by.2, had.2))
+      ]
+    ]
+  where
+    earlier : at count ≡ node → i < count
+    earlier same = let other : i ≢ count = λ e. off (ap at e ∙ same) in omega (arith, below, other)
+
+-- all arcs are kept
+pub lifted_all : (nodes : ℕ) (arc : ℕ → ℕ → Option ℤ) (node : ℕ) (label : ℕ → ℤ) (at : ℕ → ℕ) (count : ℕ)
+    (found : Option ℤ)
+    → ListsSuccessors nodes arc node count at → AreLifted arc node label at count found
+    → IsLifted arc node label found
+lifted_all nodes arc node label at count found lists lifted v cost off is =
+    let listed = lists.all v cost is in
+    let kept = lifted listed.0 cost listed.1 (λ e. off (sym listed.2 ∙ e))
+    (subst (λ (z : ℕ). arc node z ≡ Some cost) (sym listed.2) is) in
+    (kept.0, kept.1, subst (λ (z : ℕ). label z ≤ℤ (kept.0 +ℤ cost)) listed.2 kept.2)
+
+pub lifted_near : (limit reach m : ℕ) (node v : ℕ) (label : ℤ) (least cost found : Option ℤ) → reach + m ≤ limit
     → ForSome least (λ p. IsAtMost p limit) → IsAtMost label reach → ForSome cost (λ c. IsAtMost c m)
-    → (count ≡ node → found ≡ least) → (count ≢ node → IsLiftedBy least label cost found)
+    → (v ≡ node → found ≡ least) → (v ≢ node → IsLiftedBy least label cost found)
     → ForSome found (λ p. IsAtMost p limit)
-lifted_near limit reach m node count label least cost found room had near small own others p is =
-    elim (cases_eq count node) [
+lifted_near limit reach m node v label least cost found room had near small own others p is =
+    elim (cases_eq v node) [
       | inl same ↦ had p (sym (own same) ∙ is)
       | inr other ↦ elim (others other).one [
         | inl kept ↦ had p (sym kept ∙ is)

@@ -10,8 +10,10 @@ pub mod OrderLemmas
 pub mod WalkLemmas
 pub mod DifferenceLemmas
 pub mod KeyLemmas
+pub mod CountLemmas
 pub mod KeptLemmas
 pub mod ListLemmas
+pub mod OfferLemmas
 pub mod StoppedLemmas
 pub mod KeptCycleLemmas
 pub mod RingLemmas

@@ -1,11 +1,10 @@
 -- The list of the nodes that wait.
-use Rattle.std.proofs.Common.{◌≡◌, ◌≢◌, ℕ, ◌+◌, ◌<◌, ◌≤◌, refl, sym, ap, ◌∙◌, subst, arith, inl, inr, List, length, set, ℤ, ◌+ℤ◌, ◌-ℤ◌, Option, Some, Bool, true, false}
-use Rattle.std.proofs.lemmas.Bool.{cases_eq, false≢true}
+use Rattle.std.proofs.Common.{◌≡◌, ◌≢◌, ℕ, ◌+◌, ◌<◌, ◌≤◌, refl, sym, ap, ◌∙◌, subst, arith, inl, inr, List, length, set, ℤ, ◌+ℤ◌, ◌-ℤ◌, Some, is_some, Bool, true, false, ◌&&◌}
+use Rattle.std.proofs.lemmas.Bool.{and_parts, cases_eq, false≢true}
 use Rattle.std.proofs.lemmas.List.{get_or-set_same, get_or-set_other}
 use Rattle.tn_cycle.specs.declared.cell.Cell.{Cell}
 use Rattle.tn_cycle.specs.declared.kept.Sought.{Sought}
-use Rattle.tn_cycle.specs.Cells.{cell_at, no_cell}
-use Rattle.tn_cycle.specs.Kept.{AfterOffer, AllArePast, AreOffered, AreWaiting, ComesFirst, IsNotAfter, IsOffered, IsPast, cell_by, every, label_by, node_at}
+use Rattle.tn_cycle.specs.Kept.{AllArePast, AreReady, AreWaiting, ComesFirst, IsNotAfter, IsPast, cell_by, every, is_ready, label_by, node_at}
 
 -- no node is listed yet
 pub waiting_none : (waits : ℕ → Bool) (list : List ℕ) → AreWaiting 0 waits list 0
@@ -27,48 +26,71 @@ waiting_skip v waits list count before shut = record {
   once = before.once;
 }
 
--- a node that waits
-pub waiting_added : (v : ℕ) (waits : ℕ → Bool) (list : List ℕ) (count : ℕ) → AreWaiting v waits list count
-    → waits v ≡ true → count < length list
-    → AreWaiting (v + 1) waits (set list count v) (count + 1)
-waiting_added v waits list count before waiting places = record {
-  each = λ i below. elim (cases_eq i count) [
-    | inl same ↦ let e : node_at (set list count v) i ≡ v = at_count i same in
-        (omega (arith, e), subst (λ (z : ℕ). waits z ≡ true) (sym e) waiting)
-    | inr other ↦
-        let had = before.each i (omega (arith, below, other)) in
-        let e : node_at (set list count v) i ≡ node_at list i = at_other i other in
-        (omega (arith, e, had.0), subst (λ (z : ℕ). waits z ≡ true) (sym e) had.1)
-  ];
-  all = λ u inside u_waits. elim (cases_eq u v) [
-    | inl same ↦ (count, omega arith, at_count count refl ∙ sym same)
-    | inr other ↦
-        let had = before.all u (omega (arith, inside, other)) u_waits in
-        (had.0, omega (arith, had.1), at_other had.0 (λ e. omega (arith, e, had.1)) ∙ had.2)
-  ];
-  once = λ i k i_below k_below same. elim (cases_eq i count) [
-    | inl i_last ↦ elim (cases_eq k count) [
-      | inl k_last ↦ omega (arith, i_last, k_last)
-      | inr k_other ↦
-          let had = before.each k (omega (arith, k_below, k_other)) in
-          absurd (omega (arith, had.0, same, at_count i i_last, at_other k k_other))
-    ]
-    | inr i_other ↦
-        let had = before.each i (omega (arith, i_below, i_other)) in
-        elim (cases_eq k count) [
-          | inl k_last ↦ absurd (omega (arith, had.0, same, at_count k k_last, at_other i i_other))
-          | inr k_other ↦
-              before.once i k (omega (arith, i_below, i_other)) (omega (arith, k_below, k_other))
-              (sym (at_other i i_other) ∙ same ∙ at_other k k_other)
-        ]
-  ];
+-- a list of the nodes that wait is one of those that wait by other flags, where these are the same
+pub waiting_same : (nodes : ℕ) (waits now : ℕ → Bool) (list : List ℕ) (count : ℕ) → ((v : ℕ) → now v ≡ waits v)
+    → AreWaiting nodes waits list count → AreWaiting nodes now list count
+waiting_same nodes waits now list count same lists = record {
+  each = λ i below. let own = lists.each i below in (own.0, same (node_at list i) ∙ own.1);
+  all = λ v inside waiting. lists.all v inside (sym (same v) ∙ waiting);
+  once = lists.once;
 }
-  where
-    at_count : (i : ℕ) → i ≡ count → node_at (set list count v) i ≡ v
-    at_count i same = ap (node_at (set list count v)) same ∙ get_or-set_same list count v 0 places
 
-    at_other : (i : ℕ) → i ≢ count → node_at (set list count v) i ≡ node_at list i
-    at_other i other = get_or-set_other list count i v 0 other
+-- one node more waits, and comes to the end of the list
+module _ (before nodes : ℕ) (waits now : ℕ → Bool) (list : List ℕ) (count v : ℕ)
+    (lists : AreWaiting before waits list count)
+    (still : (u : ℕ) → u < before → waits u ≡ true → (u < nodes) × (now u ≡ true) × (u ≢ v))
+    (only : (u : ℕ) → u < nodes → now u ≡ true → u ≢ v → (u < before) × (waits u ≡ true))
+    (inside : v < nodes) (waiting : now v ≡ true) (places : count < length list) where
+  at_count : (i : ℕ) → i ≡ count → node_at (set list count v) i ≡ v
+  at_count i same = ap (node_at (set list count v)) same ∙ get_or-set_same list count v 0 places
+
+  at_earlier : (i : ℕ) → i ≢ count → node_at (set list count v) i ≡ node_at list i
+  at_earlier i other = get_or-set_other list count i v 0 other
+
+  had : (i : ℕ) → i < count + 1 → i ≢ count
+      → (node_at list i < nodes) × (now (node_at list i) ≡ true) × (node_at list i ≢ v)
+  had i below other = let own = lists.each i (omega (arith, below, other)) in still (node_at list i) own.0 own.1
+
+  pub put_on : AreWaiting nodes now (set list count v) (count + 1)
+  put_on = record {
+    each = λ i below. elim (cases_eq i count) [
+      | inl same ↦ let e : node_at (set list count v) i ≡ v = at_count i same in
+          (omega (arith, e, inside), subst (λ (z : ℕ). now z ≡ true) (sym e) waiting)
+      | inr other ↦
+          let own = had i below other in
+          let e : node_at (set list count v) i ≡ node_at list i = at_earlier i other in
+          (omega (arith, e, own.0), subst (λ (z : ℕ). now z ≡ true) (sym e) own.1)
+    ];
+    all = λ u u_inside u_waits. elim (cases_eq u v) [
+      | inl same ↦ (count, omega arith, at_count count refl ∙ sym same)
+      | inr other ↦
+          let was = only u u_inside u_waits other in
+          let at = lists.all u was.0 was.1 in
+          (at.0, omega (arith, at.1), at_earlier at.0 (λ e. omega (arith, e, at.1)) ∙ at.2)
+    ];
+    once = λ i k i_below k_below same. elim (cases_eq i count) [
+      | inl i_last ↦ elim (cases_eq k count) [
+        | inl k_last ↦ omega (arith, i_last, k_last)
+        | inr k_other ↦
+            absurd ((had k k_below k_other).2 (sym (at_earlier k k_other) ∙ sym same ∙ at_count i i_last))
+      ]
+      | inr i_other ↦ elim (cases_eq k count) [
+        | inl k_last ↦
+            absurd ((had i i_below i_other).2 (sym (at_earlier i i_other) ∙ same ∙ at_count k k_last))
+        | inr k_other ↦
+            lists.once i k (omega (arith, i_below, i_other)) (omega (arith, k_below, k_other))
+            (sym (at_earlier i i_other) ∙ same ∙ at_earlier k k_other)
+      ]
+    ];
+  }
+
+-- the next node waits
+pub waiting_added : (v : ℕ) (waits : ℕ → Bool) (list : List ℕ) (count : ℕ) → AreWaiting v waits list count
+    → waits v ≡ true → count < length list → AreWaiting (v + 1) waits (set list count v) (count + 1)
+waiting_added v waits list count lists waiting places =
+    put_on v (v + 1) waits waits list count v lists
+    (λ u below still. (omega (arith, below), still, λ e. omega (arith, below, e)))
+    (λ u below still other. (omega (arith, below, other), still)) (omega arith) waiting places
 
 -- the node at a place is taken out, and the last one comes there
 module _ (nodes : ℕ) (waits now : ℕ → Bool) (list : List ℕ) (place rest : ℕ)
@@ -135,8 +157,15 @@ module _ (nodes : ℕ) (waits now : ℕ → Bool) (list : List ℕ) (place rest 
     ];
   }
 
+-- a node that waits and has a walk is ready
+pub ready : (waits : Bool) (own : Cell) (w : ℤ) → waits ≡ true → own.cost ≡ Some w → is_ready waits own ≡ true
+ready waits own w waiting is = ap (λ (s : Bool). s && is_some own.cost) waiting ∙ ap is_some is
+
+pub waits_ready : (waits : Bool) (own : Cell) → is_ready waits own ≡ true → waits ≡ true
+waits_ready waits own is = (and_parts waits (is_some own.cost) is).0
+
 module _ (nodes : ℕ) (label : ℕ → ℤ) (cell : ℕ → Cell) (waits : ℕ
-    → Bool) (list : List ℕ) (count : ℕ) (lists : AreWaiting nodes waits list count) where
+    → Bool) (list : List ℕ) (count : ℕ) (lists : AreReady nodes waits cell list count) where
   -- the listed node that comes first is the waiting one that does
   pub listed_first : (place : ℕ) (key : ℤ) (round : ℕ)
       → ComesFirst count (label_by label list) (cell_by cell list) every place key round
@@ -145,13 +174,13 @@ module _ (nodes : ℕ) (label : ℕ → ℤ) (cell : ℕ → Cell) (waits : ℕ
       let own = lists.each place chosen.inside in
       record {
         inside = own.0;
-        waiting = own.1;
+        waiting = waits_ready (waits (node_at list place)) (cell (node_at list place)) own.1;
         cost = chosen.cost;
         cost_is = chosen.cost_is;
         key_is = chosen.key_is;
         round_is = chosen.round_is;
         first = λ v w inside waiting is.
-            let at = lists.all v inside waiting in
+            let at = lists.all v inside (ready (waits v) (cell v) w waiting is) in
             subst (λ (z : ℕ). IsNotAfter key round (w +ℤ label z) (cell z).round) at.2
             (chosen.first at.0 w at.1 refl (subst (λ (z : ℕ). (cell z).cost ≡ Some w) (sym at.2) is));
       }
@@ -161,75 +190,6 @@ module _ (nodes : ℕ) (label : ℕ → ℤ) (cell : ℕ → Cell) (waits : ℕ
       → AllArePast count base sought (label_by label list) (cell_by cell list) own every
       → AllArePast nodes base sought label cell own waits
   listed_past base sought own past v w inside waiting is =
-      let at = lists.all v inside waiting in
+      let at = lists.all v inside (ready (waits v) (cell v) w waiting is) in
       subst (λ (z : ℕ). IsPast sought own ((w +ℤ label z) -ℤ base) (cell z).round) at.2
       (past at.0 w at.1 refl (subst (λ (z : ℕ). (cell z).cost ≡ Some w) (sym at.2) is))
-
--- what the listed nodes were offered is what the waiting ones were
-pub listed_after : (nodes : ℕ) (arc : ℕ → ℕ → Option ℤ) (end u : ℕ) (waits : ℕ
-    → Bool) (list : List ℕ) (count : ℕ) (cell new : ℕ → Cell) → AreWaiting nodes waits list count
-    → AreOffered arc end u list count cell new → (v : ℕ) → v < nodes
-    → AfterOffer arc end u (cell u) (waits v) v (cell v) (new v)
-listed_after nodes arc end u waits list count cell new lists after v inside = (
-  (λ which. elim which [
-    | inl waiting ↦
-        let at = lists.all v inside waiting in
-        subst (λ (z : ℕ). IsOffered (cell z) (arc z u) (cell u) u (new z)) at.2 (after.listed at.0 at.1)
-    | inr same ↦ subst (λ (z : ℕ). IsOffered (cell z) (arc z u) (cell u) u (new z)) (sym same) after.last
-  ]),
-  (λ shut off. after.others v off (λ i below same. false≢true (sym shut
-      ∙ subst (λ (z : ℕ). waits z ≡ true) same (lists.each i below).1))),
-)
-
-module _ (arc : ℕ → ℕ → Option ℤ) (u : ℕ) (beyond : Cell) (list : List ℕ) (old row : List Cell) (i : ℕ)
-    (offered : (k : ℕ) → k < i
-    → IsOffered (cell_at old (node_at list k)) (arc (node_at list k) u) beyond u (cell_at row (node_at list k)))
-    (left : (v : ℕ) → ((k : ℕ) → k < i → node_at list k ≢ v) → cell_at row v ≡ cell_at old v) where
-  -- one listed node more is offered
-  pub offered_next : (count : ℕ) (new : Cell) → i < count
-      → ((a b : ℕ) → a < count → b < count → node_at list a ≡ node_at list b → a ≡ b) → node_at list i < length row
-      → IsOffered (cell_at row (node_at list i)) (arc (node_at list i) u) beyond u new
-      → (k : ℕ) → k < i + 1
-      → IsOffered (cell_at old (node_at list k)) (arc (node_at list k) u) beyond u
-      (cell_at (set row (node_at list i) new) (node_at list k))
-  offered_next count new below once places offers k inside = elim (cases_eq k i) [
-    | inl same ↦
-        let here : cell_at (set row (node_at list i) new) (node_at list i) ≡ new =
-        get_or-set_same row (node_at list i) new no_cell places in
-        let was : cell_at row (node_at list i) ≡ cell_at old (node_at list i) =
-        left (node_at list i) (λ a earlier e. let q : a ≡ i = once a i (omega (arith, earlier, below)) below e in
-        omega (arith, q, earlier)) in
-        subst (λ (z : ℕ). IsOffered (cell_at old (node_at list z)) (arc (node_at list z) u) beyond u
-        (cell_at (set row (node_at list i) new) (node_at list z))) (sym same)
-        (subst (λ (own : Cell). IsOffered (cell_at old (node_at list i)) (arc (node_at list i) u) beyond u own)
-        (sym here)
-        (subst (λ (own : Cell). IsOffered own (arc (node_at list i) u) beyond u new) was offers))
-    | inr other ↦
-        let earlier : k < i = omega (arith, inside, other) in
-        let off : node_at list k ≢ node_at list i = λ e. other (once k i (omega (arith, earlier, below)) below e) in
-        subst (λ (own : Cell). IsOffered (cell_at old (node_at list k)) (arc (node_at list k) u) beyond u own)
-        (sym (get_or-set_other row (node_at list i) (node_at list k) new no_cell off)) (offered k earlier)
-  ]
-
-  pub left_next : (new : Cell) (v : ℕ) → ((k : ℕ) → k < i + 1 → node_at list k ≢ v)
-      → cell_at (set row (node_at list i) new) v ≡ cell_at old v
-  left_next new v none =
-      get_or-set_other row (node_at list i) v new no_cell (λ e. none i (omega arith) (sym e))
-      ∙ left v (λ k earlier. none k (omega (arith, earlier)))
-
-  -- and the end at last
-  pub offered_all : (end : ℕ) (new : Cell) → end < length row → ((k : ℕ) → k < i → node_at list k ≢ end)
-      → beyond ≡ cell_at old u → IsOffered (cell_at row end) (arc end u) beyond u new
-      → AreOffered arc end u list i (cell_at old) (cell_at (set row end new))
-  offered_all end new places off own offers = record {
-    listed = λ k inside. subst (λ (b : Cell). IsOffered (cell_at old (node_at list k)) (arc (node_at list k) u) b u
-        (cell_at (set row end new) (node_at list k))) own
-        (subst (λ (c : Cell). IsOffered (cell_at old (node_at list k)) (arc (node_at list k) u) beyond u c)
-        (sym (get_or-set_other row end (node_at list k) new no_cell (off k inside)))
-        (offered k inside));
-    last = subst (λ (b : Cell). IsOffered (cell_at old end) (arc end u) b u (cell_at (set row end new) end)) own
-        (subst (λ (c : Cell). IsOffered (cell_at old end) (arc end u) beyond u c)
-        (sym (get_or-set_same row end new no_cell places))
-        (subst (λ (c : Cell). IsOffered c (arc end u) beyond u new) (left end off) offers));
-    others = λ v other none. get_or-set_other row end v new no_cell other ∙ left v none;
-  }

@@ -1,5 +1,5 @@
 -- What a search over kept labels goes by, and what it knows of each node.
-use Rattle.std.specs.Prelude.{◌≡◌, ◌≢◌, ℕ, ◌+◌, ◌<◌, ◌≤◌, ◌⊎◌, ℤ, neg_ℤ, ◌+ℤ◌, ◌-ℤ◌, ◌≤ℤ◌, ◌<ℤ◌, List, [], ◌∷◌, All, Option, Some, None, Bool, true, false, slice_index_or}
+use Rattle.std.specs.Prelude.{◌≡◌, ◌≢◌, ℕ, ◌+◌, ◌<◌, ◌≤◌, ◌⊎◌, ℤ, neg_ℤ, ◌+ℤ◌, ◌-ℤ◌, ◌≤ℤ◌, ◌<ℤ◌, List, [], ◌∷◌, All, Option, Some, None, Bool, true, false, ◌&&◌, is_some, slice_index_or}
 use Rattle.tn_base.specs.Options.{both}
 use Rattle.tn_base.specs.Walks.{is_admitted, walk_cost}
 use Rattle.tn_cycle.specs.declared.cell.Cell.{Cell}
@@ -34,6 +34,14 @@ pub record AreWaiting (nodes : ℕ) (waits : ℕ → Bool) (list : List ℕ) (co
   pub each : (i : ℕ) → i < count → (node_at list i < nodes) × (waits (node_at list i) ≡ true)
   pub all : (v : ℕ) → v < nodes → waits v ≡ true → (i : ℕ) × (i < count) × (node_at list i ≡ v)
   pub once : (i k : ℕ) → i < count → k < count → node_at list i ≡ node_at list k → i ≡ k
+
+-- a node waits, and has a walk
+abbrev pub is_ready : Bool → Cell → Bool
+is_ready waits own = waits && is_some own.cost
+
+-- the first so many places of a list have the nodes that wait and have a walk
+abbrev pub AreReady : ℕ → (ℕ → Bool) → (ℕ → Cell) → List ℕ → ℕ → Type 0
+AreReady nodes waits cell list count = AreWaiting nodes (λ v. is_ready (waits v) (cell v)) list count
 
 -- labels keep the arcs that don't end at t
 abbrev pub KeepsArcsOff : (ℕ → ℕ → Option ℤ) → ℕ → (ℕ → ℤ) → Type 0
@@ -126,13 +134,10 @@ abbrev pub AfterOffer : (ℕ → ℕ → Option ℤ) → ℕ → ℕ → Cell �
 AfterOffer arc end u beyond waits v own new =
     (((waits ≡ true) ⊎ (v ≡ end)) → IsOffered own (arc v u) beyond u new) × (waits ≡ false → v ≢ end → new ≡ own)
 
--- once u is settled: the nodes of a list and the end have the better one, and all other cells stay
-pub record AreOffered (arc : ℕ → ℕ → Option ℤ) (end u : ℕ) (list : List ℕ) (count : ℕ) (cell new : ℕ
-    → Cell) : Type 0 where
-  pub listed : (i : ℕ) → i < count
-      → IsOffered (cell (node_at list i)) (arc (node_at list i) u) (cell u) u (new (node_at list i))
-  pub last : IsOffered (cell end) (arc end u) (cell u) u (new end)
-  pub others : (v : ℕ) → v ≢ end → ((i : ℕ) → i < count → node_at list i ≢ v) → new v ≡ cell v
+-- once u is settled: the nodes that wait and the end have the better one, and all other cells stay
+abbrev pub AreOffered : ℕ → (ℕ → ℕ → Option ℤ) → ℕ → ℕ → (ℕ → Bool) → (ℕ → Cell) → (ℕ → Cell) → Type 0
+AreOffered nodes arc end u waits cell new = (v : ℕ) → v < nodes
+    → AfterOffer arc end u (cell u) (waits v) v (cell v) (new v)
 
 -- what holds once so many nodes are settled, which are those with a walk that don't wait
 pub record IsUnderWay (nodes : ℕ) (arc : ℕ → ℕ → Option ℤ) (end : ℕ) (label : ℕ → ℤ) (cell : ℕ → Cell) (waits : ℕ
@@ -191,10 +196,10 @@ pub record IsLiftedBy (least : Option ℤ) (label : ℤ) (cost found : Option �
   pub by_arc : (c : ℤ) → cost ≡ Some c → (p : ℤ) × (found ≡ Some p) × (label ≤ℤ (p +ℤ c))
   pub one : (found ≡ least) ⊎ ((c : ℤ) × (cost ≡ Some c) × (found ≡ Some (label -ℤ c)))
 
--- a number for t that keeps the arcs from t to the first so many nodes
-abbrev pub IsLifted : ℕ → (ℕ → ℕ → Option ℤ) → ℕ → (ℕ → ℤ) → Option ℤ → Type 0
-IsLifted count arc t label found = (v : ℕ) (cost : ℤ) → v < count → v ≢ t → arc t v ≡ Some cost → (p : ℤ)
-    × (found ≡ Some p) × (label v ≤ℤ (p +ℤ cost))
+-- a number for t that keeps the arcs from t to the other nodes
+abbrev pub IsLifted : (ℕ → ℕ → Option ℤ) → ℕ → (ℕ → ℤ) → Option ℤ → Type 0
+IsLifted arc t label found = (v : ℕ) (cost : ℤ) → v ≢ t → arc t v ≡ Some cost → (p : ℤ) × (found ≡ Some p)
+    × (label v ≤ℤ (p +ℤ cost))
 
 -- a mark is that of an admitted trade or the null node, and the given node has none
 abbrev pub IsOther : ℕ → ℕ → ℕ → ℕ → Bool → Type 0

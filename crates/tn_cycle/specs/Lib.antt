@@ -6,6 +6,7 @@ pub mod Searched
 pub mod Kept
 pub mod Graphs
 pub mod GraphLemmas
+pub mod ListingLemmas
 pub mod Reading
 pub mod Answers
 pub mod Ring

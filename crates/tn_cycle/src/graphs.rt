@@ -1,12 +1,13 @@
 //! Graphs seen through a choice of nodes, or turned round.
 
-ghost use Rattle.std.specs.Prelude.{◌≡◌, ℕ, ◌+◌, ◌*◌, ◌^◌, ◌<◌, ◌≤◌, length};
+ghost use Rattle.std.specs.Prelude.{◌≡◌, ℕ, ◌+◌, ◌*◌, ◌^◌, ◌<◌, ◌≤◌, ◌==◌, if◌then◌else◌, length};
 ghost use Rattle.tn_base.specs.Walks.{arcs_among, is_admitted, is_looked_at};
 ghost use Rattle.tn_base.specs.Widths.{most_cost};
 ghost use Rattle.tn_cycle.specs.Graphs.{is_between, turned, with_sink};
 ghost use Rattle.tn_cycle.specs.Kept.{IsOther, flag_at};
 ghost use Rattle.tn_cycle.specs.Widths.{most_graph_nodes};
 ghost use Rattle.tn_cycle.specs.GraphLemmas.{between-arcs_among, between-turned, between-with_sink, small-arcs_among, small-turned, small-with_sink};
+ghost use Rattle.tn_cycle.specs.ListingLemmas.{lists_predecessors-arcs_among, lists_predecessors-with_sink, lists_successors-arcs_among, lists_successors-with_sink};
 
 use tn_base::{Costs, TradeSet};
 
@@ -52,6 +53,14 @@ impl<C: Costs, const W: usize> Costs for Admitted<'_, C, W> {
 
     ghost arc = { λ it. arcs_among (is_admitted it.null it.admitted.now) (C.arc it.costs.now) };
 
+    ghost predecessor_count = { λ it b. C.predecessor_count it.costs.now b };
+
+    ghost predecessor_at = { λ it b k. C.predecessor_at it.costs.now b k };
+
+    ghost successor_count = { λ it a. C.successor_count it.costs.now a };
+
+    ghost successor_at = { λ it a k. C.successor_at it.costs.now a k };
+
     fn nodes(&self) -> u32 {
         self.costs.nodes()
     }
@@ -65,11 +74,35 @@ impl<C: Costs, const W: usize> Costs for Admitted<'_, C, W> {
         }
     }
 
+    fn predecessors(&self, b: u32) -> u32 {
+        self.costs.predecessors(b)
+    }
+
+    fn predecessor(&self, b: u32, k: u32) -> u32 {
+        self.costs.predecessor(b, k)
+    }
+
+    fn successors(&self, a: u32) -> u32 {
+        self.costs.successors(a)
+    }
+
+    fn successor(&self, a: u32, k: u32) -> u32 {
+        self.costs.successor(a, k)
+    }
+
     ghost between_nodes = { λ it. between-arcs_among (is_admitted it.null it.admitted.now) (C.node_count it.costs.now)
         (C.arc it.costs.now) (C.between_nodes it.costs.now) };
 
     ghost small = { λ it. small-arcs_among (is_admitted it.null it.admitted.now) most_cost (C.arc it.costs.now)
         (C.small it.costs.now) };
+
+    ghost lists_predecessors = { λ it. lists_predecessors-arcs_among (is_admitted it.null it.admitted.now)
+        (C.node_count it.costs.now) (C.arc it.costs.now) (C.predecessor_count it.costs.now)
+        (C.predecessor_at it.costs.now) (C.lists_predecessors it.costs.now) };
+
+    ghost lists_successors = { λ it. lists_successors-arcs_among (is_admitted it.null it.admitted.now)
+        (C.node_count it.costs.now) (C.arc it.costs.now) (C.successor_count it.costs.now)
+        (C.successor_at it.costs.now) (C.lists_successors it.costs.now) };
 }
 
 /// A graph's node, its admitted trades and its null node, with the arcs among them.
@@ -113,6 +146,14 @@ impl<C: Costs, const W: usize> Costs for Looked<'_, C, W> {
 
     ghost arc = { λ it. arcs_among (is_looked_at it.among.null it.node it.among.admitted.now) (C.arc it.among.costs.now) };
 
+    ghost predecessor_count = { λ it b. C.predecessor_count it.among.costs.now b };
+
+    ghost predecessor_at = { λ it b k. C.predecessor_at it.among.costs.now b k };
+
+    ghost successor_count = { λ it a. C.successor_count it.among.costs.now a };
+
+    ghost successor_at = { λ it a k. C.successor_at it.among.costs.now a k };
+
     fn nodes(&self) -> u32 {
         self.among.nodes()
     }
@@ -126,11 +167,37 @@ impl<C: Costs, const W: usize> Costs for Looked<'_, C, W> {
         }
     }
 
+    fn predecessors(&self, b: u32) -> u32 {
+        self.among.costs.predecessors(b)
+    }
+
+    fn predecessor(&self, b: u32, k: u32) -> u32 {
+        self.among.costs.predecessor(b, k)
+    }
+
+    fn successors(&self, a: u32) -> u32 {
+        self.among.costs.successors(a)
+    }
+
+    fn successor(&self, a: u32, k: u32) -> u32 {
+        self.among.costs.successor(a, k)
+    }
+
     ghost between_nodes = { λ it. between-arcs_among (is_looked_at it.among.null it.node it.among.admitted.now)
         (C.node_count it.among.costs.now) (C.arc it.among.costs.now) (C.between_nodes it.among.costs.now) };
 
     ghost small = { λ it. small-arcs_among (is_looked_at it.among.null it.node it.among.admitted.now) most_cost
         (C.arc it.among.costs.now) (C.small it.among.costs.now) };
+
+    ghost lists_predecessors = { λ it. lists_predecessors-arcs_among
+        (is_looked_at it.among.null it.node it.among.admitted.now)
+        (C.node_count it.among.costs.now) (C.arc it.among.costs.now) (C.predecessor_count it.among.costs.now)
+        (C.predecessor_at it.among.costs.now) (C.lists_predecessors it.among.costs.now) };
+
+    ghost lists_successors = { λ it. lists_successors-arcs_among
+        (is_looked_at it.among.null it.node it.among.admitted.now)
+        (C.node_count it.among.costs.now) (C.arc it.among.costs.now) (C.successor_count it.among.costs.now)
+        (C.successor_at it.among.costs.now) (C.lists_successors it.among.costs.now) };
 }
 
 /// A graph's trades from the first one on, with the arcs among them.
@@ -146,6 +213,14 @@ impl<C: Costs> Costs for Part<'_, C> {
 
     ghost arc = { λ it. arcs_among (is_between it.first it.null) (C.arc it.costs.now) };
 
+    ghost predecessor_count = { λ it b. C.predecessor_count it.costs.now b };
+
+    ghost predecessor_at = { λ it b k. C.predecessor_at it.costs.now b k };
+
+    ghost successor_count = { λ it a. C.successor_count it.costs.now a };
+
+    ghost successor_at = { λ it a k. C.successor_at it.costs.now a k };
+
     fn nodes(&self) -> u32 {
         self.costs.nodes()
     }
@@ -158,11 +233,35 @@ impl<C: Costs> Costs for Part<'_, C> {
         }
     }
 
+    fn predecessors(&self, b: u32) -> u32 {
+        self.costs.predecessors(b)
+    }
+
+    fn predecessor(&self, b: u32, k: u32) -> u32 {
+        self.costs.predecessor(b, k)
+    }
+
+    fn successors(&self, a: u32) -> u32 {
+        self.costs.successors(a)
+    }
+
+    fn successor(&self, a: u32, k: u32) -> u32 {
+        self.costs.successor(a, k)
+    }
+
     ghost between_nodes = { λ it. between-arcs_among (is_between it.first it.null) (C.node_count it.costs.now)
         (C.arc it.costs.now) (C.between_nodes it.costs.now) };
 
     ghost small = { λ it. small-arcs_among (is_between it.first it.null) most_cost (C.arc it.costs.now)
         (C.small it.costs.now) };
+
+    ghost lists_predecessors = { λ it. lists_predecessors-arcs_among (is_between it.first it.null)
+        (C.node_count it.costs.now) (C.arc it.costs.now) (C.predecessor_count it.costs.now)
+        (C.predecessor_at it.costs.now) (C.lists_predecessors it.costs.now) };
+
+    ghost lists_successors = { λ it. lists_successors-arcs_among (is_between it.first it.null)
+        (C.node_count it.costs.now) (C.arc it.costs.now) (C.successor_count it.costs.now)
+        (C.successor_at it.costs.now) (C.lists_successors it.costs.now) };
 }
 
 /// A graph with one node more, to which an arc of cost 0 leads from each other node.
@@ -179,6 +278,15 @@ impl<C: Costs> Costs for Sunk<'_, C> {
 
     ghost arc = { λ it. with_sink (C.node_count it.costs.now) (C.arc it.costs.now) };
 
+    ghost predecessor_count = { λ it b. if b == it.sink then it.sink else C.predecessor_count it.costs.now b };
+
+    ghost predecessor_at = { λ it b k. if b == it.sink then k else C.predecessor_at it.costs.now b k };
+
+    ghost successor_count = { λ it a. if a == it.sink then 0 else C.successor_count it.costs.now a + 1 };
+
+    ghost successor_at = { λ it a k. if k == C.successor_count it.costs.now a then it.sink
+        else C.successor_at it.costs.now a k };
+
     fn nodes(&self) -> u32 {
         self.sink + 1
     }
@@ -193,11 +301,51 @@ impl<C: Costs> Costs for Sunk<'_, C> {
         }
     }
 
+    fn predecessors(&self, b: u32) -> u32 {
+        if b == self.sink {
+            self.sink
+        } else {
+            self.costs.predecessors(b)
+        }
+    }
+
+    fn predecessor(&self, b: u32, k: u32) -> u32 {
+        if b == self.sink {
+            k
+        } else {
+            self.costs.predecessor(b, k)
+        }
+    }
+
+    fn successors(&self, a: u32) -> u32 {
+        if a == self.sink {
+            0
+        } else {
+            self.costs.successors(a) + 1
+        }
+    }
+
+    fn successor(&self, a: u32, k: u32) -> u32 {
+        if k == self.costs.successors(a) {
+            self.sink
+        } else {
+            self.costs.successor(a, k)
+        }
+    }
+
     ghost between_nodes = { λ it. between-with_sink (C.node_count it.costs.now) (C.arc it.costs.now)
         (C.between_nodes it.costs.now) };
 
     ghost small = { λ it. small-with_sink (C.node_count it.costs.now) most_cost (C.arc it.costs.now)
         (C.small it.costs.now) };
+
+    ghost lists_predecessors = { λ it. lists_predecessors-with_sink (C.node_count it.costs.now) it.sink
+        (C.arc it.costs.now) it.last (C.predecessor_count it.costs.now) (C.predecessor_at it.costs.now)
+        (C.lists_predecessors it.costs.now) };
+
+    ghost lists_successors = { λ it. lists_successors-with_sink (C.node_count it.costs.now) it.sink
+        (C.arc it.costs.now) it.last (C.successor_count it.costs.now) (C.successor_at it.costs.now)
+        (C.lists_successors it.costs.now) };
 }
 
 /// A graph with its arcs turned round.
@@ -211,6 +359,14 @@ impl<C: Costs> Costs for Turned<'_, C> {
 
     ghost arc = { λ it. turned (C.arc it.costs.now) };
 
+    ghost predecessor_count = { λ it b. C.successor_count it.costs.now b };
+
+    ghost predecessor_at = { λ it b k. C.successor_at it.costs.now b k };
+
+    ghost successor_count = { λ it a. C.predecessor_count it.costs.now a };
+
+    ghost successor_at = { λ it a k. C.predecessor_at it.costs.now a k };
+
     fn nodes(&self) -> u32 {
         self.costs.nodes()
     }
@@ -219,8 +375,28 @@ impl<C: Costs> Costs for Turned<'_, C> {
         self.costs.cost(b, a)
     }
 
+    fn predecessors(&self, b: u32) -> u32 {
+        self.costs.successors(b)
+    }
+
+    fn predecessor(&self, b: u32, k: u32) -> u32 {
+        self.costs.successor(b, k)
+    }
+
+    fn successors(&self, a: u32) -> u32 {
+        self.costs.predecessors(a)
+    }
+
+    fn successor(&self, a: u32, k: u32) -> u32 {
+        self.costs.predecessor(a, k)
+    }
+
     ghost between_nodes = { λ it. between-turned (C.node_count it.costs.now) (C.arc it.costs.now)
         (C.between_nodes it.costs.now) };
 
     ghost small = { λ it. small-turned most_cost (C.arc it.costs.now) (C.small it.costs.now) };
+
+    ghost lists_predecessors = { λ it. C.lists_successors it.costs.now };
+
+    ghost lists_successors = { λ it. C.lists_predecessors it.costs.now };
 }

@@ -1,13 +1,13 @@
 //! The search over kept labels: it settles one node after another, each once, the nearest first.
 
-ghost use Rattle.std.specs.Prelude.{◌≡◌, ◌≢◌, ℕ, ◌+◌, ◌*◌, ◌^◌, ◌<◌, ◌≤◌, ℤ, pos, ◌+ℤ◌, ◌-ℤ◌, true, false, Some, length, ◌⊎◌};
+ghost use Rattle.std.specs.Prelude.{◌≡◌, ◌≢◌, ℕ, ◌+◌, ◌*◌, ◌^◌, ◌<◌, ◌≤◌, ℤ, pos, ◌+ℤ◌, ◌-ℤ◌, Bool, ◌&&◌, not, true, false, Some, None, length, ◌⊎◌};
 ghost use Rattle.std.specs.Option.{ForSome};
 ghost use Rattle.tn_base.specs.Arcs.{IsAtMost};
 ghost use Rattle.tn_base.specs.Options.{both};
 ghost use Rattle.tn_base.specs.Widths.{most_cost};
 ghost use Rattle.tn_cycle.specs.Answers.{AreNear, label_in};
 ghost use Rattle.tn_cycle.specs.Cells.{HasRoom, cell_at};
-ghost use Rattle.tn_cycle.specs.Kept.{AreOffered, AreWaiting, HasBy, IsCapped, IsCounted, IsNearer, IsNearest, IsNext, IsNotAfter, IsOffered, IsPast, IsStopped, KeepsArcsOff, cell_by, every, flag_at, label_by, node_at};
+ghost use Rattle.tn_cycle.specs.Kept.{AreOffered, AreReady, HasBy, IsCapped, IsCounted, IsNearer, IsNearest, IsNext, IsNotAfter, IsOffered, IsPast, IsStopped, KeepsArcsOff, cell_by, every, flag_at, is_ready, label_by, node_at};
 ghost use Rattle.tn_cycle.specs.Widths.{most_graph_nodes, most_label, most_walk_cost};
 
 use crate::cell::Cell;
@@ -31,14 +31,20 @@ pub struct Near {
     pub round: u32,
 }
 
-/// The walks of one arc.
+/// The walks of one arc, which begin at the predecessors of the end.
 fn begin<C: Costs>(costs: &C, end: u32, row: &mut [Cell])
     requires sized { C.node_count costs.now ≤ length row.old }
     requires inside { end < C.node_count costs.now }
     ensures { (v : ℕ) → v < C.node_count costs.now →
         cell_at row.new v ≡ record { cost = C.arc costs.now v end; round = 0; next = end } }
 {
-    for v in 0..costs.nodes() {
+    row.fill(Cell {
+        cost: None,
+        round: 0,
+        next: end,
+    });
+    for k in 0..costs.predecessors(end) {
+        let v = costs.predecessor(end, k);
         row[v as usize] = Cell {
             cost: costs.cost(v, end),
             round: 0,
@@ -103,16 +109,23 @@ fn nearer(best: Option<Near>, place: u32, own: Cell, label: i128) -> Option<Near
     }
 }
 
-/// Lists the nodes that wait, and gives their number.
-fn list_waiting(waits: &[bool], nodes: u32, list: &mut [u32]) -> u32
+/// Whether a node that waits has a walk.
+fn is_ready(waits: bool, own: Cell) -> bool
+    ensures { result ≡ is_ready waits own }
+{
+    waits && own.cost.is_some()
+}
+
+/// Lists the nodes that wait and have a walk, and gives their number.
+fn list_waiting(waits: &[bool], nodes: u32, row: &[Cell], list: &mut [u32]) -> u32
     requires waits_sized { nodes ≤ length waits.now }
+    requires sized { nodes ≤ length row.now }
     requires places { nodes ≤ length list.old }
-    ensures waiting { AreWaiting nodes (flag_at waits.now) list.new result }
-    ensures few { result ≤ nodes }
+    ensures { AreReady nodes (flag_at waits.now) (cell_at row.now) list.new result }
 {
     let mut count = 0;
     for v in 0..nodes {
-        if waits[v as usize] {
+        if is_ready(waits[v as usize], row[v as usize]) {
             list[count as usize] = v;
             count += 1;
         }
@@ -238,45 +251,105 @@ fn offered(own: Cell, first: Option<i128>, beyond: Cell, u: u32) -> Cell
     }
 }
 
-/// The cell of node `v` once `u` is settled, whose own cell is the one beyond.
-fn after_offer<C: Costs>(costs: &C, u: u32, beyond: Cell, v: u32, own: Cell) -> Cell
+/// The cost of the arc from `v` to a node that is settled, where `v` waits or is the end: no other one goes on over it.
+fn first_cost<C: Costs>(costs: &C, end: u32, u: u32, v: u32, waits: bool) -> Option<i128>
     requires inside { v < C.node_count costs.now }
     requires settled { u < C.node_count costs.now }
-    requires room { ForSome beyond.cost (λ w. IsAtMost w most_walk_cost) }
-    requires counted { beyond.round < 2 ^ 31 }
-    ensures { IsOffered own (C.arc costs.now v u) beyond u result }
+    ensures going { (waits ≡ true) ⊎ (v ≡ end) → result ≡ C.arc costs.now v u }
+    ensures staying { waits ≡ false → v ≢ end → result ≡ None }
+    ensures small { ForSome result (λ a. IsAtMost a most_cost) }
 {
-    offered(own, costs.cost(v, u), beyond, u)
+    if waits || v == end {
+        costs.cost(v, u)
+    } else {
+        None
+    }
 }
 
-/// Goes on over a node that is settled, from each node that waits and from the end.
-fn offer<C: Costs>(costs: &C, end: u32, u: u32, list: &[u32], count: u32, row: &mut [Cell])
+/// Whether a node is ready only now, with its first walk.
+fn is_reached(waits: bool, own: Cell, new: Cell) -> bool
+    ensures { result ≡ (is_ready waits new && not (is_ready waits own)) }
+{
+    is_ready(waits, new) && !is_ready(waits, own)
+}
+
+/// Lets node `v` go on over `u`, whose own cell is the one beyond, where that is better than its walk. A node that
+/// waits and has its first walk now comes to the end of the list. Gives the number of listed nodes.
+fn go_on(
+    v: u32,
+    waits: bool,
+    first: Option<i128>,
+    beyond: Cell,
+    u: u32,
+    list: &mut [u32],
+    count: u32,
+    row: &mut [Cell],
+) -> u32
+    requires sized { v < length row.old }
+    requires places { count < length list.old }
+    requires few { count ≤ most_graph_nodes }
+    requires first { ForSome first (λ a. IsAtMost a most_cost) }
+    requires rest { ForSome beyond.cost (λ w. IsAtMost w most_walk_cost) }
+    requires counted { beyond.round < 2 ^ 31 }
+    ensures own { IsOffered (cell_at row.old v) first beyond u (cell_at row.new v) }
+    ensures others { (w : ℕ) → w ≢ v → cell_at row.new w ≡ cell_at row.old w }
+    ensures listed { (nodes : ℕ) (flag : ℕ → Bool) → v < nodes → flag v ≡ waits
+        → AreReady nodes flag (cell_at row.old) list.old count → AreReady nodes flag (cell_at row.new) list.new result }
+{
+    let own = row[v as usize];
+    let new = offered(own, first, beyond, u);
+    row[v as usize] = new;
+    if is_reached(waits, own, new) {
+        list[count as usize] = v;
+        count + 1
+    } else {
+        count
+    }
+}
+
+/// Goes on over a node that is settled, from each of its predecessors that waits and from the end. Those that have
+/// their first walk now are listed; gives the number of listed nodes.
+fn offer<C: Costs>(
+    costs: &C,
+    end: u32,
+    u: u32,
+    waits: &[bool],
+    list: &mut [u32],
+    count: u32,
+    row: &mut [Cell],
+) -> u32
     requires sized { C.node_count costs.now ≤ length row.old }
-    requires places { count ≤ length list.now }
-    requires inside { (i : ℕ) → i < count → node_at list.now i < C.node_count costs.now }
-    requires once { (i k : ℕ) → i < count → k < count → node_at list.now i ≡ node_at list.now k → i ≡ k }
-    requires off { (i : ℕ) → i < count → node_at list.now i ≢ end }
+    requires waits_sized { C.node_count costs.now ≤ length waits.now }
+    requires places { C.node_count costs.now ≤ length list.old }
+    requires few { C.node_count costs.now ≤ most_graph_nodes + 1 }
     requires last { end < C.node_count costs.now }
+    requires shut { flag_at waits.now end ≡ false }
     requires settled { u < C.node_count costs.now }
     requires room { ForSome (cell_at row.old u).cost (λ w. IsAtMost w most_walk_cost) }
     requires counted { (cell_at row.old u).round < 2 ^ 31 }
-    ensures { AreOffered (C.arc costs.now) end u list.now count (cell_at row.old) (cell_at row.new) }
+    requires listed { AreReady (C.node_count costs.now) (flag_at waits.now) (cell_at row.old) list.old count }
+    ensures offered { AreOffered (C.node_count costs.now) (C.arc costs.now) end u (flag_at waits.now)
+        (cell_at row.old) (cell_at row.new) }
+    ensures listed { AreReady (C.node_count costs.now) (flag_at waits.now) (cell_at row.new) list.new result }
 {
     let beyond = row[u as usize];
-    for i in 0..count {
-        let v = list[i as usize];
-        let own = row[v as usize];
-        row[v as usize] = after_offer(costs, u, beyond, v, own);
+    let mut listed = count;
+    for k in 0..costs.predecessors(u) {
+        let v = costs.predecessor(u, k);
+        let waiting = waits[v as usize];
+        let first = first_cost(costs, end, u, v, waiting);
+        if first.is_some() {
+            listed = go_on(v, waiting, first, beyond, u, list, listed, row);
+        }
     }
-    let own = row[end as usize];
-    row[end as usize] = after_offer(costs, u, beyond, end, own);
+    listed
 }
 
 /// Finds, from each node, the walk to `end` of least cost, of these one with the fewest arcs, and of these that over
 /// the lowest nodes (Dijkstra 1959): a node's key is the cost of its walk and its label. Labels keep the arcs, so that
 /// a key is never below that of the node it goes on over, and nodes are settled in the order of their keys. Where a
 /// cycle is sought, the search stops once no waiting node can lead to a better walk from the end to itself, or to one
-/// that costs less than the cap. Only nodes that wait are gone over: they stand at the front of `list`.
+/// that costs less than the cap. Only nodes that wait and have a walk are gone over: they stand at the front of `list`.
 pub(crate) fn search_kept<C: Costs>(
     costs: &C,
     end: u32,
@@ -306,7 +379,7 @@ pub(crate) fn search_kept<C: Costs>(
 {
     let nodes = costs.nodes();
     begin(costs, end, row);
-    let mut count = list_waiting(waits, nodes, list);
+    let mut count = list_waiting(waits, nodes, row, list);
     for settled in 0..nodes {
         match next_place(end, base, sought, labels, list, count, row) {
             Some(place) => {
@@ -314,7 +387,7 @@ pub(crate) fn search_kept<C: Costs>(
                 count -= 1;
                 list[place as usize] = list[count as usize];
                 waits[u as usize] = false;
-                offer(costs, end, u, list, count, row);
+                count = offer(costs, end, u, waits, list, count, row);
             }
             None => return,
         }

@@ -178,12 +178,12 @@ fn least_number<C: Costs>(costs: &C, node: u32, labels: &[i128], negates: bool) 
     requires labels_sized { length labels.now ≡ C.node_count costs.now }
     requires inside { node < C.node_count costs.now }
     requires near { AreNear most_label labels.now }
-    ensures keeps { IsLifted (C.node_count costs.now) (C.arc costs.now) node
-        (λ v. signed negates (label_in labels.now v)) result }
+    ensures keeps { IsLifted (C.arc costs.now) node (λ v. signed negates (label_in labels.now v)) result }
     ensures near { (reach : ℕ) → AreNear reach labels.now → ForSome result (λ p. IsAtMost p (reach + most_cost)) }
 {
     let mut least = None;
-    for v in 0..costs.nodes() {
+    for k in 0..costs.successors(node) {
+        let v = costs.successor(node, k);
         let label = signed(labels[v as usize], negates);
         least = lifted(least, v, node, label, costs.cost(node, v));
     }
@@ -237,7 +237,8 @@ fn break_into<C: Costs>(costs: &C, node: u32, labels: &[i128]) -> bool
         → label_in labels.now node ≤ℤ (label_in labels.now u +ℤ cost) }
 {
     let end = labels[node as usize];
-    for v in 0..costs.nodes() {
+    for k in 0..costs.predecessors(node) {
+        let v = costs.predecessor(node, k);
         if is_broken(labels[v as usize], costs.cost(v, node), end) {
             return true;
         }

@@ -1,5 +1,6 @@
 //! Tests of the finder on a ring.
 
+ghost use Rattle.tn_base.specs.ArcLemmas.{lists_all_predecessors, lists_all_successors};
 ghost use Rattle.tn_cycle.specs.Ring.{ring};
 ghost use Rattle.tn_cycle.specs.RingLemmas.{between-ring, small-ring};
 
@@ -19,6 +20,14 @@ impl Costs for Ring {
 
     ghost arc = { λ it. ring it.nodes it.gains };
 
+    ghost predecessor_count = { λ it b. it.nodes };
+
+    ghost predecessor_at = { λ it b k. k };
+
+    ghost successor_count = { λ it a. it.nodes };
+
+    ghost successor_at = { λ it a k. k };
+
     fn nodes(&self) -> u32 {
         self.nodes
     }
@@ -34,9 +43,31 @@ impl Costs for Ring {
         }
     }
 
+    fn predecessors(&self, b: u32) -> u32 {
+        self.nodes
+    }
+
+    fn predecessor(&self, b: u32, k: u32) -> u32 {
+        k
+    }
+
+    fn successors(&self, a: u32) -> u32 {
+        self.nodes
+    }
+
+    fn successor(&self, a: u32, k: u32) -> u32 {
+        k
+    }
+
     ghost between_nodes = { λ it. between-ring it.nodes it.gains };
 
     ghost small = { λ it. small-ring it.nodes it.gains };
+
+    ghost lists_predecessors = { λ it b inside. lists_all_predecessors it.nodes (ring it.nodes it.gains)
+        (between-ring it.nodes it.gains) b };
+
+    ghost lists_successors = { λ it a inside. lists_all_successors it.nodes (ring it.nodes it.gains)
+        (between-ring it.nodes it.gains) a };
 }
 
 /// The cycle through the first node goes all round.

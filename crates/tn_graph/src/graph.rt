@@ -99,6 +99,7 @@ impl Graph {
 }
 
 impl Costs for Graph {
+    ghost use Rattle.tn_base.specs.ArcLemmas.{lists_all_predecessors, lists_all_successors};
     ghost use Rattle.tn_graph.specs.Matrix.{arcs_of};
     ghost use Rattle.tn_graph.specs.MatrixLemmas.{arcs_of-between, arcs_of-small};
 
@@ -106,9 +107,23 @@ impl Costs for Graph {
 
     ghost arc = { arcs_of };
 
+    ghost predecessor_count = { λ graph b. graph.nodes };
+
+    ghost predecessor_at = { λ graph b k. k };
+
+    ghost successor_count = { λ graph a. graph.nodes };
+
+    ghost successor_at = { λ graph a k. k };
+
     ghost between_nodes = { arcs_of-between };
 
     ghost small = { arcs_of-small };
+
+    ghost lists_predecessors = { λ graph b inside. lists_all_predecessors graph.nodes (arcs_of graph)
+        (arcs_of-between graph) b };
+
+    ghost lists_successors = { λ graph a inside. lists_all_successors graph.nodes (arcs_of graph)
+        (arcs_of-between graph) a };
 
     fn nodes(&self) -> u32 {
         self.size()
@@ -116,5 +131,21 @@ impl Costs for Graph {
 
     fn cost(&self, a: u32, b: u32) -> Option<i128> {
         unpacked(self.cells[(a * self.nodes + b) as usize])
+    }
+
+    fn predecessors(&self, b: u32) -> u32 {
+        self.nodes
+    }
+
+    fn predecessor(&self, b: u32, k: u32) -> u32 {
+        k
+    }
+
+    fn successors(&self, a: u32) -> u32 {
+        self.nodes
+    }
+
+    fn successor(&self, a: u32, k: u32) -> u32 {
+        k
     }
 }

@@ -1,6 +1,7 @@
 //! The exchange graph of an outcome's signed trades, with their prices fixed.
 
 ghost use Rattle.std.specs.Prelude.{◌≡◌, ◌+◌, ◌*◌, ◌≤◌, ◌<◌, ◌+ℤ◌, ◌-ℤ◌, ◌*ℤ◌, ◌≤ℤ◌, pos, neg_ℤ, Option, IfSome, option_map, slice_index_or};
+ghost use Rattle.tn_base.specs.ArcLemmas.{lists_all_predecessors, lists_all_successors};
 ghost use Rattle.tn_base.specs.Arcs.{IsAtMost};
 ghost use Rattle.tn_graph.specs.Matrix.{arcs_of};
 ghost use Rattle.tn_judge.specs.Fixing.{CanBeFixed, height, price_in, raised_fixed};
@@ -131,6 +132,14 @@ impl Costs for Fixed<'_> {
 
     ghost arc = { λ it. raised_fixed it.over it.prices.now it.null (arcs_of it.graph.now) };
 
+    ghost predecessor_count = { λ it b. it.null + 1 };
+
+    ghost predecessor_at = { λ it b k. k };
+
+    ghost successor_count = { λ it a. it.null + 1 };
+
+    ghost successor_at = { λ it a k. k };
+
     fn nodes(&self) -> u32 {
         self.graph.size()
     }
@@ -142,7 +151,31 @@ impl Costs for Fixed<'_> {
         }
     }
 
+    fn predecessors(&self, b: u32) -> u32 {
+        self.graph.size()
+    }
+
+    fn predecessor(&self, b: u32, k: u32) -> u32 {
+        k
+    }
+
+    fn successors(&self, a: u32) -> u32 {
+        self.graph.size()
+    }
+
+    fn successor(&self, a: u32, k: u32) -> u32 {
+        k
+    }
+
     ghost between_nodes = { λ it. raised_between it.graph.now it.over it.null it.prices.now it.fits };
 
     ghost small = { λ it. raised_within it.graph.now it.over it.null it.prices.now it.fits };
+
+    ghost lists_predecessors = { λ it b inside. lists_all_predecessors (it.null + 1)
+        (raised_fixed it.over it.prices.now it.null (arcs_of it.graph.now))
+        (raised_between it.graph.now it.over it.null it.prices.now it.fits) b };
+
+    ghost lists_successors = { λ it a inside. lists_all_successors (it.null + 1)
+        (raised_fixed it.over it.prices.now it.null (arcs_of it.graph.now))
+        (raised_between it.graph.now it.over it.null it.prices.now it.fits) a };
 }

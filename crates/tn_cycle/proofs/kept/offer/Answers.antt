@@ -1,34 +1,109 @@
 -- What shows the clauses of `offer` of `src/kept.rt`.
-use Rattle.std.proofs.Common.{◌≡◌, ◌<◌, ℕ, refl, subst, arith, length, slice_set}
+use Rattle.std.proofs.Common.{◌≡◌, ◌≢◌, ◌<◌, ◌∙◌, ℕ, List, refl, sym, ap, subst, arith}
+use Rattle.tn_base.specs.Arcs.{ListsPredecessors}
+use Rattle.tn_cycle.specs.declared.cell.Cell.{Cell}
 use Rattle.tn_cycle.specs.Cells.{cell_at}
-use Rattle.tn_cycle.specs.Kept.{AreOffered, node_at}
-use Rattle.tn_cycle.proofs.ListLemmas.{left_next, offered_all, offered_next}
+use Rattle.tn_cycle.specs.Kept.{AfterOffer, AreReady, flag_at}
+use Rattle.tn_cycle.proofs.CountLemmas.{ready_fewer}
+use Rattle.tn_cycle.proofs.OfferLemmas.{after_all, after_next, after_none, after_some, passed_next}
+use Rattle.tn_cycle.proofs.kept.offer.Goals.{then-is_some, else-is_some}
 use Rattle.tn_cycle.proofs.kept.offer.Goals as goal
 
-pub loop-i-preserved : goal.loop-i-preserved
-loop-i-preserved g c =
-    let arc = g.C.Costs.arc c.args.costs.now in
-    let list = c.args.list.now in
-    let i = c.loop-i.i in
-    let beyond = cell_at c.args.row.now c.args.u in
-    let inside = c.requires.inside i c.loop-i-test.true in
-    let places : node_at list i < length c.loop-i.row = omega (arith, inside, c.requires.sized, c.loop-i.auto.row) in
+pub go_on-listed-requires-clause-places : goal.go_on-listed-requires-clause-places
+go_on-listed-requires-clause-places g c =
+    let fewer = ready_fewer (g.C.Costs.node_count c.args.costs.now) (flag_at c.args.waits.now) (cell_at c.loop-k.row)
+    c.loop-k.list c.loop-k.listed c.args.end c.loop-k.invariant.listed c.requires.last c.requires.shut in
+    omega (arith, fewer, c.requires.places, c.loop-k.auto.list)
+
+pub go_on-listed-requires-clause-few : goal.go_on-listed-requires-clause-few
+go_on-listed-requires-clause-few g c =
+    let fewer = ready_fewer (g.C.Costs.node_count c.args.costs.now) (flag_at c.args.waits.now) (cell_at c.loop-k.row)
+    c.loop-k.list c.loop-k.listed c.args.end c.loop-k.invariant.listed c.requires.last c.requires.shut in
+    omega (arith, fewer, c.requires.few)
+
+pub loop-k-preserved : goal.loop-k-preserved
+loop-k-preserved g c =
+    let costs = c.args.costs.now in
+    let nodes = g.C.Costs.node_count costs in
+    let arc = g.C.Costs.arc costs in
+    let end = c.args.end in
+    let u = c.args.u in
+    let beyond = cell_at c.args.row.now u in
+    let waits = flag_at c.args.waits.now in
+    let at = g.C.Costs.predecessor_at costs u in
+    let k = c.loop-k.k in
+    let v = c.predecessor-v.result in
+    let row = cell_at c.loop-k.row in
+    let first = c.first_cost-first.result in
+    let lists = g.met.C.Costs.lists_predecessors costs u c.requires.settled in
+    let below : k < g.C.Costs.predecessor_count costs u =
+    omega (arith, c.loop-k-test.true, c.predecessors-k-end.ensures) in
+    let v_is : v ≡ at k = c.predecessor-v.ensures in
+    let within : v < nodes = omega (arith, lists.inside k below, v_is) in
+    let once : (i : ℕ) → i < k → at i ≢ at k =
+    λ i earlier e. let q : i ≡ k = lists.once i k (omega (arith, earlier, below)) below e in omega (arith, q, earlier)
+    in
+    let own : AfterOffer arc end u beyond (waits v) v (row v) (cell_at c.if-is_some.row v) =
+    elim c.if-is_some.branch [
+      | then-is_some w ↦
+          subst (λ (cells : List Cell). AfterOffer arc end u beyond (waits v) v (row v) (cell_at cells v))
+          (sym w.row-is)
+          (after_some arc end u beyond (waits v) v (row v) (cell_at w.go_on-listed.new.row v) first
+          c.first_cost-first.ensures.going c.first_cost-first.ensures.staying
+          (sym c.is_some.ensures ∙ w.if-is_some.true) w.go_on-listed.ensures.own)
+      | else-is_some w ↦
+          subst (λ (cells : List Cell). AfterOffer arc end u beyond (waits v) v (row v) (cell_at cells v))
+          (sym w.row-is)
+          (after_none arc end u beyond (waits v) v (row v) first c.first_cost-first.ensures.going
+          (sym c.is_some.ensures ∙ w.if-is_some.false))
+    ] in
+    let others : (x : ℕ) → x ≢ v → cell_at c.if-is_some.row x ≡ row x = λ x off. elim c.if-is_some.branch [
+      | then-is_some w ↦ ap (λ (cells : List Cell). cell_at cells x) w.row-is ∙ w.go_on-listed.ensures.others x off
+      | else-is_some w ↦ ap (λ (cells : List Cell). cell_at cells x) w.row-is
+    ] in
+    let listed : AreReady nodes waits (cell_at c.if-is_some.row) c.if-is_some.list c.if-is_some.listed =
+    elim c.if-is_some.branch [
+      | then-is_some w ↦
+          subst (AreReady nodes waits (cell_at c.if-is_some.row) c.if-is_some.list) (sym w.listed-is)
+          (subst (λ (list : List ℕ). AreReady nodes waits (cell_at c.if-is_some.row) list w.go_on-listed.result)
+          (sym w.list-is)
+          (subst (λ (cells : List Cell). AreReady nodes waits (cell_at cells) w.go_on-listed.new.list
+          w.go_on-listed.result) (sym w.row-is)
+          (w.go_on-listed.ensures.listed nodes waits within refl c.loop-k.invariant.listed)))
+      | else-is_some w ↦
+          subst (AreReady nodes waits (cell_at c.if-is_some.row) c.if-is_some.list) (sym w.listed-is)
+          (subst (λ (list : List ℕ). AreReady nodes waits (cell_at c.if-is_some.row) list c.loop-k.listed)
+          (sym w.list-is)
+          (subst (λ (cells : List Cell). AreReady nodes waits (cell_at cells) c.loop-k.list c.loop-k.listed)
+          (sym w.row-is) c.loop-k.invariant.listed))
+    ] in
+    let own_at =
+    subst (λ (z : ℕ). AfterOffer arc end u beyond (waits z) z (row z) (cell_at c.if-is_some.row z)) v_is own
+    in
+    let others_at = subst (λ (z : ℕ). (x : ℕ) → x ≢ z → cell_at c.if-is_some.row x ≡ row x) v_is others in
     record {
-      offered = offered_next arc c.args.u beyond list c.args.row.now c.loop-i.row i c.loop-i.invariant.offered
-          c.loop-i.invariant.left c.args.count c.after_offer.result
-          c.loop-i-test.true c.requires.once places c.after_offer.ensures;
-      left = left_next arc c.args.u beyond list c.args.row.now c.loop-i.row i c.loop-i.invariant.offered
-          c.loop-i.invariant.left c.after_offer.result;
+      after = after_next arc end u beyond waits at (cell_at c.args.row.now) row k c.loop-k.invariant.after
+          c.loop-k.invariant.passed (cell_at c.if-is_some.row) once own_at others_at;
+      passed = passed_next arc end u beyond waits at (cell_at c.args.row.now) row k c.loop-k.invariant.after
+          c.loop-k.invariant.passed (cell_at c.if-is_some.row) once own_at others_at;
+      listed = listed;
     }
 
-pub returns : goal.returns
-returns g c =
-    let all : c.loop-i.i ≡ c.args.count = omega (arith, c.loop-i-test.false, c.loop-i.auto.i-end) in
-    let places : c.args.end < length c.loop-i.row = omega (arith, c.requires.last, c.requires.sized, c.loop-i.auto.row)
-    in
-    subst (λ (n : ℕ). AreOffered (g.C.Costs.arc c.args.costs.now) c.args.end c.args.u c.args.list.now n
-    (cell_at c.args.row.now) (cell_at (slice_set c.loop-i.row c.args.end c.after_offer-2.result))) all
-    (offered_all (g.C.Costs.arc c.args.costs.now) c.args.u (cell_at c.args.row.now c.args.u) c.args.list.now
-    c.args.row.now c.loop-i.row c.loop-i.i c.loop-i.invariant.offered c.loop-i.invariant.left
-    c.args.end c.after_offer-2.result places (λ k earlier. c.requires.off k (omega (arith, earlier, all))) refl
-    c.after_offer-2.ensures)
+pub returns-clause-offered : goal.returns-clause-offered
+returns-clause-offered g c v inside =
+    let costs = c.args.costs.now in
+    let nodes = g.C.Costs.node_count costs in
+    let arc = g.C.Costs.arc costs in
+    let u = c.args.u in
+    let at = g.C.Costs.predecessor_at costs u in
+    let k = c.loop-k.k in
+    let all : g.C.Costs.predecessor_count costs u ≡ k = omega (
+      arith,
+      c.loop-k-test.false,
+      c.loop-k.auto.k-end,
+      c.predecessors-k-end.ensures,
+    ) in
+    after_all arc c.args.end u (cell_at c.args.row.now u) (flag_at c.args.waits.now) at (cell_at c.args.row.now)
+    (cell_at c.loop-k.row) k c.loop-k.invariant.after c.loop-k.invariant.passed nodes
+    (subst (λ (n : ℕ). ListsPredecessors nodes arc u n at) all
+    (g.met.C.Costs.lists_predecessors costs u c.requires.settled)) v

@@ -3,6 +3,7 @@ use Rattle.std.proofs.Common.{◌≡◌, ℕ, ◌<◌, ℤ, ◌+ℤ◌, ◌≤�
 use Rattle.tn_cycle.specs.Answers.{label_in}
 use Rattle.tn_cycle.proofs.kept_cycles.break_into.Given as goal
 
-abbrev pub invariant-loop-v : goal.invariant-loop-v
-invariant-loop-v g l = (u : ℕ) (cost : ℤ) → u < l.v → g.C.Costs.arc l.costs u l.node ≡ Some cost
-    → label_in l.labels l.node ≤ℤ (label_in l.labels u +ℤ cost)
+abbrev pub invariant-loop-k : goal.invariant-loop-k
+invariant-loop-k g l = (i : ℕ) (cost : ℤ) → i < l.k
+    → g.C.Costs.arc l.costs (g.C.Costs.predecessor_at l.costs l.node i) l.node ≡ Some cost
+    → label_in l.labels l.node ≤ℤ (label_in l.labels (g.C.Costs.predecessor_at l.costs l.node i) +ℤ cost)

@@ -24,8 +24,7 @@ signed-requires g c =
 pub returns-in-Some-clause-keeps : goal.returns-in-Some-clause-keeps
 returns-in-Some-clause-keeps g c v cost off is =
     let fits : SFits w128 c.in-Some.label = search rules in
-    let inside = (g.met.C.Costs.between_nodes c.args.costs.now c.args.node v cost is).1 in
-    let had = c.least_number.ensures.keeps v cost inside off is in
+    let had = c.least_number.ensures.keeps v cost off is in
     let same : c.in-Some.label ≡ had.0 = same_Some c.in-Some.label had.0 (sym c.in-Some.is ∙ had.1) in
     simp to_z-of_z (omega (arith, ints, same, had.2))
 
