@@ -22,7 +22,7 @@ pub fn price_ranges(alloc: Global, market: &Market<FirmValue>) -> Result<Said, O
 {
     let at = equilibrium(alloc, market)?;
     let ends = ends_of(alloc, market)?;
-    let ranges = range(alloc, market, &at.on, &mut Steps::new(Asked))?;
+    let ranges = range(alloc, market, &at.on, &at.prices, &mut Steps::new(Asked))?;
     Ok(Said::Ranges {
         on: trades_on(alloc, &at.on, market.trades())?,
         ranges,

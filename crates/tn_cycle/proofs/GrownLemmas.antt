@@ -1,11 +1,11 @@
 -- Labels that grow node by node, and the negative cycle that ends their growth.
-use Rattle.std.proofs.Common.{◌≡◌, ℕ, ◌+◌, ◌<◌, ◌≤◌, sym, ap, subst, arith, inl, inr, List, ◌∷◌, length, ℤ, pos, ◌+ℤ◌, ◌≤ℤ◌, ◌<ℤ◌, Option, Some, true}
+use Rattle.std.proofs.Common.{◌≡◌, ℕ, ◌+◌, ◌<◌, ◌≤◌, sym, ap, subst, arith, inl, inr, List, ◌∷◌, length, ℤ, pos, ◌+ℤ◌, Option, Some, true}
 use Rattle.std.specs.Prelude.{All, nat_le, nat_lt}
 use Rattle.std.proofs.lemmas.Int.{ints}
 use Rattle.std.proofs.lemmas.Bool.{and_parts, cases_eq, leb-true, ltb-true}
 use Rattle.std.proofs.lemmas.List.Elements.{All-weaker}
 use Rattle.tn_base.specs.Arcs.{AreBetweenNodes}
-use Rattle.tn_base.specs.Walks.{arcs_among, HasNoNegativeCycle, KeepsArcs, KeepsArcsEntering}
+use Rattle.tn_base.specs.Walks.{arcs_among, KeepsArcs, KeepsArcsEntering}
 use Rattle.tn_cycle.specs.declared.answer.Path.{Path}
 use Rattle.tn_cycle.specs.declared.answer.Path.TheVariants as path
 use Rattle.tn_cycle.specs.Graphs.{is_between}
@@ -90,13 +90,3 @@ whole_grown nodes null arc listed labels (path.Cycle cost count) last answer ent
   cycle = answer.least.cycle;
   begins = inl last;
 }
-
--- where no cycle is negative, none is answered
-pub grown_none : (nodes : ℕ) (arc : ℕ → ℕ → Option ℤ) (listed : List ℕ) (labels : List ℤ) (found : Path)
-    → HasNoNegativeCycle arc
-    → AnswersGrown nodes arc listed labels found → KeepsArcs arc (label_in labels) × AreNear most_label labels
-grown_none nodes arc listed labels path.None none grown = grown
-grown_none nodes arc listed labels (path.Cycle cost count) none grown =
-    let least : pos 0 ≤ℤ cost = none grown.first grown.rest cost grown.cycle.walk in
-    let below : cost <ℤ pos 0 = grown.negative in
-    absurd (omega (arith, ints, least, below))

@@ -35,7 +35,7 @@ zeros_keep null admitted nodes gains other lacks u v cost e =
     by false false is last gain q passes = absurd (none-some cost q)
 
 -- a ring that doesn't gain has no arc that does
-zeros_keep_all : (nodes : ℕ) → KeepsArcs (ring nodes false) (λ _. pos 0)
+pub zeros_keep_all : (nodes : ℕ) → KeepsArcs (ring nodes false) (λ _. pos 0)
 zeros_keep_all nodes u v cost e =
     by (v == u + 1) (v == 0 && u + 1 == nodes) (some_if (nat_lt u nodes && nat_lt v nodes) _ cost e).1
   where

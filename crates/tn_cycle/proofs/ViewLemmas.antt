@@ -1,5 +1,5 @@
 -- What the finder's parts let be read.
-use Rattle.std.proofs.Common.{◌≡◌, ℕ, ◌+◌, ◌<◌, ◌≤◌, sym, ap, ◌∙◌, subst, arith, List, ◌++◌, length, take, drop, ℤ, ◌+ℤ◌, ◌≤ℤ◌, Option, None, Bool}
+use Rattle.std.proofs.Common.{◌≡◌, ℕ, zero, suc, ◌+◌, ◌<◌, ◌≤◌, refl, sym, ap, ◌∙◌, subst, arith, List, [], ◌∷◌, ◌++◌, length, set, take, drop, ℤ, ◌+ℤ◌, ◌≤ℤ◌, Option, None, Bool}
 use Rattle.std.proofs.lemmas.List.{take_all, length-take}
 use Rattle.std.proofs.lemmas.List.Elements.{All-weaker}
 use Rattle.std.proofs.lemmas.List.FromFn.{get_or-map-range_with_len, length-map-range_with_len}
@@ -38,6 +38,14 @@ pub whole-read : {A : Type 0} (written old : List A) (count places : ℕ) → le
 whole-read written old count places whole all =
     front-written written (drop (length written) old) count places (omega (arith, all)) (omega (arith, whole, all))
     ∙ take_all count written (omega (arith, whole, all))
+
+-- one place is written of a list of which a part is read
+pub taken-set : {A : Type 0} (count : ℕ) (xs : List A) (i : ℕ) (x : A) → take count (set xs i x)
+    ≡ set (take count xs) i x
+taken-set zero xs i x = refl
+taken-set (suc count) [] i x = refl
+taken-set (suc count) (y ∷ ys) zero x = refl
+taken-set (suc count) (y ∷ ys) (suc i) x = ap (λ (zs : List _). y ∷ zs) (taken-set count ys i x)
 
 -- all labels are read off the finder, where there is one for each place
 pub all-read : (f : Inside) (now : Reading)

@@ -1,7 +1,7 @@
 //! The finder: every search of a graph, and what may be read after it.
 
-ghost use Rattle.std.specs.Prelude.{◌≡◌, ℕ, ◌+◌, ◌-◌, ◌*◌, ◌<◌, ◌≤◌, pos, ◌+ℤ◌, Some, [], length, slice_get, IfOk, IsSome};
-ghost use Rattle.tn_base.specs.Walks.{arcs_among, is_admitted, is_looked_at, HasNoNegativeCycle, KeepsArcs, KeepsArcsEntering};
+ghost use Rattle.std.specs.Prelude.{◌≡◌, ℕ, ◌+◌, ◌-◌, ◌*◌, ◌<◌, ◌≤◌, pos, ◌+ℤ◌, Some, [], length, set, slice_get, IfOk, IsSome};
+ghost use Rattle.tn_base.specs.Walks.{arcs_among, is_admitted, is_looked_at, KeepsArcs, KeepsArcsEntering};
 ghost use Rattle.tn_cycle.specs.Kept.{signed};
 ghost use Rattle.tn_cycle.specs.Widths.{label_step, most_graph_nodes, most_label};
 
@@ -20,12 +20,12 @@ use tn_base::{Costs, OutOfMemory, TradeSet};
 /// null node, the others are trades.
 ///
 /// `through` and `least_through` find a least cycle through a trade over labels, and leave labels that keep the arcs
-/// with it; `least_to` and `least_from` find least walks over labels. `label_all`, `label_graph` and `label_as` are
-/// where these begin, and `relabel` gives the labels that `labels` would give. `labels` finds labels of a graph of
-/// which nothing is known, or a negative cycle. Then `at` reads the nodes of a cycle; `label` reads labels; `distance`
-/// reads the least cost for a node, and `walk` lists the nodes of its walk, which `at` reads. A search forgets what the
-/// one before it found, but for the labels that it goes by. A graph that is searched has as many nodes as the finder
-/// was made for. No search and no reader takes memory or refuses.
+/// with it; `least_to` and `least_from` find least walks over labels. `label_all`, `set_label` and `label_as` give the
+/// labels that these begin with, and `relabel` gives those that `labels` would give. `labels` finds labels of a graph
+/// of which nothing is known, or a negative cycle. Then `at` reads the nodes of a cycle; `label` reads labels;
+/// `distance` reads the least cost for a node, and `walk` lists the nodes of its walk, which `at` reads. A search
+/// forgets what the one before it found, but for the labels that it goes by. A graph that is searched has as many nodes
+/// as the finder was made for. No search and no reader takes memory or refuses.
 ///
 /// Contracts see what may be read: the nodes that `at` reads, the labels, the distances and their walks.
 #[derive(Drop)]
@@ -119,27 +119,12 @@ impl Finder {
         self.labelled = self.nodes;
     }
 
-    /// Forgets all that was found, and gives each node a label, such that the labels keep the arcs. No cycle may be
-    /// negative. It takes less work than `labels`, which gives one choice of labels.
-    pub fn label_graph<C: Costs>(&mut self, costs: &C)
-        requires sized { C.node_count costs.now ≡ self.old.nodes }
-        requires none_negative { HasNoNegativeCycle (C.arc costs.now) }
-        ensures one_each { length self.new.labels ≡ self.old.nodes }
-        ensures near { AreNear most_label self.new.labels }
-        ensures keeps { KeepsArcs (C.arc costs.now) (label_in self.new.labels) }
-        ensures none_listed { self.new.listed ≡ [] }
-        ensures rest { ListsNoWalks self.old.nodes self.new }
+    /// Gives a node another label. There are labels.
+    pub fn set_label(&mut self, v: u32, label: i128)
+        requires { v < length self.old.labels }
+        ensures { self.new ≡ record self.old { labels = set self.old.labels v label } }
     {
-        self.count = 0;
-        self.reached = 0;
-        grow_labels(
-            costs,
-            &mut self.labels,
-            &mut self.waits,
-            &mut self.row,
-            &mut self.path,
-        );
-        self.labelled = self.nodes;
+        self.labels[v as usize] = label;
     }
 
     /// Forgets all that was found, and gives each node the label that another finder, of as many nodes, has for it.

@@ -115,6 +115,8 @@ fn finds_the_least_ring(rt: HostRuntime) -> Result<(), Fail> {
     admitted.toggle(0);
     finder.relabel(&ring, &admitted);
     assert_eq!(rt; [finder.label(0), finder.label(3)], [0, 0]);
+    finder.set_label(0, 5);
+    assert_eq!(rt; [finder.label(0), finder.label(3)], [5, 0]);
     Ok(())
 }
 
@@ -152,7 +154,7 @@ fn finds_labels_and_walks(rt: HostRuntime) -> Result<(), Fail> {
     match finder.labels(&ring) {
         Labels::Feasible => {
             assert_eq!(rt; [finder.label(0), finder.label(3)], [0, 0]);
-            finder.label_graph(&ring);
+            finder.label_all();
             let mut other = Finder::new(rt.alloc(), 4)?;
             other.label_as(&finder);
             finder.least_to(&ring, 3);

@@ -1,31 +1,33 @@
 -- What the least walks show of the prices of all trades.
-use Rattle.std.proofs.Common.{◌≡◌, ℕ, ◌+◌, ◌<◌, ◌≤◌, ◌⊎◌, inl, inr, List, [], ◌∷◌, ◌++◌, length, slice_get, Some, None, Option, option_map, refl, sym, ap, ◌∙◌, subst, arith, ℤ, neg_ℤ}
-use Rattle.std.specs.Prelude.{IfSome}
+use Rattle.std.proofs.Common.{◌≡◌, ℕ, ◌+◌, ◌<◌, ◌≤◌, ◌⊎◌, inl, inr, List, [], ◌∷◌, ◌++◌, length, set, slice_get, Some, None, Option, option_map, Bool, if◌then◌else◌, refl, sym, ap, ◌∙◌, subst, arith, ℤ, pos, neg_ℤ, ◌+ℤ◌, ◌≤ℤ◌}
+use Rattle.std.specs.Prelude.{All, IfSome}
 use Rattle.std.proofs.lemmas.Int.{ints}
-use Rattle.std.proofs.lemmas.Bool.{cases_lt}
-use Rattle.std.proofs.lemmas.List.{length-append}
+use Rattle.std.proofs.lemmas.Bool.{cases_eq, cases_lt, le-ltb, lt-ltb}
+use Rattle.std.proofs.lemmas.List.{get_or-set_other, get_or-set_same, length-append}
 use Rattle.std.proofs.lemmas.Option.{none-some, same_Some, slice_get_within}
 use Rattle.tn_base.specs.Arcs.{IsAtMost}
 use Rattle.tn_base.specs.Firm.{Firm}
-use Rattle.tn_base.specs.Walks.{HasNoNegativeCycle}
-use Rattle.tn_base.proofs.WalkLemmas.{none_negative-same}
+use Rattle.tn_base.specs.Walks.{KeepsArcs}
 use Rattle.tn_plain_data.specs.declared.ends.Ends.{Ends}
 use Rattle.tn_plain_data.specs.declared.range.Range.{Range}
 use Rattle.tn_plain_data.specs.Network.{IsNetwork}
+use Rattle.tn_plain_data.specs.Prices.{price_at}
+use Rattle.tn_market.specs.Equilibrium.{IsEquilibrium}
 use Rattle.tn_market.specs.Graph.{exchange_arc}
-use Rattle.tn_market.specs.Ranges.{IsSupported, IsPath, ShowsHighest, ShowsLowest, IsRange, AreRanges}
+use Rattle.tn_market.specs.Ranges.{IsPath, ShowsHighest, ShowsLowest, IsRange, AreRanges}
 use Rattle.tn_market.specs.Widths.{most_market_trades}
 use Rattle.tn_graph.specs.Matrix.{Matrix, arcs_of}
 use Rattle.tn_graph.specs.MatrixLemmas.{arcs_of-between, arcs_of-small}
 use Rattle.tn_graph.specs.Reading.{IsExchangeGraph}
 use Rattle.tn_cycle.specs.Reading.{Reading}
-use Rattle.tn_cycle.specs.Answers.{IsLeastPath, LeadsLeast, distance_in, walk_in}
+use Rattle.tn_cycle.specs.Answers.{AreNear, IsLeastPath, LeadsLeast, distance_in, label_in, walk_in}
 use Rattle.tn_cycle.specs.Widths.{most_read}
 use Rattle.tn_cycle.proofs.WalkLemmas.{avoids-cons}
-use Rattle.tn_network.specs.Laws.{MeetExchange}
+use Rattle.tn_network.specs.Laws.{MeetExchange, price_of_node}
 use Rattle.tn_network.specs.Bounds.{IsDistance}
-use Rattle.tn_network.proofs.BoundLemmas.{equilibrium_no_cycle, price_bounds_are_distances}
+use Rattle.tn_network.proofs.BoundLemmas.{price_bounds_are_distances}
 use Rattle.tn_network.proofs.PoolLemmas.{append_front, append_behind}
+use Rattle.tn_network.proofs.SupportLemmas.{arcs_from_supports}
 use Rattle.tn_range.specs.Shown.{KeepsWalks, range_by, said_walk, AreRangesBy}
 use Rattle.tn_range.proofs.PathLemmas.{leads-distance, leads-same, least-small, different-push}
 
@@ -66,12 +68,49 @@ found firms trades on from_nodes to_nodes null graph from_null to_null is from_s
       (to t (omega (arith, below, to_sized))));
 }
 
--- no cycle of the graph is negative
-pub none_negative : (firms : List Firm) (trades : List Ends) (on : ℕ) (graph : Matrix) → IsNetwork firms trades
-    → IsSupported firms trades on → IsExchangeGraph firms trades on graph → HasNoNegativeCycle (arcs_of graph)
-none_negative firms trades on graph network supported is =
-    none_negative-same (arcs_of graph) (exchange_arc firms trades on) is.arcs
-    (equilibrium_no_cycle firms trades on supported.prices network supported.equilibrium)
+-- one node more has its price
+pub next_price : (t : ℕ) (prices before : List ℤ) (price : ℤ) → t < length before
+    → ((v : ℕ) → label_in before v ≡ price_of_node t (price_at prices) v) → price_at prices t ≡ price
+    → (v : ℕ) → label_in (set before t price) v ≡ price_of_node (t + 1) (price_at prices) v
+next_price t prices before price inside had is v = elim (cases_eq v t) [
+  | inl same ↦ ap (label_in (set before t price)) same ∙ get_or-set_same before t price (pos 0) inside ∙ sym is
+      ∙ ap (price_at prices) (sym same)
+      ∙ sym (ap (λ (b : Bool). if b then price_at prices v else pos 0)
+      (lt-ltb v (t + 1) (omega (arith, same))))
+  | inr other ↦ get_or-set_other before t v price (pos 0) other ∙ had v
+      ∙ ap (λ (b : Bool). if b then price_at prices v else pos 0) (elim (cases_lt v t) [
+        | inl below ↦ lt-ltb v t below ∙ sym (lt-ltb v (t + 1) (omega (arith, below)))
+        | inr above ↦ le-ltb v t above ∙ sym (le-ltb v (t + 1) (omega (arith, above, other)))
+      ])
+]
+
+-- prices that support the set keep the arcs of the graph, with 0 for the null node
+pub prices_keep : (firms : List Firm) (trades : List Ends) (on count : ℕ) (prices labels : List ℤ) (graph : Matrix)
+    → IsNetwork firms trades → IsEquilibrium firms trades (pos 1) on (price_at prices)
+    → IsExchangeGraph firms trades on graph → count ≡ length trades
+    → ((v : ℕ) → label_in labels v ≡ price_of_node count (price_at prices) v)
+    → KeepsArcs (arcs_of graph) (label_in labels)
+prices_keep firms trades on count prices labels graph network equilibrium is counted are u v cost here =
+    let kept : price_of_node (length trades) (price_at prices) v
+    ≤ℤ (price_of_node (length trades) (price_at prices) u +ℤ cost) =
+    arcs_from_supports firms trades on (price_at prices) network equilibrium u v cost (sym (is.arcs u v) ∙ here) in
+    subst (λ (z : ℤ). z ≤ℤ (label_in labels u +ℤ cost)) (sym (at v))
+    (subst (λ (z : ℤ). price_of_node (length trades) (price_at prices) v ≤ℤ (z +ℤ cost)) (sym (at u)) kept)
+  where
+    at : (w : ℕ) → label_in labels w ≡ price_of_node (length trades) (price_at prices) w
+    at w = are w ∙ ap (λ (n : ℕ). price_of_node n (price_at prices) w) counted
+
+-- labels are as near to 0 as the prices that they are
+pub prices_near : (count reach : ℕ) (prices labels : List ℤ) → length prices ≡ count
+    → All (λ price. IsAtMost price reach) prices
+    → ((v : ℕ) → label_in labels v ≡ price_of_node count (price_at prices) v) → AreNear reach labels
+prices_near count reach prices labels counted small are v inside =
+    subst (λ (z : ℤ). IsAtMost z reach) (sym (are v)) (elim (cases_lt v count) [
+      | inl below ↦ subst (λ (b : Bool). IsAtMost (if b then price_at prices v else pos 0) reach)
+          (sym (lt-ltb v count below)) (small v (pos 0) (omega (arith, below, counted)))
+      | inr above ↦ subst (λ (b : Bool). IsAtMost (if b then price_at prices v else pos 0) reach)
+          (sym (le-ltb v count above)) (record { low = omega (arith, ints); high = omega (arith, ints) })
+    ])
 
 -- the costs of least walks to null are small
 pub costs_small : (graph : Matrix) (nodes null trades : ℕ) (to_null : Reading) → graph.nodes ≡ trades + 1
@@ -121,8 +160,9 @@ ranges-push null t from_null to_null from_now to_now ranges new range are one tw
 twice : (z : ℤ) → z ≡ neg_ℤ (neg_ℤ z)
 twice z = omega (arith, ints)
 
-module _ (firms : List Firm) (trades : List Ends) (on : ℕ) (from_null to_null : Reading)
-    (network : IsNetwork firms trades) (meet : MeetExchange firms) (supported : IsSupported firms trades on)
+module _ (firms : List Firm) (trades : List Ends) (on : ℕ) (given : ℕ → ℤ) (from_null to_null : Reading)
+    (network : IsNetwork firms trades) (meet : MeetExchange firms)
+    (equilibrium : IsEquilibrium firms trades (pos 1) on given)
     (walks : AreFound firms trades on from_null to_null) where
   from_distance : (t : ℕ) → t < length trades
       → IsDistance (exchange_arc firms trades on) (length trades) t (distance_in from_null t)
@@ -154,11 +194,11 @@ module _ (firms : List Firm) (trades : List Ends) (on : ℕ) (from_null to_null 
 
   one_range : (t : ℕ) → t < length trades → IsRange firms trades on t (range_by (length trades) from_null to_null t)
   one_range t below = record {
-    lowest = price_bounds_are_distances.lowest firms trades on supported.prices network meet supported.equilibrium
-        (distance_in to_null) to_distance t below;
+    lowest = price_bounds_are_distances.lowest firms trades on given network meet equilibrium (distance_in to_null)
+        to_distance t below;
     low_shown = low_shown t (distance_in to_null t) below (walks.to_walks t below);
-    highest = price_bounds_are_distances.highest firms trades on supported.prices network meet supported.equilibrium
-        (distance_in from_null) from_distance t below;
+    highest = price_bounds_are_distances.highest firms trades on given network meet equilibrium (distance_in from_null)
+        from_distance t below;
     high_shown = high_shown t (distance_in from_null t) below (walks.from_walks t below);
   }
 
@@ -169,12 +209,10 @@ module _ (firms : List Firm) (trades : List Ends) (on : ℕ) (from_null to_null 
     each = λ t range is.
         let below = inside t range is in
         subst (IsRange firms trades on t) (same_Some _ _ (sym (are.each t below) ∙ is)) (one_range t below);
-    highs = λ prices highest. price_bounds_are_distances.highs firms trades on supported.prices network meet
-        supported.equilibrium prices
+    highs = λ prices highest. price_bounds_are_distances.highs firms trades on given network meet equilibrium prices
         (λ t below. subst (IsDistance (exchange_arc firms trades on) (length trades) t)
         (highest t (range_by (length trades) from_null to_null t) (are.each t below)) (from_distance t below));
-    lows = λ prices lowest. price_bounds_are_distances.lows firms trades on supported.prices network meet
-        supported.equilibrium prices
+    lows = λ prices lowest. price_bounds_are_distances.lows firms trades on given network meet equilibrium prices
         (λ t below. subst (IsDistance (exchange_arc firms trades on) t (length trades))
         (unmapped (distance_in to_null t) (prices t) (lowest t (range_by (length trades) from_null to_null t)
         (are.each t below))) (to_distance t below));

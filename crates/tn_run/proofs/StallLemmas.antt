@@ -1,23 +1,18 @@
--- Of the two stalls of the tests: they are a network, and trade at a price between what the seller gains and what the
--- buyer loses.
-use Rattle.std.proofs.Common.{◌≡◌, Bool, true, false, if◌then◌else◌, ℤ, pos, negsuc, ◌+ℤ◌, arith, ap, ap₂, ◌∙◌, refl, sym, subst, ◌≢◌, ℕ, zero, suc, ◌<◌, List, [], ◌∷◌, slice_get, Some, lit<, ◌==◌, ◌&&◌, ◌⊎◌, inl, inr, ◌*ℤ◌, ◌≤ℤ◌}
+-- Of the two stalls of the tests: they are a network, and whatever they trade is possible.
+use Rattle.std.proofs.Common.{◌≡◌, Bool, true, false, if◌then◌else◌, ℤ, pos, negsuc, ◌+ℤ◌, arith, ap, ap₂, ◌∙◌, refl, sym, subst, ◌≢◌, ℕ, zero, suc, ◌<◌, List, [], ◌∷◌, slice_get, Some, lit<, ◌==◌, ◌&&◌, ◌⊎◌, inl, inr}
 use Rattle.std.specs.Prelude.{IsSome, is_some}
 use Rattle.std.proofs.lemmas.Int.{ints}
 use Rattle.std.proofs.lemmas.Bool.{or_cases, and_parts, eqb-true}
 use Rattle.std.proofs.lemmas.Option.{same_Some}
 use mir.Syntax.{w128}
 use mir.Val.{of_z, to_z}
-use Rattle.tn_base.specs.Sets.{has, toggle, set_of, sum_over}
-use Rattle.tn_base.specs.Firm.{Firm, payments}
+use Rattle.tn_base.specs.Sets.{has}
+use Rattle.tn_base.specs.Firm.{Firm}
 use Rattle.tn_base.proofs.SetLemmas.{set_of_within}
-use Rattle.tn_law.proofs.AdditiveLemmas.{meets-additive}
-use Rattle.tn_law.proofs.KeepLemmas.{option_map-some}
 use Rattle.tn_plain_data.specs.declared.ends.Ends.{Ends}
 use Rattle.tn_plain_data.specs.Network.{own, stands_at, IsNetwork, part}
-use Rattle.tn_market.specs.Equilibrium.{prices_at, utility_at, HasBest}
 use Rattle.tn_market.specs.Graph.{ArePossible}
-use Rattle.tn_market.specs.Ranges.{IsSupported}
-use Rattle.tn_run.specs.Stall.{amounts, amounts_of, stall, trade_between}
+use Rattle.tn_run.specs.Stall.{amounts_of, stall, trade_between}
 use Rattle.tn_run.specs.StallLemmas.{stall-worth}
 
 -- what the code computes
@@ -145,56 +140,3 @@ stalls-possible fs ts on are f firm is =
     subst (λ (z : Firm). IsSome (z.worth (part ts f z.count on)))
     (each_is f firm (sym (ap (λ (xs : List Firm). slice_get xs f) are) ∙ is))
     (ap is_some (stall-worth (part ts f 2 on) (set_of_within (λ k. has on (own ts f k)) 2)))
-
--- each trade costs 3 less than nothing
-abbrev prices : ℕ → ℤ
-prices t = negsuc 2
-
--- what is paid for a bundle
-paid_for : Bool → Bool → ℤ
-paid_for buys sells = (pos 0 +ℤ (if buys then pos 3 else pos 0)) +ℤ (if sells then negsuc 2 else pos 0)
-
-sum_over-payments : (f x : ℕ) → sum_over (payments stall.buys (prices_at trades prices f)) 2 x
-    ≡ paid_for (has x 0) (has x 1)
-unfolding sum_over has paid_for
-sum_over-payments f x = refl
-
--- no bundle gains more than 2
-at_most_two : (b s : Bool) → (pos 1 *ℤ amounts_of b s +ℤ paid_for b s) ≤ℤ pos 2
-unfolding paid_for
-at_most_two true true = omega (arith, ints)
-at_most_two true false = omega (arith, ints)
-at_most_two false true = omega (arith, ints)
-at_most_two false false = omega (arith, ints)
-
-stall_most : (f y : ℕ) (value : ℤ) → utility_at trades (pos 1) prices f stall y ≡ Some value → value ≤ℤ pos 2
-stall_most f y value is =
-    let worth = option_map-some _ (stall.worth y) value is in
-    let amount : worth.0 ≡ amounts_of (has y 0) (has y 1) =
-    same_Some _ _ (sym worth.1 ∙ stall-worth y ((meets-additive 2 1 amounts).0 y worth.0 worth.1)) in
-    let first : value ≡ pos 1 *ℤ amounts_of (has y 0) (has y 1) +ℤ paid_for (has y 0) (has y 1) =
-    sym worth.2 ∙ ap (λ (a : ℤ). pos 1 *ℤ a +ℤ sum_over (payments stall.buys (prices_at trades prices f)) 2 y) amount
-    ∙ ap (λ (p : ℤ). pos 1 *ℤ amounts_of (has y 0) (has y 1) +ℤ p) (sum_over-payments f y) in
-    subst (λ (z : ℤ). z ≤ℤ pos 2) (sym first) (at_most_two (has y 0) (has y 1))
-
-stall_has : (f : ℕ) → f < 2 → utility_at trades (pos 1) prices f stall (part trades f 2 3) ≡ Some (pos 2)
-unfolding set_of has toggle sum_over
-stall_has zero inside = refl
-stall_has (suc zero) inside = refl
-stall_has (suc (suc f)) inside = absurd (omega (arith, inside))
-
-pub stalls-supported : (firms : List Firm) → firms ≡ stall ∷ stall ∷ [] → IsSupported firms trades 3
-stalls-supported fs are = record {
-  prices = prices;
-  equilibrium = λ f firm is.
-      let at = sym (ap (λ (xs : List Firm). slice_get xs f) are) ∙ is in
-      subst (HasBest trades (pos 1) 3 prices f) (each_is f firm at) (best f (inside f firm at));
-}
-  where
-    best : (f : ℕ) → f < 2 → HasBest trades (pos 1) 3 prices f stall
-    best f below = (pos 2, record { is = stall_has f below; most = stall_most f })
-
-    inside : (f : ℕ) (firm : Firm) → slice_get (stall ∷ stall ∷ []) f ≡ Some firm → f < 2
-    inside zero firm is = lit< tt
-    inside (suc zero) firm is = lit< tt
-    inside (suc (suc f)) firm is = absurd (cc is)

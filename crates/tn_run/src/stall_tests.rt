@@ -159,6 +159,7 @@ fn prices_for_two_stalls(rt: HostRuntime) {
     }
 }
 
+/// Over the prices that support both trades, which are within the ranges.
 #[test]
 fn ranges_of_two_stalls(rt: HostRuntime) {
     let market = two_stalls(rt.alloc()).expect(&rt, "memory");
@@ -166,19 +167,24 @@ fn ranges_of_two_stalls(rt: HostRuntime) {
     on.toggle(0);
     on.toggle(1);
     let mut steps = Steps::new(Asked);
-    let ranges = range(rt.alloc(), &market, &on, &mut steps).expect(&rt, "memory");
-    assert_eq!(rt; ranges.len(), 2);
-    let second = ranges.at(1);
-    assert_eq!(rt; (second.low, second.high), (Some(-5), Some(-3)));
-    assert!(rt; second.low_path.len() == 2 && second.high_path.len() == 2);
-    assert_eq!(rt;
-        (second.low_path.at(0), second.low_path.at(1)),
-        (Some(1), None)
-    );
-    assert_eq!(rt;
-        (second.high_path.at(0), second.high_path.at(1)),
-        (None, Some(1))
-    );
+    match support(rt.alloc(), &market, &on, &mut steps).expect(&rt, "memory") {
+        Support::Supported { prices } => {
+            let ranges = range(rt.alloc(), &market, &on, &prices, &mut steps).expect(&rt, "memory");
+            assert_eq!(rt; ranges.len(), 2);
+            let second = ranges.at(1);
+            assert_eq!(rt; (second.low, second.high), (Some(-5), Some(-3)));
+            assert!(rt; second.low_path.len() == 2 && second.high_path.len() == 2);
+            assert_eq!(rt;
+                (second.low_path.at(0), second.low_path.at(1)),
+                (Some(1), None)
+            );
+            assert_eq!(rt;
+                (second.high_path.at(0), second.high_path.at(1)),
+                (None, Some(1))
+            );
+        }
+        other => panic!(rt; "{:?}", other),
+    }
 }
 
 #[test]
