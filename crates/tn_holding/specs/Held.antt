@@ -1,6 +1,6 @@
 -- What is said of each firm in an arrangement: a set of trades with prices for all trades. The firms needn't meet
 -- exchange.
-use Rattle.std.specs.Prelude.{◌≡◌, ℕ, ℤ, ◌-ℤ◌, Bool, List, length, slice_get, Option, Some, None, option_map}
+use Rattle.std.specs.Prelude.{◌≡◌, ℕ, ℤ, ◌-ℤ◌, Bool, List, length, slice_get, Option, Some, option_map}
 use Rattle.std.specs.List.{count_by}
 use Rattle.tn_base.specs.Firm.{Firm, IsBest}
 use Rattle.tn_plain_data.specs.declared.ends.Ends.{Ends}
