@@ -3,7 +3,7 @@ use Rattle.std.proofs.Common.{◌≡◌, ℕ, refl, sym, ap, ap₂, ◌∙◌, a
 use Rattle.std.proofs.lemmas.Option.{same_Some}
 use Rattle.std.proofs.lemmas.Int.{ints}
 use Rattle.tn_base.specs.Options.{both}
-use Rattle.tn_base.specs.Walks.{walk_cost, arcs_among, CyclesCostAtLeast, HasNoNegativeCycle, IsLeastCycle}
+use Rattle.tn_base.specs.Walks.{walk_cost, arcs_among, CyclesCostAtLeast, IsLeastCycle}
 
 -- two numbers whose sum is there
 pub record AreParts (o p : Option ℤ) (sum : ℤ) : Type 0 where
@@ -68,10 +68,6 @@ pub cycles-same : (one other : ℕ → ℕ → Option ℤ) → SameArcs one othe
     → CyclesCostAtLeast other t least → CyclesCostAtLeast one t least
 cycles-same one other same t least all vs cost avoids walk =
     all vs cost avoids (sym (walk-same one other same t vs t) ∙ walk)
-
-pub none_negative-same : (one other : ℕ → ℕ → Option ℤ) → SameArcs one other → HasNoNegativeCycle other
-    → HasNoNegativeCycle one
-none_negative-same one other same none u vs cost walk = none u vs cost (sym (walk-same one other same u vs u) ∙ walk)
 
 -- the arcs among some nodes of graphs with the same arcs are the same
 pub among-same : (test : ℕ → Bool) (one other : ℕ → ℕ → Option ℤ) → SameArcs one other

@@ -8,11 +8,6 @@ use Rattle.tn_market.specs.Equilibrium.{IsEquilibrium}
 use Rattle.tn_market.specs.Graph.{exchange_arc}
 use Rattle.tn_market.specs.Supported.{said_node}
 
--- some prices support the set of trades
-pub record IsSupported (firms : List Firm) (trades : List Ends) (on : ℕ) : Type 0 where
-  pub prices : ℕ → ℤ
-  pub equilibrium : IsEquilibrium firms trades (pos 1) on prices
-
 -- trade t has this price in some equilibrium at scale 1, whatever trades are on in it
 pub record IsPriceOf (firms : List Firm) (trades : List Ends) (t : ℕ) (price : ℤ) : Type 0 where
   pub on : ℕ

@@ -5,7 +5,7 @@ use Rattle.std.proofs.lemmas.Int.{ints, by_lt_z}
 use Rattle.std.proofs.lemmas.Bool.{cases_eq, eq-eqb, ne_eqb, lt-ltb, le-ltb}
 use Rattle.std.proofs.lemmas.Option.{none-some, same_Some}
 use Rattle.tn_base.specs.Firm.{Firm}
-use Rattle.tn_base.specs.Walks.{walk_cost, KeepsArcs, HasNoNegativeCycle}
+use Rattle.tn_base.specs.Walks.{walk_cost, KeepsArcs}
 use Rattle.tn_base.proofs.WalkLemmas.{walk-joined, both_are}
 use Rattle.tn_law.proofs.KeepLemmas.{option_map-some}
 use Rattle.tn_law.proofs.LabelLemmas.{walk-kept}
@@ -263,15 +263,6 @@ equilibrium_possible firms trades scale on prices equilibrium f firm is =
     let best = equilibrium f firm is in
     let worth = option_map-some _ (firm.worth (part trades f firm.count on)) best.0 best.1.is in
     subst IsSome (sym worth.1) refl
-
--- and no closed walk of the exchange graph is negative
-pub equilibrium_no_cycle : (firms : List Firm) (trades : List Ends) (on : ℕ) (prices : ℕ → ℤ) → IsNetwork firms trades
-    → IsEquilibrium firms trades (pos 1) on prices
-    → HasNoNegativeCycle (exchange_arc firms trades on)
-equilibrium_no_cycle firms trades on prices network equilibrium u vs cost walk =
-    let kept = walk-kept (exchange_arc firms trades on) (price_of_node (length trades) prices)
-    (arcs_from_supports firms trades on prices network equilibrium) u vs u cost walk in
-    omega (arith, ints, kept)
 
 module _ (firms : List Firm) (trades : List Ends) (on : ℕ) (prices : ℕ
     → ℤ) (network : IsNetwork firms trades) (meet : MeetExchange firms)
