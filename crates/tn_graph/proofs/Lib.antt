@@ -1,4 +1,9 @@
 -- The files of lemmas of this crate.
-pub mod MatrixLemmas
+pub mod CellLemmas
+pub mod EndLemmas
+pub mod RoomLemmas
+pub mod LayoutLemmas
+pub mod PlacedLemmas
 pub mod StandLemmas
 pub mod ReadingLemmas
+pub mod DetachLemmas

@@ -1,7 +1,7 @@
 -- How a graph comes to be the exchange graph, cost by cost and firm by firm.
 use Rattle.std.proofs.Common.{◌≡◌, ◌≢◌, ℕ, zero, suc, ◌+◌, ◌*◌, ◌^◌, get_or, ◌<◌, ◌≤◌, Bool, true, false, not, ◌==◌, ◌&&◌, ◌||◌, if◌then◌else◌, List, [], ◌∷◌, length, take, slice_get, Some, None, Option, option_map, refl, sym, ap, ap₂, ◌∙◌, subst, arith, inl, inr, ◌⊎◌, ℤ}
 use Rattle.std.specs.Prelude.{nat_lt, nat_le}
-use Rattle.std.proofs.lemmas.Bool.{cases_Bool, cases_eq, cases_lt, eqb-true, eq-eqb, ne_eqb, lt-ltb, le-ltb, or_cases, or_parts}
+use Rattle.std.proofs.lemmas.Bool.{cases_Bool, cases_eq, cases_lt, eqb-true, eq-eqb, ne_eqb, lt-ltb, le-ltb, or_parts}
 use Rattle.std.proofs.lemmas.Option.{same_Some, slice_get_within, slice_get_past, slice_get_cases}
 use Rattle.tn_base.specs.Sets.{has, toggle, size}
 use Rattle.tn_base.proofs.SetLemmas.{has-set_of, set_of_within, toggle_within}
@@ -14,20 +14,21 @@ use Rattle.tn_plain_data.specs.Network.{own, part, IsNetwork}
 use Rattle.tn_market.specs.Graph.{raised, lowered, raised_by, lowered_by, loss, exchange_arc, graph_worths}
 use Rattle.tn_market.specs.ArcPlaces.{node_at, AreArcPlaces, common_firm, arc_firm}
 use Rattle.tn_market.proofs.GraphLemmas.{node_at-trade, node_at-null, has-part, arc_at, move_of_arc, no_arc, same_firm}
-use Rattle.tn_graph.specs.Matrix.{Matrix, arcs_of}
-use Rattle.tn_graph.specs.MatrixLemmas.{arcs_of-between}
+use Rattle.tn_graph.specs.Blocks.{Blocks, arcs_of}
+use Rattle.tn_graph.specs.Layout.{IsLaidOut}
 use Rattle.tn_market.specs.Valued.{HasToggledWorths}
 use Rattle.tn_graph.specs.Reading.{IsRowRead, falling, IsWithoutArcs, IsWritten, IsExchangeGraph, Improves, IsStand, HasRow, HasArcsOf, is_toggled, AreForgotten, IsRightFor, IsUnchanged, changed_worths_from}
 
 -- ---- improvements
 
-pub improves-none : (arc : ℕ → ℕ → Option ℤ) (graph : Matrix) → Improves arc graph graph
-improves-none arc graph = record { nodes = refl; each = λ u v. inr refl }
+pub improves-none : (arc : ℕ → ℕ → Option ℤ) (graph : Blocks) → Improves arc graph graph
+improves-none arc graph = record { nodes = refl; places = refl; each = λ u v. inr refl }
 
-pub improves-trans : (arc : ℕ → ℕ → Option ℤ) (first second third : Matrix) → Improves arc first second
+pub improves-trans : (arc : ℕ → ℕ → Option ℤ) (first second third : Blocks) → Improves arc first second
     → Improves arc second third → Improves arc first third
 improves-trans arc first second third one two = record {
   nodes = two.nodes ∙ one.nodes;
+  places = two.places ∙ one.places;
   each = λ u v. elim (two.each u v) [
     | inl right ↦ inl right
     | inr same ↦ elim (one.each u v) [
@@ -38,16 +39,17 @@ improves-trans arc first second third one two = record {
 }
 
 -- what is right stays right
-pub stays_right : (arc : ℕ → ℕ → Option ℤ) (before after : Matrix) → Improves arc before after → (u v : ℕ)
+pub stays_right : (arc : ℕ → ℕ → Option ℤ) (before after : Blocks) → Improves arc before after → (u v : ℕ)
     → arcs_of before u v ≡ arc u v → arcs_of after u v ≡ arc u v
 stays_right arc before after improves u v right = elim (improves.each u v) [ inl now ↦ now | inr same ↦ same ∙ right ]
 
 -- a right cost that is written improves
-pub written_improves : (arc : ℕ → ℕ → Option ℤ) (before after : Matrix) (a b : ℕ) (cost : Option ℤ)
+pub written_improves : (arc : ℕ → ℕ → Option ℤ) (before after : Blocks) (a b : ℕ) (cost : Option ℤ)
     → IsWritten before a b cost after → cost ≡ arc a b
     → Improves arc before after
 written_improves arc before after a b cost written right = record {
   nodes = written.nodes;
+  places = written.places;
   each = λ u v. elim (cases_eq u a) [
     | inr d ↦ inr (written.elsewhere u v (λ e f. d e))
     | inl e ↦ elim (cases_eq v b) [
@@ -136,16 +138,16 @@ pub null_worth : (n x i raised : ℕ) → raised ≡ toggle_at n x i → raised 
 unfolding move
 null_worth n x i raised is = is ∙ sym (toggle_at-null n (toggle_at n x i) n (omega arith))
 
-pub row_start : (firms : List Firm) (trades : List Ends) (on f n : ℕ) (firm : Firm) (x i : ℕ) (graph : Matrix)
+pub row_start : (firms : List Firm) (trades : List Ends) (on f n : ℕ) (firm : Firm) (x i : ℕ) (graph : Blocks)
     → IsRowRead firms trades on f n firm x i graph 0 graph
 row_start firms trades on f n firm x i graph = record {
   improved = improves-none (exchange_arc firms trades on) graph;
   row = λ k h. absurd (omega (arith, h));
 }
 
-pub row_read : (firms : List Firm) (trades : List Ends) (on f n : ℕ) (firm : Firm) (x i : ℕ) (before : Matrix) (j : ℕ)
-    (graph : Matrix)
-    → IsRowRead firms trades on f n firm x i before j graph → (after : Matrix)
+pub row_read : (firms : List Firm) (trades : List Ends) (on f n : ℕ) (firm : Firm) (x i : ℕ) (before : Blocks) (j : ℕ)
+    (graph : Blocks)
+    → IsRowRead firms trades on f n firm x i before j graph → (after : Blocks)
     → Improves (exchange_arc firms trades on) graph after
     → arcs_of after (node_at trades f n i) (node_at trades f n j)
     ≡ exchange_arc firms trades on (node_at trades f n i) (node_at trades f n j)
@@ -160,8 +162,8 @@ row_read firms trades on f n firm x i before j graph read after improved right =
   ];
 }
 
-pub row_skipped : (firms : List Firm) (trades : List Ends) (on f n : ℕ) (firm : Firm) (x i : ℕ) (before : Matrix)
-    (j : ℕ) (graph : Matrix)
+pub row_skipped : (firms : List Firm) (trades : List Ends) (on f n : ℕ) (firm : Firm) (x i : ℕ) (before : Blocks)
+    (j : ℕ) (graph : Blocks)
     → IsRowRead firms trades on f n firm x i before j graph → (AreArcPlaces firm x i j → ⊥)
     → IsRowRead firms trades on f n firm x i before (j + 1) graph
 row_skipped firms trades on f n firm x i before j graph read none = record {
@@ -175,7 +177,7 @@ row_skipped firms trades on f n firm x i before j graph read none = record {
 -- the places of a row are the positions and null
 pub whole_row : (firms : List Firm) (trades : List Ends) (on f n : ℕ) (firm : Firm) (limit x : ℕ) (worth : ℤ)
     → IsStand firms trades on f n firm limit x worth
-    → (i : ℕ) (before graph : Matrix) → IsRowRead firms trades on f n firm x i before (n + 1) graph
+    → (i : ℕ) (before graph : Blocks) → IsRowRead firms trades on f n firm x i before (n + 1) graph
     → HasRow firms trades on f n firm x i graph
 whole_row firms trades on f n firm limit x worth stand i before graph read j places =
     let within = places.to_within in
@@ -212,13 +214,13 @@ falls_fewer buys x n falls i is below rises =
     omega (arith, more, most)
 
 -- the arcs of the rows before row i
-pub record AreRowsRead (firms : List Firm) (trades : List Ends) (on f n : ℕ) (firm : Firm) (x : ℕ) (before : Matrix)
-    (asked_before i : ℕ) (graph : Matrix) (asked : ℕ) : Type 0 where
+pub record AreRowsRead (firms : List Firm) (trades : List Ends) (on f n : ℕ) (firm : Firm) (x : ℕ) (before : Blocks)
+    (asked_before i : ℕ) (graph : Blocks) (asked : ℕ) : Type 0 where
   pub improved : Improves (exchange_arc firms trades on) before graph
   pub rows : (k : ℕ) → k < i → HasRow firms trades on f n firm x k graph
   pub asked_most : asked ≤ asked_before + i * n
 
-pub rows_start : (firms : List Firm) (trades : List Ends) (on f n : ℕ) (firm : Firm) (x : ℕ) (graph : Matrix)
+pub rows_start : (firms : List Firm) (trades : List Ends) (on f n : ℕ) (firm : Firm) (x : ℕ) (graph : Blocks)
     (asked : ℕ)
     → AreRowsRead firms trades on f n firm x graph asked 0 graph asked
 rows_start firms trades on f n firm x graph asked = record {
@@ -227,9 +229,9 @@ rows_start firms trades on f n firm x graph asked = record {
   asked_most = omega arith;
 }
 
-pub rows_read : (firms : List Firm) (trades : List Ends) (on f n : ℕ) (firm : Firm) (x : ℕ) (before : Matrix)
-    (asked_before i : ℕ) (graph : Matrix) (asked : ℕ)
-    → AreRowsRead firms trades on f n firm x before asked_before i graph asked → (after : Matrix) (asked_after : ℕ)
+pub rows_read : (firms : List Firm) (trades : List Ends) (on f n : ℕ) (firm : Firm) (x : ℕ) (before : Blocks)
+    (asked_before i : ℕ) (graph : Blocks) (asked : ℕ)
+    → AreRowsRead firms trades on f n firm x before asked_before i graph asked → (after : Blocks) (asked_after : ℕ)
     → Improves (exchange_arc firms trades on) graph after → HasRow firms trades on f n firm x i after
     → asked_after ≤ asked + n → AreRowsRead firms trades on f n firm x before asked_before (i + 1) after asked_after
 rows_read firms trades on f n firm x before asked_before i graph asked read after asked_after improved row counted =
@@ -244,8 +246,8 @@ rows_read firms trades on f n firm x before asked_before i graph asked read afte
       asked_most = omega (arith, most, counted);
     }
 
-pub rows_skipped : (firms : List Firm) (trades : List Ends) (on f n : ℕ) (firm : Firm) (x : ℕ) (before : Matrix)
-    (asked_before i : ℕ) (graph : Matrix) (asked : ℕ)
+pub rows_skipped : (firms : List Firm) (trades : List Ends) (on f n : ℕ) (firm : Firm) (x : ℕ) (before : Blocks)
+    (asked_before i : ℕ) (graph : Blocks) (asked : ℕ)
     → AreRowsRead firms trades on f n firm x before asked_before i graph asked → ((j : ℕ) → AreArcPlaces firm x i j → ⊥)
     → AreRowsRead firms trades on f n firm x before asked_before (i + 1) graph asked
 rows_skipped firms trades on f n firm x before asked_before i graph asked read none =
@@ -262,7 +264,7 @@ rows_skipped firms trades on f n firm x before asked_before i graph asked read n
 -- all rows are all arcs of the firm
 pub all_rows : (firms : List Firm) (trades : List Ends) (on f n : ℕ) (firm : Firm) (limit x : ℕ) (worth : ℤ)
     → IsStand firms trades on f n firm limit x worth
-    → (graph : Matrix) → ((k : ℕ) → k < n + 1 → HasRow firms trades on f n firm x k graph)
+    → (graph : Blocks) → ((k : ℕ) → k < n + 1 → HasRow firms trades on f n firm x k graph)
     → HasArcsOf firms trades on f graph
 all_rows firms trades on f n firm limit x worth stand graph rows u v is =
     let at = move_of_arc firms trades stand.network on u v f is in
@@ -284,12 +286,13 @@ all_rows firms trades on f n firm limit x worth stand graph rows u v is =
 
 -- with the arcs of one firm more
 pub right_more : (firms : List Firm) (trades : List Ends) (on : ℕ) (done more : ℕ
-    → Type 0) (f : ℕ) (before after : Matrix) → IsRightFor firms trades on done before
+    → Type 0) (f : ℕ) (before after : Blocks) → IsRightFor firms trades on done before
     → Improves (exchange_arc firms trades on) before after → HasArcsOf firms trades on f after
     → ((g : ℕ) → more g → (g ≡ f) ⊎ done g)
     → IsRightFor firms trades on more after
 right_more firms trades on done more f before after right improved arcs split = record {
   nodes = improved.nodes ∙ right.nodes;
+  laid_out = subst (IsLaidOut trades (has on)) (sym improved.places) right.laid_out;
   right = λ u v all. by_case u v (arc_firm trades on u v) refl all;
 }
   where
@@ -305,20 +308,22 @@ right_more firms trades on done more f before after right improved arcs split = 
           let same : g ≡ k = same_Some g k (sym some ∙ is) in subst done same d))
     ]
 
-pub right_same : (firms : List Firm) (trades : List Ends) (on : ℕ) (done more : ℕ → Type 0) (graph : Matrix)
+pub right_same : (firms : List Firm) (trades : List Ends) (on : ℕ) (done more : ℕ → Type 0) (graph : Blocks)
     → IsRightFor firms trades on done graph
     → ((g : ℕ) → more g → done g) → IsRightFor firms trades on more graph
 right_same firms trades on done more graph right weaker = record {
   nodes = right.nodes;
+  laid_out = right.laid_out;
   right = λ u v all. right.right u v (λ f is. weaker f (all f is));
 }
 
 -- a graph without arcs is right for no firm
-pub right_without : (firms : List Firm) (trades : List Ends) (on : ℕ) (done : ℕ → Type 0) (graph : Matrix)
-    → IsWithoutArcs (length trades + 1) graph
+pub right_without : (firms : List Firm) (trades : List Ends) (on : ℕ) (done : ℕ → Type 0) (graph : Blocks)
+    → IsWithoutArcs (length trades + 1) graph → IsLaidOut trades (has on) graph.places
     → ((g : ℕ) → done g → ⊥) → IsRightFor firms trades on done graph
-right_without firms trades on done graph without never = record {
+right_without firms trades on done graph without laid_out never = record {
   nodes = without.nodes;
+  laid_out = laid_out;
   right = λ u v all. by_case u v (arc_firm trades on u v) refl all;
 }
   where
@@ -329,11 +334,12 @@ right_without firms trades on done graph without never = record {
     by_case u v (Some g) some all = absurd (never g (all g some))
 
 -- right for all firms, it is the exchange graph
-pub right_all : (firms : List Firm) (trades : List Ends) (on : ℕ) (done : ℕ → Type 0) (graph : Matrix)
+pub right_all : (firms : List Firm) (trades : List Ends) (on : ℕ) (done : ℕ → Type 0) (graph : Blocks)
     → IsNetwork firms trades → IsRightFor firms trades on done graph
     → ((g : ℕ) → g < length firms → done g) → IsExchangeGraph firms trades on graph
 right_all firms trades on done graph network right all = record {
   nodes = right.nodes;
+  laid_out = right.laid_out;
   arcs = λ u v. right.right u v (λ f is.
       let at = move_of_arc firms trades network on u v f is in
       all f (slice_get_within firms f at.firm at.is));
@@ -341,7 +347,7 @@ right_all firms trades on done graph network right all = record {
 
 -- ---- what is forgotten
 
-pub forgotten_none : (cut : ℕ → Bool) (graph : Matrix) → ((k : ℕ) → cut k ≡ false) → AreForgotten cut graph graph
+pub forgotten_none : (cut : ℕ → Bool) (graph : Blocks) → ((k : ℕ) → cut k ≡ false) → AreForgotten cut graph graph
 forgotten_none cut graph never = record {
   nodes = refl;
   gone = λ u v is. absurd (let off : (cut u || cut v) ≡ false = ap₂ (λ (a b : Bool). a || b) (never u) (never v) in
@@ -350,7 +356,7 @@ forgotten_none cut graph never = record {
 }
 
 -- with one node more
-pub forgotten_more : (cut more : ℕ → Bool) (t : ℕ) (first second third : Matrix) → AreForgotten cut first second
+pub forgotten_more : (cut more : ℕ → Bool) (t : ℕ) (first second third : Blocks) → AreForgotten cut first second
     → AreForgotten (λ k. k == t) second third
     → ((k : ℕ) → more k ≡ (cut k || (k == t))) → AreForgotten more first third
 forgotten_more cut more t first second third one two split = record {
@@ -392,7 +398,7 @@ forgotten_more cut more t first second third one two split = record {
         ap₂ (λ (a b : Bool). a || b) (ap₂ (λ (a b : Bool). a || b) a_is p_is)
         (ap₂ (λ (a b : Bool). a || b) b_is q_is) in cc (e, off))
 
-pub forgotten_same : (cut more : ℕ → Bool) (first second : Matrix) → AreForgotten cut first second
+pub forgotten_same : (cut more : ℕ → Bool) (first second : Blocks) → AreForgotten cut first second
     → ((k : ℕ) → more k ≡ cut k) → AreForgotten more first second
 forgotten_same cut more first second one same = record {
   nodes = one.nodes;
@@ -400,83 +406,10 @@ forgotten_same cut more first second one same = record {
   kept = λ u v is. one.kept u v (sym (ap₂ (λ (a b : Bool). a || b) (same u) (same v)) ∙ is);
 }
 
--- the arcs of node t with the nodes before u are gone, and those without t stay
-pub record IsCutOff (t u : ℕ) (before graph : Matrix) : Type 0 where
-  pub nodes : graph.nodes ≡ before.nodes
-  pub out : (v : ℕ) → v < u → arcs_of graph t v ≡ None
-  pub into : (v : ℕ) → v < u → arcs_of graph v t ≡ None
-  pub kept : (v w : ℕ) → v ≢ t → w ≢ t → arcs_of graph v w ≡ arcs_of before v w
-
-pub cut_start : (t : ℕ) (graph : Matrix) → IsCutOff t 0 graph graph
-cut_start t graph = record {
-  nodes = refl;
-  out = λ v h. absurd (omega (arith, h));
-  into = λ v h. absurd (omega (arith, h));
-  kept = λ v w p q. refl;
-}
-
--- what is none stays none where none is written
-stays_none : (before after : Matrix) (a b : ℕ) → IsWritten before a b None after → (u v : ℕ) → arcs_of before u v ≡ None
-    → arcs_of after u v ≡ None
-stays_none before after a b written u v none = elim (cases_eq u a) [
-  | inr d ↦ written.elsewhere u v (λ e f. d e) ∙ none
-  | inl e ↦ elim (cases_eq v b) [
-    | inr d ↦ written.elsewhere u v (λ f g. d g) ∙ none
-    | inl f ↦ ap₂ (arcs_of after) e f ∙ written.here
-  ]
-]
-
-pub cut_more : (t u : ℕ) (before graph middle after : Matrix) → IsCutOff t u before graph
-    → IsWritten graph t u None middle → IsWritten middle u t None after
-    → IsCutOff t (u + 1) before after
-cut_more t u before graph middle after cut first second = record {
-  nodes = second.nodes ∙ first.nodes ∙ cut.nodes;
-  out = λ v h. stays_none middle after u t second t v (elim (cases_eq v u) [
-    | inl e ↦ ap (arcs_of middle t) e ∙ first.here
-    | inr d ↦ stays_none graph middle t u first t v (cut.out v (omega (arith, h, d)))
-  ]);
-  into = λ v h. elim (cases_eq v u) [
-    | inl e ↦ ap (λ (k : ℕ). arcs_of after k t) e ∙ second.here
-    | inr d ↦ stays_none middle after u t second v t (stays_none graph middle t u first v t
-        (cut.into v (omega (arith, h, d))))
-  ];
-  kept = λ v w p q. second.elsewhere v w (λ e f. q f) ∙ first.elsewhere v w (λ e f. p e) ∙ cut.kept v w p q;
-}
-
--- past its nodes a graph has no arc
-beyond : (graph : Matrix) (u v : ℕ) → (graph.nodes ≤ u) ⊎ (graph.nodes ≤ v) → arcs_of graph u v ≡ None
-beyond graph u v far = by_case (arcs_of graph u v) refl
-  where
-    by_case : (o : Option ℤ) → arcs_of graph u v ≡ o → o ≡ None
-    by_case None is = refl
-    by_case (Some cost) is =
-        let within = arcs_of-between graph u v cost is in
-        elim far [ inl p ↦ absurd (omega (arith, p, within.0)) | inr q ↦ absurd (omega (arith, q, within.1)) ]
-
-pub cut_all : (t u : ℕ) (before graph : Matrix) → IsCutOff t u before graph → before.nodes ≤ u
-    → AreForgotten (λ k. k == t) before graph
-cut_all t u before graph cut all = record {
-  nodes = cut.nodes;
-  gone = λ v w is. elim (or_cases (v == t) (w == t) is) [
-    | inl e ↦ ap (λ (k : ℕ). arcs_of graph k w) (eqb-true v t e) ∙ elim (cases_lt w u) [
-      | inl p ↦ cut.out w p
-      | inr p ↦ beyond graph t w (inr (let n = cut.nodes in omega (arith, p, all, n)))
-    ]
-    | inr e ↦ ap (arcs_of graph v) (eqb-true w t e) ∙ elim (cases_lt v u) [
-      | inl p ↦ cut.into v p
-      | inr p ↦ beyond graph v t (inl (let n = cut.nodes in omega (arith, p, all, n)))
-    ]
-  ];
-  kept = λ v w is.
-      let parts = or_parts (v == t) (w == t) is in
-      cut.kept v w (λ e. let does = eq-eqb v t e in absurd (cc (does, parts.0))) (λ e. let does = eq-eqb w t e in
-      absurd (cc (does, parts.1)));
-}
-
 -- ---- the toggled trades
 
 -- whether a trade is in one of the sets alone
-abbrev differs : ℕ → ℕ → ℕ → Bool
+abbrev pub differs : ℕ → ℕ → ℕ → Bool
 differs before on t = if has before t then not (has on t) else has on t
 
 -- the test of the code
@@ -505,7 +438,7 @@ same_from_differs before on t off = by_case (has before t) (has on t) off
     by_case false true e = absurd (cc e)
     by_case false false e = refl
 
-below_same : (k t : ℕ) → k ≢ t → nat_lt k (t + 1) ≡ nat_lt k t
+pub below_same : (k t : ℕ) → k ≢ t → nat_lt k (t + 1) ≡ nat_lt k t
 below_same k t apart = elim (cases_lt k t) [
   | inl p ↦ lt-ltb k (t + 1) (omega (arith, p)) ∙ sym (lt-ltb k t p)
   | inr p ↦ le-ltb k (t + 1) (omega (arith, p, apart)) ∙ sym (le-ltb k t p)
@@ -603,12 +536,13 @@ same_arc firms trades network before on f firm is i j same places =
 
 -- once the toggled trades are forgotten, the graph is right for the firms whose bundles are the same
 pub right_kept : (firms : List Firm) (trades : List Ends) → IsNetwork firms trades
-    → (before on : ℕ) (graph after : Matrix) → IsExchangeGraph firms trades before graph
-    → AreForgotten (is_toggled (length trades) before on) graph after → (done : ℕ → Type 0)
-    → ((g : ℕ) → done g → IsUnchanged firms trades before on g)
+    → (before on : ℕ) (graph after : Blocks) → IsExchangeGraph firms trades before graph
+    → AreForgotten (is_toggled (length trades) before on) graph after → IsLaidOut trades (has on) after.places
+    → (done : ℕ → Type 0) → ((g : ℕ) → done g → IsUnchanged firms trades before on g)
     → IsRightFor firms trades on done after
-right_kept firms trades network before on graph after exchange forgotten done unchanged = record {
+right_kept firms trades network before on graph after exchange forgotten laid_out done unchanged = record {
   nodes = forgotten.nodes ∙ exchange.nodes;
+  laid_out = laid_out;
   right = λ u v all. by_firm u v (arc_firm trades on u v) refl all;
 }
   where

@@ -1,4 +1,5 @@
 -- The files of definitions of this crate.
-pub mod Matrix
-pub mod MatrixLemmas
+pub mod Blocks
+pub mod BlockLemmas
+pub mod Layout
 pub mod Reading

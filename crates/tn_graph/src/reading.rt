@@ -1,15 +1,17 @@
 //! The reading of costs from worths: arc by arc, firm by firm, and the whole graph.
 
 ghost use Rattle.std.specs.Prelude.{◌≡◌, ℕ, ◌+◌, ◌*◌, ◌≤◌, ◌<◌, ◌==◌, Some, length, map, slice_get};
+ghost use Rattle.tn_base.specs.Sets.{has};
 ghost use Rattle.tn_base.specs.Widths.{most_cost};
 ghost use Rattle.tn_law.specs.Places.{level, toggle_at, move, CanRise};
 ghost use Rattle.tn_plain_data.specs.Network.{IsNetwork};
 ghost use Rattle.tn_market.specs.ArcPlaces.{node_at, AreArcPlaces};
 ghost use Rattle.tn_market.specs.Graph.{exchange_arc, graph_worths, ArePossible};
 ghost use Rattle.tn_market.specs.NetworkOf.{network_of};
-ghost use Rattle.tn_graph.specs.Matrix.{arcs_of};
 ghost use Rattle.tn_market.specs.Valued.{HasToggledWorths};
-ghost use Rattle.tn_graph.specs.Reading.{AreForgotten, HasArcsOf, HasRow, Improves, IsExchangeGraph, IsRowRead, IsStand, changed_worths, falling, is_toggled};
+ghost use Rattle.tn_graph.specs.Blocks.{arcs_of};
+ghost use Rattle.tn_graph.specs.Layout.{IsLaidOut, IsTurned};
+ghost use Rattle.tn_graph.specs.Reading.{AreForgotten, HasArcsOf, HasRow, Improves, IsCut, IsExchangeGraph, IsRowRead, IsStand, changed_worths, falling, is_toggled};
 
 use crate::graph::Graph;
 use crate::stand::Stand;
@@ -25,6 +27,7 @@ impl<V: Valuation, const W: usize> Stand<'_, V, W> {
         requires stand { network_of V.firm self.now.market.now IsStand self.now.on.now self.now.f self.now.count
             (V.firm self.now.firm.now) (V.limit self.now.firm.now) self.now.bundle self.now.worth }
         requires sized { graph.old.nodes ≡ length self.now.market.now.trades + 1 }
+        requires laid_out { IsLaidOut self.now.market.now.trades (has self.now.on.now) graph.old.places }
         requires places { AreArcPlaces (V.firm self.now.firm.now) self.now.bundle i j }
         requires worth { worth ≡ (V.firm self.now.firm.now).worth (move self.now.count self.now.bundle i j) }
         ensures improved { Improves (network_of V.firm self.now.market.now exchange_arc self.now.on.now) graph.old
@@ -43,6 +46,7 @@ impl<V: Valuation, const W: usize> Stand<'_, V, W> {
         requires stand { network_of V.firm self.now.market.now IsStand self.now.on.now self.now.f self.now.count
             (V.firm self.now.firm.now) (V.limit self.now.firm.now) self.now.bundle self.now.worth }
         requires sized { graph.old.nodes ≡ length self.now.market.now.trades + 1 }
+        requires laid_out { IsLaidOut self.now.market.now.trades (has self.now.on.now) graph.old.places }
         requires place { i ≤ self.now.count }
         requires rises { CanRise self.now.count (level self.now.count (V.firm self.now.firm.now).buys self.now.bundle) i }
         requires falls { falls ≡ falling (V.firm self.now.firm.now).buys self.now.bundle self.now.count }
@@ -71,6 +75,7 @@ impl<V: Valuation, const W: usize> Stand<'_, V, W> {
         requires stand { network_of V.firm self.now.market.now IsStand self.now.on.now self.now.f self.now.count
             (V.firm self.now.firm.now) (V.limit self.now.firm.now) self.now.bundle self.now.worth }
         requires sized { graph.old.nodes ≡ length self.now.market.now.trades + 1 }
+        requires laid_out { IsLaidOut self.now.market.now.trades (has self.now.on.now) graph.old.places }
         requires place { i ≤ self.now.count }
         requires rises { CanRise self.now.count (level self.now.count (V.firm self.now.firm.now).buys self.now.bundle) i }
         requires falls { falls ≡ falling (V.firm self.now.firm.now).buys self.now.bundle self.now.count }
@@ -95,6 +100,7 @@ impl<V: Valuation, const W: usize> Stand<'_, V, W> {
         requires stand { network_of V.firm self.now.market.now IsStand self.now.on.now self.now.f self.now.count
             (V.firm self.now.firm.now) (V.limit self.now.firm.now) self.now.bundle self.now.worth }
         requires sized { graph.old.nodes ≡ length self.now.market.now.trades + 1 }
+        requires laid_out { IsLaidOut self.now.market.now.trades (has self.now.on.now) graph.old.places }
         ensures improved { Improves (network_of V.firm self.now.market.now exchange_arc self.now.on.now) graph.old
             graph.new }
         ensures arcs { network_of V.firm self.now.market.now HasArcsOf self.now.on.now self.now.f graph.new }
@@ -122,6 +128,7 @@ impl Graph {
         requires wide { length market.now.trades ≤ 64 * W }
         requires network { network_of V.firm market.now IsNetwork }
         requires sized { self.old.nodes ≡ length market.now.trades + 1 }
+        requires laid_out { IsLaidOut market.now.trades (has on.now) self.old.places }
         requires firm { f < length market.now.firms }
         requires possible { network_of V.firm market.now ArePossible on.now }
         requires small { (g : ℕ) (v : V) → slice_get market.now.firms g ≡ Some v → 2 * V.limit v ≤ most_cost }
@@ -162,30 +169,52 @@ impl Graph {
         ensures graph { network_of V.firm market.now IsExchangeGraph on.now self.new }
         ensures asked { steps.new ≤ steps.old + graph_worths (map V.firm market.now.firms) }
     {
-        self.clear();
+        self.lay_out(market, on);
         for f in 0..market.firms() {
             self.read(market, f, on, steps);
         }
     }
 
-    /// Takes the arcs from and to a node away.
-    fn detach(&mut self, t: u32)
+    /// Takes the arcs from a node away, or those to it.
+    fn cut(&mut self, rises: bool, t: u32)
         requires { t < self.old.nodes }
-        ensures { AreForgotten (λ k. k == t) self.old self.new }
+        ensures { IsCut rises t self.old self.new }
     {
-        for u in 0..self.size() {
-            self.set(t, u, None);
-            self.set(u, t, None);
+        for k in 0..self.listed(rises, t) {
+            let u = self.listed_at(rises, t, k);
+            if rises {
+                self.set(t, u, None);
+            } else {
+                self.set(u, t, None);
+            }
         }
     }
 
-    /// Takes the arcs from and to each trade away that is in one of the two sets alone.
-    fn forget<const W: usize>(&mut self, trades: u32, before: &TradeSet<W>, on: &TradeSet<W>)
-        requires wide { trades ≤ 64 * W }
-        requires sized { self.old.nodes ≡ trades + 1 }
-        ensures { AreForgotten (is_toggled trades before.now on.now) self.old self.new }
+    /// Lets a trade change its two firms, without arcs from and to it.
+    fn detach(&mut self, t: u32)
+        requires { t < self.old.nodes }
+        ensures forgotten { AreForgotten (λ k. k == t) self.old self.new }
+        ensures turned { IsTurned t self.old.places self.new.places }
     {
-        for t in 0..trades {
+        self.turn(t);
+        self.cut(true, t);
+        self.cut(false, t);
+    }
+
+    /// Detaches each trade that is in one of the two sets alone.
+    fn forget<V: Valuation, const W: usize>(
+        &mut self,
+        market: &Market<V>,
+        before: &TradeSet<W>,
+        on: &TradeSet<W>,
+    )
+        requires wide { length market.now.trades ≤ 64 * W }
+        requires sized { self.old.nodes ≡ length market.now.trades + 1 }
+        requires laid_out { IsLaidOut market.now.trades (has before.now) self.old.places }
+        ensures forgotten { AreForgotten (is_toggled (length market.now.trades) before.now on.now) self.old self.new }
+        ensures laid_out { IsLaidOut market.now.trades (has on.now) self.new.places }
+    {
+        for t in 0..market.trades() {
             if before.has(t) != on.has(t) {
                 self.detach(t);
             }
@@ -209,7 +238,7 @@ impl Graph {
         ensures graph { network_of V.firm market.now IsExchangeGraph on.now self.new }
         ensures asked { steps.new ≤ steps.old + network_of V.firm market.now changed_worths before.now on.now }
     {
-        self.forget(market.trades(), before, on);
+        self.forget(market, before, on);
         for f in 0..market.firms() {
             if market.bundle_of(f, before) != market.bundle_of(f, on) {
                 self.read(market, f, on, steps);

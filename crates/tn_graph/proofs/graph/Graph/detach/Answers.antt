@@ -1,9 +1,8 @@
--- What shows the clauses of `Graph::detach` of `src/graph.rt`.
-use Rattle.std.proofs.Common.{arith}
-use Rattle.tn_graph.proofs.ReadingLemmas.{cut_all}
+-- What shows the clauses of `Graph::detach` of `src/reading.rt`.
+use Rattle.tn_graph.proofs.DetachLemmas.{detached}
 use Rattle.tn_graph.proofs.graph.Graph.detach.Goals as goal
 
-pub returns : goal.returns
-returns c =
-    cut_all c.args.t c.loop-u.u c.args.self.now c.loop-u.self c.loop-u.invariant
-    (let past = c.loop-u-test.false in let counted = c.size-u-end.ensures in omega (arith, past, counted))
+pub returns-clause-forgotten : goal.returns-clause-forgotten
+returns-clause-forgotten c =
+    detached c.args.t c.args.self.now c.turn.new.self c.cut.new.self c.cut-2.new.self c.turn.ensures.nodes
+    c.turn.ensures.cells c.turn.ensures.turned c.cut.ensures c.cut-2.ensures

@@ -10,8 +10,9 @@ use Rattle.tn_graph.proofs.graph.Graph.fill.Goals as goal
 pub loop-f-init : goal.loop-f-init
 loop-f-init g c = record {
   right = right_without (map g.V.Valuation.firm c.args.market.now.firms) c.args.market.now.trades c.args.on.now (λ k. k
-      < 0) c.clear.new.self
-      (subst (λ (n : ℕ). IsWithoutArcs n c.clear.new.self) c.requires.sized c.clear.ensures)
+      < 0) c.lay_out.new.self
+      (subst (λ (n : ℕ). IsWithoutArcs n c.lay_out.new.self) c.requires.sized c.lay_out.ensures.without)
+      c.lay_out.ensures.laid_out
       (λ k h. absurd (omega (arith, h)));
   asked = omega arith;
 }

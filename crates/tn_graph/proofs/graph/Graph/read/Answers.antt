@@ -31,4 +31,4 @@ read_arcs-requires g c =
       within = (g.met.V.Valuation.lawful c.firm-firm.result.now).within;
       small = c.requires.small c.args.f c.firm-firm.result.now is;
     } in
-    (lit< tt, (simp to_z-of_z stand, c.requires.sized))
+    (lit< tt, (simp to_z-of_z stand, (c.requires.sized, c.requires.laid_out)))

@@ -3,8 +3,8 @@ use Rattle.std.proofs.Common.{arith, ap, subst, sym, ◌∙◌, ◌+◌, ◌*◌
 use Rattle.std.proofs.lemmas.Bool.{cases_eq}
 use Rattle.std.proofs.lemmas.List.{length-map}
 use Rattle.std.proofs.lemmas.Option.{slice_get-map}
-use Rattle.tn_graph.specs.Matrix.{Matrix}
-use Rattle.tn_graph.specs.Reading.{AreForgotten, IsRightFor, IsUnchanged, is_toggled}
+use Rattle.tn_graph.specs.Blocks.{Blocks}
+use Rattle.tn_graph.specs.Reading.{IsRightFor, IsUnchanged}
 use Rattle.tn_graph.proofs.ReadingLemmas.{right_kept, right_more, right_same, right_all, some_item, AreBundles, changed_step, asked_where_differs, unchanged_where_equal}
 use Rattle.tn_graph.proofs.graph.Graph.refresh.Goals as goal
 use Rattle.tn_graph.proofs.graph.Graph.refresh.Goals.{then-ne, else-ne}
@@ -14,10 +14,9 @@ loop-f-init g c =
     let firms = map g.V.Valuation.firm c.args.market.now.firms in
     record {
       right = right_kept (map g.V.Valuation.firm c.args.market.now.firms) c.args.market.now.trades
-          c.trades.ensures.network c.args.before.now c.args.on.now
+          c.firms-f-end.ensures.network c.args.before.now c.args.on.now
           c.args.self.now c.forget.new.self c.requires.graph
-          (subst (λ (n : ℕ). AreForgotten (is_toggled n c.args.before.now c.args.on.now) c.args.self.now
-          c.forget.new.self) c.trades.ensures.count c.forget.ensures)
+          c.forget.ensures.forgotten c.forget.ensures.laid_out
           (λ k. (k < 0)
           ⊎ IsUnchanged (map g.V.Valuation.firm c.args.market.now.firms) c.args.market.now.trades c.args.before.now
           c.args.on.now k)
@@ -44,7 +43,7 @@ loop-f-preserved g c =
     c.args.on.now k in
     elim c.if-ne.branch [
       | then-ne w ↦ record {
-        right = subst (λ (graph : Matrix). IsRightFor (map g.V.Valuation.firm c.args.market.now.firms)
+        right = subst (λ (graph : Blocks). IsRightFor (map g.V.Valuation.firm c.args.market.now.firms)
             c.args.market.now.trades c.args.on.now (done (c.loop-f.f + 1)) graph) (sym w.self-is)
             (right_more (map g.V.Valuation.firm c.args.market.now.firms) c.args.market.now.trades c.args.on.now
             (done c.loop-f.f) (done (c.loop-f.f + 1))
@@ -65,7 +64,7 @@ loop-f-preserved g c =
             (w.read.ensures.asked item.0 item.1)));
       }
       | else-ne w ↦ record {
-        right = subst (λ (graph : Matrix). IsRightFor (map g.V.Valuation.firm c.args.market.now.firms)
+        right = subst (λ (graph : Blocks). IsRightFor (map g.V.Valuation.firm c.args.market.now.firms)
             c.args.market.now.trades c.args.on.now (done (c.loop-f.f + 1)) graph) (sym w.self-is)
             (right_same (map g.V.Valuation.firm c.args.market.now.firms) c.args.market.now.trades c.args.on.now
             (done c.loop-f.f) (done (c.loop-f.f + 1)) c.loop-f.self

@@ -1,28 +1,28 @@
 -- What shows the clauses of `Graph::set` of `src/graph.rt`.
-use Rattle.std.proofs.Common.{rules, ap, sym, ◌∙◌, subst, ◌<◌, ◌+◌, ◌*◌}
-use Rattle.std.specs.Prelude.{set}
+use Rattle.std.proofs.Common.{rules, ap, sym, ◌∙◌, subst, Some, None, ◌≡◌, ◌<◌, length, to_z, of_z, Option, ℕ}
+use Rattle.std.specs.Prelude.{set, IfSome}
 use Rattle.std.proofs.lemmas.Int.{to_z-of_z}
 use mir.Syntax.{w64}
-use mir.Val.{SFits, to_z, of_z}
-use Rattle.tn_graph.specs.Matrix.{cost_at, Matrix}
-use Rattle.tn_graph.specs.Reading.{IsWritten}
-use Rattle.tn_graph.proofs.MatrixLemmas.{one_written}
+use mir.Val.{SFits}
+use Rattle.tn_graph.specs.Blocks.{Blocks, cost_at, place_of}
+use Rattle.tn_graph.proofs.CellLemmas.{one_written, none_written, no_cost}
 use Rattle.tn_graph.proofs.graph.Graph.set.Goals as goal
 
-pub returns : goal.returns
-returns c =
+pub returns-in-Some : goal.returns-in-Some
+returns-in-Some c =
     let seen = c.self.view_is in
     let number : SFits w64 c.packed.result = search rules in
-    let a_inside : c.args.a < c.self.inside.nodes =
-    subst (λ (m : Matrix). c.args.a < m.nodes) (sym seen) c.requires.from in
-    let b_inside : c.args.b < c.self.inside.nodes = subst (λ (m : Matrix). c.args.b < m.nodes) (sym seen) c.requires.to
-    in
-    let is = ap cost_at (to_z-of_z w64 c.packed.result number) ∙ c.packed.ensures in
-    subst (λ (m : Matrix). IsWritten m c.args.a c.args.b c.args.cost
-    (record {
-      nodes = c.self.inside.nodes;
-      cells =
-          set c.self.inside.cells.items (c.args.a * c.self.inside.nodes + c.args.b) (to_z w64 (of_z w64 c.packed.result));
-    })) seen
-    (one_written c.self.inside.nodes c.self.inside.cells.items c.args.a c.args.b (to_z w64 (of_z w64 c.packed.result))
-    c.args.cost c.self.invariant a_inside b_inside is)
+    let is : Some c.in-Some.place ≡ place_of c.args.self.now.nodes c.args.self.now.places c.args.a c.args.b =
+    sym c.in-Some.is ∙ c.place.ensures.place in
+    one_written c.args.self.now _ c.args.a c.args.b c.in-Some.place (to_z w64 (of_z w64 c.packed.result)) c.args.cost
+    (ap (λ (m : Blocks). m.nodes) seen) (ap (λ (m : Blocks). m.places) seen)
+    (ap (λ (m : Blocks). set m.cells c.in-Some.place (to_z w64 (of_z w64 c.packed.result))) seen)
+    (sym is) (subst (λ (o : Option ℕ). IfSome o (λ place. place < length c.args.self.now.cells)) c.in-Some.is
+    c.place.ensures.inside)
+    (ap cost_at (to_z-of_z w64 c.packed.result number) ∙ c.packed.ensures)
+
+pub returns-in_default : goal.returns-in_default
+returns-in_default c =
+    let none : place_of c.args.self.now.nodes c.args.self.now.places c.args.a c.args.b ≡ None =
+    sym c.place.ensures.place ∙ c.in_default.is in
+    none_written c.args.self.now c.args.a c.args.b c.args.cost none (no_cost c.args.cost _ none c.requires.placed)

@@ -1,5 +1,7 @@
 -- What shows the clauses of `Stand::read_row` of `src/stand.rt`.
-use Rattle.std.proofs.Common.{◌∙◌, ◌≡◌, ◌<◌, ◌+◌, ◌^◌, ℕ, ap, length, subst, arith, lit<}
+use Rattle.std.proofs.Common.{sym, ◌∙◌, ◌≡◌, ◌<◌, ◌+◌, ◌^◌, ℕ, ap, length, subst, arith, lit<}
+use Rattle.tn_base.specs.Sets.{has}
+use Rattle.tn_graph.specs.Layout.{IsLaidOut}
 use Rattle.tn_market.specs.Valued.{HasToggledWorths}
 use Rattle.tn_graph.proofs.ReadingLemmas.{improves-trans, row_read, row_skipped, whole_row, null_is_place, null_no_place, null_worth, falls_own, falls_few, falls_fewer}
 use Rattle.tn_graph.proofs.stand.Stand.read_row.Goals as goal
@@ -26,7 +28,13 @@ write_row-requires g c =
         c.requires.stand,
         (
           c.requires.sized,
-          (c.requires.place, (c.requires.rises, (c.requires.falls, (omega (arith, room, c.row.auto.worths), worths)))),
+          (
+            c.requires.laid_out,
+            (
+              c.requires.place,
+              (c.requires.rises, (c.requires.falls, (omega (arith, room, c.row.auto.worths), worths))),
+            ),
+          ),
         ),
       ),
     )
@@ -39,7 +47,9 @@ write_arc-requires g c =
     let places = null_is_place _ _ _ _ _ _ _ _ _ c.requires.stand c.args.i c.if-i-self.true c.requires.rises in
     let moved = null_worth c.args.self.now.count c.args.self.now.bundle c.args.i c.raised-raised.result
     c.raised-raised.ensures.raised in
-    (lit< tt, (c.requires.stand, (sized, (places, c.value-worth.ensures.worth ∙ ap worth_of moved))))
+    let laid_out = subst (IsLaidOut c.args.self.now.market.now.trades (has c.args.self.now.on.now))
+    (sym c.write_row.ensures.improved.places) c.requires.laid_out in
+    (lit< tt, (c.requires.stand, (sized, (laid_out, (places, c.value-worth.ensures.worth ∙ ap worth_of moved)))))
 
 pub returns-then-i-self-clause-improved : goal.returns-then-i-self-clause-improved
 returns-then-i-self-clause-improved g c =

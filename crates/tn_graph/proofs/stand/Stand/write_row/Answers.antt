@@ -1,7 +1,8 @@
 -- What shows the clauses of `Stand::write_row` of `src/stand.rt`.
 use Rattle.std.proofs.Common.{sym, ◌∙◌, ◌≡◌, ◌+◌, ℕ, true, false, map, length, subst, arith, lit<}
 use Rattle.tn_base.specs.Sets.{has}
-use Rattle.tn_graph.specs.Matrix.{Matrix}
+use Rattle.tn_graph.specs.Blocks.{Blocks}
+use Rattle.tn_graph.specs.Layout.{IsLaidOut}
 use Rattle.tn_graph.specs.Reading.{IsRowRead}
 use Rattle.tn_graph.proofs.ReadingLemmas.{row_start, row_read, row_skipped, fall_is_place, no_fall_no_place, row_worth}
 use Rattle.tn_graph.proofs.stand.Stand.write_row.Goals as goal
@@ -22,12 +23,14 @@ write_arc-requires g c =
     let worth = row_worth c.args.self.now.count c.args.self.now.bundle c.args.i c.loop-j.j c.args.falls
     (g.V.Valuation.firm c.args.self.now.firm.now).worth c.args.worths.now
     c.requires.worths below member in
-    (lit< tt, (c.requires.stand, (sized, (places, worth))))
+    let laid_out = subst (IsLaidOut c.args.self.now.market.now.trades (has c.args.self.now.on.now))
+    (sym c.loop-j.invariant.improved.places) c.requires.laid_out in
+    (lit< tt, (c.requires.stand, (sized, (laid_out, (places, worth)))))
 
 pub loop-j-preserved : goal.loop-j-preserved
 loop-j-preserved g c = elim c.if-has.branch [
   | then-has w ↦
-      subst (λ (graph : Matrix). IsRowRead (map g.V.Valuation.firm c.args.self.now.market.now.firms)
+      subst (λ (graph : Blocks). IsRowRead (map g.V.Valuation.firm c.args.self.now.market.now.firms)
       c.args.self.now.market.now.trades c.args.self.now.on.now c.args.self.now.f
       c.args.self.now.count (g.V.Valuation.firm c.args.self.now.firm.now) c.args.self.now.bundle c.args.i
       c.args.graph.now (c.loop-j.j + 1) graph) (sym w.graph-is)
@@ -35,7 +38,7 @@ loop-j-preserved g c = elim c.if-has.branch [
       w.write_arc.ensures.improved w.write_arc.ensures.arc)
   | else-has w ↦
       let absent : has c.args.falls c.loop-j.j ≡ false = sym c.has.ensures ∙ w.if-has.false in
-      subst (λ (graph : Matrix). IsRowRead (map g.V.Valuation.firm c.args.self.now.market.now.firms)
+      subst (λ (graph : Blocks). IsRowRead (map g.V.Valuation.firm c.args.self.now.market.now.firms)
       c.args.self.now.market.now.trades c.args.self.now.on.now c.args.self.now.f
       c.args.self.now.count (g.V.Valuation.firm c.args.self.now.firm.now) c.args.self.now.bundle c.args.i
       c.args.graph.now (c.loop-j.j + 1) graph) (sym w.graph-is)
