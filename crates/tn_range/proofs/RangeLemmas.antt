@@ -16,8 +16,8 @@ use Rattle.tn_market.specs.Equilibrium.{IsEquilibrium}
 use Rattle.tn_market.specs.Graph.{exchange_arc}
 use Rattle.tn_market.specs.Ranges.{IsPath, ShowsHighest, ShowsLowest, IsRange, AreRanges}
 use Rattle.tn_market.specs.Widths.{most_market_trades}
-use Rattle.tn_graph.specs.Matrix.{Matrix, arcs_of}
-use Rattle.tn_graph.specs.MatrixLemmas.{arcs_of-between, arcs_of-small}
+use Rattle.tn_graph.specs.Blocks.{Blocks, arcs_of}
+use Rattle.tn_graph.specs.BlockLemmas.{arcs_of-between, arcs_of-small}
 use Rattle.tn_graph.specs.Reading.{IsExchangeGraph}
 use Rattle.tn_cycle.specs.Reading.{Reading}
 use Rattle.tn_cycle.specs.Answers.{AreNear, IsLeastPath, LeadsLeast, distance_in, label_in, walk_in}
@@ -50,7 +50,7 @@ pub record AreFound (firms : List Firm) (trades : List Ends) (on : ℕ) (from_nu
   pub to_walks : (t : ℕ) → t < length trades
       → LeadsLeast (exchange_arc firms trades on) t (length trades) (walk_in to_null t) (distance_in to_null t)
 
-pub found : (firms : List Firm) (trades : List Ends) (on from_nodes to_nodes null : ℕ) (graph : Matrix)
+pub found : (firms : List Firm) (trades : List Ends) (on from_nodes to_nodes null : ℕ) (graph : Blocks)
     (from_null to_null : Reading) → IsExchangeGraph firms trades on graph → from_nodes ≡ length trades + 1
     → to_nodes ≡ length trades + 1 → null ≡ length trades
     → ((v : ℕ) → v < from_nodes → LeadsLeast (arcs_of graph) null v (walk_in from_null v) (distance_in from_null v))
@@ -85,7 +85,7 @@ next_price t prices before price inside had is v = elim (cases_eq v t) [
 ]
 
 -- prices that support the set keep the arcs of the graph, with 0 for the null node
-pub prices_keep : (firms : List Firm) (trades : List Ends) (on count : ℕ) (prices labels : List ℤ) (graph : Matrix)
+pub prices_keep : (firms : List Firm) (trades : List Ends) (on count : ℕ) (prices labels : List ℤ) (graph : Blocks)
     → IsNetwork firms trades → IsEquilibrium firms trades (pos 1) on (price_at prices)
     → IsExchangeGraph firms trades on graph → count ≡ length trades
     → ((v : ℕ) → label_in labels v ≡ price_of_node count (price_at prices) v)
@@ -113,7 +113,7 @@ prices_near count reach prices labels counted small are v inside =
     ])
 
 -- the costs of least walks to null are small
-pub costs_small : (graph : Matrix) (nodes null trades : ℕ) (to_null : Reading) → graph.nodes ≡ trades + 1
+pub costs_small : (graph : Blocks) (nodes null trades : ℕ) (to_null : Reading) → graph.nodes ≡ trades + 1
     → nodes ≡ trades + 1 → trades ≤ most_market_trades
     → ((v : ℕ) → v < nodes → LeadsLeast (arcs_of graph) v null (walk_in to_null v) (distance_in to_null v)) → (t : ℕ)
     → t < trades → IfSome (distance_in to_null t) (λ cost. IsAtMost cost most_read)

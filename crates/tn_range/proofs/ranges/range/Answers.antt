@@ -4,7 +4,7 @@ use Rattle.std.proofs.lemmas.Result.{IfOk-weaker}
 use Rattle.tn_base.specs.Walks.{KeepsArcs}
 use Rattle.tn_cycle.specs.Answers.{AreNear, label_in}
 use Rattle.tn_cycle.specs.Widths.{most_label}
-use Rattle.tn_graph.specs.Matrix.{arcs_of}
+use Rattle.tn_graph.specs.Blocks.{arcs_of}
 use Rattle.tn_plain_data.specs.Prices.{price_at}
 use Rattle.tn_network.proofs.EachLemmas.{meet_all}
 use Rattle.tn_network.proofs.BoundLemmas.{equilibrium_possible}
@@ -27,6 +27,11 @@ fill-requires g c = (
     ),
   ),
 )
+
+pub least_from-requires-clause-near : goal.least_from-requires-clause-near
+least_from-requires-clause-near g c = prices_near c.trades-trades.result most_label c.args.prices.now
+    c.label_by_prices.new.finder.labels (c.requires.supported.one_each ∙ sym c.trades-trades.ensures.count)
+    c.requires.near c.label_by_prices.ensures.prices
 
 pub least_from-requires-clause-keeps : goal.least_from-requires-clause-keeps
 least_from-requires-clause-keeps g c =
