@@ -14,7 +14,7 @@ use Rattle.tn_plain_data.specs.declared.ends.Ends.{Ends}
 use Rattle.tn_plain_data.specs.Network.{part, IsNetwork}
 use Rattle.tn_market.specs.Graph.{exchange_arc, graph_worths, ArePossible}
 use Rattle.tn_market.specs.Widths.{most_market_trades}
-use Rattle.tn_graph.specs.Matrix.{Matrix, arcs_of}
+use Rattle.tn_graph.specs.Blocks.{Blocks, arcs_of}
 use Rattle.tn_graph.specs.Reading.{changed_worths_from}
 use Rattle.tn_cycle.specs.Reading.{Reading}
 use Rattle.tn_cycle.specs.Answers.{AnswersCycle, AreLabels, AreNear, cost_of, label_in}
@@ -82,7 +82,7 @@ pub last_node : (nodes count : ℕ) → nodes ≡ count + 1 → nodes - 1 ≡ co
 last_node nodes count e = omega (arith, e)
 
 -- what the search asks for
-pub search_asks : (firms : List Firm) (trades : List Ends) (graph : Matrix) (finder : Reading) (allowed on null : ℕ)
+pub search_asks : (firms : List Firm) (trades : List Ends) (graph : Blocks) (finder : Reading) (allowed on null : ℕ)
     → AreUnderWay firms trades graph finder allowed on → null ≡ length trades
     → KeepsArcs (arcs_among (is_admitted null allowed) (arcs_of graph)) (label_in finder.labels)
 search_asks firms trades graph finder allowed on null way same =
@@ -92,7 +92,7 @@ search_asks firms trades graph finder allowed on null way same =
     way.arcs.arcs) (label_in finder.labels) way.labels.keeps)
 
 -- what it answers, with the labels that it leaves
-pub search_answers : (firms : List Firm) (trades : List Ends) (graph : Matrix) (finder : Reading) (allowed on t : ℕ)
+pub search_answers : (firms : List Firm) (trades : List Ends) (graph : Blocks) (finder : Reading) (allowed on t : ℕ)
     (after : Reading) (answer : Path) → IsNetwork firms trades → MeetExchange firms
     → AreUnderWay firms trades graph finder allowed on → t < length trades → has allowed t ≡ false
     → AnswersCycle (arcs_among (is_looked_at (finder.nodes - 1) t allowed) (arcs_of graph)) t after.listed answer
@@ -162,7 +162,7 @@ changed_le trades before on f (firm ∷ firms) =
 -- ---- labels
 
 -- the arcs among the admitted trades and null
-admitted_same : (firms : List Firm) (trades : List Ends) (graph : Matrix) (finder : Reading) (allowed on : ℕ)
+admitted_same : (firms : List Firm) (trades : List Ends) (graph : Blocks) (finder : Reading) (allowed on : ℕ)
     → AreUnderWay firms trades graph finder allowed on
     → SameArcs (arcs_among (is_admitted (length trades) allowed) (exchange_arc firms trades on))
     (arcs_among (is_admitted (length trades) allowed) (arcs_of graph))
@@ -170,7 +170,7 @@ admitted_same firms trades graph finder allowed on way u v =
     sym (among-same (is_admitted (length trades) allowed) (arcs_of graph) (exchange_arc firms trades on) way.arcs.arcs u
     v)
 
-pub settled_labels : (firms : List Firm) (trades : List Ends) (graph : Matrix) (finder : Reading) (allowed on count : ℕ)
+pub settled_labels : (firms : List Firm) (trades : List Ends) (graph : Blocks) (finder : Reading) (allowed on count : ℕ)
     (labels : List ℤ) → AreUnderWay firms trades graph finder allowed on → count ≡ length trades
     → AreLabels finder.nodes (arcs_among (is_admitted count allowed) (arcs_of graph)) labels
     → AreLabels (length trades + 1) (arcs_among (is_admitted (length trades) allowed) (exchange_arc firms trades on))

@@ -13,8 +13,8 @@ use Rattle.tn_market.specs.Valued.{IsWorthAtMost}
 use Rattle.tn_market.specs.Widths.{most_market_trades}
 use Rattle.tn_market.specs.Graph.{exchange_arc}
 use Rattle.tn_market.specs.Admitted.{admitted}
-use Rattle.tn_graph.specs.Matrix.{Matrix}
-use Rattle.tn_graph.specs.MatrixLemmas.{arcs_of-small}
+use Rattle.tn_graph.specs.Blocks.{Blocks}
+use Rattle.tn_graph.specs.BlockLemmas.{arcs_of-small}
 use Rattle.tn_cycle.specs.Reading.{Reading}
 use Rattle.tn_cycle.specs.Answers.{AreLabels, label_in}
 use Rattle.tn_cycle.specs.GraphLemmas.{small-arcs_among}
@@ -35,7 +35,7 @@ small_bound limit count small = let e : 2 * limit * (count + 1) ≡ 2 * limit * 
     omega (arith, small, e)
 
 -- the labels of a graph are small
-pub labels_small : (firms : List Firm) (trades : List Ends) (graph : Matrix) (finder : Reading) (allowed on : ℕ)
+pub labels_small : (firms : List Firm) (trades : List Ends) (graph : Blocks) (finder : Reading) (allowed on : ℕ)
     (labels : List ℤ) → AreUnderWay firms trades graph finder allowed on → length trades ≤ most_market_trades
     → AreLabels (length trades + 1) (arcs_among (is_admitted (length trades) allowed) (exchange_arc firms trades on))
     labels → (t : ℕ) → t < length labels → IsAtMost (label_in labels t) most_read
@@ -48,7 +48,7 @@ labels_small firms trades graph finder allowed on labels way few are =
 -- ---- prices
 
 -- what the rounds come to is a solution
-pub solution_from : (firms : List Firm) (trades : List Ends) (graph : Matrix) (finder : Reading) (allowed wanted on : ℕ)
+pub solution_from : (firms : List Firm) (trades : List Ends) (graph : Blocks) (finder : Reading) (allowed wanted on : ℕ)
     (labels prices : List ℤ) → IsNetwork firms trades → MeetExchange firms
     → AreUnderWay firms trades graph finder allowed on → allowed ≡ wanted
     → KeepsArcs (arcs_among (is_admitted (length trades) allowed) (exchange_arc firms trades on)) (label_in labels)
