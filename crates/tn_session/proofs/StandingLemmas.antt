@@ -14,7 +14,7 @@ use Rattle.tn_plain_data.specs.Network.{IsNetwork}
 use Rattle.tn_market.specs.Lawful.{IsLawful}
 use Rattle.tn_market.specs.Valued.{IsWorthAtMost}
 use Rattle.tn_plain_data.specs.Prices.{price_at}
-use Rattle.tn_graph.specs.Matrix.{Matrix}
+use Rattle.tn_graph.specs.Blocks.{Blocks}
 use Rattle.tn_cycle.specs.Reading.{Reading}
 use Rattle.tn_cycle.specs.Answers.{AreLabels, AreNear, label_in}
 use Rattle.tn_base.specs.Walks.{arcs_among, is_admitted}
@@ -149,7 +149,7 @@ settled firm_of limit_of market allowed on labels laws are = record {
 }
 
 pub holds : {V : Type 0} (firm_of : V → Firm) (limit_of : V
-    → ℕ) (market : Traded V) (graph : Matrix) (finder : Reading) (allowed on : ℕ) → HasLaws firm_of limit_of market
+    → ℕ) (market : Traded V) (graph : Blocks) (finder : Reading) (allowed on : ℕ) → HasLaws firm_of limit_of market
     → AreUnderWay (map firm_of market.firms) market.trades graph finder allowed on
     → HoldsEquilibrium firm_of (standing_of market allowed on finder.labels)
 holds firm_of limit_of market graph finder allowed on laws way =
@@ -206,7 +206,7 @@ without allowed t after e there = ap (λ (x : ℕ). has x t) e ∙ has-toggle_sa
 
 -- a session in which a trade is barred that is off
 pub barred_off : {V : Type 0} (firm_of : V → Firm) (limit_of : V
-    → ℕ) (width : ℕ) (market : Traded V) (graph : Matrix) (finder : Reading) (allowed on t after : ℕ)
+    → ℕ) (width : ℕ) (market : Traded V) (graph : Blocks) (finder : Reading) (allowed on t after : ℕ)
     → IsSession firm_of limit_of width market graph finder allowed on → after ≡ toggle allowed t → has allowed t ≡ true
     → has on t ≡ false → IsSession firm_of limit_of width market graph finder after on
 barred_off firm_of limit_of width market graph finder allowed on t after session e there off = record {
