@@ -16,7 +16,7 @@ use Rattle.tn_market.specs.Signed.{is_signed}
 use Rattle.tn_market.specs.Signed.{Completes}
 use Rattle.tn_market.specs.Reduced.{reduced_firms, reduced_arc}
 use Rattle.tn_cycle.specs.Answers.{IsNegative}
-use Rattle.tn_graph.specs.Matrix.{Matrix, arcs_of}
+use Rattle.tn_graph.specs.Blocks.{Blocks, arcs_of}
 use Rattle.tn_graph.specs.Reading.{IsExchangeGraph}
 use Rattle.tn_outcome.specs.Rational.{IsRationalOutcome}
 use Rattle.tn_outcome.specs.Laws.{completed}
@@ -190,7 +190,7 @@ is_blocking firms trades over contracts left listed cost count cycle solution ro
 
 -- ---- as the code has it
 
-pub round_of : (firms : List Firm) (trades : List Ends) (over : ℤ) (contracts : List Contract) (graph : Matrix)
+pub round_of : (firms : List Firm) (trades : List Ends) (over : ℤ) (contracts : List Contract) (graph : Blocks)
     → IsExchangeGraph (reduced_firms trades over contracts firms) trades 0 graph → (null : ℕ) → null ≡ length trades
     → IsRationalOutcome firms trades over contracts → (left : ℕ) → HasCycle firms trades over contracts left
     → (listed : List ℕ) (count : ℕ)

@@ -8,7 +8,7 @@ use Rattle.std.proofs.lemmas.Option.{same_Some, slice_get-map, slice_get_within,
 use Rattle.tn_base.specs.Arcs.{IsAtMost, AreSmall}
 use Rattle.tn_base.specs.Widths.{most_cost}
 use Rattle.tn_chain.specs.Limits.{most_reduced_cost}
-use Rattle.tn_base.specs.Sets.{meet}
+use Rattle.tn_base.specs.Sets.{has, meet}
 use Rattle.tn_base.specs.Firm.{Firm}
 use Rattle.tn_plain_data.specs.declared.ends.Ends.{Ends}
 use Rattle.tn_plain_data.specs.declared.contract.Contract.{Contract}
@@ -18,8 +18,9 @@ use Rattle.tn_market.specs.Limits.{IsOutcomeOf}
 use Rattle.tn_market.specs.Signed.{is_signed, signed_price, signed_bundle}
 use Rattle.tn_market.specs.Reduced.{reduced, reduced_firms, reduced_arc}
 use Rattle.tn_market.proofs.GraphLemmas.{arc_within}
-use Rattle.tn_graph.specs.Matrix.{Matrix, arcs_of}
-use Rattle.tn_graph.specs.MatrixLemmas.{arcs_of-between}
+use Rattle.tn_graph.specs.Blocks.{Blocks, arcs_of}
+use Rattle.tn_graph.specs.BlockLemmas.{arcs_of-between}
+use Rattle.tn_graph.specs.Layout.{IsLaidOut}
 use Rattle.tn_graph.specs.Reading.{IsWithoutArcs, IsWritten, IsExchangeGraph}
 use Rattle.tn_residual.specs.Held.{contract_price}
 use Rattle.tn_outcome.proofs.CompletionLemmas.{reduced_is}
@@ -194,7 +195,7 @@ cost_small arc small u v None is = tt
 cost_small arc small u v (Some c) is = let h = small u v c (sym is) in
     record { low = omega (arith, ints, h.low); high = omega (arith, ints, h.high) }
 
-pub none_written : (arc : ℕ → ℕ → Option ℤ) (nodes : ℕ) (graph : Matrix) → IsWithoutArcs nodes graph
+pub none_written : (arc : ℕ → ℕ → Option ℤ) (nodes : ℕ) (graph : Blocks) → IsWithoutArcs nodes graph
     → AreWritten arc nodes 0 0 graph
 none_written arc nodes graph empty = record {
   nodes_are = empty.nodes;
@@ -205,7 +206,7 @@ none_written arc nodes graph empty = record {
   ];
 }
 
-pub one_written : (arc : ℕ → ℕ → Option ℤ) (nodes u v : ℕ) (before after : Matrix) (cost : Option ℤ)
+pub one_written : (arc : ℕ → ℕ → Option ℤ) (nodes u v : ℕ) (before after : Blocks) (cost : Option ℤ)
     → AreWritten arc nodes u v before → IsWritten before u v cost after → cost ≡ arc u v
     → AreWritten arc nodes u (v + 1) after
 one_written arc nodes u v before after cost written one right = record {
@@ -220,7 +221,7 @@ one_written arc nodes u v before after cost written one right = record {
   ];
 }
 
-pub row_written : (arc : ℕ → ℕ → Option ℤ) (nodes u v : ℕ) (graph : Matrix) → AreWritten arc nodes u v graph → nodes ≤ v
+pub row_written : (arc : ℕ → ℕ → Option ℤ) (nodes u v : ℕ) (graph : Blocks) → AreWritten arc nodes u v graph → nodes ≤ v
     → AreWritten arc nodes (u + 1) 0 graph
 row_written arc nodes u v graph written past = record {
   nodes_are = written.nodes_are;
@@ -234,11 +235,12 @@ row_written arc nodes u v graph written past = record {
 }
 
 -- where all rows are written, the graph is the exchange graph
-pub all_written : (firms : List Firm) (trades : List Ends) (on u : ℕ) (graph : Matrix)
+pub all_written : (firms : List Firm) (trades : List Ends) (on u : ℕ) (graph : Blocks)
     → AreWritten (exchange_arc firms trades on) (length trades + 1) u 0 graph → length trades + 1 ≤ u
-    → IsExchangeGraph firms trades on graph
-all_written firms trades on u graph written past = record {
+    → IsLaidOut trades (has on) graph.places → IsExchangeGraph firms trades on graph
+all_written firms trades on u graph written past laid_out = record {
   nodes = written.nodes_are;
+  laid_out = laid_out;
   arcs = λ a b. elim (cases_lt a (length trades + 1)) [
     | inr above ↦
         by_none a b (λ c is. (let p = (arcs_of-between graph a b c is).0 in let n = written.nodes_are in
@@ -264,6 +266,6 @@ all_written firms trades on u graph written past = record {
         by (Some c) p f h = absurd (f c refl)
         by None (Some c) f h = absurd (h c refl)
 
-pub small_graph : (arc : ℕ → ℕ → Option ℤ) (limit : ℕ) (graph : Matrix) → AreSmall arc limit
+pub small_graph : (arc : ℕ → ℕ → Option ℤ) (limit : ℕ) (graph : Blocks) → AreSmall arc limit
     → ((u v : ℕ) → arcs_of graph u v ≡ arc u v) → AreSmall (arcs_of graph) limit
 small_graph arc limit graph small arcs u v cost is = small u v cost (sym (arcs u v) ∙ is)

@@ -18,7 +18,7 @@ use Rattle.tn_market.specs.Signed.{is_signed}
 use Rattle.tn_market.specs.Reduced.{reduced_firms, reduced_arc}
 use Rattle.tn_cycle.specs.Answers.{IsNegative}
 use Rattle.tn_flow.specs.Solved.{Solution}
-use Rattle.tn_graph.specs.Matrix.{Matrix, arcs_of}
+use Rattle.tn_graph.specs.Blocks.{Blocks, arcs_of}
 use Rattle.tn_graph.specs.Reading.{IsExchangeGraph}
 use Rattle.tn_outcome.specs.Rational.{IsRationalOutcome}
 use Rattle.tn_residual.specs.Residual.{number_from, unsigned, unsigned_part}
@@ -176,7 +176,7 @@ pub record IsRound (firms : List Firm) (trades : List Ends) (over : ℤ) (contra
   pub solved : IsSolvedAmong firms trades over contracts cycle solution
 
 -- the graph that was read has the same cycle
-pub found_in_graph : (firms : List Firm) (trades : List Ends) (over : ℤ) (contracts : List Contract) (graph : Matrix)
+pub found_in_graph : (firms : List Firm) (trades : List Ends) (over : ℤ) (contracts : List Contract) (graph : Blocks)
     → IsExchangeGraph (reduced_firms trades over contracts firms) trades 0 graph
     → (left : ℕ) (listed : List ℕ) (cost : ℤ) (count : ℕ)
     → IsNegative (length trades + 1) (arcs_among (is_admitted (length trades) left) (arcs_of graph)) listed cost
@@ -200,7 +200,7 @@ found_in_graph firms trades over contracts graph is left listed cost count found
 }
 
 -- and no numbers keep it
-pub broken_in_graph : (firms : List Firm) (trades : List Ends) (over : ℤ) (contracts : List Contract) (graph : Matrix)
+pub broken_in_graph : (firms : List Firm) (trades : List Ends) (over : ℤ) (contracts : List Contract) (graph : Blocks)
     → IsExchangeGraph (reduced_firms trades over contracts firms) trades 0 graph
     → (left : ℕ) → HasCycle firms trades over contracts left → (label : ℕ → ℤ)
     → KeepsArcs (arcs_among (is_admitted (length trades) left) (arcs_of graph)) label → ⊥

@@ -7,7 +7,7 @@ ghost use Rattle.tn_chain.specs.Limits.{most_judged_trades};
 ghost use Rattle.tn_chain.specs.Listed.{HasNodes};
 ghost use Rattle.tn_chain.specs.Search.{HasCycle, IsBlockingChain, IsResidual, IsSolvedAmong, chain_scale};
 ghost use Rattle.tn_cycle.specs.Answers.{IsNegative};
-ghost use Rattle.tn_graph.specs.Matrix.{arcs_of};
+ghost use Rattle.tn_graph.specs.Blocks.{arcs_of};
 ghost use Rattle.tn_graph.specs.Reading.{IsExchangeGraph};
 ghost use Rattle.tn_plain_data.specs.Choices.{IsIndividuallyRational};
 ghost use Rattle.tn_market.specs.Limits.{IsOutcomeOf, IsWithinLimits};

@@ -2,10 +2,11 @@
 
 ghost use Rattle.std.specs.Prelude.{◌≡◌, ℕ, ◌+◌, ◌*◌, ◌^◌, ◌≤◌, ◌<◌, IfOk, IfSome, Some, length, map, slice_get, slice_index_or};
 ghost use Rattle.tn_base.specs.Arcs.{AreSmall};
-ghost use Rattle.tn_base.specs.Sets.{meet};
+ghost use Rattle.tn_base.specs.Sets.{has, meet};
 ghost use Rattle.tn_chain.specs.Limits.{most_reduced_cost};
 ghost use Rattle.tn_chain.specs.Moves.{AreKeptWorths, AreWritten, move_between};
-ghost use Rattle.tn_graph.specs.Matrix.{arcs_of};
+ghost use Rattle.tn_graph.specs.Blocks.{arcs_of};
+ghost use Rattle.tn_graph.specs.Layout.{IsLaidOut};
 ghost use Rattle.tn_graph.specs.Reading.{IsExchangeGraph};
 ghost use Rattle.tn_market.specs.Limits.{IsOutcomeOf, IsWithinLimits};
 ghost use Rattle.tn_market.specs.Graph.{loss};
@@ -15,7 +16,7 @@ ghost use Rattle.tn_market.specs.Signed.{signed_bundle};
 ghost use Rattle.tn_market.specs.NetworkOf.{network_of};
 
 use std::alloc::Global;
-use tn_base::{Bundle, OutOfMemory};
+use tn_base::{Bundle, OutOfMemory, TradeSet};
 use tn_graph::Graph;
 use tn_market::{Ends, Market, Oracle, Outcome, Room, Valuation};
 use tn_residual::{contract_price, reduced_best};
@@ -160,9 +161,11 @@ fn write_row<V: Oracle>(
     requires outcome { IsOutcomeOf market.now.trades outcome.now.over outcome.now.contracts }
     requires kept { network_of V.firm market.now AreKeptWorths outcome.now.over outcome.now.contracts kept.now }
     requires from { u ≤ length market.now.trades }
+    requires laid_out { IsLaidOut market.now.trades (has 0) graph.old.places }
     requires written { AreWritten (network_of V.firm market.now reduced_arc outcome.now.over outcome.now.contracts)
         (length market.now.trades + 1) u 0 graph.old }
-    ensures { AreWritten (network_of V.firm market.now reduced_arc outcome.now.over outcome.now.contracts)
+    ensures laid_out { IsLaidOut market.now.trades (has 0) graph.new.places }
+    ensures written { AreWritten (network_of V.firm market.now reduced_arc outcome.now.over outcome.now.contracts)
         (length market.now.trades + 1) (u + 1) 0 graph.new }
 {
     for v in 0..market.trades() + 1 {
@@ -188,6 +191,7 @@ pub fn reduced_graph<V: Oracle>(
 {
     let nodes = market.trades() + 1;
     let mut graph = Graph::new(alloc, nodes)?;
+    graph.lay_out(market, &TradeSet::<32>::empty());
     let mut room = Room::new(alloc)?;
     let kept = kept_worths(alloc, market, outcome, &mut room)?;
     for u in 0..nodes {

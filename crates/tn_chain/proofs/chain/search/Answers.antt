@@ -4,7 +4,7 @@ use Rattle.std.proofs.lemmas.Result.{IfOk-weaker}
 use Rattle.tn_residual.specs.Residual.{unsigned, unsigned_part}
 use Rattle.tn_base.specs.Sets.{size}
 use Rattle.tn_base.specs.Walks.{arcs_among, is_admitted, KeepsArcs}
-use Rattle.tn_graph.specs.Matrix.{arcs_of}
+use Rattle.tn_graph.specs.Blocks.{arcs_of}
 use Rattle.tn_chain.specs.Listed.{IsBegin, AreAtNodes}
 use Rattle.tn_chain.specs.Search.{HasCycle, IsBlockingChain}
 use Rattle.tn_chain.proofs.SearchLemmas.{broken_in_graph, still_cycle, less_left}
