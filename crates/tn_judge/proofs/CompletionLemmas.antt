@@ -11,7 +11,7 @@ use Rattle.tn_base.specs.Walks.{KeepsArcs}
 use Rattle.tn_law.proofs.KeepLemmas.{option_map-some}
 use Rattle.tn_law.proofs.LabelLemmas.{walk-kept}
 use Rattle.tn_cycle.specs.Answers.{label_in, AreLabels, IsNegative}
-use Rattle.tn_graph.specs.Matrix.{Matrix, arcs_of}
+use Rattle.tn_graph.specs.Blocks.{Blocks, arcs_of}
 use Rattle.tn_graph.specs.Reading.{IsExchangeGraph}
 use Rattle.tn_plain_data.specs.declared.ends.Ends.{Ends}
 use Rattle.tn_plain_data.specs.declared.contract.Contract.{Contract}
@@ -126,7 +126,7 @@ pub can_be_fixed : {V : Type 0} (firm_of : V → Firm) (limit_of : V
     → ℕ) (market : Traded V) (over : ℤ) (contracts : List Contract) → IsNetwork (map firm_of market.firms) market.trades
     → ((v : V) → IsWorthAtMost (limit_of v) (firm_of v)) → IsWithinLimits firm_of limit_of market
     → IsOutcomeOf market.trades over contracts
-    → (on : ℕ) (graph : Matrix) → IsExchangeGraph (map firm_of market.firms) market.trades on graph → (null : ℕ)
+    → (on : ℕ) (graph : Blocks) → IsExchangeGraph (map firm_of market.firms) market.trades on graph → (null : ℕ)
     → null ≡ length market.trades
     → (prices : List (Option ℤ)) → ArePriced contracts (null + 1) prices → CanBeFixed graph over null prices
 can_be_fixed firm_of limit_of market over contracts network within limits outcome on graph is null null_is prices
@@ -194,7 +194,7 @@ keeps_lowered high arc label keeps u v cost is =
     falls lu lv hu hv cost kept = omega (arith, ints, kept)
 
 -- the graph that is read is the fixed one before nodes are raised
-same_fixed : (firms : List Firm) (trades : List Ends) (over : ℤ) (contracts : List Contract) (graph : Matrix)
+same_fixed : (firms : List Firm) (trades : List Ends) (over : ℤ) (contracts : List Contract) (graph : Blocks)
     → IsExchangeGraph firms trades (signed (length trades) contracts) graph
     → (null : ℕ) → null ≡ length trades → (prices : List (Option ℤ)) → ArePriced contracts (null + 1) prices
     → (u v : ℕ) → fixed_at over (price_in prices) null (arcs_of graph) u v ≡ fixed_arc firms trades over contracts u v
@@ -207,7 +207,7 @@ same_fixed firms trades over contracts graph is null null_is prices priced u v =
 -- ---- labels
 
 -- labels of the fixed graph are small
-pub labels_small : (nodes : ℕ) (graph : Matrix) (over : ℤ) (null : ℕ) (prices : List (Option ℤ)) (labels : List ℤ)
+pub labels_small : (nodes : ℕ) (graph : Blocks) (over : ℤ) (null : ℕ) (prices : List (Option ℤ)) (labels : List ℤ)
     → nodes ≤ most_trades + 1 → CanBeFixed graph over null prices
     → AreLabels nodes (raised_fixed over prices null (arcs_of graph)) labels → (v : ℕ) → v < length labels
     → IsAtMost (label_in labels v) most_fixed_label
@@ -220,7 +220,7 @@ labels_small nodes graph over null prices labels few fits are v below =
 
 pub labels_complete : (firms : List Firm) (trades : List Ends) (over : ℤ) (contracts : List Contract)
     → IsPossibleOutcome firms trades over contracts → All (λ contract. IsAtMost contract.price most_numerator) contracts
-    → (graph : Matrix) → IsExchangeGraph firms trades (signed (length trades) contracts) graph → (null : ℕ)
+    → (graph : Blocks) → IsExchangeGraph firms trades (signed (length trades) contracts) graph → (null : ℕ)
     → null ≡ length trades
     → (prices : List (Option ℤ)) → ArePriced contracts (null + 1) prices → (labels : List ℤ)
     → KeepsArcs (raised_fixed over prices null (arcs_of graph)) (label_in labels)
@@ -296,7 +296,7 @@ labels_complete firms trades over contracts outcome small_contracts graph is nul
         (small null (omega (arith, labelled, null_is)))
 
 pub cycle_incomplete : (firms : List Firm) (trades : List Ends) (over : ℤ) (contracts : List Contract)
-    → IsPossibleOutcome firms trades over contracts → (graph : Matrix)
+    → IsPossibleOutcome firms trades over contracts → (graph : Blocks)
     → IsExchangeGraph firms trades (signed (length trades) contracts) graph → (null : ℕ) → null ≡ length trades
     → (prices : List (Option ℤ)) → ArePriced contracts (null + 1) prices
     → (nodes : ℕ) (listed : List ℕ) (cost : ℤ) (count : ℕ)

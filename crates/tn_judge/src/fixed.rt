@@ -3,7 +3,7 @@
 ghost use Rattle.std.specs.Prelude.{◌≡◌, ◌+◌, ◌*◌, ◌≤◌, ◌<◌, ◌+ℤ◌, ◌-ℤ◌, ◌*ℤ◌, ◌≤ℤ◌, pos, neg_ℤ, Option, IfSome, option_map, slice_index_or};
 ghost use Rattle.tn_base.specs.ArcLemmas.{lists_all_predecessors, lists_all_successors};
 ghost use Rattle.tn_base.specs.Arcs.{IsAtMost};
-ghost use Rattle.tn_graph.specs.Matrix.{arcs_of};
+ghost use Rattle.tn_graph.specs.Blocks.{arcs_of};
 ghost use Rattle.tn_judge.specs.Fixing.{CanBeFixed, height, price_in, raised_fixed};
 ghost use Rattle.tn_judge.specs.FixingLemmas.{raised_between, raised_within};
 ghost use Rattle.tn_judge.specs.Limits.{most_exchange_cost};

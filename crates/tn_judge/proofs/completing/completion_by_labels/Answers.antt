@@ -3,7 +3,7 @@ use Rattle.std.proofs.Common.{rules, ◌≡◌, ◌+◌, ℤ, length, map, sym, 
 use Rattle.std.proofs.lemmas.Int.{to_z-of_z}
 use mir.Syntax.{w128}
 use mir.Val.{SFits}
-use Rattle.tn_graph.specs.Matrix.{arcs_of}
+use Rattle.tn_graph.specs.Blocks.{arcs_of}
 use Rattle.tn_cycle.specs.Answers.{AreLabels, IsNegative}
 use Rattle.tn_market.specs.Signed.{signed}
 use Rattle.tn_outcome.proofs.SignedLemmas.{signed_within}
