@@ -1,9 +1,9 @@
 -- What shows the clauses of `replay_cycle` of `src/cycles.rt`.
-use Rattle.std.proofs.Common.{rules, arith, ℕ, sym, ap, ◌∙◌, subst, map, length, Ok, Err}
+use Rattle.std.proofs.Common.{rules, arith, ◌≡◌, ℕ, sym, ap, ◌∙◌, subst, map, length, Ok, Err}
 use Rattle.std.proofs.lemmas.Int.{ints, to_z-of_z}
 use mir.Syntax.{w128}
-use mir.Val.{SFits, of_z}
-use Rattle.tn_graph.specs.Matrix.{arcs_of}
+use mir.Val.{to_z, SFits, of_z}
+use Rattle.tn_graph.specs.Blocks.{arcs_of}
 use Rattle.tn_market.specs.Graph.{exchange_arc}
 use Rattle.tn_cert.specs.Claims.{GoesRound, node_of}
 use Rattle.tn_cert.specs.Replays.{Rounds}
@@ -37,4 +37,21 @@ returns g c =
         | else-actual-lt0-via-else-actual-lt0 w ↦ (λ low same. let high = w.if-actual-lt0.false in
             absurd (omega (arith, ints, high, low)))
       ],
+    )
+
+pub returns-then-actual-cost : goal.returns-then-actual-cost
+returns-then-actual-cost g c =
+    let arc = exchange_arc (map g.V.Valuation.firm c.args.market.now.firms) c.args.market.now.trades c.args.on.now in
+    let nodes = map (node_of (length c.args.market.now.trades)) c.args.nodes.now in
+    let fits : SFits w128 c.in-Ok.actual = search rules in
+    let asked : SFits w128 c.args.cost = search rules in
+    let same : c.in-Ok.actual ≡ c.args.cost = sym (to_z-of_z w128 c.in-Ok.actual fits)
+    ∙ ap (to_z w128) c.if-actual-cost.true ∙ to_z-of_z w128 c.args.cost asked in
+    let low = c.if-actual-lt0.true in (
+      c.in_default.ensures.found,
+      subst (GoesRound arc nodes) same
+          (rounds-same (arcs_of c.fill.new.self) arc c.fill.ensures.graph.arcs nodes (Ok c.in-Ok.actual)
+          (subst (λ (n : ℕ). Rounds (arcs_of c.fill.new.self) (map (node_of n) c.args.nodes.now) (Ok c.in-Ok.actual))
+          c.trades-null.ensures.count c.in-Ok.ensures)),
+      omega (arith, ints, low, same),
     )
