@@ -2,7 +2,7 @@
 use Rattle.std.proofs.Common.{◌≡◌, ◌∷◌, [], List, length, map, lit<, lit≤, arith, IfOk, Result, subst, ap}
 use Rattle.tn_base.specs.declared.memory.OutOfMemory.{OutOfMemory}
 use Rattle.tn_market.specs.Traded.{Traded}
-use Rattle.tn_graph.specs.Matrix.{Matrix}
+use Rattle.tn_graph.specs.Blocks.{Blocks}
 use Rattle.tn_graph.specs.Reading.{IsWithoutArcs}
 use Rattle.tn_run.specs.Stall.{stall}
 use Rattle.tn_run.specs.declared.stalls.Stall.{Stall}
@@ -18,7 +18,7 @@ fill-requires g c =
     subst (λ (r : Result (Traded Stall) OutOfMemory). IfOk r (λ market. length market.trades ≡ 2))
     c.expect-market.ensures c.two_stalls.ensures.two_trades in
     let graph_is : IsWithoutArcs 3 c.expect-graph.result =
-    subst (λ (r : Result Matrix OutOfMemory). IfOk r (λ graph. IsWithoutArcs 3 graph)) c.expect-graph.ensures
+    subst (λ (r : Result Blocks OutOfMemory). IfOk r (λ graph. IsWithoutArcs 3 graph)) c.expect-graph.ensures
     c.new.ensures in
     let nodes = graph_is.nodes in (
       lit< tt,
