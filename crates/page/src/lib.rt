@@ -6,7 +6,6 @@ mod run;
 mod told;
 mod words;
 
-ghost use Rattle.std.specs.Prelude.{◌≡◌};
 ghost use Rattle.tn_answer.specs.AnswerText.{answer_line};
 ghost use Rattle.tn_names.specs.Names.{NameLists};
 ghost use Rattle.tn_plain_data.specs.declared.said.Said.{Said};

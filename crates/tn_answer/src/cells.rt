@@ -2,7 +2,7 @@
 ghost use Rattle.std.specs.Prelude.{◌≡◌, ◌==◌, ℕ, List, ◌∷◌, ◌++◌, [], All, Some, map, if◌then◌else◌, IfOk, OnOk, IfSome, FitsSigned, string_bytes};
 ghost use Rattle.std.specs.Fmt.{signed_decimal};
 ghost use Rattle.std.specs.Int.{w64};
-ghost use Rattle.csv.specs.Records.{fields_of, partial_of};
+ghost use Rattle.csv.specs.Records.{fields_of};
 ghost use Rattle.csv.specs.Writing.{default_writer, fields_written, has_written, row_text, text_written, writer_setup};
 ghost use Rattle.tn_answer.specs.Cells.{IsShortCell, cell_text};
 ghost use Rattle.tn_answer.specs.Rows.{IsBetweenRows, bound_text, bundle_text, flag_text};

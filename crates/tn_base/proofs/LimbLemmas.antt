@@ -146,14 +146,6 @@ pub record AreDone (work : ℕ → ℕ → ℕ) (xs ys zs : List ℕ) (k : ℕ) 
   pub below : (j : ℕ) → j < k → get_or zs j 0 ≡ work (get_or xs j 0) (get_or ys j 0)
   pub above : (j : ℕ) → k ≤ j → get_or zs j 0 ≡ get_or xs j 0
 
--- nothing is done at first
-pub none_done : (work : ℕ → ℕ → ℕ) (xs ys : List ℕ) → AreDone work xs ys xs 0
-none_done work xs ys = record {
-  counted = refl;
-  below = λ j h. absurd (omega (arith, h));
-  above = λ j h. refl;
-}
-
 -- one word more is done
 pub one_done : (work : ℕ → ℕ → ℕ) (xs ys zs : List ℕ) (k : ℕ) → AreDone work xs ys zs k → k < length xs
     → AreDone work xs ys (set zs k (work (get_or zs k 0) (get_or ys k 0))) (k + 1)

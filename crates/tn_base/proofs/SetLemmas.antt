@@ -236,10 +236,6 @@ has_from_minus-zero x allowed k e h =
     kept true false p q = elim (true≢false p) [ ]
     kept false b p q = elim (false≢true q) [ ]
 
--- nothing is left without what is allowed exactly where all of x is allowed
-pub minus-zero : (x allowed : ℕ) → (minus x allowed ≡ 0) ↔ ((k : ℕ) → has x k ≡ true → has allowed k ≡ true)
-minus-zero x allowed = ((λ e k. has_from_minus-zero x allowed k e), minus-zero_from x allowed)
-
 -- the lowest digit of an even number
 pub has-double_lowest : (x : ℕ) → has (2 * x) 0 ≡ false
 has-double_lowest x = has_from_zero (2 * x) 0 (bit_at_lowest (2 * x) ∙ omega arith)

@@ -120,12 +120,6 @@ size_below-toggle_in (suc n) x i below absent =
           omega (arith, rest, here)
     ]
 
--- one member less after one is moved out
-pub size_below-toggle_out : (n x i : ℕ) → i < n → has x i ≡ true → size_below n x ≡ size_below n (toggle x i) + 1
-size_below-toggle_out n x i below present =
-    ap (size_below n) (sym (toggle-toggle x i)) ∙ size_below-toggle_in n (toggle x i) i below (has-toggle_same x i
-    ∙ ap not present)
-
 -- a set and a number have a bound that serves both
 within_both : (x i : ℕ) → x < 2 ^ (x + suc i)
 within_both x i =

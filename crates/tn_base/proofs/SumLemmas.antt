@@ -110,19 +110,6 @@ sum_over-plus c d (suc n) x =
     split true u v = refl
     split false u v = refl
 
--- the sum of the terms with their signs turned
-pub sum_over-neg : (c : ℕ → ℤ) (n x : ℕ) → sum_over (λ k. neg_ℤ (c k)) n x ≡ neg_ℤ (sum_over c n x)
-unfolding sum_over
-sum_over-neg c zero x = refl
-sum_over-neg c (suc n) x =
-    let rest : sum_over (λ k. neg_ℤ (c k)) n x ≡ neg_ℤ (sum_over c n x) = sum_over-neg c n x in
-    let here : term (has x n) (neg_ℤ (c n)) ≡ neg_ℤ (term (has x n) (c n)) = turned (has x n) (c n) in
-    omega (arith, ints, rest, here)
-  where
-    turned : (b : Bool) (u : ℤ) → term b (neg_ℤ u) ≡ neg_ℤ (term b u)
-    turned true u = refl
-    turned false u = refl
-
 -- a multiple of a sum
 pub times-plus : (a u v : ℤ) → a *ℤ (u +ℤ v) ≡ a *ℤ u +ℤ a *ℤ v
 times-plus a u v = ℤ_ind (λ m. m *ℤ (u +ℤ v) ≡ m *ℤ u +ℤ m *ℤ v) none (λ n. more (pos n)) (λ n. less (neg_ℤ (pos n))) a

@@ -1,8 +1,8 @@
 -- Offers and an outcome together: their prices and trades.
-use Rattle.std.proofs.Common.{◌≡◌, ℕ, ◌+◌, ◌*◌, ◌<◌, ◌≤◌, List, [], ◌∷◌, ◌++◌, length, take, slice_get, Some, refl, sym, ap, ap₂, ◌∙◌, subst, arith, ℤ, pos, ◌*ℤ◌, ◌≤ℤ◌}
+use Rattle.std.proofs.Common.{◌≡◌, ℕ, ◌+◌, ◌*◌, ◌<◌, ◌≤◌, List, [], ◌∷◌, ◌++◌, take, slice_get, Some, refl, sym, ap, ap₂, ◌∙◌, subst, arith, ℤ, pos, ◌*ℤ◌, ◌≤ℤ◌}
 use Rattle.std.specs.List.{All}
 use Rattle.std.proofs.lemmas.Int.{ints}
-use Rattle.std.proofs.lemmas.List.{map-append, take_more, length-map}
+use Rattle.std.proofs.lemmas.List.{map-append, take_more}
 use Rattle.std.proofs.lemmas.List.Elements.{All-append}
 use Rattle.std.proofs.lemmas.Option.{slice_get_within, get_or_from_slice_get, slice_get-get_or}
 use Rattle.tn_base.specs.Arcs.{IsAtMost}
@@ -85,15 +85,3 @@ pool_small e d offers contracts e_least e_most d_least d_most small_offers small
     (λ contract. IsAtMost contract.price most_numerator) e contracts
     (λ contract small. product_small e contract.price most_claimed_over most_numerator most_asked_price e_least e_most
     small (omega arith)) (all_at (λ contract. IsAtMost contract.price most_numerator) contracts small_contracts))
-
--- the offers are its first contracts
-pub offers_first : (e d : ℤ) (offers contracts : List Contract) → length offers ≤ length (together e offers d contracts)
-offers_first e d offers contracts =
-    let wide : length (counted d offers) ≡ length offers =
-    length-map offers (λ (c : Contract). record { trade = c.trade; price = d *ℤ c.price }) in
-    let front = longer (counted d offers) (counted e contracts) in
-    omega (arith, wide, front)
-  where
-    longer : (xs ys : List Contract) → length xs ≤ length (xs ++ ys)
-    longer [] ys = omega arith
-    longer (x ∷ xs) ys = let rest = longer xs ys in omega (arith, rest)

@@ -16,9 +16,6 @@ abbrev pub FindsLeast : ℕ → (ℕ → ℕ) → (ℕ → Type 0) → (ℕ → 
 FindsLeast n trade Fails Passes None = (k : ℕ) → k < n → Passes k
 FindsLeast n trade Fails Passes (Some t) = IsLeast n trade Fails Passes t
 
-pub least_none : (trade : ℕ → ℕ) (Fails Passes : ℕ → Type 0) → FindsLeast 0 trade Fails Passes None
-least_none trade Fails Passes = λ k below. absurd (omega (arith, below))
-
 -- one more number that passes
 pub least_passes : (n : ℕ) (trade : ℕ → ℕ) (Fails Passes : ℕ → Type 0) (found : Option ℕ)
     → FindsLeast n trade Fails Passes found → Passes n

@@ -8,10 +8,10 @@ use Rattle.tn_base.specs.Sets.{has}
 use Rattle.tn_base.specs.Firm.{Firm}
 use Rattle.tn_plain_data.specs.declared.contract.Contract.{Contract}
 use Rattle.tn_plain_data.specs.declared.ends.Ends.{Ends}
-use Rattle.tn_plain_data.specs.Choices.{is_of, is_end, IsChoice}
+use Rattle.tn_plain_data.specs.Choices.{IsChoice}
 use Rattle.tn_cert.specs.Least.{earlier}
-use Rattle.tn_cert.specs.Greatest.{LeavesOut, IsGreatest, MayLeave, DecidesLeave, DecidesOwn, FindsLeft}
-use Rattle.tn_cert.proofs.LeastLemmas.{FindsLeast, least_none, least_passes, least_fails}
+use Rattle.tn_cert.specs.Greatest.{LeavesOut, IsGreatest, MayLeave, DecidesLeave, DecidesOwn}
+use Rattle.tn_cert.proofs.LeastLemmas.{FindsLeast, least_passes, least_fails}
 
 -- ---- one contract
 
@@ -76,48 +76,6 @@ abbrev pub FindsLeaving : List Ends → ℤ → ℕ → Firm → List Contract �
 FindsLeaving trades scale f firm contracts n found =
     FindsLeast n (trade_at contracts) (λ k. DecidesOwn trades scale f firm contracts k true)
     (λ k. DecidesOwn trades scale f firm contracts k false) found
-
-pub finds_left : (trades : List Ends) (scale : ℤ) (f : ℕ) (firm : Firm) (contracts : List Contract) (n : ℕ)
-    (found : Option ℕ) → FindsLeaving trades scale f firm contracts n found
-    → FindsLeft trades scale f firm contracts n found
-finds_left trades scale f firm contracts n None finds = λ k contract below is own. finds k below contract is own
-finds_left trades scale f firm contracts n (Some t) finds = record {
-  at = finds.at;
-  below = finds.below;
-  contract = finds.fails.0;
-  is = finds.fails.1;
-  trade = sym (trade_is contracts finds.at finds.fails.0 finds.fails.1) ∙ finds.is;
-  own = finds.fails.2;
-  left = finds.fails.3;
-  earlier = λ k other below is own less.
-      let same = trade_is contracts k other is in
-      finds.first k below (omega (arith, same, less)) other is own;
-}
-
--- whether a contract is one of the firm, by the ends of its trade
-pub own_by_ends : (trades : List Ends) (f : ℕ) (contract : Contract) (trade : Ends)
-    → slice_get trades contract.trade ≡ Some trade → is_of trades f contract ≡ is_end f trade
-own_by_ends trades f contract trade is = ap (λ (o : Option Ends). unwrap_or (option_map (is_end f) o) false) is
-
--- whether the contract is one of the firm, and if so whether some choice lacks it
-pub decides_own : (trades : List Ends) (scale : ℤ) (f : ℕ) (firm : Firm) (contracts : List Contract) (k : ℕ)
-    (contract : Contract) (left : Bool) → slice_get contracts k ≡ Some contract
-    → is_of trades f contract ≡ true → DecidesLeave trades scale f firm contracts k left
-    → DecidesOwn trades scale f firm contracts k left
-decides_own trades scale f firm contracts k contract true is own left = (contract, is, own, left)
-decides_own trades scale f firm contracts k contract false is own taken = λ other other_is other_own. taken
-
-pub decides_other : (trades : List Ends) (scale : ℤ) (f : ℕ) (firm : Firm) (contracts : List Contract) (k : ℕ)
-    (contract : Contract) → slice_get contracts k ≡ Some contract
-    → is_of trades f contract ≡ false → DecidesOwn trades scale f firm contracts k false
-decides_other trades scale f firm contracts k contract is away = λ other other_is own.
-    absurd (true≢false (sym own ∙ ap (is_of trades f) (same_Some other contract (sym other_is ∙ is)) ∙ away))
-
-pub leaving_none : (trades : List Ends) (scale : ℤ) (f : ℕ) (firm : Firm) (contracts : List Contract)
-    → FindsLeaving trades scale f firm contracts 0 None
-leaving_none trades scale f firm contracts =
-    least_none (trade_at contracts) (λ k. DecidesOwn trades scale f firm contracts k true)
-    (λ k. DecidesOwn trades scale f firm contracts k false)
 
 pub leaving_more : (trades : List Ends) (scale : ℤ) (f : ℕ) (firm : Firm) (contracts : List Contract) (n : ℕ)
     (found : Option ℕ) (contract : Contract)

@@ -1,12 +1,12 @@
 -- Sums over the first parts of a plan, and over the first firms.
-use Rattle.std.proofs.Common.{◌≡◌, ℕ, zero, suc, ◌+◌, ◌*◌, ◌<◌, ◌≤◌, Bool, true, false, ◌==◌, if◌then◌else◌, List, [], ◌∷◌, ◌++◌, length, map, take, Option, Some, None, option_map, slice_get, refl, sym, ap, ap₂, ◌∙◌, subst, arith, inl, inr, add-one, ℤ, pos, ◌+ℤ◌, ◌*ℤ◌, ◌≤ℤ◌}
+use Rattle.std.proofs.Common.{◌≡◌, ℕ, zero, suc, ◌+◌, ◌*◌, ◌<◌, Bool, true, false, ◌==◌, if◌then◌else◌, List, [], ◌∷◌, ◌++◌, length, map, take, Option, Some, None, option_map, slice_get, refl, sym, ap, ap₂, ◌∙◌, subst, arith, inl, inr, add-one, ℤ, pos, ◌+ℤ◌, ◌*ℤ◌, ◌≤ℤ◌}
 use Rattle.std.specs.Prelude.{IsSome, unwrap_or, ◌<ℤ◌}
 use Rattle.tn_market.specs.Equilibrium.{surplus_from, surplus_of}
 use Rattle.tn_market.specs.Widths.{most_worth}
 use Rattle.tn_plain_data.specs.Network.{part}
 use Rattle.tn_price.proofs.SurplusLemmas.{sum_more}
 use Rattle.std.proofs.lemmas.Int.{ints}
-use Rattle.std.proofs.lemmas.Bool.{cases_eq, eq-eqb, eqb-true}
+use Rattle.std.proofs.lemmas.Bool.{cases_eq, eq-eqb}
 use Rattle.std.proofs.lemmas.Option.{none-some, same_Some, slice_get_within, get_or_from_slice_get, slice_get-map}
 use Rattle.std.proofs.lemmas.List.{length-take-le}
 use Rattle.std.proofs.Math.Seq.{take-length, take-suc}
@@ -21,7 +21,7 @@ use Rattle.tn_firm.specs.Raw.{raw_firm_of}
 use Rattle.tn_plain_data.specs.declared.part.Part.{Part}
 use Rattle.tn_plain_data.specs.declared.ends.Ends.{Ends}
 use Rattle.tn_plain_data.specs.Limits.{most_claimed_over}
-use Rattle.tn_cert.specs.Plans.{over_parts, share_of, worth_in, planned_worth, planned_from, HaveShares, HasPossibleParts, HasImpossiblePart, ArePossibleParts, AreBalanced, IsBalanced}
+use Rattle.tn_cert.specs.Plans.{over_parts, worth_in, planned_worth, planned_from, HasPossibleParts, ArePossibleParts}
 use Rattle.tn_cert.specs.Limits.{most_planned_worth, most_weighed_worth}
 
 -- one part more
@@ -53,9 +53,6 @@ pub record IsWeight (term : Part → ℤ) (f : ℕ) (plan : List Part) (k : ℕ)
   pub low : pos 0 ≤ℤ sum
   pub high : sum ≤ℤ pos (k * most_claimed_over)
 
-pub none_weighed : (term : Part → ℤ) (f : ℕ) (plan : List Part) → IsWeight term f plan 0 (pos 0)
-none_weighed term f plan = record { is = refl; low = omega (arith, ints); high = omega (arith, ints) }
-
 pub one_weighed : (term : Part → ℤ) (f : ℕ) (plan : List Part) (k : ℕ) (p : Part) (sum more : ℤ)
     → IsWeight term f plan k sum → slice_get plan k ≡ Some p
     → more ≡ (if p.firm == f then term p else pos 0) → pos 0 ≤ℤ more → more ≤ℤ pos most_claimed_over
@@ -83,14 +80,6 @@ pub record IsWorth (firm : Firm) (f : ℕ) (plan : List Part) (k : ℕ) (sum : �
 -- what a part adds
 abbrev pub added_by : Firm → ℕ → Part → Option ℤ
 added_by firm f p = if p.firm == f then option_map (λ worth. p.weight *ℤ worth) (firm.worth p.bundle) else Some (pos 0)
-
-pub none_valued : (firm : Firm) (f : ℕ) (plan : List Part) → IsWorth firm f plan 0 (pos 0)
-none_valued firm f plan = record {
-  is = refl;
-  possible = λ j p below. absurd (omega (arith, below));
-  small =
-      record { low = omega (arith, ints); high = omega (arith, ints) };
-}
 
 added_is : (firm : Firm) (f : ℕ) (p : Part) (more : ℤ) → Some more ≡ added_by firm f p
     → (more ≡ (if p.firm == f then worth_term firm p else pos 0)) × (p.firm ≡ f → IsSome (firm.worth p.bundle))
@@ -131,20 +120,6 @@ all_valued firm f plan k sum worth end = (
   worth.is ∙ all_parts (worth_term firm) f plan k end,
 )
 
--- where nothing can be added, the part is impossible
-pub none_is_impossible : (firm : Firm) (f : ℕ) (plan : List Part) (k : ℕ) (p : Part) → slice_get plan k ≡ Some p
-    → None ≡ added_by firm f p → HasImpossiblePart plan f firm
-none_is_impossible firm f plan k p is none =
-    let found = by_case (p.firm == f) refl (firm.worth p.bundle) refl none in
-    record { at = k; part = p; is = is; own = found.0; impossible = found.1 }
-  where
-    by_case : (b : Bool) → (p.firm == f) ≡ b → (o : Option ℤ) → firm.worth p.bundle ≡ o
-        → None ≡ (if b then option_map (λ worth. p.weight *ℤ worth) o else Some (pos 0))
-        → (p.firm ≡ f) × (firm.worth p.bundle ≡ None)
-    by_case true e None there is = (eqb-true p.firm f e, there)
-    by_case true e (Some a) there is = absurd (none-some _ is)
-    by_case false e o there is = absurd (none-some _ is)
-
 -- ---- firms
 
 -- the first f firms have this part of the plan's worth, and possible bundles
@@ -167,14 +142,6 @@ planned_from-append plan over s (first ∷ firms) firm f at =
   where
     regroup : (a b c d : ℤ) → b ≡ c +ℤ d → a +ℤ b ≡ (a +ℤ c) +ℤ d
     regroup a b c d e = omega (arith, ints, e)
-
-pub none_planned : (firms : List Firm) (plan : List Part) (over : ℤ) → IsPlanned firms plan over 0 (pos 0)
-none_planned firms plan over = record {
-  is = refl;
-  possible = λ f firm below. absurd (omega (arith, below));
-  small =
-      record { low = omega (arith, ints); high = omega (arith, ints) };
-}
 
 -- one firm more has possible bundles
 pub one_possible : (firms : List Firm) (plan : List Part) (f : ℕ) (firm : Firm) → ArePossibleParts firms plan f
@@ -215,35 +182,7 @@ abbrev pub IsWorthMoreBefore : List Firm → List Ends → ℤ → ℤ → ℕ �
 IsWorthMoreBefore firms trades over worth n = (on : ℕ) (surplus : ℤ) → on < n
     → surplus_of firms trades on ≡ Some surplus → (over *ℤ surplus) <ℤ worth
 
-pub one_more : (firms : List Firm) (trades : List Ends) (over worth : ℤ) (n : ℕ)
-    → IsWorthMoreBefore firms trades over worth n
-    → ((surplus : ℤ) → surplus_of firms trades n ≡ Some surplus → (over *ℤ surplus) <ℤ worth)
-    → IsWorthMoreBefore firms trades over worth (n + 1)
-one_more firms trades over worth n before here on surplus below is = elim (cases_eq on n) [
-  | inl e ↦ here surplus (ap (surplus_of firms trades) (sym e) ∙ is)
-  | inr d ↦ before on surplus (omega (arith, below, d)) is
-]
-
 -- ---- one firm or one trade more
-
-pub one_shared : (plan : List Part) (over : ℤ) (f : ℕ) → HaveShares plan over f → share_of plan f ≤ℤ over
-    → HaveShares plan over (f + 1)
-one_shared plan over f before here g below = elim (cases_eq g f) [
-  | inl e ↦ subst (λ (h : ℕ). share_of plan h ≤ℤ over) (sym e) here
-  | inr d ↦ before g (omega (arith, below, d))
-]
-
-pub one_balanced : (trades : List Ends) (plan : List Part) (t : ℕ) (trade : Ends) → AreBalanced trades plan t
-    → slice_get trades t ≡ Some trade → IsBalanced plan trade
-    → AreBalanced trades plan (t + 1)
-one_balanced trades plan t trade before is balanced s other below there = elim (cases_eq s t) [
-  | inl e ↦ subst (IsBalanced plan) (same_Some trade other (sym is ∙ ap (slice_get trades) (sym e) ∙ there)) balanced
-  | inr d ↦ before s other (omega (arith, below, d)) there
-]
-
-pub all_balanced : (trades : List Ends) (plan : List Part) (t : ℕ) → length trades ≤ t → AreBalanced trades plan t
-    → AreBalanced trades plan (length trades)
-all_balanced trades plan t end before s other below there = before s other (omega (arith, end, below)) there
 
 -- ---- firms that are read raw
 
@@ -269,13 +208,6 @@ pub record IsSurplus (firms : List Firm) (trades : List Ends) (on f : ℕ) (sum 
   pub is : surplus_from trades on 0 (take f firms) ≡ Some sum
   pub small : IsAtMost sum (f * most_worth)
 
-pub no_surplus : (firms : List Firm) (trades : List Ends) (on : ℕ) → IsSurplus firms trades on 0 (pos 0)
-no_surplus firms trades on = record {
-  is = refl;
-  small =
-      record { low = omega (arith, ints); high = omega (arith, ints) };
-}
-
 pub one_surplus : (firms : List Firm) (trades : List Ends) (on f : ℕ) (sum worth : ℤ) (firm : Firm)
     → IsSurplus firms trades on f sum → slice_get firms f ≡ Some firm
     → firm.worth (part trades f firm.count on) ≡ Some worth → IsAtMost worth most_worth
@@ -293,11 +225,6 @@ one_surplus firms trades on f sum worth firm surplus is worth_is small =
             omega (arith, ints, low, high, more_low, more_high);
       };
     }
-
-pub all_surplus : (firms : List Firm) (trades : List Ends) (on f : ℕ) (sum : ℤ) → IsSurplus firms trades on f sum
-    → f ≡ length firms → Some sum ≡ surplus_of firms trades on
-all_surplus firms trades on f sum surplus end =
-    sym (ap (surplus_from trades on 0) (sym (ap (λ (n : ℕ). take n firms) end ∙ take-length firms)) ∙ surplus.is)
 
 -- the empty bundle isn't impossible
 pub not_impossible : (firm : Firm) (x : ℕ) → MayAbstain firm → x ≡ 0 → None ≡ firm.worth x → ⊥

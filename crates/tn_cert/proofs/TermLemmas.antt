@@ -62,10 +62,6 @@ same_offer : (contracts : List Contract) (left_out : Option ℕ) (t n k : ℕ) (
 same_offer contracts left_out t n k contract other one e two =
     same_Some contract other (sym one.is ∙ ap (slice_get contracts) (sym e) ∙ two.is)
 
-pub no_term : (contracts : List Contract) (left_out : Option ℕ) (t : ℕ) (buys : Bool)
-    → FindsTerm contracts left_out t buys 0 None
-no_term contracts left_out t buys = λ k other below offered. absurd (omega (arith, below))
-
 -- one more contract that is offered
 pub term_more : (contracts : List Contract) (left_out : Option ℕ) (t : ℕ) (buys : Bool) (n : ℕ) (found : Option ℤ)
     (contract : Contract) → FindsTerm contracts left_out t buys n found

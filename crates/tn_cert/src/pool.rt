@@ -1,6 +1,6 @@
 //! Contracts of a claim and of an outcome over one denominator.
 
-ghost use Rattle.std.specs.Prelude.{◌≡◌, ◌++◌, ◌≤◌, pos, ◌*ℤ◌, ◌≤ℤ◌, length, All, IfOk};
+ghost use Rattle.std.specs.Prelude.{◌≡◌, ◌++◌, ◌≤◌, pos, ◌*ℤ◌, ◌≤ℤ◌, All, IfOk};
 ghost use Rattle.tn_base.specs.Arcs.{IsAtMost};
 ghost use Rattle.tn_plain_data.specs.Choices.{counted, together};
 ghost use Rattle.tn_plain_data.specs.Limits.{most_claimed_over, most_number};

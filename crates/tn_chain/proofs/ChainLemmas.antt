@@ -6,7 +6,7 @@ use Rattle.std.proofs.lemmas.Bool.{cases_eq, cases_lt, or_cases, or_left, or_rig
 use Rattle.std.proofs.lemmas.Option.{same_Some, slice_get_within, slice_get_cases, get_or_from_slice_get}
 use Rattle.tn_base.specs.Sets.{has}
 use Rattle.tn_base.proofs.SetLemmas.{has-set_of}
-use Rattle.tn_base.specs.Firm.{Firm, HasOwnBundles}
+use Rattle.tn_base.specs.Firm.{Firm}
 use Rattle.tn_base.specs.Arcs.{IsAtMost}
 use Rattle.tn_base.specs.Walks.{walk_cost, arcs_among, is_admitted, AreDifferent}
 use Rattle.tn_plain_data.specs.declared.ends.Ends.{Ends}

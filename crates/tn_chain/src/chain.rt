@@ -1,10 +1,9 @@
 //! A chain of contracts that blocks an outcome.
 
-ghost use Rattle.std.specs.Prelude.{◌≡◌, ℕ, ◌+◌, ◌*◌, ◌-◌, ◌^◌, ◌≤◌, ◌<◌, ℤ, true, length, map, slice_get, IfOk, Some};
-ghost use Rattle.tn_base.specs.Sets.{has, size};
-ghost use Rattle.tn_base.specs.Walks.{AreDifferent, KeepsArcs, arcs_among, is_admitted};
+ghost use Rattle.std.specs.Prelude.{◌≡◌, ℕ, ◌+◌, ◌*◌, ◌-◌, ◌≤◌, ◌<◌, ℤ, length, map, IfOk};
+ghost use Rattle.tn_base.specs.Sets.{size};
+ghost use Rattle.tn_base.specs.Walks.{KeepsArcs, arcs_among, is_admitted};
 ghost use Rattle.tn_chain.specs.Limits.{most_judged_trades};
-ghost use Rattle.tn_chain.specs.Listed.{HasNodes};
 ghost use Rattle.tn_chain.specs.Search.{HasCycle, IsBlockingChain, IsResidual, IsSolvedAmong, chain_scale};
 ghost use Rattle.tn_cycle.specs.Answers.{IsNegative};
 ghost use Rattle.tn_graph.specs.Blocks.{arcs_of};
@@ -12,10 +11,10 @@ ghost use Rattle.tn_graph.specs.Reading.{IsExchangeGraph};
 ghost use Rattle.tn_plain_data.specs.Choices.{IsIndividuallyRational};
 ghost use Rattle.tn_market.specs.Limits.{IsOutcomeOf, IsWithinLimits};
 ghost use Rattle.tn_plain_data.specs.Network.{IsNetwork};
-ghost use Rattle.tn_market.specs.Reduced.{reduced_arc, reduced_firms};
+ghost use Rattle.tn_market.specs.Reduced.{reduced_firms};
 ghost use Rattle.tn_market.specs.Signed.{Completes};
 ghost use Rattle.tn_outcome.specs.Rational.{IsRationalOutcome};
-ghost use Rattle.tn_residual.specs.Residual.{unsigned, unsigned_part, residual_trades};
+ghost use Rattle.tn_residual.specs.Residual.{unsigned};
 ghost use Rattle.tn_market.specs.NetworkOf.{network_of};
 
 use crate::cycle::{contracts_at, first_trade, listed_trades};

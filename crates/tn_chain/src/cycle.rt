@@ -1,6 +1,6 @@
 //! What is made of the nodes of a cycle.
 
-ghost use Rattle.std.specs.Prelude.{◌≡◌, ℕ, ◌+◌, ◌*◌, ◌≤◌, ◌<◌, false, length, nat_lt, slice_get, IfOk, Some};
+ghost use Rattle.std.specs.Prelude.{◌≡◌, ℕ, ◌≤◌, ◌<◌, false, length, nat_lt, slice_get, IfOk, Some};
 ghost use Rattle.tn_base.specs.Walks.{AreDifferent};
 ghost use Rattle.tn_chain.specs.Limits.{most_judged_trades};
 ghost use Rattle.tn_chain.specs.Listed.{AreAtNodes, HasNodes, IsBegin};

@@ -1,6 +1,6 @@
 //! The unsigned trades by their numbers among themselves, as the residual market has them.
 
-ghost use Rattle.std.specs.Prelude.{◌≡◌, ℕ, ◌+◌, ◌*◌, ◌^◌, ◌≤◌, ◌<◌, false, length, IfSome, if◌then◌else◌};
+ghost use Rattle.std.specs.Prelude.{◌≡◌, ℕ, ◌+◌, ◌^◌, ◌≤◌, ◌<◌, false, IfSome, if◌then◌else◌};
 ghost use Rattle.tn_base.specs.Sets.{has};
 ghost use Rattle.tn_chain.specs.Limits.{most_judged_trades, most_residual_trades};
 ghost use Rattle.tn_chain.specs.Numbers.{AreNumbers, AreNumbersUpTo, added_if, is_among, number_in, toggled_if};

@@ -1,15 +1,13 @@
 -- A firm that is away trades nothing.
-use Rattle.std.proofs.Common.{◌≡◌, ℕ, ◌<◌, Bool, true, false, not, ◌==◌, ◌&&◌, List, length, slice_get, Some, inl, inr, sym, ap, ◌∙◌, refl, true≢false}
+use Rattle.std.proofs.Common.{◌≡◌, ℕ, Bool, true, false, not, ◌==◌, ◌&&◌, List, inl, inr, sym, ap, ◌∙◌, refl, true≢false}
 use Rattle.std.proofs.lemmas.Bool.{and_parts, cases_Bool, eqb-true, or_cases}
 use Rattle.tn_base.specs.Sets.{has}
-use Rattle.tn_base.specs.Firm.{Firm}
 use Rattle.tn_base.proofs.SetLemmas.{has-zero, same_set}
 use Rattle.tn_plain_data.specs.declared.ends.Ends.{Ends}
 use Rattle.tn_plain_data.specs.declared.session.Edit.{Edit}
-use Rattle.tn_plain_data.specs.declared.session.State.{State}
-use Rattle.tn_plain_data.specs.Network.{IsNetwork, own, part, stands_at}
+use Rattle.tn_plain_data.specs.Network.{own, part, stands_at}
 use Rattle.tn_plain_data.proofs.NetworkLemmas.{member_of_part, own_stands}
-use Rattle.tn_command.specs.Edited.{FirmsAwayHaveNothing, IsStateAfter, is_admitted_after, is_away_after, is_usable_after}
+use Rattle.tn_command.specs.Edited.{FirmsAwayHaveNothing, is_admitted_after, is_away_after, is_usable_after}
 
 never : (b : Bool) → (b && false) ≡ false
 never true = refl

@@ -1,5 +1,5 @@
 -- The numbers of a verdict on an outcome fit an answer.
-use Rattle.std.proofs.Common.{◌≡◌, ℕ, ◌<◌, ◌≤◌, ℤ, pos, neg_ℤ, ◌+ℤ◌, ◌-ℤ◌, ◌*ℤ◌, Bool, true, false, if◌then◌else◌, ◌==◌, List, length, map, refl, sym, ap, ◌∙◌, subst, arith}
+use Rattle.std.proofs.Common.{◌≡◌, ℕ, ◌≤◌, ℤ, pos, neg_ℤ, ◌+ℤ◌, ◌-ℤ◌, ◌*ℤ◌, Bool, true, false, if◌then◌else◌, ◌==◌, List, length, map, refl, sym, ap, ◌∙◌, subst, arith}
 use Rattle.std.specs.Prelude.{Option, Some, None, option_map, unwrap_or, slice_get, get_or, All, IfSome}
 use Rattle.std.proofs.lemmas.Int.{ints}
 use Rattle.std.proofs.lemmas.Option.{slice_get_within, slice_get-get_or, get_or_from_slice_get}
@@ -109,13 +109,6 @@ drop_small firms trades over contracts f x gain outcome few first =
       high =
           omega (arith, ints, kept.high, own.low);
     }
-
--- the firm that would drop contracts is one of the firms
-pub drop_firm : (firms : List FirmValue) (trades : List Ends) (over : ℤ) (contracts : List Contract) (f x : ℕ)
-    (gain : Option ℤ)
-    → IsFirstDrop (map firm_of firms) trades over contracts f x gain → f < length firms
-drop_firm firms trades over contracts f x gain first = let there = value_at firms f first.firm first.is in
-    slice_get_within firms f there.0 there.1
 
 -- what it keeps, as trades
 pub drop_keeps : (firms : List FirmValue) (trades : List Ends) (over : ℤ) (contracts : List Contract) (f x : ℕ)

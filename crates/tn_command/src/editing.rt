@@ -1,6 +1,6 @@
 //! The answer of `session`.
 
-ghost use Rattle.std.specs.Prelude.{◌≡◌, ◌≢◌, ℕ, ◌+◌, ◌<◌, ◌≤◌, List, [], ◌∷◌, ◌++◌, ◌&&◌, not, All, IfOk, length, take};
+ghost use Rattle.std.specs.Prelude.{◌≡◌, ◌≢◌, ℕ, ◌+◌, ◌<◌, ◌≤◌, List, [], ◌∷◌, ◌++◌, ◌&&◌, not, IfOk, length, take};
 ghost use Rattle.tn_base.specs.Sets.{has};
 ghost use Rattle.tn_answer.specs.Kept.{IsWithinClaims, IsWithinState};
 ghost use Rattle.tn_command.specs.Edited.{IsAfter, IsStateOf, StandsAfter, StandsOn, TellsStates, is_admitted_by, is_away_by};

@@ -1,5 +1,5 @@
 -- What a certificate shows, and what the definition says pair by pair.
-use Rattle.std.proofs.Common.{◌≡◌, ◌≢◌, ℕ, zero, suc, ◌+◌, ◌-◌, ◌*◌, ◌^◌, ◌<◌, ◌≤◌, ◌&&◌, Bool, true, false, not, refl, sym, ap, ◌∙◌, subst, arith, add-one, inl, inr, if◌then◌else◌, List, [], ◌∷◌, length, get_or, drop, drop-cons, Option, Some, None, ℤ, pos, neg_ℤ, ◌+ℤ◌, ◌-ℤ◌}
+use Rattle.std.proofs.Common.{◌≡◌, ◌≢◌, ℕ, zero, suc, ◌+◌, ◌*◌, ◌^◌, ◌<◌, ◌≤◌, ◌&&◌, Bool, true, false, not, refl, sym, ap, ◌∙◌, subst, arith, add-one, inl, inr, if◌then◌else◌, List, [], ◌∷◌, length, get_or, drop, drop-cons, Option, Some, None, ℤ, pos, neg_ℤ, ◌+ℤ◌, ◌-ℤ◌}
 use Rattle.std.specs.Prelude.{◌≤ℤ◌, ◌<ℤ◌, slice_get, option_map, IfSome}
 use Rattle.std.proofs.lemmas.Int.{ints}
 use Rattle.std.proofs.lemmas.Bool.{cases_eq, false≢true}

@@ -1,5 +1,5 @@
 -- Pairs of which no two have the same purchase and the same sale are few.
-use Rattle.std.proofs.Common.{◌≡◌, ◌≢◌, ℕ, zero, suc, ◌+◌, ◌*◌, ◌^◌, ◌<◌, ◌≤◌, true, false, sym, ◌∙◌, subst, arith, inl, inr, List, length, get_or}
+use Rattle.std.proofs.Common.{◌≡◌, ◌≢◌, ℕ, zero, suc, ◌+◌, ◌*◌, ◌^◌, ◌<◌, ◌≤◌, true, false, sym, ◌∙◌, arith, inl, inr, List, length, get_or}
 use Rattle.std.specs.Prelude.{All, pos}
 use Rattle.std.proofs.lemmas.Nat.{pow_pos}
 use Rattle.std.proofs.lemmas.Bool.{cases_eq, cases_Bool, false≢true}
@@ -9,7 +9,7 @@ use Rattle.tn_base.specs.Sets.{has, toggle, size}
 use Rattle.tn_base.proofs.SetLemmas.{has-zero, has-toggle_other, toggle_within}
 use Rattle.tn_base.proofs.SizeLemmas.{size-toggle_in, size-zero, size_le}
 use Rattle.tn_dealer.specs.declared.pair.Pair.{Pair}
-use Rattle.tn_dealer.specs.Pairs.{IsNear, IsRepeated, AreDifferentBelow, AreDifferent}
+use Rattle.tn_dealer.specs.Pairs.{IsNear, AreDifferentBelow, AreDifferent}
 use Rattle.tn_market.specs.Widths.{most_own}
 
 -- ---- numbers below n of which no two are equal are at most n
@@ -106,13 +106,6 @@ few_different pairs k within near different = few_numbers (number_of pairs) 1024
           same_buy = same.0;
           same_sell = same.1;
         })
-
-pub different_more : (pairs : List Pair) (k : ℕ) → (IsRepeated pairs k → ⊥) → AreDifferentBelow pairs k
-    → AreDifferentBelow pairs (k + 1)
-different_more pairs k here before j below = elim (cases_eq j k) [
-  | inl e ↦ subst (λ (i : ℕ). IsRepeated pairs i → ⊥) (sym e) here
-  | inr other ↦ before j (omega (arith, below, other))
-]
 
 pub different_all : (pairs : List Pair) (k : ℕ) → length pairs ≤ k → AreDifferentBelow pairs k → AreDifferent pairs
 different_all pairs k end before j repeated =

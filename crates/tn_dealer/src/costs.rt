@@ -1,9 +1,9 @@
 //! The costs of the listed pairs by purchase and sale, so that a pair is found by its two positions.
 
-ghost use Rattle.std.specs.Prelude.{◌≡◌, ◌*◌, ◌+◌, ◌<◌, ◌≤ℤ◌, ◌<ℤ◌, get_or, pos};
+ghost use Rattle.std.specs.Prelude.{◌≡◌, ◌*◌, ◌+◌, ◌<◌};
 ghost use Rattle.tn_base.specs.Arcs.{IsAtMost};
 ghost use Rattle.tn_base.specs.Widths.{most_amount};
-ghost use Rattle.tn_dealer.specs.Costs.{AreCosts, far, place_of};
+ghost use Rattle.tn_dealer.specs.Costs.{AreCosts, place_of};
 ghost use Rattle.tn_market.specs.Widths.{most_own};
 
 use crate::dealer::Dealer;

@@ -1,7 +1,7 @@
 //! What a bundle is worth. The search hands over a certificate, which is tested; where it shows nothing, the definition
 //! is followed pair by pair (certifying algorithms: McConnell, Mehlhorn, Näher and Schweitzer, 2011).
 
-ghost use Rattle.std.specs.Prelude.{◌≡◌, ◌+◌, ◌*◌, ◌^◌, ◌<◌, ◌≤◌, ◌<ℤ◌, ◌≤ℤ◌, ◌+ℤ◌, ◌-ℤ◌, ◌↔◌, IsTrue, true, false, pos, neg_ℤ, if◌then◌else◌, length, drop, option_map, IfSome};
+ghost use Rattle.std.specs.Prelude.{◌≡◌, ◌+◌, ◌*◌, ◌^◌, ◌<◌, ◌≤◌, ◌<ℤ◌, ◌+ℤ◌, ◌-ℤ◌, ◌↔◌, IsTrue, true, false, pos, neg_ℤ, if◌then◌else◌, length, drop, option_map, IfSome};
 ghost use Rattle.tn_base.specs.Arcs.{IsAtMost};
 ghost use Rattle.tn_base.specs.Sets.{has, sum_over, toggle};
 ghost use Rattle.tn_market.specs.Reduced.{greater};

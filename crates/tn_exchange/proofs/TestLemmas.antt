@@ -5,7 +5,6 @@ use Rattle.std.specs.Int.{w128}
 use Rattle.std.specs.Int.Signed.{le_z}
 use Rattle.std.proofs.Common.{SFits}
 use Rattle.tn_base.specs.Arcs.{IsAtMost}
-use Rattle.std.specs.Option.{ForSome}
 use Rattle.std.proofs.lemmas.Int.{ints}
 use Rattle.std.proofs.lemmas.Option.{same_Some, none-some}
 use Rattle.std.proofs.lemmas.Bool.{cases_eq, false≢true}
@@ -42,12 +41,6 @@ enough_iff firm x y total a b x_is y_is = (
 -- the sum of two small numbers
 pub sum_fits : (a b : ℤ) → IsAtMost a most_amount → IsAtMost b most_amount → SFits w128 (a +ℤ b)
 sum_fits a b p q = search (arith, ints, p.low, p.high, q.low, q.high)
-
--- positions of the down side swap where some position of the down side does
-pub swaps_down_from : (firm : Firm) (positions x y x' y' : ℕ) (total : ℤ) → positions ≡ up firm.buys y x
-    → Swaps firm positions x' y' total → SwapsDown firm x y x' y' total
-swaps_down_from firm positions x y x' y' total is s =
-    record { at = s.at; is_down = ap (λ (p : ℕ). has p s.at) (sym is) ∙ s.is_member; enough = s.enough }
 
 pub swaps_from_down : (firm : Firm) (positions x y x' y' : ℕ) (total : ℤ) → positions ≡ up firm.buys y x
     → SwapsDown firm x y x' y' total → Swaps firm positions x' y' total
@@ -209,9 +202,6 @@ none_more_y firm x k none here s within below f = elim (cases_eq s.y k) [
 pub impossible_y : (firm : Firm) (x k : ℕ) → firm.worth k ≡ None → (s : Triple) → OfPair x k s → TripleFails firm s → ⊥
 impossible_y firm x k none s within f = none-some f.second (sym none ∙ ap firm.worth (sym within.1) ∙ f.second_is)
 
-pub impossible_x : (firm : Firm) (k : ℕ) → firm.worth k ≡ None → (s : Triple) → OfFirst k s → TripleFails firm s → ⊥
-impossible_x firm k none s within f = none-some f.first (sym none ∙ ap firm.worth (sym within) ∙ f.first_is)
-
 -- then no triple of the first bundle fails
 pub none_of_first : (firm : Firm) (x k : ℕ) → HasOwnBundles firm → 2 ^ firm.count ≤ k
     → ((s : Triple) → OfFirst x s → s.y < k → TripleFails firm s → ⊥) → (s : Triple) → OfFirst x s → TripleFails firm s
@@ -255,15 +245,3 @@ none_above firm own k all s above f =
 -- then no triple fails
 pub none_fails : (firm : Firm) → ((s : Triple) → 0 ≤ s.x → TripleFails firm s → ⊥) → NoneFails firm
 none_fails firm none x y at f = none (record { x = x; y = y; at = at }) (omega arith) f
-
--- the bundles and the position of a triple that fails are own
-pub failure_is_own : (firm : Firm) → HasOwnBundles firm → (x y : ℕ) (at : Option ℕ) → Fails firm x y at
-    → (x < 2 ^ firm.count) × (y < 2 ^ firm.count) × ForSome at (λ k. k < firm.count)
-failure_is_own firm own x y at f =
-    let x_own : x < 2 ^ firm.count = own x f.first f.first_is in
-    let y_own : y < 2 ^ firm.count = own y f.second f.second_is in (
-      x_own,
-      y_own,
-      λ k is. wrong_at_own firm x y (f.first +ℤ f.second) k x_own y_own
-          (subst (IsWrongAt firm x y (f.first +ℤ f.second)) is f.wrong),
-    )

@@ -1,6 +1,6 @@
 //! Reads a document from bytes.
 
-ghost use Rattle.std.specs.Prelude.{◌≡◌, [], IfOk};
+ghost use Rattle.std.specs.Prelude.{[], IfOk};
 ghost use Rattle.serde_json.specs.View.{view};
 ghost use Rattle.tn_base.specs.declared.fault.FaultKind.TheVariants.{NotJson};
 ghost use Rattle.tn_shape.specs.Reading.{Gives, wanted};

@@ -1,6 +1,6 @@
 //! The solver.
 
-ghost use Rattle.std.specs.Prelude.{◌≡◌, ℕ, ◌+◌, ◌-◌, ◌*◌, ◌≤◌, ◌<◌, ◌-ℤ◌, pos, true, Some, length, map, slice_get, IfOk};
+ghost use Rattle.std.specs.Prelude.{◌≡◌, ℕ, ◌+◌, ◌-◌, ◌*◌, ◌≤◌, ◌<◌, pos, true, Some, length, map, slice_get, IfOk};
 ghost use Rattle.tn_base.specs.Sets.{has, set_of};
 ghost use Rattle.tn_base.specs.Widths.{most_cost, most_limbs};
 ghost use Rattle.tn_plain_data.specs.Prices.{price_at};

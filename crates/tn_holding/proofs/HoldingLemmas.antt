@@ -1,5 +1,5 @@
 -- From how a firm stands to what is said of it, and of all firms.
-use Rattle.std.proofs.Common.{◌≡◌, ℕ, zero, suc, ◌+◌, ◌*◌, ◌^◌, ◌≤◌, cond, Bool, true, false, ℤ, pos, ◌+ℤ◌, ◌-ℤ◌, ◌*ℤ◌, List, [], ◌∷◌, ◌++◌, length, take, slice_get, count_by, refl, sym, ap, ◌∙◌, subst, arith, inl, inr}
+use Rattle.std.proofs.Common.{◌≡◌, ℕ, zero, suc, ◌+◌, ◌*◌, ◌^◌, ◌≤◌, cond, ℤ, pos, ◌+ℤ◌, ◌-ℤ◌, ◌*ℤ◌, List, [], ◌∷◌, ◌++◌, length, take, slice_get, count_by, refl, sym, ap, ◌∙◌, subst, arith, inl, inr}
 use Rattle.std.specs.Prelude.{Option, Some, None, All, IfSome, option_map, option_and_then}
 use Rattle.std.proofs.lemmas.Int.{ints}
 use Rattle.std.proofs.lemmas.Bool.{cases_eq, cases_lt}
@@ -23,7 +23,7 @@ use Rattle.tn_market.proofs.AscentLemmas.{smaller}
 use Rattle.tn_market.proofs.AskLemmas.{payment_small}
 use Rattle.tn_price.specs.Standings.{AreOwnPrices}
 use Rattle.tn_price.proofs.JudgeLemmas.{utility_there}
-use Rattle.tn_price.proofs.SurplusLemmas.{AreAdded, none_added, one_added, all_added, none_at}
+use Rattle.tn_price.proofs.SurplusLemmas.{AreAdded, one_added, all_added, none_at}
 use Rattle.tn_answer.specs.Kept.{IsWithinClaim, IsWithinHolding}
 use Rattle.tn_holding.specs.declared.stand.Stand.{Stand}
 use Rattle.tn_holding.specs.Limits.{most_told_utility}
@@ -190,18 +190,6 @@ pub record AreTold (firms : List Firm) (trades : List Ends) (on : ℕ) (prices :
   pub inside : f ≤ length firms
   pub small : IfSome surplus (λ z. IsAtMost z (f * most_worth))
 
-pub none_told : (firms : List Firm) (trades : List Ends) (on : ℕ) (prices : ℕ → ℤ)
-    → AreTold firms trades on prices 0 [] 0 (Some (pos 0))
-none_told firms trades on prices = record {
-  one_each = refl;
-  each = λ g firm holding is there. absurd (none-some holding there);
-  counted = refl;
-  sum = none_added firms trades on;
-  within = λ k d below. absurd (omega (arith, below));
-  small = record { low = omega (arith, ints); high = omega (arith, ints) };
-  inside = omega arith;
-}
-
 -- an item of a list with one more
 last_or_before : {A : Type 0} (xs : List A) (x : A) (g : ℕ) (y : A) → slice_get (xs ++ x ∷ []) g ≡ Some y
     → (g ≡ length xs → y ≡ x) × ((g ≡ length xs → ⊥) → slice_get xs g ≡ Some y)
@@ -297,7 +285,3 @@ all_told firms trades on prices f told content surplus before end = record {
     whole : (o : Option ℤ) → IsSumBefore firms trades on f o → o ≡ surplus_of firms trades on
     whole None sum = sum
     whole (Some z) sum = all_added firms trades on f z sum end before.inside
-
-pub cond_small : (b : Bool) → cond b 1 0 ≤ 1
-cond_small true = omega arith
-cond_small false = omega arith

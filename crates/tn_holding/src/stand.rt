@@ -1,8 +1,8 @@
 //! How a firm stands with what it has.
 
-ghost use Rattle.std.specs.Prelude.{◌≡◌, ◌⊎◌, Some, ◌^◌, ◌<◌, ◌≤◌, pos, All, IfSome, length};
+ghost use Rattle.std.specs.Prelude.{◌≡◌, ◌⊎◌, Some, ◌^◌, ◌<◌, ◌≤◌, All, length};
 ghost use Rattle.tn_base.specs.Arcs.{IsAtMost};
-ghost use Rattle.tn_base.specs.Firm.{IsBest, utility};
+ghost use Rattle.tn_base.specs.Firm.{utility};
 ghost use Rattle.tn_exchange.specs.Rows.{firm_of_table};
 ghost use Rattle.tn_firm.specs.Raw.{raw_firm_of};
 ghost use Rattle.tn_holding.specs.Stands.{IsStand};

@@ -1,13 +1,8 @@
 -- What several writes added together.
-use Rattle.std.proofs.Common.{◌≡◌, ℕ, ◌+◌, List, ◌++◌, take, drop, None, Some, sym, ap, subst, ◌∙◌, append_assoc, append-nil, [], ◌-◌, ◌≤◌, length, arith, length-drop}
+use Rattle.std.proofs.Common.{◌≡◌, ℕ, ◌+◌, List, ◌++◌, take, drop, None, Some, sym, ap, subst, ◌∙◌, append_assoc, ◌-◌, ◌≤◌, length, arith, length-drop}
 use Rattle.std.proofs.Math.Seq.{take-add, take_all}
 use Rattle.std.specs.Prelude.{Option}
 use Rattle.tn_io.specs.Sink.{Grows}
-
--- nothing was added
-pub Grows-nil : (a : Option (List ℕ)) → Grows a a []
-Grows-nil None = tt
-Grows-nil (Some xs) = sym (append-nil xs)
 
 -- one write after another
 pub Grows-trans : (a b c : Option (List ℕ)) (xs ys : List ℕ) → Grows a b xs → Grows b c ys → Grows a c (xs ++ ys)

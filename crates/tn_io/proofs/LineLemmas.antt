@@ -1,15 +1,15 @@
 -- Lines of a source's bytes, from the pieces that are read.
-use Rattle.std.proofs.Common.{◌≡◌, ℕ, ◌+◌, ◌-◌, ◌<◌, ◌≤◌, ◌==◌, Bool, false, true, cond, not, List, [], ◌∷◌, ◌++◌, length, take, drop, get_or, None, Some, refl, sym, ap, subst, ◌∙◌, ◌⊎◌, inl, inr, arith, lit≤, append_assoc, append-nil, length-append, length-take, length-drop, take-append-drop}
-use Rattle.std.specs.Prelude.{Option, All, ◌≢◌, nat_lt, position, slice_range}
+use Rattle.std.proofs.Common.{◌≡◌, ℕ, ◌+◌, ◌-◌, ◌<◌, ◌≤◌, ◌==◌, Bool, false, true, cond, not, List, [], ◌∷◌, ◌++◌, length, take, drop, get_or, None, Some, refl, sym, ap, subst, ◌∙◌, ◌⊎◌, inl, inr, arith, append_assoc, append-nil, length-append, length-take, take-append-drop}
+use Rattle.std.specs.Prelude.{Option, ◌≢◌, nat_lt, position, slice_range}
 use Rattle.std.specs.List.{before_first, after_first, position_or_len}
-use Rattle.std.proofs.KnownBytes.{Consumes-nil, Consumes-trans}
+use Rattle.std.proofs.KnownBytes.{Consumes-trans}
 use Rattle.std.proofs.lemmas.Bool.{eqb-true, eqb-false, cases_lt, lt-ltb}
 use Rattle.std.proofs.lemmas.Option.{same_Some}
 use Rattle.std.proofs.lemmas.List.Folds.{length-prefix_len}
 use Rattle.std.proofs.lemmas.List.{get_or-take, drop-drop, drop-take, take_all}
-use Rattle.std.proofs.lemmas.List.Elements.{All-nil, All-append, All-from_get_or}
+use Rattle.std.proofs.lemmas.List.Elements.{All-append, All-from_get_or}
 use Rattle.std.proofs.lemmas.List.Sums.{split_at_first, fails_before_first, passes_at_first}
-use Rattle.std.specs.Io.KnownBytes.{Consumes, IsAtEnd, prepend_known}
+use Rattle.std.specs.Io.KnownBytes.{Consumes, prepend_known}
 use Rattle.tn_io.specs.Lines.{AreNextLines, IsNextLine, IsUnbroken, PassesOver, TakesLines, most_turns}
 
 -- the first bytes of what is read ahead are let go
@@ -51,13 +51,6 @@ feed-None bytes none = by_case (cases_lt (position_or_len (λ byte. byte == 10) 
 
 abbrev pub before_feed : List ℕ → ℕ
 before_feed bytes = position_or_len (λ byte. byte == 10) bytes
-
--- a piece is read where nothing was read ahead
-pub Consumes-filled : (a b : Option (List ℕ)) (old new bytes : List ℕ) → old ≡ [] → new ≡ bytes → Consumes a b bytes
-    → Consumes (prepend_known old a) (prepend_known new b) []
-Consumes-filled None b old new bytes none is p = tt
-Consumes-filled (Some xs) None old new bytes none is p = absurd p
-Consumes-filled (Some xs) (Some ys) old new bytes none is p = ap (λ l. l ++ xs) none ∙ p ∙ ap (λ l. l ++ ys) (sym is)
 
 -- no line feed stands before the first
 pub part-unbroken : (bytes : List ℕ) → IsUnbroken (take (before_feed bytes) bytes)
@@ -162,13 +155,6 @@ TakesLines-trans (Some all) (Some middle) None xs ys p q = absurd q
 TakesLines-trans (Some all) (Some middle) (Some rest) xs ys p q = λ few.
     lines-append all xs ys middle rest (p few) (q (omega (arith, few, lines-shorter all xs middle (p few))))
 
--- the lines are all, where nothing is left
-pub TakesLines-end : (a b : Option (List ℕ)) (lines : List (List ℕ)) → TakesLines a b lines → IsAtEnd b
-    → TakesLines a (Some []) lines
-TakesLines-end None b lines p end = tt
-TakesLines-end (Some all) None lines p end = absurd p
-TakesLines-end (Some all) (Some rest) lines p end = λ few. subst (AreNextLines all lines) end (p few)
-
 -- the lines are more than few bytes have
 pub TakesLines-most : (a b : Option (List ℕ)) (lines : List (List ℕ)) → TakesLines a b lines → most_turns ≤ length lines
     → TakesLines a (Some []) lines
@@ -192,9 +178,6 @@ pub record Passed (old now : Option (List ℕ)) (turns : ℕ) : Type 0 where
   pub plain : IsUnbroken line
   pub taken : Consumes old now line
   pub many : turns ≤ length line
-
-pub none_passed : (a : Option (List ℕ)) → Passed a a 0
-none_passed a = record { line = []; plain = All-nil (λ (byte : ℕ). byte ≢ 10); taken = Consumes-nil a; many = lit≤ tt }
 
 -- a read that fills what is read ahead takes nothing
 after_fill : (a b c : Option (List ℕ)) (turns : ℕ) → Passed a b turns → Consumes b c [] → Passed a c turns
@@ -240,17 +223,6 @@ passed_ended a b left bytes turns passed filled within =
           (take (before_feed bytes) bytes) now.plain now.taken
           (part-unbroken bytes, inl (Consumes-ended left bytes within)),
     )
-
--- the input ends
-pub passed_all : (a b c : Option (List ℕ)) (turns : ℕ) → Passed a b turns → Consumes b c [] → IsAtEnd c
-    → (line : List ℕ) × PassesOver a c line
-passed_all a b c turns passed filled end =
-    let now : Passed a c turns = after_fill a b c turns passed filled in
-    (now.line, (now.plain, inr (now.taken, inl end)))
-
--- the loop has no further turn
-pub passed_most : (a b : Option (List ℕ)) → Passed a b most_turns → (line : List ℕ) × PassesOver a b line
-passed_most a b passed = (passed.line, (passed.plain, inr (passed.taken, inr passed.many)))
 
 -- ---- one more part of a line
 
@@ -319,13 +291,4 @@ line_stopped a b c left line bytes plain taken filled some passed =
       Passes-TakesLines a c ((line ++ take (before_feed bytes) bytes) ++ passed.0) (omega (arith, some, long))
           (Passes-after a (prepend_known (drop (before_feed bytes) bytes) left) c (line
           ++ take (before_feed bytes) bytes) passed.0 (part_plain line bytes plain) front passed.1),
-    )
-
--- the last line, which the end of the bytes ends
-pub line_last : (a b c : Option (List ℕ)) (line : List ℕ) → IsUnbroken line → Consumes a b line → Consumes b c []
-    → IsAtEnd c → 0 < length line → TakesLines a c (line ∷ [])
-line_last a b c line plain taken filled end some =
-    Passes-TakesLines a c line some (
-      plain,
-      inr (subst (Consumes a c) (append-nil line) (Consumes-trans a b c line [] taken filled), inl end),
     )

@@ -1,7 +1,6 @@
 //! The verdict on an outcome, in three steps.
 
 ghost use Rattle.std.specs.Prelude.{◌≡◌, ◌≤◌, IfOk, length, pos, ◌*ℤ◌, ◌≤ℤ◌};
-ghost use Rattle.tn_base.specs.Sets.{size};
 ghost use Rattle.tn_chain.specs.Limits.{most_judged_trades};
 ghost use Rattle.tn_plain_data.specs.Limits.{most_over};
 ghost use Rattle.tn_chain.specs.Search.{chain_scale};

@@ -1,7 +1,7 @@
 //! A row of worths from one walk over the sets: a toggle changes the numbers of those sets alone that hold the
 //! position, each by its step up or down at the present net count.
 
-ghost use Rattle.std.specs.Prelude.{◌≡◌, ◌≢◌, ℕ, ◌+◌, ◌*◌, ◌^◌, ◌<◌, ◌≤◌, length, slice_get, Some, true};
+ghost use Rattle.std.specs.Prelude.{◌≡◌, ◌≢◌, ◌+◌, ◌*◌, ◌^◌, ◌<◌, ◌≤◌, length, slice_get, Some, true};
 ghost use Rattle.tn_base.specs.Arcs.{IsAtMost};
 ghost use Rattle.tn_base.specs.Sets.{has, sum_over, toggle};
 ghost use Rattle.tn_base.specs.Widths.{most_amount};

@@ -46,10 +46,6 @@ sum_to-single u m inside =
     let nothing = sum_to-nothing m in
     omega (arith, step, nothing)
 
--- the levels of a bundle at the places of a firm
-abbrev pub level_in : Firm → ℕ → ℕ → ℕ
-level_in firm x k = level firm.count firm.buys x k
-
 -- how far a bundle is above another
 abbrev pub gap_in : Firm → ℕ → ℕ → ℕ
 gap_in firm x y = gap firm.count (level firm.count firm.buys x) (level firm.count firm.buys y)

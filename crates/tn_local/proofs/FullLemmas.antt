@@ -10,35 +10,9 @@ use Rattle.tn_exchange.specs.TestOrder.{Triple, TripleFails}
 use Rattle.tn_exchange.specs.Verdicts.{IsVerdictOn}
 use Rattle.tn_exchange.specs.declared.verdict.Verdict.{Verdict}
 use Rattle.tn_exchange.specs.declared.verdict.Verdict.TheVariants.{Holds, Fails as Failed}
-use Rattle.tn_local.specs.Walk.{AgreesFrom, IsApartAt, AreApartAt, IsReached, OfClose}
-use Rattle.tn_local.specs.declared.walk.Two.{Two}
+use Rattle.tn_local.specs.Walk.{AgreesFrom, IsReached, OfClose}
 use Rattle.tn_local.specs.declared.walk.Sides.{Sides}
 use Rattle.tn_local.proofs.WalkLemmas.{far_by_up, far_by_down}
-
--- what was reached at a position was reached at all of them
-apart_all : (n buys x y k level p : ℕ) → IsApartAt n buys x y k level p → IsApartAt n buys x y 0 level p
-apart_all n buys x y k level p is = record {
-  place = is.place;
-  from = λ h. omega arith;
-  level_is =
-      is.level_is;
-  differs = is.differs;
-}
-
-two_all : (n buys x y k level : ℕ) (two : Two) → AreApartAt n buys x y k level two → AreApartAt n buys x y 0 level two
-two_all n buys x y k level two are = record {
-  first = apart_all n buys x y k level two.first are.first;
-  second = apart_all n buys x y k level two.second are.second;
-  order = are.order;
-}
-
-pub reached_all : (n buys x y k : ℕ) (sides : Sides) → IsReached n buys x y k sides → IsReached n buys x y 0 sides
-reached_all n buys x y k sides reached = record {
-  own = reached.own;
-  up = two_all n buys x y k 1 sides.up reached.up;
-  down = two_all n buys x y k 0 sides.down reached.down;
-  same = reached.same;
-}
 
 -- a digit is that of x, or the other one
 same_or_not : (a b : Bool) → (a ≡ b) ⊎ (a ≡ not b)

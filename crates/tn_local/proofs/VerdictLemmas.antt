@@ -11,11 +11,11 @@ use Rattle.tn_base.specs.Exchange.{Fails, NoneFails}
 use Rattle.tn_base.proofs.SetLemmas.{has-toggle_same, has-toggle_other, same_set, has_above, has-double, has-double_one, has-double_lowest, has-double_one_lowest}
 use Rattle.tn_law.specs.Close.{AreClose}
 use Rattle.tn_law.proofs.ClosePairs.{close_pairs_decide}
-use Rattle.tn_exchange.specs.TestOrder.{Triple, TripleFails, IsFirstFailure}
+use Rattle.tn_exchange.specs.TestOrder.{Triple, TripleFails}
 use Rattle.tn_exchange.specs.Verdicts.{IfFails, IsVerdictOn, HasTotal}
 use Rattle.tn_exchange.specs.declared.verdict.Verdict.{Verdict}
 use Rattle.tn_exchange.specs.declared.verdict.Verdict.TheVariants.{Holds, Fails as Failed}
-use Rattle.tn_local.specs.First.{HasCloseBundles, IsFirstCloseFailure, IsFirstTriple}
+use Rattle.tn_local.specs.First.{HasCloseBundles, IsFirstCloseFailure}
 use Rattle.tn_local.specs.Walk.{AgreesFrom, OfClose, IsReached, PairsAreEnough}
 use Rattle.tn_local.specs.declared.walk.Sides.{Sides}
 use Rattle.tn_local.proofs.FourLemmas.{four_close, four_hold}
@@ -212,11 +212,6 @@ no_more_close firm k none here s above close f = elim (cases_eq s.x k) [
   | inr d ↦ none s (omega (arith, above, d)) close f
 ]
 
--- an impossible first bundle has no triple that fails
-pub impossible_first : (firm : Firm) (k : ℕ) → firm.worth k ≡ None → (s : Triple) → (s.x ≡ k) × AreClose firm.buys k s.y
-    → TripleFails firm s → ⊥
-impossible_first firm k none s within f = none-some f.first (sym none ∙ ap firm.worth (sym within.0) ∙ f.first_is)
-
 -- no triple has a first bundle with a position that isn't own
 pub none_above_close : (firm : Firm) → HasOwnBundles firm → (k : ℕ) → 2 ^ firm.count ≤ k → (s : Triple) → k ≤ s.x
     → HasCloseBundles firm s → TripleFails firm s → ⊥
@@ -320,18 +315,3 @@ without_fails firm buys x y toggled k sides w position not_done reached is absen
     let same = not_below firm.count buys x y k sides position not_done reached in
     whole_at firm x y k w not_done (lower_fails firm x y y (toggle y (k - 1)) (k - 1) w failed
     (half_same (k - 1) y false (same ∙ absent)) (half_toggled (k - 1) y true (same ∙ absent)) low)
-
--- a first failure is the first triple of a small table, and a first close failure that of a large one
-pub first_of_small : (firm : Firm) (v : Verdict) → (10 < firm.count → ⊥) → IfFails v (IsFirstFailure firm)
-    → IfFails v (IsFirstTriple firm)
-first_of_small firm Holds small first = tt
-first_of_small firm (Failed x y at) small first = record { small = λ h. first; large = λ h. absurd (small h) }
-
-pub first_of_large : (firm : Firm) (v : Verdict) → 10 < firm.count → IfFails v (IsFirstCloseFailure firm)
-    → IfFails v (IsFirstTriple firm)
-first_of_large firm Holds large first = tt
-first_of_large firm (Failed x y at) large first = record {
-  small = λ h. absurd (omega (arith, h, large));
-  large =
-      λ h. first;
-}

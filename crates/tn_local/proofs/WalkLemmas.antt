@@ -139,32 +139,6 @@ unwalked n buys x y k sides below reached =
     other : (p : ℕ) → (p < n → suc k ≤ p) → k ≢ p
     other p from e = let h = from (omega (arith, e, below)) in omega (arith, h, e)
 
--- one position less is walked
-apart_less : (n buys x y k level p : ℕ) → IsApartAt n buys x y (suc k) level p → IsApartAt n buys x y k level p
-apart_less n buys x y k level p is = record {
-  place = is.place;
-  from = λ h. let from = is.from h in omega (arith, from);
-  level_is = is.level_is;
-  differs = is.differs;
-}
-
-two_less : (n buys x y k level : ℕ) (two : Two) → AreApartAt n buys x y (suc k) level two
-    → AreApartAt n buys x y k level two
-two_less n buys x y k level two are = record {
-  first = apart_less n buys x y k level two.first are.first;
-  second = apart_less n buys x y k level two.second are.second;
-  order = are.order;
-}
-
-pub reached_less : (n buys x y k : ℕ) (sides : Sides) → IsReached n buys x y (suc k) sides
-    → IsReached n buys x y k sides
-reached_less n buys x y k sides reached = record {
-  own = reached.own;
-  up = two_less n buys x y k 1 sides.up reached.up;
-  down = two_less n buys x y k 0 sides.down reached.down;
-  same = reached.same;
-}
-
 -- a toggle below changes nothing at the places of before
 apart_toggled : (n buys x y k level p : ℕ) → IsApartAt n buys x y (suc k) level p
     → IsApartAt n buys x (toggle y k) k level p
@@ -201,24 +175,6 @@ apart_here n buys x y k level below same is = record {
   level_is = λ h. is;
   differs = λ h. has-toggle_same y k ∙ ap not same;
 }
-
--- before the first toggle
-pub reached_none : (n buys x : ℕ) (sides : Sides) → x < 2 ^ n → sides.up.first ≡ n → sides.up.second ≡ n
-    → sides.down.first ≡ n → sides.down.second ≡ n
-    → IsReached n buys x x n sides
-reached_none n buys x sides own a b c d = record {
-  own = own;
-  up = none 1 sides.up a b;
-  down = none 0 sides.down c d;
-  same = λ j h p q r s. refl;
-}
-  where
-    none : (level : ℕ) (two : Two) → two.first ≡ n → two.second ≡ n → AreApartAt n buys x x n level two
-    none level two first second = record {
-      first = subst (IsApartAt n buys x x n level) (sym first) (apart_null n buys x x n level);
-      second = subst (IsApartAt n buys x x n level) (sym second) (apart_null n buys x x n level);
-      order = λ h. absurd (omega (arith, h, second));
-    }
 
 -- one toggle more, at a position of this level
 pub one_more_apart : (n buys x y k level : ℕ) (two : Two) → k < n → has y k ≡ has x k → trade_level buys x k ≡ level

@@ -127,14 +127,6 @@ no_worse-trans value_of first second third one two = record {
   kept = omega (arith, ints, one.kept, two.kept);
 }
 
--- no other position tried
-pub others_none : (value_of : ℕ → Option ℤ) (x others : ℕ) (found : BundleValue)
-    → TriesOthers value_of x others 0 found found
-others_none value_of x others found = record {
-  no_worse = record { valued = λ h. h; kept = omega (arith, ints) };
-  tried = λ k other below. absurd (omega (arith, below));
-}
-
 -- with one more of them tried
 pub others_more : (value_of : ℕ → Option ℤ) (x others k : ℕ) (first second third : BundleValue)
     → TriesOthers value_of x others k first second
@@ -302,10 +294,6 @@ stays value_of from found next valued step gains kept value best =
     let same = same_Some found.value value (sym valued ∙ ap value_of (kept value best) ∙ best.is) in
     let most = best.most next.bundle next.value (step.valued valued) in
     absurd (omega (arith, ints, same, most, gains))
-
--- what has no value isn't best
-pub no_value : (value_of : ℕ → Option ℤ) (from x : ℕ) → None ≡ value_of from → StaysAt value_of from x
-no_value value_of from x none value best = let some = best.is in absurd (cc (none, some))
 
 pub lt_from_test : (a b : ℤ) → le_z a b ≡ false → b <ℤ a
 lt_from_test a b test = grind (arith, ints)

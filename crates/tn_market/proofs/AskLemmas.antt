@@ -1,22 +1,16 @@
 -- What an oracle says when it is asked among all bundles, and how large its answers are.
-use Rattle.std.proofs.Common.{rules, ◌≡◌, ℕ, ◌*◌, ◌^◌, ◌<◌, ◌≤◌, Bool, true, false, ◌&&◌, ◌||◌, if◌then◌else◌, List, length, Some, None, Option, option_map, IsSome, refl, sym, ap, ap₂, ◌∙◌, subst, arith, ℤ, pos, ◌+ℤ◌, neg_ℤ, ◌≤ℤ◌, ◌*ℤ◌}
-use Rattle.std.specs.List.{All}
+use Rattle.std.proofs.Common.{rules, ◌≡◌, ℕ, ◌^◌, ◌<◌, Bool, true, false, ◌&&◌, ◌||◌, if◌then◌else◌, Some, None, Option, option_map, IsSome, refl, sym, ap, ap₂, ◌∙◌, subst, arith, ℤ, ◌+ℤ◌, neg_ℤ, ◌*ℤ◌}
 use Rattle.std.proofs.lemmas.Int.{ints}
 use Rattle.std.proofs.lemmas.Bool.{lt-ltb}
-use Rattle.std.proofs.lemmas.List.Elements.{All-get_or}
 use mir.Syntax.{w128}
 use mir.Val.{to_z, of_z}
 use Rattle.tn_base.specs.Sets.{has, meet, set_of, sum_over}
 use Rattle.tn_base.specs.Arcs.{IsAtMost}
 use Rattle.tn_base.specs.Firm.{Firm, payments, utility, IsBest, HasOwnBundles}
 use Rattle.tn_base.proofs.SetLemmas.{same_set, has-zero, has-meet, has-union, has-set_of, has_below, set_of_within}
-use Rattle.tn_law.proofs.BoundLemmas.{sum_over_small}
 use Rattle.tn_law.proofs.KeepLemmas.{option_map-some}
-use Rattle.tn_market.specs.Valued.{IsWorthAtMost}
 use Rattle.tn_market.specs.Best.{IsBetween, IsBestBetween}
-use Rattle.tn_plain_data.specs.Prices.{price_at}
-use Rattle.tn_market.proofs.AscentLemmas.{scaled_small, smaller}
-use Rattle.tn_market.specs.Widths.{most_asked_price, most_limit, most_utility, most_worth, most_scale, most_own}
+use Rattle.tn_market.specs.Widths.{most_utility}
 
 -- ---- the empty bundle
 
@@ -81,40 +75,6 @@ payment_small buys prices k limit small = by_side (has buys k)
     by_side : (b : Bool) → IsAtMost (if b then neg_ℤ (prices k) else prices k) limit
     by_side true = record { low = omega (arith, ints, small.high); high = omega (arith, ints, small.low) }
     by_side false = small
-
--- the numbers of a question are within their limits
-pub record IsAsked (firm : Firm) (limit : ℕ) (scale : ℤ) (prices : List ℤ) : Type 0 where
-  pub within : IsWorthAtMost limit firm
-  pub small_limit : limit ≤ most_worth
-  pub priced : length prices ≡ firm.count
-  pub few : firm.count ≤ most_own
-  pub small : All (λ p. IsAtMost p most_asked_price) prices
-  pub from_one : pos 1 ≤ℤ scale
-  pub small_scale : scale ≤ℤ pos most_scale
-
--- a utility is at most 10^22 in size
-pub utility_small : (firm : Firm) (limit : ℕ) (scale : ℤ) (prices : List ℤ) (x : ℕ) (value : ℤ)
-    → IsAsked firm limit scale prices
-    → utility scale (price_at prices) firm x ≡ Some value → IsAtMost value most_utility
-utility_small firm limit scale prices x value asked is =
-    let few = asked.few in
-    let priced = asked.priced in
-    let worth = option_map-some (λ a. scale *ℤ a +ℤ sum_over (payments firm.buys (price_at prices)) firm.count x)
-    (firm.worth x) value is in
-    let product =
-    scaled_small scale worth.0 asked.from_one asked.small_scale
-    (smaller worth.0 limit most_worth asked.small_limit (asked.within x worth.0 worth.1)) in
-    let sum = sum_over_small (payments firm.buys (price_at prices)) firm.count x most_asked_price (λ k below.
-    payment_small firm.buys (price_at prices) k most_asked_price
-    (All-get_or (λ p. IsAtMost p most_asked_price) prices k (pos 0) (omega (arith, priced, below)) asked.small)) in
-    both few _ _ _ worth.2 product sum
-  where
-    both : firm.count ≤ most_own → (a b c : ℤ) → a +ℤ b ≡ c → IsAtMost a most_limit
-        → IsAtMost b (firm.count * most_asked_price) → IsAtMost c most_utility
-    both few a b c sum small_a small_b = record {
-      low = omega (arith, ints, sum, small_a.low, small_b.low, few);
-      high = omega (arith, ints, sum, small_a.high, small_b.high, few);
-    }
 
 -- such a number is in the range of the code's
 pub as_is : (z : ℤ) → IsAtMost z most_utility → to_z w128 (of_z w128 z) ≡ z

@@ -75,37 +75,6 @@ pub record IsRowChanged (worth_of other_of : ℕ → Option ℤ) (x wanted k : �
   pub done : (j : ℕ) → j < k → has wanted j ≡ true → get_or worths j None ≡ worth_of (toggle x j)
   pub left : (j : ℕ) → k ≤ j → has wanted j ≡ true → get_or worths j None ≡ other_of (toggle x j)
 
-pub changed_none : (worth_of other_of : ℕ → Option ℤ) (x wanted : ℕ) (worths : List (Option ℤ))
-    → HasToggledWorths other_of x wanted worths
-    → IsRowChanged worth_of other_of x wanted 0 worths
-changed_none worth_of other_of x wanted worths row =
-    record { done = λ j h. absurd (omega (arith, h)); left = λ j h. row j }
-
-pub changed_more : (worth_of other_of : ℕ → Option ℤ) (x wanted k : ℕ) (worths : List (Option ℤ))
-    → IsRowChanged worth_of other_of x wanted k worths
-    → k < length worths → (o : Option ℤ) → o ≡ worth_of (toggle x k)
-    → IsRowChanged worth_of other_of x wanted (k + 1) (set worths k o)
-changed_more worth_of other_of x wanted k worths row inside o is = record {
-  done = λ j h wants. elim (cases_eq j k) [
-    | inl e ↦ ap (λ (i : ℕ). get_or (set worths k o) i None) e ∙ get_or-set_same worths k o None inside ∙ is
-        ∙ ap (λ (i : ℕ). worth_of (toggle x i)) (sym e)
-    | inr d ↦ get_or-set_other worths k j o None d ∙ row.done j (omega (arith, h, d)) wants
-  ];
-  left = λ j h wants. get_or-set_other worths k j o None (λ e. (let p = e in absurd (omega (arith, h, p))))
-      ∙ row.left j (omega (arith, h)) wants;
-}
-
-pub changed_same : (worth_of other_of : ℕ → Option ℤ) (x wanted k : ℕ) (worths : List (Option ℤ))
-    → IsRowChanged worth_of other_of x wanted k worths
-    → has wanted k ≡ false → IsRowChanged worth_of other_of x wanted (k + 1) worths
-changed_same worth_of other_of x wanted k worths row absent = record {
-  done = λ j h wants. elim (cases_eq j k) [
-    | inl e ↦ absurd (false≢true (sym absent ∙ ap (has wanted) (sym e) ∙ wants))
-    | inr d ↦ row.done j (omega (arith, h, d)) wants
-  ];
-  left = λ j h wants. row.left j (omega (arith, h)) wants;
-}
-
 pub changed_all : (worth_of other_of : ℕ → Option ℤ) (x wanted k : ℕ) (worths : List (Option ℤ))
     → IsRowChanged worth_of other_of x wanted k worths
     → wanted < 2 ^ k → HasToggledWorths worth_of x wanted worths

@@ -1,6 +1,6 @@
 //! The names of a document's firms and trades.
 
-ghost use Rattle.std.specs.Prelude.{◌≡◌, ◌<◌, ◌++◌, [], ◌∷◌, true, false, Some, not, length, slice_get, if◌then◌else◌, ◌↔◌, IsSome, IfSome, IsTrue, IfOk, OnErr};
+ghost use Rattle.std.specs.Prelude.{◌≡◌, ◌<◌, true, false, Some, not, length, slice_get, if◌then◌else◌, ◌↔◌, IsSome, IfSome, IsTrue, IfOk, OnErr};
 ghost use Rattle.tn_names.specs.Names.{IsNameList, has_name, is_name, number_of, no_names, with_firm, with_trade, most_names};
 
 use crate::name_list::NameList;

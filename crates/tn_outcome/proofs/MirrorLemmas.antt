@@ -50,17 +50,6 @@ best_in_mirror firm mirror given value is_mirror best = record {
   most = λ x v x_is. let back = is_mirror.reached x v x_is in best.most back.0 v back.2;
 }
 
-pub best_from_mirror : (firm : Firm) (mirror : ℕ → Option ℤ) (given : ℕ) (value : ℤ) → IsMirror firm mirror given value
-    → IsBest mirror 0 value → IsBest firm.worth given value
-best_from_mirror firm mirror given value is_mirror best = record {
-  is = is_mirror.is;
-  most = λ y u y_is.
-      let there = is_mirror.covers y u y_is in
-      let high = best.most (minus y given) there.0 there.1 in
-      let low = there.2 in
-      omega (arith, ints, high, low);
-}
-
 -- ---- places
 
 -- where a place of the firm is moved in the mirror: at null where it is given

@@ -160,14 +160,6 @@ pub record AreJudged (firms : List Firm) (trades : List Ends) (scale : ℤ) (on 
   pub sum : surplus_from trades on 0 (take f firms) ≡ Some surplus
   pub small : IsAtMost surplus (f * most_worth)
 
-pub none_judged : (firms : List Firm) (trades : List Ends) (scale : ℤ) (on : ℕ) (prices : ℕ → ℤ)
-    → AreJudged firms trades scale on prices 0 (pos 0)
-none_judged firms trades scale on prices = record {
-  before = λ g firm below is. absurd (omega (arith, below));
-  sum = refl;
-  small = record { low = omega (arith, ints); high = omega (arith, ints) };
-}
-
 -- with one more firm
 pub one_judged : (firms : List Firm) (trades : List Ends) (scale : ℤ) (on : ℕ) (prices : ℕ
     → ℤ) (f : ℕ) (surplus amount : ℤ) (firm : Firm)

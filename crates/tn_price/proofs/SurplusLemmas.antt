@@ -84,13 +84,6 @@ pub record AreAdded (firms : List Firm) (trades : List Ends) (on f : ℕ) (surpl
   pub sum : surplus_from trades on 0 (take f firms) ≡ Some surplus
   pub small : IsAtMost surplus (f * most_limit)
 
-pub none_added : (firms : List Firm) (trades : List Ends) (on : ℕ) → AreAdded firms trades on 0 (pos 0)
-none_added firms trades on = record {
-  sum = refl;
-  small =
-      record { low = omega (arith, ints); high = omega (arith, ints) };
-}
-
 pub one_added : (firms : List Firm) (trades : List Ends) (on f : ℕ) (surplus amount : ℤ) (firm : Firm)
     → AreAdded firms trades on f surplus → slice_get firms f ≡ Some firm
     → firm.worth (part trades f firm.count on) ≡ Some amount → IsAtMost amount most_limit

@@ -1,6 +1,6 @@
 //! The verdict on an arrangement.
 
-ghost use Rattle.std.specs.Prelude.{◌≡◌, ℕ, ◌^◌, ◌*◌, ◌<◌, ◌≤◌, Some, pos, ◌≤ℤ◌, length, slice_get, All};
+ghost use Rattle.std.specs.Prelude.{◌≡◌, ℕ, ◌*◌, ◌<◌, ◌≤◌, Some, pos, ◌≤ℤ◌, length, slice_get, All};
 ghost use Rattle.tn_base.specs.Arcs.{IsAtMost};
 ghost use Rattle.tn_plain_data.specs.Prices.{price_at};
 ghost use Rattle.tn_plain_data.specs.Limits.{most_claimed_over, most_number};

@@ -4,7 +4,7 @@ ghost use Rattle.std.specs.Prelude.{ℕ, ◌<◌, ◌≤◌, length};
 ghost use Rattle.serde_json.specs.View.{view};
 ghost use Rattle.tn_plain_data.specs.Limits.{most_own_trades};
 ghost use Rattle.tn_shape.specs.Reading.{Gives};
-ghost use Rattle.tn_read_references.specs.Ordered.{Listed, sides_of};
+ghost use Rattle.tn_read_references.specs.Ordered.{sides_of};
 ghost use Rattle.tn_read_claims.specs.Claimed.{claim_by, claim_of, kind_of};
 
 use crate::kinds::{

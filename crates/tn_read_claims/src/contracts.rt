@@ -3,7 +3,7 @@
 ghost use Rattle.serde_json.specs.View.{view, items_view};
 ghost use Rattle.tn_shape.specs.Reading.{Gives, each};
 ghost use Rattle.tn_read_parts.specs.Lists.{list_place};
-ghost use Rattle.tn_read_claims.specs.Members.{Offered, claimed_contracts, no_offers, one_offer};
+ghost use Rattle.tn_read_claims.specs.Members.{claimed_contracts, no_offers, one_offer};
 
 use serde_json::Value;
 use std::alloc::Global;

@@ -4,7 +4,7 @@ ghost use Rattle.std.specs.Prelude.{ℕ, ◌<◌, ◌≤◌, length};
 ghost use Rattle.serde_json.specs.View.{view};
 ghost use Rattle.tn_plain_data.specs.Limits.{most_own_trades};
 ghost use Rattle.tn_shape.specs.Reading.{Gives};
-ghost use Rattle.tn_read_references.specs.Ordered.{Listed, sides_of};
+ghost use Rattle.tn_read_references.specs.Ordered.{sides_of};
 ghost use Rattle.tn_read_claims.specs.Claimed.{accepted_of, better_of, blocks_of, completes_of, cycle_of, drops_of, equilibrium_of, failure_of, frame_of, impossible_of, no_prices_of, solved_of, supported_of};
 
 use crate::contracts::contracts_of;

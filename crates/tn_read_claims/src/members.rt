@@ -1,11 +1,11 @@
 //! The members of a claim.
 
-ghost use Rattle.std.specs.Prelude.{◌≡◌, ◌<◌, ◌≤◌, length, option_map, IfOk};
+ghost use Rattle.std.specs.Prelude.{◌<◌, ◌≤◌, length, option_map, IfOk};
 ghost use Rattle.serde_json.specs.View.{view};
 ghost use Rattle.tn_plain_data.specs.Limits.{most_own_trades};
 ghost use Rattle.tn_shape.specs.Reading.{Gives};
-ghost use Rattle.tn_read_references.specs.Ordered.{Listed, sides_of};
-ghost use Rattle.tn_read_claims.specs.Members.{claimed_bundle, claimed_firm, claimed_number, claimed_on, claimed_over, claimed_prices, gain_or_null, member_place, own_or_null};
+ghost use Rattle.tn_read_references.specs.Ordered.{sides_of};
+ghost use Rattle.tn_read_claims.specs.Members.{claimed_bundle, claimed_firm, claimed_number, claimed_on, claimed_over, claimed_prices, gain_or_null, own_or_null};
 
 use serde_json::Value;
 use std::alloc::Global;

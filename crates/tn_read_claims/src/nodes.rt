@@ -2,7 +2,7 @@
 
 ghost use Rattle.std.specs.Prelude.{◌≡◌, ◌+◌, ◌<◌, ◌≤◌, [], length, OnOk};
 ghost use Rattle.serde_json.specs.View.{view, items_view};
-ghost use Rattle.tn_plain_data.specs.Limits.{least_nodes, most_nodes};
+ghost use Rattle.tn_plain_data.specs.Limits.{most_nodes};
 ghost use Rattle.tn_shape.specs.Reading.{Gives, each};
 ghost use Rattle.tn_read_claims.specs.Members.{claimed_nodes, node_at, one_node};
 

@@ -4,7 +4,7 @@ ghost use Rattle.std.specs.Prelude.{◌≡◌, ◌+◌, ◌<◌, ◌≤◌, ℕ,
 ghost use Rattle.serde_json.specs.View.{view, items_view};
 ghost use Rattle.tn_plain_data.specs.Limits.{most_own_trades, most_parts};
 ghost use Rattle.tn_shape.specs.Reading.{Gives, each};
-ghost use Rattle.tn_read_references.specs.Ordered.{Listed, sides_of};
+ghost use Rattle.tn_read_references.specs.Ordered.{sides_of};
 ghost use Rattle.tn_read_references.specs.References.{bundle_at};
 ghost use Rattle.tn_read_claims.specs.Planned.{claimed_plan, in_part, one_part, part_of, weight_at};
 

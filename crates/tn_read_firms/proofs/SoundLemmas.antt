@@ -271,10 +271,6 @@ module _ (earlier sets : List LaminarSet) (set : LaminarSet) where
 -- ---- all sets
 
 module _ (f : ℕ) where
-  passes_on : (earlier sets : List LaminarSet) (set : LaminarSet) (P : List LaminarSet → Type 0)
-      → P (earlier ++ set ∷ sets) → P ((earlier ++ set ∷ []) ++ sets)
-  passes_on earlier sets set P p = subst P (sym (append_assoc earlier (set ∷ []) sets)) p
-
   sound_after : (earlier sets : List LaminarSet) → ((k : ℕ) (set : LaminarSet) → length earlier ≤ k
       → slice_get (earlier ++ sets) k ≡ Some set → IsSound (earlier ++ sets) k set) → check_sets f earlier sets ≡ Ok tt
   sound_after earlier [] each = refl

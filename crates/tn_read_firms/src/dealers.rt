@@ -3,9 +3,7 @@
 ghost use Rattle.std.specs.Prelude.{◌≡◌, ◌*◌, ◌≤◌, ◌++◌, ◌∷◌, [], length, option_map};
 ghost use Rattle.std.specs.List.{list_any};
 ghost use Rattle.serde_json.specs.View.{view, items_view};
-ghost use Rattle.tn_base.specs.Table.{buys_of};
 ghost use Rattle.tn_dealer.specs.Firms.{firm_of};
-ghost use Rattle.tn_dealer.specs.Pairs.{AreDifferent, IsOwnPair};
 ghost use Rattle.tn_plain_data.specs.Limits.{most_own_trades};
 ghost use Rattle.tn_read_firms.specs.Dealers.{dealer_of, is_same_pair, one_pair, pair_of, three_at, three_of};
 ghost use Rattle.tn_read_references.specs.Ordered.{AreTrades, sides_of};

@@ -1,7 +1,6 @@
 //! The fault of a table that doesn't meet exchange.
 
 ghost use Rattle.std.specs.Prelude.{◌≡◌, ◌≤◌, length, option_map, IfOk};
-ghost use Rattle.tn_exchange.specs.TestOrder.{Triple};
 ghost use Rattle.tn_plain_data.specs.Limits.{most_trades};
 ghost use Rattle.tn_plain_data.specs.Network.{own};
 ghost use Rattle.tn_read_firms.specs.Firms.{failure_of};

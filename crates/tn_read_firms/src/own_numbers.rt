@@ -3,7 +3,6 @@
 ghost use Rattle.std.specs.Prelude.{◌≡◌, ◌<◌, ◌≤◌, length, option_map, IfOk};
 ghost use Rattle.serde_json.specs.View.{view, items_view};
 ghost use Rattle.tn_plain_data.specs.Limits.{most_own_trades};
-ghost use Rattle.tn_read_references.specs.Entries.{Numbered};
 ghost use Rattle.tn_read_references.specs.Ordered.{sides_of};
 ghost use Rattle.tn_read_firms.specs.OwnNumbers.{one_own, own_entry, own_numbers};
 ghost use Rattle.tn_shape.specs.Reading.{Gives, each};

@@ -8,8 +8,8 @@ ghost use Rattle.tn_plain_data.specs.Limits.{most_own_of_table};
 ghost use Rattle.tn_exchange.specs.Rows.{firm_of_table};
 ghost use Rattle.tn_local.specs.First.{IsFullIfLarge};
 ghost use Rattle.tn_read_references.specs.Ordered.{sides_of};
-ghost use Rattle.tn_shape.specs.Reading.{Gives, each};
-ghost use Rattle.tn_read_firms.specs.Tables.{Rows, filled, full_if_large, one_row, row_of, rows_of};
+ghost use Rattle.tn_shape.specs.Reading.{Gives};
+ghost use Rattle.tn_read_firms.specs.Tables.{filled, full_if_large, one_row, row_of, rows_of};
 
 use serde_json::Value;
 use std::alloc::Global;

@@ -5,7 +5,7 @@ ghost use Rattle.serde_json.specs.View.{view, items_view};
 ghost use Rattle.tn_names.specs.Names.{no_names};
 ghost use Rattle.tn_plain_data.specs.Limits.{AreLimits};
 ghost use Rattle.tn_shape.specs.Reading.{Gives};
-ghost use Rattle.tn_read_references.specs.Ordered.{AreTrades, Listed};
+ghost use Rattle.tn_read_references.specs.Ordered.{AreTrades};
 ghost use Rattle.tn_read_head.specs.Beside.{GivesBeside};
 ghost use Rattle.tn_read_head.specs.Listing.{limits_at, listed_of};
 ghost use Rattle.tn_read_head.specs.Refused.{Reads};

@@ -2,7 +2,7 @@
 
 ghost use Rattle.std.specs.Prelude.{◌≡◌, ◌+◌, ◌<◌, ◌≤◌, length, option_map, true, IfOk, OnOk};
 ghost use Rattle.serde_json.specs.View.{view, items_view};
-ghost use Rattle.tn_names.specs.Names.{NameLists, is_name};
+ghost use Rattle.tn_names.specs.Names.{is_name};
 ghost use Rattle.tn_plain_data.specs.Limits.{most_firms, most_trades};
 ghost use Rattle.tn_shape.specs.Reading.{Gives, each};
 ghost use Rattle.tn_read_head.specs.Beside.{GivesBeside, with_names};

@@ -2,12 +2,11 @@
 
 ghost use Rattle.std.specs.Prelude.{◌≡◌, ◌+◌, ◌<◌, ◌≤◌, ◌++◌, [], ◌∷◌, length, IfOk, OnOk};
 ghost use Rattle.serde_json.specs.View.{view, items_view};
-ghost use Rattle.tn_names.specs.Names.{NameLists};
 ghost use Rattle.tn_plain_data.specs.Limits.{most_trades};
 ghost use Rattle.tn_shape.specs.Reading.{Gives, each};
 ghost use Rattle.tn_read_references.specs.Ordered.{AreInOrder, ComesNext};
 ghost use Rattle.tn_read_head.specs.Beside.{GivesBeside};
-ghost use Rattle.tn_read_head.specs.Naming.{NamedTrades, ends_at, one_trade};
+ghost use Rattle.tn_read_head.specs.Naming.{ends_at, one_trade};
 
 use crate::names::read_trade_name;
 use serde_json::Value;

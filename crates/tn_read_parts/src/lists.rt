@@ -6,7 +6,6 @@ ghost use Rattle.tn_plain_data.specs.Limits.{most_listed};
 ghost use Rattle.tn_plain_data.specs.Prices.{price_at};
 ghost use Rattle.tn_plain_data.specs.Choices.{contracts_of};
 ghost use Rattle.tn_shape.specs.Reading.{Gives, each};
-ghost use Rattle.tn_read_references.specs.Entries.{Numbered};
 ghost use Rattle.tn_read_parts.specs.Lists.{contracts_at, first_without, list_place, named_prices, one_on, one_price, price_of, prices_of, unless_missing};
 
 use serde_json::Value;

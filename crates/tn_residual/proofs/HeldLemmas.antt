@@ -32,17 +32,6 @@ abbrev pub NoneOn : List Contract → ℕ → ℕ → Type 0
 NoneOn contracts t k = (j : ℕ) (contract : Contract) → j < k → slice_get contracts j ≡ Some contract
     → contract.trade ≢ t
 
-pub none_before : (contracts : List Contract) (t : ℕ) → NoneOn contracts t 0
-none_before contracts t j contract below is = absurd (omega (arith, below))
-
-pub none_next : (contracts : List Contract) (t k : ℕ) (contract : Contract) → NoneOn contracts t k
-    → slice_get contracts k ≡ Some contract → contract.trade ≢ t → NoneOn contracts t (k + 1)
-none_next contracts t k contract before there apart j other below is = elim (cases_eq j k) [
-  | inl e ↦ λ same. apart (ap (λ (c : Contract). c.trade)
-      (same_Some contract other (sym there ∙ ap (slice_get contracts) (sym e) ∙ is)) ∙ same)
-  | inr d ↦ before j other (omega (arith, below, d)) is
-]
-
 skipped : (first : Contract) (contracts : List Contract) (t : ℕ) → first.trade ≢ t
     → contract_price (first ∷ contracts) t ≡ contract_price contracts t
 skipped first contracts t apart =

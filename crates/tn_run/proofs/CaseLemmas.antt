@@ -63,15 +63,6 @@ run_decides found case names said (Ok agrees) is answer decided =
     ∙ ap (option_map (agrees_with (status_of said) (answer_line (case_layout case.command) names said))) is)))
 run_decides found case names said (Err error) is answer decided = decided
 
--- no case is run yet
-pub none_failed : (cases : List CaseData) → AreFailed 0 cases []
-none_failed cases = record {
-  ascending = λ k inside. absurd (omega (arith, inside));
-  among = All-nil _;
-  passed = λ k case below is unlisted. absurd (omega (arith, below));
-  failing = λ k case below is listed. absurd (omega (arith, below));
-}
-
 module _ (count : ℕ) (cases : List CaseData) (failed : List ℕ) (are : AreFailed count cases failed) where
   -- the numbers of the cases before are those of one more too
   still_among : All (λ number. (1 ≤ number) × (number ≤ count + 1)) failed

@@ -1,12 +1,11 @@
 -- A run by lines, from one line after another.
-use Rattle.std.proofs.Common.{◌≡◌, ℕ, ◌+◌, ◌<◌, ◌≤◌, ◌==◌, ◌||◌, Bool, true, false, if◌then◌else◌, List, [], ◌∷◌, ◌++◌, length, take, refl, sym, ap, subst, ◌∙◌, ◌⊎◌, inl, inr, arith, append-nil}
-use Rattle.std.specs.Prelude.{Option, None, Some}
-use Rattle.std.specs.Io.KnownBytes.{IsAtEnd, prepend_known}
+use Rattle.std.proofs.Common.{◌≡◌, ℕ, ◌+◌, ◌≤◌, ◌==◌, ◌||◌, Bool, true, false, if◌then◌else◌, List, [], ◌∷◌, ◌++◌, length, take, refl, sym, ap, subst, ◌∙◌, ◌⊎◌, inl, inr, arith, append-nil}
+use Rattle.std.specs.Prelude.{Option, Some}
 use Rattle.std.proofs.lemmas.Bool.{cases_lt}
 use Rattle.std.proofs.lemmas.Option.{same_Some}
 use Rattle.std.proofs.lemmas.List.{map-append, length-map, length_push}
 use Rattle.std.proofs.lemmas.List.Concat.{flat_map-append}
-use Rattle.std.proofs.lemmas.List.Elements.{All-nil, All-push}
+use Rattle.std.proofs.lemmas.List.Elements.{All-push}
 use Rattle.std.proofs.lemmas.List.Folds.{list_any-append}
 use Rattle.tn_plain_data.specs.declared.said.Said.{Said}
 use Rattle.tn_plain_data.specs.declared.said.Said.TheVariants.{Usage, ReadFault, NoMemory, Fault, Equilibrium, Better, Impossible, Accepted, ExchangeFails, Supported, Cycle, Solved, Drill, Ranges, Session, Drops, Completes, Blocks, Valid, Invalid, Cases, Page as PageIs, Firms}
@@ -17,10 +16,10 @@ use Rattle.tn_file.specs.Document.{reading_of}
 use Rattle.tn_io.specs.Counts.{Rose}
 use Rattle.tn_io.specs.Lines.{TakesLines, most_turns}
 use Rattle.tn_io.specs.Sink.{Grows, GrowsByPrefix}
-use Rattle.tn_io.proofs.Grown.{Grows-nil, Grows-trans}
-use Rattle.tn_io.proofs.LineLemmas.{TakesLines-trans, TakesLines-end, TakesLines-most, TakesLines-rest}
+use Rattle.tn_io.proofs.Grown.{Grows-trans}
+use Rattle.tn_io.proofs.LineLemmas.{TakesLines-trans, TakesLines-most, TakesLines-rest}
 use Rattle.tn_run.specs.declared.command.Command.{Command}
-use Rattle.tn_run.specs.Answer.{IsAnswerTo, document_limit, too_long}
+use Rattle.tn_run.specs.Answer.{document_limit}
 use Rattle.tn_run.specs.Complete.{NoneCounted}
 use Rattle.tn_run.specs.Headline.{is_headlined}
 use Rattle.tn_run.specs.Lined.{AnswersFirst, AnswersLines, AreAnswered, Entry, IsLineAnswer, IsLineHeadline, IsLinedRun, IsNextText, StopsAtWrite, has_status, lines_of, lines_status, texts_of}
@@ -29,21 +28,6 @@ use Rattle.tn_run.specs.Words.{need_of}
 use Rattle.tn_run.proofs.HeadlineLemmas.{kept_or_shown}
 
 -- ---- the answer to a line
-
--- what is answered to a line that isn't too long
-pub short_line : (command : Command) (line : List ℕ) (names : NameLists) (said : Said) → length line ≤ document_limit
-    → (said ≡ NoMemory) ⊎ IsAnswerTo command (reading_of (need_of command) line) names said
-    → IsLineAnswer command (record { line = line; names = names; said = said })
-short_line command line names said few answer = elim answer [
-  | inl none ↦ inl none
-  | inr is ↦ inr (record { few = λ _. is; many = λ many. absurd (omega (arith, few, many)) })
-]
-
-pub long_line : (command : Command) (line : List ℕ) (names : NameLists) (said : Said) → document_limit < length line
-    → said ≡ too_long
-    → IsLineAnswer command (record { line = line; names = names; said = said })
-long_line command line names said many is =
-    inr (record { few = λ few. absurd (omega (arith, few, many)); many = λ _. is })
 
 line_headline : (command : Command) (entry : Entry) → is_headlined command ≡ true → IsLineAnswer command entry
     → IsLineHeadline command entry
@@ -112,21 +96,6 @@ pub record SoFar (command : Command) (told left old new : Option (List ℕ)) (tu
   pub status_is : status ≡ lines_status entries
   pub turns_are : length entries ≡ turns
 
-pub none_so_far : (command : Command) (told old : Option (List ℕ)) (ahead : List ℕ) → ahead ≡ []
-    → SoFar command told (prepend_known ahead told) old old 0 0
-none_so_far command told old ahead none = record {
-  entries = [];
-  answered = record { answers = All-nil (IsLineAnswer command); headline = λ _. All-nil (IsLineHeadline command) };
-  lines = none_taken told;
-  written = Grows-nil old;
-  status_is = refl;
-  turns_are = refl;
-}
-  where
-    none_taken : (o : Option (List ℕ)) → TakesLines o (prepend_known ahead o) []
-    none_taken None = tt
-    none_taken (Some all) = λ _. ap (λ l. l ++ all) (sym none)
-
 -- a line that was taken and its answer, as they are told of a call
 pub record NextAnswer (command : Command) (left after : Option (List ℕ)) (names : NameLists) (said : Said) : Type
     0 where
@@ -188,16 +157,6 @@ module _ (command : Command) (told left after : Option (List ℕ)) (names : Name
   }
 
 -- ---- the end of the run
-
-pub all_answered : (command : Command) (told left old new : Option (List ℕ)) (turns status : ℕ)
-    → SoFar command told left old new turns status → IsAtEnd left → AnswersLines command told old new status
-all_answered command told left old new turns status so_far end = record {
-  entries = so_far.entries;
-  answered = so_far.answered;
-  lines = TakesLines-end told left (lines_of so_far.entries) so_far.lines end;
-  written = so_far.written;
-  status_is = so_far.status_is;
-}
 
 -- more lines were answered than few bytes have
 pub all_turns : (command : Command) (told left old new : Option (List ℕ)) (turns status : ℕ)

@@ -22,12 +22,12 @@ use Rattle.tn_file.specs.declared.need.Need.{Need}
 use Rattle.tn_file.specs.Document.{DocumentData, ExtraData, arrangement, on_alone, outcome, edits, claim, reading_of}
 use Rattle.tn_file.specs.Laws.{IsDocument, IsExtra}
 use Rattle.tn_read_head.specs.declared.refusal.DocRefusal.{DocRefusal}
-use Rattle.tn_read_head.specs.Beside.{IsStop, Stop}
+use Rattle.tn_read_head.specs.Beside.{IsStop}
 use Rattle.tn_read_head.specs.Refused.{Reads}
 use Rattle.tn_file.specs.Refusal.{document_view}
 use Rattle.tn_file.proofs.DocumentLeads.{documents_are_networks}
 use Rattle.tn_file.proofs.DocumentStops.{faults_are_sayable}
-use Rattle.tn_run.specs.Answer.{ChecksExtra, EditsExtra, FirmsExtra, JudgesExtra, ReplaysExtra, SupportsExtra, IsAnswerOf, IsAnswerTo, KeepsRules}
+use Rattle.tn_run.specs.Answer.{ChecksExtra, EditsExtra, FirmsExtra, JudgesExtra, ReplaysExtra, SupportsExtra, IsAnswerOf, KeepsRules}
 use Rattle.tn_price.proofs.CycleLemmas.{nodes_inside}
 use Rattle.tn_command.specs.Edited.{TellsStates}
 use Rattle.tn_command.specs.Outcome.{JudgesOutcome}
@@ -383,14 +383,6 @@ kept_if_ok command doc is (Ok told) answer named within =
     subst (λ (names : NameLists). KeepsRules names told.0) (sym named)
     (document_kept command doc is told.0 answer within)
 kept_if_ok command doc is (Err e) answer named within = tt
-
--- it is the answer to what was read
-pub answered_if_ok : {E : Type 0} (command : Command) (doc : DocumentData) (reading : Result DocumentData Stop)
-    → reading ≡ Ok doc → (result : Result (Said × NameLists) E)
-    → IfOk result (λ told. IsAnswerOf command doc told.0) → IfOk result (λ told. told.1 ≡ doc.names)
-    → IfOk result (λ told. IsAnswerTo command reading told.1 told.0)
-answered_if_ok command doc reading reads (Ok told) answer named = rw reads (answer, named)
-answered_if_ok command doc reading reads (Err e) answer named = tt
 
 -- so does a fault
 pub stop_kept : (fault : FaultIs) (names : NameLists) → IsStop (record { fault = fault; names = names })

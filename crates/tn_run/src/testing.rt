@@ -1,10 +1,9 @@
 //! The answer of `test`.
 
-ghost use Rattle.std.specs.Prelude.{◌≡◌, ◌<◌, ◌≤◌, IfOk, length, map, option_map};
+ghost use Rattle.std.specs.Prelude.{◌<◌, ◌≤◌, IfOk, length, map};
 ghost use Rattle.tn_answer.specs.Kept.{IsWithinClaims};
 ghost use Rattle.tn_firm.specs.Raw.{raw_firm_of};
 ghost use Rattle.tn_plain_data.specs.Limits.{most_firms, most_trades};
-ghost use Rattle.tn_plain_data.specs.Network.{own, trades_of};
 ghost use Rattle.tn_run.specs.Tested.{Tests};
 
 use std::alloc::Global;

@@ -7,7 +7,6 @@ ghost use Rattle.tn_plain_data.specs.declared.said.Page.{Page};
 ghost use Rattle.tn_names.specs.Names.{NameLists};
 ghost use Rattle.tn_answer.specs.Kept.{IsWithinClaims};
 ghost use Rattle.tn_drill.specs.Draws.{most_drilled, most_start};
-ghost use Rattle.tn_io.specs.Sink.{Grows, GrowsByPrefix};
 ghost use Rattle.tn_run.specs.Answer.{MayBeSaid};
 ghost use Rattle.tn_run.specs.Cases.{MayBeCases};
 ghost use Rattle.tn_run.specs.Complete.{AnswersAll, NoneCounted};

@@ -1,5 +1,5 @@
 -- What shows the clauses of `Dealer::keeps` of `src/dealer.rt`.
-use Rattle.std.proofs.Common.{◌≡◌, ◌<◌, ℕ, true, arith, ap, ◌∙◌, subst}
+use Rattle.std.proofs.Common.{ℕ, arith, ap, ◌∙◌, subst}
 use Rattle.tn_base.specs.Sets.{has, meet, minus}
 use Rattle.tn_dealer.specs.Certificates.{number_at, KeepsBeside}
 use Rattle.tn_dealer.specs.WorthLemmas.{own_pairs}

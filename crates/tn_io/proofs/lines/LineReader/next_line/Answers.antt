@@ -1,6 +1,5 @@
 -- What shows the clauses of `LineReader::next_line` of `src/lines.rt`.
-use Rattle.std.proofs.Common.{arith, length, rules, take, ◌+◌, ◌++◌, ◌<◌, ◌≡◌, ◌≤◌}
-use Rattle.std.specs.Prelude.{nat_lt}
+use Rattle.std.proofs.Common.{arith, length, rules, ◌<◌, ◌≤◌}
 use Rattle.tn_io.proofs.LineLemmas.{before_feed, line_ended, line_stopped, part_plain, part_taken}
 use Rattle.tn_io.proofs.lines.LineReader.next_line.Goals as goal
 
