@@ -1,5 +1,5 @@
 """Runs of the program: words and a document each, and what the program itself answers to them."""
-import importlib.util
+import importlib
 import json
 import random
 import subprocess
@@ -49,18 +49,16 @@ def of_examples() -> list[Run]:
 
 
 def drawn(count: int) -> list[Run]:
-    """Documents that tools/fuzz.py draws, each with one command after another."""
-    spec = importlib.util.spec_from_file_location("fuzz", ROOT / "tools" / "fuzz.py")
+    """Documents that tools/fuzz draws, each with one command after another."""
     sys.path.insert(0, str(ROOT / "tools"))
-    fuzz = importlib.util.module_from_spec(spec)
-    spec.loader.exec_module(fuzz)
+    documents = importlib.import_module("fuzz_lib.documents")
     examples = [path.read_text() for path in sorted((ROOT / "examples").glob("*.json"))]
     runs = []
     for k in range(count):
         draw = random.Random(f"page-{k}")
-        document, is_refused = fuzz.make(draw, examples)
+        document, is_refused = documents.make(draw, examples)
         text = json.dumps(document, ensure_ascii=k % 2 == 0).encode()
-        text = fuzz.spoil(draw, text) if is_refused else text
+        text = documents.spoil(draw, text) if is_refused else text
         runs += [Run(f"drawn {k}", words, text) for words in (COMMANDS[k % len(COMMANDS)], COMMANDS[(k + 4) % len(COMMANDS)])]
     return runs
 

@@ -1,0 +1,360 @@
+"""The program under trial, and what has to hold of its answers."""
+import collections
+import csv
+import functools
+import json
+import os
+import pathlib
+import sys
+
+from fuzz_lib.documents import CLAIMS, NO, add_parts, change, spoil, usable_after
+from fuzz_lib.faults import first_fault
+from fuzz_lib.network import Network, first_triple, payments, takes_all
+
+HOME = pathlib.Path(__file__).resolve().parent.parent.parent
+COMMANDS = ("check", "test", "support", "solve", "solve --csv", "judge", "range", "session", "replay")
+STATUS = dict(fault=1, usage=2, read_fault=3, no_memory=5, **{answer: 6 for answer in NO})  # and 0 for all others
+# the head of what a layout writes
+LAYOUTS = {"solve --csv": "trade,on,price", "solve --csv=wide": "trade,seller,buyer,on,price",
+           "support --csv": "trade,seller,buyer,on,price", "range --csv": "trade,seller,buyer,on,low,high",
+           "firms --csv": "firm,content,worth,utility,best_utility,gain,has,best"}
+NUMBERS = dict(equilibrium="surplus", better="gain", cycle="cost", solved="surplus", drops="gain")
+MOST_TRADES = 9  # of networks of which all sets are tried
+MOST_BUNDLES = 24  # of tables of which all triples are tried
+
+
+class Unconfirmed(Exception):
+    """An answer that something else contradicts."""
+
+
+def want(so, *why):
+    if not so:
+        raise Unconfirmed(*why)
+
+
+class Program:
+    """The program, and how often it gave which answer to which command."""
+
+    def __init__(self, path):
+        self.path, self.environment, self.counts, self.runs = str(path), {}, collections.Counter(), 0
+        self.ends = [os.memfd_create(name) for name in ("input", "output", "errors")]
+
+    def start(self, words, text):
+        """The status of a run on a text, with what it wrote: by posix_spawn over files in memory, which is quick."""
+        for end in self.ends:
+            os.ftruncate(end, 0)
+            os.lseek(end, 0, os.SEEK_SET)
+        os.pwrite(self.ends[0], text, 0)
+        ends = [(os.POSIX_SPAWN_DUP2, end, k) for k, end in enumerate(self.ends)]
+        child = os.posix_spawn(self.path, [self.path, *words.split()], self.environment, file_actions=ends)
+        status = os.waitstatus_to_exitcode(os.waitpid(child, 0)[1])
+        return status, *(os.pread(end, os.fstat(end).st_size, 0) for end in self.ends[1:])
+
+    def run(self, words, text):
+        status, output, errors = self.start(words, text)
+        self.runs += 1
+        want(errors == b"", "text on standard error", words, errors)
+        if output.startswith((b"trade,", b"firm,")):
+            want(output.startswith(LAYOUTS[words].encode() + b"\n"), "the head of rows", words, output)
+            rows = list(csv.reader(output.decode().splitlines()))[1:]
+            is_no = words == "firms --csv" and any(row[1] == "0" for row in rows)
+            want(status == (6 if is_no else 0), "the status of rows", words, status)
+            hold_fault(words, text, {"answer": "rows"})
+            self.counts[words, "rows"] += 1
+            return output.decode()
+        want(output.endswith(b"\n") and output.count(b"\n") == 1, "not one line", words, output)
+        answer = json.loads(output)
+        is_no = answer["answer"] == "firms" and answer["content"] < len(answer["firms"])
+        want(status == (6 if is_no else STATUS.get(answer["answer"], 0)), "the status", words, answer, status)
+        hold_fault(words, text, answer)
+        self.counts[words, answer["answer"]] += 1
+        return answer
+
+    def ask(self, words, document, **members):
+        return self.run(words, json.dumps({**document, **members}).encode())
+
+
+@functools.lru_cache(maxsize=10_000)
+def first_shown(worths, bought, own):
+    """The first failing triple of a table, by trades; None where none fails."""
+    triple = first_triple(dict(worths), bought, (1 << len(own)) - 1)
+    if triple is None:
+        return None
+    x, y, at = ([name for k, name in enumerate(own) if part >> k & 1] for part in triple)
+    return dict(x=x, y=y, at=at[0] if at else None)
+
+
+def hold_fault(words, text, said):
+    """A fault is the first one, and where there is one it is answered."""
+    def triple_of(firm, place, own, buys):
+        if len(firm["rows"]) > MOST_BUNDLES:  # too many triples to try them all
+            is_said = said.get("fault") == 16 and said["place"] == place
+            return {member: said[member] for member in ("x", "y", "at")} if is_said else None
+        worths = {0: 0, **{sum(1 << own.index(name) for name in names): number for names, number in firm["rows"]}}
+        return first_shown(tuple(sorted(worths.items())), sum(1 << own.index(name) for name in buys), tuple(own))
+
+    if said["answer"] not in ("usage", "read_fault", "no_memory"):
+        fault = first_fault(words, text, triple_of)
+        want(said == (fault or said) and (fault is not None) == (said["answer"] == "fault"), "the first fault", words, said, fault)
+
+
+def hold_triple(document, fault, tested):
+    """`test` asks for no exchange property before it answers: it says the same triple as the fault, or a later fault."""
+    if fault["fault"] == 16 and tested["answer"] == "exchange_fails":
+        want(all(fault[member] == tested[member] for member in ("at", "x", "y")), "another triple of test", fault, tested)
+        want(document["firms"][fault["place"][1]]["name"] == tested["firm"], "another firm of test", fault, tested)
+    else:
+        want(tested["answer"] == "fault", "a network that is accepted", fault, tested)
+
+
+def hold_claim(program, document, answer):
+    """An answer that can be a claim is valid, and isn't with another number."""
+    if answer["answer"] not in CLAIMS:
+        return
+    said = program.ask("replay", document, claim=answer)
+    want(said == {"answer": "valid"}, "no valid claim", answer, said)
+    member = NUMBERS.get(answer["answer"])
+    if member and answer[member] is not None:
+        said = program.ask("replay", document, claim={**answer, member: answer[member] - 1})
+        wanted = {"answer": "invalid", "reason": member, member: answer[member]}
+        want({**said, **wanted} == said, "a wrong claim", answer, said)
+
+
+def hold_check(program, document, network, on, prices, **wanted):
+    """`check` says of these trades and prices what all bundles say, and what is wanted; gives the answer."""
+    at = {"on": network.listed(on), "prices": [[name, prices[name]] for name in network.names]}
+    said = program.ask("check", document, arrangement=at)
+    verdict = network.verdict(on, prices)
+    want({**said, **verdict} == said and verdict.items() >= wanted.items(), "the verdict of check", at, said, verdict)
+    if said["answer"] == "better":
+        k = [firm["name"] for firm in network.firms].index(said["firm"])
+        paid = payments(network.own[k], network.bought[k], [prices[name] for name in network.names])
+        utility = {x: worth + paid[x] for x, worth in network.worths[k].items()}
+        want(utility[network.set_of(said["bundle"])] - utility[on & network.own[k]] == said["gain"], "a better bundle", said)
+    return said
+
+
+def hold_test(program, document):
+    said = program.ask("test", document)
+    if said["answer"] == "fault":
+        return said
+    hold_claim(program, document, said)
+    if len(document["trades"]) > MOST_TRADES:
+        return said
+    network, failed = Network(document), None
+    for k, firm in enumerate(network.firms):
+        if firm["kind"] == "table" and len(network.worths[k]) > MOST_BUNDLES:
+            failed = said  # (too many triples to try them all)
+            break
+        triple = first_triple(network.worths[k], network.bought[k], network.own[k])
+        if triple:
+            x, y, at = triple
+            failed = dict(answer="exchange_fails", firm=firm["name"], x=network.listed(x), y=network.listed(y))
+            failed["at"] = network.listed(at)[0] if at else None
+            break
+    want(said == (failed or {"answer": "accepted"}), "the verdict of test", said, failed)
+    return said
+
+
+def hold_support(program, document, network, on):
+    said = program.ask("support", document, arrangement={"on": network.listed(on)})
+    surplus = network.surplus(on)
+    kind = "impossible" if surplus is None else "prices" if surplus == network.greatest(network.all) else "cycle"
+    want(said["answer"] == kind, "the verdict of support", said, kind)
+    if kind == "prices":
+        want(network.verdict(on, dict(said["prices"]))["answer"] == "equilibrium", "supporting prices", said)
+    hold_claim(program, {**document, "arrangement": {"on": network.listed(on)}}, said)
+
+
+def hold_range(program, document, network, draw):
+    """Bounds are the least costs of walks; all highest prices and all lowest are equilibria, and one beyond them is none."""
+    said = program.ask("range", document)
+    on, null = network.set_of(said["on"]), len(network.names)
+    least = network.distances(on)
+    for k, entry in enumerate(said["ranges"]):
+        wanted = {"trade": network.names[k], "low": None if least[k][null] is None else -least[k][null], "high": least[null][k]}
+        want({**entry, **wanted} == entry, "a range", entry, wanted)
+    wanted = {"answer": "equilibrium", "surplus": network.greatest(network.all)}
+    hold_ends(said["ranges"], wanted, draw, lambda prices: hold_check(program, document, network, on, prices))
+
+
+def hold_ends(ranges, wanted, draw, check):
+    for side, beyond in (("low", -1), ("high", 1)):
+        prices = {entry["trade"]: entry[side] for entry in ranges}
+        if prices and None not in prices.values():
+            at = check(prices)
+            want({**at, **wanted} == at, "the ends of ranges", prices, at)
+            prices[draw.choice([*prices])] += beyond
+            want(check(prices)["answer"] == "better", "a price beyond its range", prices)
+
+
+def hold_session(program, document, network):
+    said = program.ask("session", document)
+    want(len(said["edits"]) == len(document["edits"]), "the count of states", said)
+    for k, state in enumerate(said["edits"]):
+        allowed = usable_after(document, document["edits"][:k + 1])
+        names = [n for n in network.names if n in allowed]
+        on, within = network.set_of(state["on"]), network.set_of(names)
+        want([n for n, _ in state["prices"]] == names and not on & ~within, "the trades of a state", state)
+        verdict = network.verdict(on, dict(state["prices"]), 1, within)
+        want(verdict == {"answer": "equilibrium", "surplus": state["surplus"]}, "a state", state, verdict)
+        want(state["surplus"] == network.greatest(within), "the surplus of a state", state)
+
+
+def hold_judge(program, document, network):
+    said = program.ask("judge", document)
+    over, signed = document["outcome"]["over"], dict(document["outcome"]["contracts"])
+    on = network.set_of(signed)
+    kept = network.verdict(on, signed, over, on)
+    if kept["answer"] != "equilibrium":
+        wanted = {"answer": "drops", "firm": kept["firm"], "gain": kept.get("gain"), "over": over}
+        want({**said, **wanted} == said, "a drop", said, kept)
+    elif said["answer"] == "completes":
+        prices = dict(said["prices"])
+        want({**prices, **signed} == prices and said["over"] == over, "the prices of contracts", said)
+        want(network.verdict(on, prices, over)["answer"] == "equilibrium", "completing prices", said)
+    else:
+        want(said["answer"] == "blocks", "the verdict of judge", said)
+        hold_blocks(network, over, signed, said)
+    hold_claim(program, document, said)
+
+
+def hold_blocks(network, over, signed, said):
+    offers, ends = said["contracts"], network.ends
+    want(said["over"] == over * (2 * (len(network.names) - len(signed)) + 1), "the denominator of a chain", said)
+    want(offers and not {name for name, _ in offers} & set(signed), "signed contracts block", said)
+    want(all(ends[a]["buyer"] == ends[b]["seller"] for (a, _), (b, _) in zip(offers, offers[1:])), "no chain", said)
+    at = network.names.index
+    together = [(at(name), price * over, True) for name, price in offers]
+    together += [(at(name), price * said["over"], False) for name, price in signed.items()]
+    for k, firm in enumerate(network.firms):
+        takes = takes_all(network, k, together, over * said["over"])
+        want(takes is not False, "a firm leaves a contract that blocks", firm["name"], said)
+
+
+def entries_of(document, answer):
+    """What rows may say of an answer, entry by entry; none of an answer that has no rows."""
+    if answer["answer"] == "firms":
+        return [{**firm, "content": firm["gain"] == 0} for firm in answer["firms"]]
+    prices = [dict(trade=name, price=price) for name, price in answer.get("prices", [])]
+    ends = {trade["name"]: trade for trade in document["trades"]}
+    on = answer.get("on", document["arrangement"]["on"])
+    return [{**ends[entry["trade"]], **entry, "on": entry["trade"] in on} for entry in answer.get("ranges", prices)]
+
+
+def field_of(value):
+    """A field: nothing, 1 or 0, names with a blank between two, or a name or number as it is."""
+    if isinstance(value, list):
+        return " ".join(value)
+    return "" if value is None else str(int(value)) if isinstance(value, bool) else str(value)
+
+
+def hold_rows(program, document):
+    """In each layout the same is said as in the object."""
+    for words, head in LAYOUTS.items():
+        answer, said = (program.ask(asked, document) for asked in (words.split()[0], words))
+        if answer["answer"] in ("solved", "prices", "ranges", "firms"):
+            rows = [[field_of(entry[column]) for column in head.split(",")] for entry in entries_of(document, answer)]
+            want(isinstance(said, str) and list(csv.reader(said.splitlines()))[1:] == rows, "rows", words, said, answer)
+        else:
+            want(said == answer, "no rows", words, said, answer)
+
+
+def hold_all(program, document, draw):
+    """Asks every command of a document."""
+    tested = hold_test(program, document)
+    solved = program.ask("solve", document)
+    if solved["answer"] == "fault":
+        hold_triple(document, solved, tested)
+        return
+    want(tested["answer"] == "accepted", "a network that isn't accepted", tested)
+    hold_claim(program, document, solved)
+    add_parts(draw, document, solved["on"], dict(solved["prices"]))
+    if draw.random() < 0.1:
+        hold_rows(program, document)
+    if len(document["trades"]) > MOST_TRADES:
+        for words in ("check", "support", "judge", "session", "range"):
+            hold_claim(program, document, program.ask(words, document))  # (too many sets to try them all)
+        return
+    network = Network(document)
+    wanted = {"answer": "equilibrium", "surplus": network.greatest(network.all)}
+    hold_check(program, document, network, network.set_of(solved["on"]), dict(solved["prices"]), **wanted)
+    on, prices = network.set_of(document["arrangement"]["on"]), dict(document["arrangement"]["prices"])
+    hold_claim(program, document, hold_check(program, document, network, on, prices))
+    hold_support(program, document, network, on)
+    hold_judge(program, document, network)
+    hold_session(program, document, network)
+    hold_range(program, document, network, draw)
+
+
+def quick_check(program, document, on, prices):
+    return program.ask("check", document, arrangement={"on": on, "prices": [*map(list, prices.items())]})
+
+
+def hold_state(program, document, states, draw):
+    """One of the states is an equilibrium of the network with the trades alone that can be used then."""
+    want(len(states) == len(document["edits"]), "the count of states", states)
+    if states:
+        last = draw.randrange(len(states))
+        usable = usable_after(document, document["edits"][:last + 1])
+        state, prices = states[last], dict(states[last]["prices"])
+        said = quick_check(program, restricted(document, usable), state["on"], prices)
+        want(said == {"answer": "equilibrium", "surplus": state["surplus"]}, "a state", state, said)
+
+
+def restricted(document, admitted):
+    """The document's network with these trades alone."""
+    def some(entries, count=1):
+        return [entry for entry in entries if admitted.issuperset(entry[:count])]
+
+    firms = []
+    for firm in document["firms"]:
+        firm = {member: some(value) if member in ("amounts", "costs", "gains") else value for member, value in firm.items()}
+        if "rows" in firm:
+            firm["rows"] = [row for row in firm["rows"] if admitted.issuperset(row[0])]
+        if "pairs" in firm:
+            firm["pairs"] = some(firm["pairs"], 2)
+        if "sets" in firm:
+            firm["sets"] = [{**part, "trades": [t for t in part["trades"] if t in admitted]} for part in firm["sets"]]
+        firms.append(firm)
+    return {**document, "firms": firms, "trades": [trade for trade in document["trades"] if trade["name"] in admitted]}
+
+
+def hold_quickly(program, document, draw):
+    """Asks one command of a document."""
+    add_parts(draw, document, [], {})
+    words = draw.choice(("check", "test", "support", "solve", "solve --csv", "judge", "range", "session"))
+    said = program.ask(words, document)
+    if isinstance(said, str):
+        rows = list(csv.reader(said.splitlines()))[1:]
+        on, prices = [name for name, is_on, _ in rows if is_on == "1"], {name: int(price) for name, _, price in rows}
+        want(quick_check(program, document, on, prices)["answer"] == "equilibrium", "rows", said)
+    elif said["answer"] == "fault":
+        return
+    elif words == "session":
+        hold_state(program, document, said["edits"], draw)
+    elif words == "range":
+        hold_ends(said["ranges"], {"answer": "equilibrium"}, draw, lambda prices: quick_check(program, document, said["on"], prices))
+    else:
+        hold_claim(program, document, said)
+        if words == "solve":
+            found = quick_check(program, document, said["on"], dict(said["prices"]))
+            want(found == {"answer": "equilibrium", "surplus": said["surplus"]}, "what is solved", said, found)
+
+
+def hold_refusals(program, document, draw, commands=4):
+    """Asks some commands of a text that may be anything: each answer has its status and is one line, and a fault is the first."""
+    for _ in range(draw.randint(1, 3)):
+        change(draw, document, small=False)
+    text = json.dumps(document, ensure_ascii=draw.random() < 0.5).encode()
+    if draw.random() < 0.3:
+        text = spoil(draw, text)
+    for words in draw.sample(COMMANDS, commands):
+        program.run(words, text)
+
+
+def keep(folder, seed, k, document, error):
+    folder.mkdir(parents=True, exist_ok=True)
+    path = folder / f"{seed}-{k}.json"
+    path.write_text(json.dumps(document) + "\n")
+    print(f"{path}: {error!r}", file=sys.stderr, flush=True)
