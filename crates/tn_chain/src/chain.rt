@@ -108,6 +108,7 @@ fn search<'a, V: Oracle>(
     let null = market.trades();
     let mut left = unsigned_trades(&outcome.contracts, null);
     let free = left.count();
+    // Each turn but the last leaves fewer trades: so this ends.
     loop {
         let count = find_cycle(finder, graph, null, &left);
         let cycle = listed_trades(finder, count, null);

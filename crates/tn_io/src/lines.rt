@@ -202,6 +202,7 @@ impl LineReader {
         ensures later { S.faults source.old ≤ S.faults source.new }
     {
         let mut line = Vec::new(alloc);
+        // A turn that doesn't return makes the line longer, and it is within the limit: so this ends.
         while self.fill(source)? {
             match self.take_part(&mut line, limit) {
                 Ok(false) => {}

@@ -71,6 +71,7 @@ pub fn read_all<S: Source>(alloc: Global, source: &mut S, limit: usize) -> Resul
 {
     let mut bytes = Vec::new(alloc);
     let mut piece = [0; PIECE];
+    // Each turn but the last takes a byte or more, up to one past the limit: so this ends.
     loop {
         // One byte past the limit shows that the input is too long.
         let room = PIECE.min(limit + 1 - bytes.len());

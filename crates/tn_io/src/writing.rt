@@ -17,6 +17,7 @@ pub fn write_all<K: Sink>(sink: &mut K, bytes: &[u8]) -> Result<(), WriteFailed>
     ensures later { K.faults sink.old ≤ K.faults sink.new }
 {
     let mut done = 0;
+    // A sink that doesn't fail takes a byte or more of what is left: so this ends.
     while done < bytes.len() {
         let count = sink.write(&bytes[done..])?;
         done += count;

@@ -135,6 +135,7 @@ impl Laminar {
     {
         let slope = self.slope(x, k);
         let mut rest = self.sets[k].members;
+        // Each turn takes a member out: so this ends.
         while rest != Bundle::empty() {
             let j = lowest(rest);
             changes[j as usize] += self.step(x, slope, j);

@@ -166,6 +166,7 @@ impl<V: Valuation> Aim<'_, V> {
             (V.firm self.now.firm.now)).worth from result.bundle }
     {
         let mut found = self.start(from, steps);
+        // Each turn but the last raises the value, which the limits of the firm and the gains bound: so this ends.
         loop {
             let next = self.step(&found, steps);
             if next.value <= found.value {
