@@ -35,13 +35,23 @@ impl Dealer {
         ensures different { IfOk result (λ dealer. AreDifferent pairs.items) }
         ensures refused { IfErr result (λ same. IsFirstRepeated pairs.items same.index) }
     {
-        if let Some(index) = first_repeated(&pairs) {
-            return Err(SamePair { index });
+        match first_repeated(&pairs) {
+            Some(index) => Err(SamePair { index }),
+            None => Ok(Dealer::of_different(sides, pairs)),
         }
-        Ok(Dealer {
+    }
+
+    /// The same, where no pair has the purchase and the sale of an earlier one: nothing is searched.
+    pub fn of_different(sides: Vec<Side>, pairs: Vec<Pair>) -> Dealer
+        requires few { length sides.items ≤ most_own }
+        requires own { All (IsOwnPair (length sides.items) (buys_of sides.items)) pairs.items }
+        requires different { AreDifferent pairs.items }
+        ensures { firm_of result ≡ dealer_firm sides.items pairs.items }
+    {
+        Dealer {
             trades: sides.len() as u32,
             buys: purchases(&sides),
             pairs,
-        })
+        }
     }
 }

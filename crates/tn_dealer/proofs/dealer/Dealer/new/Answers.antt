@@ -1,22 +1,8 @@
 -- What shows the clauses of `Dealer::new` of `src/dealer.rt`.
-use Rattle.std.proofs.Common.{rules, ◌≡◌, length}
-use Rattle.tn_base.specs.Table.{buys_of}
-use Rattle.tn_base.proofs.TableLemmas.{buys_of_within}
 use Rattle.tn_dealer.proofs.dealer.Dealer.new.Goals as goal
 
-pub invariant_of-result : goal.invariant_of-result
-invariant_of-result c =
-    let count : c.len.result ≡ length c.args.sides.items = search rules in
-    let bought : c.purchases.result ≡ buys_of c.args.sides.items = search rules in
-    record {
-      dealer = rw (count, bought) (record {
-        few = c.requires.few;
-        bought = buys_of_within c.args.sides.items;
-        own =
-            c.requires.own;
-      });
-      different = rw c.deref.ensures.value at c.in_default.ensures;
-    }
+pub of_different-requires-clause-different : goal.of_different-requires-clause-different
+of_different-requires-clause-different c = rw c.deref.ensures.value at c.in-None.ensures
 
-pub returns-clause-different : goal.returns-clause-different
-returns-clause-different c = rw c.deref.ensures.value at c.in_default.ensures
+pub returns-in-None-clause-different : goal.returns-in-None-clause-different
+returns-in-None-clause-different c = rw c.deref.ensures.value at c.in-None.ensures

@@ -1,0 +1,19 @@
+-- What shows the clauses of `Dealer::of_different` of `src/dealer.rt`.
+use Rattle.std.proofs.Common.{rules, ◌≡◌, length}
+use Rattle.tn_base.specs.Table.{buys_of}
+use Rattle.tn_base.proofs.TableLemmas.{buys_of_within}
+use Rattle.tn_dealer.proofs.dealer.Dealer.of_different.Goals as goal
+
+pub invariant_of-result : goal.invariant_of-result
+invariant_of-result c =
+    let count : c.len.result ≡ length c.args.sides.items = search rules in
+    let bought : c.purchases.result ≡ buys_of c.args.sides.items = search rules in
+    record {
+      dealer = rw (count, bought) (record {
+        few = c.requires.few;
+        bought = buys_of_within c.args.sides.items;
+        own =
+            c.requires.own;
+      });
+      different = c.requires.different;
+    }
