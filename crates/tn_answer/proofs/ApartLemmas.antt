@@ -12,7 +12,7 @@ use Rattle.tn_base.specs.declared.fault.FaultKind.TheVariants.{NotJson, TooLong,
 use Rattle.tn_base.specs.declared.fault.FaultKind.TheVariants.{ExchangeFails as FailsExchange}
 use Rattle.tn_base.specs.Faults.{fault_number}
 use Rattle.tn_plain_data.specs.declared.place.PlaceStep.{PlaceStep}
-use Rattle.tn_plain_data.specs.declared.place.PlaceStep.TheVariants.{Word as Member, Index, Trade}
+use Rattle.tn_plain_data.specs.declared.place.PlaceStep.TheVariants.{Key, Index, Trade}
 use Rattle.tn_plain_data.specs.declared.place.Word.{Word}
 use Rattle.tn_plain_data.specs.declared.place.Word.TheVariants.{Version, Firms, Trades, Arrangement, Outcome, Claim, Note, Edits, Name, Seller, Buyer, Kind, Rows, Amounts, Sets, From, Values, Costs, Gains, Keep, Pairs, On, Prices, Over, Contracts, Answer, Surplus as SurplusWord, Firm, Bundle, Gain, X, Y, At, Nodes, Cost, Keeps, Plan}
 use Rattle.tn_plain_data.specs.declared.reason.Reason.{Reason}
@@ -28,7 +28,7 @@ use Rattle.tn_plain_data.specs.declared.said.Page.TheVariants.{Help, Version as 
 use Rattle.tn_plain_data.specs.declared.said.Said.{Said}
 use Rattle.tn_plain_data.specs.declared.said.Said.TheVariants.{Usage, ReadFault, NoMemory, Fault as FaultIs, Equilibrium, Better, Impossible, Accepted, ExchangeFails, Supported, Cycle, Solved, Drill, Ranges, Session, Drops, Completes, Blocks, Valid, Invalid, Cases, Page as PageIs, Firms as FirmsIs}
 use Rattle.tn_names.specs.Names.{NameLists, IsNameList}
-use Rattle.tn_answer.specs.Words.{word_text}
+use Rattle.tn_plain_data.specs.Words.{word_text}
 use Rattle.tn_names.specs.Named.{IsNamed, IsNamedStep, IsNamedTriple}
 use Rattle.tn_answer.specs.Pages.{lines_text, page_lines}
 use Rattle.tn_answer.specs.Rows.{each_from}
@@ -232,13 +232,13 @@ module _ (names : List (List ℕ)) (kept : IsNameList names) where
 
   same_step : (first second : PlaceStep) → IsNamedStep names first → IsNamedStep names second
       → step_data names first ≡ step_data names second → IsSameStep names first second
-  same_step (Member v) (Member w) h k e = ap Member (same_word v w (ap text_in e))
-  same_step (Member v) (Index n) h k e = absurd (clash 3 2 refl (ap shape e))
-  same_step (Member v) (Trade t) h k e = name_there t k ∙ ap (λ d. Some (text_in d)) (sym e)
-  same_step (Index m) (Member w) h k e = absurd (clash 2 3 refl (ap shape e))
+  same_step (Key v) (Key w) h k e = ap Key (same_word v w (ap text_in e))
+  same_step (Key v) (Index n) h k e = absurd (clash 3 2 refl (ap shape e))
+  same_step (Key v) (Trade t) h k e = name_there t k ∙ ap (λ d. Some (text_in d)) (sym e)
+  same_step (Index m) (Key w) h k e = absurd (clash 2 3 refl (ap shape e))
   same_step (Index m) (Index n) h k e = ap Index (ap natural_in e)
   same_step (Index m) (Trade t) h k e = absurd (clash 2 3 refl (ap shape e))
-  same_step (Trade t) (Member w) h k e = name_there t h ∙ ap (λ d. Some (text_in d)) e
+  same_step (Trade t) (Key w) h k e = name_there t h ∙ ap (λ d. Some (text_in d)) e
   same_step (Trade t) (Index n) h k e = absurd (clash 3 2 refl (ap shape e))
   same_step (Trade t) (Trade u) h k e = ap Trade (same_name t u h k e)
 

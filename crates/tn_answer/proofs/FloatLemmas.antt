@@ -5,7 +5,7 @@ use Rattle.serde_json.specs.Written.{has_float}
 use Rattle.serde_json.specs.Data.{array}
 use Rattle.serde_json.specs.View.{items_of}
 use Rattle.tn_plain_data.specs.declared.place.PlaceStep.{PlaceStep}
-use Rattle.tn_plain_data.specs.declared.place.PlaceStep.TheVariants.{Word, Index, Trade}
+use Rattle.tn_plain_data.specs.declared.place.PlaceStep.TheVariants.{Key, Index, Trade}
 use Rattle.tn_plain_data.specs.declared.reason.Reason.{Reason}
 use Rattle.tn_plain_data.specs.declared.reason.Reason.TheVariants.{Better as BetterIs, Surplus, Gain, Exchange, Cost, Over, Whole}
 use Rattle.tn_plain_data.specs.declared.said.Fault.{Fault}
@@ -76,7 +76,7 @@ module _ (names : List (List ℕ)) where
       (states_have_no_float states)
 
   step_has_no_float : (step : PlaceStep) → has_float (step_data names step) ≡ false
-  step_has_no_float (Word word) = refl
+  step_has_no_float (Key word) = refl
   step_has_no_float (Index k) = refl
   step_has_no_float (Trade t) = refl
 

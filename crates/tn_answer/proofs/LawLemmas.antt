@@ -6,7 +6,7 @@ use Rattle.std.specs.List.{list_all}
 use Rattle.serde_json.specs.Data.{array, object, member, no_members}
 use Rattle.serde_json.specs.View.{items_of}
 use Rattle.tn_plain_data.specs.declared.place.PlaceStep.{PlaceStep}
-use Rattle.tn_plain_data.specs.declared.place.PlaceStep.TheVariants.{Word, Index, Trade}
+use Rattle.tn_plain_data.specs.declared.place.PlaceStep.TheVariants.{Key, Index, Trade}
 use Rattle.tn_plain_data.specs.declared.reason.Reason.{Reason}
 use Rattle.tn_plain_data.specs.declared.reason.Reason.TheVariants.{Impossible as ImpossibleIs, Better as BetterIs, Possible, Surplus, Gain, Exchange, Holds, Arc, Cost, Contract as ContractIs, Over, Price, Empty, Signed, Choice, Shares, Balance, Whole}
 use Rattle.tn_plain_data.specs.declared.said.Fault.{Fault}
@@ -80,7 +80,7 @@ same_states trades others (state ∷ states) e =
 
 same_step : (trades others : List (List ℕ)) (step : PlaceStep) → names_no_trade_at step ≡ true
     → step_data trades step ≡ step_data others step
-same_step trades others (Word word) e = refl
+same_step trades others (Key word) e = refl
 same_step trades others (Index k) e = refl
 same_step trades others (Trade t) e = absurd (true≢false (sym e))
 

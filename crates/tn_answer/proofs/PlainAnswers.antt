@@ -10,7 +10,7 @@ use Rattle.tn_base.specs.declared.fault.FaultKind.{FaultKind}
 use Rattle.tn_base.specs.declared.fault.FaultKind.TheVariants.{NotJson}
 use Rattle.tn_base.specs.Faults.{fault_number}
 use Rattle.tn_plain_data.specs.declared.place.PlaceStep.{PlaceStep}
-use Rattle.tn_plain_data.specs.declared.place.PlaceStep.TheVariants.{Word as Member, Index, Trade}
+use Rattle.tn_plain_data.specs.declared.place.PlaceStep.TheVariants.{Key, Index, Trade}
 use Rattle.tn_plain_data.specs.declared.place.Word.{Word}
 use Rattle.tn_plain_data.specs.declared.place.Word.TheVariants.{Version}
 use Rattle.tn_plain_data.specs.declared.reason.Reason.{Reason}
@@ -24,7 +24,8 @@ use Rattle.tn_plain_data.specs.declared.session.State.{State}
 use Rattle.tn_plain_data.specs.declared.said.Said.{Said}
 use Rattle.tn_plain_data.specs.declared.said.Said.TheVariants.{Usage, ReadFault, NoMemory, Fault as FaultIs, Equilibrium, Better, Impossible, Accepted, ExchangeFails, Supported, Cycle, Solved, Drill, Ranges, Session, Drops, Completes, Blocks, Valid, Invalid, Cases, Page as PageIs, Firms}
 use Rattle.tn_names.specs.Names.{NameLists, IsNameList, is_name}
-use Rattle.tn_answer.specs.Words.{kind_name, word_text}
+use Rattle.tn_plain_data.specs.Words.{word_text}
+use Rattle.tn_answer.specs.Words.{kind_name}
 use Rattle.tn_answer.specs.Rows.{each_from}
 use Rattle.tn_answer.specs.ReasonText.{reason_members, IsShortReason}
 use Rattle.tn_answer.specs.Sayable.{HasShortBounds, IsShortHolding, IsShortState}
@@ -127,7 +128,7 @@ module _ (names : List (List ℕ)) (kept : IsNameList names) where
   )
 
   step_is_plain : (step : PlaceStep) → HasShortIndex step → IsPlain (step_data names step)
-  step_is_plain (Member word) h = word_text_is_plain word
+  step_is_plain (Key word) h = word_text_is_plain word
   step_is_plain (Index k) h = h
   step_is_plain (Trade t) h = name_is_plain t
 

@@ -7,7 +7,7 @@ use Rattle.serde_json.specs.Written.{compact_text}
 use Rattle.tn_base.specs.declared.fault.FaultKind.{FaultKind}
 use Rattle.tn_base.specs.Faults.{fault_number}
 use Rattle.tn_plain_data.specs.declared.place.PlaceStep.{PlaceStep}
-use Rattle.tn_plain_data.specs.declared.place.PlaceStep.TheVariants.{Word, Index, Trade}
+use Rattle.tn_plain_data.specs.declared.place.PlaceStep.TheVariants.{Key, Index, Trade}
 use Rattle.tn_plain_data.specs.declared.contract.Contract.{Contract}
 use Rattle.tn_plain_data.specs.declared.holding.Holding.{Holding}
 use Rattle.tn_plain_data.specs.declared.range.Range.{Range}
@@ -21,7 +21,8 @@ use Rattle.tn_answer.specs.Pages.{lines_text, page_lines}
 use Rattle.tn_answer.specs.ReasonText.{reason_members}
 use Rattle.tn_answer.specs.Rows.{each_from, deal_head, deal_row, firm_head, firm_row, price_head, price_row, range_head, range_row, rows_text, table}
 use Rattle.tn_answer.specs.Values.{name_data, names_data, option_data, integer_data, bound_data, numbers_data}
-use Rattle.tn_answer.specs.Words.{kind_name, word_text}
+use Rattle.tn_plain_data.specs.Words.{word_text}
+use Rattle.tn_answer.specs.Words.{kind_name}
 use Rattle.tn_answer.specs.declared.layout.Layout.{Layout}
 use Rattle.tn_answer.specs.declared.layout.Layout.TheVariants.{Rows, WideRows}
 
@@ -81,7 +82,7 @@ abbrev pub holdings_data : NameLists → List Holding → Data
 holdings_data names holdings = array (items_of (each_from (holding_data names) 0 holdings))
 
 abbrev pub step_data : List (List ℕ) → PlaceStep → Data
-step_data trades (Word word) = string (word_text word)
+step_data trades (Key word) = string (word_text word)
 step_data trades (Index k) = number (unsigned k)
 step_data trades (Trade t) = name_data trades t
 

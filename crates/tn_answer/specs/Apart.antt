@@ -2,7 +2,7 @@
 use Rattle.std.specs.Prelude.{◌≡◌, ℕ, List, length, map, All, IfSome, slice_get, Some}
 use Rattle.std.specs.List.{AllZip}
 use Rattle.tn_plain_data.specs.declared.place.PlaceStep.{PlaceStep}
-use Rattle.tn_plain_data.specs.declared.place.PlaceStep.TheVariants.{Word, Trade}
+use Rattle.tn_plain_data.specs.declared.place.PlaceStep.TheVariants.{Key, Trade}
 use Rattle.tn_plain_data.specs.declared.ends.Ends.{Ends}
 use Rattle.tn_plain_data.specs.declared.holding.Holding.{Holding}
 use Rattle.tn_plain_data.specs.declared.range.Range.{Range}
@@ -11,7 +11,7 @@ use Rattle.tn_plain_data.specs.declared.said.Fault.{Fault}
 use Rattle.tn_plain_data.specs.declared.said.Said.{Said}
 use Rattle.tn_plain_data.specs.declared.said.Said.TheVariants.{Usage, ReadFault, NoMemory, Fault as FaultIs, Equilibrium, Better, Impossible, Accepted, ExchangeFails, Supported, Cycle, Solved, Drill, Ranges, Session, Drops, Completes, Blocks, Valid, Invalid, Cases, Page as PageIs, Firms}
 use Rattle.tn_names.specs.Names.{NameLists, IsNameList}
-use Rattle.tn_answer.specs.Words.{word_text}
+use Rattle.tn_plain_data.specs.Words.{word_text}
 use Rattle.tn_names.specs.Named.{IsNamed, IsNamedStep, IsNamedTriple, HasShortIndex}
 use Rattle.tn_answer.specs.Rows.{is_listed}
 use Rattle.tn_answer.specs.ReasonText.{IsNamedReason}
@@ -78,8 +78,8 @@ HasShortNumbers said = IsSayable said
 
 -- steps of a place are written alike: a trade and a member of the same name, or equal steps
 abbrev pub IsSameStep : List (List ℕ) → PlaceStep → PlaceStep → Type 0
-IsSameStep trades (Trade t) (Word word) = slice_get trades t ≡ Some (word_text word)
-IsSameStep trades (Word word) (Trade t) = slice_get trades t ≡ Some (word_text word)
+IsSameStep trades (Trade t) (Key word) = slice_get trades t ≡ Some (word_text word)
+IsSameStep trades (Key word) (Trade t) = slice_get trades t ≡ Some (word_text word)
 IsSameStep trades first second = first ≡ second
 
 -- faults are written alike: of one kind, with one triple or none, at places of one length that agree step by step

@@ -2,7 +2,7 @@
 use Rattle.std.specs.Prelude.{◌≡◌, ℕ, Bool, true, false, ◌&&◌, List, [], ◌∷◌, Option, None, Some, is_none}
 use Rattle.std.specs.List.{list_all}
 use Rattle.tn_plain_data.specs.declared.place.PlaceStep.{PlaceStep}
-use Rattle.tn_plain_data.specs.declared.place.PlaceStep.TheVariants.{Word, Index, Trade}
+use Rattle.tn_plain_data.specs.declared.place.PlaceStep.TheVariants.{Key, Index, Trade}
 use Rattle.tn_plain_data.specs.declared.said.Shown.{Shown}
 use Rattle.tn_plain_data.specs.declared.session.State.{State}
 use Rattle.tn_plain_data.specs.declared.said.Said.{Said}
@@ -15,7 +15,7 @@ use Rattle.tn_answer.specs.AnswerText.{answer_line}
 use Rattle.tn_answer.specs.declared.layout.Layout.{Layout}
 
 abbrev pub names_no_trade_at : PlaceStep → Bool
-names_no_trade_at (Word word) = true
+names_no_trade_at (Key word) = true
 names_no_trade_at (Index k) = true
 names_no_trade_at (Trade t) = false
 

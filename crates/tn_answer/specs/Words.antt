@@ -1,9 +1,7 @@
--- The words of answers: the names of kinds of faults, and the names of a document's members.
+-- The names of kinds of faults, as answers have them.
 use Rattle.std.specs.Prelude.{ℕ, List, codes}
 use Rattle.tn_base.specs.declared.fault.FaultKind.{FaultKind}
 use Rattle.tn_base.specs.declared.fault.FaultKind.TheVariants.{NotJson, TooLong, Shape, BadName, SameName, UnknownFirm, SelfTrade, UnknownTrade, Limit, AmountRange, NotOwnTrade, SameBundle, NoEmpty, NotLaminar, NotConcave, ExchangeFails, SameTrade, PriceMissing, BadOver, SamePair}
-use Rattle.tn_plain_data.specs.declared.place.Word.{Word}
-use Rattle.tn_plain_data.specs.declared.place.Word.TheVariants.{Version, Firms, Trades, Arrangement, Outcome, Claim, Note, Edits, Name, Seller, Buyer, Kind, Rows, Amounts, Sets, From, Values, Costs, Gains, Keep, Pairs, On, Prices, Over, Contracts, Answer, Surplus, Firm, Bundle, Gain, X, Y, At, Nodes, Cost, Keeps, Plan}
 
 -- the name of a kind of fault
 abbrev pub kind_name : FaultKind → List ℕ
@@ -27,43 +25,3 @@ kind_name SameTrade = codes "SameTrade"
 kind_name PriceMissing = codes "PriceMissing"
 kind_name BadOver = codes "BadOver"
 kind_name SamePair = codes "SamePair"
-
--- the name of a member of a document
-abbrev pub word_text : Word → List ℕ
-word_text Version = codes "version"
-word_text Firms = codes "firms"
-word_text Trades = codes "trades"
-word_text Arrangement = codes "arrangement"
-word_text Outcome = codes "outcome"
-word_text Claim = codes "claim"
-word_text Note = codes "note"
-word_text Edits = codes "edits"
-word_text Name = codes "name"
-word_text Seller = codes "seller"
-word_text Buyer = codes "buyer"
-word_text Kind = codes "kind"
-word_text Rows = codes "rows"
-word_text Amounts = codes "amounts"
-word_text Sets = codes "sets"
-word_text From = codes "from"
-word_text Values = codes "values"
-word_text Costs = codes "costs"
-word_text Gains = codes "gains"
-word_text Keep = codes "keep"
-word_text Pairs = codes "pairs"
-word_text On = codes "on"
-word_text Prices = codes "prices"
-word_text Over = codes "over"
-word_text Contracts = codes "contracts"
-word_text Answer = codes "answer"
-word_text Surplus = codes "surplus"
-word_text Firm = codes "firm"
-word_text Bundle = codes "bundle"
-word_text Gain = codes "gain"
-word_text X = codes "x"
-word_text Y = codes "y"
-word_text At = codes "at"
-word_text Nodes = codes "nodes"
-word_text Cost = codes "cost"
-word_text Keeps = codes "keeps"
-word_text Plan = codes "plan"

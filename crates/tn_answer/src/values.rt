@@ -15,7 +15,7 @@ use crate::holdings::firms_value;
 use crate::ranges::ranges_value;
 use crate::reasons::invalid_value;
 use crate::states::states_value;
-use crate::words::{kind_name, word_text};
+use crate::words::kind_name;
 use serde_json::{Value, json};
 use std::alloc::{AllocError, Global};
 use tn_names::Names;
@@ -465,7 +465,7 @@ fn step_value(alloc: Global, names: &Names, step: PlaceStep) -> Result<Value, Al
     ensures { IfOk result (λ value. view value ≡ step_data names.now.trades step) }
 {
     match step {
-        PlaceStep::Word(word) => Value::try_from_str(alloc, word_text(word)),
+        PlaceStep::Key(word) => Value::try_from_str(alloc, word.text()),
         PlaceStep::Index(k) => Ok(Value::from(k)),
         PlaceStep::Trade(trade) => trade_value(alloc, names, trade),
     }

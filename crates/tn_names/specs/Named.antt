@@ -3,7 +3,7 @@ use Rattle.std.specs.Prelude.{◌≡◌, ℕ, ◌<◌, ◌^◌, ◌↔◌, List,
 use Rattle.std.specs.List.Sorted.{IsStrictlyIncreasing}
 use Rattle.tn_base.specs.declared.fault.FaultKind.TheVariants.{ExchangeFails}
 use Rattle.tn_plain_data.specs.declared.place.PlaceStep.{PlaceStep}
-use Rattle.tn_plain_data.specs.declared.place.PlaceStep.TheVariants.{Word, Index, Trade}
+use Rattle.tn_plain_data.specs.declared.place.PlaceStep.TheVariants.{Key, Index, Trade}
 use Rattle.tn_plain_data.specs.declared.said.Fault.{Fault}
 use Rattle.tn_plain_data.specs.declared.said.Shown.{Shown}
 
@@ -12,13 +12,13 @@ IsNamed names k = k < length names
 
 -- a step to a trade is to one with a name
 abbrev pub IsNamedStep : List (List ℕ) → PlaceStep → Type 0
-IsNamedStep trades (Word word) = Unit {0}
+IsNamedStep trades (Key word) = Unit {0}
 IsNamedStep trades (Index k) = Unit {0}
 IsNamedStep trades (Trade t) = IsNamed trades t
 
 -- an index on the way to a place fits 64 bits
 abbrev pub HasShortIndex : PlaceStep → Type 0
-HasShortIndex (Word word) = Unit {0}
+HasShortIndex (Key word) = Unit {0}
 HasShortIndex (Index k) = k < 2 ^ 64
 HasShortIndex (Trade t) = Unit {0}
 

@@ -1,4 +1,5 @@
 -- The files of definitions of this crate.
+pub mod Words
 pub mod Limits
 pub mod Network
 pub mod NetworkLaws

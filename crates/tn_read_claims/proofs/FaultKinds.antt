@@ -14,7 +14,7 @@ use Rattle.tn_plain_data.specs.Choices.{contracts_of}
 use Rattle.tn_plain_data.specs.declared.claim.Claim.TheVariants.{Equilibrium, Better, Impossible, Accepted, ExchangeFails, Supported, Cycle, Solved, Drops, Completes, Blocks, NoPrices}
 use Rattle.tn_plain_data.specs.declared.part.Part.{Part}
 use Rattle.tn_plain_data.specs.declared.place.PlaceStep.{PlaceStep}
-use Rattle.tn_plain_data.specs.declared.place.PlaceStep.TheVariants.{Index, Trade, Word}
+use Rattle.tn_plain_data.specs.declared.place.PlaceStep.TheVariants.{Index, Trade, Key}
 use Rattle.tn_plain_data.specs.declared.place.Word.TheVariants.{Answer, Arrangement, At, Bundle, Contracts, Cost, Firm as FirmWord, Gain, Keeps, Nodes, On, Over, Prices, Surplus, X, Y}
 use Rattle.tn_plain_data.specs.declared.said.Fault.{Fault}
 use Rattle.tn_names.specs.Names.{number_of}
@@ -232,10 +232,10 @@ one_on_kinds trades place on value =
 on_kinds : (trades : List (List ℕ)) (top : Data) → Stops Known (on_of trades top)
 unfolding on_of
 on_kinds trades top =
-    stops_bind Known (wanted Shape (Word Arrangement ∷ []) (get (codes "arrangement") top)) _
-    (wanted_kinds Shape (Word Arrangement ∷ []) (get (codes "arrangement") top) refl) (λ part.
-    stops_bind Known (object_of ArrangementObject (Word Arrangement ∷ []) (Some part)) _
-    (object_kinds ArrangementObject (Word Arrangement ∷ []) (Some part)) (λ object.
+    stops_bind Known (wanted Shape (Key Arrangement ∷ []) (get (codes "arrangement") top)) _
+    (wanted_kinds Shape (Key Arrangement ∷ []) (get (codes "arrangement") top) refl) (λ part.
+    stops_bind Known (object_of ArrangementObject (Key Arrangement ∷ []) (Some part)) _
+    (object_kinds ArrangementObject (Key Arrangement ∷ []) (Some part)) (λ object.
     stops_bind Known (list_at on_place (get (codes "on") part)) _ (list_kinds on_place (get (codes "on") part))
     (λ references.
     stops_bind Known (each (one_on trades on_place) 0 references) _

@@ -8,8 +8,8 @@ use Rattle.tn_base.specs.declared.fault.FaultKind.TheVariants.{Shape, Limit}
 use Rattle.tn_plain_data.specs.Limits.{least_nodes}
 use Rattle.tn_plain_data.specs.declared.contract.Contract.{Contract}
 use Rattle.tn_plain_data.specs.declared.place.PlaceStep.{PlaceStep}
-use Rattle.tn_plain_data.specs.declared.place.PlaceStep.TheVariants.{Index, Word}
-use Rattle.tn_plain_data.specs.declared.place.Word.{Word as WordIs}
+use Rattle.tn_plain_data.specs.declared.place.PlaceStep.TheVariants.{Index, Key}
+use Rattle.tn_plain_data.specs.declared.place.Word.{Word}
 use Rattle.tn_plain_data.specs.declared.place.Word.TheVariants.{Claim, Contracts, Firm, Gain, Nodes, On, Over, Prices}
 use Rattle.tn_plain_data.specs.declared.said.Fault.{Fault}
 use Rattle.tn_shape.specs.Reading.{◌>>=◌, each, holds, wanted}
@@ -20,13 +20,13 @@ use Rattle.tn_read_parts.specs.Lists.{one_on, price_of, prices_of}
 use Rattle.tn_read_parts.specs.Signed.{over_at}
 
 abbrev pub claim_place : List PlaceStep
-claim_place = Word Claim ∷ []
+claim_place = Key Claim ∷ []
 
-abbrev pub member_place : WordIs → List PlaceStep
-member_place word = Word Claim ∷ Word word ∷ []
+abbrev pub member_place : Word → List PlaceStep
+member_place word = Key Claim ∷ Key word ∷ []
 
 -- a number that a claim speaks of
-abbrev pub claimed_number : Listed → WordIs → Option Data → Result ℤ Fault
+abbrev pub claimed_number : Listed → Word → Option Data → Result ℤ Fault
 claimed_number listed word value = number_in listed.limits.number (member_place word) value
 
 -- none where a value is null, and otherwise what is read of it
@@ -47,7 +47,7 @@ abbrev pub claimed_firm : List (List ℕ) → Data → Result ℕ Fault
 claimed_firm firms claim = firm_at firms (member_place Firm) (get (codes "firm") claim)
 
 -- a bundle of firm f, as the list of its trades
-abbrev pub claimed_bundle : Listed → ℕ → WordIs → Option Data → Result ℕ Fault
+abbrev pub claimed_bundle : Listed → ℕ → Word → Option Data → Result ℕ Fault
 claimed_bundle listed f word value = bundle_at listed f (member_place word) value
 
 -- a position of firm f, as its trade, or null

@@ -6,7 +6,7 @@ use Rattle.tn_base.specs.declared.fault.FaultKind.TheVariants.{AmountRange}
 use Rattle.tn_plain_data.specs.Limits.{most_parts}
 use Rattle.tn_plain_data.specs.declared.part.Part.{Part}
 use Rattle.tn_plain_data.specs.declared.place.PlaceStep.{PlaceStep}
-use Rattle.tn_plain_data.specs.declared.place.PlaceStep.TheVariants.{Index, Word}
+use Rattle.tn_plain_data.specs.declared.place.PlaceStep.TheVariants.{Index, Key}
 use Rattle.tn_plain_data.specs.declared.place.Word.TheVariants.{Claim, Plan}
 use Rattle.tn_plain_data.specs.declared.said.Fault.{Fault}
 use Rattle.tn_shape.specs.Reading.{◌>>=◌, each, holds}
@@ -15,14 +15,14 @@ use Rattle.tn_read_references.specs.Ordered.{Listed}
 use Rattle.tn_read_references.specs.References.{bundle_at, firm_at}
 
 abbrev pub plan_place : List PlaceStep
-plan_place = Word Claim ∷ Word Plan ∷ []
+plan_place = Key Claim ∷ Key Plan ∷ []
 
 -- the part with an index, and what stands in it at an index
 abbrev pub part_at : ℕ → List PlaceStep
-part_at k = Word Claim ∷ Word Plan ∷ Index k ∷ []
+part_at k = Key Claim ∷ Key Plan ∷ Index k ∷ []
 
 abbrev pub in_part : ℕ → ℕ → List PlaceStep
-in_part k index = Word Claim ∷ Word Plan ∷ Index k ∷ Index index ∷ []
+in_part k index = Key Claim ∷ Key Plan ∷ Index k ∷ Index index ∷ []
 
 -- a weight: a whole number from 1 to the largest denominator of a claim
 unfoldable pub weight_at : Listed → List PlaceStep → Data → Result ℤ Fault

@@ -14,10 +14,10 @@ use crate::kinds::{
 use serde_json::Value;
 use std::alloc::Global;
 use tn_base::FaultKind;
-use tn_plain_data::Claim;
+use tn_plain_data::PlaceStep::Key;
+use tn_plain_data::{Claim, Word};
 use tn_read_references::Head;
-use tn_shape::steps::{ANSWER, CLAIM};
-use tn_shape::{ClaimKind, ReadError, claim_named, found, object, present, text};
+use tn_shape::{ClaimKind, ReadError, claim_named, found, member, object, present, text};
 
 /// The claim of a document whose network is listed. No firm has more than 32 own trades.
 #[tactic(auto, unfolding(crate::specs::Claimed::claim_of))]
@@ -26,8 +26,8 @@ pub fn read_claim(alloc: Global, head: &Head, top: &Value) -> Result<Claim, Read
     ensures gives { Gives (λ c. c) result
         (claim_of head.now (view top.now)) }
 {
-    let claim = present(alloc, top.get("claim"), &[CLAIM])?;
-    object(alloc, claim, &[CLAIM])?;
+    let claim = present(alloc, member(top, Word::Claim), &[Key(Word::Claim)])?;
+    object(alloc, claim, &[Key(Word::Claim)])?;
     let kind = kind_of(alloc, claim)?;
     claim_by(alloc, head, kind, top, claim)
 }
@@ -37,8 +37,8 @@ pub fn read_claim(alloc: Global, head: &Head, top: &Value) -> Result<Claim, Read
 fn kind_of(alloc: Global, claim: &Value) -> Result<ClaimKind, ReadError>
     ensures { Gives (λ kind. kind) result (kind_of (view claim.now)) }
 {
-    let place = [CLAIM, ANSWER];
-    let answer = text(alloc, claim.get("answer"), &place)?;
+    let place = [Key(Word::Claim), Key(Word::Answer)];
+    let answer = text(alloc, member(claim, Word::Answer), &place)?;
     found(alloc, claim_named(answer), FaultKind::Shape, &place)
 }
 

@@ -8,11 +8,11 @@ ghost use Rattle.tn_read_claims.specs.Members.{claimed_contracts, no_offers, one
 use serde_json::Value;
 use std::alloc::Global;
 use tn_base::TradeSet;
-use tn_plain_data::{Contract, Contracts};
+use tn_plain_data::PlaceStep::Key;
+use tn_plain_data::{Contract, Contracts, Word};
 use tn_read_parts::{ListAt, price_of};
 use tn_read_references::Head;
-use tn_shape::steps::{CLAIM, CONTRACTS};
-use tn_shape::{ReadError, list};
+use tn_shape::{ReadError, list, member};
 
 /// The claim's contracts, in the order of the list.
 #[tactic(auto, unfolding(crate::specs::Members::claimed_contracts))]
@@ -25,10 +25,10 @@ pub(crate) fn contracts_of(
         (claimed_contracts head.now (view claim.now)) }
 {
     let at = ListAt {
-        part: CLAIM,
-        member: CONTRACTS,
+        part: Key(Word::Claim),
+        member: Key(Word::Contracts),
     };
-    let entries = list(alloc, claim.get("contracts"), &[at.part, at.member])?;
+    let entries = list(alloc, member(claim, Word::Contracts), &[at.part, at.member])?;
     let (_, contracts) = each_offer(alloc, head, at, head.limits().number, entries)?;
     Ok(Contracts::from_vec(contracts))
 }

@@ -16,11 +16,11 @@ use crate::plan::plan_of;
 use serde_json::Value;
 use std::alloc::Global;
 use tn_base::FaultKind;
+use tn_plain_data::PlaceStep::Key;
 use tn_plain_data::{Arrangement, Claim, Word};
 use tn_read_parts::{read_arrangement, read_outcome, read_trades_on};
 use tn_read_references::Head;
-use tn_shape::steps::{AT, CLAIM};
-use tn_shape::{ClaimKind, ObjectKind, ReadError, object_of, require};
+use tn_shape::{ClaimKind, ObjectKind, ReadError, member, object_of, require};
 
 /// The most trades of a document whose claim is a plan: it is held against every set of them.
 const MOST_PLANNED_TRADES: usize = 20;
@@ -29,7 +29,12 @@ const MOST_PLANNED_TRADES: usize = 20;
 fn check_frame(alloc: Global, kind: ClaimKind, claim: &Value) -> Result<(), ReadError>
     ensures { Gives (λ _. tt) result (frame_of kind (view claim.now)) }
 {
-    object_of(alloc, ObjectKind::Claim(kind), Some(claim), &[CLAIM])
+    object_of(
+        alloc,
+        ObjectKind::Claim(kind),
+        Some(claim),
+        &[Key(Word::Claim)],
+    )
 }
 
 /// The claim that the document's arrangement is an equilibrium.
@@ -44,7 +49,7 @@ pub(crate) fn equilibrium(
 {
     let at = read_arrangement(alloc, head, top)?;
     check_frame(alloc, ClaimKind::Equilibrium, claim)?;
-    let surplus = number_of(alloc, head, Word::Surplus, claim.get("surplus"))?;
+    let surplus = number_of(alloc, head, Word::Surplus, member(claim, Word::Surplus))?;
     Ok(Claim::Equilibrium { at, surplus })
 }
 
@@ -62,8 +67,8 @@ pub(crate) fn better(
     let at = read_arrangement(alloc, head, top)?;
     check_frame(alloc, ClaimKind::Better, claim)?;
     let firm = firm_of(alloc, head, claim)?;
-    let bundle = bundle_of(alloc, head, firm, Word::Bundle, claim.get("bundle"))?;
-    let gain = number_of(alloc, head, Word::Gain, claim.get("gain"))?;
+    let bundle = bundle_of(alloc, head, firm, Word::Bundle, member(claim, Word::Bundle))?;
+    let gain = number_of(alloc, head, Word::Gain, member(claim, Word::Gain))?;
     Ok(Claim::Better {
         at,
         firm,
@@ -105,9 +110,15 @@ pub(crate) fn failure(alloc: Global, head: &Head, claim: &Value) -> Result<Claim
 {
     check_frame(alloc, ClaimKind::ExchangeFails, claim)?;
     let firm = firm_of(alloc, head, claim)?;
-    let at = own_or_null(alloc, head, firm, claim.get("at"), &[CLAIM, AT])?;
-    let x = bundle_of(alloc, head, firm, Word::X, claim.get("x"))?;
-    let y = bundle_of(alloc, head, firm, Word::Y, claim.get("y"))?;
+    let at = own_or_null(
+        alloc,
+        head,
+        firm,
+        member(claim, Word::At),
+        &[Key(Word::Claim), Key(Word::At)],
+    )?;
+    let x = bundle_of(alloc, head, firm, Word::X, member(claim, Word::X))?;
+    let y = bundle_of(alloc, head, firm, Word::Y, member(claim, Word::Y))?;
     Ok(Claim::ExchangeFails { firm, x, y, at })
 }
 
@@ -139,7 +150,7 @@ pub(crate) fn cycle(
 {
     let on = read_trades_on(alloc, head, top)?;
     check_frame(alloc, ClaimKind::Cycle, claim)?;
-    let cost = number_of(alloc, head, Word::Cost, claim.get("cost"))?;
+    let cost = number_of(alloc, head, Word::Cost, member(claim, Word::Cost))?;
     let nodes = nodes_of(alloc, head, claim)?;
     Ok(Claim::Cycle { on, nodes, cost })
 }
@@ -152,7 +163,7 @@ pub(crate) fn solved(alloc: Global, head: &Head, claim: &Value) -> Result<Claim,
     check_frame(alloc, ClaimKind::Solved, claim)?;
     let on = on_of(alloc, head, claim)?;
     let prices = prices_of(alloc, head, claim)?;
-    let surplus = number_of(alloc, head, Word::Surplus, claim.get("surplus"))?;
+    let surplus = number_of(alloc, head, Word::Surplus, member(claim, Word::Surplus))?;
     let at = Arrangement { on, prices };
     Ok(Claim::Solved { at, surplus })
 }
@@ -171,8 +182,8 @@ pub(crate) fn drops(
     let outcome = read_outcome(alloc, head, top)?;
     check_frame(alloc, ClaimKind::Drops, claim)?;
     let firm = firm_of(alloc, head, claim)?;
-    let gain = gain_or_null(alloc, head, claim.get("gain"))?;
-    let keeps = bundle_of(alloc, head, firm, Word::Keeps, claim.get("keeps"))?;
+    let gain = gain_or_null(alloc, head, member(claim, Word::Gain))?;
+    let keeps = bundle_of(alloc, head, firm, Word::Keeps, member(claim, Word::Keeps))?;
     let over = over_of(alloc, head, claim)?;
     Ok(Claim::Drops {
         outcome,
@@ -233,7 +244,7 @@ pub(crate) fn no_prices(alloc: Global, head: &Head, claim: &Value) -> Result<Cla
     ensures { Gives (λ c. c) result (no_prices_of head.now (view claim.now)) }
 {
     let few = head.ends().len() <= MOST_PLANNED_TRADES;
-    require(alloc, few, FaultKind::Limit, &[CLAIM])?;
+    require(alloc, few, FaultKind::Limit, &[Key(Word::Claim)])?;
     check_frame(alloc, ClaimKind::NoPrices, claim)?;
     let over = over_of(alloc, head, claim)?;
     let plan = plan_of(alloc, head, claim)?;

@@ -10,11 +10,11 @@ ghost use Rattle.tn_read_claims.specs.Members.{claimed_bundle, claimed_firm, cla
 use serde_json::Value;
 use std::alloc::Global;
 use tn_base::{Bundle, FaultKind, TradeSet};
+use tn_plain_data::PlaceStep::Key;
 use tn_plain_data::{PlaceStep, Prices, Word};
 use tn_read_parts::{ListAt, read_over, read_prices, read_trades};
 use tn_read_references::{Head, OwnPart, PartAt, firm, own_bundle, own_position};
-use tn_shape::steps::{CLAIM, FIRM, GAIN, ON, OVER, PRICES};
-use tn_shape::{ReadError, fault, list, number};
+use tn_shape::{ReadError, fault, list, member, number};
 
 /// A number that a claim speaks of.
 pub(crate) fn number_of(
@@ -25,7 +25,7 @@ pub(crate) fn number_of(
 ) -> Result<i128, ReadError>
     ensures { Gives (λ z. z) result (claimed_number head.now word (option_map (λ v. view v.now) value.entry)) }
 {
-    let place = [CLAIM, PlaceStep::Word(word)];
+    let place = [Key(Word::Claim), Key(word)];
     number(alloc, head.limits().number, value, &place)
 }
 
@@ -38,7 +38,11 @@ pub(crate) fn gain_or_null(
     ensures { Gives (λ gain. gain) result (gain_or_null head.now (option_map (λ v. view v.now) value.entry)) }
 {
     match value {
-        None => Err(fault(alloc, FaultKind::Shape, &[CLAIM, GAIN])),
+        None => Err(fault(
+            alloc,
+            FaultKind::Shape,
+            &[Key(Word::Claim), Key(Word::Gain)],
+        )),
         Some(Value::Null) => Ok(None),
         Some(value) => {
             let gain = number_of(alloc, head, Word::Gain, Some(value))?;
@@ -52,7 +56,12 @@ pub(crate) fn firm_of(alloc: Global, head: &Head, claim: &Value) -> Result<u32, 
     ensures gives { Gives (λ f. f) result (claimed_firm head.now.names.firms (view claim.now)) }
     ensures known { IfOk result (λ f. f < length head.now.names.firms) }
 {
-    firm(alloc, head.names(), claim.get("firm"), &[CLAIM, FIRM])
+    firm(
+        alloc,
+        head.names(),
+        member(claim, Word::Firm),
+        &[Key(Word::Claim), Key(Word::Firm)],
+    )
 }
 
 /// A bundle of firm `f`, as the list of its trades.
@@ -69,8 +78,8 @@ pub(crate) fn bundle_of(
         (option_map (λ v. view v.now) value.entry)) }
 {
     let at = PartAt::Member {
-        part: CLAIM,
-        member: PlaceStep::Word(word),
+        part: Key(Word::Claim),
+        member: Key(word),
     };
     own_bundle(alloc, head, OwnPart { firm: f, at }, value)
 }
@@ -104,8 +113,8 @@ pub(crate) fn over_of(alloc: Global, head: &Head, claim: &Value) -> Result<i128,
     read_over(
         alloc,
         head.limits().claimed_over,
-        claim.get("over"),
-        &[CLAIM, OVER],
+        member(claim, Word::Over),
+        &[Key(Word::Claim), Key(Word::Over)],
     )
 }
 
@@ -115,10 +124,10 @@ pub(crate) fn on_of(alloc: Global, head: &Head, claim: &Value) -> Result<TradeSe
     ensures { Gives (λ on. on) result (claimed_on head.now.names.trades (view claim.now)) }
 {
     let at = ListAt {
-        part: CLAIM,
-        member: ON,
+        part: Key(Word::Claim),
+        member: Key(Word::On),
     };
-    let references = list(alloc, claim.get("on"), &[at.part, at.member])?;
+    let references = list(alloc, member(claim, Word::On), &[at.part, at.member])?;
     read_trades(alloc, head, at, references)
 }
 
@@ -128,10 +137,10 @@ pub(crate) fn prices_of(alloc: Global, head: &Head, claim: &Value) -> Result<Pri
     ensures { Gives (λ prices. prices) result (claimed_prices head.now (view claim.now)) }
 {
     let at = ListAt {
-        part: CLAIM,
-        member: PRICES,
+        part: Key(Word::Claim),
+        member: Key(Word::Prices),
     };
-    let entries = list(alloc, claim.get("prices"), &[at.part, at.member])?;
+    let entries = list(alloc, member(claim, Word::Prices), &[at.part, at.member])?;
     let prices = read_prices(alloc, head, at, head.limits().number, entries)?;
     Ok(Prices::from_vec(prices))
 }

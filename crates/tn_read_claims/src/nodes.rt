@@ -9,11 +9,10 @@ ghost use Rattle.tn_read_claims.specs.Members.{claimed_nodes, node_at, one_node}
 use serde_json::Value;
 use std::alloc::Global;
 use tn_base::FaultKind;
-use tn_plain_data::PlaceStep::Index;
-use tn_plain_data::{Nodes, PlaceStep};
+use tn_plain_data::PlaceStep::{Index, Key};
+use tn_plain_data::{Nodes, PlaceStep, Word};
 use tn_read_references::{Head, trade};
-use tn_shape::steps::{CLAIM, NODES};
-use tn_shape::{ReadError, few, require};
+use tn_shape::{ReadError, few, member, require};
 
 /// The fewest nodes of a cycle.
 const LEAST_NODES: usize = 2;
@@ -23,8 +22,13 @@ const LEAST_NODES: usize = 2;
 pub(crate) fn nodes_of(alloc: Global, head: &Head, claim: &Value) -> Result<Nodes, ReadError>
     ensures { Gives (λ nodes. nodes) result (claimed_nodes head.now (view claim.now)) }
 {
-    let place = [CLAIM, NODES];
-    let values = few(alloc, head.limits().nodes, claim.get("nodes"), &place)?;
+    let place = [Key(Word::Claim), Key(Word::Nodes)];
+    let values = few(
+        alloc,
+        head.limits().nodes,
+        member(claim, Word::Nodes),
+        &place,
+    )?;
     let enough = LEAST_NODES <= values.len();
     require(alloc, enough, FaultKind::Limit, &place)?;
     let nodes = each_node(alloc, head, values)?;
@@ -57,7 +61,11 @@ fn add_node(
         (one_node head.now.names.trades nodes.old.items (view value.now)) }
     ensures count { OnOk result (length nodes.new.items ≡ length nodes.old.items + 1) }
 {
-    let place = [CLAIM, NODES, Index(nodes.len() as u32)];
+    let place = [
+        Key(Word::Claim),
+        Key(Word::Nodes),
+        Index(nodes.len() as u32),
+    ];
     let node = node_at(alloc, head, value, &place)?;
     nodes.push(node)?;
     Ok(())

@@ -11,11 +11,10 @@ ghost use Rattle.tn_read_claims.specs.Planned.{claimed_plan, in_part, one_part, 
 use serde_json::Value;
 use std::alloc::Global;
 use tn_base::{Bundle, FaultKind};
-use tn_plain_data::PlaceStep::Index;
-use tn_plain_data::{Part, Parts};
+use tn_plain_data::PlaceStep::{Index, Key};
+use tn_plain_data::{Part, Parts, Word};
 use tn_read_references::{Head, OwnPart, PartAt, firm, own_bundle};
-use tn_shape::steps::{CLAIM, PLAN};
-use tn_shape::{ReadError, few, require, three, whole};
+use tn_shape::{ReadError, few, member, require, three, whole};
 
 /// The most parts of a plan.
 const MOST_PARTS: u32 = 1024;
@@ -26,7 +25,12 @@ pub(crate) fn plan_of(alloc: Global, head: &Head, claim: &Value) -> Result<Parts
     requires few { (f : ℕ) → f < length head.now.names.firms → length (sides_of head.now.ends f) ≤ most_own_trades }
     ensures { Gives (λ plan. plan) result (claimed_plan head.now (view claim.now)) }
 {
-    let entries = few(alloc, MOST_PARTS, claim.get("plan"), &[CLAIM, PLAN])?;
+    let entries = few(
+        alloc,
+        MOST_PARTS,
+        member(claim, Word::Plan),
+        &[Key(Word::Claim), Key(Word::Plan)],
+    )?;
     let parts = each_part(alloc, head, entries)?;
     Ok(Parts::from_vec(parts))
 }
@@ -70,8 +74,12 @@ fn part_of(alloc: Global, head: &Head, k: u32, entry: &Value) -> Result<Part, Re
     requires few { (f : ℕ) → f < length head.now.names.firms → length (sides_of head.now.ends f) ≤ most_own_trades }
     ensures { Gives (λ part. part) result (part_of head.now k (view entry.now)) }
 {
-    let (name, references, number) = three(alloc, entry, &[CLAIM, PLAN, Index(k)])?;
-    let place = [CLAIM, PLAN, Index(k), Index(0)];
+    let (name, references, number) = three(
+        alloc,
+        entry,
+        &[Key(Word::Claim), Key(Word::Plan), Index(k)],
+    )?;
+    let place = [Key(Word::Claim), Key(Word::Plan), Index(k), Index(0)];
     let firm = firm(alloc, head.names(), Some(name), &place)?;
     let bundle = bundle_of(alloc, head, firm, k, references)?;
     let weight = weight_of(alloc, head, k, number)?;
@@ -95,8 +103,8 @@ fn bundle_of(
         (bundle_at head.now f (in_part k 1) (Some (view references.now))) }
 {
     let at = PartAt::MemberItem {
-        part: CLAIM,
-        member: PLAN,
+        part: Key(Word::Claim),
+        member: Key(Word::Plan),
         item: k,
         index: 1,
     };
@@ -109,7 +117,7 @@ fn weight_of(alloc: Global, head: &Head, k: u32, number: &Value) -> Result<i128,
     ensures { Gives (λ weight. weight) result
         (weight_at head.now (in_part k 2) (view number.now)) }
 {
-    let place = [CLAIM, PLAN, Index(k), Index(2)];
+    let place = [Key(Word::Claim), Key(Word::Plan), Index(k), Index(2)];
     let weight = whole(alloc, Some(number), &place)?;
     let within = 1 <= weight && weight <= head.limits().claimed_over as i64;
     require(alloc, within, FaultKind::AmountRange, &place)?;

@@ -6,7 +6,8 @@ ghost use Rattle.serde_json.specs.View.{view};
 ghost use Rattle.tn_read_claims.specs.Claimed.{claims_raw, is_raw, names_raw};
 
 use serde_json::Value;
-use tn_shape::{ClaimKind, claim_named};
+use tn_plain_data::Word;
+use tn_shape::{ClaimKind, claim_named, member};
 
 /// Whether a document's claim is one on exchange, or that there are no prices, by its answer: such a claim is made of
 /// firms as they are listed.
@@ -24,8 +25,8 @@ fn answer_of(top: &Value) -> Option<&str>
     ensures { option_map (λ text. text.now) result ≡ option_and_then as_str
         (option_and_then (get (codes "answer")) (get (codes "claim") (view top.now))) }
 {
-    let claim = top.get("claim")?;
-    let answer = claim.get("answer")?;
+    let claim = member(top, Word::Claim)?;
+    let answer = member(claim, Word::Answer)?;
     answer.as_str()
 }
 

@@ -22,7 +22,7 @@ use Rattle.tn_plain_data.specs.declared.ends.Ends.{Ends}
 use Rattle.tn_plain_data.specs.Limits.{AreLimits, most_firms, most_own_of_table, most_own_trades, most_sets, most_values}
 use Rattle.tn_plain_data.specs.declared.limits.Limits.{Limits}
 use Rattle.tn_plain_data.specs.declared.place.PlaceStep.{PlaceStep}
-use Rattle.tn_plain_data.specs.declared.place.PlaceStep.TheVariants.{Index, Word}
+use Rattle.tn_plain_data.specs.declared.place.PlaceStep.TheVariants.{Index, Key}
 use Rattle.tn_plain_data.specs.declared.place.Word.TheVariants.{Trades, Sets, From, Values, Keep, Kind, Rows as RowsWord}
 use Rattle.tn_plain_data.specs.declared.said.Fault.{Fault}
 use Rattle.tn_plain_data.specs.Network.{own}
@@ -138,7 +138,7 @@ module _ (listed : Listed) (trades : AreTrades listed) (f : ℕ) (firm_few : IsF
   full_stops : (table : TableRows) → StopsPlainly (full_if_large f table)
   unfolding full_if_large
   full_stops table =
-      plain_holds Limit (firm_place f ++ Word RowsWord ∷ []) (nat_le (length table.sides) 10 || has_each_row table.rows)
+      plain_holds Limit (firm_place f ++ Key RowsWord ∷ []) (nat_le (length table.sides) 10 || has_each_row table.rows)
       refl (tt, (firm_few.number, (tt, tt)))
 
   rows_stop : (items : Items) → length (sides_of listed.ends f) ≤ most_own_of_table
@@ -160,8 +160,8 @@ module _ (listed : Listed) (trades : AreTrades listed) (f : ℕ) (firm_few : IsF
       → StopsPlainly (table_of listed f firm)
   unfolding table_of
   table_stops firm few =
-      stops_bind IsPlain (list_at (firm_place f ++ Word RowsWord ∷ []) (get (codes "rows") firm)) _
-      (list_stops (firm_place f ++ Word RowsWord ∷ []) (tt, (firm_few.number, (tt, tt))) (get (codes "rows") firm))
+      stops_bind IsPlain (list_at (firm_place f ++ Key RowsWord ∷ []) (get (codes "rows") firm)) _
+      (list_stops (firm_place f ++ Key RowsWord ∷ []) (tt, (firm_few.number, (tt, tt))) (get (codes "rows") firm))
       (λ items. rows_stop items few)
 
 -- laminar firms
@@ -178,8 +178,8 @@ module _ (limits : Limits) (are_limits : AreLimits limits) (f s : ℕ) (near : f
       → StopsPlainly (one_value limits f s numbers value)
   unfolding one_value
   value_stops numbers value few =
-      stops_bind IsPlain (number_at limits.amount (set_place f s ++ Word Values ∷ Index (length numbers) ∷ []) value) _
-      (number_stops (set_place f s ++ Word Values ∷ Index (length numbers) ∷ []) (
+      stops_bind IsPlain (number_at limits.amount (set_place f s ++ Key Values ∷ Index (length numbers) ∷ []) value) _
+      (number_stops (set_place f s ++ Key Values ∷ Index (length numbers) ∷ []) (
         tt,
         (near, (tt, (early, (tt, (omega (arith, few), tt))))),
       ) limits.amount (Some value)) (λ z.
@@ -189,9 +189,9 @@ module _ (limits : Limits) (are_limits : AreLimits limits) (f s : ℕ) (near : f
   unfolding values_at
   values_stop value =
       stops_after IsPlain (λ items. items_len items ≤ limits.values)
-      (few_at limits.values (set_place f s ++ Word Values ∷ []) value) _
-      (few_lead limits.values (set_place f s ++ Word Values ∷ []) value)
-      (few_stops (set_place f s ++ Word Values ∷ []) (tt, (near, (tt, (early, (tt, tt))))) limits.values value)
+      (few_at limits.values (set_place f s ++ Key Values ∷ []) value) _
+      (few_lead limits.values (set_place f s ++ Key Values ∷ []) value)
+      (few_stops (set_place f s ++ Key Values ∷ []) (tt, (near, (tt, (early, (tt, tt))))) limits.values value)
       (λ values few.
       stops_each_few IsPlain (λ numbers. Unit {0}) length most_values (one_value limits f s)
       (λ numbers d start. leads_as (λ next. length next ≡ length numbers + 1) _ _ (λ next more. (tt, more))
@@ -202,8 +202,8 @@ module _ (f s : ℕ) (near : f ≤ 16384) (early : s ≤ 16384) where
   bent_stops : (bend : Option ℕ) → ((k : ℕ) → bend ≡ Some k → k ≤ 16384) → StopsPlainly (unless_bent f s bend)
   bent_stops None within = stops_ok IsPlain tt
   bent_stops (Some k) within =
-      stops_err IsPlain (fault NotConcave (set_place f s ++ Word Values ∷ Index k ∷ []))
-      (plain_fault NotConcave (set_place f s ++ Word Values ∷ Index k ∷ []) refl (
+      stops_err IsPlain (fault NotConcave (set_place f s ++ Key Values ∷ Index k ∷ []))
+      (plain_fault NotConcave (set_place f s ++ Key Values ∷ Index k ∷ []) refl (
         tt,
         (near, (tt, (early, (tt, (within k refl, tt))))),
       ))
@@ -261,13 +261,13 @@ module _ (listed : Listed) (trades : AreTrades listed) (f : ℕ) (firm_few : IsF
       stops_bind IsPlain (object_of LaminarSetObject (set_place f s) (Some set)) _
       (object_stops (set_place f s) (tt, (firm_few.number, (tt, (early, tt)))) LaminarSetObject (Some set))
       (λ object.
-      stops_bind IsPlain (bundle_at listed f (set_place f s ++ Word Trades ∷ []) (get (codes "trades") set)) _
-      (bundle_stops listed trades f firm_few.own (set_place f s ++ Word Trades ∷ []) (
+      stops_bind IsPlain (bundle_at listed f (set_place f s ++ Key Trades ∷ []) (get (codes "trades") set)) _
+      (bundle_stops listed trades f firm_few.own (set_place f s ++ Key Trades ∷ []) (
         tt,
         (firm_few.number, (tt, (early, (tt, tt)))),
       ) (get (codes "trades") set)) (λ members.
-      stops_bind IsPlain (low_at listed.limits (set_place f s ++ Word From ∷ []) (get (codes "from") set)) _
-      (low_stops listed.limits (set_place f s ++ Word From ∷ []) (get (codes "from") set) (
+      stops_bind IsPlain (low_at listed.limits (set_place f s ++ Key From ∷ []) (get (codes "from") set)) _
+      (low_stops listed.limits (set_place f s ++ Key From ∷ []) (get (codes "from") set) (
         tt,
         (firm_few.number, (tt, (early, (tt, tt)))),
       )) (λ low.
@@ -285,12 +285,12 @@ module _ (listed : Listed) (trades : AreTrades listed) (f : ℕ) (firm_few : IsF
   sets_stop : (value : Option Data) → StopsPlainly (sets_at listed f value)
   unfolding sets_at
   sets_stop value =
-      stops_bind IsPlain (optional_list_at (firm_place f ++ Word Sets ∷ []) value) _
-      (optional_list_stops (firm_place f ++ Word Sets ∷ []) (tt, (firm_few.number, (tt, tt))) value) (λ sets.
+      stops_bind IsPlain (optional_list_at (firm_place f ++ Key Sets ∷ []) value) _
+      (optional_list_stops (firm_place f ++ Key Sets ∷ []) (tt, (firm_few.number, (tt, tt))) value) (λ sets.
       stops_after IsPlain (λ _. nat_le (items_len sets) listed.limits.sets ≡ true)
-      (holds Limit (firm_place f ++ Word Sets ∷ []) (nat_le (items_len sets) listed.limits.sets)) _
-      (leads_holds Limit (firm_place f ++ Word Sets ∷ []) (nat_le (items_len sets) listed.limits.sets))
-      (plain_holds Limit (firm_place f ++ Word Sets ∷ []) (nat_le (items_len sets) listed.limits.sets) refl (
+      (holds Limit (firm_place f ++ Key Sets ∷ []) (nat_le (items_len sets) listed.limits.sets)) _
+      (leads_holds Limit (firm_place f ++ Key Sets ∷ []) (nat_le (items_len sets) listed.limits.sets))
+      (plain_holds Limit (firm_place f ++ Key Sets ∷ []) (nat_le (items_len sets) listed.limits.sets) refl (
         tt,
         (firm_few.number, (tt, tt)),
       )) (λ u few.
@@ -342,8 +342,8 @@ middle_stops listed trades f few firm =
       tt,
       (few.number, (tt, tt)),
     ) costs (get (codes "gains") firm)) (λ numbers.
-    stops_bind IsPlain (keep_at listed.limits (firm_place f ++ Word Keep ∷ []) (get (codes "keep") firm)) _
-    (keep_stops listed.limits (firm_place f ++ Word Keep ∷ []) (get (codes "keep") firm) (
+    stops_bind IsPlain (keep_at listed.limits (firm_place f ++ Key Keep ∷ []) (get (codes "keep") firm)) _
+    (keep_stops listed.limits (firm_place f ++ Key Keep ∷ []) (get (codes "keep") firm) (
       tt,
       (few.number, (tt, tt)),
     )) (λ keep.
@@ -353,9 +353,9 @@ middle_stops listed trades f few firm =
 kind_stops : (f : ℕ) (firm : Data) → f ≤ 16384 → StopsPlainly (kind_of f firm)
 unfolding kind_of
 kind_stops f firm near =
-    stops_bind IsPlain (text_at (firm_place f ++ Word Kind ∷ []) (get (codes "kind") firm)) _
-    (text_stops (firm_place f ++ Word Kind ∷ []) (tt, (near, (tt, tt))) (get (codes "kind") firm)) (λ kind.
-    plain_wanted Shape (firm_place f ++ Word Kind ∷ []) (kind_named kind) refl (tt, (near, (tt, tt))))
+    stops_bind IsPlain (text_at (firm_place f ++ Key Kind ∷ []) (get (codes "kind") firm)) _
+    (text_stops (firm_place f ++ Key Kind ∷ []) (tt, (near, (tt, tt))) (get (codes "kind") firm)) (λ kind.
+    plain_wanted Shape (firm_place f ++ Key Kind ∷ []) (kind_named kind) refl (tt, (near, (tt, tt))))
 
 frame_stops : (listed : Listed) (f : ℕ) (kind : FirmKind) (firm : Data) → f ≤ 16384
     → StopsPlainly (frame_of listed f kind firm)

@@ -14,7 +14,7 @@ use Rattle.tn_laminar.specs.Sum.{HasNumbersWithin, IsOwnSet, laminar_firm}
 use Rattle.tn_plain_data.specs.Limits.{AreLimits, most_from, most_own_trades, most_sets, most_values}
 use Rattle.tn_plain_data.specs.declared.limits.Limits.{Limits}
 use Rattle.tn_plain_data.specs.declared.place.PlaceStep.{PlaceStep}
-use Rattle.tn_plain_data.specs.declared.place.PlaceStep.TheVariants.{Index, Word}
+use Rattle.tn_plain_data.specs.declared.place.PlaceStep.TheVariants.{Index, Key}
 use Rattle.tn_plain_data.specs.declared.place.Word.TheVariants.{Trades, Sets, From, Values}
 use Rattle.tn_shape.specs.declared.members.ObjectKind.TheVariants.{LaminarSet as LaminarSetObject}
 use Rattle.tn_shape.specs.Reading.{each, holds}
@@ -53,9 +53,9 @@ module _ (limits : Limits) (are_limits : AreLimits limits) (f s : ℕ) where
   unfolding one_value
   value_leads numbers value small =
       leads_bind (λ z. IsAtMost z most_amount) (All (λ z. IsAtMost z most_amount))
-      (number_at limits.amount (set_place f s ++ Word Values ∷ Index (length numbers) ∷ []) value) _
+      (number_at limits.amount (set_place f s ++ Key Values ∷ Index (length numbers) ∷ []) value) _
       (number_within limits.amount most_amount are_limits.amount (set_place f s
-      ++ Word Values ∷ Index (length numbers) ∷ []) (Some value)) (λ z is.
+      ++ Key Values ∷ Index (length numbers) ∷ []) (Some value)) (λ z is.
       leads_ok (All (λ z. IsAtMost z most_amount)) (numbers ++ z ∷ [])
       (All-push (λ z. IsAtMost z most_amount) numbers z small is))
 
@@ -64,15 +64,15 @@ module _ (limits : Limits) (are_limits : AreLimits limits) (f s : ℕ) where
   unfolding one_value
   value_counts numbers value =
       leads_after (λ next. length next ≡ length numbers + 1)
-      (number_at limits.amount (set_place f s ++ Word Values ∷ Index (length numbers) ∷ []) value) _ (λ z.
+      (number_at limits.amount (set_place f s ++ Key Values ∷ Index (length numbers) ∷ []) value) _ (λ z.
       leads_ok (λ next. length next ≡ length numbers + 1) (numbers ++ z ∷ []) (length-append numbers (z ∷ [])))
 
   values_lead : (value : Option Data) → Leads AreValues (values_at limits f s value)
   unfolding values_at
   values_lead value =
       leads_bind (λ items. items_len items ≤ limits.values) AreValues
-      (few_at limits.values (set_place f s ++ Word Values ∷ []) value) _
-      (few_lead limits.values (set_place f s ++ Word Values ∷ []) value) (λ items few.
+      (few_at limits.values (set_place f s ++ Key Values ∷ []) value) _
+      (few_lead limits.values (set_place f s ++ Key Values ∷ []) value) (λ items few.
       leads_as (λ numbers. All (λ z. IsAtMost z most_amount) numbers
       × (length numbers ≡ 0 + items_len items)) AreValues (each (one_value limits f s) [] items)
       (λ numbers are. record { few = omega (arith, few, are.1, are_limits.values); small = are.0 })
@@ -93,10 +93,10 @@ module _ (listed : Listed) (trades : AreTrades listed) (f : ℕ) where
   set_leads s set =
       leads_after IsSetOf (object_of LaminarSetObject (set_place f s) (Some set)) _ (λ object.
       leads_bind (λ b. b < 2 ^ length (sides_of listed.ends f)) IsSetOf
-      (bundle_at listed f (set_place f s ++ Word Trades ∷ []) (get (codes "trades") set)) _
-      (bundle_leads listed trades f (set_place f s ++ Word Trades ∷ []) (get (codes "trades") set)) (λ members own.
-      leads_bind (λ low. IsAtMost low most_from) IsSetOf (low_at listed.limits (set_place f s ++ Word From ∷ [])
-      (get (codes "from") set)) _ (low_leads listed.limits trades.limits (set_place f s ++ Word From ∷ [])
+      (bundle_at listed f (set_place f s ++ Key Trades ∷ []) (get (codes "trades") set)) _
+      (bundle_leads listed trades f (set_place f s ++ Key Trades ∷ []) (get (codes "trades") set)) (λ members own.
+      leads_bind (λ low. IsAtMost low most_from) IsSetOf (low_at listed.limits (set_place f s ++ Key From ∷ [])
+      (get (codes "from") set)) _ (low_leads listed.limits trades.limits (set_place f s ++ Key From ∷ [])
       (get (codes "from") set)) (λ low near.
       leads_bind AreValues IsSetOf (values_at listed.limits f s (get (codes "values") set)) _
       (values_lead listed.limits trades.limits f s (get (codes "values") set)) (λ numbers are.
@@ -135,10 +135,10 @@ module _ (listed : Listed) (trades : AreTrades listed) (f : ℕ) where
   pub sets_lead : (value : Option Data) → Leads AreFewSets (sets_at listed f value)
   unfolding sets_at
   sets_lead value =
-      leads_after AreFewSets (optional_list_at (firm_place f ++ Word Sets ∷ []) value) _ (λ items.
+      leads_after AreFewSets (optional_list_at (firm_place f ++ Key Sets ∷ []) value) _ (λ items.
       leads_bind (λ _. nat_le (items_len items) listed.limits.sets ≡ true) AreFewSets
-      (holds Limit (firm_place f ++ Word Sets ∷ []) (nat_le (items_len items) listed.limits.sets)) _
-      (leads_holds Limit (firm_place f ++ Word Sets ∷ []) (nat_le (items_len items) listed.limits.sets)) (λ u few.
+      (holds Limit (firm_place f ++ Key Sets ∷ []) (nat_le (items_len items) listed.limits.sets)) _
+      (leads_holds Limit (firm_place f ++ Key Sets ∷ []) (nat_le (items_len items) listed.limits.sets)) (λ u few.
       leads_as (λ sets. AreSetsOf sets × (length sets ≡ 0 + items_len items)) AreFewSets
       (each (one_set listed f) [] items) (λ sets are. (
         are.0,

@@ -11,7 +11,7 @@ use Rattle.tn_middle.specs.Pairs.{middle_firm}
 use Rattle.tn_plain_data.specs.Limits.{AreLimits, most_own_trades}
 use Rattle.tn_plain_data.specs.declared.limits.Limits.{Limits}
 use Rattle.tn_plain_data.specs.declared.place.PlaceStep.{PlaceStep}
-use Rattle.tn_plain_data.specs.declared.place.PlaceStep.TheVariants.{Word}
+use Rattle.tn_plain_data.specs.declared.place.PlaceStep.TheVariants.{Key}
 use Rattle.tn_plain_data.specs.declared.place.Word.TheVariants.{Keep}
 use Rattle.tn_shape.specs.Reading.{◌>>=◌}
 use Rattle.tn_shape.specs.Shapes.{number_at}
@@ -58,8 +58,8 @@ middle_leads listed trades f firm few =
     (own_numbers_lead listed (gains_list f) (length (sides_of listed.ends f)) costs (get (codes "gains") firm)
     are_costs) (λ numbers are.
     leads_bind IsSmallKeep (IsMiddlemanFirm listed.ends f)
-    (keep_at listed.limits (firm_place f ++ Word Keep ∷ []) (get (codes "keep") firm)) _
-    (keep_leads listed.limits trades.limits (firm_place f ++ Word Keep ∷ []) (get (codes "keep") firm))
+    (keep_at listed.limits (firm_place f ++ Key Keep ∷ []) (get (codes "keep") firm)) _
+    (keep_leads listed.limits trades.limits (firm_place f ++ Key Keep ∷ []) (get (codes "keep") firm))
     (λ keep small.
     leads_ok (IsMiddlemanFirm listed.ends f) (middle_firm (sides_of listed.ends f) numbers keep) (record {
       numbers = numbers;

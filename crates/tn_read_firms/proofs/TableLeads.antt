@@ -15,7 +15,7 @@ use Rattle.tn_exchange.proofs.RowLemmas.{IsMadeOf, limits_with_row, limits_witho
 use Rattle.tn_local.specs.First.{IsFullIfLarge}
 use Rattle.tn_plain_data.specs.Limits.{most_own_of_table}
 use Rattle.tn_plain_data.specs.declared.ends.Ends.{Ends}
-use Rattle.tn_plain_data.specs.declared.place.PlaceStep.TheVariants.{Index, Word}
+use Rattle.tn_plain_data.specs.declared.place.PlaceStep.TheVariants.{Index, Key}
 use Rattle.tn_plain_data.specs.declared.place.Word.TheVariants.{Rows as RowsWord}
 use Rattle.tn_shape.specs.Reading.{each, holds}
 use Rattle.tn_shape.specs.Shapes.{list_at, two_at, number_at}
@@ -78,7 +78,7 @@ unfolding full_if_large
 full_leads f table places =
     leads_as (λ _. (nat_le (length table.sides) 10 || has_each_row table.rows) ≡ true)
     (λ _. IsFullIfLarge (firm_of_table table)) _ (λ u met. full_from_test table places met)
-    (leads_holds Limit (firm_place f ++ Word RowsWord ∷ []) (nat_le (length table.sides) 10 || has_each_row table.rows))
+    (leads_holds Limit (firm_place f ++ Key RowsWord ∷ []) (nat_le (length table.sides) 10 || has_each_row table.rows))
 
 module _ (listed : Listed) (trades : AreTrades listed) (f : ℕ) where
   -- a row is on own trades, and its number is small
@@ -176,5 +176,5 @@ module _ (listed : Listed) (trades : AreTrades listed) (f : ℕ) where
       → Leads (IsTableOf listed.ends f) (table_of listed f firm)
   unfolding table_of
   table_leads firm few =
-      leads_after (IsTableOf listed.ends f) (list_at (firm_place f ++ Word RowsWord ∷ []) (get (codes "rows") firm)) _
+      leads_after (IsTableOf listed.ends f) (list_at (firm_place f ++ Key RowsWord ∷ []) (get (codes "rows") firm)) _
       (λ items. rows_lead items few)

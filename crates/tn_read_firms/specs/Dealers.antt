@@ -9,7 +9,7 @@ use Rattle.tn_base.specs.declared.side.Side.TheVariants.{Buy, Sell}
 use Rattle.tn_dealer.specs.declared.pair.Pair.{Pair}
 use Rattle.tn_dealer.specs.Pairs.{dealer_firm}
 use Rattle.tn_plain_data.specs.declared.place.PlaceStep.{PlaceStep}
-use Rattle.tn_plain_data.specs.declared.place.PlaceStep.TheVariants.{Index, Word}
+use Rattle.tn_plain_data.specs.declared.place.PlaceStep.TheVariants.{Index, Key}
 use Rattle.tn_plain_data.specs.declared.place.Word.TheVariants.{Firms, Pairs}
 use Rattle.tn_plain_data.specs.declared.said.Fault.{Fault}
 use Rattle.tn_shape.specs.Reading.{◌>>=◌, each, wanted, holds}
@@ -28,10 +28,10 @@ three_at place value = do
   wanted Shape place (three_of items)
 
 abbrev pub pairs_place : ℕ → List PlaceStep
-pairs_place f = Word Firms ∷ Index f ∷ Word Pairs ∷ []
+pairs_place f = Key Firms ∷ Index f ∷ Key Pairs ∷ []
 
 abbrev pub pair_place : ℕ → ℕ → List PlaceStep
-pair_place f k = Word Firms ∷ Index f ∷ Word Pairs ∷ Index k ∷ []
+pair_place f k = Key Firms ∷ Index f ∷ Key Pairs ∷ Index k ∷ []
 
 -- the pair of an entry: an own purchase, an own sale, and what it costs
 unfoldable pub pair_of : Listed → ℕ → ℕ → Data → Result Pair Fault

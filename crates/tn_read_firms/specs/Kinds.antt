@@ -6,7 +6,7 @@ use Rattle.serde_json.specs.Find.{get}
 use Rattle.tn_base.specs.declared.fault.FaultKind.TheVariants.{Shape, Limit}
 use Rattle.tn_plain_data.specs.Limits.{most_own_of_table, most_own_trades}
 use Rattle.tn_plain_data.specs.declared.limits.Limits.{Limits}
-use Rattle.tn_plain_data.specs.declared.place.PlaceStep.TheVariants.{Word}
+use Rattle.tn_plain_data.specs.declared.place.PlaceStep.TheVariants.{Key}
 use Rattle.tn_plain_data.specs.declared.place.Word.TheVariants.{Kind}
 use Rattle.tn_plain_data.specs.declared.said.Fault.{Fault}
 use Rattle.tn_shape.specs.declared.members.FirmKind.{FirmKind}
@@ -27,8 +27,8 @@ kind_named text = if bytes_eq text (codes "table") then Some Table
 -- the kind of firm f
 unfoldable pub kind_of : ℕ → Data → Result FirmKind Fault
 kind_of f firm = do
-  kind ← text_at (firm_place f ++ Word Kind ∷ []) (get (codes "kind") firm)
-  wanted Shape (firm_place f ++ Word Kind ∷ []) (kind_named kind)
+  kind ← text_at (firm_place f ++ Key Kind ∷ []) (get (codes "kind") firm)
+  wanted Shape (firm_place f ++ Key Kind ∷ []) (kind_named kind)
 
 -- the most own trades of a firm of a kind
 abbrev pub most_own : Limits → FirmKind → ℕ

@@ -15,7 +15,7 @@ use Rattle.tn_laminar.specs.declared.refusal.LaminarRefusal.TheVariants.{NoEmpty
 use Rattle.tn_laminar.specs.Sum.{laminar_firm}
 use Rattle.tn_plain_data.specs.declared.limits.Limits.{Limits}
 use Rattle.tn_plain_data.specs.declared.place.PlaceStep.{PlaceStep}
-use Rattle.tn_plain_data.specs.declared.place.PlaceStep.TheVariants.{Index, Word}
+use Rattle.tn_plain_data.specs.declared.place.PlaceStep.TheVariants.{Index, Key}
 use Rattle.tn_plain_data.specs.declared.place.Word.TheVariants.{Firms, Trades, Amounts, Sets, From, Values}
 use Rattle.tn_plain_data.specs.declared.said.Fault.{Fault}
 use Rattle.tn_shape.specs.declared.error.ReadError.{ReadError}
@@ -29,7 +29,7 @@ use Rattle.tn_read_references.specs.References.{firm_place, bundle_at}
 use Rattle.tn_read_firms.specs.OwnNumbers.{no_numbers, own_numbers}
 
 abbrev pub set_place : ℕ → ℕ → List PlaceStep
-set_place f s = Word Firms ∷ Index f ∷ Word Sets ∷ Index s ∷ []
+set_place f s = Key Firms ∷ Index f ∷ Key Sets ∷ Index s ∷ []
 
 -- the net count that the first number is for
 unfoldable pub low_at : Limits → List PlaceStep → Option Data → Result ℤ Fault
@@ -41,21 +41,21 @@ low_at limits place value = do
 -- one more number; its index is the count of those before it
 unfoldable pub one_value : Limits → ℕ → ℕ → List ℤ → Data → Result (List ℤ) Fault
 one_value limits f s numbers value = do
-  number ← number_at limits.amount (set_place f s ++ Word Values ∷ Index (length numbers) ∷ []) value
+  number ← number_at limits.amount (set_place f s ++ Key Values ∷ Index (length numbers) ∷ []) value
   Ok (numbers ++ number ∷ [])
 
 -- not too many numbers
 unfoldable pub values_at : Limits → ℕ → ℕ → Option Data → Result (List ℤ) Fault
 values_at limits f s value = do
-  values ← few_at limits.values (set_place f s ++ Word Values ∷ []) value
+  values ← few_at limits.values (set_place f s ++ Key Values ∷ []) value
   each (one_value limits f s) [] values
 
 -- set s of firm f
 unfoldable pub set_of : Listed → ℕ → ℕ → Data → Result LaminarSet Fault
 set_of listed f s set = do
   object ← object_of LaminarSetObject (set_place f s) (Some set)
-  members ← bundle_at listed f (set_place f s ++ Word Trades ∷ []) (get (codes "trades") set)
-  low ← low_at listed.limits (set_place f s ++ Word From ∷ []) (get (codes "from") set)
+  members ← bundle_at listed f (set_place f s ++ Key Trades ∷ []) (get (codes "trades") set)
+  low ← low_at listed.limits (set_place f s ++ Key From ∷ []) (get (codes "from") set)
   numbers ← values_at listed.limits f s (get (codes "values") set)
   Ok (record { members = members; low = low; numbers = numbers })
 
@@ -68,8 +68,8 @@ one_set listed f sets set = do
 -- not too many sets, none where the member isn't there
 unfoldable pub sets_at : Listed → ℕ → Option Data → Result (List LaminarSet) Fault
 sets_at listed f value = do
-  sets ← optional_list_at (firm_place f ++ Word Sets ∷ []) value
-  few ← holds Limit (firm_place f ++ Word Sets ∷ []) (nat_le (items_len sets) listed.limits.sets)
+  sets ← optional_list_at (firm_place f ++ Key Sets ∷ []) value
+  few ← holds Limit (firm_place f ++ Key Sets ∷ []) (nat_le (items_len sets) listed.limits.sets)
   each (one_set listed f) [] sets
 
 -- a number is below the middle of its two neighbours
@@ -84,12 +84,12 @@ first_bend k _ = None
 
 abbrev pub unless_bent : ℕ → ℕ → Option ℕ → Result (Unit {0}) Fault
 unless_bent f s None = Ok tt
-unless_bent f s (Some place) = Err (fault NotConcave (set_place f s ++ Word Values ∷ Index place ∷ []))
+unless_bent f s (Some place) = Err (fault NotConcave (set_place f s ++ Key Values ∷ Index place ∷ []))
 
 -- what is said of the fault of firm f that its sets are refused
 abbrev pub IsRefusal : ℕ → LaminarRefusal → ReadError → Type 0
 IsRefusal f (NoEmptyIs s) e = IsFaultAt NoEmpty (set_place f s) e
-IsRefusal f (NotConcaveIs s place) e = IsFaultAt NotConcave (set_place f s ++ Word Values ∷ Index place ∷ []) e
+IsRefusal f (NotConcaveIs s place) e = IsFaultAt NotConcave (set_place f s ++ Key Values ∷ Index place ∷ []) e
 IsRefusal f (NotLaminarIs s) e = IsFaultAt NotLaminar (set_place f s) e
 IsRefusal f OutOfMemoryIs e = e ≡ OutOfMemory
 
@@ -113,7 +113,7 @@ check_sets f earlier (set ∷ sets) = do
   check_sets f (earlier ++ set ∷ []) sets
 
 abbrev pub amounts_list : ℕ → OwnList
-amounts_list f = record { firm = f; member = Word Amounts; side = None }
+amounts_list f = record { firm = f; member = Key Amounts; side = None }
 
 -- the laminar firm of sets that pass
 unfoldable pub checked_laminar : ℕ → List Side → List ℤ → List LaminarSet → Result Firm Fault

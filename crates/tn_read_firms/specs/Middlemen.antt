@@ -6,7 +6,7 @@ use Rattle.tn_base.specs.Firm.{Firm}
 use Rattle.tn_base.specs.declared.side.Side.TheVariants.{Buy, Sell}
 use Rattle.tn_plain_data.specs.declared.limits.Limits.{Limits}
 use Rattle.tn_plain_data.specs.declared.place.PlaceStep.{PlaceStep}
-use Rattle.tn_plain_data.specs.declared.place.PlaceStep.TheVariants.{Word}
+use Rattle.tn_plain_data.specs.declared.place.PlaceStep.TheVariants.{Key}
 use Rattle.tn_plain_data.specs.declared.place.Word.TheVariants.{Costs, Gains, Keep}
 use Rattle.tn_plain_data.specs.declared.said.Fault.{Fault}
 use Rattle.tn_middle.specs.Pairs.{middle_firm}
@@ -18,10 +18,10 @@ use Rattle.tn_read_references.specs.References.{firm_place}
 use Rattle.tn_read_firms.specs.OwnNumbers.{no_numbers, own_numbers}
 
 abbrev pub costs_list : ℕ → OwnList
-costs_list f = record { firm = f; member = Word Costs; side = Some Buy }
+costs_list f = record { firm = f; member = Key Costs; side = Some Buy }
 
 abbrev pub gains_list : ℕ → OwnList
-gains_list f = record { firm = f; member = Word Gains; side = Some Sell }
+gains_list f = record { firm = f; member = Key Gains; side = Some Sell }
 
 -- a number, none where it isn't there or null
 abbrev pub keep_at : Limits → List PlaceStep → Option Data → Result (Option ℤ) Fault
@@ -36,5 +36,5 @@ unfoldable pub middle_of : Listed → ℕ → Data → Result Firm Fault
 middle_of listed f firm = do
   costs ← own_numbers listed (costs_list f) (no_numbers listed.ends f) (get (codes "costs") firm)
   numbers ← own_numbers listed (gains_list f) costs (get (codes "gains") firm)
-  keep ← keep_at listed.limits (firm_place f ++ Word Keep ∷ []) (get (codes "keep") firm)
+  keep ← keep_at listed.limits (firm_place f ++ Key Keep ∷ []) (get (codes "keep") firm)
   Ok (middle_firm (sides_of listed.ends f) numbers keep)

@@ -3,7 +3,7 @@ use Rattle.std.specs.Prelude.{ℕ, [], ◌∷◌, ℤ, pos, List, length, replic
 use Rattle.serde_json.specs.Data.{Data}
 use Rattle.tn_plain_data.specs.declared.ends.Ends.{Ends}
 use Rattle.tn_plain_data.specs.declared.place.PlaceStep.{PlaceStep}
-use Rattle.tn_plain_data.specs.declared.place.PlaceStep.TheVariants.{Index, Word}
+use Rattle.tn_plain_data.specs.declared.place.PlaceStep.TheVariants.{Index, Key}
 use Rattle.tn_plain_data.specs.declared.place.Word.TheVariants.{Firms}
 use Rattle.tn_plain_data.specs.declared.said.Fault.{Fault}
 use Rattle.tn_read_firms.specs.declared.own_numbers.OwnList.{OwnList}
@@ -14,7 +14,7 @@ use Rattle.tn_read_references.specs.References.{new_own}
 use Rattle.tn_read_references.specs.Entries.{Numbered, entry_of, one_entry}
 
 abbrev pub list_place : OwnList → List PlaceStep
-list_place list = Word Firms ∷ Index list.firm ∷ list.member ∷ []
+list_place list = Key Firms ∷ Index list.firm ∷ list.member ∷ []
 
 -- the position and the number of an entry, and the numbers with one more entry
 abbrev pub own_entry : Listed → OwnList → ℕ → Data → Result (ℕ × ℤ) Fault

@@ -5,7 +5,7 @@ use Rattle.serde_json.specs.Find.{get}
 use Rattle.tn_base.specs.declared.fault.FaultKind.TheVariants.{Limit, SameBundle}
 use Rattle.tn_exchange.specs.Rows.{TableRows, row_at, without_rows, with_row}
 use Rattle.tn_plain_data.specs.declared.place.PlaceStep.{PlaceStep}
-use Rattle.tn_plain_data.specs.declared.place.PlaceStep.TheVariants.{Index, Word}
+use Rattle.tn_plain_data.specs.declared.place.PlaceStep.TheVariants.{Index, Key}
 use Rattle.tn_plain_data.specs.declared.place.Word.TheVariants.{Firms, Rows as RowsWord}
 use Rattle.tn_plain_data.specs.declared.said.Fault.{Fault}
 use Rattle.tn_shape.specs.Reading.{◌>>=◌, each, holds}
@@ -14,7 +14,7 @@ use Rattle.tn_read_references.specs.Ordered.{Listed, sides_of}
 use Rattle.tn_read_references.specs.References.{firm_place, bundle_at}
 
 abbrev pub row_place : ℕ → ℕ → List PlaceStep
-row_place f r = Word Firms ∷ Index f ∷ Word RowsWord ∷ Index r ∷ []
+row_place f r = Key Firms ∷ Index f ∷ Key RowsWord ∷ Index r ∷ []
 
 -- a bundle and its number
 unfoldable pub row_of : Listed → ℕ → ℕ → Data → Result (ℕ × ℤ) Fault
@@ -50,7 +50,7 @@ has_each_row (empty ∷ rows) = are_filled rows
 -- a table of more than 10 own trades has a row for every bundle that isn't empty
 unfoldable pub full_if_large : ℕ → TableRows → Result (Unit {0}) Fault
 full_if_large f table =
-    holds Limit (firm_place f ++ Word RowsWord ∷ []) (nat_le (length table.sides) 10 || has_each_row table.rows)
+    holds Limit (firm_place f ++ Key RowsWord ∷ []) (nat_le (length table.sides) 10 || has_each_row table.rows)
 
 -- the rows of firm f
 unfoldable pub rows_of : Listed → ℕ → Items → Result TableRows Fault
@@ -62,7 +62,7 @@ rows_of listed f items = do
 -- the table of firm f
 unfoldable pub table_of : Listed → ℕ → Data → Result TableRows Fault
 table_of listed f firm = do
-  items ← list_at (firm_place f ++ Word RowsWord ∷ []) (get (codes "rows") firm)
+  items ← list_at (firm_place f ++ Key RowsWord ∷ []) (get (codes "rows") firm)
   rows_of listed f items
 
 -- how many bundles have a row

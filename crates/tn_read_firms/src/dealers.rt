@@ -12,12 +12,11 @@ ghost use Rattle.tn_shape.specs.Reading.{Gives, each};
 use serde_json::Value;
 use std::alloc::Global;
 use tn_base::{FaultKind, Side};
-use tn_dealer::{Dealer, Pair, SamePair};
-use tn_market::PlaceStep;
-use tn_market::PlaceStep::Index;
+use tn_dealer::{Dealer, Pair};
+use tn_market::PlaceStep::{Index, Key};
+use tn_market::{PlaceStep, Word};
 use tn_read_references::{Head, own_position, sides_of};
-use tn_shape::steps::{FIRMS, PAIRS};
-use tn_shape::{ReadError, fault, list, number, optional_list, require};
+use tn_shape::{ReadError, fault, list, member, number, optional_list, require};
 
 /// The dealer `f`.
 #[tactic(auto, unfolding(crate::specs::Dealers::dealer_of))]
@@ -32,14 +31,10 @@ pub(crate) fn dealer_of(
         (dealer_of head.now f (view firm.now)) }
 {
     let sides = sides_of(alloc, head.ends(), f)?;
-    let place = [FIRMS, Index(f), PAIRS];
-    let entries = optional_list(alloc, firm.get("pairs"), &place)?;
+    let place = [Key(Word::Firms), Index(f), Key(Word::Pairs)];
+    let entries = optional_list(alloc, member(firm, Word::Pairs), &place)?;
     let pairs = read_pairs(alloc, head, f, entries)?;
-    match Dealer::new(sides, pairs) {
-        Ok(dealer) => Ok(dealer),
-        // No pair that was read is repeated.
-        Err(SamePair { .. }) => unreachable!(),
-    }
+    Ok(Dealer::of_different(sides, pairs))
 }
 
 /// The pairs of the entries, of which none is repeated.
@@ -72,7 +67,7 @@ fn new_pair(
 {
     let k = pairs.len() as u32;
     let pair = pair_of(alloc, head, f, k, entry)?;
-    let place = [FIRMS, Index(f), PAIRS, Index(k)];
+    let place = [Key(Word::Firms), Index(f), Key(Word::Pairs), Index(k)];
     require(alloc, !is_listed(&pair, pairs), FaultKind::SamePair, &place)?;
     Ok(pair)
 }
@@ -91,12 +86,16 @@ fn pair_of(alloc: Global, head: &Head, f: u32, k: u32, entry: &Value) -> Result<
         (pair_of head.now f k (view entry.now)) }
 {
     let (f_step, k_step) = (Index(f), Index(k));
-    let (purchase, sale, cost) = three(alloc, entry, &[FIRMS, f_step, PAIRS, k_step])?;
-    let place = [FIRMS, f_step, PAIRS, k_step, Index(0)];
+    let (purchase, sale, cost) = three(
+        alloc,
+        entry,
+        &[Key(Word::Firms), f_step, Key(Word::Pairs), k_step],
+    )?;
+    let place = [Key(Word::Firms), f_step, Key(Word::Pairs), k_step, Index(0)];
     let buy = own_position(alloc, head, f, Some(Side::Buy), purchase, &place)?;
-    let place = [FIRMS, f_step, PAIRS, k_step, Index(1)];
+    let place = [Key(Word::Firms), f_step, Key(Word::Pairs), k_step, Index(1)];
     let sell = own_position(alloc, head, f, Some(Side::Sell), sale, &place)?;
-    let place = [FIRMS, f_step, PAIRS, k_step, Index(2)];
+    let place = [Key(Word::Firms), f_step, Key(Word::Pairs), k_step, Index(2)];
     let cost = number(alloc, head.limits().amount, Some(cost), &place)?;
     Ok(Pair { buy, sell, cost })
 }

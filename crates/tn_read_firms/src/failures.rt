@@ -7,10 +7,9 @@ ghost use Rattle.tn_read_firms.specs.Firms.{failure_of};
 
 use std::alloc::Global;
 use tn_base::{Bundle, FaultKind, OutOfMemory};
-use tn_market::PlaceStep::Index;
-use tn_market::{Ends, Fault, Place, Shown, Trades};
+use tn_market::PlaceStep::{Index, Key};
+use tn_market::{Ends, Fault, Place, Shown, Trades, Word};
 use tn_plain_data::{own, trades_of};
-use tn_shape::steps::FIRMS;
 
 /// The fault of firm `f`, which has so many own trades, that a triple fails.
 pub(crate) fn failure(
@@ -26,7 +25,7 @@ pub(crate) fn failure(
     requires count { count ≤ 64 }
     ensures { IfOk result (λ fault. fault ≡ failure_of ends.now f count (record { x = x; y = y; at = at })) }
 {
-    let place = Vec::from_slice(alloc, &[FIRMS, Index(f)])?;
+    let place = Vec::from_slice(alloc, &[Key(Word::Firms), Index(f)])?;
     let x = trades_of(alloc, ends, f, count, x)?;
     let y = trades_of(alloc, ends, f, count, y)?;
     let shown = Shown {

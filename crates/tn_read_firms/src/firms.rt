@@ -20,10 +20,10 @@ use crate::rows::read_rows;
 use serde_json::Value;
 use std::alloc::Global;
 use tn_exchange::RawTable;
-use tn_market::PlaceStep::Index;
+use tn_market::PlaceStep::{Index, Key};
+use tn_market::Word;
 use tn_read_references::Head;
-use tn_shape::steps::{FIRMS, ROWS};
-use tn_shape::{FirmKind, ReadError, list};
+use tn_shape::{FirmKind, ReadError, list, member};
 
 /// The firms in their order.
 pub fn read_firms<F: FromKinds + Drop>(
@@ -102,6 +102,10 @@ fn table_of(alloc: Global, head: &Head, f: u32, firm: &Value) -> Result<RawTable
     ensures gives { Gives (λ table. table) result
         (table_of head.now f (view firm.now)) }
 {
-    let rows = list(alloc, firm.get("rows"), &[FIRMS, Index(f), ROWS])?;
+    let rows = list(
+        alloc,
+        member(firm, Word::Rows),
+        &[Key(Word::Firms), Index(f), Key(Word::Rows)],
+    )?;
     read_rows(alloc, head, f, rows)
 }

@@ -9,19 +9,21 @@ ghost use Rattle.tn_shape.specs.Reading.{Gives};
 use serde_json::Value;
 use std::alloc::Global;
 use tn_base::FaultKind;
-use tn_market::PlaceStep::Index;
+use tn_market::PlaceStep::{Index, Key};
+use tn_market::Word;
 use tn_plain_data::Limits;
 use tn_read_references::{Head, count_own};
-use tn_shape::steps::{FIRMS, KIND};
-use tn_shape::{FirmKind, ObjectKind, ReadError, found, object_of, require, text, value_of_word};
+use tn_shape::{
+    FirmKind, ObjectKind, ReadError, found, member, object_of, require, text, value_of_word,
+};
 
 /// The kind of firm `f`.
 #[tactic(auto, unfolding(crate::specs::Kinds::kind_of))]
 pub(crate) fn kind_of(alloc: Global, f: u32, firm: &Value) -> Result<FirmKind, ReadError>
     ensures { Gives (λ kind. kind) result (kind_of f (view firm.now)) }
 {
-    let place = [FIRMS, Index(f), KIND];
-    let kind = text(alloc, firm.get("kind"), &place)?;
+    let place = [Key(Word::Firms), Index(f), Key(Word::Kind)];
+    let kind = text(alloc, member(firm, Word::Kind), &place)?;
     found(alloc, kind_named(kind), FaultKind::Shape, &place)
 }
 
@@ -52,7 +54,7 @@ pub(crate) fn check_frame(
     ensures gives { Gives (λ _. tt) result (frame_of head.now f kind (view firm.now)) }
     ensures few { OnOk result (length (sides_of head.now.ends f) ≤ room_for kind) }
 {
-    let place = [FIRMS, Index(f)];
+    let place = [Key(Word::Firms), Index(f)];
     object_of(alloc, ObjectKind::Firm(kind), Some(firm), &place)?;
     let few = count_own(head.ends(), f) <= most_own(head.limits(), kind);
     require(alloc, few, FaultKind::Limit, &place)

@@ -16,12 +16,11 @@ use serde_json::Value;
 use std::alloc::Global;
 use tn_base::{FaultKind, Side};
 use tn_laminar::{Laminar, LaminarRefusal, LaminarSet};
-use tn_market::PlaceStep::Index;
-use tn_market::{Amounts, PlaceStep};
+use tn_market::PlaceStep::{Index, Key};
+use tn_market::{Amounts, PlaceStep, Word};
 use tn_read_references::{Head, OwnPart, PartAt, own_bundle, sides_of};
-use tn_shape::steps::{AMOUNTS, FIRMS, FROM, SETS, TRADES, VALUES};
 use tn_shape::{
-    ObjectKind, ReadError, fault, few, number, object_of, optional_list, require, whole,
+    ObjectKind, ReadError, fault, few, member, number, object_of, optional_list, require, whole,
 };
 
 /// The laminar firm `f`. All its sets are read before the first one is tested.
@@ -39,12 +38,12 @@ pub(crate) fn laminar_of(
     let sides = sides_of(alloc, head.ends(), f)?;
     let list = OwnList {
         firm: f,
-        member: AMOUNTS,
+        member: Key(Word::Amounts),
         side: None,
     };
     let zeros = vec![in alloc; 0; sides.len()]?;
-    let amounts = own_numbers(alloc, head, list, firm.get("amounts"), zeros)?;
-    let sets = read_sets(alloc, head, f, firm.get("sets"))?;
+    let amounts = own_numbers(alloc, head, list, member(firm, Word::Amounts), zeros)?;
+    let sets = read_sets(alloc, head, f, member(firm, Word::Sets))?;
     checked(alloc, f, sides, amounts, sets)
 }
 
@@ -77,15 +76,22 @@ fn refused(alloc: Global, f: u32, refusal: LaminarRefusal) -> ReadError
 {
     match refusal {
         LaminarRefusal::NoEmpty { set } => {
-            let place = [FIRMS, Index(f), SETS, Index(set)];
+            let place = [Key(Word::Firms), Index(f), Key(Word::Sets), Index(set)];
             fault(alloc, FaultKind::NoEmpty, &place)
         }
         LaminarRefusal::NotConcave { set, place } => {
-            let place = [FIRMS, Index(f), SETS, Index(set), VALUES, Index(place)];
+            let place = [
+                Key(Word::Firms),
+                Index(f),
+                Key(Word::Sets),
+                Index(set),
+                Key(Word::Values),
+                Index(place),
+            ];
             fault(alloc, FaultKind::NotConcave, &place)
         }
         LaminarRefusal::NotLaminar { set } => {
-            let place = [FIRMS, Index(f), SETS, Index(set)];
+            let place = [Key(Word::Firms), Index(f), Key(Word::Sets), Index(set)];
             fault(alloc, FaultKind::NotLaminar, &place)
         }
         LaminarRefusal::OutOfMemory => ReadError::OutOfMemory,
@@ -104,7 +110,7 @@ fn read_sets(
     ensures { Gives (λ sets. sets.items) result
         (sets_at head.now f (option_map (λ v. view v.now) value.entry)) }
 {
-    let place = [FIRMS, Index(f), SETS];
+    let place = [Key(Word::Firms), Index(f), Key(Word::Sets)];
     let items = optional_list(alloc, value, &place)?;
     require(
         alloc,
@@ -161,18 +167,24 @@ fn set_of(alloc: Global, head: &Head, f: u32, s: u32, set: &Value) -> Result<Lam
     ensures { Gives (λ set. set) result
         (set_of head.now f s (view set.now)) }
 {
-    let place = [FIRMS, Index(f), SETS, Index(s)];
+    let place = [Key(Word::Firms), Index(f), Key(Word::Sets), Index(s)];
     object_of(alloc, ObjectKind::LaminarSet, Some(set), &place)?;
     let at = PartAt::Item {
-        list: SETS,
+        list: Key(Word::Sets),
         item: s,
-        part: TRADES,
+        part: Key(Word::Trades),
     };
     let part = OwnPart { firm: f, at };
-    let members = own_bundle(alloc, head, part, set.get("trades"))?;
-    let place = [FIRMS, Index(f), SETS, Index(s), FROM];
-    let low = low(alloc, head, set.get("from"), &place)?;
-    let numbers = read_values(alloc, head, f, s, set.get("values"))?;
+    let members = own_bundle(alloc, head, part, member(set, Word::Trades))?;
+    let place = [
+        Key(Word::Firms),
+        Index(f),
+        Key(Word::Sets),
+        Index(s),
+        Key(Word::From),
+    ];
+    let low = low(alloc, head, member(set, Word::From), &place)?;
+    let numbers = read_values(alloc, head, f, s, member(set, Word::Values))?;
     Ok(LaminarSet {
         members,
         low,
@@ -208,7 +220,13 @@ fn read_values(
     ensures { Gives (λ numbers. numbers.items) result
         (values_at head.now.limits f s (option_map (λ v. view v.now) value.entry)) }
 {
-    let place = [FIRMS, Index(f), SETS, Index(s), VALUES];
+    let place = [
+        Key(Word::Firms),
+        Index(f),
+        Key(Word::Sets),
+        Index(s),
+        Key(Word::Values),
+    ];
     let values = few(alloc, head.limits().values, value, &place)?;
     each_value(alloc, head, f, s, values)
 }
@@ -248,7 +266,14 @@ fn add_value(
     ensures count { OnOk result (length numbers.new.items ≡ length numbers.old.items + 1) }
 {
     let k = Index(numbers.len() as u32);
-    let place = [FIRMS, Index(f), SETS, Index(s), VALUES, k];
+    let place = [
+        Key(Word::Firms),
+        Index(f),
+        Key(Word::Sets),
+        Index(s),
+        Key(Word::Values),
+        k,
+    ];
     let number = number(alloc, head.limits().amount, Some(value), &place)?;
     numbers.push(number)?;
     Ok(())

@@ -12,12 +12,11 @@ use crate::own_numbers::{OwnList, own_numbers};
 use serde_json::Value;
 use std::alloc::Global;
 use tn_base::Side;
-use tn_market::PlaceStep;
-use tn_market::PlaceStep::Index;
+use tn_market::PlaceStep::{Index, Key};
+use tn_market::{PlaceStep, Word};
 use tn_middle::Middle;
 use tn_read_references::{Head, sides_of};
-use tn_shape::steps::{COSTS, FIRMS, GAINS, KEEP};
-use tn_shape::{ReadError, number};
+use tn_shape::{ReadError, member, number};
 
 /// The middleman `f`.
 #[tactic(auto, unfolding(crate::specs::Middlemen::middle_of))]
@@ -35,17 +34,22 @@ pub(crate) fn middle_of(
     let zeros = vec![in alloc; 0; sides.len()]?;
     let costs = OwnList {
         firm: f,
-        member: COSTS,
+        member: Key(Word::Costs),
         side: Some(Side::Buy),
     };
-    let numbers = own_numbers(alloc, head, costs, firm.get("costs"), zeros)?;
+    let numbers = own_numbers(alloc, head, costs, member(firm, Word::Costs), zeros)?;
     let gains = OwnList {
         firm: f,
-        member: GAINS,
+        member: Key(Word::Gains),
         side: Some(Side::Sell),
     };
-    let numbers = own_numbers(alloc, head, gains, firm.get("gains"), numbers)?;
-    let keep = keep(alloc, head, firm.get("keep"), &[FIRMS, Index(f), KEEP])?;
+    let numbers = own_numbers(alloc, head, gains, member(firm, Word::Gains), numbers)?;
+    let keep = keep(
+        alloc,
+        head,
+        member(firm, Word::Keep),
+        &[Key(Word::Firms), Index(f), Key(Word::Keep)],
+    )?;
     Ok(Middle::new(sides, numbers, keep))
 }
 

@@ -10,10 +10,9 @@ ghost use Rattle.tn_shape.specs.Reading.{Gives, each};
 use serde_json::Value;
 use std::alloc::Global;
 use tn_base::{Bundle, FaultKind, Side};
-use tn_market::PlaceStep;
-use tn_market::PlaceStep::Index;
+use tn_market::PlaceStep::{Index, Key};
+use tn_market::{PlaceStep, Word};
 use tn_read_references::{Head, own_position};
-use tn_shape::steps::FIRMS;
 use tn_shape::{ReadError, number, optional_list, require, two};
 
 /// A list of a firm, whose entries give numbers to own trades.
@@ -42,7 +41,7 @@ pub(crate) fn own_numbers(
         (option_map (λ v. view v.now) value.entry)) }
     ensures places { IfOk result (λ all. length all.items ≡ length numbers.items) }
 {
-    let place = [FIRMS, Index(list.firm), list.member];
+    let place = [Key(Word::Firms), Index(list.firm), list.member];
     let entries = optional_list(alloc, value, &place)?;
     read_entries(alloc, head, list, entries, &mut numbers)?;
     Ok(numbers)
@@ -108,11 +107,11 @@ fn entry_of(
     ensures own { IfOk result (λ p. p.0 < length (sides_of head.now.ends list.firm)) }
 {
     let (f, k) = (Index(list.firm), Index(named.count()));
-    let (reference, value) = two(alloc, entry, &[FIRMS, f, list.member, k])?;
-    let place = [FIRMS, f, list.member, k, Index(0)];
+    let (reference, value) = two(alloc, entry, &[Key(Word::Firms), f, list.member, k])?;
+    let place = [Key(Word::Firms), f, list.member, k, Index(0)];
     let position = own_position(alloc, head, list.firm, list.side, reference, &place)?;
     require(alloc, !named.has(position), FaultKind::SameTrade, &place)?;
-    let place = [FIRMS, f, list.member, k, Index(1)];
+    let place = [Key(Word::Firms), f, list.member, k, Index(1)];
     let number = number(alloc, head.limits().amount, Some(value), &place)?;
     Ok((position, number))
 }

@@ -15,9 +15,9 @@ use serde_json::Value;
 use std::alloc::Global;
 use tn_base::{Bundle, FaultKind};
 use tn_exchange::{RawTable, RowRefusal};
-use tn_market::PlaceStep::Index;
+use tn_market::PlaceStep::{Index, Key};
+use tn_market::Word;
 use tn_read_references::{Head, OwnPart, PartAt, own_bundle, sides_of};
-use tn_shape::steps::{FIRMS, ROWS};
 use tn_shape::{ReadError, fault, number, require, two};
 
 /// The table of the rows of firm `f`, which has at most 14 own trades. With more than 10, every bundle that isn't empty
@@ -53,7 +53,12 @@ fn check_full(alloc: Global, f: u32, table: &RawTable) -> Result<(), ReadError>
     ensures full { OnOk result (IsFullIfLarge (firm_of_table table.now)) }
 {
     let full = table.trades() <= 10 || table.full();
-    require(alloc, full, FaultKind::Limit, &[FIRMS, Index(f), ROWS])
+    require(
+        alloc,
+        full,
+        FaultKind::Limit,
+        &[Key(Word::Firms), Index(f), Key(Word::Rows)],
+    )
 }
 
 /// Adds one more row, which comes after so many.
@@ -80,7 +85,7 @@ fn read_row(
     match table.add(bundle, amount) {
         Ok(()) => Ok(()),
         Err(RowRefusal::Same) => {
-            let place = [FIRMS, Index(f), ROWS, Index(count)];
+            let place = [Key(Word::Firms), Index(f), Key(Word::Rows), Index(count)];
             Err(fault(alloc, FaultKind::SameBundle, &place))
         }
     }
@@ -102,15 +107,19 @@ fn row_of(
     ensures small { IfOk result (λ p. IsAtMost p.1 most_amount) }
 {
     let (f_step, r_step) = (Index(f), Index(r));
-    let (references, amount) = two(alloc, row, &[FIRMS, f_step, ROWS, r_step])?;
+    let (references, amount) = two(
+        alloc,
+        row,
+        &[Key(Word::Firms), f_step, Key(Word::Rows), r_step],
+    )?;
     let at = PartAt::Item {
-        list: ROWS,
+        list: Key(Word::Rows),
         item: r,
         part: Index(0),
     };
     let part = OwnPart { firm: f, at };
     let bundle = own_bundle(alloc, head, part, Some(references))?;
-    let place = [FIRMS, f_step, ROWS, r_step, Index(1)];
+    let place = [Key(Word::Firms), f_step, Key(Word::Rows), r_step, Index(1)];
     let amount = number(alloc, head.limits().amount, Some(amount), &place)?;
     Ok((bundle, amount))
 }

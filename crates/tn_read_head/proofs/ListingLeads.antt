@@ -8,7 +8,7 @@ use Rattle.tn_base.specs.declared.fault.FaultKind.TheVariants.{Shape}
 use Rattle.tn_plain_data.specs.Limits.{AreLimits, limits_of, most_listed}
 use Rattle.tn_plain_data.specs.declared.limits.Limits.{Limits}
 use Rattle.tn_plain_data.proofs.LimitLemmas.{limits_are}
-use Rattle.tn_plain_data.specs.declared.place.PlaceStep.TheVariants.{Word}
+use Rattle.tn_plain_data.specs.declared.place.PlaceStep.TheVariants.{Key}
 use Rattle.tn_plain_data.specs.declared.place.Word.TheVariants.{Version, Firms, Trades}
 use Rattle.tn_names.specs.Names.{NameLists, IsNameList, no_names}
 use Rattle.tn_shape.specs.declared.members.ObjectKind.TheVariants.{Top}
@@ -27,10 +27,10 @@ pub limits_lead : (top : Data) → Leads AreLimits (limits_at top)
 unfolding limits_at
 limits_lead top =
     leads_after _
-    (wanted Shape (Word Version ∷ []) (option_and_then as_u64
+    (wanted Shape (Key Version ∷ []) (option_and_then as_u64
     (option_and_then as_number (get (codes "version") top)))) _ (λ version.
     leads_as (λ limits. limits_of version ≡ Some limits) AreLimits _ (limits_are version)
-    (leads_wanted Shape (Word Version ∷ []) (limits_of version)))
+    (leads_wanted Shape (Key Version ∷ []) (limits_of version)))
 
 -- the head of a document with so many firms
 pub record IsListing (found : Listed × Items) : Type 0 where
@@ -68,15 +68,15 @@ listed_leads top =
     leads_bind AreLimits IsListing (with_names no_names (limits_at top)) _
     (leads_beside _ no_names (limits_at top) (limits_lead top)) (λ limits are_limits.
     leads_bind (λ items. items_len items ≤ limits.firms) IsListing
-    (with_names no_names (few_at limits.firms (Word Firms ∷ []) (get (codes "firms") top))) _
-    (leads_beside _ no_names _ (few_lead limits.firms (Word Firms ∷ []) (get (codes "firms") top)))
+    (with_names no_names (few_at limits.firms (Key Firms ∷ []) (get (codes "firms") top))) _
+    (leads_beside _ no_names _ (few_lead limits.firms (Key Firms ∷ []) (get (codes "firms") top)))
     (λ firms few_firms.
     leads_bind (λ end. (IsListWhileFew end.firms × (end.trades ≡ []))
     × (length end.firms ≡ 0 + items_len firms)) IsListing (each one_firm_name no_names firms) _
     (leads_both _ _ _ (firms_lead no_names firms refl refl) (firms_count no_names firms)) (λ names are_names.
     leads_bind (λ items. items_len items ≤ limits.trades) IsListing
-    (with_names names (few_at limits.trades (Word Trades ∷ []) (get (codes "trades") top))) _
-    (leads_beside _ names _ (few_lead limits.trades (Word Trades ∷ []) (get (codes "trades") top)))
+    (with_names names (few_at limits.trades (Key Trades ∷ []) (get (codes "trades") top))) _
+    (leads_beside _ names _ (few_lead limits.trades (Key Trades ∷ []) (get (codes "trades") top)))
     (λ trades few_trades.
     leads_bind (λ end. AreListed names.firms end × (length end.ends ≡ 0 + items_len trades)) IsListing
     (each one_trade (record { names = names; ends = [] }) trades) _

@@ -6,7 +6,7 @@ use Rattle.serde_json.specs.Events.{items_len}
 use Rattle.serde_json.specs.Find.{get, as_number, as_u64}
 use Rattle.tn_base.specs.declared.fault.FaultKind.TheVariants.{Shape}
 use Rattle.tn_plain_data.specs.Limits.{AreLimits, limits_of, most_listed}
-use Rattle.tn_plain_data.specs.declared.place.PlaceStep.TheVariants.{Word}
+use Rattle.tn_plain_data.specs.declared.place.PlaceStep.TheVariants.{Key}
 use Rattle.tn_plain_data.specs.declared.place.Word.TheVariants.{Firms, Trades, Version}
 use Rattle.tn_plain_data.specs.declared.said.Fault.{Fault}
 use Rattle.tn_names.specs.Names.{NameLists, IsNameList, no_names}
@@ -110,9 +110,9 @@ version_stops : (top : Data) → StopsPlainly (limits_at top)
 unfolding limits_at
 version_stops top =
     let version = option_and_then as_u64 (option_and_then as_number (get (codes "version") top)) in
-    stops_bind IsPlain (wanted Shape (Word Version ∷ []) version) _
-    (plain_wanted Shape (Word Version ∷ []) version refl (tt, tt)) (λ version.
-    plain_wanted Shape (Word Version ∷ []) (limits_of version) refl (tt, tt))
+    stops_bind IsPlain (wanted Shape (Key Version ∷ []) version) _
+    (plain_wanted Shape (Key Version ∷ []) version refl (tt, tt)) (λ version.
+    plain_wanted Shape (Key Version ∷ []) (limits_of version) refl (tt, tt))
 
 pub listed_stops : (top : Data) → Stops IsStop (listed_of top)
 unfolding listed_of
@@ -125,10 +125,10 @@ listed_stops top =
     (stops_beside IsStop IsPlain no_names (limits_at top) (plain_stop no_names no_names_are) (version_stops top))
     (λ limits are_limits.
     stops_after IsStop (λ items. items_len items ≤ limits.firms)
-    (with_names no_names (few_at limits.firms (Word Firms ∷ []) (get (codes "firms") top))) _
-    (leads_beside _ no_names _ (few_lead limits.firms (Word Firms ∷ []) (get (codes "firms") top)))
+    (with_names no_names (few_at limits.firms (Key Firms ∷ []) (get (codes "firms") top))) _
+    (leads_beside _ no_names _ (few_lead limits.firms (Key Firms ∷ []) (get (codes "firms") top)))
     (stops_beside IsStop IsPlain no_names _ (plain_stop no_names no_names_are)
-    (few_stops (Word Firms ∷ []) (tt, tt) limits.firms (get (codes "firms") top))) (λ firms few_firms.
+    (few_stops (Key Firms ∷ []) (tt, tt) limits.firms (get (codes "firms") top))) (λ firms few_firms.
     stops_after IsStop (λ end. AreFirmNames end × (length end.firms ≡ 0 + items_len firms))
     (each one_firm_name no_names firms) _
     (leads_both _ _ _ (firms_lead no_names firms refl refl) (firms_count no_names firms))
@@ -140,10 +140,10 @@ listed_stops top =
     let named : AreNames names = few_names names are_names.0 (let count = are_names.1 in
     omega (arith, count, few_firms, are_limits.firms)) in
     stops_after IsStop (λ items. items_len items ≤ limits.trades)
-    (with_names names (few_at limits.trades (Word Trades ∷ []) (get (codes "trades") top))) _
-    (leads_beside _ names _ (few_lead limits.trades (Word Trades ∷ []) (get (codes "trades") top)))
+    (with_names names (few_at limits.trades (Key Trades ∷ []) (get (codes "trades") top))) _
+    (leads_beside _ names _ (few_lead limits.trades (Key Trades ∷ []) (get (codes "trades") top)))
     (stops_beside IsStop IsPlain names _ (plain_stop names named)
-    (few_stops (Word Trades ∷ []) (tt, tt) limits.trades (get (codes "trades") top))) (λ trades few_trades.
+    (few_stops (Key Trades ∷ []) (tt, tt) limits.trades (get (codes "trades") top))) (λ trades few_trades.
     stops_bind IsStop (each one_trade (record { names = names; ends = [] }) trades) _
     (stops_each_few IsStop (AreListed names.firms) (λ (listed : NamedTrades). length listed.ends) most_listed one_trade
     (λ listed trade are. leads_both _ _ _ (one_trade_leads names.firms listed trade are) (one_trade_count listed trade))

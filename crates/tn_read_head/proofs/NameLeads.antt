@@ -8,7 +8,7 @@ use Rattle.serde_json.specs.Find.{get}
 use Rattle.tn_base.specs.declared.fault.FaultKind.TheVariants.{BadName, SameName, SelfTrade}
 use Rattle.tn_plain_data.specs.declared.ends.Ends.{Ends}
 use Rattle.tn_plain_data.specs.declared.place.PlaceStep.{PlaceStep}
-use Rattle.tn_plain_data.specs.declared.place.PlaceStep.TheVariants.{Index, Word}
+use Rattle.tn_plain_data.specs.declared.place.PlaceStep.TheVariants.{Index, Key}
 use Rattle.tn_plain_data.specs.declared.place.Word.TheVariants.{Firms, Trades, Name, Seller, Buyer}
 use Rattle.tn_names.specs.Names.{NameLists, IsNameList, most_names, has_name, is_name, with_firm, with_trade}
 use Rattle.tn_names.proofs.NameLemmas.{IsNameList-push}
@@ -55,11 +55,11 @@ pub firm_name_leads : (names : NameLists) (firm : Data)
     → Leads (λ next. IsMore names.firms next.firms × (next.trades ≡ names.trades)) (firm_name names firm)
 unfolding firm_name
 firm_name_leads names firm =
-    leads_after _ (object_at (Word Firms ∷ Index (length names.firms) ∷ []) (Some firm)) _ (λ object.
+    leads_after _ (object_at (Key Firms ∷ Index (length names.firms) ∷ []) (Some firm)) _ (λ object.
     leads_bind (IsNew names.firms) (λ next. IsMore names.firms next.firms
-    × (next.trades ≡ names.trades)) (new_name names.firms (Word Firms ∷ Index (length names.firms) ∷ Word Name ∷ [])
+    × (next.trades ≡ names.trades)) (new_name names.firms (Key Firms ∷ Index (length names.firms) ∷ Key Name ∷ [])
     (get (codes "name") firm)) _
-    (new_name_leads names.firms (Word Firms ∷ Index (length names.firms) ∷ Word Name ∷ []) (get (codes "name") firm))
+    (new_name_leads names.firms (Key Firms ∷ Index (length names.firms) ∷ Key Name ∷ []) (get (codes "name") firm))
     (λ name is_new. leads_ok (λ next. IsMore names.firms next.firms
     × (next.trades ≡ names.trades)) (with_firm names name) (
       record { name = name; is_new = is_new; is = refl },
@@ -70,11 +70,11 @@ pub trade_name_leads : (names : NameLists) (trade : Data)
     → Leads (λ next. IsMore names.trades next.trades × (next.firms ≡ names.firms)) (trade_name names trade)
 unfolding trade_name
 trade_name_leads names trade =
-    leads_after _ (object_of TradeObject (Word Trades ∷ Index (length names.trades) ∷ []) (Some trade)) _ (λ object.
+    leads_after _ (object_of TradeObject (Key Trades ∷ Index (length names.trades) ∷ []) (Some trade)) _ (λ object.
     leads_bind (IsNew names.trades) (λ next. IsMore names.trades next.trades
     × (next.firms ≡ names.firms)) (new_name names.trades
-    (Word Trades ∷ Index (length names.trades) ∷ Word Name ∷ []) (get (codes "name") trade)) _
-    (new_name_leads names.trades (Word Trades ∷ Index (length names.trades) ∷ Word Name ∷ [])
+    (Key Trades ∷ Index (length names.trades) ∷ Key Name ∷ []) (get (codes "name") trade)) _
+    (new_name_leads names.trades (Key Trades ∷ Index (length names.trades) ∷ Key Name ∷ [])
     (get (codes "name") trade))
     (λ name is_new. leads_ok (λ next. IsMore names.trades next.trades
     × (next.firms ≡ names.firms)) (with_trade names name) (
@@ -128,16 +128,16 @@ ends_lead : (firms : List (List ℕ)) (before : List Ends) (t : ℕ) (trade : Da
 unfolding ends_at
 ends_lead firms before t trade =
     leads_bind (λ f. f < length firms) (ComesNext (length firms) before)
-    (firm_at firms (Word Trades ∷ Index t ∷ Word Seller ∷ []) (get (codes "seller") trade)) _
-    (firm_at_leads firms (Word Trades ∷ Index t ∷ Word Seller ∷ []) (get (codes "seller") trade))
+    (firm_at firms (Key Trades ∷ Index t ∷ Key Seller ∷ []) (get (codes "seller") trade)) _
+    (firm_at_leads firms (Key Trades ∷ Index t ∷ Key Seller ∷ []) (get (codes "seller") trade))
     (λ seller seller_known.
     leads_bind (λ f. f < length firms) (ComesNext (length firms) before)
-    (firm_at firms (Word Trades ∷ Index t ∷ Word Buyer ∷ []) (get (codes "buyer") trade)) _
-    (firm_at_leads firms (Word Trades ∷ Index t ∷ Word Buyer ∷ []) (get (codes "buyer") trade))
+    (firm_at firms (Key Trades ∷ Index t ∷ Key Buyer ∷ []) (get (codes "buyer") trade)) _
+    (firm_at_leads firms (Key Trades ∷ Index t ∷ Key Buyer ∷ []) (get (codes "buyer") trade))
     (λ buyer buyer_known.
     leads_bind (λ _. not (nat_eq seller buyer) ≡ true) (ComesNext (length firms) before)
-    (holds SelfTrade (Word Trades ∷ Index t ∷ []) (not (nat_eq seller buyer))) _
-    (leads_holds SelfTrade (Word Trades ∷ Index t ∷ []) (not (nat_eq seller buyer))) (λ u apart.
+    (holds SelfTrade (Key Trades ∷ Index t ∷ []) (not (nat_eq seller buyer))) _
+    (leads_holds SelfTrade (Key Trades ∷ Index t ∷ []) (not (nat_eq seller buyer))) (λ u apart.
     leads_ok (ComesNext (length firms) before) (record {
       seller = seller;
       buyer = buyer;

@@ -6,7 +6,7 @@ use Rattle.serde_json.specs.Find.{get}
 use Rattle.tn_base.specs.declared.fault.FaultKind.TheVariants.{BadName, SameName, SelfTrade}
 use Rattle.tn_plain_data.specs.declared.ends.Ends.{Ends}
 use Rattle.tn_plain_data.specs.declared.place.PlaceStep.{PlaceStep}
-use Rattle.tn_plain_data.specs.declared.place.PlaceStep.TheVariants.{Index, Word}
+use Rattle.tn_plain_data.specs.declared.place.PlaceStep.TheVariants.{Index, Key}
 use Rattle.tn_plain_data.specs.declared.place.Word.TheVariants.{Firms, Trades, Name, Seller, Buyer}
 use Rattle.tn_names.specs.Names.{NameLists, has_name, is_name, with_firm, with_trade}
 use Rattle.tn_shape.specs.declared.members.ObjectKind.TheVariants.{Trade as TradeObject}
@@ -39,11 +39,11 @@ pub firm_name_stops : (names : NameLists) (firm : Data) → length names.firms �
     → StopsPlainly (firm_name names firm)
 unfolding firm_name
 firm_name_stops names firm few =
-    let place = Word Firms ∷ Index (length names.firms) ∷ [] in
+    let place = Key Firms ∷ Index (length names.firms) ∷ [] in
     stops_bind IsPlain (object_at place (Some firm)) _ (object_at_stops place (tt, (few, tt)) (Some firm)) (λ object.
-    stops_bind IsPlain (new_name names.firms (Word Firms ∷ Index (length names.firms) ∷ Word Name ∷ [])
+    stops_bind IsPlain (new_name names.firms (Key Firms ∷ Index (length names.firms) ∷ Key Name ∷ [])
     (get (codes "name") firm)) _
-    (new_name_stops (Word Firms ∷ Index (length names.firms) ∷ Word Name ∷ []) (
+    (new_name_stops (Key Firms ∷ Index (length names.firms) ∷ Key Name ∷ []) (
       tt,
       (few, (tt, tt)),
     ) names.firms (get (codes "name") firm)) (λ name.
@@ -53,12 +53,12 @@ pub trade_name_stops : (names : NameLists) (trade : Data) → length names.trade
     → StopsPlainly (trade_name names trade)
 unfolding trade_name
 trade_name_stops names trade few =
-    stops_bind IsPlain (object_of TradeObject (Word Trades ∷ Index (length names.trades) ∷ []) (Some trade)) _
-    (object_stops (Word Trades ∷ Index (length names.trades) ∷ []) (tt, (few, tt)) TradeObject (Some trade))
+    stops_bind IsPlain (object_of TradeObject (Key Trades ∷ Index (length names.trades) ∷ []) (Some trade)) _
+    (object_stops (Key Trades ∷ Index (length names.trades) ∷ []) (tt, (few, tt)) TradeObject (Some trade))
     (λ object.
-    stops_bind IsPlain (new_name names.trades (Word Trades ∷ Index (length names.trades) ∷ Word Name ∷ [])
+    stops_bind IsPlain (new_name names.trades (Key Trades ∷ Index (length names.trades) ∷ Key Name ∷ [])
     (get (codes "name") trade)) _
-    (new_name_stops (Word Trades ∷ Index (length names.trades) ∷ Word Name ∷ []) (
+    (new_name_stops (Key Trades ∷ Index (length names.trades) ∷ Key Name ∷ []) (
       tt,
       (few, (tt, tt)),
     ) names.trades (get (codes "name") trade)) (λ name.
@@ -69,18 +69,18 @@ pub ends_stop : (firms : List (List ℕ)) (before : List Ends) (t : ℕ) (trade 
     → StopsPlainly (ends_at firms before t trade)
 unfolding ends_at
 ends_stop firms before t trade few =
-    stops_bind IsPlain (firm_at firms (Word Trades ∷ Index t ∷ Word Seller ∷ []) (get (codes "seller") trade)) _
-    (firm_at_stops (Word Trades ∷ Index t ∷ Word Seller ∷ []) (
+    stops_bind IsPlain (firm_at firms (Key Trades ∷ Index t ∷ Key Seller ∷ []) (get (codes "seller") trade)) _
+    (firm_at_stops (Key Trades ∷ Index t ∷ Key Seller ∷ []) (
       tt,
       (few, (tt, tt)),
     ) firms (get (codes "seller") trade)) (λ seller.
-    stops_bind IsPlain (firm_at firms (Word Trades ∷ Index t ∷ Word Buyer ∷ []) (get (codes "buyer") trade)) _
-    (firm_at_stops (Word Trades ∷ Index t ∷ Word Buyer ∷ []) (
+    stops_bind IsPlain (firm_at firms (Key Trades ∷ Index t ∷ Key Buyer ∷ []) (get (codes "buyer") trade)) _
+    (firm_at_stops (Key Trades ∷ Index t ∷ Key Buyer ∷ []) (
       tt,
       (few, (tt, tt)),
     ) firms (get (codes "buyer") trade)) (λ buyer.
-    stops_bind IsPlain (holds SelfTrade (Word Trades ∷ Index t ∷ []) (not (nat_eq seller buyer))) _
-    (plain_holds SelfTrade (Word Trades ∷ Index t ∷ []) (not (nat_eq seller buyer)) refl (tt, (few, tt))) (λ apart.
+    stops_bind IsPlain (holds SelfTrade (Key Trades ∷ Index t ∷ []) (not (nat_eq seller buyer))) _
+    (plain_holds SelfTrade (Key Trades ∷ Index t ∷ []) (not (nat_eq seller buyer)) refl (tt, (few, tt))) (λ apart.
     stops_ok IsPlain (record {
       seller = seller;
       buyer = buyer;

@@ -5,7 +5,7 @@ use Rattle.serde_json.specs.Find.{get, as_number, as_u64}
 use Rattle.tn_base.specs.declared.fault.FaultKind.TheVariants.{Shape}
 use Rattle.tn_plain_data.specs.Limits.{limits_of}
 use Rattle.tn_plain_data.specs.declared.limits.Limits.{Limits}
-use Rattle.tn_plain_data.specs.declared.place.PlaceStep.TheVariants.{Word}
+use Rattle.tn_plain_data.specs.declared.place.PlaceStep.TheVariants.{Key}
 use Rattle.tn_plain_data.specs.declared.place.Word.TheVariants.{Version, Firms, Trades}
 use Rattle.tn_plain_data.specs.declared.said.Fault.{Fault}
 use Rattle.tn_names.specs.Names.{no_names}
@@ -19,17 +19,17 @@ use Rattle.tn_read_head.specs.Naming.{one_firm_name, one_trade}
 -- the limits of the document's version
 unfoldable pub limits_at : Data → Result Limits Fault
 limits_at top = do
-  version ← wanted Shape (Word Version ∷ []) (option_and_then as_u64
+  version ← wanted Shape (Key Version ∷ []) (option_and_then as_u64
       (option_and_then as_number (get (codes "version") top)))
-  wanted Shape (Word Version ∷ []) (limits_of version)
+  wanted Shape (Key Version ∷ []) (limits_of version)
 
 -- the head, and the list of the firms
 unfoldable pub listed_of : Data → Result (Listed × Items) Stop
 listed_of top = do
   object ← with_names no_names (object_of Top [] (Some top))
   limits ← with_names no_names (limits_at top)
-  firms ← with_names no_names (few_at limits.firms (Word Firms ∷ []) (get (codes "firms") top))
+  firms ← with_names no_names (few_at limits.firms (Key Firms ∷ []) (get (codes "firms") top))
   names ← each one_firm_name no_names firms
-  trades ← with_names names (few_at limits.trades (Word Trades ∷ []) (get (codes "trades") top))
+  trades ← with_names names (few_at limits.trades (Key Trades ∷ []) (get (codes "trades") top))
   named ← each one_trade (record { names = names; ends = [] }) trades
   Ok (record { limits = limits; names = named.names; ends = named.ends }, firms)

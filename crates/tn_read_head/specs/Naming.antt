@@ -8,7 +8,7 @@ use Rattle.tn_names.specs.Names.{is_name, NameLists, has_name, with_firm, with_t
 use Rattle.tn_shape.specs.Reading.{◌>>=◌, holds}
 use Rattle.serde_json.specs.Find.{get}
 use Rattle.tn_plain_data.specs.declared.ends.Ends.{Ends}
-use Rattle.tn_plain_data.specs.declared.place.PlaceStep.TheVariants.{Index, Word}
+use Rattle.tn_plain_data.specs.declared.place.PlaceStep.TheVariants.{Index, Key}
 use Rattle.tn_plain_data.specs.declared.place.Word.TheVariants.{Firms, Trades, Name, Seller, Buyer}
 use Rattle.tn_shape.specs.declared.members.ObjectKind.TheVariants.{Trade as TradeObject}
 use Rattle.tn_read_head.specs.Beside.{Stop, with_names}
@@ -33,8 +33,8 @@ new_name names place value = do
 -- one more firm; its number is the count of those before it
 unfoldable pub firm_name : NameLists → Data → Result NameLists Fault
 firm_name names firm = do
-  object ← object_at (Word Firms ∷ Index (length names.firms) ∷ []) (Some firm)
-  name ← new_name names.firms (Word Firms ∷ Index (length names.firms) ∷ Word Name ∷ []) (get (codes "name") firm)
+  object ← object_at (Key Firms ∷ Index (length names.firms) ∷ []) (Some firm)
+  name ← new_name names.firms (Key Firms ∷ Index (length names.firms) ∷ Key Name ∷ []) (get (codes "name") firm)
   Ok (with_firm names name)
 
 abbrev pub one_firm_name : NameLists → Data → Result NameLists Stop
@@ -43,16 +43,16 @@ one_firm_name names firm = with_names names (firm_name names firm)
 -- one more trade; its number is the count of those before it
 unfoldable pub trade_name : NameLists → Data → Result NameLists Fault
 trade_name names trade = do
-  object ← object_of TradeObject (Word Trades ∷ Index (length names.trades) ∷ []) (Some trade)
-  name ← new_name names.trades (Word Trades ∷ Index (length names.trades) ∷ Word Name ∷ []) (get (codes "name") trade)
+  object ← object_of TradeObject (Key Trades ∷ Index (length names.trades) ∷ []) (Some trade)
+  name ← new_name names.trades (Key Trades ∷ Index (length names.trades) ∷ Key Name ∷ []) (get (codes "name") trade)
   Ok (with_trade names name)
 
 -- the two ends of trade t, which comes after others
 unfoldable pub ends_at : List (List ℕ) → List Ends → ℕ → Data → Result Ends Fault
 ends_at firms before t trade = do
-  seller ← firm_at firms (Word Trades ∷ Index t ∷ Word Seller ∷ []) (get (codes "seller") trade)
-  buyer ← firm_at firms (Word Trades ∷ Index t ∷ Word Buyer ∷ []) (get (codes "buyer") trade)
-  apart ← holds SelfTrade (Word Trades ∷ Index t ∷ []) (not (seller == buyer))
+  seller ← firm_at firms (Key Trades ∷ Index t ∷ Key Seller ∷ []) (get (codes "seller") trade)
+  buyer ← firm_at firms (Key Trades ∷ Index t ∷ Key Buyer ∷ []) (get (codes "buyer") trade)
+  apart ← holds SelfTrade (Key Trades ∷ Index t ∷ []) (not (seller == buyer))
   Ok (record {
     seller = seller;
     buyer = buyer;

@@ -17,10 +17,10 @@ use serde_json::Value;
 use std::alloc::Global;
 use tn_base::FaultKind;
 use tn_names::Names;
-use tn_plain_data::{Ends, Limits};
+use tn_plain_data::PlaceStep::Key;
+use tn_plain_data::{Ends, Limits, Word};
 use tn_read_references::Head;
-use tn_shape::steps::{FIRMS, TRADES, VERSION};
-use tn_shape::{ObjectKind, ReadError, fault, few, found, object_of};
+use tn_shape::{ObjectKind, ReadError, fault, few, found, member, object_of};
 
 /// Reads the head of a document, and gives the list of the firms beside it.
 pub fn read_head<'a>(alloc: Global, top: &'a Value) -> Result<(Head, &'a [Value]), DocRefusal>
@@ -51,9 +51,19 @@ fn read_listed<'a>(
 {
     object_of(alloc, ObjectKind::Top, Some(top), &[])?;
     let limits = read_limits(alloc, top)?;
-    let firms = few(alloc, limits.firms, top.get("firms"), &[FIRMS])?;
+    let firms = few(
+        alloc,
+        limits.firms,
+        member(top, Word::Firms),
+        &[Key(Word::Firms)],
+    )?;
     read_firm_names(alloc, names, firms)?;
-    let trades = few(alloc, limits.trades, top.get("trades"), &[TRADES])?;
+    let trades = few(
+        alloc,
+        limits.trades,
+        member(top, Word::Trades),
+        &[Key(Word::Trades)],
+    )?;
     let ends = read_trades(alloc, names, trades)?;
     Ok((limits, ends, firms))
 }
@@ -64,13 +74,13 @@ fn read_limits(alloc: Global, top: &Value) -> Result<Limits, ReadError>
     ensures gives { Gives (λ limits. limits) result (limits_at (view top.now)) }
     ensures kept { IfOk result AreLimits }
 {
-    match top.get("version").and_then(Value::as_u64) {
+    match member(top, Word::Version).and_then(Value::as_u64) {
         Some(version) => found(
             alloc,
             Limits::of_version(version),
             FaultKind::Shape,
-            &[VERSION],
+            &[Key(Word::Version)],
         ),
-        None => Err(fault(alloc, FaultKind::Shape, &[VERSION])),
+        None => Err(fault(alloc, FaultKind::Shape, &[Key(Word::Version)])),
     }
 }

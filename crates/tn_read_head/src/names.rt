@@ -12,9 +12,9 @@ use serde_json::Value;
 use std::alloc::Global;
 use tn_base::FaultKind;
 use tn_names::{Names, is_name};
-use tn_plain_data::PlaceStep;
-use tn_shape::steps::{FIRMS, NAME, TRADES};
-use tn_shape::{ObjectKind, ReadError, fault, object, object_of, require, text};
+use tn_plain_data::PlaceStep::Key;
+use tn_plain_data::{PlaceStep, Word};
+use tn_shape::{ObjectKind, ReadError, fault, member, object, object_of, require, text};
 
 /// Puts the names of the firms to the names.
 pub(crate) fn read_firm_names(
@@ -45,9 +45,9 @@ fn read_firm_name(alloc: Global, names: &mut Names, firm: &Value) -> Result<(), 
     ensures trades { OnOk result (names.new.trades ≡ names.old.trades) }
 {
     let f = PlaceStep::Index(names.firms());
-    object(alloc, firm, &[FIRMS, f])?;
-    let place = [FIRMS, f, NAME];
-    let name = name(alloc, firm.get("name"), &place)?;
+    object(alloc, firm, &[Key(Word::Firms), f])?;
+    let place = [Key(Word::Firms), f, Key(Word::Name)];
+    let name = name(alloc, member(firm, Word::Name), &place)?;
     if !names.add_firm(name)? {
         return Err(fault(alloc, FaultKind::SameName, &place));
     }
@@ -68,9 +68,14 @@ pub(crate) fn read_trade_name(
     ensures firms { OnOk result (names.new.firms ≡ names.old.firms) }
 {
     let t = PlaceStep::Index(names.trades());
-    object_of(alloc, ObjectKind::Trade, Some(trade), &[TRADES, t])?;
-    let place = [TRADES, t, NAME];
-    let name = name(alloc, trade.get("name"), &place)?;
+    object_of(
+        alloc,
+        ObjectKind::Trade,
+        Some(trade),
+        &[Key(Word::Trades), t],
+    )?;
+    let place = [Key(Word::Trades), t, Key(Word::Name)];
+    let name = name(alloc, member(trade, Word::Name), &place)?;
     if !names.add_trade(name)? {
         return Err(fault(alloc, FaultKind::SameName, &place));
     }

@@ -13,10 +13,10 @@ use serde_json::Value;
 use std::alloc::Global;
 use tn_base::FaultKind;
 use tn_names::Names;
-use tn_plain_data::{Ends, PlaceStep};
+use tn_plain_data::PlaceStep::Key;
+use tn_plain_data::{Ends, PlaceStep, Word};
 use tn_read_references::{count_own, firm};
-use tn_shape::steps::{BUYER, SELLER, TRADES};
-use tn_shape::{ReadError, require};
+use tn_shape::{ReadError, member, require};
 
 /// Reads the trades, and puts their names to the names.
 pub(crate) fn read_trades(
@@ -76,9 +76,24 @@ fn read_ends(
     ensures next { IfOk result (ComesNext (length names.now.firms) before.now) }
 {
     let t = PlaceStep::Index(before.len() as u32);
-    let seller = firm(alloc, names, trade.get("seller"), &[TRADES, t, SELLER])?;
-    let buyer = firm(alloc, names, trade.get("buyer"), &[TRADES, t, BUYER])?;
-    require(alloc, seller != buyer, FaultKind::SelfTrade, &[TRADES, t])?;
+    let seller = firm(
+        alloc,
+        names,
+        member(trade, Word::Seller),
+        &[Key(Word::Trades), t, Key(Word::Seller)],
+    )?;
+    let buyer = firm(
+        alloc,
+        names,
+        member(trade, Word::Buyer),
+        &[Key(Word::Trades), t, Key(Word::Buyer)],
+    )?;
+    require(
+        alloc,
+        seller != buyer,
+        FaultKind::SelfTrade,
+        &[Key(Word::Trades), t],
+    )?;
     Ok(Ends {
         seller,
         buyer,

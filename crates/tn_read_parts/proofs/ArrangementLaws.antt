@@ -11,7 +11,7 @@ use Rattle.tn_base.proofs.SetLemmas.{has-toggle_other, has-toggle_same, has-zero
 use Rattle.tn_base.specs.declared.fault.FaultKind.TheVariants.{Shape}
 use Rattle.tn_plain_data.specs.declared.contract.Contract.{Contract}
 use Rattle.tn_plain_data.specs.declared.place.PlaceStep.{PlaceStep}
-use Rattle.tn_plain_data.specs.declared.place.PlaceStep.TheVariants.{Index, Word}
+use Rattle.tn_plain_data.specs.declared.place.PlaceStep.TheVariants.{Index, Key}
 use Rattle.tn_plain_data.specs.declared.place.Word.TheVariants.{Arrangement}
 use Rattle.tn_names.specs.Names.{number_of}
 use Rattle.tn_shape.specs.declared.members.ObjectKind.TheVariants.{Arrangement as ArrangementObject}
@@ -178,9 +178,9 @@ on_says : (trades : List (List ℕ)) (top : Data) → Leads (IsOnOf trades top) 
 unfolding on_of
 on_says trades top =
     leads_bind (λ part. get (codes "arrangement") top ≡ Some part) (IsOnOf trades top)
-    (wanted Shape (Word Arrangement ∷ []) (get (codes "arrangement") top)) _
-    (leads_wanted Shape (Word Arrangement ∷ []) (get (codes "arrangement") top)) (λ part part_is.
-    leads_after (IsOnOf trades top) (object_of ArrangementObject (Word Arrangement ∷ []) (Some part)) _ (λ object.
+    (wanted Shape (Key Arrangement ∷ []) (get (codes "arrangement") top)) _
+    (leads_wanted Shape (Key Arrangement ∷ []) (get (codes "arrangement") top)) (λ part part_is.
+    leads_after (IsOnOf trades top) (object_of ArrangementObject (Key Arrangement ∷ []) (Some part)) _ (λ object.
     leads_bind (λ references. option_and_then as_array (get (codes "on") part) ≡ Some references) (IsOnOf trades top)
     (list_at on_place (get (codes "on") part)) _ (leads_wanted Shape on_place
     (option_and_then as_array (get (codes "on") part))) (λ references references_are.

@@ -5,7 +5,7 @@ use Rattle.serde_json.specs.Data.{Data}
 use Rattle.serde_json.specs.Find.{get}
 use Rattle.tn_base.specs.declared.fault.FaultKind.TheVariants.{Shape}
 use Rattle.tn_plain_data.specs.Limits.{AreLimits, most_price}
-use Rattle.tn_plain_data.specs.declared.place.PlaceStep.TheVariants.{Word}
+use Rattle.tn_plain_data.specs.declared.place.PlaceStep.TheVariants.{Key}
 use Rattle.tn_plain_data.specs.declared.place.Word.TheVariants.{Arrangement}
 use Rattle.tn_shape.specs.declared.members.ObjectKind.TheVariants.{Arrangement as ArrangementObject}
 use Rattle.tn_shape.specs.Reading.{each, wanted}
@@ -24,8 +24,8 @@ module _ (trades : List (List ℕ)) where
   pub on_leads : (top : Data) → Leads HasSet (on_of trades top)
   unfolding on_of
   on_leads top =
-      leads_after HasSet (wanted Shape (Word Arrangement ∷ []) (get (codes "arrangement") top)) _ (λ part.
-      leads_after HasSet (object_of ArrangementObject (Word Arrangement ∷ []) (Some part)) _ (λ object.
+      leads_after HasSet (wanted Shape (Key Arrangement ∷ []) (get (codes "arrangement") top)) _ (λ part.
+      leads_after HasSet (object_of ArrangementObject (Key Arrangement ∷ []) (Some part)) _ (λ object.
       leads_after HasSet (list_at on_place (get (codes "on") part)) _ (λ references.
       leads_bind (IsSetOf trades on_place) HasSet (each (one_on trades on_place) 0 references) _
       (set_leads trades on_place references) (λ on below.

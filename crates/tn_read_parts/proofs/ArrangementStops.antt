@@ -4,7 +4,7 @@ use Rattle.std.specs.Prelude.{codes}
 use Rattle.serde_json.specs.Data.{Data}
 use Rattle.serde_json.specs.Find.{get}
 use Rattle.tn_base.specs.declared.fault.FaultKind.TheVariants.{Shape}
-use Rattle.tn_plain_data.specs.declared.place.PlaceStep.TheVariants.{Word}
+use Rattle.tn_plain_data.specs.declared.place.PlaceStep.TheVariants.{Key}
 use Rattle.tn_plain_data.specs.declared.place.Word.TheVariants.{Arrangement}
 use Rattle.tn_shape.specs.declared.members.ObjectKind.TheVariants.{Arrangement as ArrangementObject}
 use Rattle.tn_shape.specs.Reading.{each, wanted}
@@ -21,10 +21,10 @@ module _ (trades : List (List ℕ)) (few : length trades ≤ 16384) where
   pub on_stops : (top : Data) → StopsPlainly (on_of trades top)
   unfolding on_of
   on_stops top =
-      stops_bind IsPlain (wanted Shape (Word Arrangement ∷ []) (get (codes "arrangement") top)) _
-      (plain_wanted Shape (Word Arrangement ∷ []) (get (codes "arrangement") top) refl (tt, tt)) (λ part.
-      stops_bind IsPlain (object_of ArrangementObject (Word Arrangement ∷ []) (Some part)) _
-      (object_stops (Word Arrangement ∷ []) (tt, tt) ArrangementObject (Some part)) (λ object.
+      stops_bind IsPlain (wanted Shape (Key Arrangement ∷ []) (get (codes "arrangement") top)) _
+      (plain_wanted Shape (Key Arrangement ∷ []) (get (codes "arrangement") top) refl (tt, tt)) (λ part.
+      stops_bind IsPlain (object_of ArrangementObject (Key Arrangement ∷ []) (Some part)) _
+      (object_stops (Key Arrangement ∷ []) (tt, tt) ArrangementObject (Some part)) (λ object.
       stops_bind IsPlain (list_at on_place (get (codes "on") part)) _
       (list_stops on_place (tt, (tt, tt)) (get (codes "on") part)) (λ references.
       stops_bind IsPlain (each (one_on trades on_place) 0 references) _

@@ -9,7 +9,7 @@ use Rattle.serde_json.specs.Events.{items_len}
 use Rattle.serde_json.specs.Find.{as_array, as_str, get}
 use Rattle.tn_base.specs.declared.fault.FaultKind.TheVariants.{Limit, Shape, UnknownFirm}
 use Rattle.tn_plain_data.specs.declared.place.PlaceStep.{PlaceStep}
-use Rattle.tn_plain_data.specs.declared.place.PlaceStep.TheVariants.{Index, Word}
+use Rattle.tn_plain_data.specs.declared.place.PlaceStep.TheVariants.{Index, Key}
 use Rattle.tn_plain_data.specs.declared.place.Word.TheVariants.{Edits}
 use Rattle.tn_plain_data.specs.declared.session.Edit.{Edit}
 use Rattle.tn_plain_data.specs.declared.session.Edit.TheVariants.{Join as JoinOf, Leave as LeaveOf}
@@ -209,13 +209,13 @@ edits_say listed top =
     let names = listed.names in
     let limit = listed.limits.edits in
     leads_bind (λ entries. option_and_then as_array (get (codes "edits") top) ≡ Some entries) (SaysEdits names top)
-    (few_at limit (Word Edits ∷ []) (get (codes "edits") top)) _
+    (few_at limit (Key Edits ∷ []) (get (codes "edits") top)) _
     (leads_bind (λ entries. option_and_then as_array (get (codes "edits") top) ≡ Some entries)
     (λ entries. option_and_then as_array (get (codes "edits") top) ≡ Some entries)
-    (list_at (Word Edits ∷ []) (get (codes "edits") top)) _
-    (leads_wanted Shape (Word Edits ∷ []) (option_and_then as_array (get (codes "edits") top))) (λ entries are.
+    (list_at (Key Edits ∷ []) (get (codes "edits") top)) _
+    (leads_wanted Shape (Key Edits ∷ []) (option_and_then as_array (get (codes "edits") top))) (λ entries are.
     leads_after (λ entries. option_and_then as_array (get (codes "edits") top) ≡ Some entries)
-    (holds Limit (Word Edits ∷ []) (nat_le (items_len entries) limit)) _ (λ few.
+    (holds Limit (Key Edits ∷ []) (nat_le (items_len entries) limit)) _ (λ few.
     leads_ok (λ entries. option_and_then as_array (get (codes "edits") top) ≡ Some entries) entries are)))
     (λ entries are.
     leads_as (λ end. IsLonger names [] entries end × (length end ≡ 0 + items_len entries)) (SaysEdits names top)

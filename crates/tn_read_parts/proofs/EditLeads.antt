@@ -11,7 +11,7 @@ use Rattle.tn_plain_data.specs.Limits.{AreLimits}
 use Rattle.tn_plain_data.specs.declared.session.Edit.{Edit}
 use Rattle.tn_plain_data.specs.declared.session.Edit.TheVariants.{Join as JoinOf, Leave as LeaveOf}
 use Rattle.tn_plain_data.specs.declared.place.PlaceStep.{PlaceStep}
-use Rattle.tn_plain_data.specs.declared.place.PlaceStep.TheVariants.{Index, Word}
+use Rattle.tn_plain_data.specs.declared.place.PlaceStep.TheVariants.{Index, Key}
 use Rattle.tn_plain_data.specs.declared.place.Word.TheVariants.{Edits}
 use Rattle.tn_names.specs.Names.{NameLists}
 use Rattle.tn_shape.specs.Reading.{◌>>=◌, each, wanted}
@@ -101,8 +101,8 @@ edits_lead listed limits top =
     let names = listed.names in
     let limit = listed.limits.edits in
     leads_bind (λ items. items_len items ≤ limit) (AreEdits (length names.firms) (length names.trades))
-    (few_at limit (Word Edits ∷ []) (get (codes "edits") top)) _
-    (few_lead limit (Word Edits ∷ []) (get (codes "edits") top)) (λ entries few.
+    (few_at limit (Key Edits ∷ []) (get (codes "edits") top)) _
+    (few_lead limit (Key Edits ∷ []) (get (codes "edits") top)) (λ entries few.
     leads_as (λ edits. All (IsKnown names) edits × (length edits ≡ 0 + items_len entries))
     (AreEdits (length names.firms) (length names.trades)) (each (one_edit names) [] entries)
     (λ edits are. record { few = omega (arith, few, are.1, limits.edits); known = are.0 })

@@ -9,7 +9,7 @@ use Rattle.tn_plain_data.specs.Limits.{AreLimits, most_edits}
 use Rattle.tn_plain_data.specs.declared.session.Edit.{Edit}
 use Rattle.tn_plain_data.specs.declared.session.Edit.TheVariants.{Join as JoinOf, Leave as LeaveOf}
 use Rattle.tn_plain_data.specs.declared.place.PlaceStep.{PlaceStep}
-use Rattle.tn_plain_data.specs.declared.place.PlaceStep.TheVariants.{Index, Word}
+use Rattle.tn_plain_data.specs.declared.place.PlaceStep.TheVariants.{Index, Key}
 use Rattle.tn_plain_data.specs.declared.place.Word.TheVariants.{Edits}
 use Rattle.tn_names.specs.Names.{NameLists}
 use Rattle.tn_shape.specs.Reading.{◌>>=◌, wanted}
@@ -80,9 +80,9 @@ unfolding edits_of
 edits_stop listed limits top =
     let names = listed.names in
     let limit = listed.limits.edits in
-    stops_after IsPlain (λ items. items_len items ≤ limit) (few_at limit (Word Edits ∷ []) (get (codes "edits") top)) _
-    (few_lead limit (Word Edits ∷ []) (get (codes "edits") top))
-    (few_stops (Word Edits ∷ []) (tt, tt) limit (get (codes "edits") top)) (λ entries few.
+    stops_after IsPlain (λ items. items_len items ≤ limit) (few_at limit (Key Edits ∷ []) (get (codes "edits") top)) _
+    (few_lead limit (Key Edits ∷ []) (get (codes "edits") top))
+    (few_stops (Key Edits ∷ []) (tt, tt) limit (get (codes "edits") top)) (λ entries few.
     stops_each_few IsPlain (λ edits. Unit {0}) length most_edits (one_edit names)
     (λ edits d start. leads_as (λ next. length next ≡ length edits + 1) _ _ (λ next more. (tt, more))
     (one_edit_counts names edits d)) (λ edits d start room. one_edit_stops names edits d room) [] entries tt

@@ -6,7 +6,7 @@ use Rattle.tn_base.specs.Arcs.{IsAtMost}
 use Rattle.tn_base.specs.declared.fault.FaultKind.TheVariants.{Shape}
 use Rattle.tn_plain_data.specs.Limits.{most_price}
 use Rattle.tn_plain_data.specs.declared.place.PlaceStep.{PlaceStep}
-use Rattle.tn_plain_data.specs.declared.place.PlaceStep.TheVariants.{Word}
+use Rattle.tn_plain_data.specs.declared.place.PlaceStep.TheVariants.{Key}
 use Rattle.tn_plain_data.specs.declared.place.Word.TheVariants.{Arrangement, On, Prices}
 use Rattle.tn_plain_data.specs.declared.said.Fault.{Fault}
 use Rattle.tn_shape.specs.declared.members.ObjectKind.TheVariants.{Arrangement as ArrangementObject}
@@ -16,16 +16,16 @@ use Rattle.tn_read_references.specs.Ordered.{Listed}
 use Rattle.tn_read_parts.specs.Lists.{one_on, prices_of}
 
 abbrev pub on_place : List PlaceStep
-on_place = Word Arrangement ∷ Word On ∷ []
+on_place = Key Arrangement ∷ Key On ∷ []
 
 abbrev pub prices_place : List PlaceStep
-prices_place = Word Arrangement ∷ Word Prices ∷ []
+prices_place = Key Arrangement ∷ Key Prices ∷ []
 
 -- the part, and the trades that are on
 unfoldable pub on_of : List (List ℕ) → Data → Result (Data × ℕ) Fault
 on_of trades top = do
-  part ← wanted Shape (Word Arrangement ∷ []) (get (codes "arrangement") top)
-  object ← object_of ArrangementObject (Word Arrangement ∷ []) (Some part)
+  part ← wanted Shape (Key Arrangement ∷ []) (get (codes "arrangement") top)
+  object ← object_of ArrangementObject (Key Arrangement ∷ []) (Some part)
   references ← list_at on_place (get (codes "on") part)
   on ← each (one_on trades on_place) 0 references
   Ok (part, on)

@@ -7,7 +7,7 @@ use Rattle.tn_base.specs.declared.fault.FaultKind.TheVariants.{Shape}
 use Rattle.tn_plain_data.specs.declared.session.Edit.{Edit}
 use Rattle.tn_plain_data.specs.declared.session.Edit.TheVariants.{Admit, AdmitAll, Bar, BarAll, Join, Leave}
 use Rattle.tn_plain_data.specs.declared.place.PlaceStep.{PlaceStep}
-use Rattle.tn_plain_data.specs.declared.place.PlaceStep.TheVariants.{Index, Word}
+use Rattle.tn_plain_data.specs.declared.place.PlaceStep.TheVariants.{Index, Key}
 use Rattle.tn_plain_data.specs.declared.place.Word.TheVariants.{Edits}
 use Rattle.tn_plain_data.specs.declared.said.Fault.{Fault}
 use Rattle.tn_names.specs.Names.{NameLists}
@@ -19,7 +19,7 @@ use Rattle.tn_read_parts.specs.declared.edits.Change.{Change}
 use Rattle.tn_read_parts.specs.declared.edits.Change.TheVariants.{Admit as AdmitIs, Bar as BarIs, Join as JoinIs, Leave as LeaveIs}
 
 abbrev pub edit_place : ℕ → List PlaceStep
-edit_place k = Word Edits ∷ Index k ∷ []
+edit_place k = Key Edits ∷ Index k ∷ []
 
 -- what a text says is done
 abbrev pub change_named : List ℕ → Option Change
@@ -80,5 +80,5 @@ one_edit names edits entry = do
 -- no more edits than the limit of the document, in their order
 unfoldable pub edits_of : Listed → Data → Result (List Edit) Fault
 edits_of listed top = do
-  entries ← few_at listed.limits.edits (Word Edits ∷ []) (get (codes "edits") top)
+  entries ← few_at listed.limits.edits (Key Edits ∷ []) (get (codes "edits") top)
   each (one_edit listed.names) [] entries

@@ -5,7 +5,7 @@ use Rattle.serde_json.specs.Find.{get}
 use Rattle.tn_base.specs.declared.fault.FaultKind.TheVariants.{Shape, BadOver}
 use Rattle.tn_plain_data.specs.declared.contract.Outcome.{Outcome}
 use Rattle.tn_plain_data.specs.declared.place.PlaceStep.{PlaceStep}
-use Rattle.tn_plain_data.specs.declared.place.PlaceStep.TheVariants.{Word}
+use Rattle.tn_plain_data.specs.declared.place.PlaceStep.TheVariants.{Key}
 use Rattle.tn_plain_data.specs.declared.place.Word.TheVariants.{Outcome as OutcomeWord, Over, Contracts}
 use Rattle.tn_plain_data.specs.declared.said.Fault.{Fault}
 use Rattle.tn_shape.specs.declared.members.ObjectKind.TheVariants.{Outcome as OutcomeObject}
@@ -15,13 +15,13 @@ use Rattle.tn_read_references.specs.Ordered.{Listed}
 use Rattle.tn_read_parts.specs.Lists.{contracts_at}
 
 abbrev pub outcome_place : List PlaceStep
-outcome_place = Word OutcomeWord ∷ []
+outcome_place = Key OutcomeWord ∷ []
 
 abbrev pub over_place : List PlaceStep
-over_place = Word OutcomeWord ∷ Word Over ∷ []
+over_place = Key OutcomeWord ∷ Key Over ∷ []
 
 abbrev pub contracts_place : List PlaceStep
-contracts_place = Word OutcomeWord ∷ Word Contracts ∷ []
+contracts_place = Key OutcomeWord ∷ Key Contracts ∷ []
 
 -- a denominator: a whole number from 1 to the limit
 unfoldable pub over_at : ℕ → List PlaceStep → Option Data → Result ℤ Fault

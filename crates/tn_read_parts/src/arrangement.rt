@@ -8,10 +8,10 @@ use crate::lists::{ListAt, read_prices, read_trades};
 use serde_json::Value;
 use std::alloc::Global;
 use tn_base::TradeSet;
-use tn_plain_data::{Arrangement, Prices};
+use tn_plain_data::PlaceStep::Key;
+use tn_plain_data::{Arrangement, Prices, Word};
 use tn_read_references::Head;
-use tn_shape::steps::{ARRANGEMENT, ON, PRICES};
-use tn_shape::{ObjectKind, ReadError, list, object_of, present};
+use tn_shape::{ObjectKind, ReadError, list, member, object_of, present};
 
 /// The arrangement of a document.
 #[tactic(auto, unfolding(crate::specs::Arranged::arrangement_of))]
@@ -25,10 +25,10 @@ pub fn read_arrangement(
 {
     let (part, on) = read_on(alloc, head, top)?;
     let at = ListAt {
-        part: ARRANGEMENT,
-        member: PRICES,
+        part: Key(Word::Arrangement),
+        member: Key(Word::Prices),
     };
-    let entries = list(alloc, part.get("prices"), &[at.part, at.member])?;
+    let entries = list(alloc, member(part, Word::Prices), &[at.part, at.member])?;
     let prices = read_prices(alloc, head, at, head.limits().price, entries)?;
     Ok(Arrangement {
         on,
@@ -54,13 +54,22 @@ fn read_on<'a>(
 ) -> Result<(&'a Value, TradeSet<2>), ReadError>
     ensures { Gives (λ p. (view p.0.now, p.1)) result (on_of head.now.names.trades (view top.now)) }
 {
-    let part = present(alloc, top.get("arrangement"), &[ARRANGEMENT])?;
-    object_of(alloc, ObjectKind::Arrangement, Some(part), &[ARRANGEMENT])?;
+    let part = present(
+        alloc,
+        member(top, Word::Arrangement),
+        &[Key(Word::Arrangement)],
+    )?;
+    object_of(
+        alloc,
+        ObjectKind::Arrangement,
+        Some(part),
+        &[Key(Word::Arrangement)],
+    )?;
     let at = ListAt {
-        part: ARRANGEMENT,
-        member: ON,
+        part: Key(Word::Arrangement),
+        member: Key(Word::On),
     };
-    let references = list(alloc, part.get("on"), &[at.part, at.member])?;
+    let references = list(alloc, member(part, Word::On), &[at.part, at.member])?;
     let on = read_trades(alloc, head, at, references)?;
     Ok((part, on))
 }

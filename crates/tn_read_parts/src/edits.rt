@@ -9,11 +9,10 @@ ghost use Rattle.tn_read_parts.specs.Edited.{admit_of, bar_of, change_named, edi
 use serde_json::Value;
 use std::alloc::Global;
 use tn_base::FaultKind;
-use tn_plain_data::PlaceStep::Index;
-use tn_plain_data::{Edit, Edits, PlaceStep};
+use tn_plain_data::PlaceStep::{Index, Key};
+use tn_plain_data::{Edit, Edits, PlaceStep, Word};
 use tn_read_references::{Head, firm, trade};
-use tn_shape::steps::EDITS;
-use tn_shape::{ReadError, few, found, text, two, value_of_word};
+use tn_shape::{ReadError, few, found, member, text, two, value_of_word};
 
 /// What an edit does with what it names.
 #[derive(Clone, Copy)]
@@ -36,7 +35,12 @@ const ALL_TRADES: &str = "*";
 pub fn read_edits(alloc: Global, head: &Head, top: &Value) -> Result<Edits, ReadError>
     ensures { Gives (λ edits. edits) result (edits_of head.now (view top.now)) }
 {
-    let entries = few(alloc, head.limits().edits, top.get("edits"), &[EDITS])?;
+    let entries = few(
+        alloc,
+        head.limits().edits,
+        member(top, Word::Edits),
+        &[Key(Word::Edits)],
+    )?;
     let edits = each_edit(alloc, head, entries)?;
     Ok(Edits::from_vec(edits))
 }
@@ -77,11 +81,17 @@ fn add_edit(
 fn edit_at(alloc: Global, head: &Head, k: u32, entry: &Value) -> Result<Edit, ReadError>
     ensures { Gives (λ edit. edit) result (edit_at head.now.names k (view entry.now)) }
 {
-    let (word, reference) = two(alloc, entry, &[EDITS, Index(k)])?;
-    let place = [EDITS, Index(k), Index(0)];
+    let (word, reference) = two(alloc, entry, &[Key(Word::Edits), Index(k)])?;
+    let place = [Key(Word::Edits), Index(k), Index(0)];
     let word = text(alloc, Some(word), &place)?;
     let change = found(alloc, change_named(word), FaultKind::Shape, &place)?;
-    edit_of(alloc, head, change, reference, &[EDITS, Index(k), Index(1)])
+    edit_of(
+        alloc,
+        head,
+        change,
+        reference,
+        &[Key(Word::Edits), Index(k), Index(1)],
+    )
 }
 
 /// What a text says is done.

@@ -9,29 +9,34 @@ use crate::lists::{ListAt, read_contracts};
 use serde_json::Value;
 use std::alloc::Global;
 use tn_base::FaultKind;
-use tn_plain_data::{Outcome, PlaceStep};
+use tn_plain_data::PlaceStep::Key;
+use tn_plain_data::{Outcome, PlaceStep, Word};
 use tn_read_references::Head;
-use tn_shape::steps::{CONTRACTS, OUTCOME, OVER};
-use tn_shape::{ObjectKind, ReadError, list, object_of, present, require, whole};
+use tn_shape::{ObjectKind, ReadError, list, member, object_of, present, require, whole};
 
 /// The outcome of a document. Its denominator is read before its contracts.
 #[tactic(auto, unfolding(crate::specs::Signed::outcome_of))]
 pub fn read_outcome(alloc: Global, head: &Head, top: &Value) -> Result<Outcome, ReadError>
     ensures { Gives (λ outcome. outcome) result (outcome_of head.now (view top.now)) }
 {
-    let part = present(alloc, top.get("outcome"), &[OUTCOME])?;
-    object_of(alloc, ObjectKind::Outcome, Some(part), &[OUTCOME])?;
+    let part = present(alloc, member(top, Word::Outcome), &[Key(Word::Outcome)])?;
+    object_of(
+        alloc,
+        ObjectKind::Outcome,
+        Some(part),
+        &[Key(Word::Outcome)],
+    )?;
     let over = read_over(
         alloc,
         head.limits().over,
-        part.get("over"),
-        &[OUTCOME, OVER],
+        member(part, Word::Over),
+        &[Key(Word::Outcome), Key(Word::Over)],
     )?;
     let at = ListAt {
-        part: OUTCOME,
-        member: CONTRACTS,
+        part: Key(Word::Outcome),
+        member: Key(Word::Contracts),
     };
-    let entries = list(alloc, part.get("contracts"), &[at.part, at.member])?;
+    let entries = list(alloc, member(part, Word::Contracts), &[at.part, at.member])?;
     let contracts = read_contracts(alloc, head, at, head.limits().numerator, entries)?;
     Ok(Outcome { over, contracts })
 }

@@ -4,7 +4,7 @@ use Rattle.std.specs.Prelude.{All, IfSome, IsSome}
 use Rattle.std.proofs.lemmas.List.Elements.{All-nil, All-cons}
 use Rattle.tn_base.specs.declared.fault.FaultKind.TheVariants.{TooLong}
 use Rattle.tn_plain_data.specs.declared.place.PlaceStep.{PlaceStep}
-use Rattle.tn_plain_data.specs.declared.place.PlaceStep.TheVariants.{Word, Index, Trade}
+use Rattle.tn_plain_data.specs.declared.place.PlaceStep.TheVariants.{Key, Index, Trade}
 use Rattle.tn_plain_data.specs.declared.said.Fault.{Fault}
 use Rattle.tn_plain_data.specs.declared.said.Shown.{Shown}
 use Rattle.tn_names.specs.Named.{HasShortIndex, IsAscendingTriple, IsNamedStep, IsNamedTriple, IsSayableFault}
@@ -12,7 +12,7 @@ use Rattle.tn_shape.proofs.StopLemmas.{Stops, stops_as, is_plain_kind, IsPlainSt
 
 -- a plain place is named, whatever the names, and its numbers are short
 named_step : (trades : List (List ℕ)) (step : PlaceStep) → IsPlainStep step → IsNamedStep trades step
-named_step trades (Word word) plain = tt
+named_step trades (Key word) plain = tt
 named_step trades (Index k) plain = tt
 named_step trades (Trade t) plain = absurd plain
 
@@ -23,7 +23,7 @@ named_place trades (step ∷ place) plain =
     All-cons (IsNamedStep trades) step place (named_step trades step plain.0) (named_place trades place plain.1)
 
 short_step : (step : PlaceStep) → IsPlainStep step → HasShortIndex step
-short_step (Word word) plain = tt
+short_step (Key word) plain = tt
 short_step (Index k) plain = omega (arith, plain)
 short_step (Trade t) plain = absurd plain
 

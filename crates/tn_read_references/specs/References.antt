@@ -7,7 +7,7 @@ use Rattle.tn_base.specs.declared.side.Side.TheVariants.{Buy, Sell}
 use Rattle.tn_base.specs.declared.fault.FaultKind.TheVariants.{UnknownFirm, UnknownTrade, NotOwnTrade, SameTrade}
 use Rattle.tn_plain_data.specs.declared.ends.Ends.{Ends}
 use Rattle.tn_plain_data.specs.declared.place.PlaceStep.{PlaceStep}
-use Rattle.tn_plain_data.specs.declared.place.PlaceStep.TheVariants.{Index, Word}
+use Rattle.tn_plain_data.specs.declared.place.PlaceStep.TheVariants.{Index, Key}
 use Rattle.tn_plain_data.specs.declared.place.Word.TheVariants.{Firms}
 use Rattle.tn_plain_data.specs.declared.said.Fault.{Fault}
 use Rattle.tn_names.specs.Names.{number_of}
@@ -19,7 +19,7 @@ use Rattle.tn_read_references.specs.Ordered.{Listed}
 pub use Rattle.tn_plain_data.specs.InOrder.{position_in}
 
 abbrev pub firm_place : ℕ → List PlaceStep
-firm_place f = Word Firms ∷ Index f ∷ []
+firm_place f = Key Firms ∷ Index f ∷ []
 
 -- the firm that a value names
 unfoldable pub firm_at : List (List ℕ) → List PlaceStep → Option Data → Result ℕ Fault
@@ -67,7 +67,7 @@ own_reference listed f place bundle value = do
 
 -- where a list of references to own trades of firm f is
 abbrev pub part_place : ℕ → PartAt → List PlaceStep
-part_place f (Item list item part) = Word Firms ∷ Index f ∷ list ∷ Index item ∷ part ∷ []
+part_place f (Item list item part) = Key Firms ∷ Index f ∷ list ∷ Index item ∷ part ∷ []
 part_place f (Member part member) = part ∷ member ∷ []
 part_place f (MemberItem part member item index) = part ∷ member ∷ Index item ∷ Index index ∷ []
 

@@ -15,9 +15,8 @@ use crate::references::own_position;
 use serde_json::Value;
 use std::alloc::Global;
 use tn_base::{Bundle, FaultKind};
-use tn_plain_data::PlaceStep;
-use tn_plain_data::PlaceStep::Index;
-use tn_shape::steps::FIRMS;
+use tn_plain_data::PlaceStep::{Index, Key};
+use tn_plain_data::{PlaceStep, Word};
 use tn_shape::{ReadError, list, require};
 
 /// A list of references to own trades of a firm.
@@ -94,7 +93,11 @@ fn references_at<'a>(
             list: items,
             item,
             part,
-        } => list(alloc, value, &[FIRMS, firm, items, Index(item), part]),
+        } => list(
+            alloc,
+            value,
+            &[Key(Word::Firms), firm, items, Index(item), part],
+        ),
         PartAt::Member { part, member } => list(alloc, value, &[part, member]),
         PartAt::MemberItem {
             part,
@@ -161,7 +164,7 @@ fn next_position(
     let (f, k) = (part.firm, Index(bundle.count()));
     match part.at {
         PartAt::Item { list, item, part } => {
-            let place = [FIRMS, Index(f), list, Index(item), part, k];
+            let place = [Key(Word::Firms), Index(f), list, Index(item), part, k];
             new_own(alloc, head, f, bundle, value, &place)
         }
         PartAt::Member { part, member } => {

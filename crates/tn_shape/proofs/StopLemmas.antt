@@ -5,7 +5,7 @@ use Rattle.serde_json.specs.Events.{items_len}
 use Rattle.tn_base.specs.declared.fault.FaultKind.{FaultKind}
 use Rattle.tn_base.specs.declared.fault.FaultKind.TheVariants.{NotJson, TooLong, Shape, BadName, SameName, UnknownFirm, SelfTrade, UnknownTrade, Limit, AmountRange, NotOwnTrade, SameBundle, NoEmpty, NotLaminar, NotConcave, ExchangeFails, SameTrade, PriceMissing, BadOver, SamePair}
 use Rattle.tn_plain_data.specs.declared.place.PlaceStep.{PlaceStep}
-use Rattle.tn_plain_data.specs.declared.place.PlaceStep.TheVariants.{Word, Index, Trade}
+use Rattle.tn_plain_data.specs.declared.place.PlaceStep.TheVariants.{Key, Index, Trade}
 use Rattle.tn_plain_data.specs.declared.said.Fault.{Fault}
 use Rattle.tn_shape.specs.Reading.{◌>>=◌, fault, each, wanted, holds}
 use Rattle.tn_shape.proofs.LeadLemmas.{Leads}
@@ -92,7 +92,7 @@ is_plain_kind SamePair = true
 
 -- a step to a member, or to one of the first items of a list
 abbrev pub IsPlainStep : PlaceStep → Type 0
-IsPlainStep (Word word) = Unit {0}
+IsPlainStep (Key word) = Unit {0}
 IsPlainStep (Index k) = k ≤ 16384
 IsPlainStep (Trade t) = ⊥
 

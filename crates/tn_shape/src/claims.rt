@@ -4,6 +4,7 @@ ghost use Rattle.std.specs.Prelude.{◌≡◌};
 ghost use Rattle.tn_shape.specs.Claims.{allows_in_claim, claim_named};
 
 use crate::words::{is_one_of, value_of_word};
+use tn_plain_data::Word;
 
 /// The kinds of claims: one for each answer that can be claimed, and one that no command answers.
 #[derive(Clone, Copy)]
@@ -59,21 +60,33 @@ pub fn claim_named(text: &str) -> Option<ClaimKind>
 
 /// Whether a claim of a kind may have a member of this name.
 #[tactic(auto, unfolding(crate::specs::Claims::allows_in_claim))]
-pub(crate) fn allows_in_claim(kind: ClaimKind, word: &str) -> bool
-    ensures { result ≡ allows_in_claim kind word.now }
+pub(crate) fn allows_in_claim(kind: ClaimKind, key: &str) -> bool
+    ensures { result ≡ allows_in_claim kind key.now }
 {
     match kind {
-        ClaimKind::Equilibrium => is_one_of(word, &["answer", "surplus"]),
-        ClaimKind::Better => is_one_of(word, &["answer", "bundle", "firm", "gain"]),
-        ClaimKind::Impossible => is_one_of(word, &["answer", "firm"]),
-        ClaimKind::Accepted => is_one_of(word, &["answer"]),
-        ClaimKind::ExchangeFails => is_one_of(word, &["answer", "at", "firm", "x", "y"]),
-        ClaimKind::Supported => is_one_of(word, &["answer", "prices"]),
-        ClaimKind::Cycle => is_one_of(word, &["answer", "cost", "nodes"]),
-        ClaimKind::Solved => is_one_of(word, &["answer", "on", "prices", "surplus"]),
-        ClaimKind::Drops => is_one_of(word, &["answer", "firm", "gain", "keeps", "over"]),
-        ClaimKind::Completes => is_one_of(word, &["answer", "over", "prices"]),
-        ClaimKind::Blocks => is_one_of(word, &["answer", "contracts", "over"]),
-        ClaimKind::NoPrices => is_one_of(word, &["answer", "over", "plan"]),
+        ClaimKind::Equilibrium => is_one_of(key, &[Word::Answer, Word::Surplus]),
+        ClaimKind::Better => is_one_of(key, &[Word::Answer, Word::Bundle, Word::Firm, Word::Gain]),
+        ClaimKind::Impossible => is_one_of(key, &[Word::Answer, Word::Firm]),
+        ClaimKind::Accepted => is_one_of(key, &[Word::Answer]),
+        ClaimKind::ExchangeFails => is_one_of(
+            key,
+            &[Word::Answer, Word::At, Word::Firm, Word::X, Word::Y],
+        ),
+        ClaimKind::Supported => is_one_of(key, &[Word::Answer, Word::Prices]),
+        ClaimKind::Cycle => is_one_of(key, &[Word::Answer, Word::Cost, Word::Nodes]),
+        ClaimKind::Solved => is_one_of(key, &[Word::Answer, Word::On, Word::Prices, Word::Surplus]),
+        ClaimKind::Drops => is_one_of(
+            key,
+            &[
+                Word::Answer,
+                Word::Firm,
+                Word::Gain,
+                Word::Keeps,
+                Word::Over,
+            ],
+        ),
+        ClaimKind::Completes => is_one_of(key, &[Word::Answer, Word::Over, Word::Prices]),
+        ClaimKind::Blocks => is_one_of(key, &[Word::Answer, Word::Contracts, Word::Over]),
+        ClaimKind::NoPrices => is_one_of(key, &[Word::Answer, Word::Over, Word::Plan]),
     }
 }

@@ -6,12 +6,11 @@ mod claims;
 mod error;
 mod members;
 mod shapes;
-pub mod steps;
 mod words;
 
 pub use claims::{ClaimKind, claim_named};
 pub use error::ReadError;
-pub use members::{FirmKind, ObjectKind};
+pub use members::{FirmKind, ObjectKind, member};
 pub use shapes::{
     fault, few, found, list, number, object, object_of, optional_list, present, require, text,
     three, two, whole,

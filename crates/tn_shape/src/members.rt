@@ -1,13 +1,16 @@
-//! The members that an object may have.
+//! The members of objects: what stands beside a name, and which names an object may have.
 
-ghost use Rattle.std.specs.Prelude.{◌≡◌, map, string_bytes};
+ghost use Rattle.std.specs.Prelude.{◌≡◌, map, option_map, string_bytes};
 ghost use Rattle.std.specs.List.{list_all};
-ghost use Rattle.serde_json.specs.View.{members_view};
+ghost use Rattle.serde_json.specs.Find.{get};
+ghost use Rattle.serde_json.specs.View.{view, members_view};
+ghost use Rattle.tn_plain_data.specs.Words.{word_text};
 ghost use Rattle.tn_shape.specs.Members.{allows, allows_all};
 
 use crate::claims::{ClaimKind, allows_in_claim};
 use crate::words::is_one_of;
 use serde_json::{Map, Value};
+use tn_plain_data::Word;
 
 /// The kinds of firms.
 #[derive(Clone, Copy)]
@@ -41,6 +44,13 @@ pub enum ObjectKind {
     Claim(ClaimKind),
 }
 
+/// What stands in an object beside the name of a member; none where there is no such member, or no object.
+pub fn member(object: &Value, word: Word) -> Option<&Value>
+    ensures { option_map (λ v. view v.now) result ≡ get (word_text word) (view object.now) }
+{
+    object.get(word.text())
+}
+
 /// Whether an object of a kind has allowed members alone.
 pub(crate) fn allows_all(kind: ObjectKind, members: &Map<String, Value>) -> bool
     ensures { result ≡ allows_all kind (members_view members.now.entries) }
@@ -55,35 +65,60 @@ fn allows_keys(kind: ObjectKind, members: &Map<String, Value>) -> bool
 }
 
 #[tactic(auto, unfolding(crate::specs::Members::allows))]
-fn allows(kind: ObjectKind, word: &str) -> bool
-    ensures { result ≡ allows kind word.now }
+fn allows(kind: ObjectKind, key: &str) -> bool
+    ensures { result ≡ allows kind key.now }
 {
     match kind {
         ObjectKind::Top => is_one_of(
-            word,
+            key,
             &[
-                "version",
-                "firms",
-                "trades",
-                "arrangement",
-                "outcome",
-                "claim",
-                "edits",
-                "note",
+                Word::Version,
+                Word::Firms,
+                Word::Trades,
+                Word::Arrangement,
+                Word::Outcome,
+                Word::Claim,
+                Word::Edits,
+                Word::Note,
             ],
         ),
-        ObjectKind::Trade => is_one_of(word, &["name", "seller", "buyer", "note"]),
-        ObjectKind::Firm(FirmKind::Table) => is_one_of(word, &["name", "kind", "rows", "note"]),
+        ObjectKind::Trade => is_one_of(key, &[Word::Name, Word::Seller, Word::Buyer, Word::Note]),
+        ObjectKind::Firm(FirmKind::Table) => is_one_of(
+            key,
+            &[Word::Name, Word::Kind, Word::Rows, Word::Note],
+        ),
         ObjectKind::Firm(FirmKind::Laminar) => {
-            is_one_of(word, &["name", "kind", "amounts", "sets", "note"])
+            is_one_of(
+                key,
+                &[
+                    Word::Name,
+                    Word::Kind,
+                    Word::Amounts,
+                    Word::Sets,
+                    Word::Note,
+                ],
+            )
         }
         ObjectKind::Firm(FirmKind::Middleman) => {
-            is_one_of(word, &["name", "kind", "costs", "gains", "keep", "note"])
+            is_one_of(
+                key,
+                &[
+                    Word::Name,
+                    Word::Kind,
+                    Word::Costs,
+                    Word::Gains,
+                    Word::Keep,
+                    Word::Note,
+                ],
+            )
         }
-        ObjectKind::Firm(FirmKind::Dealer) => is_one_of(word, &["name", "kind", "pairs", "note"]),
-        ObjectKind::LaminarSet => is_one_of(word, &["trades", "from", "values"]),
-        ObjectKind::Arrangement => is_one_of(word, &["on", "prices"]),
-        ObjectKind::Outcome => is_one_of(word, &["over", "contracts"]),
-        ObjectKind::Claim(kind) => allows_in_claim(kind, word),
+        ObjectKind::Firm(FirmKind::Dealer) => is_one_of(
+            key,
+            &[Word::Name, Word::Kind, Word::Pairs, Word::Note],
+        ),
+        ObjectKind::LaminarSet => is_one_of(key, &[Word::Trades, Word::From, Word::Values]),
+        ObjectKind::Arrangement => is_one_of(key, &[Word::On, Word::Prices]),
+        ObjectKind::Outcome => is_one_of(key, &[Word::Over, Word::Contracts]),
+        ObjectKind::Claim(kind) => allows_in_claim(kind, key),
     }
 }

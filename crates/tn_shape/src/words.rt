@@ -2,6 +2,9 @@
 
 ghost use Rattle.std.specs.Prelude.{◌≡◌, bytes_eq, option_map};
 ghost use Rattle.std.specs.List.{find, list_any};
+ghost use Rattle.tn_plain_data.specs.Words.{word_text};
+
+use tn_plain_data::Word;
 
 /// What stands beside the first word that is the text.
 pub fn value_of_word<T: Copy>(text: &str, words: &[(&str, T)]) -> Option<T>
@@ -10,8 +13,9 @@ pub fn value_of_word<T: Copy>(text: &str, words: &[(&str, T)]) -> Option<T>
     words.iter().find(|it| text == it.0).map(|it| it.1)
 }
 
-pub(crate) fn is_one_of(word: &str, words: &[&str]) -> bool
-    ensures { result ≡ list_any (λ w. bytes_eq word.now w.now) words.now }
+/// Whether a key is the name of one of some members.
+pub(crate) fn is_one_of(key: &str, words: &[Word]) -> bool
+    ensures { result ≡ list_any (λ word. bytes_eq key.now (word_text word)) words.now }
 {
-    words.iter().any(|one| word == *one)
+    words.iter().any(|word| key == word.text())
 }

@@ -8,15 +8,14 @@ use Rattle.tn_read_references.specs.Ordered.{sides_of}
 use Rattle.tn_read_firms.proofs.DealerLeads.{pairs_lead}
 use Rattle.tn_read_firms.proofs.dealers.dealer_of.Goals as goal
 
-pub new-requires-clause-own : goal.new-requires-clause-own
-new-requires-clause-own c =
+pub of_different-requires-clause-own : goal.of_different-requires-clause-own
+of_different-requires-clause-own c =
     subst (λ (sides : List Side). All (IsOwnPair (length sides) (buys_of sides)) c.in_ok-pairs.pairs.items)
     (sym (c.in_ok-sides.ensures ∙ ap (λ ends. sides_of ends c.args.f) c.ends.ensures.is))
     ((pairs_lead c.args.head.now c.ends.ensures.trades c.args.f _).at c.in_ok-pairs.pairs.items
     c.in_ok-pairs.ensures).own
 
-pub unreachable-requires : goal.unreachable-requires
-unreachable-requires c =
+pub of_different-requires-clause-different : goal.of_different-requires-clause-different
+of_different-requires-clause-different c =
     ((pairs_lead c.args.head.now c.ends.ensures.trades c.args.f _).at c.in_ok-pairs.pairs.items
     c.in_ok-pairs.ensures).different
-    c.in-Err.field-0.index c.in-Err.ensures.refused.repeated

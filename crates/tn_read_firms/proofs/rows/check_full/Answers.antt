@@ -3,7 +3,7 @@ use Rattle.std.proofs.Common.{◌≡◌, ◌++◌, [], ◌∷◌, length, Bool, 
 use Rattle.std.specs.Prelude.{nat_le, ◌||◌}
 use Rattle.std.proofs.lemmas.Bool.{le-leb, lt-leb, or_left}
 use Rattle.tn_base.specs.declared.fault.FaultKind.TheVariants.{Limit}
-use Rattle.tn_plain_data.specs.declared.place.PlaceStep.TheVariants.{Word}
+use Rattle.tn_plain_data.specs.declared.place.PlaceStep.TheVariants.{Key}
 use Rattle.tn_plain_data.specs.declared.place.Word.TheVariants.{Rows as RowsWord}
 use Rattle.tn_shape.specs.Reading.{Gives, holds}
 use Rattle.tn_read_references.specs.References.{firm_place}
@@ -26,5 +26,5 @@ returns-clause-gives c =
           w.full-is ∙ full_is table w.full-full.result c.trades.ensures.within.places w.full-full.ensures
           ∙ sym (ap (λ b. b || each) (lt-leb many 10 (omega (arith, c.trades.ensures.count, w.if-trades-le10.false))))
     ] in
-    subst (λ (b : Bool). Gives (λ _. tt) c.require.result (holds Limit (firm_place c.args.f ++ Word RowsWord ∷ []) b))
+    subst (λ (b : Bool). Gives (λ _. tt) c.require.result (holds Limit (firm_place c.args.f ++ Key RowsWord ∷ []) b))
     same c.require.ensures.gives
