@@ -3,7 +3,7 @@ use Rattle.std.proofs.Common.{◌≡◌, ℕ, zero, suc, ◌+◌, ◌*◌, ◌^�
 use Rattle.std.specs.Prelude.{All, ◌<ℤ◌, slice_get, IfSome, int_le}
 use Rattle.std.proofs.lemmas.Int.{ints}
 use Rattle.std.proofs.lemmas.Bool.{cases_Bool, cases_eq, lt-ltb}
-use Rattle.std.proofs.lemmas.List.{get_or-set_same, get_or-set_other}
+use Rattle.std.proofs.lemmas.List.{get_or-set_same, get_or-set_other, get_or_read}
 use Rattle.tn_base.specs.Arcs.{IsAtMost}
 use Rattle.tn_base.specs.Firm.{net}
 use Rattle.tn_base.specs.Options.{both}
@@ -16,7 +16,7 @@ use Rattle.tn_laminar.specs.declared.set.LaminarSet.{LaminarSet}
 use Rattle.tn_laminar.specs.declared.row.Slope.{Slope}
 use Rattle.tn_laminar.specs.LawLemmas.{all_at, listed_small, numbers_small, amounts_small}
 use Rattle.tn_laminar.specs.Rows.{most_counted, counted, listed_sum, counted_sum, counted_beside, IsSlope, step_of, counted_change, AreChanges}
-use Rattle.tn_laminar.specs.Sum.{HasNumbersWithin, IsOwnSet, amount_at, laminar_sum, number_of, term_of}
+use Rattle.tn_laminar.specs.Sum.{HasNumbersWithin, IsLaminar, IsOwnSet, amount_at, laminar_sum, number_of, term_of}
 use Rattle.tn_laminar.specs.declared.masks.Masks.{Masks}
 use Rattle.tn_laminar.specs.Masked.{masks_of, net_within}
 use Rattle.tn_laminar.proofs.ValueLemmas.{net_by_masks, CountsSoFar, counts_none, counts_more, counts_stop, counts_all}
@@ -391,7 +391,7 @@ worth_none count buys amounts sets y own all few none =
     ap (both (Some (sum_over (amount_at amounts) count y))) (sym none ∙ listed_sum_is buys sets y all few)
     ∙ worth_at count buys amounts sets y own
 
-pub worth_some : (count buys : ℕ) (amounts : List ℤ) (sets : List LaminarSet) (y : ℕ) (numbers : ℤ) → y < 2 ^ count
+worth_some : (count buys : ℕ) (amounts : List ℤ) (sets : List LaminarSet) (y : ℕ) (numbers : ℤ) → y < 2 ^ count
     → All HasNumbersWithin sets → length sets ≤ most_sets
     → listed_sum (counted_sum buys sets (length sets) y) ≡ Some numbers
     → (IsAtMost numbers (most_sets * most_amount))
@@ -404,38 +404,66 @@ worth_some count buys amounts sets y numbers own all few some =
 
 -- ---- the amounts
 
+-- the amount with a position toggled, which is in the range of the code's
+pub record IsToggledAmount (count : ℕ) (amounts : List ℤ) (x k : ℕ) (z : ℤ) : Type 0 where
+  pub sum : z ≡ sum_over (amount_at amounts) count (toggle x k)
+  pub small : IsAtMost z (most_own * most_amount)
+  pub fits : SFits w128 z
+
+toggled_amount : (count : ℕ) (amounts : List ℤ) (x k : ℕ) (z : ℤ) → count ≤ most_own → length amounts ≡ count
+    → All (λ a. IsAtMost a most_amount) amounts → z ≡ sum_over (amount_at amounts) count (toggle x k)
+    → IsToggledAmount count amounts x k z
+toggled_amount count amounts x k z few as_many all is =
+    let small : IsAtMost z (most_own * most_amount) =
+    subst (λ (sum : ℤ). IsAtMost sum (most_own * most_amount)) (sym is)
+    (amounts_small count amounts (toggle x k) few as_many all) in
+    let low = small.low in
+    let high = small.high in
+    record { sum = is; small = small; fits = omega (arith, ints, low, high) }
+
 -- an amount less where the position is moved out, and one more where it is moved in
-pub amount_out : (count : ℕ) (amounts : List ℤ) (x k : ℕ) (amount own : ℤ) → count ≤ most_own → length amounts ≡ count
-    → All (λ a. IsAtMost a most_amount) amounts
-    → k < count → amount ≡ sum_over (amount_at amounts) count x → own ≡ amount_at amounts k → has x k ≡ true
-    → (amount -ℤ own ≡ sum_over (amount_at amounts) count (toggle x k))
-    × IsAtMost (amount -ℤ own) (most_own * most_amount)
-amount_out count amounts x k amount own few as_many small below amount_is own_is present =
-    let toggled = sum_over-toggle_out (amount_at amounts) count x k below present in
-    let is : amount -ℤ own ≡ sum_over (amount_at amounts) count (toggle x k) =
-    omega (arith, ints, toggled, amount_is, own_is) in (
-      is,
-      subst (λ (z : ℤ). IsAtMost z (most_own * most_amount)) (sym is)
-          (amounts_small count amounts (toggle x k) few as_many small),
-    )
+module _ (count buys : ℕ) (amounts : List ℤ) (sets : List LaminarSet) (masks : List Masks)
+    (is : IsLaminar count buys amounts sets masks) (x k : ℕ) (amount own : ℤ) (below : k < count)
+    (amount_is : amount ≡ sum_over (amount_at amounts) count x) (own_is : own ≡ get_or amounts k own) where
+  read : own ≡ amount_at amounts k
+  read = let many = is.as_many in get_or_read amounts k own (omega (arith, below, many)) own_is (pos 0)
 
-pub amount_in : (count : ℕ) (amounts : List ℤ) (x k : ℕ) (amount own : ℤ) → count ≤ most_own → length amounts ≡ count
-    → All (λ a. IsAtMost a most_amount) amounts
-    → k < count → amount ≡ sum_over (amount_at amounts) count x → own ≡ amount_at amounts k → has x k ≡ false
-    → (amount +ℤ own ≡ sum_over (amount_at amounts) count (toggle x k))
-    × IsAtMost (amount +ℤ own) (most_own * most_amount)
-amount_in count amounts x k amount own few as_many small below amount_is own_is absent =
-    let toggled = sum_over-toggle_in (amount_at amounts) count x k below absent in
-    let is : amount +ℤ own ≡ sum_over (amount_at amounts) count (toggle x k) =
-    omega (arith, ints, toggled, amount_is, own_is) in (
-      is,
-      subst (λ (z : ℤ). IsAtMost z (most_own * most_amount)) (sym is)
-          (amounts_small count amounts (toggle x k) few as_many small),
-    )
+  pub amount_out : has x k ≡ true → IsToggledAmount count amounts x k (amount -ℤ own)
+  amount_out present =
+      let toggled = sum_over-toggle_out (amount_at amounts) count x k below present in
+      let own_there = read in
+      toggled_amount count amounts x k (amount -ℤ own) is.few is.as_many is.small
+      (omega (arith, ints, toggled, amount_is, own_there))
 
--- such a sum is in the range of the code's
-pub amount_fits : (z : ℤ) → IsAtMost z (most_own * most_amount) → SFits w128 z
-amount_fits z small = let low = small.low in let high = small.high in omega (arith, ints, low, high)
+  pub amount_in : has x k ≡ false → IsToggledAmount count amounts x k (amount +ℤ own)
+  amount_in absent =
+      let toggled = sum_over-toggle_in (amount_at amounts) count x k below absent in
+      let own_there = read in
+      toggled_amount count amounts x k (amount +ℤ own) is.few is.as_many is.small
+      (omega (arith, ints, toggled, amount_is, own_there))
+
+-- the numbers' sum with that of the amounts: the worth, in the range of the code's
+pub record IsSum (count buys : ℕ) (amounts : List ℤ) (sets : List LaminarSet) (y : ℕ) (amount numbers : ℤ) : Type 0 where
+  pub number_fits : SFits w128 numbers
+  pub fits : SFits w128 (amount +ℤ numbers)
+  pub worth : Some (amount +ℤ numbers) ≡ (laminar_sum count buys amounts sets).worth y
+
+pub sum_with : (count buys : ℕ) (amounts : List ℤ) (sets : List LaminarSet) (y : ℕ) (amount numbers : ℤ)
+    → y < 2 ^ count → All HasNumbersWithin sets → length sets ≤ most_sets
+    → listed_sum (counted_sum buys sets (length sets) y) ≡ Some numbers
+    → amount ≡ sum_over (amount_at amounts) count y → IsAtMost amount (most_own * most_amount)
+    → IsSum count buys amounts sets y amount numbers
+sum_with count buys amounts sets y amount numbers own all few some amount_is small =
+    let there = worth_some count buys amounts sets y numbers own all few some in
+    let number_low = there.0.low in
+    let number_high = there.0.high in
+    let low = small.low in
+    let high = small.high in
+    record {
+      number_fits = omega (arith, ints, number_low, number_high);
+      fits = omega (arith, ints, number_low, number_high, low, high);
+      worth = ap (λ (z : ℤ). Some (z +ℤ numbers)) amount_is ∙ there.1;
+    }
 
 -- what the numbers count, with a position's change
 pub toggled_numbers : (buys : ℕ) (sets : List LaminarSet) (x j : ℕ) (numbers change : ℤ) → All HasNumbersWithin sets

@@ -4,7 +4,9 @@ use Rattle.tn_firm.specs.Raw.{raw_firm_of}
 use Rattle.tn_plain_data.specs.Prices.{price_at}
 use Rattle.tn_plain_data.specs.Network.{trades_of}
 use Rattle.tn_price.proofs.JudgeLemmas.{part_within}
-use Rattle.tn_holding.proofs.HoldingLemmas.{StandsThere, stands_there, stand_small, told_there, told_within, worth_small}
+use Rattle.tn_holding.proofs.HoldingLemmas.{IsSmallStand, StandsThere, stands_there, stand_small, told_there, told_within, worth_small}
+use Rattle.tn_holding.proofs.holding.holding_of.Given.{Over}
+use Rattle.tn_holding.proofs.holding.holding_of.Goals.{After-stand_of-stand}
 use Rattle.tn_holding.proofs.holding.holding_of.Goals as goal
 
 pub stand_of-stand-requires-clause-own : goal.stand_of-stand-requires-clause-own
@@ -13,43 +15,37 @@ stand_of-stand-requires-clause-own g c =
     (part_within c.args.ends.now c.args.f c.trades-n.result c.args.at.now.on c.bundle_of-own.result
     c.bundle_of-own.ensures)
 
-pub gain_of-gain-requires-clause-utility : goal.gain_of-gain-requires-clause-utility
-gain_of-gain-requires-clause-utility g c =
-    let firm = raw_firm_of c.args.firm.now in
-    let prices = price_at c.args.at.now.prices in
+-- how the firm stands
+there : (g : Over) (c : After-stand_of-stand g) → StandsThere c.args.ends.now (price_at c.args.at.now.prices) c.args.f
+    c.bundle_of-own.result (raw_firm_of c.args.firm.now) c.stand_of-stand.result
+there g c = stands_there c.args.ends.now (price_at c.args.at.now.prices) c.args.f c.trades-n.result
+    c.bundle_of-own.result c.own_prices-prices.result (raw_firm_of c.args.firm.now) c.stand_of-stand.result
+    c.trades-n.ensures.count c.own_prices-prices.ensures c.stand_of-stand.ensures.stand
+
+small : (g : Over) (c : After-stand_of-stand g) → IsSmallStand c.stand_of-stand.result
+small g c =
     let few = c.trades-n.ensures.few in
     let count = c.trades-n.ensures.count in
-    let there = stands_there c.args.ends.now prices c.args.f c.trades-n.result c.bundle_of-own.result
-    c.own_prices-prices.result firm c.stand_of-stand.result count c.own_prices-prices.ensures
-    c.stand_of-stand.ensures.stand in
-    (stand_small c.args.ends.now c.args.at.now.prices c.args.f c.bundle_of-own.result firm c.stand_of-stand.result
-    (omega (arith, few, count)) c.stand_of-stand.ensures.worths c.requires.small there).utility
+    stand_small c.args.ends.now c.args.at.now.prices c.args.f c.bundle_of-own.result (raw_firm_of c.args.firm.now)
+    c.stand_of-stand.result (omega (arith, few, count)) c.stand_of-stand.ensures.worths c.requires.small (there g c)
+
+pub gain_of-gain-requires-clause-utility : goal.gain_of-gain-requires-clause-utility
+gain_of-gain-requires-clause-utility g c =
+    (small g (goal.at.gain_of-gain-requires-clause-utility g c).After-stand_of-stand).utility
 
 pub gain_of-gain-requires-clause-best : goal.gain_of-gain-requires-clause-best
 gain_of-gain-requires-clause-best g c =
-    let firm = raw_firm_of c.args.firm.now in
-    let prices = price_at c.args.at.now.prices in
-    let few = c.trades-n.ensures.few in
-    let count = c.trades-n.ensures.count in
-    let there = stands_there c.args.ends.now prices c.args.f c.trades-n.result c.bundle_of-own.result
-    c.own_prices-prices.result firm c.stand_of-stand.result count c.own_prices-prices.ensures
-    c.stand_of-stand.ensures.stand in
-    (stand_small c.args.ends.now c.args.at.now.prices c.args.f c.bundle_of-own.result firm c.stand_of-stand.result
-    (omega (arith, few, count)) c.stand_of-stand.ensures.worths c.requires.small there).best
+    (small g (goal.at.gain_of-gain-requires-clause-best g c).After-stand_of-stand).best
 
 pub returns-clause-told : goal.returns-clause-told
 returns-clause-told g c =
     let firm = raw_firm_of c.args.firm.now in
     let prices = price_at c.args.at.now.prices in
-    let count = c.trades-n.ensures.count in
-    let there = stands_there c.args.ends.now prices c.args.f c.trades-n.result c.bundle_of-own.result
-    c.own_prices-prices.result firm c.stand_of-stand.result count c.own_prices-prices.ensures
-    c.stand_of-stand.ensures.stand in
     let own_is =
     subst (λ (x : ℕ). StandsThere c.args.ends.now prices c.args.f x firm c.stand_of-stand.result)
-    c.bundle_of-own.ensures there in
+    c.bundle_of-own.ensures (there g (goal.at.returns-clause-told g c).After-stand_of-stand) in
     told_there c.args.ends.now c.args.at.now.on prices c.args.f c.trades-n.result firm c.stand_of-stand.result
-    c.told.result count own_is
+    c.told.result c.trades-n.ensures.count own_is
     (c.told.ensures.has ∙ c.from_vec-has.ensures ∙ c.in_ok-held.ensures
     ∙ ap (trades_of c.args.ends.now c.args.f c.trades-n.result) c.bundle_of-own.ensures)
     (c.told.ensures.best ∙ c.from_vec-best.ensures ∙ c.in_ok-wanted.ensures) c.told.ensures.worth c.told.ensures.utility
@@ -58,27 +54,11 @@ returns-clause-told g c =
 
 pub returns-clause-within : goal.returns-clause-within
 returns-clause-within g c =
-    let firm = raw_firm_of c.args.firm.now in
-    let prices = price_at c.args.at.now.prices in
-    let few = c.trades-n.ensures.few in
-    let count = c.trades-n.ensures.count in
-    let there = stands_there c.args.ends.now prices c.args.f c.trades-n.result c.bundle_of-own.result
-    c.own_prices-prices.result firm c.stand_of-stand.result count c.own_prices-prices.ensures
-    c.stand_of-stand.ensures.stand in
-    let small = stand_small c.args.ends.now c.args.at.now.prices c.args.f c.bundle_of-own.result firm
-    c.stand_of-stand.result (omega (arith, few, count)) c.stand_of-stand.ensures.worths c.requires.small there in
-    told_within c.stand_of-stand.result c.told.result small c.told.ensures.worth c.told.ensures.utility
-    c.told.ensures.best_utility (c.told.ensures.gain ∙ c.gain_of-gain.ensures)
+    told_within c.stand_of-stand.result c.told.result (small g (goal.at.returns-clause-within g c).After-stand_of-stand)
+    c.told.ensures.worth c.told.ensures.utility c.told.ensures.best_utility
+    (c.told.ensures.gain ∙ c.gain_of-gain.ensures)
 
 pub returns-clause-worth : goal.returns-clause-worth
 returns-clause-worth g c =
-    let firm = raw_firm_of c.args.firm.now in
-    let prices = price_at c.args.at.now.prices in
-    let few = c.trades-n.ensures.few in
-    let count = c.trades-n.ensures.count in
-    let there = stands_there c.args.ends.now prices c.args.f c.trades-n.result c.bundle_of-own.result
-    c.own_prices-prices.result firm c.stand_of-stand.result count c.own_prices-prices.ensures
-    c.stand_of-stand.ensures.stand in
-    let small = stand_small c.args.ends.now c.args.at.now.prices c.args.f c.bundle_of-own.result firm
-    c.stand_of-stand.result (omega (arith, few, count)) c.stand_of-stand.ensures.worths c.requires.small there in
-    worth_small c.stand_of-stand.result c.told.result small c.told.ensures.worth
+    worth_small c.stand_of-stand.result c.told.result (small g (goal.at.returns-clause-worth g c).After-stand_of-stand)
+    c.told.ensures.worth

@@ -12,8 +12,8 @@ use Rattle.tn_market.proofs.BonusLemmas.{IsQuestion, beside_none, plain_best, be
 use Rattle.tn_market.specs.Widths.{most_utility}
 use Rattle.tn_market.proofs.ascent.best_by_ascent_from.Goals as goal
 
-pub returns-clause-best : goal.returns-clause-best
-returns-clause-best g c =
+pub returns : goal.returns
+returns g c =
     let firm = g.V.Valuation.firm c.args.firm.now in
     let question : IsQuestion firm (g.V.Valuation.limit c.args.firm.now) c.empty.result c.args.allowed c.args.scale
     c.args.prices.now c.gains-gains.result = record {
@@ -41,40 +41,16 @@ returns-clause-best g c =
     c.climb-found.result.bundle)
     (to_z-of_z w128 c.args.scale scale_fits) c.climb-found.ensures.kept in
     record {
-      best = subst (IsBestBetween 0 c.args.allowed (utility c.args.scale (price_at c.args.prices.now) firm)
-          c.climb-found.result.bundle)
-          (sym (to_z-of_z w128 c.climb-found.result.value value_fits)) best;
-      kept = λ value greatest. kept value (best_plain firm (g.V.Valuation.limit c.args.firm.now) c.empty.result
-          c.args.allowed c.args.scale c.args.prices.now c.gains-gains.result
-          c.empty.ensures question c.args.from value greatest);
+      best = record {
+        best = subst (IsBestBetween 0 c.args.allowed (utility c.args.scale (price_at c.args.prices.now) firm)
+            c.climb-found.result.bundle)
+            (sym (to_z-of_z w128 c.climb-found.result.value value_fits)) best;
+        kept = λ value greatest. kept value (best_plain firm (g.V.Valuation.limit c.args.firm.now) c.empty.result
+            c.args.allowed c.args.scale c.args.prices.now c.gains-gains.result
+            c.empty.ensures question c.args.from value greatest);
+      };
+      small = subst (λ (z : ℤ). IsAtMost z most_utility) (sym (to_z-of_z w128 c.climb-found.result.value value_fits))
+          (plain_small firm (g.V.Valuation.limit c.args.firm.now) c.empty.result c.args.allowed c.args.scale
+          c.args.prices.now c.gains-gains.result question
+          c.climb-found.result.bundle (Some c.climb-found.result.value) (sym best.is));
     }
-
-pub returns-clause-small : goal.returns-clause-small
-returns-clause-small g c =
-    let firm = g.V.Valuation.firm c.args.firm.now in
-    let question : IsQuestion firm (g.V.Valuation.limit c.args.firm.now) c.empty.result c.args.allowed c.args.scale
-    c.args.prices.now c.gains-gains.result = record {
-      own = subst (λ (x : ℕ). x < 2 ^ firm.count) (sym (beside_none c.empty.result c.args.allowed c.empty.ensures))
-          c.requires.own;
-      priced = c.requires.priced;
-      small_prices = c.requires.small_prices;
-      from_one = c.requires.scaled;
-      small_scale = c.requires.small_scale;
-      few = c.requires.few_trades;
-      small_worths = c.requires.small_worths;
-      within = (g.met.V.Valuation.lawful c.args.firm.now).within;
-      gains_are = c.gains-gains.ensures.each;
-    } in
-    let scale_fits : SFits w128 c.args.scale = c.ranges.scale in
-    let value_fits : SFits w128 c.climb-found.result.value = search rules in
-    let climbed =
-    subst (λ (scale : ℤ). IsBest (aimed c.args.allowed scale c.gains-gains.result firm).worth
-    c.climb-found.result.bundle c.climb-found.result.value)
-    (to_z-of_z w128 c.args.scale scale_fits) c.climb-found.ensures.best in
-    let best = plain_best firm (g.V.Valuation.limit c.args.firm.now) c.empty.result c.args.allowed c.args.scale
-    c.args.prices.now c.gains-gains.result c.empty.ensures question
-    c.climb-found.result.bundle c.climb-found.result.value climbed in
-    subst (λ (z : ℤ). IsAtMost z most_utility) (sym (to_z-of_z w128 c.climb-found.result.value value_fits))
-    (plain_small firm (g.V.Valuation.limit c.args.firm.now) c.empty.result c.args.allowed c.args.scale c.args.prices.now
-    c.gains-gains.result question
-    c.climb-found.result.bundle (Some c.climb-found.result.value) (sym best.is))
