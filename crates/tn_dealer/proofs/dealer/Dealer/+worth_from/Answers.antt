@@ -1,4 +1,4 @@
--- What shows the clauses of `Dealer::+worth_from` of `src/dealer.rt`.
+-- What shows the clauses of `Dealer::+worth_from` of `src/worth.rt`.
 use Rattle.std.proofs.Common.{ℕ, arith, rules, refl, length, drop, ◌≤◌, ◌≡◌, ◌+◌, ◌<◌, true, ◌∙◌, sym, ap}
 use Rattle.std.proofs.lemmas.Option.{slice_get_read}
 use Rattle.std.proofs.lemmas.Int.{to_z-of_z}

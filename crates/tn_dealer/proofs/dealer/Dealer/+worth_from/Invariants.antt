@@ -1,4 +1,4 @@
--- What the loops of `Dealer::+worth_from` of `src/dealer.rt` keep.
+-- What the loops of `Dealer::+worth_from` of `src/worth.rt` keep.
 use Rattle.std.proofs.Common.{◌-◌, length}
 use Rattle.tn_dealer.proofs.dealer.Dealer.+worth_from.Given as goal
 

@@ -1,4 +1,4 @@
--- What shows the clauses of `Dealer::costs` of `src/dealer.rt`.
+-- What shows the clauses of `Dealer::costs` of `src/costs.rt`.
 use Rattle.std.proofs.Common.{rules, arith, refl, length, sym, subst, ℕ, ℤ, ◌≡◌, ◌+◌}
 use Rattle.std.specs.Prelude.{set}
 use Rattle.std.proofs.lemmas.Int.{to_z-of_z}

@@ -1,4 +1,4 @@
--- What the loops of `Dealer::costs` of `src/dealer.rt` keep.
+-- What the loops of `Dealer::costs` of `src/costs.rt` keep.
 use Rattle.tn_dealer.specs.Costs.{AreCostsBelow}
 use Rattle.tn_dealer.proofs.dealer.Dealer.costs.Given as goal
 

@@ -1,4 +1,4 @@
--- What shows the clauses of `Dealer::keeps` of `src/dealer.rt`.
+-- What shows the clauses of `Dealer::keeps` of `src/worth.rt`.
 use Rattle.std.proofs.Common.{ℕ, arith, ap, ◌∙◌, subst}
 use Rattle.tn_base.specs.Sets.{has, meet, minus}
 use Rattle.tn_dealer.specs.Certificates.{number_at, KeepsBeside}

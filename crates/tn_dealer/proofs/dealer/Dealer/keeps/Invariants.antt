@@ -1,4 +1,4 @@
--- What the loops of `Dealer::keeps` of `src/dealer.rt` keep.
+-- What the loops of `Dealer::keeps` of `src/worth.rt` keep.
 use Rattle.std.proofs.Common.{◌≡◌, ℕ, ◌<◌, true}
 use Rattle.tn_base.specs.Sets.{has, meet, minus}
 use Rattle.tn_dealer.specs.Certificates.{number_at, KeepsBeside}

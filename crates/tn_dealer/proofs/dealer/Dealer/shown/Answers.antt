@@ -1,4 +1,4 @@
--- What shows the clauses of `Dealer::shown` of `src/dealer.rt`.
+-- What shows the clauses of `Dealer::shown` of `src/worth.rt`.
 use Rattle.std.proofs.Common.{arith, rules, ◌≡◌, ◌<◌, ◌^◌, ℕ, Some, sym, ap, subst, ◌∙◌}
 use Rattle.std.specs.Prelude.{neg_ℤ}
 use Rattle.std.proofs.lemmas.Int.{ints, to_z-of_z}

@@ -1,4 +1,4 @@
--- What shows the clauses of `Dealer::taken` of `src/dealer.rt`.
+-- What shows the clauses of `Dealer::taken` of `src/worth.rt`.
 use Rattle.std.proofs.Common.{arith, rules, sym, subst, ℕ, pos}
 use Rattle.std.proofs.lemmas.Int.{ints, to_z-of_z}
 use mir.Syntax.{w128}

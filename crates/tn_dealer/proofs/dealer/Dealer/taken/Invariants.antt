@@ -1,4 +1,4 @@
--- What the loops of `Dealer::taken` of `src/dealer.rt` keep.
+-- What the loops of `Dealer::taken` of `src/worth.rt` keep.
 use Rattle.std.proofs.Common.{◌*◌}
 use Rattle.std.specs.Prelude.{neg_ℤ}
 use Rattle.tn_base.specs.Arcs.{IsAtMost}

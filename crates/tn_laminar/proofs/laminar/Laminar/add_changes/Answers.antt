@@ -1,4 +1,4 @@
--- What shows the clauses of `Laminar::add_changes` of `src/laminar.rt`.
+-- What shows the clauses of `Laminar::add_changes` of `src/row.rt`.
 use Rattle.std.proofs.Common.{rules, arith, refl, sym, ap, ◌∙◌, subst, ◌≡◌, ◌<◌, ◌+◌, ◌==◌, not, List, length, get_or, Some, ℕ, pos, ◌+ℤ◌, inl, inr}
 use Rattle.std.specs.Prelude.{slice_get}
 use Rattle.std.specs.Prelude.{set as put}

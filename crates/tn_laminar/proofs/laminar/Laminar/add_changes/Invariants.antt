@@ -1,4 +1,4 @@
--- What the loops of `Laminar::add_changes` of `src/laminar.rt` keep.
+-- What the loops of `Laminar::add_changes` of `src/row.rt` keep.
 use Rattle.std.specs.Prelude.{slice_get, Some}
 use Rattle.std.proofs.Common.{◌≡◌}
 use Rattle.tn_base.specs.Sets.{size}

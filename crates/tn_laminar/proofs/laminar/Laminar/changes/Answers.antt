@@ -1,4 +1,4 @@
--- What shows the clauses of `Laminar::changes` of `src/laminar.rt`.
+-- What shows the clauses of `Laminar::changes` of `src/row.rt`.
 use Rattle.std.proofs.Common.{arith, replicate, pos}
 use Rattle.std.proofs.lemmas.List.{get_or-replicate}
 use Rattle.tn_laminar.proofs.RowLemmas.{changes_none}

@@ -1,4 +1,4 @@
--- What the loops of `Laminar::changes` of `src/laminar.rt` keep.
+-- What the loops of `Laminar::changes` of `src/row.rt` keep.
 use Rattle.tn_laminar.specs.Rows.{AreChanges}
 use Rattle.tn_laminar.proofs.laminar.Laminar.changes.Given as goal
 

@@ -1,4 +1,4 @@
--- What shows the clauses of `Laminar::counted_numbers` of `src/laminar.rt`.
+-- What shows the clauses of `Laminar::counted_numbers` of `src/row.rt`.
 use Rattle.std.proofs.Common.{arith, rules, sym, ◌≡◌, ◌<◌, ◌+◌, ◌+ℤ◌, length}
 use Rattle.std.proofs.lemmas.Int.{to_z-of_z, ints}
 use mir.Syntax.{w128}

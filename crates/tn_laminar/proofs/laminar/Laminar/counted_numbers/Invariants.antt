@@ -1,4 +1,4 @@
--- What the loops of `Laminar::counted_numbers` of `src/laminar.rt` keep.
+-- What the loops of `Laminar::counted_numbers` of `src/row.rt` keep.
 use Rattle.std.proofs.Common.{◌≡◌}
 use Rattle.tn_laminar.specs.Rows.{counted_sum}
 use Rattle.tn_laminar.proofs.laminar.Laminar.counted_numbers.Given as goal

@@ -1,4 +1,4 @@
--- What shows the clauses of `Laminar::slope` of `src/laminar.rt`.
+-- What shows the clauses of `Laminar::slope` of `src/row.rt`.
 use Rattle.std.proofs.Common.{rules, refl, sym, subst, ap, ◌∙◌, ◌≡◌, ◌<◌, length, ℤ, pos, ◌+ℤ◌, ◌-ℤ◌, arith}
 use Rattle.std.proofs.lemmas.Int.{to_z-of_z, ints}
 use Rattle.std.proofs.lemmas.List.{length-map}

@@ -1,4 +1,4 @@
--- What shows the clauses of `LaminarSet::counted_at` of `src/set.rt`.
+-- What shows the clauses of `LaminarSet::counted_at` of `src/row.rt`.
 use Rattle.std.proofs.Common.{rules, sym, subst, ℤ}
 use Rattle.std.proofs.lemmas.Int.{to_z-of_z}
 use mir.Syntax.{w128}
