@@ -129,9 +129,6 @@ pub record AreWalked (arc : ℕ → ℕ → Option ℤ) (nodes : List ℕ) (k : 
   pub sum : sum_first (arc_after arc nodes) k ≡ Some total
   pub small : IsAtMost total (k * most_cost)
 
-pub none_walked : (arc : ℕ → ℕ → Option ℤ) (nodes : List ℕ) → AreWalked arc nodes 0 (pos 0)
-none_walked arc nodes = record { sum = refl; small = record { low = omega (arith, ints); high = omega (arith, ints) } }
-
 -- with one more arc
 pub one_walked : (arc : ℕ → ℕ → Option ℤ) (nodes : List ℕ) (k : ℕ) (total cost : ℤ) → IsAtMost cost most_cost
     → AreWalked arc nodes k total

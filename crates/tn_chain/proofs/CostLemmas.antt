@@ -133,13 +133,6 @@ pub record AreKeptBefore (firms : List Firm) (trades : List Ends) (over : ℤ) (
   pub each : (f : ℕ) (firm : Firm) → f < n → slice_get firms f ≡ Some firm
       → get_or kept f None ≡ (reduced trades over contracts f firm).worth 0
 
-pub none_kept : (firms : List Firm) (trades : List Ends) (over : ℤ) (contracts : List Contract) (kept : List (Option ℤ))
-    → kept ≡ [] → AreKeptBefore firms trades over contracts 0 kept
-none_kept firms trades over contracts kept none = record {
-  counted = ap length none;
-  each = λ f firm below is. absurd (omega (arith, below));
-}
-
 pub one_kept : (firms : List Firm) (trades : List Ends) (over : ℤ) (contracts : List Contract) (n : ℕ)
     (kept next : List (Option ℤ)) (worth : Option ℤ)
     → AreKeptBefore firms trades over contracts n kept → next ≡ kept ++ (worth ∷ [])

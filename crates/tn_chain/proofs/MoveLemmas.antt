@@ -1,11 +1,10 @@
 -- The arcs of the reduced graph, read from the ends of trades.
-use Rattle.std.proofs.Common.{◌≡◌, ℕ, ◌*◌, ◌^◌, ◌<◌, ◌≤◌, Bool, true, false, not, ◌==◌, ◌&&◌, if◌then◌else◌, List, length, map, slice_get, Option, Some, None, option_map, refl, suc, [], ◌∷◌, sym, ap, ap₂, ◌∙◌, subst, arith, inl, inr, ℤ, ◌+ℤ◌, neg_ℤ, ◌*ℤ◌}
+use Rattle.std.proofs.Common.{◌≡◌, ℕ, ◌*◌, ◌^◌, ◌<◌, ◌≤◌, Bool, true, false, not, ◌==◌, ◌&&◌, if◌then◌else◌, List, length, map, slice_get, Option, Some, None, option_map, refl, suc, [], ◌∷◌, sym, ap, ap₂, ◌∙◌, subst, arith, inl, inr, ℤ, ◌+ℤ◌, ◌*ℤ◌}
 use Rattle.std.specs.Prelude.{option_and_then, All}
 use Rattle.std.proofs.lemmas.Int.{ints}
 use Rattle.std.proofs.lemmas.Nat.{pow_pos, mul-le}
 use Rattle.std.proofs.lemmas.Bool.{cases_eq, le-leb, eqb-true, true≢false}
 use Rattle.std.proofs.lemmas.Option.{same_Some, slice_get-map}
-use Rattle.tn_base.specs.Options.{both}
 use Rattle.tn_base.specs.Widths.{most_cost}
 use Rattle.tn_chain.specs.Limits.{most_reduced_cost, most_reduced_worth}
 use Rattle.tn_base.specs.Arcs.{IsAtMost, AreSmall}
@@ -313,14 +312,3 @@ pub found_small : (worth : ℕ → Option ℤ) (x : ℕ) (found : Option (ℕ ×
     → option_map (λ p. p.1) found ≡ worth x → found ≡ Some (bundle, a) → IsAtMost a most_cost × (worth x ≡ Some a)
 found_small worth x found bundle a small is there =
     known_small worth x (option_map (λ p. p.1) found) a small is (ap (option_map (λ p. p.1)) there)
-
--- where a worth is none, so is the loss
-pub lost_before : (firm : Firm) (x y : ℕ) → firm.worth x ≡ None → loss firm x y ≡ None
-lost_before firm x y none = ap (λ (o : Option ℤ). both o (option_map neg_ℤ (firm.worth y))) none
-
-pub lost_after : (firm : Firm) (x y : ℕ) → firm.worth y ≡ None → loss firm x y ≡ None
-lost_after firm x y none = ap (λ (o : Option ℤ). both (firm.worth x) (option_map neg_ℤ o)) none ∙ by_case (firm.worth x)
-  where
-    by_case : (o : Option ℤ) → both o None ≡ None
-    by_case None = refl
-    by_case (Some a) = refl

@@ -1,6 +1,6 @@
 //! The exchange graph of the reduced worths, where no unsigned trade is on.
 
-ghost use Rattle.std.specs.Prelude.{◌≡◌, ℕ, ◌+◌, ◌*◌, ◌^◌, ◌≤◌, ◌<◌, IfOk, IfSome, Some, length, map, slice_get, slice_index_or};
+ghost use Rattle.std.specs.Prelude.{◌≡◌, ◌+◌, ◌^◌, ◌≤◌, ◌<◌, IfOk, IfSome, Some, length, map, slice_get};
 ghost use Rattle.tn_base.specs.Arcs.{AreSmall};
 ghost use Rattle.tn_base.specs.Sets.{has, meet};
 ghost use Rattle.tn_chain.specs.Limits.{most_reduced_cost};

@@ -1,11 +1,11 @@
 -- Walks in graphs that are made from a graph.
-use Rattle.std.proofs.Common.{◌≡◌, ◌≢◌, ℕ, ◌+◌, ◌<◌, ◌≤◌, refl, sym, ap, ◌∙◌, arith, inl, inr, List, [], ◌∷◌, ℤ, pos, Option, Some, None, Bool, true, ◌&&◌, ◌||◌, ◌==◌, if◌then◌else◌, nat_lt}
+use Rattle.std.proofs.Common.{◌≡◌, ◌≢◌, ℕ, ◌+◌, ◌<◌, ◌≤◌, refl, sym, ap, ◌∙◌, arith, inl, inr, List, [], ◌∷◌, ℤ, pos, Option, Some, None, Bool, true, ◌&&◌, ◌==◌, if◌then◌else◌, nat_lt}
 use Rattle.std.specs.Prelude.{All}
 use Rattle.std.proofs.lemmas.Bool.{ne_eqb, eq-eqb, lt-ltb, le-ltb, le-leb, and_parts, cases_lt, cond_both}
 use Rattle.std.proofs.lemmas.List.Elements.{All-nil, All-cons}
 use Rattle.tn_base.specs.Arcs.{AreBetweenNodes}
 use Rattle.tn_base.specs.Options.{both}
-use Rattle.tn_base.specs.Walks.{is_admitted, is_looked_at, walk_cost, arcs_among, HasNoNegativeCycle, KeepsArcs}
+use Rattle.tn_base.specs.Walks.{walk_cost, arcs_among, HasNoNegativeCycle, KeepsArcs}
 use Rattle.tn_cycle.specs.Graphs.{is_between, with_sink}
 use Rattle.tn_cycle.specs.GraphLemmas.{some_if}
 use Rattle.tn_cycle.specs.Searched.{HasNoNegativeCycleOff}
@@ -18,15 +18,6 @@ pub none_off : (arc other : ℕ → ℕ → Option ℤ) (t : ℕ) → ((a b : �
     → HasNoNegativeCycle other → HasNoNegativeCycleOff arc t
 none_off arc other t same none u vs cost passes avoids walk =
     none u vs cost (sym (walk_cost-same_off arc other t same u vs u passes avoids passes) ∙ walk)
-
--- a looked-at arc off the node is an admitted one
-pub looked_off : (null node allowed : ℕ) (arc : ℕ → ℕ → Option ℤ) (u v : ℕ) → u ≢ node → v ≢ node
-    → arcs_among (is_looked_at null node allowed) arc u v ≡ arcs_among (is_admitted null allowed) arc u v
-looked_off null node allowed arc u v p q =
-    ap (λ (s : Bool). if (s || is_admitted null allowed u) && is_looked_at null node allowed v then arc u v
-    else None) (ne_eqb u node p)
-    ∙ ap (λ (s : Bool). if is_admitted null allowed u && (s || is_admitted null allowed v) then arc u v
-    else None) (ne_eqb v node q)
 
 -- labels that keep the arcs of the one keep those of the other that avoid t
 pub keeps_avoiding : (arc other : ℕ → ℕ → Option ℤ) (t : ℕ) (label : ℕ → ℤ)
@@ -104,18 +95,3 @@ off_null null arc between a b p q = by (arc a b) refl
     by None e = e
         ∙ sym (cond_both (is_between 0 null a && is_between 0 null b) (arc a b) None (λ z. z ≡ None) (λ _. e)
         (λ _. refl))
-
--- arcs among admitted trades and the null node lead between marked nodes, where these are marked
-pub admitted_marked : (null allowed : ℕ) (arc : ℕ → ℕ → Option ℤ) (mark : ℕ → Bool) → AreBetweenNodes (null + 1) arc
-    → ((v : ℕ) → v ≤ null → mark v ≡ is_admitted null allowed v)
-    → (u v : ℕ) (cost : ℤ) → arcs_among (is_admitted null allowed) arc u v ≡ Some cost → (mark u ≡ true)
-    × (mark v ≡ true)
-admitted_marked null allowed arc mark between marks u v cost is =
-    let inside = some_if (is_admitted null allowed u && is_admitted null allowed v) (arc u v) cost is in
-    let passes = and_parts (is_admitted null allowed u) (is_admitted null allowed v) inside.0 in
-    let two = between u v cost inside.1 in
-    (marks u (omega (arith, two.0)) ∙ passes.0, marks v (omega (arith, two.1)) ∙ passes.1)
-
--- where there is no arc, there is none among some nodes
-pub among_none : (test : ℕ → Bool) (arc : ℕ → ℕ → Option ℤ) (a b : ℕ) → arc a b ≡ None → arcs_among test arc a b ≡ None
-among_none test arc a b none = cond_both (test a && test b) (arc a b) None (λ z. z ≡ None) (λ _. none) (λ _. refl)

@@ -1,13 +1,13 @@
 -- Least cycles over kept labels, and the labels after them.
-use Rattle.std.proofs.Common.{◌≡◌, ◌≢◌, ℕ, ◌+◌, ◌*◌, ◌<◌, ◌≤◌, refl, sym, ap, ◌∙◌, subst, arith, inl, inr, ◌⊎◌, List, length, set, ℤ, pos, ◌+ℤ◌, ◌-ℤ◌, ◌≤ℤ◌, ◌<ℤ◌, Option, Some, None, Bool, true, false, ◌&&◌, ◌||◌, ◌==◌, if◌then◌else◌, nat_lt}
+use Rattle.std.proofs.Common.{◌≡◌, ◌≢◌, ℕ, ◌+◌, ◌*◌, ◌<◌, ◌≤◌, refl, sym, ap, ◌∙◌, subst, arith, inl, inr, ◌⊎◌, List, length, set, ℤ, pos, ◌+ℤ◌, ◌-ℤ◌, ◌≤ℤ◌, ◌<ℤ◌, Option, Some, None, Bool, true, false, ◌==◌, if◌then◌else◌, nat_lt}
 use Rattle.std.specs.Prelude.{unwrap_or}
 use Rattle.std.specs.Option.{ForSome}
 use Rattle.std.proofs.lemmas.Int.{ints}
-use Rattle.std.proofs.lemmas.Bool.{cases_eq, ne_eqb, and_parts}
+use Rattle.std.proofs.lemmas.Bool.{cases_eq, ne_eqb}
 use Rattle.std.proofs.lemmas.Option.{none-some, same_Some}
 use Rattle.std.proofs.lemmas.List.{get_or-set_same, get_or-set_other, length-set}
 use Rattle.tn_base.specs.Arcs.{AreBetweenNodes, AreSmall, IsAtMost, ListsSuccessors}
-use Rattle.tn_base.specs.Walks.{CyclesCostAtLeast, KeepsArcs, KeepsArcsEntering, arcs_among, is_admitted, is_looked_at}
+use Rattle.tn_base.specs.Walks.{CyclesCostAtLeast, KeepsArcs, KeepsArcsEntering}
 use Rattle.tn_base.specs.Widths.{most_cost}
 use Rattle.tn_cycle.specs.declared.cell.Cell.{Cell}
 use Rattle.tn_cycle.specs.declared.kept.Sought.TheVariants as seek
@@ -18,9 +18,8 @@ use Rattle.tn_cycle.specs.Cells.{HasRoom, trail}
 use Rattle.tn_cycle.specs.Graphs.{with_sink}
 use Rattle.tn_cycle.specs.GraphLemmas.{between-with_sink, some_if}
 use Rattle.tn_cycle.specs.Searched.{IsSettled}
-use Rattle.tn_cycle.specs.Kept.{AreRaised, IsCycleRead, IsLifted, IsLiftedBy, IsRaised, IsStopped, KeepsArcsAvoiding, KeepsArcsOff, flag_at, signed}
+use Rattle.tn_cycle.specs.Kept.{AreRaised, IsCycleRead, IsLifted, IsLiftedBy, IsRaised, IsStopped, KeepsArcsAvoiding, KeepsArcsOff, signed}
 use Rattle.tn_cycle.specs.Widths.{most_graph_nodes}
-use Rattle.tn_cycle.proofs.GraphLemmas.{keeps_avoiding, looked_off}
 use Rattle.tn_cycle.proofs.KeyLemmas.{same_cost}
 use Rattle.tn_cycle.proofs.LabelLemmas.{none_negative_kept}
 use Rattle.tn_cycle.proofs.ReadLemmas.{length-trail}
@@ -297,24 +296,6 @@ entered_own arc node label keeps into = record {
   enters = λ u cost is. let kept = into u cost is in omega (arith, ints, kept);
 }
 
--- labels that keep the admitted arcs keep those of the looked-at graph that avoid its node
-pub looked_keep : (null node allowed : ℕ) (arc : ℕ → ℕ → Option ℤ) (label : ℕ → ℤ)
-    → KeepsArcs (arcs_among (is_admitted null allowed) arc) label
-    → KeepsArcsAvoiding (arcs_among (is_looked_at null node allowed) arc) node label
-looked_keep null node allowed arc label =
-    keeps_avoiding (arcs_among (is_looked_at null node allowed) arc) (arcs_among (is_admitted null allowed) arc) node
-    label (looked_off null node allowed arc)
-
--- an arc of the looked-at graph begins at the node or at an admitted one
-pub looked_begins : (null node allowed : ℕ) (arc : ℕ → ℕ → Option ℤ) (u v : ℕ) (cost : ℤ) → u ≢ node
-    → arcs_among (is_looked_at null node allowed) arc u v ≡ Some cost
-    → is_admitted null allowed u ≡ true
-looked_begins null node allowed arc u v cost off is =
-    let passes =
-    and_parts (is_looked_at null node allowed u) (is_looked_at null node allowed v)
-    (some_if (is_looked_at null node allowed u && is_looked_at null node allowed v) (arc u v) cost is).0 in
-    sym (ap (λ (s : Bool). s || is_admitted null allowed u) (ne_eqb u node off)) ∙ passes.0
-
 pub unwrap_near : (o : Option ℤ) (limit : ℕ) → ForSome o (λ p. IsAtMost p limit) → IsAtMost (unwrap_or o (pos 0)) limit
 unwrap_near None limit near = record { low = omega (arith, ints); high = omega (arith, ints) }
 unwrap_near (Some p) limit near = near p refl
@@ -339,21 +320,3 @@ pub sunk_settled : (nodes sink : ℕ) (arc : ℕ → ℕ → Option ℤ) (label 
 sunk_settled nodes sink arc label cell waits between same keeps =
     kept_settled (nodes + 1) (with_sink nodes arc) sink label cell waits (between-with_sink nodes arc between)
     (sunk_keeps nodes sink arc label same keeps)
-
--- an arc of the graph with a sink that doesn't end there leads between marked nodes, where all arcs of the graph do
-pub sunk_marked : (nodes sink : ℕ) (arc : ℕ → ℕ → Option ℤ) (marks : List Bool) → AreBetweenNodes nodes arc
-    → sink ≡ nodes
-    → ((u v : ℕ) (cost : ℤ) → arc u v ≡ Some cost → (flag_at marks u ≡ true) × (flag_at marks v ≡ true))
-    → (u v : ℕ) (cost : ℤ) → v ≢ sink → with_sink nodes arc u v ≡ Some cost → (flag_at (set marks sink false) u ≡ true)
-    × (flag_at (set marks sink false) v ≡ true)
-sunk_marked nodes sink arc marks between same marked u v cost off is =
-    let inside = some_if (nat_lt u nodes) (if v == nodes then Some (pos 0) else arc u v) cost is in
-    let plain : arc u v ≡ Some cost =
-    sym (ap (λ (s : Bool). if s then Some (pos 0) else arc u v) (ne_eqb v nodes (λ e. off (e ∙ sym same))))
-    ∙ inside.1 in
-    let two = between u v cost plain in
-    let had = marked u v cost plain in
-    let start : u ≢ sink = λ e. omega (arith, e, same, two.0) in (
-      get_or-set_other marks sink u false false start ∙ had.0,
-      get_or-set_other marks sink v false false off ∙ had.1,
-    )

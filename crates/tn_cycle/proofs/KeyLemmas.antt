@@ -25,14 +25,6 @@ not_after-trans a m b n c k p q = (
       omega (arith, one, two),
 )
 
--- both keys with the same cost more
-pub not_after-added : (a : ℤ) (m : ℕ) (b : ℤ) (n : ℕ) (c : ℤ) → IsNotAfter a m b n
-    → IsNotAfter (c +ℤ a) (m + 1) (c +ℤ b) (n + 1)
-not_after-added a m b n c p = (
-  omega (arith, ints, p.0),
-  λ back. let one : m ≤ n = p.1 (omega (arith, ints, back)) in omega (arith, one),
-)
-
 pub has_by-more : (own : Cell) (a : ℤ) (m : ℕ) (b : ℤ) (n : ℕ) → HasBy own a m → IsNotAfter a m b n → HasBy own b n
 has_by-more own a m b n has after = record {
   least = has.least;

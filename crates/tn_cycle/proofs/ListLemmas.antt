@@ -1,30 +1,9 @@
 -- The list of the nodes that wait.
-use Rattle.std.proofs.Common.{◌≡◌, ◌≢◌, ℕ, ◌+◌, ◌<◌, ◌≤◌, refl, sym, ap, ◌∙◌, subst, arith, inl, inr, List, length, set, ℤ, ◌+ℤ◌, ◌-ℤ◌, Some, is_some, Bool, true, false, ◌&&◌}
+use Rattle.std.proofs.Common.{◌≡◌, ◌≢◌, ℕ, ◌+◌, ◌<◌, ◌≤◌, refl, sym, ap, ◌∙◌, subst, arith, inl, inr, List, length, set, ℤ, ◌+ℤ◌, Some, is_some, Bool, true, false, ◌&&◌}
 use Rattle.std.proofs.lemmas.Bool.{and_parts, cases_eq, false≢true}
 use Rattle.std.proofs.lemmas.List.{get_or-set_same, get_or-set_other}
 use Rattle.tn_cycle.specs.declared.cell.Cell.{Cell}
-use Rattle.tn_cycle.specs.declared.kept.Sought.{Sought}
-use Rattle.tn_cycle.specs.Kept.{AllArePast, AreReady, AreWaiting, ComesFirst, IsNotAfter, IsPast, cell_by, every, is_ready, label_by, node_at}
-
--- no node is listed yet
-pub waiting_none : (waits : ℕ → Bool) (list : List ℕ) → AreWaiting 0 waits list 0
-waiting_none waits list = record {
-  each = λ i below. absurd (omega (arith, below));
-  all = λ v inside waiting. absurd (omega (arith, inside));
-  once = λ i k below other same. absurd (omega (arith, below));
-}
-
--- a node that doesn't wait
-pub waiting_skip : (v : ℕ) (waits : ℕ → Bool) (list : List ℕ) (count : ℕ) → AreWaiting v waits list count
-    → waits v ≡ false → AreWaiting (v + 1) waits list count
-waiting_skip v waits list count before shut = record {
-  each = λ i below. let had = before.each i below in (omega (arith, had.0), had.1);
-  all = λ u inside waiting. elim (cases_eq u v) [
-    | inl same ↦ absurd (false≢true (sym shut ∙ subst (λ (z : ℕ). waits z ≡ true) same waiting))
-    | inr other ↦ before.all u (omega (arith, inside, other)) waiting
-  ];
-  once = before.once;
-}
+use Rattle.tn_cycle.specs.Kept.{AreReady, AreWaiting, ComesFirst, IsNotAfter, cell_by, every, is_ready, label_by, node_at}
 
 -- a list of the nodes that wait is one of those that wait by other flags, where these are the same
 pub waiting_same : (nodes : ℕ) (waits now : ℕ → Bool) (list : List ℕ) (count : ℕ) → ((v : ℕ) → now v ≡ waits v)
@@ -83,14 +62,6 @@ module _ (before nodes : ℕ) (waits now : ℕ → Bool) (list : List ℕ) (coun
       ]
     ];
   }
-
--- the next node waits
-pub waiting_added : (v : ℕ) (waits : ℕ → Bool) (list : List ℕ) (count : ℕ) → AreWaiting v waits list count
-    → waits v ≡ true → count < length list → AreWaiting (v + 1) waits (set list count v) (count + 1)
-waiting_added v waits list count lists waiting places =
-    put_on v (v + 1) waits waits list count v lists
-    (λ u below still. (omega (arith, below), still, λ e. omega (arith, below, e)))
-    (λ u below still other. (omega (arith, below, other), still)) (omega arith) waiting places
 
 -- the node at a place is taken out, and the last one comes there
 module _ (nodes : ℕ) (waits now : ℕ → Bool) (list : List ℕ) (place rest : ℕ)
@@ -184,12 +155,3 @@ module _ (nodes : ℕ) (label : ℕ → ℤ) (cell : ℕ → Cell) (waits : ℕ
             subst (λ (z : ℕ). IsNotAfter key round (w +ℤ label z) (cell z).round) at.2
             (chosen.first at.0 w at.1 refl (subst (λ (z : ℕ). (cell z).cost ≡ Some w) (sym at.2) is));
       }
-
-  -- where no listed node matters, no waiting one does
-  pub listed_past : (base : ℤ) (sought : Sought) (own : Cell)
-      → AllArePast count base sought (label_by label list) (cell_by cell list) own every
-      → AllArePast nodes base sought label cell own waits
-  listed_past base sought own past v w inside waiting is =
-      let at = lists.all v inside (ready (waits v) (cell v) w waiting is) in
-      subst (λ (z : ℕ). IsPast sought own ((w +ℤ label z) -ℤ base) (cell z).round) at.2
-      (past at.0 w at.1 refl (subst (λ (z : ℕ). (cell z).cost ≡ Some w) (sym at.2) is))

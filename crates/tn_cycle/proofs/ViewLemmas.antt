@@ -32,13 +32,6 @@ written-back written old places whole =
     take-all-twice written old places whole = take_all places (take places (written ++ drop (length written) old))
         (omega (arith, length-take places (written ++ drop (length written) old)))
 
--- a list that was written whole is read whole
-pub whole-read : {A : Type 0} (written old : List A) (count places : ℕ) → length written ≡ places → count ≡ places
-    → take count (take places (written ++ drop (length written) old)) ≡ written
-whole-read written old count places whole all =
-    front-written written (drop (length written) old) count places (omega (arith, all)) (omega (arith, whole, all))
-    ∙ take_all count written (omega (arith, whole, all))
-
 -- one place is written of a list of which a part is read
 pub taken-set : {A : Type 0} (count : ℕ) (xs : List A) (i : ℕ) (x : A) → take count (set xs i x)
     ≡ set (take count xs) i x

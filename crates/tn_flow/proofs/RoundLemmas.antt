@@ -12,7 +12,7 @@ use Rattle.tn_base.specs.Walks.{arcs_among, is_admitted, is_looked_at, KeepsArcs
 use Rattle.tn_base.proofs.WalkLemmas.{SameArcs, least_cycle-same, cycles-same, among-same}
 use Rattle.tn_plain_data.specs.declared.ends.Ends.{Ends}
 use Rattle.tn_plain_data.specs.Network.{part, IsNetwork}
-use Rattle.tn_market.specs.Graph.{exchange_arc, graph_worths, ArePossible}
+use Rattle.tn_market.specs.Graph.{exchange_arc, graph_worths}
 use Rattle.tn_market.specs.Widths.{most_market_trades}
 use Rattle.tn_graph.specs.Blocks.{Blocks, arcs_of}
 use Rattle.tn_graph.specs.Reading.{changed_worths_from}
@@ -52,11 +52,6 @@ pub kept_start : {V : Type 0} (firm_of : V → Firm) (firms : List V) (trades : 
     → IsNetwork (map firm_of firms) trades → ((v : V) → MayAbstain (firm_of v)) → IsKept (map firm_of firms) trades 0 0
 kept_start firm_of firms trades network abstain =
     one_cycle_for_each_trade.start (map firm_of firms) trades network (each_firm firm_of MayAbstain firms abstain)
-
--- at the set of no trade
-pub possible_at : (firms : List Firm) (trades : List Ends) (on : ℕ) → IsKept firms trades 0 0 → on ≡ 0
-    → ArePossible firms trades on
-possible_at firms trades on kept none = subst (ArePossible firms trades) (sym none) kept.possible
 
 pub kept_at : (firms : List Firm) (trades : List Ends) (allowed on : ℕ) → IsKept firms trades 0 0 → allowed ≡ 0 → on ≡ 0
     → IsKept firms trades allowed on

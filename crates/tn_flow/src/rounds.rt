@@ -10,7 +10,7 @@ ghost use Rattle.tn_base.specs.Walks.{arcs_among, is_admitted};
 ghost use Rattle.tn_base.specs.Widths.{most_cost, most_limbs};
 ghost use Rattle.tn_cycle.specs.Answers.{AreLabels, AreNear};
 ghost use Rattle.tn_cycle.specs.Widths.{label_step, most_label};
-ghost use Rattle.tn_market.specs.Graph.{exchange_arc, graph_worths, ArePossible};
+ghost use Rattle.tn_market.specs.Graph.{exchange_arc, graph_worths};
 ghost use Rattle.tn_market.specs.Widths.{most_market_trades};
 ghost use Rattle.tn_network.specs.Along.{along};
 ghost use Rattle.tn_network.specs.Laws.{MeetExchange};

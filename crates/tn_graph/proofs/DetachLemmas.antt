@@ -9,7 +9,7 @@ use Rattle.tn_graph.specs.declared.spot.Spot.{Spot}
 use Rattle.tn_graph.specs.Blocks.{Blocks, Places, spot_at, place_between, place_of, cost_at, arcs_of, listed_count, listed_at}
 use Rattle.tn_graph.specs.BlockLemmas.{arcs_of-predecessors, arcs_of-successors}
 use Rattle.tn_graph.specs.Layout.{IsLaidOut, IsTurned}
-use Rattle.tn_graph.specs.Reading.{IsWritten, IsCut, arc_beside, AreForgotten, is_toggled}
+use Rattle.tn_graph.specs.Reading.{IsCut, arc_beside, AreForgotten, is_toggled}
 use Rattle.tn_graph.proofs.LayoutLemmas.{laid_turned, laid_same}
 use Rattle.tn_graph.proofs.ReadingLemmas.{below_same, differs_is, differs_not, forgotten_none, forgotten_more, forgotten_same, toggled_none, toggled_more, toggled_same}
 
@@ -21,53 +21,6 @@ pub record IsCutTo (from : Bool) (t k : ℕ) (before graph : Blocks) : Type 0 wh
   pub places : graph.places ≡ before.places
   pub gone : (i : ℕ) → i < k → arc_beside graph from t (listed_at before.places from t i) ≡ None
   pub kept : (u v : ℕ) → (if from then u else v) ≢ t → arcs_of graph u v ≡ arcs_of before u v
-
-pub cut_none : (from : Bool) (t : ℕ) (graph : Blocks) → IsCutTo from t 0 graph graph
-cut_none from t graph = record {
-  nodes = refl;
-  places = refl;
-  gone = λ i below. absurd (omega (arith, below));
-  kept = λ u v apart. refl;
-}
-
--- what is none stays none where none is written
-stays_none : (before after : Blocks) (a b : ℕ) → IsWritten before a b None after → (u v : ℕ)
-    → arcs_of before u v ≡ None → arcs_of after u v ≡ None
-stays_none before after a b written u v none = elim (cases_eq u a) [
-  | inr d ↦ written.elsewhere u v (λ e f. d e) ∙ none
-  | inl e ↦ elim (cases_eq v b) [
-    | inr d ↦ written.elsewhere u v (λ f g. d g) ∙ none
-    | inl f ↦ ap₂ (arcs_of after) e f ∙ written.here
-  ]
-]
-
-pub cut_from : (t k u : ℕ) (before graph after : Blocks) → IsCutTo true t k before graph
-    → u ≡ listed_at graph.places true t k → IsWritten graph t u None after → IsCutTo true t (k + 1) before after
-cut_from t k u before graph after cut u_is written = record {
-  nodes = written.nodes ∙ cut.nodes;
-  places = written.places ∙ cut.places;
-  gone = λ i below. elim (cases_eq i k) [
-    | inl e ↦ ap (arcs_of after t) (ap (listed_at before.places true t) e
-        ∙ ap (λ (p : Places). listed_at p true t k) (sym cut.places) ∙ sym u_is) ∙ written.here
-    | inr d ↦ stays_none graph after t u written t (listed_at before.places true t i)
-        (cut.gone i (omega (arith, below, d)))
-  ];
-  kept = λ v w apart. written.elsewhere v w (λ e f. apart e) ∙ cut.kept v w apart;
-}
-
-pub cut_to : (t k u : ℕ) (before graph after : Blocks) → IsCutTo false t k before graph
-    → u ≡ listed_at graph.places false t k → IsWritten graph u t None after → IsCutTo false t (k + 1) before after
-cut_to t k u before graph after cut u_is written = record {
-  nodes = written.nodes ∙ cut.nodes;
-  places = written.places ∙ cut.places;
-  gone = λ i below. elim (cases_eq i k) [
-    | inl e ↦ ap (λ (w : ℕ). arcs_of after w t) (ap (listed_at before.places false t) e
-        ∙ ap (λ (p : Places). listed_at p false t k) (sym cut.places) ∙ sym u_is) ∙ written.here
-    | inr d ↦ stays_none graph after u t written (listed_at before.places false t i) t
-        (cut.gone i (omega (arith, below, d)))
-  ];
-  kept = λ v w apart. written.elsewhere v w (λ e f. apart f) ∙ cut.kept v w apart;
-}
 
 -- no arc is left where all nodes of the block are past
 pub cut_all : (from : Bool) (t k : ℕ) (before graph : Blocks) → IsCutTo from t k before graph → t < before.nodes

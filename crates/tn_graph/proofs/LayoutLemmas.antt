@@ -484,10 +484,3 @@ owns_fit firms trades network few f firm is =
     let next = sum_next (λ firm. firm.count) firms f firm is in
     let owned = own_few firms trades network (f + 1) (omega (arith, f_in)) in
     omega (arith, next, owned, few)
-
-pub first_is : (firms : List Firm) (f n start count owned : ℕ) → start ≡ room_before firms f
-    → owned ≡ own_before firms f → count ≡ n
-    → ◌≡◌ {A = Spot} (record { start = start; count = count; own = owned; position = 0 }) (spot_for firms f n 0)
-first_is firms f n start count owned start_is own_is count_is =
-    ap₂ (λ (s o : ℕ). record { start = s; count = count; own = o; position = 0 }) start_is own_is
-    ∙ ap (λ (m : ℕ). spot_for firms f m 0) count_is

@@ -220,47 +220,6 @@ pub record AreRowsRead (firms : List Firm) (trades : List Ends) (on f n : ℕ) (
   pub rows : (k : ℕ) → k < i → HasRow firms trades on f n firm x k graph
   pub asked_most : asked ≤ asked_before + i * n
 
-pub rows_start : (firms : List Firm) (trades : List Ends) (on f n : ℕ) (firm : Firm) (x : ℕ) (graph : Blocks)
-    (asked : ℕ)
-    → AreRowsRead firms trades on f n firm x graph asked 0 graph asked
-rows_start firms trades on f n firm x graph asked = record {
-  improved = improves-none (exchange_arc firms trades on) graph;
-  rows = λ k h. absurd (omega (arith, h));
-  asked_most = omega arith;
-}
-
-pub rows_read : (firms : List Firm) (trades : List Ends) (on f n : ℕ) (firm : Firm) (x : ℕ) (before : Blocks)
-    (asked_before i : ℕ) (graph : Blocks) (asked : ℕ)
-    → AreRowsRead firms trades on f n firm x before asked_before i graph asked → (after : Blocks) (asked_after : ℕ)
-    → Improves (exchange_arc firms trades on) graph after → HasRow firms trades on f n firm x i after
-    → asked_after ≤ asked + n → AreRowsRead firms trades on f n firm x before asked_before (i + 1) after asked_after
-rows_read firms trades on f n firm x before asked_before i graph asked read after asked_after improved row counted =
-    let most = read.asked_most in
-    record {
-      improved = improves-trans (exchange_arc firms trades on) before graph after read.improved improved;
-      rows = λ k h j places. elim (cases_eq k i) [
-        | inl e ↦ subst (λ (m : ℕ). HasRow firms trades on f n firm x m after) (sym e) row j places
-        | inr d ↦ stays_right (exchange_arc firms trades on) graph after improved _ _
-            (read.rows k (omega (arith, h, d)) j places)
-      ];
-      asked_most = omega (arith, most, counted);
-    }
-
-pub rows_skipped : (firms : List Firm) (trades : List Ends) (on f n : ℕ) (firm : Firm) (x : ℕ) (before : Blocks)
-    (asked_before i : ℕ) (graph : Blocks) (asked : ℕ)
-    → AreRowsRead firms trades on f n firm x before asked_before i graph asked → ((j : ℕ) → AreArcPlaces firm x i j → ⊥)
-    → AreRowsRead firms trades on f n firm x before asked_before (i + 1) graph asked
-rows_skipped firms trades on f n firm x before asked_before i graph asked read none =
-    let most = read.asked_most in
-    record {
-      improved = read.improved;
-      rows = λ k h j places. elim (cases_eq k i) [
-        | inl e ↦ absurd (none j (subst (λ (m : ℕ). AreArcPlaces firm x m j) e places))
-        | inr d ↦ read.rows k (omega (arith, h, d)) j places
-      ];
-      asked_most = omega (arith, most);
-    }
-
 -- all rows are all arcs of the firm
 pub all_rows : (firms : List Firm) (trades : List Ends) (on f n : ℕ) (firm : Firm) (limit x : ℕ) (worth : ℤ)
     → IsStand firms trades on f n firm limit x worth

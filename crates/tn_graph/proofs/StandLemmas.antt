@@ -78,9 +78,6 @@ raised_own firms trades on f n firm limit x worth stand i raised is =
 
 -- ---- losses
 
-pub no_loss : (firm : Firm) (x y : ℕ) (a : ℤ) → firm.worth x ≡ Some a → firm.worth y ≡ None → loss firm x y ≡ None
-no_loss firm x y a x_is y_is = ap₂ (λ (p q : Option ℤ). both p (option_map neg_ℤ q)) x_is y_is
-
 pub loss_is : (firm : Firm) (x y : ℕ) (a b : ℤ) → firm.worth x ≡ Some a → firm.worth y ≡ Some b
     → Some (a -ℤ b) ≡ loss firm x y
 loss_is firm x y a b x_is y_is =

@@ -1,6 +1,6 @@
 //! How a firm stands at a set of trades, and what its arcs cost.
 
-ghost use Rattle.std.specs.Prelude.{◌≡◌, ℕ, ◌^◌, ◌≤◌, ◌<◌, ◌==◌, ◌↔◌, IsTrue, IfSome, map};
+ghost use Rattle.std.specs.Prelude.{◌≡◌, ℕ, ◌^◌, ◌≤◌, ◌<◌, ◌==◌, ◌↔◌, IsTrue, IfSome};
 ghost use Rattle.tn_base.specs.Arcs.{IsAtMost};
 ghost use Rattle.tn_base.specs.Widths.{most_cost};
 ghost use Rattle.tn_law.specs.Places.{trade_level, level, toggle_at, CanRise};

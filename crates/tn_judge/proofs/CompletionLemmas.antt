@@ -1,10 +1,9 @@
 -- Prices that complete an outcome, from labels of its fixed graph.
-use Rattle.std.proofs.Common.{◌≡◌, ℕ, ◌+◌, ◌-◌, ◌<◌, ◌≤◌, ◌==◌, Bool, true, false, if◌then◌else◌, List, [], ◌∷◌, ◌++◌, length, map, get_or, Option, Some, None, option_map, refl, sym, ap, ap₂, ◌∙◌, subst, arith, inl, inr, ℤ, pos, ◌+ℤ◌, ◌-ℤ◌, ◌*ℤ◌, neg_ℤ}
+use Rattle.std.proofs.Common.{◌≡◌, ℕ, ◌+◌, ◌-◌, ◌<◌, ◌≤◌, ◌==◌, Bool, true, false, if◌then◌else◌, List, length, map, Option, Some, None, option_map, refl, sym, ap, ap₂, ◌∙◌, subst, arith, ℤ, pos, ◌+ℤ◌, ◌-ℤ◌, ◌*ℤ◌, neg_ℤ}
 use Rattle.std.specs.Prelude.{All, IfSome, ◌≤ℤ◌, ◌<ℤ◌}
 use Rattle.std.proofs.lemmas.Int.{ints}
 use Rattle.std.proofs.lemmas.Nat.{mul-le}
-use Rattle.std.proofs.lemmas.Bool.{cases_eq, cases_lt, cases_Bool}
-use Rattle.std.proofs.lemmas.List.{length-append, get_or_append_left, get_or_default, get_or_past}
+use Rattle.std.proofs.lemmas.List.{get_or_default}
 use Rattle.tn_base.specs.Arcs.{IsAtMost}
 use Rattle.tn_base.specs.Firm.{Firm}
 use Rattle.tn_base.specs.Walks.{KeepsArcs}
@@ -22,7 +21,6 @@ use Rattle.tn_market.specs.Graph.{exchange_arc, ArePossible}
 use Rattle.tn_market.specs.Lawful.{IsLawful}
 use Rattle.tn_market.specs.Limits.{IsOutcomeOf, IsWithinLimits}
 use Rattle.tn_market.specs.Signed.{is_signed, signed_price, signed, Completes}
-use Rattle.tn_market.specs.Supported.{IsFirstUnable}
 use Rattle.tn_market.specs.Traded.{Traded}
 use Rattle.tn_market.specs.Valued.{IsWorthAtMost}
 use Rattle.tn_market.specs.Widths.{most_worth}
@@ -59,67 +57,12 @@ possible_outcome firm_of items trades over contracts network lawful outcome poss
   possible = possible;
 }
 
--- where a bundle isn't, no prices complete the outcome
-pub unable_incomplete : (firms : List Firm) (trades : List Ends) (over : ℤ) (contracts : List Contract) (f : ℕ)
-    → IsFirstUnable firms trades (signed (length trades) contracts) f
-    → IsIncomplete firms trades over contracts
-unable_incomplete firms trades over contracts f unable prices completes =
-    let best = completes.equilibrium f unable.firm unable.is in
-    let none = unable.impossible in
-    let is = best.1.is in
-    absurd (cc (none, is))
-
 -- ---- prices of the nodes
-
-at_end : {A : Type 0} (xs : List A) (x d : A) → get_or (xs ++ (x ∷ [])) (length xs) d ≡ x
-at_end [] x d = refl
-at_end (y ∷ xs) x d = at_end xs x d
 
 -- the prices of the first v nodes are those of the contracts on them
 pub record ArePricedBelow (contracts : List Contract) (v : ℕ) (prices : List (Option ℤ)) : Type 0 where
   pub counted : length prices ≡ v
   pub each : (i : ℕ) → i < v → price_in prices i ≡ contract_price contracts i
-
-pub none_priced : (contracts : List Contract) (prices : List (Option ℤ)) → prices ≡ []
-    → ArePricedBelow contracts 0 prices
-none_priced contracts prices none = record {
-  counted = ap length none;
-  each = λ i below. absurd (omega (arith, below));
-}
-
-pub one_priced : (contracts : List Contract) (v : ℕ) (prices next : List (Option ℤ)) (price : Option ℤ)
-    → ArePricedBelow contracts v prices → next ≡ prices ++ (price ∷ [])
-    → price ≡ contract_price contracts v → ArePricedBelow contracts (v + 1) next
-one_priced contracts v prices next price are next_is price_is = record {
-  counted = (let sum = ap length next_is ∙ length-append prices (price ∷ []) in let before = are.counted in
-      omega (arith, sum, before));
-  each = λ i below. ap (λ (xs : List (Option ℤ)). price_in xs i) next_is ∙ elim (cases_eq i v) [
-    | inl e ↦ ap (price_in (prices ++ (price ∷ []))) (e ∙ sym are.counted) ∙ at_end prices price None ∙ price_is
-        ∙ sym (ap (contract_price contracts) e)
-    | inr d ↦ get_or_append_left prices (price ∷ []) None i (let before = are.counted in
-        omega (arith, before, below, d)) ∙ are.each i (omega (arith, below, d))
-  ];
-}
-
--- all nodes have their prices then
-pub all_priced : (contracts : List Contract) (nodes : ℕ) (prices : List (Option ℤ))
-    → ((t : ℕ) → is_signed contracts t ≡ true → t < nodes) → ArePricedBelow contracts nodes prices
-    → ArePriced contracts nodes prices
-all_priced contracts nodes prices known are = record {
-  counted = are.counted;
-  each = λ v. elim (cases_lt v nodes) [
-    | inl below ↦ are.each v below
-    | inr past ↦
-        get_or_past prices v None (let counted = are.counted in omega (arith, counted, past))
-        ∙ sym (ap (λ (b : Bool). if b then Some (signed_price contracts v) else None) (unsigned v past))
-  ];
-}
-  where
-    unsigned : (v : ℕ) → nodes ≤ v → is_signed contracts v ≡ false
-    unsigned v past = elim (cases_Bool (is_signed contracts v)) [
-      | inr away ↦ away
-      | inl there ↦ absurd (let below = known v there in omega (arith, below, past))
-    ]
 
 -- a graph with such prices can be fixed
 pub can_be_fixed : {V : Type 0} (firm_of : V → Firm) (limit_of : V
@@ -149,28 +92,6 @@ small_if limit None small = tt
 small_if limit (Some z) small = small z refl
 
 -- ---- prices of the trades
-
-pub no_prices : (contracts : List Contract) (labels : List ℤ) (null : ℕ) (prices : List ℤ) → prices ≡ []
-    → ArePricesTo contracts labels null 0 prices
-no_prices contracts labels null prices none = record {
-  counted = ap length none;
-  each = λ i below. absurd (omega (arith, below));
-}
-
-pub one_price : (contracts : List Contract) (labels : List ℤ) (null t : ℕ) (prices next : List ℤ) (price : ℤ)
-    → ArePricesTo contracts labels null t prices → next ≡ prices ++ (price ∷ [])
-    → price ≡ (if is_signed contracts t then signed_price contracts t else label_in labels t -ℤ label_in labels null) → ArePricesTo contracts labels null (t + 1) next
-one_price contracts labels null t prices next price are next_is price_is = record {
-  counted = (let sum = ap length next_is ∙ length-append prices (price ∷ []) in let before = are.counted in
-      omega (arith, sum, before));
-  each = λ i below. ap (λ (xs : List ℤ). price_at xs i) next_is ∙ elim (cases_eq i t) [
-    | inl e ↦ ap (price_at (prices ++ (price ∷ []))) (e ∙ sym are.counted) ∙ at_end prices price (pos 0) ∙ price_is
-        ∙ sym (ap (λ (k : ℕ). if is_signed contracts k then signed_price contracts k
-        else label_in labels k -ℤ label_in labels null) e)
-    | inr d ↦ get_or_append_left prices (price ∷ []) (pos 0) i (let before = are.counted in
-        omega (arith, before, below, d)) ∙ are.each i (omega (arith, below, d))
-  ];
-}
 
 -- ---- raised nodes
 
