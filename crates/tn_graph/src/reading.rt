@@ -1,10 +1,10 @@
 //! The reading of costs from worths: arc by arc, firm by firm, and the whole graph.
 
-ghost use Rattle.std.specs.Prelude.{◌≡◌, ℕ, ◌+◌, ◌*◌, ◌≤◌, ◌<◌, ◌==◌, Some, length, map, slice_get};
+ghost use Rattle.std.specs.Prelude.{◌≡◌, ℕ, ◌+◌, ◌*◌, ◌≤◌, ◌<◌, ◌==◌, Some, length, map, slice_get, not};
 ghost use Rattle.tn_base.specs.Sets.{has};
 ghost use Rattle.tn_base.specs.Widths.{most_cost};
 ghost use Rattle.tn_law.specs.Places.{level, toggle_at, move, CanRise};
-ghost use Rattle.tn_plain_data.specs.Network.{IsNetwork};
+ghost use Rattle.tn_plain_data.specs.Network.{IsNetwork, part};
 ghost use Rattle.tn_market.specs.ArcPlaces.{node_at, AreArcPlaces};
 ghost use Rattle.tn_market.specs.Graph.{exchange_arc, graph_worths, ArePossible};
 ghost use Rattle.tn_market.specs.NetworkOf.{network_of};
@@ -114,6 +114,22 @@ impl<V: Valuation, const W: usize> Stand<'_, V, W> {
             }
         }
     }
+}
+
+/// Whether the bundles of firm `f` of two sets differ.
+fn has_changed<V: Valuation, const W: usize>(
+    market: &Market<V>,
+    f: u32,
+    before: &TradeSet<W>,
+    on: &TradeSet<W>,
+) -> bool
+    requires wide { length market.now.trades ≤ 64 * W }
+    requires firm { f < length market.now.firms }
+    ensures { (v : V) → slice_get market.now.firms f ≡ Some v
+        → result ≡ not (part market.now.trades f (V.firm v).count before.now
+        == part market.now.trades f (V.firm v).count on.now) }
+{
+    market.bundle_of(f, before) != market.bundle_of(f, on)
 }
 
 impl Graph {
@@ -240,7 +256,7 @@ impl Graph {
     {
         self.forget(market, before, on);
         for f in 0..market.firms() {
-            if market.bundle_of(f, before) != market.bundle_of(f, on) {
+            if has_changed(market, f, before, on) {
                 self.read(market, f, on, steps);
             }
         }

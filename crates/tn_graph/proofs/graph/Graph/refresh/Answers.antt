@@ -1,13 +1,14 @@
 -- What shows the clauses of `Graph::refresh` of `src/graph.rt`.
-use Rattle.std.proofs.Common.{arith, ap, subst, sym, ◌∙◌, ◌+◌, ◌*◌, ◌<◌, ◌≤◌, ◌⊎◌, ℕ, map, option_map, length, inl, inr, if◌then◌else◌, ◌==◌}
+use Rattle.std.proofs.Common.{arith, ap, refl, subst, sym, ◌∙◌, ◌+◌, ◌*◌, ◌<◌, ◌≤◌, ◌⊎◌, ℕ, map, option_map, length, inl, inr, if◌then◌else◌, ◌==◌}
 use Rattle.std.proofs.lemmas.Bool.{cases_eq}
 use Rattle.std.proofs.lemmas.List.{length-map}
 use Rattle.std.proofs.lemmas.Option.{slice_get-map}
+use Rattle.tn_plain_data.specs.Network.{part}
 use Rattle.tn_graph.specs.Blocks.{Blocks}
 use Rattle.tn_graph.specs.Reading.{IsRightFor, IsUnchanged}
 use Rattle.tn_graph.proofs.ReadingLemmas.{right_kept, right_more, right_same, right_all, some_item, AreBundles, changed_step, asked_where_differs, unchanged_where_equal}
 use Rattle.tn_graph.proofs.graph.Graph.refresh.Goals as goal
-use Rattle.tn_graph.proofs.graph.Graph.refresh.Goals.{then-ne, else-ne}
+use Rattle.tn_graph.proofs.graph.Graph.refresh.Goals.{then-has_changed, else-has_changed}
 
 pub loop-f-init : goal.loop-f-init
 loop-f-init g c =
@@ -30,19 +31,22 @@ loop-f-preserved g c =
     let test = c.loop-f-test.true in
     let inside : c.loop-f.f < length c.args.market.now.firms = omega (arith, test, count) in
     let item = some_item c.args.market.now.firms c.loop-f.f inside in
+    let firm = g.V.Valuation.firm item.0 in
+    let was = part c.args.market.now.trades c.loop-f.f firm.count c.args.before.now in
+    let now = part c.args.market.now.trades c.loop-f.f firm.count c.args.on.now in
     let bundles : AreBundles (map g.V.Valuation.firm c.args.market.now.firms) c.args.market.now.trades c.args.before.now
-    c.args.on.now c.loop-f.f (g.V.Valuation.firm item.0)
-    c.bundle_of.result c.bundle_of-in-loop-f.result = record {
+    c.args.on.now c.loop-f.f firm was now = record {
       is = slice_get-map g.V.Valuation.firm c.args.market.now.firms c.loop-f.f
           ∙ ap (option_map g.V.Valuation.firm) item.1;
-      old_is = c.bundle_of.ensures item.0 item.1;
-      new_is = c.bundle_of-in-loop-f.ensures item.0 item.1;
+      old_is = refl;
+      new_is = refl;
     } in
+    let changed = c.has_changed.ensures item.0 item.1 in
     let done : ℕ → ℕ → Type 0 = λ f k. (k < f)
     ⊎ IsUnchanged (map g.V.Valuation.firm c.args.market.now.firms) c.args.market.now.trades c.args.before.now
     c.args.on.now k in
-    elim c.if-ne.branch [
-      | then-ne w ↦ record {
+    elim c.if-has_changed.branch [
+      | then-has_changed w ↦ record {
         right = subst (λ (graph : Blocks). IsRightFor (map g.V.Valuation.firm c.args.market.now.firms)
             c.args.market.now.trades c.args.on.now (done (c.loop-f.f + 1)) graph) (sym w.self-is)
             (right_more (map g.V.Valuation.firm c.args.market.now.firms) c.args.market.now.trades c.args.on.now
@@ -55,15 +59,15 @@ loop-f-preserved g c =
             ]));
         asked = changed_step (map g.V.Valuation.firm c.args.market.now.firms) c.args.market.now.trades c.args.before.now
             c.args.on.now c.loop-f.f (g.V.Valuation.firm item.0)
-            c.bundle_of.result c.bundle_of-in-loop-f.result bundles c.args.steps.now c.loop-f.steps c.if-ne.steps
+            was now bundles c.args.steps.now c.loop-f.steps c.if-has_changed.steps
             c.loop-f.invariant.asked
-            (subst (λ (s : ℕ). s ≤ c.loop-f.steps + (if c.bundle_of.result == c.bundle_of-in-loop-f.result then 0
+            (subst (λ (s : ℕ). s ≤ c.loop-f.steps + (if was == now then 0
             else ((g.V.Valuation.firm item.0).count + 1) * ((g.V.Valuation.firm item.0).count + 1))) (sym w.steps-is)
-            (asked_where_differs c.bundle_of.result c.bundle_of-in-loop-f.result (g.V.Valuation.firm item.0).count
-            c.loop-f.steps w.read.new.steps c.ne.result c.ne.ensures w.if-ne.true
+            (asked_where_differs was now (g.V.Valuation.firm item.0).count
+            c.loop-f.steps w.read.new.steps c.has_changed.result changed w.if-has_changed.true
             (w.read.ensures.asked item.0 item.1)));
       }
-      | else-ne w ↦ record {
+      | else-has_changed w ↦ record {
         right = subst (λ (graph : Blocks). IsRightFor (map g.V.Valuation.firm c.args.market.now.firms)
             c.args.market.now.trades c.args.on.now (done (c.loop-f.f + 1)) graph) (sym w.self-is)
             (right_same (map g.V.Valuation.firm c.args.market.now.firms) c.args.market.now.trades c.args.on.now
@@ -76,14 +80,14 @@ loop-f-preserved g c =
                     c.args.before.now c.args.on.now) (sym e)
                     (unchanged_where_equal (map g.V.Valuation.firm c.args.market.now.firms) c.args.market.now.trades
                     c.args.before.now c.args.on.now c.loop-f.f (g.V.Valuation.firm item.0)
-                    c.bundle_of.result c.bundle_of-in-loop-f.result bundles c.ne.result c.ne.ensures w.if-ne.false))
+                    was now bundles c.has_changed.result changed w.if-has_changed.false))
                 | inr d ↦ inl (omega (arith, below, d))
               ]
               | inr same ↦ inr same
             ]));
         asked = changed_step (map g.V.Valuation.firm c.args.market.now.firms) c.args.market.now.trades c.args.before.now
             c.args.on.now c.loop-f.f (g.V.Valuation.firm item.0)
-            c.bundle_of.result c.bundle_of-in-loop-f.result bundles c.args.steps.now c.loop-f.steps c.if-ne.steps
+            was now bundles c.args.steps.now c.loop-f.steps c.if-has_changed.steps
             c.loop-f.invariant.asked
             (let same = w.steps-is in omega (arith, same));
       }
