@@ -1,4 +1,4 @@
--- What shows the clauses of `Graph::fill` of `src/graph.rt`.
+-- What shows the clauses of `Graph::fill` of `src/reading.rt`.
 use Rattle.std.proofs.Common.{arith, ap, subst, ◌∙◌, ◌≡◌, ◌+◌, ◌<◌, ℕ, Some, map, slice_get, option_map, length, inl, inr}
 use Rattle.std.proofs.lemmas.Bool.{cases_eq}
 use Rattle.std.proofs.lemmas.List.{length-map}

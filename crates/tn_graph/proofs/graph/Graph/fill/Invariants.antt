@@ -1,4 +1,4 @@
--- What the loops of `Graph::fill` of `src/graph.rt` keep.
+-- What the loops of `Graph::fill` of `src/reading.rt` keep.
 use Rattle.std.proofs.Common.{◌+◌, ◌<◌, ◌≤◌, map, take}
 use Rattle.tn_market.specs.Graph.{graph_worths}
 use Rattle.tn_graph.specs.Reading.{IsRightFor}

@@ -1,4 +1,4 @@
--- What shows the clauses of `Graph::read` of `src/graph.rt`.
+-- What shows the clauses of `Graph::read` of `src/reading.rt`.
 use Rattle.std.proofs.Common.{rules, sym, ap, ◌∙◌, ◌≡◌, Some, map, slice_get, option_map, ℕ, lit<}
 use Rattle.std.proofs.lemmas.Option.{slice_get-map}
 use Rattle.std.proofs.lemmas.Int.{to_z-of_z}

@@ -1,4 +1,4 @@
--- What shows the clauses of `Graph::refresh` of `src/graph.rt`.
+-- What shows the clauses of `Graph::refresh` of `src/reading.rt`.
 use Rattle.std.proofs.Common.{arith, ap, refl, subst, sym, ◌∙◌, ◌+◌, ◌*◌, ◌<◌, ◌≤◌, ◌⊎◌, ℕ, map, option_map, length, inl, inr, if◌then◌else◌, ◌==◌}
 use Rattle.std.proofs.lemmas.Bool.{cases_eq}
 use Rattle.std.proofs.lemmas.List.{length-map}

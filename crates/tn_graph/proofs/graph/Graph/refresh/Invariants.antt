@@ -1,4 +1,4 @@
--- What the loops of `Graph::refresh` of `src/graph.rt` keep.
+-- What the loops of `Graph::refresh` of `src/reading.rt` keep.
 use Rattle.std.proofs.Common.{◌+◌, ◌<◌, ◌≤◌, ◌⊎◌, map, take}
 use Rattle.tn_graph.specs.Reading.{IsRightFor, IsUnchanged, changed_worths_from}
 use Rattle.tn_graph.proofs.graph.Graph.refresh.Given as goal

@@ -1,4 +1,4 @@
--- What shows the clauses of `Stand::read_arcs` of `src/stand.rt`.
+-- What shows the clauses of `Stand::read_arcs` of `src/reading.rt`.
 use Rattle.std.proofs.Common.{arith}
 use Rattle.tn_graph.proofs.ReadingLemmas.{all_rows}
 use Rattle.tn_graph.proofs.stand.Stand.read_arcs.Goals as goal

@@ -1,4 +1,4 @@
--- What the loops of `Stand::read_arcs` of `src/stand.rt` keep.
+-- What the loops of `Stand::read_arcs` of `src/reading.rt` keep.
 use Rattle.std.proofs.Common.{map}
 use Rattle.tn_graph.proofs.ReadingLemmas.{AreRowsRead}
 use Rattle.tn_graph.proofs.stand.Stand.read_arcs.Given as goal

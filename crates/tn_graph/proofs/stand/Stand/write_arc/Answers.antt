@@ -1,4 +1,4 @@
--- What shows the clauses of `Stand::write_arc` of `src/stand.rt`.
+-- What shows the clauses of `Stand::write_arc` of `src/reading.rt`.
 use Rattle.std.proofs.Common.{◌∙◌, ap₂, sym, map, lit<}
 use Rattle.tn_market.specs.Graph.{exchange_arc}
 use Rattle.tn_graph.specs.Blocks.{arcs_of}

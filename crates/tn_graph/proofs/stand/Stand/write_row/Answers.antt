@@ -1,4 +1,4 @@
--- What shows the clauses of `Stand::write_row` of `src/stand.rt`.
+-- What shows the clauses of `Stand::write_row` of `src/reading.rt`.
 use Rattle.std.proofs.Common.{sym, ◌∙◌, ◌≡◌, ◌+◌, ℕ, true, false, map, length, subst, arith, lit<}
 use Rattle.tn_base.specs.Sets.{has}
 use Rattle.tn_graph.specs.Blocks.{Blocks}

@@ -1,4 +1,4 @@
--- What the loops of `Stand::write_row` of `src/stand.rt` keep.
+-- What the loops of `Stand::write_row` of `src/reading.rt` keep.
 use Rattle.std.proofs.Common.{map}
 use Rattle.tn_graph.specs.Reading.{IsRowRead}
 use Rattle.tn_graph.proofs.stand.Stand.write_row.Given as goal
