@@ -65,7 +65,8 @@ module _ (names : NameLists) (firms : IsNameList names.firms) (trades : IsNameLi
       (there (FitsSigned w64) ys k y short' at')
       (sym (is k x) ∙ ap (λ r. get_or r i []) (rows k x y at at') ∙ other_is k y))
 
-  pub same_deals : (on : List ℕ) (prices : List ℤ) (ends : List Ends) (on' : List ℕ) (prices' : List ℤ) (ends' : List Ends)
+  pub same_deals : (on : List ℕ) (prices : List ℤ) (ends : List Ends) (on' : List ℕ) (prices' : List ℤ)
+      (ends' : List Ends)
       → All (IsNamed names.trades) on → All (IsNamed names.trades) on' → length prices ≡ length names.trades
       → length prices' ≡ length names.trades
       → AreNamedEnds names ends → AreNamedEnds names ends' → All (FitsSigned w64) prices → All (FitsSigned w64) prices'

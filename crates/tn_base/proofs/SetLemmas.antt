@@ -188,7 +188,8 @@ has-set_of test (suc n) k =
           (last ∙ sym (ap (λ b. b && test n) (lt-ltb n (suc n) (omega arith))))
       | inr d ↦
           let kept : has (set_of test (suc n)) k ≡ has (set_of test n) k =
-          elim (test n) as (λ b. has (if b then toggle (set_of test n) n else set_of test n) k ≡ has (set_of test n) k) [
+          elim (test n) as (λ b. has (if b then toggle (set_of test n) n else set_of test n) k
+          ≡ has (set_of test n) k) [
             | true ↦ has-toggle_other (set_of test n) n k d
             | false ↦ refl
           ] in

@@ -57,7 +57,8 @@ pub walk-same : (one other : ℕ → ℕ → Option ℤ) → SameArcs one other 
 walk-same one other same u [] w = same u w
 walk-same one other same u (v ∷ vs) w = ap₂ both (same u v) (walk-same one other same v vs w)
 
-pub least_cycle-same : (one other : ℕ → ℕ → Option ℤ) → SameArcs one other → (t : ℕ) (vs : List ℕ) (cost : ℤ) → IsLeastCycle other t vs cost → IsLeastCycle one t vs cost
+pub least_cycle-same : (one other : ℕ → ℕ → Option ℤ) → SameArcs one other → (t : ℕ) (vs : List ℕ) (cost : ℤ)
+    → IsLeastCycle other t vs cost → IsLeastCycle one t vs cost
 least_cycle-same one other same t vs cost cycle = record {
   cycle = record { walk = walk-same one other same t vs t ∙ cycle.cycle.walk; different = cycle.cycle.different };
   least = λ ws c avoids walk. cycle.least ws c avoids (sym (walk-same one other same t ws t) ∙ walk);

@@ -472,6 +472,7 @@ all_on_block firms trades over contracts scale allowed on prices outcome from_ze
           let feasible =
           pool_feasible trades over (over *ℤ scale) contracts offers outcome.feasible are.feasible are.unsigned in
           let pool_offer = offer_in_pool (over *ℤ scale) over offers contracts k offer offer_is in
-          ap (has x) (sym (feasible.once traded.place k traded.contract _ traded.is pool_offer (traded.trade ∙ place.owns)))
+          ap (has x) (sym (feasible.once traded.place k traded.contract _ traded.is pool_offer
+          (traded.trade ∙ place.owns)))
           ∙ traded.member;
     }

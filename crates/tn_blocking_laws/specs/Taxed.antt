@@ -35,4 +35,5 @@ pub record AreOffers (trades : List Ends) (contracts : List Contract) (on : ℕ)
   pub unsigned : (k : ℕ) (offer : Contract) → slice_get offers k ≡ Some offer → is_signed contracts offer.trade ≡ false
   pub taken : (k : ℕ) (offer : Contract) → slice_get offers k ≡ Some offer → has on offer.trade ≡ true
   pub priced : (k : ℕ) (offer : Contract) → slice_get offers k ≡ Some offer → offer.price ≡ prices offer.trade
-  pub each : (t : ℕ) → t < length trades → has on t ≡ true → (k : ℕ) × (offer : Contract) × (slice_get offers k ≡ Some offer) × (offer.trade ≡ t)
+  pub each : (t : ℕ) → t < length trades → has on t ≡ true → (k : ℕ) × (offer : Contract)
+      × (slice_get offers k ≡ Some offer) × (offer.trade ≡ t)

@@ -49,12 +49,14 @@ idle_equilibrium =
     two_firms (λ f firm. HasBest no_ends (pos 1) 0 (price_at []) f firm) (idle (Some (pos 7))) (idle None) (
       pos 7,
       best_by 1 (utility_at no_ends (pos 1) (price_at []) 0 (idle (Some (pos 7))))
-          (own_utilities no_ends (pos 1) (price_at []) 0 (idle (Some (pos 7))) (own_bundles (idle_table (Some (pos 7)))))
+          (own_utilities no_ends (pos 1) (price_at []) 0 (idle (Some (pos 7)))
+          (own_bundles (idle_table (Some (pos 7)))))
           0 (pos 7) refl refl,
     ) (
       pos 0,
       best_by 1 (utility_at no_ends (pos 1) (price_at []) 1 (idle None))
-          (own_utilities no_ends (pos 1) (price_at []) 1 (idle None) (own_bundles (idle_table None))) 0 (pos 0) refl refl,
+          (own_utilities no_ends (pos 1) (price_at []) 1 (idle None) (own_bundles (idle_table None)))
+          0 (pos 0) refl refl,
     )
 
 pub is_solved : IsNetwork idle_firms no_ends → Solves idle_firms no_ends (Solved [] [] (pos 7) no_ends)

@@ -52,7 +52,8 @@ position_own firms trades f firm chooser k below =
         elim (or_cases (trade.seller == f && trade.at_seller == k) (trade.buyer == f && trade.at_buyer == k) stands) [
           | inl sells ↦
               let parts = and_parts (trade.seller == f) (trade.at_seller == k) sells in
-              ap (λ (b : Bool). if b then trade.at_seller else trade.at_buyer) parts.0 ∙ eqb-true trade.at_seller k parts.1
+              ap (λ (b : Bool). if b then trade.at_seller else trade.at_buyer) parts.0
+              ∙ eqb-true trade.at_seller k parts.1
           | inr buys ↦
               let parts = and_parts (trade.buyer == f) (trade.at_buyer == k) buys in
               elim (cases_Bool (trade.seller == f)) [
@@ -416,7 +417,8 @@ greatest_from_best firms trades scale f firm chooser contracts left_out free n b
       is = part_for-utility firms trades scale f firm contracts left_out free list b wanted
           ∙ sym (term_utility firms trades scale f firm chooser n list counted b) ∙ best.is;
       most = λ y other signs avoids y_is.
-          let high = part_at_most firms trades scale f firm chooser contracts left_out free list holds y signs avoids other
+          let high =
+          part_at_most firms trades scale f firm chooser contracts left_out free list holds y signs avoids other
           y_is in
           let bundle = bundle_by trades f firm.count contracts y in
           let between =

@@ -121,7 +121,8 @@ accepted_refuted firms trades (Exchange f x y at) fails valid =
     (triple_fails fails.firm fails.triple fails.first)
 accepted_refuted firms trades reason refutes valid = absurd refutes
 
-pub failure_refuted : (firms : List Firm) (trades : List Ends) (f x y : ℕ) (at : Option ℕ) (reason : Reason) → Refutes firms trades (ExchangeFails f x y at) reason
+pub failure_refuted : (firms : List Firm) (trades : List Ends) (f x y : ℕ) (at : Option ℕ) (reason : Reason)
+    → Refutes firms trades (ExchangeFails f x y at) reason
     → IsValid firms trades (ExchangeFails f x y at) → ⊥
 failure_refuted firms trades f x y at Holds (firm, is, holds) (other, other_is, fails) =
     holds (subst (λ (it : Firm). Fails it x y at) (same_Some other firm (sym other_is ∙ is)) fails)

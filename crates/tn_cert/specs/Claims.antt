@@ -53,14 +53,17 @@ GoesRound arc [] cost = ⊥
 GoesRound arc (first ∷ rest) cost = walk_cost arc first rest first ≡ Some cost
 
 abbrev pub IsValid : List Firm → List Ends → Claim → Type 0
-IsValid firms trades (Equilibrium at surplus) = IsEquilibrium firms trades (pos 1) at.on (price_at at.prices) × (surplus_of firms trades at.on ≡ Some surplus)
-IsValid firms trades (Solved at surplus) = IsEquilibrium firms trades (pos 1) at.on (price_at at.prices) × (surplus_of firms trades at.on ≡ Some surplus)
+IsValid firms trades (Equilibrium at surplus) = IsEquilibrium firms trades (pos 1) at.on (price_at at.prices)
+    × (surplus_of firms trades at.on ≡ Some surplus)
+IsValid firms trades (Solved at surplus) = IsEquilibrium firms trades (pos 1) at.on (price_at at.prices)
+    × (surplus_of firms trades at.on ≡ Some surplus)
 IsValid firms trades (Supported on prices) = IsEquilibrium firms trades (pos 1) on (price_at prices)
 IsValid firms trades (Better at f x gain) =
     IsFirmWith firms f (λ firm. Gains trades (pos 1) (price_at at.prices) f firm x (part trades f firm.count at.on)
     gain) × IsPositive gain
 IsValid firms trades (Impossible on f) = IsFirmWith firms f (λ firm. firm.worth (part trades f firm.count on) ≡ None)
-IsValid firms trades (Cycle on nodes cost) = ArePossible firms trades on × GoesRound (exchange_arc firms trades on) (map (node_of (length trades)) nodes) cost × (cost <ℤ pos 0)
+IsValid firms trades (Cycle on nodes cost) = ArePossible firms trades on
+    × GoesRound (exchange_arc firms trades on) (map (node_of (length trades)) nodes) cost × (cost <ℤ pos 0)
 IsValid firms trades (Drops outcome f keeps gain over) = (over ≡ outcome.over) × AreSigned trades outcome f keeps
     × IsFirmWith firms f (λ firm. GainsByKeeping trades outcome f firm keeps gain) × IfSome gain IsPositive
 IsValid firms trades (CompletesIs outcome prices over) = (over ≡ outcome.over)

@@ -64,7 +64,8 @@ abbrev pub RefutesCycle : List Firm → List Ends → ℕ → List ℕ → ℤ �
 RefutesCycle firms trades on nodes claimed (ImpossibleIs f) = IsFirstUnable firms trades on f
 RefutesCycle firms trades on nodes claimed (Arc index) = ArePossible firms trades on
     × IsFirstBreak (exchange_arc firms trades on) nodes index
-RefutesCycle firms trades on nodes claimed (Cost cost) = ArePossible firms trades on × GoesRound (exchange_arc firms trades on) nodes cost × (cost <ℤ pos 0 → cost ≡ claimed → ⊥)
+RefutesCycle firms trades on nodes claimed (Cost cost) = ArePossible firms trades on
+    × GoesRound (exchange_arc firms trades on) nodes cost × (cost <ℤ pos 0 → cost ≡ claimed → ⊥)
 RefutesCycle firms trades on nodes claimed reason = ⊥
 
 -- t is the first trade of firm f's bundle without a contract

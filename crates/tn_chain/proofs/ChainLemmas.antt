@@ -91,15 +91,18 @@ is_blocking firms trades over contracts left listed cost count cycle solution ro
           let a = (at.each k one one_is).0 in
           let b = (at.each (k + 1) next next_is).0 in
           let place : first + (k + 1) ≡ suc (first + k) = omega arith in
-          let arc = walk_arc (is_admitted (length trades) left) (reduced_arc firms trades over contracts) round.found.first
+          let arc = walk_arc (is_admitted (length trades) left)
+          (reduced_arc firms trades over contracts) round.found.first
           round.found.rest round.found.first cost round.found.cycle.walk (first + k) one.trade next.trade
           (ap (λ (xs : List ℕ). slice_get xs (first + k)) (sym round.found.nodes_are) ∙ a)
           (ap (λ (xs : List ℕ). slice_get xs (suc (first + k))) (sym round.found.nodes_are)
           ∙ ap (slice_get listed) (sym place) ∙ b) in
-          arc_linked firms trades over contracts one.trade next.trade arc.0 first_ends second_ends first_is second_is arc.1;
+          arc_linked firms trades over contracts one.trade next.trade arc.0 first_ends second_ends
+          first_is second_is arc.1;
       blocks = all_on_block firms trades over contracts (chain_scale (length trades) contracts) cycle cycle
           (price_for contracts solution.prices) round.outcome (omega (arith, ints))
-          (subst (λ (on : ℕ). IsTaxedEquilibrium firms trades over contracts (chain_scale (length trades) contracts) cycle
+          (subst (λ (on : ℕ). IsTaxedEquilibrium firms trades over contracts
+          (chain_scale (length trades) contracts) cycle
           on (price_for contracts solution.prices)) all_on round.solved.taxed)
           offers (record {
             some = some;

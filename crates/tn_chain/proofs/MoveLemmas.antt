@@ -144,7 +144,8 @@ with_end firms trades network contracts t f k bought end unsigned x moved =
             | inr d ↦
                 has-meet (toggle x k) (signed_bundle trades contracts f moved.firm) i
                 ∙ ap (λ (b : Bool). b && has (signed_bundle trades contracts f moved.firm) i) (has-toggle_other x k i d)
-                ∙ sym (has-meet x (signed_bundle trades contracts f moved.firm) i) ∙ ap (λ (z : ℕ). has z i) moved.unsigned
+                ∙ sym (has-meet x (signed_bundle trades contracts f moved.firm) i)
+                ∙ ap (λ (z : ℕ). has z i) moved.unsigned
           ]);
     }
   where

@@ -36,7 +36,8 @@ admitted_below contracts set n numbers from to all are up order none t there = e
 
 pub solved_among : {P : Type 0} (firm_of : P → Firm) (limit_of : P
     → ℕ) (firms : List Firm) (trades : List Ends) (over : ℤ) (contracts : List Contract) (residual : Traded P)
-    (allowed free numbers all : ℕ) (solution : Solution) → IsNetwork firms trades → IsFeasible trades contracts → ((f : ℕ) (firm : Firm) → slice_get firms f ≡ Some firm → HasOwnBundles firm)
+    (allowed free numbers all : ℕ) (solution : Solution) → IsNetwork firms trades → IsFeasible trades contracts
+    → ((f : ℕ) (firm : Firm) → slice_get firms f ≡ Some firm → HasOwnBundles firm)
     → IsResidual firm_of limit_of firms trades over contracts residual
     → free ≡ size (unsigned (length trades) contracts) → AreNumbers contracts allowed (length trades) numbers
     → AreNumbersUpTo numbers free (length residual.trades) all

@@ -65,7 +65,8 @@ fn solve_among<'a, V: Oracle>(
     requires few { length market.now.trades ≤ most_judged_trades }
     requires outcome { IsOutcomeOf market.now.trades outcome.now.over outcome.now.contracts }
     requires network { network_of V.firm market.now IsNetwork }
-    requires residual { network_of V.firm market.now (IsResidual ⟦<Party<'a, V> as Valuation>⟧.firm ⟦<Party<'a, V> as Valuation>⟧.limit)
+    requires residual { network_of V.firm market.now
+        (IsResidual ⟦<Party<'a, V> as Valuation>⟧.firm ⟦<Party<'a, V> as Valuation>⟧.limit)
         outcome.now.over outcome.now.contracts residual.now }
     requires free { free ≡ size (unsigned (length market.now.trades) outcome.now.contracts) }
     requires made_for { length solver.old.prices ≡ length residual.now.trades }
@@ -95,7 +96,8 @@ fn search<'a, V: Oracle>(
     requires few { length market.now.trades ≤ most_judged_trades }
     requires outcome { IsOutcomeOf market.now.trades outcome.now.over outcome.now.contracts }
     requires rational { network_of V.firm market.now IsRationalOutcome outcome.now.over outcome.now.contracts }
-    requires residual { network_of V.firm market.now (IsResidual ⟦<Party<'a, V> as Valuation>⟧.firm ⟦<Party<'a, V> as Valuation>⟧.limit)
+    requires residual { network_of V.firm market.now
+        (IsResidual ⟦<Party<'a, V> as Valuation>⟧.firm ⟦<Party<'a, V> as Valuation>⟧.limit)
         outcome.now.over outcome.now.contracts residual.now }
     requires graph { IsExchangeGraph (reduced_firms market.now.trades outcome.now.over outcome.now.contracts
         (map V.firm market.now.firms)) market.now.trades 0 graph.now }
@@ -141,7 +143,9 @@ fn taxed_residual<'a, V: Oracle>(
     requires limits { IsWithinLimits V.firm V.limit market.now }
     requires few { length market.now.trades ≤ most_judged_trades }
     requires outcome { IsOutcomeOf market.now.trades outcome.now.over outcome.now.contracts }
-    ensures { IfOk result (network_of V.firm market.now (IsResidual ⟦<Party<'a, V> as Valuation>⟧.firm ⟦<Party<'a, V> as Valuation>⟧.limit)
+    ensures { IfOk result
+        (network_of V.firm market.now
+        (IsResidual ⟦<Party<'a, V> as Valuation>⟧.firm ⟦<Party<'a, V> as Valuation>⟧.limit)
         outcome.now.over outcome.now.contracts) }
 {
     let scale = chain_scale(&outcome.contracts, market.trades());

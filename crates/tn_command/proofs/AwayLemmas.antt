@@ -29,7 +29,8 @@ unusable edits t trade f k stands away =
           (ap (is_away_after edits) same ∙ away)
           ∙ never_both (is_admitted_after edits t) (not (is_away_after edits trade.buyer))
       | inr buys ↦
-          let same : trade.buyer ≡ f = eqb-true trade.buyer f (and_parts (trade.buyer == f) (trade.at_buyer == k) buys).0 in
+          let same : trade.buyer ≡ f = eqb-true trade.buyer f
+          (and_parts (trade.buyer == f) (trade.at_buyer == k) buys).0 in
           ap (λ (b : Bool). (is_admitted_after edits t && not (is_away_after edits trade.seller)) && not b)
           (ap (is_away_after edits) same ∙ away)
           ∙ never (is_admitted_after edits t && not (is_away_after edits trade.seller))

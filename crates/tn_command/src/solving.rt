@@ -64,7 +64,8 @@ pub(crate) fn equilibrium(
     market: &Market<FirmValue>,
 ) -> Result<Arrangement<2>, OutOfMemory>
     requires { length market.now.trades ≤ most_answered_trades }
-    ensures equilibrium { IfOk result (λ at. network_of firm_of market.now IsEquilibrium (pos 1) at.on (price_at at.prices)) }
+    ensures equilibrium { IfOk result
+        (λ at. network_of firm_of market.now IsEquilibrium (pos 1) at.on (price_at at.prices)) }
     ensures one_each { IfOk result (λ at. length at.prices ≡ length market.now.trades) }
     ensures small { IfOk result (λ at. All (λ price. IsAtMost price most_price) at.prices) }
 {

@@ -96,7 +96,8 @@ module _ (nodes : ℕ) (arc : ℕ → ℕ → Option ℤ) (end : ℕ) (cap : Opt
       → HasBy (cell end) cost (length ws) ⊎ IsCapped cap cost
   end_walks inside ws cost avoids walk =
       let same : (cost +ℤ label end) -ℤ label end ≡ cost = omega (arith, ints) in
-      elim (walks nodes arc end (seek.Cycle cap) label cell waits between keeps stopped end ws cost inside avoids walk) [
+      elim (walks nodes arc end
+      (seek.Cycle cap) label cell waits between keeps stopped end ws cost inside avoids walk) [
         | inl has ↦ inl has
         | inr past ↦ subst (λ (z : ℤ). IsPast (seek.Cycle cap) (cell end) z (length ws)) same past
       ]

@@ -144,7 +144,8 @@ impl<C: Costs, const W: usize> Looked<'_, C, W> {
 impl<C: Costs, const W: usize> Costs for Looked<'_, C, W> {
     ghost node_count = { λ it. C.node_count it.among.costs.now };
 
-    ghost arc = { λ it. arcs_among (is_looked_at it.among.null it.node it.among.admitted.now) (C.arc it.among.costs.now) };
+    ghost arc = { λ it. arcs_among (is_looked_at it.among.null it.node it.among.admitted.now)
+        (C.arc it.among.costs.now) };
 
     ghost predecessor_count = { λ it b. C.predecessor_count it.among.costs.now b };
 

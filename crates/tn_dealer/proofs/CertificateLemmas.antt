@@ -222,7 +222,8 @@ taken_listed count buys (first ∷ pairs) own zero pair is x cost next next_cost
                 p;
             enough = worth.enough;
           }))
-      | inr q ↦ absurd (false≢true (sym takes.no_buy ∙ ap (λ p. has x p.buy) (sym (same_Some first pair is)) ∙ q.has_buy))
+      | inr q ↦ absurd (false≢true
+          (sym takes.no_buy ∙ ap (λ p. has x p.buy) (sym (same_Some first pair is)) ∙ q.has_buy))
     ]
 taken_listed count buys (first ∷ pairs) own (suc k) pair is x cost next next_cost takes worth =
     elim (matched_from first pairs x worth.value worth.is) [
@@ -234,8 +235,10 @@ taken_listed count buys (first ∷ pairs) own (suc k) pair is x cost next next_c
           has-toggle_other (toggle x first.buy) first.sell pair.buy (apart pair.buy first.sell q.has_sell takes.no_buy)
           ∙ has-toggle_other x first.buy pair.buy (apart pair.buy first.buy q.has_buy takes.no_buy) ∙ takes.no_buy in
           let out_sell : has (toggle (toggle x first.buy) first.sell) pair.sell ≡ false =
-          has-toggle_other (toggle x first.buy) first.sell pair.sell (apart pair.sell first.sell q.has_sell takes.no_sell)
-          ∙ has-toggle_other x first.buy pair.sell (apart pair.sell first.buy q.has_buy takes.no_sell) ∙ takes.no_sell in
+          has-toggle_other (toggle x first.buy) first.sell pair.sell
+          (apart pair.sell first.sell q.has_sell takes.no_sell)
+          ∙ has-toggle_other x first.buy pair.sell (apart pair.sell first.buy q.has_buy takes.no_sell)
+          ∙ takes.no_sell in
           taken_beside first pair pairs x cost next next_cost worth.value takes worth.enough q
           (taken_listed count buys pairs (own_rest count buys first pairs own) k pair is
           (toggle (toggle x first.buy) first.sell) (neg_ℤ q.value)

@@ -106,7 +106,8 @@ pub(crate) fn firms(
 ) -> Result<Vec<FirmValue>, OutOfMemory>
     requires within { All IsWithin draws.now }
     requires own { (f : ℕ) → f < 16 → AreOwn trades.now draws.now f }
-    ensures { IfOk result (λ firms. map firm_of firms.items ≡ map (firm_in trades.now draws.now) (range_with_len 0 16)) }
+    ensures { IfOk result
+        (λ firms. map firm_of firms.items ≡ map (firm_in trades.now draws.now) (range_with_len 0 16)) }
 {
     let mut firms = Vec::with_capacity(alloc, FIRMS as usize)?;
     for f in 0..FIRMS {

@@ -127,7 +127,8 @@ impl<const W: usize> Solver<W> {
         requires small { (f : ℕ) (v : V) → slice_get market.now.firms f ≡ Some v
             → 2 * V.limit v * (length market.now.trades + 1) ≤ most_cost }
         ensures one_each { length self.new.prices ≡ length market.now.trades }
-        ensures equilibrium { network_of V.firm market.now IsEquilibrium (pos 1) self.new.on (price_at self.new.prices) }
+        ensures equilibrium { network_of V.firm market.now IsEquilibrium (pos 1) self.new.on
+            (price_at self.new.prices) }
         ensures inside { (t : ℕ) → has self.new.on t ≡ true → t < length market.now.trades }
         ensures prices { (bound : ℕ) → ((f : ℕ) (v : V) → slice_get market.now.firms f ≡ Some v → V.limit v ≤ bound)
             → AreSmallPrices (2 * bound * length market.now.trades) self.new.prices }

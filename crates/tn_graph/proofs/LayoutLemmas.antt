@@ -383,7 +383,8 @@ laid_same trades was is_on standing laid agree = record {
       | inl below ↦ ap (λ (b : Bool). option_map (λ trade. raised_end trade (if rises then b else not b))
           (slice_get trades u)) (sym (agree u below))
       | inr past ↦
-          ap (option_map (λ trade. raised_end trade (if rises then was u else not (was u)))) (slice_get_past trades u past)
+          ap (option_map (λ trade. raised_end trade (if rises then was u else not (was u))))
+          (slice_get_past trades u past)
           ∙ sym (ap (option_map (λ trade. raised_end trade (if rises then is_on u else not (is_on u))))
           (slice_get_past trades u past))
     ]

@@ -142,7 +142,8 @@ module _ (firms : List Firm) (trades : List Ends) (network : IsNetwork firms tra
     later = λ g j firm is inside past. has-zero (code trades firm g j);
   }
 
-  mark_one : (f k : ℕ) (firm : Firm) → slice_get firms f ≡ Some firm → k < firm.count → Marked firms trades f k → Marked firms trades f (k + 1)
+  mark_one : (f k : ℕ) (firm : Firm) → slice_get firms f ≡ Some firm → k < firm.count → Marked firms trades f k
+      → Marked firms trades f (k + 1)
   mark_one f k firm is inside marked =
       let new = marked.later f k firm is inside (λ before. elim before [
         | inl p ↦ absurd (omega (arith, p))
@@ -170,10 +171,12 @@ module _ (firms : List Firm) (trades : List Ends) (network : IsNetwork firms tra
   mark_own f firm is zero inside marked = marked
   mark_own f firm is (suc k) inside marked =
       let next : k + 1 ≡ suc k = omega arith in
-      subst (Marked firms trades f) next (mark_one f k firm is (omega (arith, inside)) (mark_own f firm is k (omega (arith, inside))
+      subst (Marked firms trades f) next
+      (mark_one f k firm is (omega (arith, inside)) (mark_own f firm is k (omega (arith, inside))
       marked))
 
-  mark_next : (f : ℕ) (firm : Firm) → slice_get firms f ≡ Some firm → Marked firms trades f firm.count → Marked firms trades (f + 1) 0
+  mark_next : (f : ℕ) (firm : Firm) → slice_get firms f ≡ Some firm → Marked firms trades f firm.count
+      → Marked firms trades (f + 1) 0
   mark_next f firm is marked =
       let counted = marked.counted in
       let next = sum_next (λ firm. firm.count) firms f firm is in

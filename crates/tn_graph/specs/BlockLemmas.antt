@@ -16,11 +16,13 @@ unfolding cost_at
 cost_at-small number cost is =
     elim (cases_Bool (int_le (neg_ℤ (pos most_cost)) number && int_le number (pos most_cost))) [
       | inl within ↦
-          let same : number ≡ cost = same_Some _ _ (sym (ap (λ (b : Bool). if b then Some number else None) within) ∙ is) in
+          let same : number ≡ cost = same_Some _ _
+          (sym (ap (λ (b : Bool). if b then Some number else None) within) ∙ is) in
           let parts = and_parts (int_le (neg_ℤ (pos most_cost)) number) (int_le number (pos most_cost)) within in
           (same, subst (λ (z : ℤ). IsAtMost z most_cost) same (small parts.0 parts.1))
       | inr beyond ↦
-          let none : (if int_le (neg_ℤ (pos most_cost)) number && int_le number (pos most_cost) then Some number else None)
+          let none : (if int_le (neg_ℤ (pos most_cost)) number && int_le number (pos most_cost)
+          then Some number else None)
           ≡ None =
           ap (λ (b : Bool). if b then Some number else None) beyond in
           absurd (cc (none, is))
@@ -79,7 +81,8 @@ PlaceCases graph u v place =
     IsBetweenTrades graph u v place ⊎ (IsToNull graph u v place ⊎ IsFromNull graph u v place)
 
 -- past the trades that are laid out there is null alone
-past_is_null : (graph : Blocks) (u v : ℕ) → u < graph.places.laid → graph.places.laid ≤ v → v < graph.nodes → v ≡ graph.places.laid
+past_is_null : (graph : Blocks) (u v : ℕ) → u < graph.places.laid → graph.places.laid ≤ v → v < graph.nodes
+    → v ≡ graph.places.laid
 past_is_null graph u v inside past within =
     let all = graph.sound.all_laid (omega (arith, inside)) in omega (arith, all, past, within)
 
@@ -101,7 +104,8 @@ nodes_of_place graph u v place is = elim (cases_Bool (nat_lt u graph.nodes && na
         then place_between (up graph u) (down graph v) (nat_lt u graph.places.laid) (nat_lt v graph.places.laid)
         else None
 
-pub place_cases : (graph : Blocks) (u v place : ℕ) → place_of graph.nodes graph.places u v ≡ Some place → PlaceCases graph u v place
+pub place_cases : (graph : Blocks) (u v place : ℕ) → place_of graph.nodes graph.places u v ≡ Some place
+    → PlaceCases graph u v place
 place_cases graph u v place is =
     let found = nodes_of_place graph u v place is in
     by_case (nat_lt u graph.places.laid) (nat_lt v graph.places.laid) refl refl found.0 found.1 found.2
@@ -112,8 +116,10 @@ place_cases graph u v place is =
     to : Spot
     to = down graph v
 
-    by_case : (p q : Bool) → nat_lt u graph.places.laid ≡ p → nat_lt v graph.places.laid ≡ q → u < graph.nodes → v < graph.nodes
-        → place_between from to (nat_lt u graph.places.laid) (nat_lt v graph.places.laid) ≡ Some place → PlaceCases graph u v place
+    by_case : (p q : Bool) → nat_lt u graph.places.laid ≡ p → nat_lt v graph.places.laid ≡ q → u < graph.nodes
+        → v < graph.nodes
+        → place_between from to (nat_lt u graph.places.laid) (nat_lt v graph.places.laid) ≡ Some place
+        → PlaceCases graph u v place
     by_case true true p q u_in v_in e = both (from.start == to.start) refl (sym (at p q) ∙ e)
       where
         at : nat_lt u graph.places.laid ≡ true → nat_lt v graph.places.laid ≡ true
@@ -133,7 +139,8 @@ place_cases graph u v place is =
               else None) s) ∙ h));
         })
         both false s h =
-            let none : (if from.start == to.start then Some (place_in from from.position to.position) else None) ≡ None =
+            let none : (if from.start == to.start then Some (place_in from from.position to.position) else None)
+            ≡ None =
             ap (λ (b : Bool). if b then Some (place_in from from.position to.position) else None) s in
             absurd (cc (none, h))
     by_case true false p q u_in v_in e = inr (inl (record {
@@ -175,7 +182,8 @@ module _ (graph : Blocks) (rises : Bool) (t : ℕ) (below : t < graph.places.lai
   unfolding listed_count
   count_is = ap (λ (b : Bool). if b then here.count + 1 else graph.places.laid) (lt-ltb t graph.places.laid below)
 
-  listed_trade : (k : ℕ) → k < here.count → listed_at graph.places rises t k ≡ get_or graph.places.own (here.own + k) graph.places.laid
+  listed_trade : (k : ℕ) → k < here.count
+      → listed_at graph.places rises t k ≡ get_or graph.places.own (here.own + k) graph.places.laid
   unfolding listed_at
   listed_trade k inside =
       ap (λ (b : Bool). if b then node_in graph.places here k else k) (lt-ltb t graph.places.laid below)
@@ -222,7 +230,8 @@ module _ (graph : Blocks) (rises : Bool) (t : ℕ) (below : t < graph.places.lai
   ]
 
   -- null is listed, and each trade that stands in the block
-  null_listed : (u : ℕ) → u ≡ graph.places.laid → (k : ℕ) × (k < listed_count graph.places rises t) × (listed_at graph.places rises t k ≡ u)
+  null_listed : (u : ℕ) → u ≡ graph.places.laid → (k : ℕ) × (k < listed_count graph.places rises t)
+      × (listed_at graph.places rises t k ≡ u)
   null_listed u null =
       let counted = count_is in
       (here.count, omega (arith, counted), listed_null here.count (omega arith) ∙ sym null)
@@ -239,15 +248,18 @@ module _ (graph : Blocks) (rises : Bool) (t : ℕ) (below : t < graph.places.lai
         (spot_at graph.places (not rises) u).position,
         omega (arith, position, counts, counted),
         listed_trade (spot_at graph.places (not rises) u).position (omega (arith, position, counts))
-            ∙ ap (λ (o : ℕ). get_or graph.places.own (o + (spot_at graph.places (not rises) u).position) graph.places.laid) (sym owns)
+            ∙ ap (λ (o : ℕ). get_or graph.places.own
+            (o + (spot_at graph.places (not rises) u).position) graph.places.laid) (sym owns)
             ∙ there.owns,
       )
 
 -- beside null each trade is listed
-all_count : (graph : Blocks) (rises : Bool) (t : ℕ) → graph.places.laid ≤ t → listed_count graph.places rises t ≡ graph.places.laid
+all_count : (graph : Blocks) (rises : Bool) (t : ℕ) → graph.places.laid ≤ t
+    → listed_count graph.places rises t ≡ graph.places.laid
 unfolding listed_count
 all_count graph rises t past =
-    ap (λ (b : Bool). if b then (spot_at graph.places rises t).count + 1 else graph.places.laid) (le-ltb t graph.places.laid past)
+    ap (λ (b : Bool). if b then (spot_at graph.places rises t).count + 1 else graph.places.laid)
+    (le-ltb t graph.places.laid past)
 
 all_at : (graph : Blocks) (rises : Bool) (t k : ℕ) → graph.places.laid ≤ t → listed_at graph.places rises t k ≡ k
 unfolding listed_at
@@ -255,7 +267,8 @@ all_at graph rises t k past =
     ap (λ (b : Bool). if b then node_in graph.places (spot_at graph.places rises t) k else k)
     (le-ltb t graph.places.laid past)
 
-all_inside : (graph : Blocks) (rises : Bool) (t : ℕ) → graph.places.laid ≤ t → (k : ℕ) → k < listed_count graph.places rises t
+all_inside : (graph : Blocks) (rises : Bool) (t : ℕ) → graph.places.laid ≤ t → (k : ℕ)
+    → k < listed_count graph.places rises t
     → listed_at graph.places rises t k < graph.nodes
 all_inside graph rises t past k within =
     let at = all_at graph rises t k past in
@@ -274,7 +287,8 @@ all_listed graph rises t u past inside =
     (u, omega (arith, inside, counted), all_at graph rises t u past)
 
 pub arcs_of-predecessors : (graph : Blocks) (b : ℕ) → b < graph.nodes
-    → ListsPredecessors graph.nodes (arcs_of graph) b (listed_count graph.places false b) (listed_at graph.places false b)
+    → ListsPredecessors graph.nodes (arcs_of graph) b (listed_count graph.places false b)
+    (listed_at graph.places false b)
 arcs_of-predecessors graph b within = elim (cases_lt b graph.places.laid) [
   | inl below ↦ record {
     inside = block_inside graph false b below;

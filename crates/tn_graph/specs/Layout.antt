@@ -11,7 +11,8 @@ use Rattle.tn_graph.specs.Blocks.{Places, spot_at, no_spot, block_size}
 -- the firm that trade t raises, or the one that it lowers, with its position there, where a test says which trades are
 -- on; none past the trades
 abbrev pub end_of : List Ends → (ℕ → Bool) → Bool → ℕ → Option (ℕ × ℕ)
-end_of trades is_on rises t = option_map (λ trade. raised_end trade (if rises then is_on t else not (is_on t))) (slice_get trades t)
+end_of trades is_on rises t = option_map (λ trade. raised_end trade (if rises then is_on t else not (is_on t)))
+    (slice_get trades t)
 
 -- each trade stands in the blocks of its two firms, and a firm has one block
 pub record IsLaidOut (trades : List Ends) (is_on : ℕ → Bool) (places : Places) : Type 0 where

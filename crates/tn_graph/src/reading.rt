@@ -48,7 +48,8 @@ impl<V: Valuation, const W: usize> Stand<'_, V, W> {
         requires sized { graph.old.nodes ≡ length self.now.market.now.trades + 1 }
         requires laid_out { IsLaidOut self.now.market.now.trades (has self.now.on.now) graph.old.places }
         requires place { i ≤ self.now.count }
-        requires rises { CanRise self.now.count (level self.now.count (V.firm self.now.firm.now).buys self.now.bundle) i }
+        requires rises { CanRise self.now.count
+            (level self.now.count (V.firm self.now.firm.now).buys self.now.bundle) i }
         requires falls { falls ≡ falling (V.firm self.now.firm.now).buys self.now.bundle self.now.count }
         requires room { self.now.count ≤ length worths.now }
         requires worths { HasToggledWorths (V.firm self.now.firm.now).worth (toggle_at self.now.count self.now.bundle i)
@@ -77,7 +78,8 @@ impl<V: Valuation, const W: usize> Stand<'_, V, W> {
         requires sized { graph.old.nodes ≡ length self.now.market.now.trades + 1 }
         requires laid_out { IsLaidOut self.now.market.now.trades (has self.now.on.now) graph.old.places }
         requires place { i ≤ self.now.count }
-        requires rises { CanRise self.now.count (level self.now.count (V.firm self.now.firm.now).buys self.now.bundle) i }
+        requires rises { CanRise self.now.count
+            (level self.now.count (V.firm self.now.firm.now).buys self.now.bundle) i }
         requires falls { falls ≡ falling (V.firm self.now.firm.now).buys self.now.bundle self.now.count }
         requires room { self.now.count ≤ length worths.old }
         ensures improved { Improves (network_of V.firm self.now.market.now exchange_arc self.now.on.now) graph.old

@@ -98,7 +98,8 @@ fn holding_of<const W: usize>(
     requires placed { (k : ℕ) → k < (raw_firm_of firm.now).count → own ends.now f k < length ends.now }
     requires priced { length at.now.prices ≡ length ends.now }
     requires small { All (λ p. IsAtMost p most_price) at.now.prices }
-    ensures told { IfOk result (TellsFirm ends.now (pos 1) at.now.on (price_at at.now.prices) f (raw_firm_of firm.now)) }
+    ensures told { IfOk result
+        (TellsFirm ends.now (pos 1) at.now.on (price_at at.now.prices) f (raw_firm_of firm.now)) }
     ensures within { IfOk result IsWithinHolding }
     ensures worth { IfOk result (λ holding. IfSome holding.worth (λ z. IsAtMost z most_worth)) }
 {

@@ -443,7 +443,8 @@ module _ (count buys : ℕ) (amounts : List ℤ) (sets : List LaminarSet) (masks
       (omega (arith, ints, toggled, amount_is, own_there))
 
 -- the numbers' sum with that of the amounts: the worth, in the range of the code's
-pub record IsSum (count buys : ℕ) (amounts : List ℤ) (sets : List LaminarSet) (y : ℕ) (amount numbers : ℤ) : Type 0 where
+pub record IsSum (count buys : ℕ) (amounts : List ℤ) (sets : List LaminarSet) (y : ℕ)
+    (amount numbers : ℤ) : Type 0 where
   pub number_fits : SFits w128 numbers
   pub fits : SFits w128 (amount +ℤ numbers)
   pub worth : Some (amount +ℤ numbers) ≡ (laminar_sum count buys amounts sets).worth y

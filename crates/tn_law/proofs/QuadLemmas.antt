@@ -276,7 +276,8 @@ moves_from_quad firm x y i j k l q s at up down y_is quads =
             let b = y_whole in
             let c = same_value firm _ _ (move-alike firm.count (move firm.count x i k) q s k l up.alike down.alike
             ∙ x_moved l) in
-            let d = same_value firm _ _ ((places firm.count 0).order (move firm.count x i k) i j ∙ sym (y_moved j l y_is))
+            let d = same_value firm _ _
+            ((places firm.count 0).order (move firm.count x i k) i j ∙ sym (y_moved j l y_is))
             in
             omega (arith, ints, most, a, b, c, d));
       }

@@ -146,7 +146,8 @@ possible_from_admitted firms trades allowed on possible f firm is =
 -- ---- the surplus of admitted trades
 
 -- a set of admitted trades has the same surplus in the market that they admit
-pub admitted_surplus : (firms : List Firm) (trades : List Ends) (allowed on : ℕ) → IsSubset on allowed → surplus_of (admitted trades allowed firms) trades on ≡ surplus_of firms trades on
+pub admitted_surplus : (firms : List Firm) (trades : List Ends) (allowed on : ℕ) → IsSubset on allowed
+    → surplus_of (admitted trades allowed firms) trades on ≡ surplus_of firms trades on
 admitted_surplus firms trades allowed on inside = from 0 firms
   where
     from : (f : ℕ) (firms : List Firm) → surplus_from trades on f (admitted_from trades allowed f firms)

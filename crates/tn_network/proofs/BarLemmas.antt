@@ -74,7 +74,8 @@ none_without firms trades allowed on t kept out =
     (found.0, λ u v c is. found.1 u v c (more_arcs firms trades allowed on t out u v c is))
 
 -- where the trade is off
-still : (firms : List Firm) (trades : List Ends) (allowed on t : ℕ) → IsKept firms trades (toggle allowed t) on → has allowed t ≡ false → has on t ≡ false → IsKept firms trades allowed on
+still : (firms : List Firm) (trades : List Ends) (allowed on t : ℕ) → IsKept firms trades (toggle allowed t) on
+    → has allowed t ≡ false → has on t ≡ false → IsKept firms trades allowed on
 still firms trades allowed on t kept out off = record {
   inside = fewer_inside allowed on t kept.inside off;
   possible = kept.possible;
@@ -161,7 +162,8 @@ along_without firms trades allowed on t vs inside below out member cost cycle =
 -- at two given numbers for the trade: what the cycle comes to is kept, and the numbers keep its arcs
 barred_with : (firms : List Firm) (trades : List Ends) (allowed on t : ℕ) → IsNetwork firms trades → MeetExchange firms
     → IsKept firms trades (toggle allowed t) on
-    → t < length trades → has allowed t ≡ false → has on t ≡ true → (vs : List ℕ) (cost : ℤ) → IsLeastCycle (arcs_with firms trades allowed on t) t vs cost
+    → t < length trades → has allowed t ≡ false → has on t ≡ true → (vs : List ℕ) (cost : ℤ)
+    → IsLeastCycle (arcs_with firms trades allowed on t) t vs cost
     → (two : TwoNumbers t (neg_ℤ cost) (exchange_arc (admitted trades (toggle allowed t) firms) trades on))
     → IsKept firms trades allowed (along (length trades) on (t ∷ vs))
     × KeepsArcs (arcs_among (is_admitted (length trades) allowed)
@@ -231,7 +233,8 @@ barred_with firms trades allowed on t network meet kept below out member vs cost
 
 barred : (firms : List Firm) (trades : List Ends) (allowed on t : ℕ) → IsNetwork firms trades → MeetExchange firms
     → IsKept firms trades (toggle allowed t) on
-    → t < length trades → has allowed t ≡ false → has on t ≡ true → (vs : List ℕ) (cost : ℤ) → IsLeastCycle (arcs_with firms trades allowed on t) t vs cost
+    → t < length trades → has allowed t ≡ false → has on t ≡ true → (vs : List ℕ) (cost : ℤ)
+    → IsLeastCycle (arcs_with firms trades allowed on t) t vs cost
     → IsKept firms trades allowed (along (length trades) on (t ∷ vs))
 barred firms trades allowed on t network meet kept below out member vs cost cycle =
     let numbers = numbers_with firms trades (toggle allowed t) on network kept in
@@ -243,7 +246,8 @@ barred firms trades allowed on t network meet kept below out member vs cost cycl
 barred_labels : (firms : List Firm) (trades : List Ends) (allowed on t : ℕ) → IsNetwork firms trades
     → MeetExchange firms → IsKept firms trades (toggle allowed t) on
     → t < length trades → has allowed t ≡ false → has on t ≡ true → (vs : List ℕ) (cost : ℤ) (label : ℕ → ℤ)
-    → IsLeastCycle (arcs_with firms trades allowed on t) t vs cost → KeepsArcsEntering (arcs_with firms trades allowed on t) t (label t +ℤ cost) label
+    → IsLeastCycle (arcs_with firms trades allowed on t) t vs cost
+    → KeepsArcsEntering (arcs_with firms trades allowed on t) t (label t +ℤ cost) label
     → KeepsArcs (arcs_among (is_admitted (length trades) allowed)
     (exchange_arc firms trades (along (length trades) on (t ∷ vs)))) label
 barred_labels firms trades allowed on t network meet kept below out member vs cost label cycle keeps =

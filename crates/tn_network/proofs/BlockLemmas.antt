@@ -375,4 +375,5 @@ pub equilibrium_is_stable : (firms : List Firm) (trades : List Ends) (d : ℤ) (
     → IsNetwork firms trades → IsEquilibrium firms trades d on prices
     → IsStable firms trades d (contracts_of on prices (length trades))
 equilibrium_is_stable firms trades d on prices network equilibrium =
-    signed_is_stable firms trades d on prices (contracts_of on prices (length trades)) network equilibrium (arrangement_has_contracts (length trades) on prices)
+    signed_is_stable firms trades d on prices (contracts_of on prices (length trades)) network equilibrium
+    (arrangement_has_contracts (length trades) on prices)

@@ -349,7 +349,8 @@ module _ (firms : List Firm) (trades : List Ends) (on : ℕ) (prices : ℕ
                 omega (arith, ints, most, none, same),
           )
 
-  lowest : (distance : ℕ → Option ℤ) → AreDistancesToNull firms trades on distance → (t : ℕ) → t < null → IsLowest firms trades t (option_map neg_ℤ (distance t))
+  lowest : (distance : ℕ → Option ℤ) → AreDistancesToNull firms trades on distance → (t : ℕ) → t < null
+      → IsLowest firms trades t (option_map neg_ℤ (distance t))
   lowest distance are t below = by (distance t) refl (are t below)
     where
       first : AreNumbers (λ u v. arc v u) null (λ v. neg_ℤ (price_of_node null prices v))

@@ -266,7 +266,8 @@ along_inside count allowed on (v ∷ vs) all inside =
 -- a round at two given numbers for the trade: what it comes to is kept, and the numbers keep its arcs
 round_with : (firms : List Firm) (trades : List Ends) (allowed on t : ℕ) → IsNetwork firms trades → MeetExchange firms
     → IsKept firms trades allowed on
-    → t < length trades → has allowed t ≡ false → (vs : List ℕ) (cost : ℤ) → IsLeastCycle (arcs_with firms trades allowed on t) t vs cost → cost ≤ℤ pos 0
+    → t < length trades → has allowed t ≡ false → (vs : List ℕ) (cost : ℤ)
+    → IsLeastCycle (arcs_with firms trades allowed on t) t vs cost → cost ≤ℤ pos 0
     → (two : TwoNumbers t (neg_ℤ cost) (exchange_arc (admitted trades (toggle allowed t) firms) trades on))
     → IsKept firms trades (toggle allowed t) (along (length trades) on (t ∷ vs))
     × KeepsArcs (arcs_among (is_admitted (length trades) (toggle allowed t))
@@ -296,7 +297,8 @@ round_with firms trades allowed on t network meet kept below out vs cost cycle g
 
 turned : (firms : List Firm) (trades : List Ends) (allowed on t : ℕ) → IsNetwork firms trades → MeetExchange firms
     → IsKept firms trades allowed on
-    → t < length trades → has allowed t ≡ false → (vs : List ℕ) (cost : ℤ) → IsLeastCycle (arcs_with firms trades allowed on t) t vs cost → cost ≤ℤ pos 0
+    → t < length trades → has allowed t ≡ false → (vs : List ℕ) (cost : ℤ)
+    → IsLeastCycle (arcs_with firms trades allowed on t) t vs cost → cost ≤ℤ pos 0
     → IsKept firms trades (toggle allowed t) (along (length trades) on (t ∷ vs))
 turned firms trades allowed on t network meet kept below out vs cost cycle gains =
     let same = arcs_are firms trades allowed on t network out (more_inside allowed on t out kept.inside) in
@@ -308,7 +310,8 @@ turned firms trades allowed on t network meet kept below out vs cost cycle gains
 turned_labels : (firms : List Firm) (trades : List Ends) (allowed on t : ℕ) → IsNetwork firms trades
     → MeetExchange firms → IsKept firms trades allowed on
     → t < length trades → has allowed t ≡ false → (vs : List ℕ) (cost : ℤ) (label : ℕ → ℤ)
-    → IsLeastCycle (arcs_with firms trades allowed on t) t vs cost → cost ≤ℤ pos 0 → KeepsArcsEntering (arcs_with firms trades allowed on t) t (label t +ℤ cost) label
+    → IsLeastCycle (arcs_with firms trades allowed on t) t vs cost → cost ≤ℤ pos 0
+    → KeepsArcsEntering (arcs_with firms trades allowed on t) t (label t +ℤ cost) label
     → KeepsArcs (arcs_among (is_admitted (length trades) (toggle allowed t))
     (exchange_arc firms trades (along (length trades) on (t ∷ vs)))) label
 turned_labels firms trades allowed on t network meet kept below out vs cost label cycle gains keeps =

@@ -153,18 +153,20 @@ own_once firms trades network f firm is j k j_inside k_inside same =
         → stands_at trade f k ≡ true → j ≡ k
     at trade there p q =
         elim (or_cases (trade.seller == f && trade.at_seller == j) (trade.buyer == f && trade.at_buyer == j) p) [
-          | inl a ↦ elim (or_cases (trade.seller == f && trade.at_seller == k) (trade.buyer == f && trade.at_buyer == k) q) [
-            | inl b ↦ sym (eqb-true _ _ (and_parts (trade.seller == f) (trade.at_seller == j) a).1)
-                ∙ eqb-true _ _ (and_parts (trade.seller == f) (trade.at_seller == k) b).1
-            | inr b ↦ absurd (apart (eqb-true _ _ (and_parts (trade.seller == f) (trade.at_seller == j) a).0)
-                (eqb-true _ _ (and_parts (trade.buyer == f) (trade.at_buyer == k) b).0))
-          ]
-          | inr a ↦ elim (or_cases (trade.seller == f && trade.at_seller == k) (trade.buyer == f && trade.at_buyer == k) q) [
-            | inl b ↦ absurd (apart (eqb-true _ _ (and_parts (trade.seller == f) (trade.at_seller == k) b).0)
-                (eqb-true _ _ (and_parts (trade.buyer == f) (trade.at_buyer == j) a).0))
-            | inr b ↦ sym (eqb-true _ _ (and_parts (trade.buyer == f) (trade.at_buyer == j) a).1)
-                ∙ eqb-true _ _ (and_parts (trade.buyer == f) (trade.at_buyer == k) b).1
-          ]
+          | inl a ↦ elim (or_cases (trade.seller == f && trade.at_seller == k)
+              (trade.buyer == f && trade.at_buyer == k) q) [
+                | inl b ↦ sym (eqb-true _ _ (and_parts (trade.seller == f) (trade.at_seller == j) a).1)
+                    ∙ eqb-true _ _ (and_parts (trade.seller == f) (trade.at_seller == k) b).1
+                | inr b ↦ absurd (apart (eqb-true _ _ (and_parts (trade.seller == f) (trade.at_seller == j) a).0)
+                    (eqb-true _ _ (and_parts (trade.buyer == f) (trade.at_buyer == k) b).0))
+              ]
+          | inr a ↦ elim (or_cases (trade.seller == f && trade.at_seller == k)
+              (trade.buyer == f && trade.at_buyer == k) q) [
+                | inl b ↦ absurd (apart (eqb-true _ _ (and_parts (trade.seller == f) (trade.at_seller == k) b).0)
+                    (eqb-true _ _ (and_parts (trade.buyer == f) (trade.at_buyer == j) a).0))
+                | inr b ↦ sym (eqb-true _ _ (and_parts (trade.buyer == f) (trade.at_buyer == j) a).1)
+                    ∙ eqb-true _ _ (and_parts (trade.buyer == f) (trade.at_buyer == k) b).1
+              ]
         ]
       where
         apart : trade.seller ≡ f → trade.buyer ≡ f → ⊥

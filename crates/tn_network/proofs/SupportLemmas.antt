@@ -415,7 +415,8 @@ less_null count label u within = elim (cases_lt u count) [
 -- these prices keep the arcs
 pub prices_keep_at : (firms : List Firm) (trades : List Ends) (scale : ℤ) (on : ℕ) (label : ℕ → ℤ)
     → KeepsArcsAt (exchange_arc firms trades on) scale label
-    → KeepsArcsAt (exchange_arc firms trades on) scale (price_of_node (length trades) (λ t. label t -ℤ label (length trades)))
+    → KeepsArcsAt (exchange_arc firms trades on) scale
+    (price_of_node (length trades) (λ t. label t -ℤ label (length trades)))
 prices_keep_at firms trades scale on label keeps u v cost is =
     let inside = arc_within firms trades on u v cost is in
     shift _ _ (label u) (label v) (label (length trades)) (scale *ℤ cost) (less_null (length trades) label u inside.0)
@@ -428,12 +429,14 @@ pub prices_keep : (firms : List Firm) (trades : List Ends) → IsNetwork firms t
     → KeepsArcs (exchange_arc firms trades on) label
     → KeepsArcs (exchange_arc firms trades on) (price_of_node (length trades) (λ t. label t -ℤ label (length trades)))
 prices_keep firms trades network on label keeps =
-    keeps_from_one (exchange_arc firms trades on) (price_of_node (length trades) (λ t. label t -ℤ label (length trades)))
+    keeps_from_one (exchange_arc firms trades on)
+    (price_of_node (length trades) (λ t. label t -ℤ label (length trades)))
     (prices_keep_at firms trades (pos 1) on label (keeps_at_one (exchange_arc firms trades on) label keeps))
 
 -- and where they do, so do the numbers
 pub labels_keep : (firms : List Firm) (trades : List Ends) → IsNetwork firms trades → (on : ℕ) (label : ℕ → ℤ)
-    → KeepsArcs (exchange_arc firms trades on) (price_of_node (length trades) (λ t. label t -ℤ label (length trades))) → KeepsArcs (exchange_arc firms trades on) label
+    → KeepsArcs (exchange_arc firms trades on) (price_of_node (length trades) (λ t. label t -ℤ label (length trades)))
+    → KeepsArcs (exchange_arc firms trades on) label
 labels_keep firms trades network on label keeps u v cost is =
     let inside = arc_within firms trades on u v cost is in
     shift _ _ (label u) (label v) (label (length trades)) cost (less_null (length trades) label u inside.0)
@@ -447,7 +450,8 @@ pub labels_are_supports : (firms : List Firm) (trades : List Ends) (on : ℕ) (l
     → ArePossible firms trades on → KeepsArcs (exchange_arc firms trades on) label
     → IsEquilibrium firms trades (pos 1) on (λ t. label t -ℤ label (length trades))
 labels_are_supports firms trades on label network meet possible keeps =
-    supports_from_arcs firms trades on (λ t. label t -ℤ label (length trades)) network meet possible (prices_keep firms trades network on label keeps)
+    supports_from_arcs firms trades on (λ t. label t -ℤ label (length trades)) network meet possible
+    (prices_keep firms trades network on label keeps)
 
 -- no arc costs more than two worths
 pub arcs_small : (firms : List Firm) (trades : List Ends) → IsNetwork firms trades → (bound on : ℕ)

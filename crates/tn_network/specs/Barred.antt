@@ -30,13 +30,15 @@ pub record OneCycleBarsATrade : Type 0 where
   -- it is barred, and the set is toggled along a cycle of least cost and then of least arcs, whatever that costs
   pub turned : (firms : List Firm) (trades : List Ends) (allowed on t : ℕ) → IsNetwork firms trades → MeetExchange firms
       → IsKept firms trades (toggle allowed t) on
-      → t < length trades → has allowed t ≡ false → has on t ≡ true → (vs : List ℕ) (cost : ℤ) → IsLeastCycle (arcs_with firms trades allowed on t) t vs cost
+      → t < length trades → has allowed t ≡ false → has on t ≡ true → (vs : List ℕ) (cost : ℤ)
+      → IsLeastCycle (arcs_with firms trades allowed on t) t vs cost
       → IsKept firms trades allowed (along (length trades) on (t ∷ vs))
   -- and numbers that keep the arcs with it before, where what enters it finds its number and the cost of the cycle,
   -- keep those without it after it
   pub turned_labels : (firms : List Firm) (trades : List Ends) (allowed on t : ℕ) → IsNetwork firms trades
       → MeetExchange firms → IsKept firms trades (toggle allowed t) on
       → t < length trades → has allowed t ≡ false → has on t ≡ true → (vs : List ℕ) (cost : ℤ) (label : ℕ → ℤ)
-      → IsLeastCycle (arcs_with firms trades allowed on t) t vs cost → KeepsArcsEntering (arcs_with firms trades allowed on t) t (label t +ℤ cost) label
+      → IsLeastCycle (arcs_with firms trades allowed on t) t vs cost
+      → KeepsArcsEntering (arcs_with firms trades allowed on t) t (label t +ℤ cost) label
       → KeepsArcs (arcs_among (is_admitted (length trades) allowed)
       (exchange_arc firms trades (along (length trades) on (t ∷ vs)))) label

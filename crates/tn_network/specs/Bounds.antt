@@ -42,7 +42,8 @@ pub record PriceBoundsAreDistances : Type 0 where
   -- its lowest price is the negative of its distance to null
   pub lowest : (firms : List Firm) (trades : List Ends) (on : ℕ) (prices : ℕ → ℤ) → IsNetwork firms trades
       → MeetExchange firms → IsEquilibrium firms trades (pos 1) on prices
-      → (distance : ℕ → Option ℤ) → AreDistancesToNull firms trades on distance → (t : ℕ) → t < length trades → IsLowest firms trades t (option_map neg_ℤ (distance t))
+      → (distance : ℕ → Option ℤ) → AreDistancesToNull firms trades on distance → (t : ℕ) → t < length trades
+      → IsLowest firms trades t (option_map neg_ℤ (distance t))
   -- the highest prices, where each trade has one, support the set together
   pub highs : (firms : List Firm) (trades : List Ends) (on : ℕ) (prices : ℕ → ℤ) → IsNetwork firms trades
       → MeetExchange firms → IsEquilibrium firms trades (pos 1) on prices

@@ -49,4 +49,5 @@ NegativeCyclesForbidSupports = (firms : List Firm) (trades : List Ends) (on u : 
 abbrev pub EquilibriaAreStable : Type 0
 EquilibriaAreStable = (firms : List Firm) (trades : List Ends) (scale : ℤ) (on : ℕ) (prices : ℕ → ℤ)
     → IsNetwork firms trades
-    → pos 1 ≤ℤ scale → IsEquilibrium firms trades scale on prices → IsStable firms trades scale (contracts_of on prices (length trades))
+    → pos 1 ≤ℤ scale → IsEquilibrium firms trades scale on prices
+    → IsStable firms trades scale (contracts_of on prices (length trades))

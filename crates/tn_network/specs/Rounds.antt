@@ -35,15 +35,16 @@ pub record OneCycleForEachTrade : Type 0 where
       → KeepsArcs (arcs_among (is_admitted (length trades) (toggle allowed t)) (exchange_arc firms trades on)) label
   -- otherwise it is admitted, and the set is toggled along a cycle of least cost and then of least arcs
   pub turned : (firms : List Firm) (trades : List Ends) (allowed on t : ℕ) → IsNetwork firms trades → MeetExchange firms
-      → IsKept firms trades allowed on
-      → t < length trades → has allowed t ≡ false → (vs : List ℕ) (cost : ℤ) → IsLeastCycle (arcs_with firms trades allowed on t) t vs cost → cost ≤ℤ pos 0
+      → IsKept firms trades allowed on → t < length trades → has allowed t ≡ false
+      → (vs : List ℕ) (cost : ℤ) → IsLeastCycle (arcs_with firms trades allowed on t) t vs cost → cost ≤ℤ pos 0
       → IsKept firms trades (toggle allowed t) (along (length trades) on (t ∷ vs))
   -- and numbers that keep the arcs with it before, where what enters it finds its number and the cost of the cycle,
   -- keep those among the admitted trades and null after it
   pub turned_labels : (firms : List Firm) (trades : List Ends) (allowed on t : ℕ) → IsNetwork firms trades
       → MeetExchange firms → IsKept firms trades allowed on
       → t < length trades → has allowed t ≡ false → (vs : List ℕ) (cost : ℤ) (label : ℕ → ℤ)
-      → IsLeastCycle (arcs_with firms trades allowed on t) t vs cost → cost ≤ℤ pos 0 → KeepsArcsEntering (arcs_with firms trades allowed on t) t (label t +ℤ cost) label
+      → IsLeastCycle (arcs_with firms trades allowed on t) t vs cost → cost ≤ℤ pos 0
+      → KeepsArcsEntering (arcs_with firms trades allowed on t) t (label t +ℤ cost) label
       → KeepsArcs (arcs_among (is_admitted (length trades) (toggle allowed t))
       (exchange_arc firms trades (along (length trades) on (t ∷ vs)))) label
   -- in the end numbers that keep the arcs among the admitted trades and null are prices, less null's, of an equilibrium

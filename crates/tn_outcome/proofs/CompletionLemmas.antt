@@ -212,20 +212,24 @@ completes_from_labels firms trades over contracts label outcome keeps = record {
       (completed_are trades contracts label).on contract.trade (signed_by contracts k contract.trade contract is refl)
       ∙ price_of_contract contracts outcome.feasible.once k contract is;
   equilibrium = λ f firm is.
-      let mirror = firm_mirror firms trades over contracts outcome (completed trades contracts label) (λ t. label t -ℤ label (length trades)) (completed_are trades contracts label) f firm is in
+      let mirror = firm_mirror firms trades over contracts outcome (completed trades contracts label)
+      (λ t. label t -ℤ label (length trades)) (completed_are trades contracts label) f firm is in
       let laws = priced_meets firms trades over contracts outcome (completed trades contracts label) f firm is in (
         signed_value firms trades over contracts outcome f firm is,
         best_from_unmoved_mirror (priced trades over (completed trades contracts label) f firm)
-            (priced trades (pos 1) (λ t. label t -ℤ label (length trades)) f (reduced trades over contracts f firm)).worth
+            (priced trades (pos 1) (λ t. label t -ℤ label (length trades)) f
+            (reduced trades over contracts f firm)).worth
             (signed_bundle trades contracts f firm) (signed_value firms trades over contracts outcome f firm is) laws.0
             laws.1 mirror
-            (nothing_unmoved (reduced_firms trades over contracts firms) trades (reduced_network firms trades over contracts outcome.network) (λ t. label t -ℤ label (length trades))
+            (nothing_unmoved (reduced_firms trades over contracts firms) trades
+            (reduced_network firms trades over contracts outcome.network) (λ t. label t -ℤ label (length trades))
             (prices_keep (reduced_firms trades over contracts firms) trades
             (reduced_network firms trades over contracts outcome.network) 0 label keeps)
             f (reduced trades over contracts f firm) (reduced_is trades over contracts firms f firm is)
             (signed_value firms trades over contracts outcome f firm is)
             (mirror-empty (priced trades over (completed trades contracts label) f firm)
-            (priced trades (pos 1) (λ t. label t -ℤ label (length trades)) f (reduced trades over contracts f firm)).worth
+            (priced trades (pos 1) (λ t. label t -ℤ label (length trades)) f
+            (reduced trades over contracts f firm)).worth
             (signed_bundle trades contracts f firm) (signed_value firms trades over contracts outcome f firm is)
             mirror)),
       );

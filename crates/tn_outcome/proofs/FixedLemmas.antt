@@ -82,7 +82,8 @@ fixing_parts price null u v cost is = elim (cases_Bool (u == null)) [
     back = if v == null then option_map neg_ℤ (price u) else None
 
     without : (u == null) ≡ false → (if v == null then option_map neg_ℤ (price u) else None) ≡ Some cost
-    without d = sym (ap (λ (b : Bool). if b then price v else (if v == null then option_map neg_ℤ (price u) else None)) d) ∙ is
+    without d =
+        sym (ap (λ (b : Bool). if b then price v else (if v == null then option_map neg_ℤ (price u) else None)) d) ∙ is
 
 -- where numbers keep the arcs of the graph with fixed prices, they have these prices
 pub fixed_from_arcs : (scale : ℤ) (price : ℕ → Option ℤ) (null : ℕ) (arc : ℕ → ℕ → Option ℤ) (label : ℕ → ℤ)
@@ -219,7 +220,8 @@ null_unpriced trades contracts feasible =
 
 completes_from_fixed : (firms : List Firm) (trades : List Ends) (over : ℤ) (contracts : List Contract) (label : ℕ → ℤ)
     → IsPossibleOutcome firms trades over contracts
-    → KeepsArcs (fixed_arc firms trades over contracts) label → Completes firms trades over contracts (λ t. label t -ℤ label (length trades))
+    → KeepsArcs (fixed_arc firms trades over contracts) label
+    → Completes firms trades over contracts (λ t. label t -ℤ label (length trades))
 completes_from_fixed firms trades over contracts label outcome keeps = record {
   agree = λ k contract is.
       less (label contract.trade) (label (length trades)) (signed_price contracts contract.trade) contract.price
@@ -227,7 +229,8 @@ completes_from_fixed firms trades over contracts label outcome keeps = record {
       (priced contracts contract.trade (signed_by contracts k contract.trade contract is refl)))
       (price_of_contract contracts outcome.feasible.once k contract is);
   equilibrium =
-      supports_at_scale firms trades over (signed (length trades) contracts) (λ t. label t -ℤ label (length trades)) outcome.network outcome.meet
+      supports_at_scale firms trades over (signed (length trades) contracts)
+      (λ t. label t -ℤ label (length trades)) outcome.network outcome.meet
       (let from_one = outcome.from_one in omega (arith, ints, from_one)) outcome.possible
       (prices_keep_at firms trades over (signed (length trades) contracts) label fixed.keeps);
 }

@@ -51,7 +51,8 @@ best_among : (firms : List Firm) (trades : List Ends) (over : ℤ) (contracts : 
     (outcome : IsRationalOutcome firms trades over contracts) (allowed : ℕ) (label : ℕ → ℤ)
     → KeepsArcs (exchange_arc (admitted trades allowed (reduced_firms trades over contracts firms)) trades 0) label
     → (f : ℕ) (firm : Firm) (is : slice_get firms f ≡ Some firm)
-    → IsBest (priced trades (pos 1) (λ t. label t -ℤ label (length trades)) f (among (part trades f firm.count allowed) (reduced trades over contracts f firm))).worth 0
+    → IsBest (priced trades (pos 1) (λ t. label t -ℤ label (length trades)) f
+    (among (part trades f firm.count allowed) (reduced trades over contracts f firm))).worth 0
     (signed_value firms trades over contracts outcome f firm is)
 best_among firms trades over contracts outcome allowed label keeps f firm is =
     subst (λ (w : ℕ → Option ℤ). IsBest w 0 value) (sym same)
@@ -85,9 +86,13 @@ best_among firms trades over contracts outcome allowed label keeps f firm is =
     small : Firm
     small = priced trades (pos 1) (λ t. label t -ℤ label (length trades)) f (reduced trades over contracts f firm)
 
-    same : (priced trades (pos 1) (λ t. label t -ℤ label (length trades)) f (among (part trades f firm.count allowed) (reduced trades over contracts f firm))).worth
-        ≡ (among (part trades f firm.count allowed) (priced trades (pos 1) (λ t. label t -ℤ label (length trades)) f (reduced trades over contracts f firm))).worth
-    same = priced_among (pos 1) (paid_at trades (λ t. label t -ℤ label (length trades)) f firm) (part trades f firm.count allowed) (reduced trades over contracts f firm)
+    same : (priced trades (pos 1) (λ t. label t -ℤ label (length trades)) f
+        (among (part trades f firm.count allowed) (reduced trades over contracts f firm))).worth
+        ≡ (among (part trades f firm.count allowed)
+        (priced trades (pos 1) (λ t. label t -ℤ label (length trades)) f
+        (reduced trades over contracts f firm))).worth
+    same = priced_among (pos 1) (paid_at trades (λ t. label t -ℤ label (length trades)) f firm)
+        (part trades f firm.count allowed) (reduced trades over contracts f firm)
 
     network : IsNetwork (admitted trades allowed (reduced_firms trades over contracts firms)) trades
     network = admitted_network (reduced_firms trades over contracts firms) trades allowed
@@ -95,12 +100,16 @@ best_among firms trades over contracts outcome allowed label keeps f firm is =
 
     mirror : IsMirror (among (union (signed_bundle trades contracts f firm) (part trades f firm.count allowed))
         (priced trades over (completed trades contracts label) f firm))
-        (among (part trades f firm.count allowed) (priced trades (pos 1) (λ t. label t -ℤ label (length trades)) f (reduced trades over contracts f firm))).worth
+        (among (part trades f firm.count allowed)
+        (priced trades (pos 1) (λ t. label t -ℤ label (length trades)) f
+        (reduced trades over contracts f firm))).worth
         (signed_bundle trades contracts f firm) (signed_value firms trades over contracts outcome f firm is)
     mirror = mirror-among (priced trades over (completed trades contracts label) f firm)
-        (priced trades (pos 1) (λ t. label t -ℤ label (length trades)) f (reduced trades over contracts f firm)) (signed_bundle trades contracts f firm) (part trades f firm.count allowed)
+        (priced trades (pos 1) (λ t. label t -ℤ label (length trades)) f (reduced trades over contracts f firm))
+        (signed_bundle trades contracts f firm) (part trades f firm.count allowed)
         (signed_value firms trades over contracts outcome f firm is)
-        (firm_mirror firms trades over contracts outcome (completed trades contracts label) (λ t. label t -ℤ label (length trades)) (completed_are trades contracts label) f firm is)
+        (firm_mirror firms trades over contracts outcome (completed trades contracts label)
+        (λ t. label t -ℤ label (length trades)) (completed_are trades contracts label) f firm is)
 
     laws : HasOwnBundles (among (union (signed_bundle trades contracts f firm) (part trades f firm.count allowed))
         (priced trades over (completed trades contracts label) f firm))
@@ -145,7 +154,8 @@ numbers_leave_no_more firms trades over contracts allowed label outcome keeps = 
         (sym (arcs_admitted (reduced_firms trades over contracts firms) trades network allowed 0 (empty_inside allowed)
         u v) ∙ is)
 
-    equilibrium : IsEquilibrium (admitted trades allowed (reduced_firms trades over contracts firms)) trades (pos 1) 0 (λ t. label t -ℤ label (length trades))
+    equilibrium : IsEquilibrium (admitted trades allowed (reduced_firms trades over contracts firms)) trades (pos 1) 0
+        (λ t. label t -ℤ label (length trades))
     equilibrium f other other_is =
         let first = admitted_from_firm trades allowed (reduced_firms trades over contracts firms) f other other_is in
         let second = reduced_from_firm trades over contracts firms f first.0 first.1 in
@@ -153,13 +163,16 @@ numbers_leave_no_more firms trades over contracts allowed label outcome keeps = 
         first.2 ∙ ap (λ (z : Firm). among (part trades f z.count allowed) z) second.2 in
         subst (λ (z : Firm). HasBest trades (pos 1) 0 (λ t. label t -ℤ label (length trades)) f z) (sym same) (
           signed_value firms trades over contracts outcome f second.0 second.1,
-          subst (λ (x : ℕ). IsBest (priced trades (pos 1) (λ t. label t -ℤ label (length trades)) f (among (part trades f second.0.count allowed) (reduced trades over contracts f second.0))).worth x
+          subst (λ (x : ℕ). IsBest
+              (priced trades (pos 1) (λ t. label t -ℤ label (length trades)) f
+              (among (part trades f second.0.count allowed) (reduced trades over contracts f second.0))).worth x
               (signed_value firms trades over contracts outcome f second.0 second.1))
               (sym (no_part trades f second.0.count))
               (best_among firms trades over contracts outcome allowed label kept f second.0 second.1),
         )
 
     efficient : IsEfficient (admitted trades allowed (reduced_firms trades over contracts firms)) trades 0
-    efficient = equilibrium_is_efficient (admitted trades allowed (reduced_firms trades over contracts firms)) trades (pos 1) 0 (λ t. label t -ℤ label (length trades))
+    efficient = equilibrium_is_efficient (admitted trades allowed (reduced_firms trades over contracts firms)) trades
+        (pos 1) 0 (λ t. label t -ℤ label (length trades))
         (admitted_network (reduced_firms trades over contracts firms) trades allowed network) (omega (arith, ints))
         equilibrium

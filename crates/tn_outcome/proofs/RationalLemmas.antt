@@ -360,7 +360,8 @@ rational_from_bundles firms trades over contracts f firm signer value best = rec
       (sym (part_is_bundle firms trades over contracts f firm signer y y_part) ∙ y_is);
 }
 
-pub rational_by_bundles : (firms : List Firm) (trades : List Ends) (over : ℤ) (contracts : List Contract) → IsNetwork firms trades → IsFeasible trades contracts
+pub rational_by_bundles : (firms : List Firm) (trades : List Ends) (over : ℤ) (contracts : List Contract)
+    → IsNetwork firms trades → IsFeasible trades contracts
     → IsIndividuallyRational firms trades over contracts ↔ HaveBestSigned firms trades over contracts
 rational_by_bundles firms trades over contracts network feasible = (
   λ rational f firm is.

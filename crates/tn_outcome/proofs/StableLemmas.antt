@@ -35,7 +35,8 @@ completed_contracts firms trades over contracts prices feasible completes = reco
   once = feasible.once;
 }
 
-pub completed_is_stable : (firms : List Firm) (trades : List Ends) (over : ℤ) (contracts : List Contract) (prices : ℕ → ℤ) → IsNetwork firms trades → IsFeasible trades contracts
+pub completed_is_stable : (firms : List Firm) (trades : List Ends) (over : ℤ) (contracts : List Contract)
+    (prices : ℕ → ℤ) → IsNetwork firms trades → IsFeasible trades contracts
     → Completes firms trades over contracts prices → IsStable firms trades over contracts
 completed_is_stable firms trades over contracts prices network feasible completes =
     signed_is_stable firms trades over (signed (length trades) contracts) prices contracts network completes.equilibrium

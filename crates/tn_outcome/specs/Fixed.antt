@@ -50,7 +50,8 @@ pub record CompletionIsFixedLabels : Type 0 where
   -- numbers that keep its arcs are such prices, once null's is taken off
   pub from_labels : (firms : List Firm) (trades : List Ends) (over : ℤ) (contracts : List Contract) (label : ℕ → ℤ)
       → IsPossibleOutcome firms trades over contracts
-      → KeepsArcs (fixed_arc firms trades over contracts) label → Completes firms trades over contracts (λ t. label t -ℤ label (length trades))
+      → KeepsArcs (fixed_arc firms trades over contracts) label
+      → Completes firms trades over contracts (λ t. label t -ℤ label (length trades))
   -- and such prices, with 0 for null, keep its arcs
   pub to_labels : (firms : List Firm) (trades : List Ends) (over : ℤ) (contracts : List Contract) (prices : ℕ → ℤ)
       → IsPossibleOutcome firms trades over contracts

@@ -16,7 +16,8 @@ use Rattle.tn_outcome.specs.Rational.{IsRationalOutcome}
 
 -- an outcome is individually rational by lists of contracts exactly where it is so by bundles
 abbrev pub RationalByBundles : Type 0
-RationalByBundles = (firms : List Firm) (trades : List Ends) (over : ℤ) (contracts : List Contract) → IsNetwork firms trades → IsFeasible trades contracts
+RationalByBundles = (firms : List Firm) (trades : List Ends) (over : ℤ) (contracts : List Contract)
+    → IsNetwork firms trades → IsFeasible trades contracts
     → IsIndividuallyRational firms trades over contracts ↔ HaveBestSigned firms trades over contracts
 
 -- a firm's reduced worth of unsigned trades is what the definition by bundles says
@@ -43,7 +44,8 @@ ReducedArcsAreUnsigned =
 -- prices by numbers of the nodes: a signed trade has the price of its contract, and an unsigned one its number less
 -- null's
 abbrev pub completed : List Ends → List Contract → (ℕ → ℤ) → ℕ → ℤ
-completed trades contracts label t = if is_signed contracts t then signed_price contracts t else label t -ℤ label (length trades)
+completed trades contracts label t = if is_signed contracts t then signed_price contracts t
+    else label t -ℤ label (length trades)
 
 pub record CompletionIsLabels : Type 0 where
   -- some prices complete an individually rational outcome exactly where no closed walk of the reduced graph is negative
@@ -66,14 +68,16 @@ pub record CompletionIsLabels : Type 0 where
 abbrev pub CompletedOutcomesAreStable : Type 0
 CompletedOutcomesAreStable = (firms : List Firm) (trades : List Ends) (over : ℤ) (contracts : List Contract) (prices : ℕ
     → ℤ) → IsNetwork firms trades
-    → pos 1 ≤ℤ over → IsFeasible trades contracts → Completes firms trades over contracts prices → IsStable firms trades over contracts
+    → pos 1 ≤ℤ over → IsFeasible trades contracts → Completes firms trades over contracts prices
+    → IsStable firms trades over contracts
 
 -- with no unsigned trade the firms have a sum of reduced worths, and no set of the allowed trades has more
 pub record HasNoMore (firms : List Firm) (trades : List Ends) (over : ℤ) (contracts : List Contract)
     (allowed : ℕ) : Type 0 where
   pub least : ℤ
   pub is : surplus_of (reduced_firms trades over contracts firms) trades 0 ≡ Some least
-  pub most : (on : ℕ) (other : ℤ) → IsSubset on allowed → surplus_of (reduced_firms trades over contracts firms) trades on ≡ Some other → other ≤ℤ least
+  pub most : (on : ℕ) (other : ℤ) → IsSubset on allowed
+      → surplus_of (reduced_firms trades over contracts firms) trades on ≡ Some other → other ≤ℤ least
 
 abbrev pub NumbersLeaveNoMore : Type 0
 NumbersLeaveNoMore =

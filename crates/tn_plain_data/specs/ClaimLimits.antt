@@ -52,7 +52,8 @@ IsClaimWithin firms trades (Better at f x gain) = (at.on < 2 ^ length trades)
     × IsNumberWithin gain
 IsClaimWithin firms trades (Impossible on f) = (on < 2 ^ length trades) × (f < length firms)
 IsClaimWithin firms trades Accepted = Unit {0}
-IsClaimWithin firms trades (ExchangeFails f x y at) = IsFirmWith firms f (λ firm. (x < 2 ^ firm.count) × (y < 2 ^ firm.count) × IfSome at (λ k. k < firm.count))
+IsClaimWithin firms trades (ExchangeFails f x y at) = IsFirmWith firms f
+    (λ firm. (x < 2 ^ firm.count) × (y < 2 ^ firm.count) × IfSome at (λ k. k < firm.count))
 IsClaimWithin firms trades (Supported on prices) = (on < 2 ^ length trades)
     × ArePricesWithin (length trades) most_number prices
 IsClaimWithin firms trades (Cycle on nodes cost) = (on < 2 ^ length trades) × AreNodesWithin (length trades) nodes

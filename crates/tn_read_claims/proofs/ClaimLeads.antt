@@ -148,7 +148,8 @@ module _ (listed : Listed) (trades : AreTrades listed) (firms : List Firm) (name
       (bundle_lead f X (get (codes "x") claim)) (λ x own_x.
       leads_bind (IsOwn f) IsWithin (claimed_bundle listed f Y (get (codes "y") claim)) _
       (bundle_lead f Y (get (codes "y") claim)) (λ y own_y.
-      leads_ok IsWithin (ExchangeFails f x y at) (own_firm f (λ m. (x < 2 ^ m) × (y < 2 ^ m) × IfSome at (λ k. k < m)) known (own_x, own_y, own_at)))))))
+      leads_ok IsWithin (ExchangeFails f x y at)
+      (own_firm f (λ m. (x < 2 ^ m) × (y < 2 ^ m) × IfSome at (λ k. k < m)) known (own_x, own_y, own_at)))))))
 
   supported_leads : (top claim : Data) → Leads IsWithin (supported_of listed top claim)
   unfolding supported_of

@@ -81,7 +81,8 @@ module _ (listed : Listed) (top claim : Data) where
       (λ x.
       leads_after (IsOf ExchangeFailsKind listed.limits.nodes) (claimed_bundle listed f Y (get (codes "y") claim)) _
       (λ y.
-      leads_ok (IsOf ExchangeFailsKind listed.limits.nodes) (ExchangeFails f x y at) (record { is = refl; few = omega arith }))))))
+      leads_ok (IsOf ExchangeFailsKind listed.limits.nodes) (ExchangeFails f x y at)
+      (record { is = refl; few = omega arith }))))))
 
   supported_is : Leads (IsOf SupportedKind listed.limits.nodes) (supported_of listed top claim)
   unfolding supported_of

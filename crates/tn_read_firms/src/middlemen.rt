@@ -60,7 +60,8 @@ fn keep(
     value: Option<&Value>,
     place: &[PlaceStep],
 ) -> Result<Option<i128>, ReadError>
-    ensures { Gives (λ keep. keep) result (keep_at head.now.limits place.now (option_map (λ v. view v.now) value.entry)) }
+    ensures { Gives (λ keep. keep) result
+        (keep_at head.now.limits place.now (option_map (λ v. view v.now) value.entry)) }
 {
     match value {
         None => Ok(None),

@@ -24,7 +24,8 @@ impl Model for Head {
 
     ghost view = { λ head. record { limits = head.limits; names = head.names; ends = head.ends.items } };
 
-    ghost invariant = { λ head. AreTrades (record { limits = head.limits; names = head.names; ends = head.ends.items }) };
+    ghost invariant = { λ head. AreTrades
+        (record { limits = head.limits; names = head.names; ends = head.ends.items }) };
 }
 
 impl Head {

@@ -87,13 +87,16 @@ pub worth_there : (worth : Option ℤ) (g : ℤ → ℤ) (value : ℤ) → optio
 worth_there (Some a) g value e = (a, refl)
 worth_there None g value e = absurd (none-some value e)
 
-module _ (top : Data) (doc : DocumentData) (at : Arranged) (from : IsReadFrom Arrangement top doc) (extra : doc.extra ≡ arrangement at) where
+module _ (top : Data) (doc : DocumentData) (at : Arranged) (from : IsReadFrom Arrangement top doc)
+    (extra : doc.extra ≡ arrangement at) where
   -- the arrangement is still there
   part : (value : Data) → arrangement_of (listed_in from.parts.limits doc) (with_claim value top) ≡ Ok at
   part value = arrangement_other (listed_in from.parts.limits doc) value top
       ∙ arranged (listed_in from.parts.limits doc) top at (from.parts.extra ∙ ap Ok extra)
 
-  equilibrium_replays : (surplus : ℤ) → Judges doc.firms doc.ends (pos 1) at.on (price_at at.prices) (Equilibrium surplus) → FitsClaim (Equilibrium surplus) → IsReplayed top doc (Equilibrium surplus)
+  equilibrium_replays : (surplus : ℤ)
+      → Judges doc.firms doc.ends (pos 1) at.on (price_at at.prices) (Equilibrium surplus)
+      → FitsClaim (Equilibrium surplus) → IsReplayed top doc (Equilibrium surplus)
   equilibrium_replays surplus judges within =
       let said = Equilibrium surplus in
       replayed Arrangement top doc from said (codes "equilibrium")
@@ -103,7 +106,9 @@ module _ (top : Data) (doc : DocumentData) (at : Arranged) (from : IsReadFrom Ar
       (part (answer_data doc.names said)) within)
       judges
 
-  better_replays : (f x : ℕ) (gain : ℤ) (is : IsFirstBettered doc.firms doc.ends (pos 1) at.on (price_at at.prices) f x gain) → FitsClaim (Equilibrium gain)
+  better_replays : (f x : ℕ) (gain : ℤ)
+      (is : IsFirstBettered doc.firms doc.ends (pos 1) at.on (price_at at.prices) f x gain)
+      → FitsClaim (Equilibrium gain)
       → IsReplayed top doc (Better f (trades_of doc.ends f is.firm.count x) gain)
   better_replays f x gain is within =
       let said = Better f (trades_of doc.ends f is.firm.count x) gain in
@@ -129,7 +134,8 @@ module _ (top : Data) (doc : DocumentData) (at : Arranged) (from : IsReadFrom Ar
         is.gains,
       )
 
-  impossible_replays : (f : ℕ) → IsFirstImpossible doc.firms doc.ends (pos 1) at.on (price_at at.prices) f → IsReplayed top doc (Impossible f)
+  impossible_replays : (f : ℕ) → IsFirstImpossible doc.firms doc.ends (pos 1) at.on (price_at at.prices) f
+      → IsReplayed top doc (Impossible f)
   impossible_replays f is =
       let said = Impossible f in
       let value = answer_data doc.names said in
@@ -141,7 +147,8 @@ module _ (top : Data) (doc : DocumentData) (at : Arranged) (from : IsReadFrom Ar
       (is.firm, is.is, is.impossible)
 
 -- the answer of `check`
-judged : (top : Data) (doc : DocumentData) (at : Arranged) (said : Said) → IsReadFrom Arrangement top doc → doc.extra ≡ arrangement at
+judged : (top : Data) (doc : DocumentData) (at : Arranged) (said : Said) → IsReadFrom Arrangement top doc
+    → doc.extra ≡ arrangement at
     → Judges doc.firms doc.ends (pos 1) at.on (price_at at.prices) said → FitsClaim said → IsReplayed top doc said
 judged top doc at (Equilibrium surplus) from extra judges within =
     equilibrium_replays top doc at from extra surplus judges within
@@ -189,7 +196,8 @@ module _ (top : Data) (doc : DocumentData) (from : IsReadFrom Raw top doc) where
       (firm, is, fails)
 
 -- a firm that fails, with its first triple
-failed : (top : Data) (doc : DocumentData) (f : ℕ) (x y : List ℕ) (at : Option ℕ) → IsReadFrom Raw top doc → IsFirstToFail doc.firms doc.ends f x y at → IsReplayed top doc (ExchangeFails f x y at)
+failed : (top : Data) (doc : DocumentData) (f : ℕ) (x y : List ℕ) (at : Option ℕ) → IsReadFrom Raw top doc
+    → IsFirstToFail doc.firms doc.ends f x y at → IsReplayed top doc (ExchangeFails f x y at)
 failed top doc f x y at from first =
     subst (λ l. IsReplayed top doc (ExchangeFails f l y at)) (sym first.x_is)
     (subst (λ l. IsReplayed top doc (ExchangeFails f (trades_of doc.ends f first.firm.count first.triple.x) l at))

@@ -163,7 +163,8 @@ module _ (top : Data) (doc : DocumentData) (on : ℕ) (from : IsReadFrom On top 
       (omega (arith, most, few, enough)) within (there On top doc from said) (on_there value))
       (cycle.possible, goes_round doc.firms doc.ends from.is.network on nodes cost cycle, cycle.negative)
 
-supported : (top : Data) (doc : DocumentData) (on : ℕ) (said : Said) → IsReadFrom On top doc → doc.extra ≡ on_alone on → SupportsSet doc.firms doc.ends on said → FitsClaim said → IsReplayed top doc said
+supported : (top : Data) (doc : DocumentData) (on : ℕ) (said : Said) → IsReadFrom On top doc → doc.extra ≡ on_alone on
+    → SupportsSet doc.firms doc.ends on said → FitsClaim said → IsReplayed top doc said
 supported top doc on (Impossible f) from extra supports within = unable_replays top doc on from extra f supports.0
 supported top doc on (Supported listed prices ends) from extra supports within =
     supported_replays top doc on from extra listed prices ends supports within
@@ -248,7 +249,8 @@ module _ (top : Data) (doc : DocumentData) (from : IsReadFrom Market top doc) wh
             (sym (surplus-same doc.firms doc.ends from.is.network set) ∙ is),
       )
 
-solved : (top : Data) (doc : DocumentData) (said : Said) → IsReadFrom Market top doc → Solves doc.firms doc.ends said → FitsClaim said → IsReplayed top doc said
+solved : (top : Data) (doc : DocumentData) (said : Said) → IsReadFrom Market top doc → Solves doc.firms doc.ends said
+    → FitsClaim said → IsReplayed top doc said
 solved top doc (Solved on prices surplus ends) from is within =
     subst (λ l. IsReplayed top doc (Solved l prices surplus ends)) (ap (trades_on is.0.set) from.is.trades_named
     ∙ sym is.0.on_is)

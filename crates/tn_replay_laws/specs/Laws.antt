@@ -21,7 +21,8 @@ use Rattle.tn_replay_laws.specs.Replayed.{IsReplayed}
 
 -- the verdict on the document's arrangement
 abbrev pub VerdictsReplay : Type 0
-VerdictsReplay = (top : Data) (doc : DocumentData) (at : Arranged) (said : Said) → document_of Arrangement top ≡ Ok doc → doc.extra ≡ arrangement at
+VerdictsReplay = (top : Data) (doc : DocumentData) (at : Arranged) (said : Said) → document_of Arrangement top ≡ Ok doc
+    → doc.extra ≡ arrangement at
     → Judges doc.firms doc.ends (pos 1) at.on (price_at at.prices) said → FitsClaim said → IsReplayed top doc said
 
 -- that every firm meets the exchange property, or the first triple of the first firm that doesn't
@@ -35,12 +36,14 @@ pub record TestsReplay : Type 0 where
 
 -- prices for the trades of the document's arrangement that are on, or why there are none
 abbrev pub SupportsReplay : Type 0
-SupportsReplay = (top : Data) (doc : DocumentData) (on : ℕ) (said : Said) → document_of On top ≡ Ok doc → doc.extra ≡ on_alone on → SupportsSet doc.firms doc.ends on said
+SupportsReplay = (top : Data) (doc : DocumentData) (on : ℕ) (said : Said) → document_of On top ≡ Ok doc
+    → doc.extra ≡ on_alone on → SupportsSet doc.firms doc.ends on said
     → FitsClaim said → IsReplayed top doc said
 
 -- an equilibrium of the document's network
 abbrev pub SolutionsReplay : Type 0
-SolutionsReplay = (top : Data) (doc : DocumentData) (said : Said) → document_of Market top ≡ Ok doc → Solves doc.firms doc.ends said → FitsClaim said → IsReplayed top doc said
+SolutionsReplay = (top : Data) (doc : DocumentData) (said : Said) → document_of Market top ≡ Ok doc
+    → Solves doc.firms doc.ends said → FitsClaim said → IsReplayed top doc said
 
 -- the verdict on the document's outcome
 abbrev pub JudgementsReplay : Type 0

@@ -178,17 +178,23 @@ wanted_here z x bundle_of likes f k s firm ends is there stands =
             elim (ends_at (sold_to (length z.firms + half.half.c) half.half.trade) f k
             (ap (λ (e : Ends). stands_at e f k) (sym sold.0) ∙ stands)) [
               | inl here ↦
-                  ap (λ (e : Ends). wants z bundle_of e.seller e.at_seller || wants z bundle_of e.buyer e.at_buyer) sold.0
-                  ∙ ap₂ (λ (a b : Bool). a || b) (ap₂ (wants z bundle_of) here.0 here.1 ∙ wants_here z bundle_of f k firm is)
-                  (wants_not z bundle_of (length z.firms + half.half.c) 0 (omega arith)) ∙ or_false (has (bundle_of f) k)
-              | inr out ↦ absurd (let below = slice_get_within z.firms f firm is in let at = out.0 in omega (arith, below, at))
+                  ap (λ (e : Ends). wants z bundle_of e.seller e.at_seller
+                  || wants z bundle_of e.buyer e.at_buyer) sold.0
+                  ∙ ap₂ (λ (a b : Bool). a || b)
+                  (ap₂ (wants z bundle_of) here.0 here.1 ∙ wants_here z bundle_of f k firm is)
+                  (wants_not z bundle_of (length z.firms + half.half.c) 0 (omega arith))
+                  ∙ or_false (has (bundle_of f) k)
+              | inr out ↦ absurd (let below = slice_get_within z.firms f firm is in
+                  let at = out.0 in omega (arith, below, at))
             ]
         | inr bought ↦
             elim (ends_at (bought_from (length z.firms + half.half.c) half.half.trade) f k
             (ap (λ (e : Ends). stands_at e f k) (sym bought.0) ∙ stands)) [
-              | inl out ↦ absurd (let below = slice_get_within z.firms f firm is in let at = out.0 in omega (arith, below, at))
+              | inl out ↦ absurd (let below = slice_get_within z.firms f firm is in
+                  let at = out.0 in omega (arith, below, at))
               | inr here ↦
-                  ap (λ (e : Ends). wants z bundle_of e.seller e.at_seller || wants z bundle_of e.buyer e.at_buyer) bought.0
+                  ap (λ (e : Ends). wants z bundle_of e.seller e.at_seller
+                  || wants z bundle_of e.buyer e.at_buyer) bought.0
                   ∙ ap₂ (λ (a b : Bool). a || b) (wants_not z bundle_of (length z.firms + half.half.c) 1 (omega arith))
                   (ap₂ (wants z bundle_of) here.0 here.1 ∙ wants_here z bundle_of f k firm is)
             ]

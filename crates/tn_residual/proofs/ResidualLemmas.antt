@@ -164,7 +164,8 @@ stands_some firms trades contracts network have f k t trade is stands = elim (ca
 ]
 
 -- and only one
-stands_once : (firms : List Firm) (trades : List Ends) (contracts : List Contract) → IsNetwork firms trades → IsFeasible trades contracts → (f k s s' : ℕ)
+stands_once : (firms : List Firm) (trades : List Ends) (contracts : List Contract) → IsNetwork firms trades
+    → IsFeasible trades contracts → (f k s s' : ℕ)
     → StandsFor trades contracts f k s → StandsFor trades contracts f k s' → s ≡ s'
 stands_once firms trades contracts network feasible f k s s' one other =
     by_kind one other (network.once f k one.t other.t one.trade other.trade one.is other.is one.stands other.stands)
@@ -223,7 +224,8 @@ outside_at firms trades contracts network have f k s ends above is stands =
             elim (ends_at (sold_to (length firms + half.half.c) half.half.trade) f k
             (ap (λ (z : Ends). stands_at z f k) (sym sold.0) ∙ stands)) [
               | inl there ↦
-                  absurd (let low = seller_below firms trades network half.half.contract.trade half.half.trade half.half.is in
+                  absurd (let low = seller_below firms trades network half.half.contract.trade half.half.trade
+                  half.half.is in
                   let at = there.0 in omega (arith, low, at, above))
               | inr here ↦ (
                 half.half.c,
@@ -242,7 +244,8 @@ outside_at firms trades contracts network have f k s ends above is stands =
                     omega (arith, at, j, k_is)),
               )
               | inr there ↦
-                  absurd (let low = buyer_below firms trades network half.half.contract.trade half.half.trade half.half.is in
+                  absurd (let low = buyer_below firms trades network half.half.contract.trade half.half.trade
+                  half.half.is in
                   let at = there.0 in omega (arith, low, at, above))
             ]
       ]
@@ -264,7 +267,8 @@ HasEnd : List Firm → ℕ → ℕ → Bool → Type 0
 HasEnd parties f k bought = (party : Firm) × (slice_get parties f ≡ Some party) × (k < party.count)
     × (has party.buys k ≡ bought)
 
-pub residual_network : (firms : List Firm) (trades : List Ends) (over : ℤ) (contracts : List Contract) (scale tax : ℤ) → IsNetwork firms trades → IsFeasible trades contracts
+pub residual_network : (firms : List Firm) (trades : List Ends) (over : ℤ) (contracts : List Contract) (scale tax : ℤ)
+    → IsNetwork firms trades → IsFeasible trades contracts
     → IsNetwork (residual_of firms trades over contracts scale tax) (residual_trades (length firms) trades contracts)
 unfolding HasEnd
 residual_network firms trades over contracts scale tax network feasible = record {
@@ -381,7 +385,8 @@ residual_network firms trades over contracts scale tax network feasible = record
 -- lists that are its firms and its trades
 pub made_network : {A : Type 0} (firm_of : A → Firm) (items : List A) (made : List Ends) (firms : List Firm)
     (trades : List Ends) (over : ℤ) (contracts : List Contract) (scale tax : ℤ)
-    → map firm_of items ≡ residual_of firms trades over contracts scale tax → made ≡ residual_trades (length firms) trades contracts → IsNetwork firms trades → IsFeasible trades contracts
+    → map firm_of items ≡ residual_of firms trades over contracts scale tax
+    → made ≡ residual_trades (length firms) trades contracts → IsNetwork firms trades → IsFeasible trades contracts
     → IsNetwork (map firm_of items) made
 made_network firm_of items made firms trades over contracts scale tax firms_are trades_are network feasible =
     subst (λ (xs : List Firm). IsNetwork xs made) (sym firms_are)

@@ -309,7 +309,8 @@ pub firm_from : (firms : List Firm) (trades : List Ends) (over : ℤ) (contracts
     → slice_get (residual_of firms trades over contracts scale tax) f ≡ Some party
     → IsMarketFirm firms trades contracts (over *ℤ scale) tax f party ⊎ IsOutsideFirm firms contracts scale f party
 firm_from firms trades over contracts scale tax f party is =
-    elim (append_cases (levied_from trades contracts (over *ℤ scale) tax 0 firms) (outsides scale contracts) f party is) [
+    elim (append_cases (levied_from trades contracts (over *ℤ scale) tax 0 firms)
+    (outsides scale contracts) f party is) [
       | inl front ↦ inl (market (slice_get firms f) refl (sym (levied_get trades contracts (over *ℤ scale) tax firms 0 f
           ∙ ap (λ (h : ℕ). option_map (levied_firm trades contracts (over *ℤ scale) tax h) (slice_get firms f))
           (omega arith)) ∙ front.0))

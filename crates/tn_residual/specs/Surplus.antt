@@ -34,7 +34,8 @@ IsSurplusOfReduced parties made firms trades over contracts scale tax = (x : ℕ
 
 -- that is so in every residual market
 abbrev pub SurplusIsReducedWorth : Type 0
-SurplusIsReducedWorth = (firms : List Firm) (trades : List Ends) (over : ℤ) (contracts : List Contract) (scale tax : ℤ) → IsNetwork firms trades → IsFeasible trades contracts
+SurplusIsReducedWorth = (firms : List Firm) (trades : List Ends) (over : ℤ) (contracts : List Contract) (scale tax : ℤ)
+    → IsNetwork firms trades → IsFeasible trades contracts
     → ((f : ℕ) (firm : Firm) → slice_get firms f ≡ Some firm → HasOwnBundles firm) → pos 0 ≤ℤ scale
     → IsSurplusOfReduced (residual_of firms trades over contracts scale tax)
     (residual_trades (length firms) trades contracts) firms trades over contracts scale tax

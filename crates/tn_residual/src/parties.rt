@@ -17,7 +17,8 @@ use tn_market::{Levied, Market, Outcome, Outside, Party, Valuation};
 fn unsigned_of<V: Valuation>(market: &Market<V>, f: u32, outcome: &Outcome) -> Bundle
     requires firm { f < length market.now.firms }
     ensures { (v : V) → slice_get market.now.firms f ≡ Some v
-        → result ≡ part market.now.trades f (V.firm v).count (unsigned (length market.now.trades) outcome.now.contracts) }
+        → result ≡ part market.now.trades f (V.firm v).count
+        (unsigned (length market.now.trades) outcome.now.contracts) }
 {
     let mut unsigned = Bundle::empty();
     for k in 0..market.firm(f).trades() {
@@ -44,7 +45,8 @@ fn members<'a, V: Valuation>(
     requires small_tax { tax ≤ℤ pos 1 }
     ensures firms { IfOk result (λ parties. map ⟦<Party<'a, V> as Valuation>⟧.firm parties.items
         ≡ levied_from market.now.trades outcome.now.contracts scale tax 0 (map V.firm market.now.firms)) }
-    ensures limits { IfOk result (λ parties. All (λ party. ⟦<Party<'a, V> as Valuation>⟧.limit party ≤ residual_limit scale) parties.items) }
+    ensures limits { IfOk result
+        (λ parties. All (λ party. ⟦<Party<'a, V> as Valuation>⟧.limit party ≤ residual_limit scale) parties.items) }
 {
     let mut parties = Vec::with_capacity(alloc, market.firms() as usize)?;
     for f in 0..market.firms() {
@@ -104,7 +106,9 @@ pub fn all_parties<'a, V: Valuation>(
     requires small_tax { tax ≤ℤ pos 1 }
     ensures firms { IfOk result (λ parties. map ⟦<Party<'a, V> as Valuation>⟧.firm parties.items
         ≡ network_of V.firm market.now residual_of outcome.now.over outcome.now.contracts scale tax) }
-    ensures limits { IfOk result (λ parties. All (λ party. ⟦<Party<'a, V> as Valuation>⟧.limit party ≤ residual_limit (outcome.now.over *ℤ scale)) parties.items) }
+    ensures limits { IfOk result
+        (λ parties. All (λ party. ⟦<Party<'a, V> as Valuation>⟧.limit party ≤ residual_limit
+        (outcome.now.over *ℤ scale)) parties.items) }
 {
     let mut parties = members(alloc, market, outcome, outcome.over * scale, tax)?;
     add_outsides(&mut parties, outcome, scale)?;

@@ -39,7 +39,9 @@ pub fn residual<'a, V: Valuation>(
         ≡ network_of V.firm market.now residual_of outcome.now.over outcome.now.contracts scale tax) }
     ensures trades { IfOk result (λ residual. residual.trades
         ≡ residual_trades (length market.now.firms) market.now.trades outcome.now.contracts) }
-    ensures limits { IfOk result (λ residual. All (λ party. ⟦<Party<'a, V> as Valuation>⟧.limit party ≤ residual_limit (outcome.now.over *ℤ scale)) residual.firms) }
+    ensures limits { IfOk result
+        (λ residual. All (λ party. ⟦<Party<'a, V> as Valuation>⟧.limit party ≤ residual_limit
+        (outcome.now.over *ℤ scale)) residual.firms) }
     ensures surplus { IfOk result (λ residual. network_of ⟦<Party<'a, V> as Valuation>⟧.firm residual IsSurplusOfReduced
         (map V.firm market.now.firms) market.now.trades outcome.now.over outcome.now.contracts scale tax) }
 {

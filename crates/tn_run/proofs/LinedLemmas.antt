@@ -308,7 +308,10 @@ pub complete_lines : (command : Command) (told old new : Option (List ℕ))
 complete_lines command told old new source_before source_after sink_before sink_after status run quiet_source
     quiet_sink = elim run [
       | inl all ↦ all
-      | inr stops ↦ elim stops [ inl read ↦ absurd (quiet_source read.cause) | inr write ↦ absurd (quiet_sink write.cause) ]
+      | inr stops ↦ elim stops [
+        | inl read ↦ absurd (quiet_source read.cause)
+        | inr write ↦ absurd (quiet_sink write.cause)
+      ]
     ]
 
 -- what a run by lines came to, of the command that the words ask for and of the program's exit status

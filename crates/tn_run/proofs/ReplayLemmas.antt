@@ -173,8 +173,10 @@ module _ (need : Need) (doc : DocumentData) (is : IsDocument need doc) where
 
   better_reason : (claim : Claim) (f : ℕ) (bundle : List ℕ) → Refutes doc.firms doc.ends claim (BetterIs f bundle)
       → IsStrictlyIncreasing bundle
-  better_reason (Equilibrium at surplus) f bundle refutes = better_ascends (pos 1) at.on (price_at at.prices) f bundle refutes
-  better_reason (Solved at surplus) f bundle refutes = better_ascends (pos 1) at.on (price_at at.prices) f bundle refutes
+  better_reason (Equilibrium at surplus) f bundle refutes =
+      better_ascends (pos 1) at.on (price_at at.prices) f bundle refutes
+  better_reason (Solved at surplus) f bundle refutes =
+      better_ascends (pos 1) at.on (price_at at.prices) f bundle refutes
   better_reason (Supported on prices) f bundle refutes = better_ascends (pos 1) on (price_at prices) f bundle refutes
   better_reason (Completes outcome prices over) f bundle refutes =
       better_ascends over (signed (length doc.ends) outcome.contracts) (price_at prices) f bundle refutes.2

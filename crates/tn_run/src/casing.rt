@@ -43,7 +43,8 @@ fn is_told<const N: usize>(
     requires inside { k < N }
     requires within { IsWithinClaims said.now }
     ensures { IfOk result (λ same. Some same
-        ≡ option_map (agrees_with (status_of said.now) (answer_line layout names.now said.now)) (slice_get book.now k)) }
+        ≡ option_map (agrees_with (status_of said.now) (answer_line layout names.now said.now))
+        (slice_get book.now k)) }
 {
     let text = answer_text(alloc, names, said, layout)?;
     Ok(book.agrees(k, status_of(said), &text))

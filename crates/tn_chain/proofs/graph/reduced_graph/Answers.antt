@@ -21,7 +21,8 @@ loop-u-init g c =
           c.lay_out.ensures.laid_out;
       written = none_written (reduced_arc (map g.V.Valuation.firm c.args.market.now.firms) c.args.market.now.trades
           c.args.outcome.now.over c.args.outcome.now.contracts) (length c.args.market.now.trades + 1) c.lay_out.new.self
-          (subst (λ (n : ℕ). IsWithoutArcs n c.lay_out.new.self) (c.in_ok-graph.ensures.nodes ∙ ap (λ (n : ℕ). n + 1) count)
+          (subst (λ (n : ℕ). IsWithoutArcs n c.lay_out.new.self)
+          (c.in_ok-graph.ensures.nodes ∙ ap (λ (n : ℕ). n + 1) count)
           c.lay_out.ensures.without);
     }
 

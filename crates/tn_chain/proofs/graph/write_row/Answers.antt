@@ -56,6 +56,7 @@ returns g c =
     let count = c.trades-v-end.ensures.count in record {
       laid_out = c.loop-v.invariant.laid_out;
       written = row_written (reduced_arc (map g.V.Valuation.firm c.args.market.now.firms) c.args.market.now.trades
-          c.args.outcome.now.over c.args.outcome.now.contracts) (length c.args.market.now.trades + 1) c.args.u c.loop-v.v
+          c.args.outcome.now.over c.args.outcome.now.contracts)
+          (length c.args.market.now.trades + 1) c.args.u c.loop-v.v
           c.loop-v.graph c.loop-v.invariant.written (omega (arith, test, count));
     }
