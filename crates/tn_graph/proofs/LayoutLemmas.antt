@@ -2,7 +2,6 @@
 use Rattle.std.proofs.Common.{◌≡◌, ◌≢◌, ℕ, ◌+◌, ◌*◌, ◌<◌, ◌≤◌, Bool, true, false, not, if◌then◌else◌, List, length, set, slice_get, get_or, Some, Option, option_map, refl, sym, ap, ap₂, ◌∙◌, subst, arith, inl, inr, ◌⊎◌, ℤ, mul-pos}
 use Rattle.std.proofs.lemmas.Bool.{cases_eq, cases_lt, cases_order}
 use Rattle.std.proofs.lemmas.List.{length-set, get_or-set_same, get_or-set_other}
-use Rattle.std.proofs.lemmas.Nat.{mul-le}
 use Rattle.std.proofs.lemmas.Option.{same_Some, some_pair_parts, slice_get_cases, slice_get_within, slice_get_past}
 use Rattle.tn_base.specs.Sets.{has}
 use Rattle.tn_base.specs.Firm.{Firm}
@@ -12,10 +11,10 @@ use Rattle.tn_market.specs.Graph.{raised as raised_end}
 use Rattle.tn_market.specs.Widths.{most_market_trades}
 use Rattle.tn_market.proofs.GraphLemmas.{same_firm}
 use Rattle.tn_graph.specs.declared.spot.Spot.{Spot}
-use Rattle.tn_graph.specs.Blocks.{Places, IsSound, IsSpotOf, AreOneOrApart, spot_at, no_spot, block_size}
+use Rattle.tn_graph.specs.Blocks.{Places, IsSound, IsSpotOf, AreOneOrApart, spot_at, no_spot, block_size, room_of}
 use Rattle.tn_graph.specs.Layout.{end_of, IsLaidOut, IsTurned, IsLaidTo, IsBefore, own_before, room_before, spot_for}
 use Rattle.tn_graph.proofs.EndLemmas.{end_owned, one_end}
-use Rattle.tn_graph.proofs.RoomLemmas.{sum_next, sum_past, own_few, own_once, room_few}
+use Rattle.tn_graph.proofs.RoomLemmas.{sum_next, sum_past, own_few, own_once, room_few, room_small}
 
 -- ---- trade by trade
 
@@ -235,14 +234,15 @@ module _ (firms : List Firm) (trades : List Ends) (network : IsNetwork firms tra
   own_at f k firm is inside =
       laid.owns f k (length trades) firm is (inl (slice_get_within firms f firm is)) inside
 
-  spot_sound : (rises : Bool) (t : ℕ) → t < length trades
-      → IsSpotOf owned (length trades) (2 * ((length trades + 1) * (length trades + 1))) t (spot_at places rises t)
-  spot_sound rises t below =
+  spot_sound : ((f : ℕ) (firm : Firm) → slice_get firms f ≡ Some firm → firm.count ≤ 64) → (rises : Bool) (t : ℕ)
+      → t < length trades
+      → IsSpotOf owned (length trades) (room_of (length trades + 1)) t (spot_at places rises t)
+  spot_sound each rises t below =
       let at = stands rises t below in
       let f_in = slice_get_within firms at.f at.firm at.is in
       let next = sum_next (λ firm. block_size firm.count) firms at.f at.firm at.is in
-      let few = room_few firms trades network (at.f + 1) (omega (arith, f_in)) in
-      subst (IsSpotOf owned (length trades) (2 * ((length trades + 1) * (length trades + 1))) t) (sym at.spot)
+      let few = room_few firms trades network each (at.f + 1) (omega (arith, f_in)) in
+      subst (IsSpotOf owned (length trades) (room_of (length trades + 1)) t) (sym at.spot)
       (record {
         inside = omega (arith, next, few);
         below = at.inside;
@@ -300,9 +300,10 @@ module _ (firms : List Firm) (trades : List Ends) (network : IsNetwork firms tra
           block_large n k below = mul-pos (omega (arith, below)) (omega arith)
 
   -- a graph with these places is sound
-  pub sound : (cells : List ℤ) → length trades ≤ most_market_trades
-      → length cells ≡ 2 * ((length trades + 1) * (length trades + 1)) → IsSound (length trades + 1) places cells
-  sound cells few sized = record {
+  pub sound : ((f : ℕ) (firm : Firm) → slice_get firms f ≡ Some firm → firm.count ≤ 64) → (cells : List ℤ)
+      → length trades ≤ most_market_trades
+      → length cells ≡ room_of (length trades + 1) → IsSound (length trades + 1) places cells
+  sound each cells few sized = record {
     few = omega (arith, few);
     laid_few = omega arith;
     all_laid = λ _. refl;
@@ -310,7 +311,7 @@ module _ (firms : List Firm) (trades : List Ends) (network : IsNetwork firms tra
     lowered_sized = laid.lowered_sized;
     own_sized = laid.own_sized;
     cells_sized = sized;
-    spots = spot_sound;
+    spots = spot_sound each;
     blocks = blocks_apart;
   }
 
@@ -429,10 +430,10 @@ turned_sound nodes t places cells raised lowered sound turned raised_long lowere
   own_sized = sound.own_sized;
   cells_sized = sound.cells_sized;
   spots = λ rises u below. elim (cases_eq u t) [
-    | inl e ↦ subst (IsSpotOf places.own places.laid (2 * (nodes * nodes)) u)
+    | inl e ↦ subst (IsSpotOf places.own places.laid (room_of nodes) u)
         (ap (spot_at places (not rises)) e ∙ sym (turned.here rises)
         ∙ ap (spot_at after rises) (sym e)) (sound.spots (not rises) u below)
-    | inr d ↦ subst (IsSpotOf places.own places.laid (2 * (nodes * nodes)) u) (sym (turned.elsewhere rises u d))
+    | inr d ↦ subst (IsSpotOf places.own places.laid (room_of nodes) u) (sym (turned.elsewhere rises u d))
         (sound.spots rises u below)
   ];
   blocks = λ one other s u s_below u_below.
@@ -468,15 +469,14 @@ own_index firms trades network f k firm is inside =
 
 -- the numbers of places are small
 pub room_fits : (firms : List Firm) (trades : List Ends) → IsNetwork firms trades → length trades ≤ most_market_trades
-    → (f : ℕ) (firm : Firm) → slice_get firms f ≡ Some firm
-    → room_before firms f + block_size firm.count ≤ 2 * (2049 * 2049)
-room_fits firms trades network few f firm is =
+    → ((f : ℕ) (firm : Firm) → slice_get firms f ≡ Some firm → firm.count ≤ 64) → (f : ℕ) (firm : Firm) → slice_get firms f ≡ Some firm
+    → room_before firms f + block_size firm.count ≤ 2 * (2049 * 66)
+room_fits firms trades network few each f firm is =
     let f_in = slice_get_within firms f firm is in
     let next = sum_next (λ firm. block_size firm.count) firms f firm is in
-    let room = room_few firms trades network (f + 1) (omega (arith, f_in)) in
-    let square : (length trades + 1) * (length trades + 1) ≤ 2049 * 2049 =
-    mul-le (length trades + 1) (length trades + 1) 2049 2049 (omega (arith, few)) (omega (arith, few)) in
-    omega (arith, next, room, square)
+    let room = room_few firms trades network each (f + 1) (omega (arith, f_in)) in
+    let small = room_small (length trades + 1) (omega (arith, few)) in
+    omega (arith, next, room, small)
 
 pub owns_fit : (firms : List Firm) (trades : List Ends) → IsNetwork firms trades → length trades ≤ most_market_trades
     → (f : ℕ) (firm : Firm) → slice_get firms f ≡ Some firm → own_before firms f + firm.count ≤ 4096

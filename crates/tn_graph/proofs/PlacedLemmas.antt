@@ -3,7 +3,6 @@ use Rattle.std.specs.Prelude.{nat_lt, IfSome, IsSome, slice_index_or}
 use Rattle.std.proofs.Common.{◌≡◌, ℕ, ◌+◌, ◌*◌, ◌^◌, ◌<◌, ◌≤◌, Bool, true, false, ◌==◌, ◌&&◌, if◌then◌else◌, List, length, Some, None, Option, option_map, refl, sym, ap, ap₂, ◌∙◌, subst, arith, inl, inr, ℤ}
 use Rattle.std.proofs.lemmas.Bool.{cases_Bool, cases_lt, lt-ltb, le-ltb, eq-eqb, ne_eqb, eqb-true}
 use Rattle.std.proofs.lemmas.List.{get_or_past, get_or_read}
-use Rattle.std.proofs.lemmas.Nat.{mul-le}
 use Rattle.std.proofs.lemmas.Option.{slice_get_cases}
 use Rattle.tn_base.specs.Sets.{has}
 use Rattle.tn_base.specs.Firm.{Firm}
@@ -12,8 +11,9 @@ use Rattle.tn_market.specs.Graph.{raised, lowered, raised_by, lowered_by, exchan
 use Rattle.tn_market.specs.ArcPlaces.{common_firm, arc_firm}
 use Rattle.tn_market.proofs.GraphLemmas.{firm_of_arc, no_arc}
 use Rattle.tn_graph.specs.declared.spot.Spot.{Spot}
-use Rattle.tn_graph.specs.Blocks.{Places, IsSound, IsSpotOf, no_spot, block_size, spot_at, place_in, place_between, place_of}
+use Rattle.tn_graph.specs.Blocks.{Places, IsSound, IsSpotOf, no_spot, block_size, spot_at, place_in, place_between, place_of, room_of}
 use Rattle.tn_graph.specs.Layout.{IsLaidOut}
+use Rattle.tn_graph.proofs.RoomLemmas.{room_small}
 
 -- the place of the arc between two nodes
 pub place_is : (nodes : ℕ) (places : Places) (u v : ℕ) (p q : Bool) → u < nodes → v < nodes
@@ -134,7 +134,7 @@ module _ (firms : List Firm) (trades : List Ends) (on nodes : ℕ) (places : Pla
 -- a place that was read, of a trade in a block
 pub record IsRead (nodes : ℕ) (places : Places) (rises : Bool) (t : ℕ) (spot : Spot) : Type 0 where
   pub is : spot ≡ spot_at places rises t
-  pub stands : IsSpotOf places.own places.laid (2 * (nodes * nodes)) t spot
+  pub stands : IsSpotOf places.own places.laid (room_of nodes) t spot
   pub fits : spot.start + block_size spot.count < 2 ^ 32
 
 module _ (nodes : ℕ) (places : Places) (cells : List ℤ) (sound : IsSound nodes places cells) where
@@ -144,12 +144,11 @@ module _ (nodes : ℕ) (places : Places) (cells : List ℤ) (sound : IsSound nod
       let there = sound.spots rises t below in
       let inside = there.inside in
       let few = sound.few in
-      let square : nodes * nodes ≤ 2049 * 2049 =
-      mul-le nodes nodes 2049 2049 (omega (arith, few)) (omega (arith, few)) in
+      let small = room_small nodes (omega (arith, few)) in
       record {
         is = is;
-        stands = subst (IsSpotOf places.own places.laid (2 * (nodes * nodes)) t) (sym is) there;
-        fits = subst (λ (z : Spot). z.start + block_size z.count < 2 ^ 32) (sym is) (omega (arith, inside, square));
+        stands = subst (IsSpotOf places.own places.laid (room_of nodes) t) (sym is) there;
+        fits = subst (λ (z : Spot). z.start + block_size z.count < 2 ^ 32) (sym is) (omega (arith, inside, small));
       }
 
   pub read_up : (t : ℕ) → t < places.laid → (spot : Spot) → spot ≡ slice_index_or places.raised t spot
@@ -218,7 +217,7 @@ module _ (nodes : ℕ) (places : Places) (cells : List ℤ) (sound : IsSound nod
   pub own_fits : (rises : Bool) (v k : ℕ) → v < places.laid → (spot : Spot) → spot ≡ spot_at places rises v
       → k < spot.count → spot.own + k < length places.own
   own_fits rises v k below spot is inside =
-      let there = subst (IsSpotOf places.own places.laid (2 * (nodes * nodes)) v) (sym is) (sound.spots rises v below)
+      let there = subst (IsSpotOf places.own places.laid (room_of nodes) v) (sym is) (sound.spots rises v below)
       in
       let trade = there.trades k inside in
       elim (cases_lt (spot.own + k) (length places.own)) [

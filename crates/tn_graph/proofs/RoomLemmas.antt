@@ -1,16 +1,37 @@
 -- There is room for the blocks of every market: a firm has no trade twice, and a trade is owned twice.
-use Rattle.std.proofs.Common.{◌≡◌, ℕ, zero, suc, ◌+◌, ◌*◌, ◌^◌, ◌<◌, ◌≤◌, Bool, true, false, not, if◌then◌else◌, List, [], ◌∷◌, length, slice_get, Some, refl, sym, ap, ap₂, ◌∙◌, subst, arith, inl, inr, add-mul, mul-add, mul_assoc, mul-le-mul_left, mul-le-mul_right, pow_pos}
-use Rattle.std.proofs.lemmas.Bool.{cases_Bool}
-use Rattle.std.proofs.lemmas.Option.{same_Some, some_pair_parts, slice_get_cases}
+use Rattle.std.proofs.Common.{◌≡◌, ℕ, zero, suc, ◌+◌, ◌*◌, ◌^◌, ◌<◌, ◌≤◌, Bool, true, false, not, if◌then◌else◌, List, [], ◌∷◌, length, map, slice_get, Some, None, Option, option_map, refl, sym, ap, ap₂, ◌∙◌, subst, arith, inl, inr, le-ltb, lt-ltb, add-mul, mul-add, mul_assoc, mul-le-mul_left, mul-le-mul_right, pow_pos}
+use Rattle.std.proofs.lemmas.Bool.{cases_Bool, cases_lt}
+use Rattle.std.proofs.lemmas.Nat.{mul-le}
+use Rattle.std.proofs.lemmas.Option.{same_Some, some_pair_parts, slice_get_cases, slice_get-map}
 use Rattle.tn_base.specs.Sets.{has, toggle, size}
 use Rattle.tn_base.specs.Firm.{Firm}
 use Rattle.tn_base.proofs.SetLemmas.{has-zero, has-toggle_other, toggle_within}
 use Rattle.tn_base.proofs.SizeLemmas.{size_le, size-toggle_in, size-zero}
 use Rattle.tn_plain_data.specs.declared.ends.Ends.{Ends}
 use Rattle.tn_plain_data.specs.Network.{own, IsNetwork}
-use Rattle.tn_graph.specs.Blocks.{block_size}
+use Rattle.tn_graph.specs.Blocks.{block_size, room_of}
 use Rattle.tn_graph.specs.Layout.{end_of, sum_before, own_before, room_before, IsBefore}
 use Rattle.tn_graph.proofs.EndLemmas.{end_here, one_end}
+
+-- the room of a graph is small
+pub room_small : (nodes : ℕ) → nodes ≤ 2049 → room_of nodes ≤ 2 * (2049 * 66)
+unfolding room_of
+room_small nodes few = elim (cases_lt nodes 66) [
+  | inl below ↦ subst (λ (b : Bool). 2 * (nodes * (if b then nodes else 66)) ≤ 2 * (2049 * 66))
+      (sym (lt-ltb nodes 66 below))
+      (let square = mul-le nodes nodes 66 66 (omega (arith, below)) (omega (arith, below)) in omega (arith, square))
+  | inr past ↦ subst (λ (b : Bool). 2 * (nodes * (if b then nodes else 66)) ≤ 2 * (2049 * 66))
+      (sym (le-ltb nodes 66 past)) (omega (arith, few))
+]
+
+-- no firm has more than 64 own trades
+pub counts_few : {V : Type 0} (firm_of : V → Firm) (firms : List V) → ((v : V) → (firm_of v).count ≤ 64)
+    → (f : ℕ) (firm : Firm) → slice_get (map firm_of firms) f ≡ Some firm → firm.count ≤ 64
+counts_few {V} firm_of firms few f firm is = by (slice_get firms f) (sym (slice_get-map firm_of firms f) ∙ is)
+  where
+    by : (found : Option V) → option_map firm_of found ≡ Some firm → firm.count ≤ 64
+    by (Some v) e = subst (λ (z : Firm). z.count ≤ 64) (same_Some (firm_of v) firm e) (few v)
+    by None e = absurd (cc e)
 
 -- ---- sums
 
@@ -267,18 +288,40 @@ module _ (firms : List Firm) (trades : List Ends) (network : IsNetwork firms tra
       let counted = marked.counted in
       omega (arith, most, counted)
 
-  -- so there is room for all blocks
-  pub room_few : (f : ℕ) → f ≤ length firms
-      → room_before firms f ≤ 2 * ((length trades + 1) * (length trades + 1))
-  room_few f inside =
-      let m = length trades in
-      let blocks : room_before firms f ≤ own_before firms f * (m + 2) =
-      sum_times (λ firm. block_size firm.count) (λ firm. firm.count) (m + 2) firms f (λ g firm is.
-      let few = count_few g firm is in mul-le-mul_left firm.count (omega (arith, few))) in
-      let owned : own_before firms f * (m + 2) ≤ (2 * m) * (m + 2) =
-      mul-le-mul_right (m + 2) (own_few f inside) in
-      let left : (2 * m) * (m + 2) ≡ (2 * m) * m + (2 * m) * 2 = mul-add (2 * m) m 2 in
-      let doubled : (2 * m) * m ≡ 2 * (m * m) = mul_assoc 2 m m in
-      let right : (m + 1) * (m + 1) ≡ m * (m + 1) + 1 * (m + 1) = add-mul m 1 (m + 1) in
-      let square : m * (m + 1) ≡ m * m + m * 1 = mul-add m m 1 in
-      omega (arith, blocks, owned, left, doubled, right, square)
+  -- so there is room for all blocks, where no firm has more than 64
+  pub room_few : ((f : ℕ) (firm : Firm) → slice_get firms f ≡ Some firm → firm.count ≤ 64) → (f : ℕ) → f ≤ length firms
+      → room_before firms f ≤ room_of (length trades + 1)
+  unfolding room_of
+  room_few each f inside = elim (cases_lt (length trades + 1) 66) [
+    | inl few ↦ subst (λ (b : Bool). room_before firms f
+        ≤ 2 * ((length trades + 1) * (if b then length trades + 1 else 66)))
+        (sym (lt-ltb (length trades + 1) 66 few)) by_trades
+    | inr many ↦ subst (λ (b : Bool). room_before firms f
+        ≤ 2 * ((length trades + 1) * (if b then length trades + 1 else 66)))
+        (sym (le-ltb (length trades + 1) 66 many)) by_own
+  ]
+    where
+      m : ℕ
+      m = length trades
+
+      blocks : (k : ℕ) → ((g : ℕ) (firm : Firm) → slice_get firms g ≡ Some firm → firm.count + 2 ≤ k)
+          → room_before firms f ≤ (2 * m) * k
+      blocks k most =
+          let sizes : room_before firms f ≤ own_before firms f * k =
+          sum_times (λ firm. block_size firm.count) (λ firm. firm.count) k firms f (λ g firm is.
+          mul-le-mul_left firm.count (most g firm is)) in
+          let owned : own_before firms f * k ≤ (2 * m) * k = mul-le-mul_right k (own_few f inside) in
+          omega (arith, sizes, owned)
+
+      by_trades : room_before firms f ≤ 2 * ((m + 1) * (m + 1))
+      by_trades =
+          let most = blocks (m + 2) (λ g firm is. let few = count_few g firm is in omega (arith, few)) in
+          let left : (2 * m) * (m + 2) ≡ (2 * m) * m + (2 * m) * 2 = mul-add (2 * m) m 2 in
+          let doubled : (2 * m) * m ≡ 2 * (m * m) = mul_assoc 2 m m in
+          let right : (m + 1) * (m + 1) ≡ m * (m + 1) + 1 * (m + 1) = add-mul m 1 (m + 1) in
+          let square : m * (m + 1) ≡ m * m + m * 1 = mul-add m m 1 in
+          omega (arith, most, left, doubled, right, square)
+
+      by_own : room_before firms f ≤ 2 * ((m + 1) * 66)
+      by_own =
+          let most = blocks 66 (λ g firm is. let few = each g firm is in omega (arith, few)) in omega (arith, most)

@@ -13,6 +13,11 @@ no_spot = record { start = 0; count = 0; own = 0; position = 0 }
 abbrev pub block_size : ℕ → ℕ
 block_size count = count * (count + 2)
 
+-- room for the blocks of every market of so many nodes: a trade is in two blocks, and a firm has at most 64 own trades, so
+-- that its block has for each of them no more costs than 66, or than there are nodes
+unfoldable pub room_of : ℕ → ℕ
+room_of nodes = 2 * (nodes * (if nat_lt nodes 66 then nodes else 66))
+
 -- trade t stands at its place, among different trades below `laid`, and the block lies within this room
 pub record IsSpotOf (own : List ℕ) (laid room t : ℕ) (spot : Spot) : Type 0 where
   pub inside : spot.start + block_size spot.count ≤ room
@@ -49,9 +54,9 @@ pub record IsSound (nodes : ℕ) (places : Places) (cells : List ℤ) : Type 0 w
   pub raised_sized : length places.raised ≡ nodes
   pub lowered_sized : length places.lowered ≡ nodes
   pub own_sized : length places.own ≡ 2 * nodes
-  pub cells_sized : length cells ≡ 2 * (nodes * nodes)
+  pub cells_sized : length cells ≡ room_of nodes
   pub spots : (rises : Bool) (t : ℕ) → t < places.laid
-      → IsSpotOf places.own places.laid (2 * (nodes * nodes)) t (spot_at places rises t)
+      → IsSpotOf places.own places.laid (room_of nodes) t (spot_at places rises t)
   pub blocks : (one other : Bool) (s t : ℕ) → s < places.laid → t < places.laid
       → AreOneOrApart (spot_at places one s) (spot_at places other t)
 

@@ -5,7 +5,7 @@ ghost use Rattle.tn_base.specs.Arcs.{IsAtMost};
 ghost use Rattle.tn_base.specs.Sets.{has};
 ghost use Rattle.tn_base.specs.Widths.{most_cost};
 ghost use Rattle.tn_market.specs.Widths.{most_market_trades};
-ghost use Rattle.tn_graph.specs.Blocks.{cost_at, listed_at, listed_count, place_of, spot_at, IsSound};
+ghost use Rattle.tn_graph.specs.Blocks.{cost_at, listed_at, listed_count, place_of, room_of, spot_at, IsSound};
 ghost use Rattle.tn_graph.specs.Layout.{IsLaidOut, IsTurned};
 ghost use Rattle.tn_graph.specs.Reading.{IsWithoutArcs, IsWritten};
 
@@ -92,6 +92,16 @@ fn unpacked(number: i64) -> Option<i128>
     }
 }
 
+/// How many costs the blocks of every market of so many nodes have at most. A firm has at most 64 own trades.
+#[tactic(auto, unfolding(crate::specs::Blocks::room_of))]
+fn room(nodes: u32) -> u32
+    requires { nodes ≤ most_market_trades + 1 }
+    ensures { result ≡ room_of nodes }
+{
+    let widest = if nodes < 66 { nodes } else { 66 };
+    2 * (nodes * widest)
+}
+
 impl Graph {
     /// A graph of 1 to 2,049 nodes without arcs, with room for the blocks of every market of so many nodes. It fails
     /// only where memory runs out, and no other call takes memory.
@@ -109,7 +119,7 @@ impl Graph {
             nodes,
             laid: 0,
             places,
-            cells: vec![in alloc; NO_ARC; (2 * (nodes * nodes)) as usize]?,
+            cells: vec![in alloc; NO_ARC; room(nodes) as usize]?,
         })
     }
 

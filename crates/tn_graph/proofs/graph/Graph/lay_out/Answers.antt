@@ -2,10 +2,11 @@
 use Rattle.std.proofs.Common.{ap, subst, sym, ◌∙◌, ◌≡◌, ◌+◌, ◌*◌, arith, ℕ, map, length}
 use Rattle.std.proofs.lemmas.List.{length-map}
 use Rattle.tn_base.specs.Sets.{has}
-use Rattle.tn_graph.specs.Blocks.{Blocks, IsSound}
+use Rattle.tn_graph.specs.Blocks.{Blocks, IsSound, room_of}
 use Rattle.tn_graph.specs.Layout.{IsLaidOut, IsLaidTo}
 use Rattle.tn_graph.proofs.CellLemmas.{no_arcs}
 use Rattle.tn_graph.proofs.LayoutLemmas.{sound, laid_out}
+use Rattle.tn_graph.proofs.RoomLemmas.{counts_few}
 use Rattle.tn_graph.proofs.graph.Graph.lay_out.Goals as goal
 
 pub invariant_of-self-inside : goal.invariant_of-self-inside
@@ -21,9 +22,8 @@ invariant_of-self-inside g c =
     (sym (length-map c.args.market.now.firms g.V.Valuation.firm)) c.lay_out.ensures in
     let long = c.fill.ensures.len in
     let was = c.self.inside.sound.cells_sized in
-    let square = ap (λ (n : ℕ). 2 * (n * n)) nodes_is in
-    let sized : length c.fill.new.self.items ≡ 2 * ((length trades + 1) * (length trades + 1)) =
-    omega (arith, long, was, square) in
+    let room = ap room_of nodes_is in
+    let sized : length c.fill.new.self.items ≡ room_of (length trades + 1) = omega (arith, long, was, room) in
     let few = c.trades-trades.ensures.few in
     let count = c.trades-trades.ensures.count in (
       subst (λ (n : ℕ). IsSound n (record {
@@ -38,8 +38,9 @@ invariant_of-self-inside g c =
             lowered = c.lay_out.new.self.lowered.items;
             own = c.lay_out.new.self.own.items;
           }) c.fill.new.self.items) (sym count)
-          (sound firms trades c.trades-trades.ensures.network c.args.on.now _ _ _ laid c.fill.new.self.items
-          (omega (arith, few, count)) sized)),
+          (sound firms trades c.trades-trades.ensures.network c.args.on.now _ _ _ laid
+          (counts_few g.V.Valuation.firm c.args.market.now.firms (λ v. (g.met.V.Valuation.lawful v).few_trades))
+          c.fill.new.self.items (omega (arith, few, count)) sized)),
       tt,
     )
 

@@ -2,7 +2,7 @@
 use Rattle.std.proofs.Common.{arith, ap, sym, ◌∙◌, ◌≡◌, Some, map, slice_get, option_map}
 use Rattle.std.proofs.lemmas.Option.{slice_get-map}
 use Rattle.tn_graph.specs.Blocks.{block_size}
-use Rattle.tn_graph.proofs.RoomLemmas.{sum_none, sum_next}
+use Rattle.tn_graph.proofs.RoomLemmas.{counts_few, sum_none, sum_next}
 use Rattle.tn_graph.proofs.LayoutLemmas.{laid_none, laid_next, room_fits, owns_fit}
 use Rattle.tn_graph.proofs.places.Places.lay_out.Goals as goal
 
@@ -21,7 +21,9 @@ overflow_add-start-in-loop-f g c =
     slice_get-map g.V.Valuation.firm c.args.market.now.firms c.loop-f.f
     ∙ ap (option_map g.V.Valuation.firm) c.firm.ensures in
     let room = room_fits (map g.V.Valuation.firm c.args.market.now.firms) c.args.market.now.trades
-    c.firms-f-end.ensures.network c.requires.few c.loop-f.f (g.V.Valuation.firm c.firm.result.now) listed in
+    c.firms-f-end.ensures.network c.requires.few
+    (counts_few g.V.Valuation.firm c.args.market.now.firms (λ v. (g.met.V.Valuation.lawful v).few_trades)) c.loop-f.f
+    (g.V.Valuation.firm c.firm.result.now) listed in
     let start = c.loop-f.invariant.start_is in
     let block = ap block_size c.trades-count.ensures.count in
     omega (arith, room, start, block)
