@@ -10,13 +10,13 @@ use Rattle.tn_cert.specs.declared.replayed.Replayed.TheVariants.{Valid, Invalid}
 use Rattle.tn_cert.specs.Replays.{Replays}
 
 -- a solution has the conditions of an equilibrium
-solved_alike : (firms : List Firm) (trades : List Ends) (at : Arrangement 2) (surplus : ℤ) (replayed : Replayed)
+solved_alike : (firms : List Firm) (trades : List Ends) (at : Arrangement 16) (surplus : ℤ) (replayed : Replayed)
     → Replays firms trades (Equilibrium at surplus) replayed
     → Replays firms trades (Solved at surplus) replayed
 solved_alike firms trades at surplus Valid valid = valid
 solved_alike firms trades at surplus (Invalid reason) refutes = refutes
 
-pub solved_if_ok : {E : Type 0} (firms : List Firm) (trades : List Ends) (at : Arrangement 2) (surplus : ℤ)
+pub solved_if_ok : {E : Type 0} (firms : List Firm) (trades : List Ends) (at : Arrangement 16) (surplus : ℤ)
     (result : Result Replayed E) → IfOk result (Replays firms trades (Equilibrium at surplus))
     → IfOk result (Replays firms trades (Solved at surplus))
 solved_if_ok firms trades at surplus (Ok replayed) replays = solved_alike firms trades at surplus replayed replays

@@ -1,14 +1,15 @@
 -- How large a market may be on which claims are replayed.
-use Rattle.std.specs.Prelude.{ℕ, ◌^◌}
+use Rattle.std.specs.Prelude.{ℕ, ◌*◌}
+use Rattle.tn_plain_data.specs.Limits.{most_claimed_over, most_parts, most_trades, most_worth}
 
 -- the most trades of a market on which a claim is replayed, which is as many as a set of a claim takes
 abbrev pub most_claimed_trades : ℕ
-most_claimed_trades = 128
+most_claimed_trades = most_trades
 
 -- a worth times a weight is at most so much in size
 abbrev pub most_weighed_worth : ℕ
-most_weighed_worth = 10 ^ 16
+most_weighed_worth = most_claimed_over * most_worth
 
--- what a firm has of a plan's worth is at most so much in size
+-- what a firm has of a plan's worth, by its parts and by what they leave, is at most so much in size
 abbrev pub most_planned_worth : ℕ
-most_planned_worth = 10 ^ 20
+most_planned_worth = 2 * most_parts * most_weighed_worth

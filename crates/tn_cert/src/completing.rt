@@ -36,7 +36,7 @@ fn first_mispriced(contracts: &Contracts, prices: &Prices) -> Option<u32>
 
 /// Which of the first `count` trades have contracts.
 #[tactic(auto, unfolding(tn_base::specs::Sets::set_of))]
-fn signed_trades(contracts: &Contracts, count: u32) -> TradeSet<2>
+fn signed_trades(contracts: &Contracts, count: u32) -> TradeSet<16>
     requires { count ≤ most_claimed_trades }
     ensures { result ≡ signed count contracts.now }
 {

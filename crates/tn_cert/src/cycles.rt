@@ -59,7 +59,7 @@ fn go_round<C: Costs>(costs: &C, nodes: &Nodes, null: u32) -> Result<i128, u32>
 pub(crate) fn replay_cycle<V: Oracle>(
     alloc: Global,
     market: &Market<V>,
-    on: &TradeSet<2>,
+    on: &TradeSet<16>,
     nodes: &Nodes,
     cost: i128,
     steps: &mut Steps<V::Mark>,

@@ -21,7 +21,7 @@ fn weigh<V: Oracle>(
     alloc: Global,
     market: &Market<V>,
     scale: i128,
-    on: &TradeSet<2>,
+    on: &TradeSet<16>,
     prices: &Prices,
 ) -> Result<Result<i128, Reason>, OutOfMemory>
     requires limits { IsWithinLimits V.firm V.limit market.now }
@@ -49,7 +49,7 @@ pub(crate) fn first_lack<V: Oracle>(
     alloc: Global,
     market: &Market<V>,
     scale: i128,
-    on: &TradeSet<2>,
+    on: &TradeSet<16>,
     prices: &Prices,
 ) -> Result<Option<Reason>, OutOfMemory>
     requires limits { IsWithinLimits V.firm V.limit market.now }
@@ -70,7 +70,7 @@ pub(crate) fn first_lack<V: Oracle>(
 pub(crate) fn replay_equilibrium<V: Oracle>(
     alloc: Global,
     market: &Market<V>,
-    at: &Arrangement<2>,
+    at: &Arrangement<16>,
     surplus: i128,
 ) -> Result<Replayed, OutOfMemory>
     requires limits { IsWithinLimits V.firm V.limit market.now }
@@ -95,7 +95,7 @@ pub(crate) fn replay_equilibrium<V: Oracle>(
 pub(crate) fn replay_supported<V: Oracle>(
     alloc: Global,
     market: &Market<V>,
-    on: &TradeSet<2>,
+    on: &TradeSet<16>,
     prices: &Prices,
 ) -> Result<Replayed, OutOfMemory>
     requires limits { IsWithinLimits V.firm V.limit market.now }

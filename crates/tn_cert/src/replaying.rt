@@ -38,7 +38,7 @@ pub fn is_raw(claim: &Claim) -> bool
 
 /// Replays a claim on a market: it is valid exactly where no condition of it fails, and otherwise this is the first
 /// that does. It fails only where memory runs out. The claim is none on firms that aren't tested yet and within the
-/// limits of claims, and the market is within the limits of firms and has at most 128 trades.
+/// limits of claims, and the market is within the limits of firms, so that it has at most 1,024 trades.
 pub fn replay<V: Oracle>(
     alloc: Global,
     market: &Market<V>,

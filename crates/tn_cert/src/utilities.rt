@@ -20,7 +20,7 @@ use tn_price::{own_prices, worth_at};
 /// impossible.
 fn gain_by<V: Oracle>(
     market: &Market<V>,
-    at: &Arrangement<2>,
+    at: &Arrangement<16>,
     f: u32,
     other: Bundle,
     room: &mut Room,
@@ -45,7 +45,7 @@ fn gain_by<V: Oracle>(
 pub(crate) fn replay_better<V: Oracle>(
     alloc: Global,
     market: &Market<V>,
-    at: &Arrangement<2>,
+    at: &Arrangement<16>,
     firm: u32,
     bundle: Bundle,
     gain: i128,
@@ -76,7 +76,7 @@ pub(crate) fn replay_better<V: Oracle>(
 /// Whether the firm's bundle of a set of trades is impossible, or that it isn't.
 pub(crate) fn replay_impossible<V: Valuation>(
     market: &Market<V>,
-    on: &TradeSet<2>,
+    on: &TradeSet<16>,
     firm: u32,
     steps: &mut Steps<V::Mark>,
 ) -> Replayed

@@ -1,9 +1,10 @@
 -- How large the residual market and its prices are.
-use Rattle.std.proofs.Common.{ap, subst, ◌≡◌, ℕ, zero, suc, ◌+◌, ◌-◌, ◌*◌, ◌<◌, ◌≤◌, Bool, true, false, not, ◌&&◌, if◌then◌else◌, List, length, map, slice_get, get_or, Option, Some, None, option_map, refl, sym, ap₂, ◌∙◌, arith, inl, inr, ℤ, pos, ◌*ℤ◌, ◌≤ℤ◌}
+use Rattle.std.proofs.Common.{ap, subst, ◌≡◌, ℕ, zero, suc, ◌+◌, ◌-◌, ◌*◌, ◌^◌, ◌<◌, ◌≤◌, nat_le, Bool, true, false, not, ◌&&◌, if◌then◌else◌, List, length, map, slice_get, get_or, Option, Some, None, option_map, refl, sym, ap₂, ◌∙◌, arith, add-mul, mul-add, mul_assoc, inl, inr, ℤ, pos, ◌*ℤ◌, ◌≤ℤ◌}
 use Rattle.std.specs.Prelude.{unsigned_abs, All}
+use Rattle.std.proofs.Math.Nat.{mul_comm, mul_left_comm, mul_right_comm}
 use Rattle.std.proofs.lemmas.Int.{ints}
 use Rattle.std.proofs.lemmas.Nat.{mul-le}
-use Rattle.std.proofs.lemmas.Bool.{cases_lt, lt-ltb}
+use Rattle.std.proofs.lemmas.Bool.{leb-true, lt-ltb}
 use Rattle.std.proofs.lemmas.List.{length-append, length-map, get_or_past}
 use Rattle.std.proofs.lemmas.Option.{same_Some, slice_get-map, slice_get_cases, slice_get_within, get_or_from_slice_get}
 use Rattle.tn_base.specs.Arcs.{IsAtMost}
@@ -17,7 +18,7 @@ use Rattle.tn_law.proofs.BoundLemmas.{abs_small, times_small}
 use Rattle.tn_plain_data.specs.declared.ends.Ends.{Ends}
 use Rattle.tn_plain_data.specs.declared.contract.Contract.{Contract}
 use Rattle.tn_plain_data.specs.Prices.{price_at}
-use Rattle.tn_plain_data.specs.Limits.{most_claimed_over, most_number, most_over}
+use Rattle.tn_plain_data.specs.Limits.{few_trades, most_claimed_over, most_number, most_numerator, most_over, most_own_trades, most_sets, most_worth_among}
 use Rattle.tn_plain_data.specs.Choices.{IsFeasible}
 use Rattle.tn_market.specs.Limits.{IsOutcomeOf}
 use Rattle.tn_market.specs.Traded.{Traded}
@@ -29,7 +30,7 @@ use Rattle.tn_residual.specs.Residual.{residual_limit, residual_of, residual_tra
 use Rattle.tn_residual.proofs.MakingLemmas.{halves_few, outcome_feasible}
 use Rattle.tn_blocking_laws.proofs.CycleLemmas.{few, visits-all}
 use Rattle.tn_chain.proofs.NumberLemmas.{numbers_all, unsigned_size}
-use Rattle.tn_chain.specs.Limits.{most_judged_trades}
+use Rattle.tn_chain.specs.Limits.{most_judged_trades, most_residual_trades}
 use Rattle.tn_chain.specs.Search.{chain_scale, IsResidual}
 
 -- signed and unsigned trades are all trades
@@ -98,39 +99,72 @@ made_few g trades contracts feasible =
     let some = contracts_signed trades contracts feasible in
     omega (arith, parts, halves, free, counted, both, some)
 
--- its worths are small enough to solve it
+-- ---- its worths are small enough to solve it
+
+-- a product doesn't shrink where the second factor gives some and the first, at most twice as great, gets twice that
+gives_twice : (a d k : ℕ) → a ≤ 2 * k → a * (k + d) ≤ (a + 2 * d) * k
+gives_twice a d k half =
+    let parts = mul-add a k d in
+    let more = add-mul a (2 * d) k in
+    let turned = mul_comm a d in
+    let twice : 2 * d * k ≡ d * (2 * k) = mul_assoc 2 d k ∙ sym (mul_left_comm d 2 k) in
+    let product = mul-le d a d (2 * k) (omega arith) half in
+    omega (arith, parts, more, turned, twice, product)
+
+-- the scale times one more than the trades is greatest where all n trades are unsigned
+most_at_all : (l m n : ℕ) → l + m ≤ 2 * n → m ≤ n → (2 * m + 1) * (l + 1) ≤ (2 * n + 1) * (n + 1)
+most_at_all l m n made few =
+    let step = mul-le (2 * m + 1) (l + 1) (2 * m + 1) (n + 1 + (n - m)) (omega arith) (omega (arith, made, few)) in
+    let all = gives_twice (2 * m + 1) (n - m) (n + 1) (omega (arith, few)) in
+    let scale : 2 * m + 1 + 2 * (n - m) ≡ 2 * n + 1 = omega (arith, few) in
+    let same = ap (λ (s : ℕ). s * (n + 1)) scale in
+    omega (arith, step, all, same)
+
+-- worths that count s times make prices of l trades that fit, where s * (l + 1) and the worths are within these bounds
+fits : (s l each p q : ℕ) → s * (l + 1) ≤ p → each ≤ q → l ≤ 2 * most_judged_trades
+    → 2 * (p * q) + 128 * most_residual_trades + 128 < most_cost → 2 * (s * each + 64) * (l + 1) < most_cost
+fits s l each p q times small few most =
+    let parts : 2 * (s * each + 64) * (l + 1) ≡ 2 * (s * each) * (l + 1) + 128 * (l + 1) =
+    ap (λ (k : ℕ). k * (l + 1)) (mul-add 2 (s * each) 64) ∙ add-mul (2 * (s * each)) 128 (l + 1) in
+    let turned : 2 * (s * each) * (l + 1) ≡ 2 * (s * (l + 1) * each) =
+    mul_assoc 2 (s * each) (l + 1) ∙ ap (λ (k : ℕ). 2 * k) (mul_right_comm s each (l + 1)) in
+    let product = mul-le (s * (l + 1)) each p q times small in
+    omega (arith, parts, turned, product, few, most)
+
+-- few trades may have great worths, and many trades have smaller ones
+fits_among : (l m n over : ℕ) → l + m ≤ 2 * n → m ≤ n → n ≤ most_judged_trades → over ≤ most_over
+    → 2 * ((2 * m + 1) * (over * most_worth_among n + most_numerator) + 64) * (l + 1) < most_cost
+unfolding most_worth_among
+fits_among l m n over made some judged small_over = by_count (nat_le n few_trades) refl
+  where
+    by_count : (few : Bool) → nat_le n few_trades ≡ few
+        → 2 * ((2 * m + 1) * (over * (if few then most_worth else (most_own_trades + most_sets) * 10 ^ 7)
+        + most_numerator) + 64) * (l + 1) < most_cost
+    by_count true is =
+        let few = leb-true n few_trades is in
+        let all = most_at_all l m n made some in
+        let product = mul-le (2 * n + 1) (n + 1) 257 129 (omega (arith, few)) (omega (arith, few)) in
+        let worths = mul-le over most_worth most_over most_worth small_over (omega arith) in
+        fits (2 * m + 1) l (over * most_worth + most_numerator) (257 * 129) (most_over * most_worth + most_numerator)
+        (omega (arith, all, product)) (omega (arith, worths)) (omega (arith, made, judged)) (omega arith)
+    by_count false is =
+        let all = most_at_all l m n made some in
+        let product = mul-le (2 * n + 1) (n + 1) 2049 1025 (omega (arith, judged)) (omega (arith, judged)) in
+        let worths = mul-le over ((most_own_trades + most_sets) * 10 ^ 7) most_over
+        ((most_own_trades + most_sets) * 10 ^ 7) small_over (omega arith) in
+        fits (2 * m + 1) l (over * ((most_own_trades + most_sets) * 10 ^ 7) + most_numerator) (2049 * 1025)
+        (most_over * ((most_own_trades + most_sets) * 10 ^ 7) + most_numerator)
+        (omega (arith, all, product)) (omega (arith, worths)) (omega (arith, made, judged)) (omega arith)
+
 pub made_small : (over : ℤ) (g : ℕ) (trades : List Ends) (contracts : List Contract) → IsFeasible trades contracts
     → length trades ≤ most_judged_trades → pos 1 ≤ℤ over → over ≤ℤ pos most_over
-    → 2 * residual_limit (over *ℤ chain_scale (length trades) contracts) * (length (residual_trades g trades contracts)
-    + 1) < most_cost
-made_small over g trades contracts feasible few_trades low high =
-    by (unsigned_abs (over *ℤ chain_scale (length trades) contracts)) (size (unsigned (length trades) contracts))
-    (length (residual_trades g trades contracts))
-    (made_few g trades contracts feasible) (let both = both_sizes contracts (length trades) in
-    omega (arith, both, few_trades))
-    (abs_small (over *ℤ chain_scale (length trades) contracts)
-    (100 * (2 * size (unsigned (length trades) contracts) + 1))
-    (times_small over (chain_scale (length trades) contracts) 100 (2 * size (unsigned (length trades) contracts) + 1)
-    (record { low = omega (arith, ints, low); high = high }) (record {
-      low = omega (arith, ints);
-      high =
-          omega (arith, ints);
-    })))
-  where
-    by : (s m l : ℕ) → l + m ≤ 2 * length trades → m ≤ most_judged_trades → s ≤ 100 * (2 * m + 1)
-        → 2 * (s * most_worth + 64) * (l + 1) < most_cost
-    by s m l made most scale = elim (cases_lt m 65) [
-      | inl low_m ↦
-          let product =
-          mul-le (2 * (s * most_worth + 64)) (l + 1) (2 * (12900 * most_worth + 64)) 257
-          (omega (arith, scale, low_m)) (omega (arith, made, few_trades)) in
-          omega (arith, product)
-      | inr high_m ↦
-          let product =
-          mul-le (2 * (s * most_worth + 64)) (l + 1) (2 * (25700 * most_worth + 64)) 192
-          (omega (arith, scale, most)) (omega (arith, made, few_trades, high_m)) in
-          omega (arith, product)
-    ]
+    → 2 * residual_limit (length trades) over (chain_scale (length trades) contracts)
+    * (length (residual_trades g trades contracts) + 1) < most_cost
+made_small over g trades contracts feasible judged low high =
+    let both = both_sizes contracts (length trades) in
+    fits_among (length (residual_trades g trades contracts)) (size (unsigned (length trades) contracts))
+    (length trades) (unsigned_abs over) (made_few g trades contracts feasible) (omega (arith, both)) judged
+    (abs_small over most_over (record { low = omega (arith, ints, low); high = high }))
 
 -- a price of a list of small prices
 pub price_small : (prices : List ℤ) (bound : ℕ) → AreSmallPrices bound prices → bound < most_cost → (t : ℕ)
@@ -157,21 +191,29 @@ made_more g trades contracts =
     let counted = unsigned_size contracts (length trades) in
     omega (arith, parts, free, counted)
 
--- the scale is small
-pub scale_bound : (over : ℤ) (n : ℕ) (contracts : List Contract) → n ≤ most_judged_trades → pos 1 ≤ℤ over
-    → over ≤ℤ pos most_over → IsAtMost (over *ℤ chain_scale n contracts) (most_over * (2 * most_judged_trades + 1))
-scale_bound over n contracts few_trades low high =
+-- the denominator of what blocks is small, the smaller the fewer trades there are
+pub scale_within : (over : ℤ) (n : ℕ) (contracts : List Contract) → pos 1 ≤ℤ over → over ≤ℤ pos most_over
+    → IsAtMost (over *ℤ chain_scale n contracts) (most_over * (2 * n + 1))
+scale_within over n contracts low high =
     let both = both_sizes contracts n in
-    times_small over (chain_scale n contracts) most_over (2 * most_judged_trades + 1) (record {
-      low =
-          omega (arith, ints, low);
+    times_small over (chain_scale n contracts) most_over (2 * n + 1) (record {
+      low = omega (arith, ints, low);
       high = high;
     })
-    (record { low = omega (arith, ints); high = omega (arith, ints, both, few_trades) })
+    (record { low = omega (arith, ints); high = omega (arith, ints, both) })
+
+pub scale_bound : (over : ℤ) (n : ℕ) (contracts : List Contract) → n ≤ most_judged_trades → pos 1 ≤ℤ over
+    → over ≤ℤ pos most_over → IsAtMost (over *ℤ chain_scale n contracts) (most_over * (2 * most_judged_trades + 1))
+scale_bound over n contracts judged low high =
+    let within = scale_within over n contracts low high in
+    record {
+      low = omega (arith, ints, judged, within.low);
+      high = omega (arith, ints, judged, within.high);
+    }
 
 pub scale_small : (over : ℤ) (n : ℕ) (contracts : List Contract) → n ≤ most_judged_trades → pos 1 ≤ℤ over
     → over ≤ℤ pos most_over → (over *ℤ chain_scale n contracts) ≤ℤ pos most_claimed_over
-scale_small over n contracts few_trades low high = let most = (scale_bound over n contracts few_trades low high).high in
+scale_small over n contracts judged low high = let most = (scale_bound over n contracts judged low high).high in
     omega (arith, ints, most)
 
 -- a residual market of an outcome within the limits is one that can be solved
@@ -182,24 +224,24 @@ pub is_residual : {P : Type 0} (firm_of : P → Firm) (limit_of : P
     → scale ≡ chain_scale (length trades) contracts → (residual : Traded P)
     → map firm_of residual.firms ≡ residual_of firms trades over contracts scale (pos 1)
     → residual.trades ≡ residual_trades count trades contracts
-    → All (λ party. limit_of party ≤ residual_limit (over *ℤ scale)) residual.firms
+    → All (λ party. limit_of party ≤ residual_limit (length trades) over scale) residual.firms
     → IsResidual firm_of limit_of firms trades over contracts residual
-is_residual {P} firm_of limit_of firms count trades over contracts scale count_is few_trades outcome scale_is residual
+is_residual {P} firm_of limit_of firms count trades over contracts scale count_is judged outcome scale_is residual
     parties ends limits = record {
       parties = parties ∙ ap (λ (s : ℤ). residual_of firms trades over contracts s (pos 1)) scale_is;
       ends = all_ends;
       limits = λ f party is.
-          subst (λ (s : ℤ). limit_of party ≤ residual_limit (over *ℤ s)) scale_is
-          (subst (λ (p : P). limit_of p ≤ residual_limit (over *ℤ scale))
+          subst (λ (s : ℤ). limit_of party ≤ residual_limit (length trades) over s) scale_is
+          (subst (λ (p : P). limit_of p ≤ residual_limit (length trades) over scale)
           (get_or_from_slice_get residual.firms f party party is)
           (limits f party (slice_get_within residual.firms f party is)));
       few =
           let size_is = ap length all_ends in
           let most = made_few (length firms) trades contracts feasible in
-          omega (arith, size_is, most, few_trades);
-      small = subst (λ (ts : List Ends). 2 * residual_limit (over *ℤ chain_scale (length trades) contracts) * (length ts
-          + 1) < most_cost) (sym all_ends)
-          (made_small over (length firms) trades contracts feasible few_trades outcome.least outcome.most);
+          omega (arith, size_is, most, judged);
+      small = subst (λ (ts : List Ends). 2 * residual_limit (length trades) over (chain_scale (length trades)
+          contracts) * (length ts + 1) < most_cost) (sym all_ends)
+          (made_small over (length firms) trades contracts feasible judged outcome.least outcome.most);
     }
   where
     feasible : IsFeasible trades contracts

@@ -1,5 +1,5 @@
 -- What the solver finds in the residual market.
-use Rattle.std.proofs.Common.{◌≡◌, ℕ, ◌+◌, ◌*◌, ◌<◌, ◌≤◌, true, false, List, length, map, slice_get, Some, refl, sym, ◌∙◌, subst, arith, inl, inr, ℤ, pos, ◌*ℤ◌}
+use Rattle.std.proofs.Common.{◌≡◌, ℕ, ◌+◌, ◌*◌, ◌<◌, ◌≤◌, true, false, List, length, map, slice_get, Some, refl, sym, ◌∙◌, subst, arith, inl, inr, ℤ, pos}
 use Rattle.std.proofs.lemmas.Int.{ints}
 use Rattle.std.proofs.lemmas.Nat.{mul-le}
 use Rattle.std.proofs.lemmas.Bool.{cases_lt, true≢false}
@@ -10,7 +10,10 @@ use Rattle.tn_plain_data.specs.declared.contract.Contract.{Contract}
 use Rattle.tn_plain_data.specs.Network.{IsNetwork}
 use Rattle.tn_plain_data.specs.Prices.{price_at}
 use Rattle.tn_plain_data.specs.Choices.{IsFeasible}
+use Rattle.tn_market.specs.Limits.{AreWorthsWithin}
 use Rattle.tn_market.specs.Traded.{Traded}
+use Rattle.tn_market.specs.Valued.{IsWorthAtMost}
+use Rattle.tn_network.proofs.EachLemmas.{each_within}
 use Rattle.tn_flow.specs.Solved.{Solution, IsSolution, AreSmallPrices}
 use Rattle.tn_residual.specs.Residual.{residual_limit, unsigned}
 use Rattle.tn_residual.proofs.TradeLemmas.{free_count}
@@ -39,14 +42,15 @@ pub solved_among : {P : Type 0} (firm_of : P → Firm) (limit_of : P
     (allowed free numbers all : ℕ) (solution : Solution) → IsNetwork firms trades → IsFeasible trades contracts
     → ((f : ℕ) (firm : Firm) → slice_get firms f ≡ Some firm → HasOwnBundles firm)
     → IsResidual firm_of limit_of firms trades over contracts residual
+    → ((party : P) → IsWorthAtMost (limit_of party) (firm_of party))
     → free ≡ size (unsigned (length trades) contracts) → AreNumbers contracts allowed (length trades) numbers
     → AreNumbersUpTo numbers free (length residual.trades) all
     → IsSolution (map firm_of residual.firms) residual.trades all solution
-    → ((bound : ℕ) → ((f : ℕ) (party : P) → slice_get residual.firms f ≡ Some party → limit_of party ≤ bound)
+    → ((bound : ℕ) → AreWorthsWithin bound (map firm_of residual.firms)
     → AreSmallPrices (2 * bound * length residual.trades) solution.prices)
     → IsSolvedAmong firms trades over contracts allowed solution
 solved_among firm_of limit_of firms trades over contracts residual allowed free numbers all solution network feasible
-    own_bundles is_residual free_size are up is_solution within =
+    own_bundles is_residual lawful free_size are up is_solution within =
     let z : Setting = record {
       firms = firms;
       trades = trades;
@@ -65,7 +69,7 @@ solved_among firm_of limit_of firms trades over contracts residual allowed free 
     let halves : AreNumbersUpTo numbers (free_count trades contracts) (length (made z)) all =
     subst (λ (n : ℕ). AreNumbersUpTo numbers n (length (made z)) all) (free_is trades contracts free free_size)
     (subst (λ (ts : List Ends). AreNumbersUpTo numbers free (length ts) all) is_residual.ends up) in
-    let limit = residual_limit (over *ℤ chain_scale (length trades) contracts) in
+    let limit = residual_limit (length trades) over (chain_scale (length trades) contracts) in
     let product =
     mul-le (2 * limit) (length residual.trades) (2 * limit) (length residual.trades + 1) (omega arith) (omega arith)
     in
@@ -74,6 +78,7 @@ solved_among firm_of limit_of firms trades over contracts residual allowed free 
       taxed = seen z refl (omega (arith, ints)) allowed all solution.on (price_at solution.prices)
           (numbers_admit z allowed numbers all are halves) second.inside second.equilibrium;
       sized = second.one_each;
-      small = price_small solution.prices (2 * limit * length residual.trades) (within limit is_residual.limits)
+      small = price_small solution.prices (2 * limit * length residual.trades) (within limit
+          (each_within firm_of limit_of residual.firms lawful limit is_residual.limits))
           (omega (arith, product, small));
     }

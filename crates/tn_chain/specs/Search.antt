@@ -33,10 +33,10 @@ pub record IsResidual {P : Type 0} (firm_of : P → Firm) (limit_of : P
       (chain_scale (length trades) contracts) (pos 1)
   pub ends : residual.trades ≡ residual_trades (length firms) trades contracts
   pub limits : (f : ℕ) (party : P) → slice_get residual.firms f ≡ Some party
-      → limit_of party ≤ residual_limit (over *ℤ chain_scale (length trades) contracts)
+      → limit_of party ≤ residual_limit (length trades) over (chain_scale (length trades) contracts)
   pub few : length residual.trades ≤ most_residual_trades
-  pub small : 2 * residual_limit (over *ℤ chain_scale (length trades) contracts) * (length residual.trades + 1)
-      < most_cost
+  pub small : 2 * residual_limit (length trades) over (chain_scale (length trades) contracts)
+      * (length residual.trades + 1) < most_cost
 
 -- the prices that a solution has for the unsigned trades
 abbrev pub price_for : List Contract → List ℤ → ℕ → ℤ

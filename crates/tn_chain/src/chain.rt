@@ -29,7 +29,7 @@ use tn_market::{Contracts, Market, Oracle, Outcome, Party, Valuation};
 use tn_residual::residual;
 
 /// Lists a negative cycle of the reduced graph on some trades, and answers how many nodes it has.
-fn find_cycle(finder: &mut Finder, graph: &Graph, null: u32, left: &TradeSet<2>) -> u32
+fn find_cycle(finder: &mut Finder, graph: &Graph, null: u32, left: &TradeSet<16>) -> u32
     requires few { null ≤ most_judged_trades }
     requires graph_sized { graph.now.nodes ≡ null + 1 }
     requires finder_sized { finder.old.nodes ≡ null + 1 }
@@ -57,8 +57,8 @@ fn solve_among<'a, V: Oracle>(
     outcome: &Outcome,
     residual: &Market<Party<'a, V>>,
     free: u32,
-    allowed: &TradeSet<2>,
-    solver: &mut Solver<4>,
+    allowed: &TradeSet<16>,
+    solver: &mut Solver<32>,
     steps: &mut Steps<V::Mark>,
 )
     requires limits { IsWithinLimits V.firm V.limit market.now }
@@ -89,7 +89,7 @@ fn search<'a, V: Oracle>(
     residual: &Market<Party<'a, V>>,
     graph: &Graph,
     finder: &mut Finder,
-    solver: &mut Solver<4>,
+    solver: &mut Solver<32>,
     steps: &mut Steps<V::Mark>,
 ) -> Result<Contracts, OutOfMemory>
     requires limits { IsWithinLimits V.firm V.limit market.now }
@@ -156,7 +156,7 @@ fn taxed_residual<'a, V: Oracle>(
 /// trades, over the outcome's denominator times twice the number of unsigned trades and one, each of whose buyers is
 /// the seller of the next. Each price is below 10^18 in size. It fails only where memory runs out (Hatfield, Kominers,
 /// Nichifor, Ostrovsky and Westkamp, "Chain stability in trading networks", 2021). The limits of firms and outcomes
-/// hold, and there are at most 128 trades.
+/// hold, so there are at most 1,024 trades.
 pub fn chain_of<V: Oracle>(
     alloc: Global,
     market: &Market<V>,

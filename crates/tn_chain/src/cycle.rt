@@ -17,7 +17,7 @@ use tn_flow::Solver;
 use tn_market::{Contract, Contracts};
 
 /// Moves a node in or out if it is a trade.
-fn toggle_trade(set: &mut TradeSet<2>, node: u32, null: u32)
+fn toggle_trade(set: &mut TradeSet<16>, node: u32, null: u32)
     requires few { null ≤ most_judged_trades }
     ensures { set.new ≡ toggled_if (nat_lt node null) set.old node }
 {
@@ -27,7 +27,7 @@ fn toggle_trade(set: &mut TradeSet<2>, node: u32, null: u32)
 }
 
 /// The trades among the `count` nodes that a finder lists.
-pub fn listed_trades(finder: &Finder, count: u32, null: u32) -> TradeSet<2>
+pub fn listed_trades(finder: &Finder, count: u32, null: u32) -> TradeSet<16>
     requires few { null ≤ most_judged_trades }
     requires counted { count ≡ length finder.now.listed }
     requires different { AreDifferent finder.now.listed }
@@ -41,7 +41,7 @@ pub fn listed_trades(finder: &Finder, count: u32, null: u32) -> TradeSet<2>
 }
 
 /// The contract on an unsigned trade at the price that a solver has for its number.
-fn contract_on(solver: &Solver<4>, contracts: &Contracts, t: u32) -> Contract
+fn contract_on(solver: &Solver<32>, contracts: &Contracts, t: u32) -> Contract
     requires few { t < most_judged_trades }
     requires free { is_signed contracts.now t ≡ false }
     requires priced { number_from contracts.now 0 t < length solver.now.prices }
@@ -61,7 +61,7 @@ pub fn contracts_at(
     finder: &Finder,
     first: u32,
     count: u32,
-    solver: &Solver<4>,
+    solver: &Solver<32>,
     contracts: &Contracts,
 ) -> Result<Contracts, OutOfMemory>
     requires counted { count ≡ length finder.now.listed }

@@ -175,7 +175,7 @@ fn write_row<V: Oracle>(
 }
 
 /// The exchange graph of an outcome's reduced worths, where no unsigned trade is on: trade t is node t, and the null
-/// node is the last one. No cost is above 2.64 * 10^13 in size. It fails only where memory runs out. The limits of
+/// node is the last one. No cost is above 3.68 * 10^13 in size. It fails only where memory runs out. The limits of
 /// firms and outcomes hold.
 pub fn reduced_graph<V: Oracle>(
     alloc: Global,

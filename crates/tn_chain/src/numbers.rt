@@ -11,7 +11,7 @@ use tn_market::Contracts;
 use tn_residual::contract_price;
 
 /// Moves a trade in or out where that is wanted.
-pub fn toggle_if(set: &mut TradeSet<2>, t: u32, wanted: bool)
+pub fn toggle_if(set: &mut TradeSet<16>, t: u32, wanted: bool)
     requires inside { t < most_judged_trades }
     ensures { set.new ≡ toggled_if wanted set.old t }
 {
@@ -21,7 +21,7 @@ pub fn toggle_if(set: &mut TradeSet<2>, t: u32, wanted: bool)
 }
 
 /// Moves a number in or out where that is wanted, and where there is one.
-fn add_if(set: &mut TradeSet<4>, number: Option<u32>, wanted: bool)
+fn add_if(set: &mut TradeSet<32>, number: Option<u32>, wanted: bool)
     requires inside { IfSome number (λ n. n < most_residual_trades) }
     ensures { set.new ≡ added_if wanted number set.old }
 {
@@ -33,7 +33,7 @@ fn add_if(set: &mut TradeSet<4>, number: Option<u32>, wanted: bool)
 }
 
 /// Whether there is a number, and it is in the set.
-fn is_among(number: Option<u32>, set: &TradeSet<4>) -> bool
+fn is_among(number: Option<u32>, set: &TradeSet<32>) -> bool
     requires inside { IfSome number (λ n. n < most_residual_trades) }
     ensures { result ≡ is_among number set.now }
 {
@@ -44,7 +44,7 @@ fn is_among(number: Option<u32>, set: &TradeSet<4>) -> bool
 }
 
 /// The unsigned ones of the first `count` trades.
-pub fn unsigned_trades(contracts: &Contracts, count: u32) -> TradeSet<2>
+pub fn unsigned_trades(contracts: &Contracts, count: u32) -> TradeSet<16>
     requires few { count ≤ most_judged_trades }
     ensures { result ≡ unsigned count contracts.now }
 {
@@ -90,7 +90,7 @@ pub fn number_of(contracts: &Contracts, t: u32) -> Option<u32>
 }
 
 /// The numbers of those of the first `count` trades that are unsigned and in a set.
-pub fn numbers_of(contracts: &Contracts, count: u32, set: &TradeSet<2>) -> TradeSet<4>
+pub fn numbers_of(contracts: &Contracts, count: u32, set: &TradeSet<16>) -> TradeSet<32>
     requires few { count ≤ most_judged_trades }
     ensures { AreNumbers contracts.now set.now count result }
 {
@@ -102,7 +102,7 @@ pub fn numbers_of(contracts: &Contracts, count: u32, set: &TradeSet<2>) -> Trade
 }
 
 /// Adds all numbers from `from` on and below `to`.
-pub fn add_numbers(numbers: &mut TradeSet<4>, from: u32, to: u32)
+pub fn add_numbers(numbers: &mut TradeSet<32>, from: u32, to: u32)
     requires few { to ≤ most_residual_trades }
     requires order { from ≤ to }
     requires none { (s : ℕ) → from ≤ s → has numbers.old s ≡ false }
@@ -114,7 +114,7 @@ pub fn add_numbers(numbers: &mut TradeSet<4>, from: u32, to: u32)
 }
 
 /// The unsigned ones of the first `count` trades whose numbers are in a set.
-pub fn trades_numbered(contracts: &Contracts, count: u32, numbers: &TradeSet<4>) -> TradeSet<2>
+pub fn trades_numbered(contracts: &Contracts, count: u32, numbers: &TradeSet<32>) -> TradeSet<16>
     requires few { count ≤ most_judged_trades }
     ensures { result ≡ unsigned_part contracts.now count numbers.now }
 {

@@ -1,5 +1,5 @@
 -- From the judgement of an arrangement to the answer about it.
-use Rattle.std.proofs.Common.{◌≡◌, ℕ, ◌^◌, ◌<◌, ◌≤◌, ℤ, pos, ◌≤ℤ◌, get_or, List, [], ◌∷◌, length, map, refl, sym, ap, ◌∙◌, subst, arith, inl, inr}
+use Rattle.std.proofs.Common.{◌*◌, ◌≡◌, ℕ, ◌^◌, ◌<◌, ◌≤◌, ℤ, pos, ◌≤ℤ◌, get_or, List, [], ◌∷◌, length, map, refl, sym, ap, ◌∙◌, subst, arith, inl, inr}
 use Rattle.std.specs.Prelude.{Option, Some, None, option_map, slice_get, All}
 use Rattle.std.proofs.lemmas.Int.{ints}
 use Rattle.std.proofs.lemmas.List.{length-map, get_or_past}
@@ -75,7 +75,7 @@ surplus_fits firms trades on s few is =
 -- a gain fits an answer
 pub gain_fits : (firms : List FirmValue) (trades : List Ends) (on : ℕ) (prices : List ℤ) (f x : ℕ) (gain : ℤ)
     → All (λ p. IsAtMost p most_price) prices
-    → IsFirstBettered (map firm_of firms) trades (pos 1) on (price_at prices) f x gain → IsAtMost gain (10 ^ 16)
+    → IsFirstBettered (map firm_of firms) trades (pos 1) on (price_at prices) f x gain → IsAtMost gain (2 * 10 ^ 16)
 gain_fits firms trades on prices f x gain small bettered =
     let there = value_at firms f bettered.firm bettered.is in
     let few : bettered.firm.count ≤ most_own = subst (λ (firm : Firm). firm.count ≤ most_own) there.2 (firm_few there.0)

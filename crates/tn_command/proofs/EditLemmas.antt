@@ -27,9 +27,8 @@ use Rattle.tn_network.proofs.AdmittedLemmas.{possible_from_admitted, admitted_mo
 use Rattle.tn_network.proofs.RoundLemmas.{equilibrium_possible}
 use Rattle.tn_answer.specs.Kept.{IsWithinPrices, IsWithinState}
 use Rattle.tn_command.proofs.SolveLemmas.{small_prices}
-use Rattle.tn_command.specs.Limits.{most_answered_trades}
-use Rattle.tn_plain_data.specs.Limits.{most_price}
-use Rattle.tn_market.specs.Widths.{most_worth}
+use Rattle.tn_command.specs.Limits.{AreWorthsAnswered, most_answered_trades}
+use Rattle.tn_plain_data.specs.Limits.{most_price, most_worth_among}
 use Rattle.tn_command.specs.declared.editing.Kept.{Kept}
 use Rattle.tn_command.specs.Edited.{AreStates, IsAfter, IsStateAfter, IsStateOf, StandsAfter, StandsOn, after, is_admitted_after, is_admitted_by, is_away_after, is_away_by, is_usable_after}
 
@@ -37,14 +36,18 @@ use Rattle.tn_command.specs.Edited.{AreStates, IsAfter, IsStateAfter, IsStateOf,
 
 pub stands_from : (firms : List FirmValue) (trades : List Ends) (session : Standing FirmValue)
     → session.market ≡ record { firms = firms; trades = trades }
-    → HoldsEquilibrium firm_of session → HasSmallPrices (λ value. most_worth) session → StandsOn firms trades session
-stands_from firms trades session market equilibrium small = record {
+    → AreWorthsAnswered (map firm_of firms) trades
+    → HoldsEquilibrium firm_of session → HasSmallPrices firm_of session → StandsOn firms trades session
+stands_from firms trades session market worths equilibrium small = record {
   market = market;
   equilibrium =
       subst (λ (m : Traded FirmValue). IsSolution (map firm_of m.firms) m.trades session.admitted session.solution)
       market equilibrium;
-  small = subst (λ (m : Traded FirmValue). AreSmallPrices (2 * most_worth * length m.trades) session.solution.prices)
-      market (small most_worth (λ f value is. omega arith));
+  worths = worths;
+  small =
+      subst (λ (m : Traded FirmValue). AreWorthsAnswered (map firm_of m.firms) m.trades
+      → AreSmallPrices (2 * most_worth_among (length m.trades) * length m.trades) session.solution.prices) market
+      (small (most_worth_among (length session.market.trades))) worths;
 }
 
 -- ---- one more edit

@@ -51,7 +51,7 @@ surplus_small trades on f (firm ∷ firms) s small is =
 -- the utility of a bundle at prices of an arrangement
 pub utility_small : (firm : Firm) (prices : ℕ → ℤ) (x : ℕ) (value : ℤ) → firm.count ≤ most_own
     → IsWorthAtMost most_worth firm → ((k : ℕ) → IsAtMost (prices k) most_price)
-    → utility (pos 1) prices firm x ≡ Some value → IsAtMost value (4 * 10 ^ 15)
+    → utility (pos 1) prices firm x ≡ Some value → IsAtMost value (7 * 10 ^ 15)
 utility_small firm prices x value few worths small is =
     let worth = option_map-some (λ a. pos 1 *ℤ a +ℤ sum_over (payments firm.buys prices) firm.count x) (firm.worth x)
     value is in

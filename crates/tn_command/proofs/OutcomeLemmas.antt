@@ -1,5 +1,5 @@
 -- The numbers of a verdict on an outcome fit an answer.
-use Rattle.std.proofs.Common.{◌≡◌, ℕ, ◌≤◌, ℤ, pos, neg_ℤ, ◌+ℤ◌, ◌-ℤ◌, ◌*ℤ◌, Bool, true, false, if◌then◌else◌, ◌==◌, List, length, map, refl, sym, ap, ◌∙◌, subst, arith}
+use Rattle.std.proofs.Common.{◌*◌, ◌≡◌, ℕ, ◌≤◌, ℤ, pos, neg_ℤ, ◌+ℤ◌, ◌-ℤ◌, ◌*ℤ◌, Bool, true, false, if◌then◌else◌, ◌==◌, List, length, map, refl, sym, ap, ◌∙◌, subst, arith}
 use Rattle.std.specs.Prelude.{Option, Some, None, option_map, unwrap_or, slice_get, get_or, All, IfSome}
 use Rattle.std.proofs.lemmas.Int.{ints}
 use Rattle.std.proofs.lemmas.Option.{slice_get_within, slice_get-get_or, get_or_from_slice_get}
@@ -66,7 +66,7 @@ payment_small trades f contracts limit k small = by (slice_get contracts k) refl
 -- the utility of a part of an outcome's contracts
 part_small : (trades : List Ends) (over : ℤ) (f : ℕ) (firm : Firm) (contracts : List Contract) (x : ℕ) (value : ℤ)
     → IsOutcomeOf trades over contracts → length trades ≤ most_answered_trades → IsWorthAtMost most_worth firm
-    → part_utility trades over f firm contracts x ≡ Some value → IsAtMost value most_price
+    → part_utility trades over f firm contracts x ≡ Some value → IsAtMost value (2 * most_price)
 part_small trades over f firm contracts x value outcome few worths is =
     let worth = option_map-some (λ a. over *ℤ a +ℤ sum_over (payment trades f contracts) (length contracts) x)
     (firm.worth (bundle_by trades f firm.count contracts x)) value is in
@@ -101,7 +101,8 @@ drop_small firms trades over contracts f x gain outcome few first =
     (by kept (λ own is. part_small trades over f first.firm contracts (own_part trades f contracts) own outcome few
     worths is) (part_utility trades over f first.firm contracts (own_part trades f contracts)) refl)
   where
-    by : {value : ℤ} {own : Option ℤ} → IsAtMost value most_price → ((z : ℤ) → own ≡ Some z → IsAtMost z most_price)
+    by : {value : ℤ} {own : Option ℤ} → IsAtMost value (2 * most_price)
+        → ((z : ℤ) → own ≡ Some z → IsAtMost z (2 * most_price))
         → (o : Option ℤ) → own ≡ o → IfSome (option_map (λ z. value -ℤ z) o) (λ z. IsAtMost z most_number)
     by kept all None e = tt
     by kept all (Some z) e = let own = all z e in record {

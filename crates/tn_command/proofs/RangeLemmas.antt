@@ -24,9 +24,9 @@ use Rattle.tn_network.proofs.WelfareLemmas.{equilibrium_is_efficient}
 use Rattle.tn_price.proofs.CycleLemmas.{arcs_between, said_inside}
 use Rattle.tn_answer.specs.Kept.{HasWithinBounds, IsWithinPrices}
 use Rattle.tn_command.specs.Ranged.{IsRanged}
-use Rattle.tn_command.specs.Limits.{most_answered_trades}
-use Rattle.tn_market.specs.Widths.{most_worth}
-use Rattle.tn_command.proofs.CheckLemmas.{value_at}
+use Rattle.tn_command.specs.Limits.{AreWorthsAnswered, most_answered_trades}
+use Rattle.tn_plain_data.specs.Limits.{most_worth_among}
+use Rattle.tn_command.proofs.SolveLemmas.{cost_within}
 
 -- the answer
 pub ranged_from : (firms : List FirmValue) (trades : List Ends) (set : ℕ) (listed : List ℕ) (prices : ℕ
@@ -134,24 +134,23 @@ module _ (firms : List Firm) (trades : List Ends) (on : ℕ) (network : IsNetwor
 -- prices of a network of few trades of small firms are within the limit of prices
 pub ranges_small : (firms : List FirmValue) (trades : List Ends) (on : ℕ) (ranges : List Range)
     → IsNetwork (map firm_of firms) trades → length trades ≤ most_answered_trades
+    → AreWorthsAnswered (map firm_of firms) trades
     → AreRanges (map firm_of firms) trades on ranges → All HasWithinBounds ranges
-ranges_small firms trades on ranges network few each k d below =
+ranges_small firms trades on ranges network few worths each k d below =
     let range = each.each k (get_or ranges k d) (slice_get-get_or ranges k d below) in
     let counted = each.one_each in
     let inside : k < length trades = omega (arith, below, counted) in
     record {
-      high = narrow (get_or ranges k d).high (high_small (map firm_of firms) trades on network most_worth within k
+      high = narrow (get_or ranges k d).high (high_small (map firm_of firms) trades on network most worths k
           (get_or ranges k d).high (get_or ranges k d).high_path inside range.high_shown);
-      low = narrow (get_or ranges k d).low (low_small (map firm_of firms) trades on network most_worth within k
+      low = narrow (get_or ranges k d).low (low_small (map firm_of firms) trades on network most worths k
           (get_or ranges k d).low (get_or ranges k d).low_path inside range.low_shown);
     }
   where
-    within : (f : ℕ) (firm : Firm) → slice_get (map firm_of firms) f ≡ Some firm → IsWorthAtMost most_worth firm
-    within f firm is = let value = value_at firms f firm is in
-        subst (IsWorthAtMost most_worth) value.2 (firm_laws value.0).within
+    most : ℕ
+    most = most_worth_among (length trades)
 
-    narrow : (bound : Option ℤ) → IfSome bound (λ z. IsAtMost z ((length trades + 1) * (2 * most_worth)))
+    narrow : (bound : Option ℤ) → IfSome bound (λ z. IsAtMost z ((length trades + 1) * (2 * most)))
         → IfSome bound IsWithinPrices
     narrow None h = tt
-    narrow (Some z) h = let low = h.low in let high = h.high in
-        record { low = omega (arith, ints, low, high, few); high = omega (arith, ints, low, high, few) }
+    narrow (Some z) h = cost_within (length trades) z few h

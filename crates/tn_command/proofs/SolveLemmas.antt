@@ -1,6 +1,7 @@
 -- From an equilibrium that was found to the answer about it.
-use Rattle.std.proofs.Common.{◌≡◌, ℕ, suc, ◌+◌, ◌*◌, ◌<◌, ◌≤◌, ℤ, pos, ◌+ℤ◌, List, [], ◌∷◌, ◌++◌, length, map, take, slice_get, Option, None, option_map, refl, sym, ap, ◌∙◌, subst, arith}
+use Rattle.std.proofs.Common.{◌≡◌, ℕ, suc, ◌+◌, ◌*◌, ◌<◌, ◌≤◌, Bool, if◌then◌else◌, inl, inr, ◌^◌, ℤ, pos, ◌+ℤ◌, List, [], ◌∷◌, ◌++◌, length, map, take, slice_get, Option, None, option_map, refl, sym, ap, ◌∙◌, subst, arith}
 use Rattle.std.specs.Prelude.{All, Some, IsSome, get_or, option_and_then}
+use Rattle.std.proofs.lemmas.Bool.{cases_lt, le-leb, lt-leb}
 use Rattle.std.proofs.lemmas.Int.{ints}
 use Rattle.std.proofs.lemmas.List.{take_all}
 use Rattle.std.proofs.Math.Seq.{take-suc}
@@ -15,8 +16,7 @@ use Rattle.tn_firm.specs.declared.value.FirmValue.{FirmValue}
 use Rattle.tn_firm.specs.Firms.{firm_of}
 use Rattle.tn_command.specs.Solved.{IsSolved}
 use Rattle.tn_command.specs.Limits.{most_answered_trades}
-use Rattle.tn_plain_data.specs.Limits.{most_price}
-use Rattle.tn_market.specs.Widths.{most_worth}
+use Rattle.tn_plain_data.specs.Limits.{most_price, most_worth_among}
 use Rattle.tn_command.proofs.CheckLemmas.{implied_by}
 
 -- the first prices with one more
@@ -31,14 +31,37 @@ pub all_prices : (prices done : List ℤ) (t count : ℕ) → done ≡ take t pr
     → done ≡ prices
 all_prices prices done t count so_far counted end = so_far ∙ take_all t prices (omega (arith, counted, end))
 
+-- the cost of a cycle through every trade, each at twice the greatest worth among so many, is within the limit of prices
+cycle_cost : (trades : ℕ) → trades ≤ most_answered_trades → (trades + 1) * (2 * most_worth_among trades) ≤ most_price
+unfolding most_worth_among
+cycle_cost trades few = elim (cases_lt 128 trades) [
+  | inl many ↦ subst (λ (b : Bool). (trades + 1) * (2 * (if b then 124 * 10 ^ 9 else 124 * 10 ^ 7)) ≤ most_price)
+      (sym (lt-leb trades 128 many)) (omega (arith, few))
+  | inr small ↦ subst (λ (b : Bool). (trades + 1) * (2 * (if b then 124 * 10 ^ 9 else 124 * 10 ^ 7)) ≤ most_price)
+      (sym (le-leb trades 128 small)) (omega (arith, small))
+]
+
+-- so a number that is no greater is
+pub cost_within : (trades : ℕ) (z : ℤ) → trades ≤ most_answered_trades
+    → IsAtMost z ((trades + 1) * (2 * most_worth_among trades)) → IsAtMost z most_price
+cost_within trades z few small =
+    let most = cycle_cost trades few in
+    let low = small.low in
+    let high = small.high in
+    record { low = omega (arith, ints, most, low); high = omega (arith, ints, most, high) }
+
 -- prices of a network of few trades of small firms are within the limit of prices
 pub small_prices : (trades : ℕ) (prices : List ℤ) → trades ≤ most_answered_trades
-    → All (λ p. IsAtMost p (2 * most_worth * trades)) prices → All (λ p. IsAtMost p most_price) prices
-small_prices trades prices few small k d below = wider (get_or prices k d) (small k d below)
+    → All (λ p. IsAtMost p (2 * most_worth_among trades * trades)) prices → All (λ p. IsAtMost p most_price) prices
+small_prices trades prices few small k d below =
+    cost_within trades (get_or prices k d) few (wider (get_or prices k d) (most_worth_among trades) (small k d below))
   where
-    wider : (z : ℤ) → IsAtMost z (2 * most_worth * trades) → IsAtMost z most_price
-    wider z h = let low = h.low in let high = h.high in
-        record { low = omega (arith, ints, few, low, high); high = omega (arith, ints, few, low, high) }
+    wider : (z : ℤ) (worth : ℕ) → IsAtMost z (2 * worth * trades) → IsAtMost z ((trades + 1) * (2 * worth))
+    wider z worth h =
+        let e : (trades + 1) * (2 * worth) ≡ 2 * worth * trades + 2 * worth = grind arith in
+        let low = h.low in
+        let high = h.high in
+        record { low = omega (arith, ints, e, low); high = omega (arith, ints, e, high) }
 
 -- bundles that are possible have a surplus
 possible_sum : (trades : List Ends) (on s : ℕ) (firms : List Firm)

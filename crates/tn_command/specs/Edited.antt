@@ -16,7 +16,8 @@ use Rattle.tn_command.specs.declared.editing.Kept.{Kept}
 use Rattle.tn_market.specs.Admitted.{admitted}
 use Rattle.tn_plain_data.specs.Prices.{price_at}
 use Rattle.tn_market.specs.Best.{IsSubset}
-use Rattle.tn_market.specs.Widths.{most_worth}
+use Rattle.tn_plain_data.specs.Limits.{most_worth_among}
+use Rattle.tn_command.specs.Limits.{AreWorthsAnswered}
 use Rattle.tn_plain_data.specs.Choices.{contracts_of}
 use Rattle.tn_market.specs.Equilibrium.{IsEquilibrium, surplus_of}
 use Rattle.tn_plain_data.specs.Network.{IsNetwork, part, trades_on}
@@ -100,7 +101,8 @@ TellsStates firms trades edits said = ⊥
 pub record StandsOn (firms : List FirmValue) (trades : List Ends) (session : Standing FirmValue) : Type 0 where
   pub market : session.market ≡ record { firms = firms; trades = trades }
   pub equilibrium : IsSolution (map firm_of firms) trades session.admitted session.solution
-  pub small : AreSmallPrices (2 * most_worth * length trades) session.solution.prices
+  pub worths : AreWorthsAnswered (map firm_of firms) trades
+  pub small : AreSmallPrices (2 * most_worth_among (length trades) * length trades) session.solution.prices
 
 -- what is kept of trade t is what some edits say of it and of its firms, and a session admits it where it can be used
 pub record IsAfter (edits : List Edit) (t : ℕ) (trade : Ends) (kept : Kept) (used : ℕ) : Type 0 where

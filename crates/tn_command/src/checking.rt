@@ -16,12 +16,12 @@ use tn_firm::FirmValue;
 use tn_market::{Arrangement, Market, Room, Said};
 use tn_price::{Check, judge_arrangement, trades_in};
 
-/// The verdict on an arrangement, at scale 1. There are at most 128 trades, with one price each of at most 10^14 in
+/// The verdict on an arrangement, at scale 1. There are at most 1,024 trades, with one price each of at most 10^14 in
 /// size.
 pub fn check(
     alloc: Global,
     market: &Market<FirmValue>,
-    at: &Arrangement<2>,
+    at: &Arrangement<16>,
 ) -> Result<Said, OutOfMemory>
     requires wide { length market.now.trades ≤ most_answered_trades }
     requires priced { length at.now.prices ≡ length market.now.trades }

@@ -4,14 +4,13 @@ ghost use Rattle.std.specs.Prelude.{◌≡◌, ◌≢◌, ℕ, ◌+◌, ◌<◌,
 ghost use Rattle.tn_base.specs.Sets.{has};
 ghost use Rattle.tn_answer.specs.Kept.{IsWithinClaims, IsWithinState};
 ghost use Rattle.tn_command.specs.Edited.{IsAfter, IsStateOf, StandsAfter, StandsOn, TellsStates, is_admitted_by, is_away_by};
-ghost use Rattle.tn_command.specs.Limits.{most_answered_trades};
+ghost use Rattle.tn_command.specs.Limits.{AreWorthsAnswered, most_answered_trades};
 ghost use Rattle.tn_firm.specs.Firms.{firm_of};
 ghost use Rattle.tn_plain_data.specs.Prices.{price_at};
 ghost use Rattle.tn_plain_data.specs.Choices.{contracts_of};
 ghost use Rattle.tn_plain_data.specs.declared.session.Edit.{Edit};
 ghost use Rattle.tn_session.specs.Standing.{HasSmallPrices, HoldsEquilibrium};
 ghost use Rattle.tn_market.specs.NetworkOf.{network_of};
-ghost use Rattle.tn_market.specs.Widths.{most_worth};
 
 use crate::solving::{surplus, trades_on};
 use std::alloc::Global;
@@ -23,7 +22,7 @@ use tn_session::Session;
 /// The trades that a session admits at their prices, ascending.
 fn admitted_prices(
     alloc: Global,
-    session: &Session<FirmValue, 2>,
+    session: &Session<FirmValue, 16>,
     count: u32,
 ) -> Result<Contracts, OutOfMemory>
     requires few { count ≤ most_answered_trades }
@@ -45,7 +44,7 @@ fn admitted_prices(
 fn state_of(
     alloc: Global,
     market: &Market<FirmValue>,
-    session: &Session<FirmValue, 2>,
+    session: &Session<FirmValue, 16>,
 ) -> Result<State, OutOfMemory>
     requires wide { length market.now.trades ≤ most_answered_trades }
     requires stands { StandsOn market.now.firms market.now.trades session.now }
@@ -64,11 +63,11 @@ fn state_of(
 #[derive(Drop)]
 struct Kept {
     /// The trades that are admitted.
-    admitted: TradeSet<2>,
+    admitted: TradeSet<16>,
     /// The trades of which the seller is away.
-    seller_away: TradeSet<2>,
+    seller_away: TradeSet<16>,
     /// The trades of which the buyer is away.
-    buyer_away: TradeSet<2>,
+    buyer_away: TradeSet<16>,
 }
 
 /// What is so before all edits: no trade is admitted, and no firm is away.
@@ -111,7 +110,7 @@ fn is_away_by(f: u32, edit: Edit, before: bool) -> bool
 }
 
 /// Puts a trade into a set or takes it out.
-fn put(set: &mut TradeSet<2>, t: u32, is_in: bool)
+fn put(set: &mut TradeSet<16>, t: u32, is_in: bool)
     requires { t < most_answered_trades }
     ensures here { has set.new t ≡ is_in }
     ensures elsewhere { (k : ℕ) → k ≢ t → has set.new k ≡ has set.old k }
@@ -131,13 +130,13 @@ fn is_usable(kept: &Kept, t: u32) -> bool
 }
 
 /// Admits or bars a trade in a session. Where that is so already it changes nothing and asks for no worth.
-fn put_to_use(session: &mut Session<FirmValue, 2>, t: u32, used: bool, steps: &mut Steps<Asked>)
+fn put_to_use(session: &mut Session<FirmValue, 16>, t: u32, used: bool, steps: &mut Steps<Asked>)
     requires { t < length session.old.market.trades }
     ensures here { has session.new.admitted t ≡ used }
     ensures elsewhere { (k : ℕ) → k ≢ t → has session.new.admitted k ≡ has session.old.admitted k }
     ensures market { session.new.market ≡ session.old.market }
     ensures equilibrium { HoldsEquilibrium firm_of session.new }
-    ensures prices { HasSmallPrices (λ value. most_worth) session.new }
+    ensures prices { HasSmallPrices firm_of session.new }
 {
     if used {
         session.admit(t, steps);
@@ -148,7 +147,7 @@ fn put_to_use(session: &mut Session<FirmValue, 2>, t: u32, used: bool, steps: &m
 
 /// Makes an edit at trade `t` alone.
 fn make_at(
-    session: &mut Session<FirmValue, 2>,
+    session: &mut Session<FirmValue, 16>,
     kept: &mut Kept,
     edit: Edit,
     t: u32,
@@ -176,7 +175,7 @@ fn make_at(
 
 /// Makes the edit with index `k`, at each trade.
 fn make(
-    session: &mut Session<FirmValue, 2>,
+    session: &mut Session<FirmValue, 16>,
     kept: &mut Kept,
     market: &Market<FirmValue>,
     edits: &Edits,
@@ -195,18 +194,19 @@ fn make(
 }
 
 /// An equilibrium of the market of the trades that can be used, after each of some edits. At first no trade is admitted
-/// and no firm is away. There are at most 128 trades.
+/// and no firm is away. There are at most 1,024 trades, and worths are small enough for so many.
 pub fn states_after(
     alloc: Global,
     market: &Market<FirmValue>,
     edits: &Edits,
 ) -> Result<Said, OutOfMemory>
     requires wide { length market.now.trades ≤ most_answered_trades }
+    requires worths { network_of firm_of market.now AreWorthsAnswered }
     ensures answer { IfOk result (network_of firm_of market.now TellsStates edits.now) }
     ensures within { IfOk result IsWithinClaims }
 {
     let mut steps = Steps::new(Asked);
-    let mut session = Session::<FirmValue, 2>::begin(alloc, market, &mut steps)?;
+    let mut session = Session::<FirmValue, 16>::begin(alloc, market, &mut steps)?;
     let mut kept = nothing_kept();
     let mut states = Vec::with_capacity(alloc, edits.len())?;
     for k in 0..edits.len() {

@@ -3,7 +3,7 @@
 ghost use Rattle.std.specs.Prelude.{◌≤◌, IfOk, length};
 ghost use Rattle.tn_answer.specs.Kept.{IsWithinClaims};
 ghost use Rattle.tn_command.specs.Outcome.{JudgesOutcome};
-ghost use Rattle.tn_command.specs.Limits.{most_answered_trades};
+ghost use Rattle.tn_command.specs.Limits.{AreWorthsAnswered, most_answered_trades};
 ghost use Rattle.tn_plain_data.specs.Limits.{most_firms};
 ghost use Rattle.tn_firm.specs.Firms.{firm_of};
 ghost use Rattle.tn_market.specs.Limits.{IsOutcomeOf};
@@ -17,7 +17,8 @@ use tn_market::{Market, Outcome, Said};
 use tn_price::trades_in;
 
 /// The verdict on an outcome: a firm that would drop contracts, prices that complete it, or a chain that blocks it.
-/// There are at most 1,024 firms and 128 trades, and the outcome is within its limits.
+/// There are at most 1,024 firms and 1,024 trades, worths are as small as so many trades want them, and the outcome is
+/// within its limits.
 pub fn judge_outcome(
     alloc: Global,
     market: &Market<FirmValue>,
@@ -25,6 +26,7 @@ pub fn judge_outcome(
 ) -> Result<Said, OutOfMemory>
     requires few_firms { length market.now.firms ≤ most_firms }
     requires wide { length market.now.trades ≤ most_answered_trades }
+    requires worths { network_of firm_of market.now AreWorthsAnswered }
     requires outcome { IsOutcomeOf market.now.trades outcome.now.over outcome.now.contracts }
     ensures answer { IfOk result (network_of firm_of market.now JudgesOutcome outcome.now.over outcome.now.contracts) }
     ensures within { IfOk result IsWithinClaims }

@@ -3,7 +3,7 @@
 ghost use Rattle.std.specs.Prelude.{◌≤◌, IfOk, length};
 ghost use Rattle.tn_answer.specs.Kept.{IsWithinClaims};
 ghost use Rattle.tn_command.specs.Ranged.{TellsRanges};
-ghost use Rattle.tn_command.specs.Limits.{most_answered_trades};
+ghost use Rattle.tn_command.specs.Limits.{AreWorthsAnswered, most_answered_trades};
 ghost use Rattle.tn_firm.specs.Firms.{firm_of};
 ghost use Rattle.tn_market.specs.NetworkOf.{network_of};
 
@@ -14,9 +14,11 @@ use tn_firm::FirmValue;
 use tn_market::{Market, Said};
 use tn_range::range;
 
-/// The lowest and the highest price of each trade over all equilibria of a market. There are at most 128 trades.
+/// The lowest and the highest price of each trade over all equilibria of a market. There are at most 1,024 trades,
+/// and worths are small enough for so many.
 pub fn price_ranges(alloc: Global, market: &Market<FirmValue>) -> Result<Said, OutOfMemory>
     requires wide { length market.now.trades ≤ most_answered_trades }
+    requires worths { network_of firm_of market.now AreWorthsAnswered }
     ensures answer { IfOk result (network_of firm_of market.now TellsRanges) }
     ensures within { IfOk result IsWithinClaims }
 {

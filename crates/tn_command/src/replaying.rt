@@ -4,7 +4,7 @@ ghost use Rattle.std.specs.Prelude.{◌≡◌, ◌≤◌, false, IfOk, length};
 ghost use Rattle.tn_answer.specs.Kept.{IsWithinClaims};
 ghost use Rattle.tn_cert.specs.Replays.{is_raw};
 ghost use Rattle.tn_command.specs.Claimed.{DecidesClaim};
-ghost use Rattle.tn_command.specs.Limits.{most_answered_trades};
+ghost use Rattle.tn_command.specs.Limits.{AreWorthsAnswered, most_answered_trades};
 ghost use Rattle.tn_plain_data.specs.Limits.{most_firms};
 ghost use Rattle.tn_firm.specs.Firms.{firm_of};
 ghost use Rattle.tn_plain_data.specs.ClaimLimits.{IsClaimWithin};
@@ -17,7 +17,8 @@ use tn_firm::FirmValue;
 use tn_market::{Claim, Market, Said};
 
 /// Whether a claim holds that isn't on firms read raw, or else the first of its conditions that fails. There are
-/// at most 1,024 firms and 128 trades, and the claim is within the limits of claims.
+/// at most 1,024 firms and 1,024 trades, worths are as small as so many trades want them, and the claim is within the
+/// limits of claims.
 pub fn replay_claim(
     alloc: Global,
     market: &Market<FirmValue>,
@@ -25,6 +26,7 @@ pub fn replay_claim(
 ) -> Result<Said, OutOfMemory>
     requires few_firms { length market.now.firms ≤ most_firms }
     requires wide { length market.now.trades ≤ most_answered_trades }
+    requires worths { network_of firm_of market.now AreWorthsAnswered }
     requires kind { is_raw claim.now ≡ false }
     requires claim { network_of firm_of market.now IsClaimWithin claim.now }
     ensures answer { IfOk result (network_of firm_of market.now DecidesClaim claim.now) }

@@ -9,7 +9,7 @@ ghost use Rattle.tn_market.specs.Equilibrium.{IsEquilibrium, surplus_of};
 ghost use Rattle.tn_market.specs.Graph.{ArePossible};
 ghost use Rattle.tn_plain_data.specs.Network.{trades_on};
 ghost use Rattle.tn_command.specs.Solved.{Solves};
-ghost use Rattle.tn_command.specs.Limits.{most_answered_trades};
+ghost use Rattle.tn_command.specs.Limits.{AreWorthsAnswered, most_answered_trades};
 ghost use Rattle.tn_plain_data.specs.Limits.{most_price};
 ghost use Rattle.tn_market.specs.NetworkOf.{network_of};
 
@@ -21,7 +21,7 @@ use tn_market::{Arrangement, Market, Prices, Said, TradeEnds, Trades};
 use tn_price::surplus_of;
 
 /// The trades of a set, ascending.
-pub(crate) fn trades_on(alloc: Global, on: &TradeSet<2>, count: u32) -> Result<Trades, OutOfMemory>
+pub(crate) fn trades_on(alloc: Global, on: &TradeSet<16>, count: u32) -> Result<Trades, OutOfMemory>
     requires { count ≤ most_answered_trades }
     ensures { IfOk result (λ trades. trades ≡ trades_on on.now count) }
 {
@@ -47,7 +47,7 @@ pub(crate) fn ends_of(alloc: Global, market: &Market<FirmValue>) -> Result<Trade
 }
 
 /// The prices that a solver has found.
-fn prices_of(alloc: Global, solver: &Solver<2>, count: u32) -> Result<Prices, OutOfMemory>
+fn prices_of(alloc: Global, solver: &Solver<16>, count: u32) -> Result<Prices, OutOfMemory>
     requires { length solver.now.prices ≡ count }
     ensures { IfOk result (λ prices. prices ≡ solver.now.prices) }
 {
@@ -62,14 +62,15 @@ fn prices_of(alloc: Global, solver: &Solver<2>, count: u32) -> Result<Prices, Ou
 pub(crate) fn equilibrium(
     alloc: Global,
     market: &Market<FirmValue>,
-) -> Result<Arrangement<2>, OutOfMemory>
-    requires { length market.now.trades ≤ most_answered_trades }
+) -> Result<Arrangement<16>, OutOfMemory>
+    requires wide { length market.now.trades ≤ most_answered_trades }
+    requires worths { network_of firm_of market.now AreWorthsAnswered }
     ensures equilibrium { IfOk result
         (λ at. network_of firm_of market.now IsEquilibrium (pos 1) at.on (price_at at.prices)) }
     ensures one_each { IfOk result (λ at. length at.prices ≡ length market.now.trades) }
     ensures small { IfOk result (λ at. All (λ price. IsAtMost price most_price) at.prices) }
 {
-    let mut solver = Solver::<2>::with_room(alloc, market)?;
+    let mut solver = Solver::<16>::with_room(alloc, market)?;
     solver.solve_in(market, &mut Steps::new(Asked));
     Ok(Arrangement {
         on: *solver.on(),
@@ -78,7 +79,7 @@ pub(crate) fn equilibrium(
 }
 
 /// The surplus of a set of trades whose bundles are possible.
-pub(crate) fn surplus(market: &Market<FirmValue>, on: &TradeSet<2>) -> i128
+pub(crate) fn surplus(market: &Market<FirmValue>, on: &TradeSet<16>) -> i128
     requires wide { length market.now.trades ≤ most_answered_trades }
     requires possible { network_of firm_of market.now ArePossible on.now }
     ensures surplus { network_of firm_of market.now surplus_of on.now ≡ Some result }
@@ -91,9 +92,10 @@ pub(crate) fn surplus(market: &Market<FirmValue>, on: &TradeSet<2>) -> i128
     }
 }
 
-/// An equilibrium of a market, with its surplus. There are at most 128 trades.
+/// An equilibrium of a market, with its surplus. There are at most 1,024 trades, and worths are small enough for so many.
 pub fn solve(alloc: Global, market: &Market<FirmValue>) -> Result<Said, OutOfMemory>
     requires wide { length market.now.trades ≤ most_answered_trades }
+    requires worths { network_of firm_of market.now AreWorthsAnswered }
     ensures answer { IfOk result (network_of firm_of market.now Solves) }
     ensures within { IfOk result IsWithinClaims }
 {

@@ -5,7 +5,7 @@ ghost use Rattle.tn_answer.specs.Kept.{IsWithinClaims};
 ghost use Rattle.tn_firm.specs.Firms.{firm_of};
 ghost use Rattle.tn_command.specs.Supported.{SupportsSet};
 ghost use Rattle.tn_plain_data.specs.Network.{trades_on};
-ghost use Rattle.tn_command.specs.Limits.{most_answered_trades};
+ghost use Rattle.tn_command.specs.Limits.{AreWorthsAnswered, most_answered_trades};
 ghost use Rattle.tn_market.specs.NetworkOf.{network_of};
 
 use crate::solving::{ends_of, trades_on};
@@ -19,7 +19,7 @@ use tn_price::{Support, support};
 fn supported(
     alloc: Global,
     market: &Market<FirmValue>,
-    on: &TradeSet<2>,
+    on: &TradeSet<16>,
     prices: Prices,
 ) -> Result<Said, OutOfMemory>
     requires { length market.now.trades ≤ most_answered_trades }
@@ -35,13 +35,15 @@ fn supported(
     })
 }
 
-/// Prices that support a set of trades, or why there are none. There are at most 128 trades.
+/// Prices that support a set of trades, or why there are none. There are at most 1,024 trades, and
+/// worths are small enough for so many.
 pub fn prices_for(
     alloc: Global,
     market: &Market<FirmValue>,
-    on: &TradeSet<2>,
+    on: &TradeSet<16>,
 ) -> Result<Said, OutOfMemory>
     requires wide { length market.now.trades ≤ most_answered_trades }
+    requires worths { network_of firm_of market.now AreWorthsAnswered }
     ensures answer { IfOk result (network_of firm_of market.now SupportsSet on.now) }
     ensures within { IfOk result IsWithinClaims }
 {

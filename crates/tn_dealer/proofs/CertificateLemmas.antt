@@ -1,5 +1,5 @@
 -- What a certificate shows, and what the definition says pair by pair.
-use Rattle.std.proofs.Common.{◌≡◌, ◌≢◌, ℕ, zero, suc, ◌+◌, ◌*◌, ◌^◌, ◌<◌, ◌≤◌, ◌&&◌, Bool, true, false, not, refl, sym, ap, ◌∙◌, subst, arith, add-one, inl, inr, if◌then◌else◌, List, [], ◌∷◌, length, get_or, drop, drop-cons, Option, Some, None, ℤ, pos, neg_ℤ, ◌+ℤ◌, ◌-ℤ◌}
+use Rattle.std.proofs.Common.{◌≡◌, ◌≢◌, ℕ, zero, suc, ◌+◌, ◌*◌, ◌^◌, ◌<◌, ◌&&◌, Bool, true, false, not, refl, sym, ap, ◌∙◌, subst, arith, add-one, inl, inr, if◌then◌else◌, List, [], ◌∷◌, length, get_or, drop, drop-cons, Option, Some, None, ℤ, pos, neg_ℤ, ◌+ℤ◌, ◌-ℤ◌}
 use Rattle.std.specs.Prelude.{◌≤ℤ◌, ◌<ℤ◌, slice_get, option_map, IfSome}
 use Rattle.std.proofs.lemmas.Int.{ints}
 use Rattle.std.proofs.lemmas.Bool.{cases_eq, false≢true}
@@ -17,8 +17,9 @@ use Rattle.tn_dealer.specs.Pairs.{matched_worth, IsOwnPair}
 use Rattle.tn_dealer.specs.Certificates.{bound_of, KeepsPairs, KeepsAt, KeepsBeside, TakesAt, MayTake}
 use Rattle.tn_dealer.specs.Costs.{AreCosts, cost_at, far}
 use Rattle.tn_law.proofs.PairLemmas.{IsWorth}
-use Rattle.tn_dealer.specs.WorthLemmas.{AreOwnPairs, Paired, own_rest, matched_left, matched_right, matched_from, matched_none, matched_empty, matched_small}
-use Rattle.tn_market.specs.Widths.{most_own, most_worth}
+use Rattle.tn_dealer.specs.WorthLemmas.{AreOwnPairs, Paired, own_rest, matched_left, matched_right, matched_from, matched_none, matched_empty}
+use Rattle.tn_dealer.specs.WithinLemmas.{matched_within}
+use Rattle.tn_market.specs.Widths.{most_worth}
 use Rattle.tn_base.specs.Widths.{most_amount}
 
 -- ---- sums
@@ -74,28 +75,26 @@ keeps_left priced number pair x pairs p q keeps k next is buy sell =
 
 -- the numbers of a possible bundle sum to at most minus its worth where no pair's exceed its cost, and to at most 0
 -- where no pair's exceed 0
-pub weak_duality : (count buys : ℕ) (priced : Bool) (number : ℕ → ℤ) (pairs : List Pair) → count ≤ most_own
-    → AreOwnPairs count buys pairs → (x : ℕ) (a : ℤ)
-    → matched_worth pairs x ≡ Some a → KeepsPairs priced number x pairs → sum_over number most_own x ≤ℤ most_of priced a
-weak_duality count buys priced number [] few own x a is keeps =
+pub weak_duality : (count buys : ℕ) (priced : Bool) (number : ℕ → ℤ) (pairs : List Pair) → AreOwnPairs count buys pairs
+    → (x : ℕ) (a : ℤ)
+    → matched_worth pairs x ≡ Some a → KeepsPairs priced number x pairs → sum_over number count x ≤ℤ most_of priced a
+weak_duality count buys priced number [] own x a is keeps =
     let empty = matched_none x a is in
-    most_none priced (sum_over number most_own x) a (ap (sum_over number most_own) empty.0 ∙ sum_over-empty number 32)
+    most_none priced (sum_over number count x) a (ap (sum_over number count) empty.0 ∙ sum_over-empty number count)
     empty.1
-weak_duality count buys priced number (pair ∷ pairs) few own x a is keeps = elim (matched_from pair pairs x a is) [
-  | inl p ↦ weak_duality count buys priced number pairs few (own_rest count buys pair pairs own) x a p
+weak_duality count buys priced number (pair ∷ pairs) own x a is keeps = elim (matched_from pair pairs x a is) [
+  | inl p ↦ weak_duality count buys priced number pairs (own_rest count buys pair pairs own) x a p
       (keeps_rest priced number x pair pairs keeps)
   | inr q ↦
       let here = own 0 pair refl in
-      let buy_near = here.purchase in
-      let sell_near = here.sale in
       let apart : pair.sell ≢ pair.buy = λ e. false≢true (sym here.sold ∙ ap (has buys) e ∙ here.bought) in
-      let one = sum_over-toggle_out number 32 x pair.buy (omega (arith, few, buy_near)) q.has_buy in
-      let two = sum_over-toggle_out number 32 (toggle x pair.buy) pair.sell (omega (arith, few, sell_near))
+      let one = sum_over-toggle_out number count x pair.buy here.purchase q.has_buy in
+      let two = sum_over-toggle_out number count (toggle x pair.buy) pair.sell here.sale
       (has-toggle_other x pair.buy pair.sell apart ∙ q.has_sell) in
-      most_more priced pair (sum_over number most_own x) (sum_over number most_own
+      most_more priced pair (sum_over number count x) (sum_over number count
       (toggle (toggle x pair.buy) pair.sell)) (number pair.buy) (number pair.sell) q.value a
       (omega (arith, ints, one, two))
-      (weak_duality count buys priced number pairs few (own_rest count buys pair pairs own)
+      (weak_duality count buys priced number pairs (own_rest count buys pair pairs own)
       (toggle (toggle x pair.buy) pair.sell) q.value q.is
       (keeps_left priced number pair x pairs q.has_buy q.has_sell (keeps_rest priced number x pair pairs keeps)))
       (keeps 0 pair refl q.has_buy q.has_sell)
@@ -105,25 +104,24 @@ weak_duality count buys priced number (pair ∷ pairs) few own x a is keeps = el
 -- ---- what a certificate shows
 
 -- a bundle that pairs at this cost match has this cost for its worth, where its numbers sum to it
-pub shows_least : (count buys : ℕ) (number : ℕ → ℤ) (pairs : List Pair) → count ≤ most_own
-    → AreOwnPairs count buys pairs → (x : ℕ) (cost : ℤ)
-    → IsWorth (matched_worth pairs) x (neg_ℤ cost) → sum_over number most_own x ≡ cost → KeepsPairs true number x pairs
+pub shows_least : (count buys : ℕ) (number : ℕ → ℤ) (pairs : List Pair) → AreOwnPairs count buys pairs
+    → (x : ℕ) (cost : ℤ)
+    → IsWorth (matched_worth pairs) x (neg_ℤ cost) → sum_over number count x ≡ cost → KeepsPairs true number x pairs
     → Some (neg_ℤ cost) ≡ matched_worth pairs x
-shows_least count buys number pairs few own x cost worth sum keeps =
-    let most = weak_duality count buys true number pairs few own x worth.value worth.is keeps in
+shows_least count buys number pairs own x cost worth sum keeps =
+    let most = weak_duality count buys true number pairs own x worth.value worth.is keeps in
     let least = worth.enough in
     let same : worth.value ≡ neg_ℤ cost = omega (arith, ints, most, least, sum) in
     sym (worth.is ∙ ap Some same)
 
 -- a bundle whose numbers sum to more than 0 is impossible
-pub shows_none : (count buys : ℕ) (number : ℕ → ℤ) (pairs : List Pair) → count ≤ most_own → AreOwnPairs count buys pairs
-    → (x : ℕ)
-    → pos 0 <ℤ sum_over number most_own x → KeepsPairs false number x pairs → None ≡ matched_worth pairs x
-shows_none count buys number pairs few own x more keeps = by (matched_worth pairs x) refl
+pub shows_none : (count buys : ℕ) (number : ℕ → ℤ) (pairs : List Pair) → AreOwnPairs count buys pairs
+    → (x : ℕ) → pos 0 <ℤ sum_over number count x → KeepsPairs false number x pairs → None ≡ matched_worth pairs x
+shows_none count buys number pairs own x more keeps = by (matched_worth pairs x) refl
   where
     by : (o : Option ℤ) → matched_worth pairs x ≡ o → None ≡ matched_worth pairs x
     by None e = sym e
-    by (Some a) e = absurd (let most = weak_duality count buys false number pairs few own x a e keeps in
+    by (Some a) e = absurd (let most = weak_duality count buys false number pairs own x a e keeps in
         omega (arith, ints, most, more))
 
 -- ---- pairs that are taken in
@@ -288,7 +286,9 @@ own_drop count buys (suc k) (pair ∷ pairs) own = own_drop count buys k pairs (
 small_on_the_way : (count buys k : ℕ) (pairs : List Pair) → AreOwnPairs count buys pairs → (x : ℕ) (a : ℤ) → x < 2 ^ 64
     → matched_worth (drop k pairs) x ≡ Some a → IsAtMost a most_worth
 small_on_the_way count buys k pairs own x a within is =
-    let small = matched_small count buys (drop k pairs) (own_drop count buys k pairs own) x a is in
+    let own_left = own_drop count buys k pairs own in
+    let small = matched_within count buys (drop k pairs) most_amount own_left
+    (λ j pair there. (own_left j pair there).small) x a is in
     let most = size_le 64 x within in
     let low = small.low in
     let high = small.high in
@@ -351,12 +351,12 @@ beside_more priced costs number sales buy k before here sell below = elim (cases
   | inr d ↦ before sell (omega (arith, below, d))
 ]
 
-pub keeps_more : (priced : Bool) (costs : List ℤ) (number : ℕ → ℤ) (purchases sales k : ℕ)
-    → ((buy : ℕ) → buy < k → has purchases buy ≡ true → KeepsBeside priced costs number sales buy most_own)
-    → (has purchases k ≡ true → KeepsBeside priced costs number sales k most_own)
-    → (buy : ℕ) → buy < k + 1 → has purchases buy ≡ true → KeepsBeside priced costs number sales buy most_own
-keeps_more priced costs number purchases sales k before here buy below member = elim (cases_eq buy k) [
-  | inl e ↦ subst (λ (b : ℕ). KeepsBeside priced costs number sales b most_own) (sym e)
+pub keeps_more : (priced : Bool) (costs : List ℤ) (number : ℕ → ℤ) (purchases sales count k : ℕ)
+    → ((buy : ℕ) → buy < k → has purchases buy ≡ true → KeepsBeside priced costs number sales buy count)
+    → (has purchases k ≡ true → KeepsBeside priced costs number sales k count)
+    → (buy : ℕ) → buy < k + 1 → has purchases buy ≡ true → KeepsBeside priced costs number sales buy count
+keeps_more priced costs number purchases sales count k before here buy below member = elim (cases_eq buy k) [
+  | inl e ↦ subst (λ (b : ℕ). KeepsBeside priced costs number sales b count) (sym e)
       (here (ap (has purchases) (sym e) ∙ member))
   | inr d ↦ before buy (omega (arith, below, d)) member
 ]
@@ -366,20 +366,18 @@ both_there a b p q = ap (λ (t : Bool). t && b) p ∙ q
 
 -- where each purchase of the bundle keeps beside its sales, so does each pair
 pub keeps_listed : (count buys : ℕ) (pairs : List Pair) (costs : List ℤ) (priced : Bool) (number : ℕ → ℤ) (x : ℕ)
-    → count ≤ most_own → AreOwnPairs count buys pairs → AreCosts pairs costs
-    → ((buy : ℕ) → buy < most_own → has (meet x buys) buy ≡ true
-    → KeepsBeside priced costs number (minus x buys) buy most_own) → KeepsPairs priced number x pairs
-keeps_listed count buys pairs costs priced number x few own are keeps k pair is buy sell =
+    → AreOwnPairs count buys pairs → AreCosts pairs costs
+    → ((buy : ℕ) → buy < count → has (meet x buys) buy ≡ true
+    → KeepsBeside priced costs number (minus x buys) buy count) → KeepsPairs priced number x pairs
+keeps_listed count buys pairs costs priced number x own are keeps k pair is buy sell =
     let here = own k pair is in
-    let buy_own = here.purchase in
-    let sell_own = here.sale in
     let small = here.small.high in
     let cost = are.each k pair (slice_get_within pairs k pair is) is in
     let bought : has (meet x buys) pair.buy ≡ true = has-meet x buys pair.buy ∙ both_there _ _ buy here.bought in
     let sold : has (minus x buys) pair.sell ≡ true = has-minus x buys pair.sell ∙ both_there _ _ sell (ap not here.sold)
     in
     subst (λ (z : ℤ). (number pair.buy +ℤ number pair.sell) ≤ℤ (if priced then z else pos 0)) cost
-    (keeps pair.buy (omega (arith, few, buy_own)) bought pair.sell (omega (arith, few, sell_own)) sold
+    (keeps pair.buy here.purchase bought pair.sell here.sale sold
     (omega (arith, ints, cost, small)))
 
 drop_all : (pairs : List Pair) → drop (length pairs) pairs ≡ []

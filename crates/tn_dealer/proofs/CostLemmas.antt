@@ -1,5 +1,5 @@
 -- The costs of pairs, entered one after another.
-use Rattle.std.proofs.Common.{◌≡◌, ◌≢◌, ℕ, ◌+◌, ◌<◌, ◌≤◌, sym, ap, ◌∙◌, subst, arith, inl, inr, List, get_or, replicate, Some, ℤ, pos}
+use Rattle.std.proofs.Common.{◌≡◌, ◌≢◌, ℕ, ◌+◌, ◌*◌, ◌<◌, ◌≤◌, sym, ap, ◌∙◌, subst, arith, inl, inr, List, get_or, replicate, Some, ℤ, pos}
 use Rattle.std.specs.Prelude.{◌<ℤ◌, slice_get, set}
 use Rattle.std.proofs.lemmas.Int.{ints}
 use Rattle.std.proofs.lemmas.Bool.{cases_eq}
@@ -11,7 +11,7 @@ use Rattle.tn_dealer.specs.Costs.{AreCostsBelow, cost_at, far, place_of}
 use Rattle.tn_dealer.specs.WorthLemmas.{AreOwnPairs}
 use Rattle.tn_market.specs.Widths.{most_own}
 
-pub place_inside : (buy sell : ℕ) → buy < most_own → sell < most_own → place_of buy sell < 1024
+pub place_inside : (buy sell : ℕ) → buy < most_own → sell < most_own → place_of buy sell < most_own * most_own
 place_inside buy sell p q = omega (arith, p, q)
 
 -- no two purchases and sales have one place
@@ -21,13 +21,13 @@ one_buy b s b' s' p q e = omega (arith, p, q, e)
 one_sell : (b s b' s' : ℕ) → s < most_own → s' < most_own → place_of b s ≡ place_of b' s' → s ≡ s'
 one_sell b s b' s' p q e = omega (arith, p, q, e)
 
-pub costs_none : (pairs : List Pair) → AreCostsBelow pairs 0 (replicate 1024 far)
+pub costs_none : (pairs : List Pair) → AreCostsBelow pairs 0 (replicate (most_own * most_own) far)
 costs_none pairs = record {
-  counted = length-replicate 1024 far;
+  counted = length-replicate (most_own * most_own) far;
   each = λ k pair below. absurd (omega (arith, below));
   only = λ buy sell p q near.
-      let is : cost_at (replicate 1024 far) buy sell ≡ far =
-      get_or-replicate 1024 (place_of buy sell) far (pos 0) (place_inside buy sell p q) in
+      let is : cost_at (replicate (most_own * most_own) far) buy sell ≡ far =
+      get_or-replicate (most_own * most_own) (place_of buy sell) far (pos 0) (place_inside buy sell p q) in
       absurd (omega (arith, ints, near, is));
 }
 

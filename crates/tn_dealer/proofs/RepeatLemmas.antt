@@ -73,22 +73,22 @@ no_pair = record { buy = 0; sell = 0; cost = pos 0 }
 abbrev pub pair_at : List Pair → ℕ → Pair
 pair_at pairs k = get_or pairs k no_pair
 
--- the number of a pair among all of purchases and sales below 32
+-- the number of a pair among all of purchases and sales below 60
 abbrev pub number_of : List Pair → ℕ → ℕ
-number_of pairs k = (pair_at pairs k).buy * 32 + (pair_at pairs k).sell
+number_of pairs k = (pair_at pairs k).buy * most_own + (pair_at pairs k).sell
 
-same_number : (a b c d : ℕ) → b < most_own → d < most_own → a * 32 + b ≡ c * 32 + d → (a ≡ c) × (b ≡ d)
+same_number : (a b c d : ℕ) → b < most_own → d < most_own → a * most_own + b ≡ c * most_own + d → (a ≡ c) × (b ≡ d)
 same_number a b c d p q e = (omega (arith, p, q, e), omega (arith, p, q, e))
 
--- where no pair before a place is repeated, the place is at most 1024
+-- where no pair before a place is repeated, the place is at most 60 * 60
 pub few_different : (pairs : List Pair) (k : ℕ) → k ≤ length pairs → All IsNear pairs → AreDifferentBelow pairs k
-    → k ≤ 1024
-few_different pairs k within near different = few_numbers (number_of pairs) 1024 k below apart
+    → k ≤ most_own * most_own
+few_different pairs k within near different = few_numbers (number_of pairs) (most_own * most_own) k below apart
   where
     near_at : (i : ℕ) → i < k → IsNear (pair_at pairs i)
     near_at i h = All-get_or IsNear pairs i no_pair (omega (arith, h, within)) near
 
-    below : (i : ℕ) → i < k → number_of pairs i < 1024
+    below : (i : ℕ) → i < k → number_of pairs i < most_own * most_own
     below i h = let p = (near_at i h).buy in let q = (near_at i h).sell in omega (arith, p, q)
 
     apart : (i j : ℕ) → i < j → j < k → number_of pairs i ≢ number_of pairs j

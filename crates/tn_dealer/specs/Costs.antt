@@ -9,7 +9,7 @@ place_of buy sell = buy * most_own + sell
 
 -- what stands where no pair is listed
 abbrev pub far : ℤ
-far = pos 9223372036854775807
+far = pos 2147483647
 
 -- the cost that stands at the place of a purchase and a sale
 abbrev pub cost_at : List ℤ → ℕ → ℕ → ℤ
@@ -28,7 +28,7 @@ pub record IsListed (pairs : List Pair) (n buy sell : ℕ) (cost : ℤ) : Type 0
 -- the cost of each of the first n pairs stands at its place, and what stands at a place is far or the cost of such a
 -- pair
 pub record AreCostsBelow (pairs : List Pair) (n : ℕ) (costs : List ℤ) : Type 0 where
-  pub counted : length costs ≡ 1024
+  pub counted : length costs ≡ most_own * most_own
   pub each : (k : ℕ) (pair : Pair) → k < n → slice_get pairs k ≡ Some pair
       → cost_at costs pair.buy pair.sell ≡ pair.cost
   pub only : (buy sell : ℕ) → buy < most_own → sell < most_own → cost_at costs buy sell <ℤ far

@@ -4,6 +4,7 @@ pub mod Matchings
 pub mod MatchingLaw
 pub mod Firms
 pub mod WorthLemmas
+pub mod WithinLemmas
 pub mod LawLemmas
 pub mod Certificates
 pub mod Costs

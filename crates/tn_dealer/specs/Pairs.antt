@@ -66,7 +66,7 @@ abbrev pub GivesFirstRepeated : List Pair → Option ℕ → Type 0
 GivesFirstRepeated pairs None = AreDifferent pairs
 GivesFirstRepeated pairs (Some k) = IsFirstRepeated pairs k
 
--- both positions are below 32
+-- both positions are below 60
 pub record IsNear (pair : Pair) : Type 0 where
   pub buy : pair.buy < most_own
   pub sell : pair.sell < most_own

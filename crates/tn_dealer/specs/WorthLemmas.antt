@@ -1,17 +1,15 @@
--- What a dealer's worths keep: they are of own bundles, small, and meet exchange.
-use Rattle.std.proofs.Common.{◌≡◌, ◌≢◌, ℕ, suc, ◌*◌, ◌^◌, ◌<◌, ◌≤◌, ◌==◌, ◌&&◌, Bool, true, false, refl, sym, ap, ◌∙◌, subst, arith, inl, inr, ◌⊎◌, if◌then◌else◌, List, [], ◌∷◌, Option, Some, None, ℤ, pos, ◌-ℤ◌}
+-- What a dealer's worths keep: they are of own bundles, and meet exchange.
+use Rattle.std.proofs.Common.{◌≡◌, ℕ, suc, ◌^◌, ◌<◌, ◌==◌, ◌&&◌, Bool, true, false, refl, sym, ap, ◌∙◌, subst, arith, inl, inr, ◌⊎◌, if◌then◌else◌, List, [], ◌∷◌, Option, Some, None, ℤ, pos, ◌-ℤ◌}
 use Rattle.std.specs.Prelude.{◌≤ℤ◌, int_lt, option_map, slice_get, All}
 use Rattle.std.proofs.lemmas.Int.{ints}
 use Rattle.std.proofs.lemmas.Nat.{pow_pos}
-use Rattle.std.proofs.lemmas.Bool.{cases_Bool, eqb-true, false≢true}
+use Rattle.std.proofs.lemmas.Bool.{cases_Bool, eqb-true}
 use Rattle.std.proofs.lemmas.Option.{none-some, same_Some, slice_get_within, get_or_from_slice_get, cond_some}
 use Rattle.std.proofs.lemmas.List.Elements.{All-get_or}
-use Rattle.tn_base.specs.Arcs.{IsAtMost}
-use Rattle.tn_base.specs.Sets.{has, toggle, size}
+use Rattle.tn_base.specs.Sets.{has, toggle}
 use Rattle.tn_base.specs.Firm.{HasOwnBundles}
 use Rattle.tn_base.specs.Exchange.{MeetsExchange}
-use Rattle.tn_base.proofs.SetLemmas.{has-zero, has-toggle_other}
-use Rattle.tn_base.proofs.SizeLemmas.{size-toggle_out, size_le}
+use Rattle.tn_base.proofs.SetLemmas.{has-zero}
 use Rattle.tn_law.specs.Places.{level, move, ExchangesOverPlaces}
 use Rattle.tn_law.proofs.PlaceLemmas.{move-both}
 use Rattle.tn_law.proofs.AdditiveLemmas.{move-within}
@@ -22,8 +20,6 @@ use Rattle.tn_dealer.specs.Pairs.{with_pair, matched_worth, dealing, IsOwnPair}
 use Rattle.tn_law.proofs.MoveLemmas.{move-twice}
 use Rattle.tn_law.proofs.PairLemmas.{IsWorth, Swaps, HasOneMore}
 use Rattle.tn_law.proofs.PairSideLemmas.{Above, ArePaired, HasPair, one_more_swaps}
-use Rattle.tn_base.specs.Widths.{most_amount}
-use Rattle.tn_market.specs.Widths.{most_worth, most_own}
 
 -- the pair at each place is one of own trades
 abbrev pub AreOwnPairs : ℕ → ℕ → List Pair → Type 0
@@ -220,33 +216,6 @@ matched_own count buys (pair ∷ pairs) own x a is = elim (split_of count buys p
       q.is))
 ]
 
--- a worth is at most 10^9 in size for each trade of the bundle
-pub matched_small : (count buys : ℕ) (pairs : List Pair) → AreOwnPairs count buys pairs → (x : ℕ) (a : ℤ)
-    → matched_worth pairs x ≡ Some a → IsAtMost a (size x * most_amount)
-matched_small count buys [] own x a is =
-    let e = (matched_none x a is).1 in
-    record { low = omega (arith, ints, e); high = omega (arith, ints, e) }
-matched_small count buys (pair ∷ pairs) own x a is = elim (matched_from pair pairs x a is) [
-  | inl p ↦ matched_small count buys pairs (own_rest count buys pair pairs own) x a p
-  | inr q ↦
-      let here = own 0 pair refl in
-      let apart : pair.sell ≢ pair.buy = λ e. false≢true (sym here.sold ∙ ap (has buys) e ∙ here.bought) in
-      let one = size-toggle_out x pair.buy q.has_buy in
-      let two = size-toggle_out (toggle x pair.buy) pair.sell (has-toggle_other x pair.buy pair.sell apart ∙ q.has_sell)
-      in
-      let rest = matched_small count buys pairs (own_rest count buys pair pairs own)
-      (toggle (toggle x pair.buy) pair.sell) q.value q.is in
-      let low = rest.low in
-      let high = rest.high in
-      let cost_low = here.small.low in
-      let cost_high = here.small.high in
-      let less = q.less in
-      record {
-        low = omega (arith, ints, one, two, low, cost_high, less);
-        high = omega (arith, ints, one, two, high, cost_low, less);
-      }
-]
-
 pub matched_exchange : (count buys : ℕ) (pairs : List Pair) → AreOwnPairs count buys pairs
     → HasOwnBundles (dealing count buys pairs) × MeetsExchange (dealing count buys pairs)
 matched_exchange count buys pairs own =
@@ -269,13 +238,3 @@ matched_exchange count buys pairs own =
             enough = swap.enough;
           };
         }
-
--- a worth of at most 32 trades is at most 10^11 in size
-pub matched_limit : (count buys : ℕ) (pairs : List Pair) → count ≤ most_own → AreOwnPairs count buys pairs
-    → (x : ℕ) (a : ℤ) → matched_worth pairs x ≡ Some a → IsAtMost a most_worth
-matched_limit count buys pairs few own x a is =
-    let small = matched_small count buys pairs own x a is in
-    let most = size_le count x (matched_own count buys pairs own x a is) in
-    let low = small.low in
-    let high = small.high in
-    record { low = omega (arith, ints, few, most, low); high = omega (arith, ints, few, most, high) }

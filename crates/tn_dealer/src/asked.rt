@@ -45,7 +45,7 @@ impl Valuation for Dealer {
         steps: &mut Steps<Asked>,
     ) {
         let costs = self.costs();
-        let spare = Spare::of(&costs, x, self.buys, wanted);
+        let spare = Spare::of(&costs, self.trades as usize, x, self.buys, wanted);
         for k in 0..self.trades {
             if wanted.has(k) {
                 steps.tick();

@@ -17,32 +17,32 @@ pub(crate) const POSITIONS: usize = MOST_OWN;
 pub(crate) const CELLS: usize = POSITIONS * POSITIONS;
 
 /// The cost where no pair is listed.
-pub(crate) const FAR: i64 = i64::MAX;
+pub(crate) const UNLISTED: i32 = i32::MAX;
 
 /// Where the cost of a purchase and a sale stands.
 pub(crate) fn place(buy: usize, sell: usize) -> usize
     requires buy { buy < most_own }
     requires sell { sell < most_own }
     ensures place { result ≡ place_of buy sell }
-    ensures inside { result < 1024 }
+    ensures inside { result < most_own * most_own }
 {
     buy * POSITIONS + sell
 }
 
 /// The cost of a pair.
-fn cost_of(pair: &Pair) -> i64
+fn cost_of(pair: &Pair) -> i32
     requires { IsAtMost pair.now.cost most_amount }
     ensures { result ≡ pair.now.cost }
 {
-    pair.cost as i64
+    pair.cost as i32
 }
 
 impl Dealer {
     /// The costs of the listed pairs, each at the place of its purchase and its sale.
-    pub(crate) fn costs(&self) -> [i64; CELLS]
+    pub(crate) fn costs(&self) -> [i32; CELLS]
         ensures { AreCosts self.now.pairs.items result }
     {
-        let mut costs = [FAR; CELLS];
+        let mut costs = [UNLISTED; CELLS];
         for k in 0..self.pairs.len() {
             let pair = &self.pairs[k];
             costs[place(pair.buy as usize, pair.sell as usize)] = cost_of(pair);

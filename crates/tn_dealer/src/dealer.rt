@@ -25,7 +25,7 @@ impl Dealer {
     ghost use Rattle.tn_dealer.specs.Firms.{firm_of};
 
     /// The firm with these sides by position and these pairs, each of an own purchase and an own sale; there are at
-    /// most 32 trades, and no cost is above 10^9 in size. It takes no memory.
+    /// most 60 trades, and no cost is above 10^9 in size. It takes no memory.
     ///
     /// A list in which a pair has the purchase and the sale of an earlier one is refused with the first such pair.
     pub fn new(sides: Vec<Side>, pairs: Vec<Pair>) -> Result<Dealer, SamePair>

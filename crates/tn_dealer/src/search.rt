@@ -2,14 +2,17 @@
 //! Hungarian method: Kuhn, 1955; Jonker and Volgenant, 1987). Nothing rests on it: what it finds is a certificate that
 //! is tested.
 
-ghost use Rattle.std.specs.Prelude.{◌<◌, IfSome};
+ghost use Rattle.std.specs.Prelude.{◌<◌, ◌≤◌, IfSome};
 ghost use Rattle.tn_market.specs.Widths.{most_own};
 
-use crate::costs::{CELLS, FAR, POSITIONS, place};
+use crate::costs::{CELLS, POSITIONS, UNLISTED, place};
 use tn_base::Bundle;
 
 /// The mate of a trade that has none.
 const NONE: usize = POSITIONS;
+
+/// How far a trade is that isn't reached.
+const FAR: i64 = i64::MAX;
 
 /// What the search found. Where all trades are matched, `mates` has a trade of the first side for each trade of the
 /// second side, and two numbers sum to at most the cost of a pair. Otherwise two numbers sum to at most 0 where a pair
@@ -26,7 +29,9 @@ pub(crate) struct Certificate {
 /// The matching so far, with a number for each position (a potential).
 #[derive(Clone, Copy)]
 struct Matching<'a> {
-    costs: &'a [i64; CELLS],
+    costs: &'a [i32; CELLS],
+    /// How many own trades there are: no other position is looked at.
+    trades: usize,
     /// The first side are the purchases, or the sales.
     by_sale: bool,
     numbers: [i64; POSITIONS],
@@ -34,6 +39,7 @@ struct Matching<'a> {
     mates: [usize; POSITIONS],
     /// For each trade of the first side that of the second.
     mated: [usize; POSITIONS],
+    ghost few: { trades ≤ most_own },
 }
 
 /// What can be reached from a trade of the first side by listed pairs and back by matched ones: how far each trade of
@@ -56,15 +62,17 @@ pub(crate) struct Spare<'a> {
     reach: Reach,
 }
 
-/// A certificate for the bundle `x` of a firm that buys `buys`.
-pub(crate) fn search(costs: &[i64; CELLS], x: Bundle, buys: Bundle) -> Certificate {
+/// A certificate for the bundle `x` of a firm that has so many trades and buys `buys`.
+pub(crate) fn search(costs: &[i32; CELLS], trades: usize, x: Bundle, buys: Bundle) -> Certificate
+    requires { trades ≤ most_own }
+{
     let purchases = x.meet(buys);
     let sales = x.minus(buys);
     if purchases.count() != sales.count() {
-        return uneven(x, buys);
+        return uneven(trades, x, buys);
     }
-    let mut matching = Matching::new(costs, false);
-    for b in 0..POSITIONS {
+    let mut matching = Matching::new(costs, trades, false);
+    for b in 0..trades {
         if purchases.has(b as u32) {
             if let Some(reach) = matching.extend(b, sales) {
                 return matching.unmatched(b, &reach);
@@ -75,20 +83,24 @@ pub(crate) fn search(costs: &[i64; CELLS], x: Bundle, buys: Bundle) -> Certifica
 }
 
 /// A certificate for a bundle that has more trades of one side than of the other.
-pub(crate) fn uneven(x: Bundle, buys: Bundle) -> Certificate {
+fn uneven(trades: usize, x: Bundle, buys: Bundle) -> Certificate
+    requires { trades ≤ most_own }
+{
     let purchases = x.meet(buys);
     let sales = x.minus(buys);
     if purchases.count() < sales.count() {
-        unmatched(sales, purchases)
+        unmatched(trades, sales, purchases)
     } else {
-        unmatched(purchases, sales)
+        unmatched(trades, purchases, sales)
     }
 }
 
 /// More trades of one side than those of the other that they can be matched with.
-fn unmatched(more: Bundle, fewer: Bundle) -> Certificate {
+fn unmatched(trades: usize, more: Bundle, fewer: Bundle) -> Certificate
+    requires { trades ≤ most_own }
+{
     let mut numbers = [0; POSITIONS];
-    for k in 0..POSITIONS {
+    for k in 0..trades {
         if more.has(k as u32) {
             numbers[k] = 1;
         }
@@ -128,13 +140,14 @@ impl Reach {
         }
     }
 
-    /// The trade that is nearest of those not taken yet, and how far it is.
-    fn nearest(&self) -> Option<(usize, i64)>
+    /// The trade that is nearest of so many, of those not taken yet, and how far it is.
+    fn nearest(&self, trades: usize) -> Option<(usize, i64)>
+        requires { trades ≤ most_own }
         ensures { IfSome result (λ found. found.0 < most_own) }
     {
         let mut nearest = None;
         let mut least = FAR;
-        for s in 0..POSITIONS {
+        for s in 0..trades {
             if self.distances[s] < least && !self.seconds.has(s as u32) {
                 least = self.distances[s];
                 nearest = Some((s, least));
@@ -146,9 +159,12 @@ impl Reach {
 
 impl<'a> Matching<'a> {
     /// Nothing is matched.
-    fn new(costs: &'a [i64; CELLS], by_sale: bool) -> Matching<'a> {
+    fn new(costs: &'a [i32; CELLS], trades: usize, by_sale: bool) -> Matching<'a>
+        requires { trades ≤ most_own }
+    {
         Matching {
             costs,
+            trades,
             by_sale,
             numbers: [0; POSITIONS],
             mates: [NONE; POSITIONS],
@@ -157,7 +173,7 @@ impl<'a> Matching<'a> {
     }
 
     /// The cost of a trade of the first side and one of the second.
-    fn cost(&self, first: usize, second: usize) -> i64
+    fn cost(&self, first: usize, second: usize) -> i32
         requires first { first < most_own }
         requires second { second < most_own }
     {
@@ -184,13 +200,13 @@ impl<'a> Matching<'a> {
         requires { left < most_own }
     {
         let mut more = Bundle::empty().toggle(left as u32);
-        for s in 0..POSITIONS {
+        for s in 0..self.trades {
             let first = self.mates[s];
             if reach.seconds.has(s as u32) && first < POSITIONS {
                 more = more.toggle(first as u32);
             }
         }
-        unmatched(more, reach.seconds)
+        unmatched(self.trades, more, reach.seconds)
     }
 
     /// Takes a trade of the second side in, with the highest number that exceeds no cost with these of the first.
@@ -198,11 +214,11 @@ impl<'a> Matching<'a> {
         requires { second < most_own }
     {
         let mut number = FAR;
-        for first in 0..POSITIONS {
+        for first in 0..self.trades {
             if firsts.has(first as u32) {
                 let cost = self.cost(first, second);
-                if cost < FAR {
-                    number = number.min(cost.wrapping_sub(self.numbers[first]));
+                if cost < UNLISTED {
+                    number = number.min(i64::from(cost).wrapping_sub(self.numbers[first]));
                 }
             }
         }
@@ -219,7 +235,7 @@ impl<'a> Matching<'a> {
         let mut so_far = 0;
         for _ in 0..=POSITIONS {
             self.look(&mut reach, first, so_far, seconds);
-            let Some((s, distance)) = reach.nearest() else {
+            let Some((s, distance)) = reach.nearest(self.trades) else {
                 return Some(reach);
             };
             if self.mates[s] >= POSITIONS {
@@ -241,7 +257,7 @@ impl<'a> Matching<'a> {
         let mut so_far = 0;
         for _ in 0..=POSITIONS {
             self.look(&mut reach, first, so_far, seconds);
-            let Some((s, distance)) = reach.nearest() else {
+            let Some((s, distance)) = reach.nearest(self.trades) else {
                 return reach;
             };
             reach.seconds = reach.seconds.toggle(s as u32);
@@ -258,11 +274,13 @@ impl<'a> Matching<'a> {
         }
         let rest = seconds.minus(reach.seconds);
         let base = so_far.wrapping_sub(self.numbers[first]);
-        for s in 0..POSITIONS {
+        for s in 0..self.trades {
             if rest.has(s as u32) {
                 let cost = self.cost(first, s);
-                let distance = base.wrapping_add(cost).wrapping_sub(self.numbers[s]);
-                if cost < FAR && distance < reach.distances[s] {
+                let distance = base
+                    .wrapping_add(i64::from(cost))
+                    .wrapping_sub(self.numbers[s]);
+                if cost < UNLISTED && distance < reach.distances[s] {
                     reach.distances[s] = distance;
                     reach.from[s] = first;
                 }
@@ -276,7 +294,7 @@ impl<'a> Matching<'a> {
         requires { left < most_own }
     {
         self.numbers[left] = self.numbers[left].wrapping_add(within);
-        for s in 0..POSITIONS {
+        for s in 0..self.trades {
             if reach.distances[s] < within {
                 let by = within.wrapping_sub(reach.distances[s]);
                 self.numbers[s] = self.numbers[s].wrapping_sub(by);
@@ -292,7 +310,7 @@ impl<'a> Matching<'a> {
     /// one before, and so on.
     fn rematch(&mut self, reach: &Reach, second: usize) {
         let mut s = second;
-        for _ in 0..POSITIONS {
+        for _ in 0..self.trades {
             if s < POSITIONS {
                 let first = reach.from[s] % POSITIONS;
                 let before = self.mated[first];
@@ -305,27 +323,30 @@ impl<'a> Matching<'a> {
 }
 
 impl<'a> Spare<'a> {
-    /// The matching of the bundle `x` of a firm that buys `buys`, and how far the others are, the wanted ones of the
-    /// second side among them; None where no such matching is found.
+    /// The matching of the bundle `x` of a firm that has so many trades and buys `buys`, and how far the others are, the
+    /// wanted ones of the second side among them; None where no such matching is found.
     pub(crate) fn of(
-        costs: &'a [i64; CELLS],
+        costs: &'a [i32; CELLS],
+        trades: usize,
         x: Bundle,
         buys: Bundle,
         wanted: Bundle,
-    ) -> Option<Spare<'a>> {
+    ) -> Option<Spare<'a>>
+        requires { trades ≤ most_own }
+    {
         let purchases = x.meet(buys);
         let sales = x.minus(buys);
         let others = wanted.minus(x);
         if purchases.count() == sales.count() + 1 {
             Spare::between(
-                Matching::new(costs, false),
+                Matching::new(costs, trades, false),
                 purchases,
                 sales,
                 others.minus(buys),
             )
         } else if sales.count() == purchases.count() + 1 {
             Spare::between(
-                Matching::new(costs, true),
+                Matching::new(costs, trades, true),
                 sales,
                 purchases,
                 others.meet(buys),
@@ -342,9 +363,10 @@ impl<'a> Spare<'a> {
         seconds: Bundle,
         others: Bundle,
     ) -> Option<Spare<'a>> {
+        let trades = empty.trades;
         let mut matching = empty;
         let mut left = NONE;
-        for first in 0..POSITIONS {
+        for first in 0..trades {
             if firsts.has(first as u32) {
                 if let Some(_reach) = matching.extend(first, seconds) {
                     if left < POSITIONS {
@@ -354,7 +376,7 @@ impl<'a> Spare<'a> {
                 }
             }
         }
-        for k in 0..POSITIONS {
+        for k in 0..trades {
             if others.has(k as u32) {
                 matching.admit(k, firsts);
             }

@@ -37,7 +37,7 @@ fn a_dealer_in_two_items(rt: HostRuntime) -> Result<(), Fail> {
     let mut steps = Steps::new(Asked);
     assert_eq!(rt; dealer.trades(), 4);
     assert_eq!(rt; dealer.side(1), Side::Buy);
-    assert_eq!(rt; dealer.bound(), 100_000_000_000);
+    assert_eq!(rt; dealer.bound(), 124_000_000_000);
     assert_eq!(rt;
         dealer.value(Bundle::from_bits(0b1111), &mut steps),
         Some(-2)

@@ -12,18 +12,18 @@ ghost use Rattle.tn_law.proofs.PairLemmas.{IsWorth};
 ghost use Rattle.tn_base.specs.Widths.{most_amount};
 ghost use Rattle.tn_market.specs.Widths.{most_worth, most_own};
 
-use crate::costs::{CELLS, FAR, POSITIONS, place};
+use crate::costs::{CELLS, POSITIONS, UNLISTED, place};
 use crate::dealer::Dealer;
 use crate::search::{Certificate, Spare, search};
 use tn_base::Bundle;
 
 impl Dealer {
     /// What a bundle of own trades is worth, None where it is impossible.
-    pub(crate) fn worth(&self, costs: &[i64; CELLS], x: Bundle) -> Option<i128>
+    pub(crate) fn worth(&self, costs: &[i32; CELLS], x: Bundle) -> Option<i128>
         requires costs { AreCosts self.now.pairs.items costs.now }
         ensures { result ≡ matched_worth self.now.pairs.items x }
     {
-        match self.shown(costs, x, &search(costs, x, self.buys)) {
+        match self.shown(costs, x, &search(costs, self.trades as usize, x, self.buys)) {
             Some(worth) => worth,
             None => self.worth_from(0, x),
         }
@@ -32,7 +32,7 @@ impl Dealer {
     /// What a bundle with position `k` toggled is worth, from a matching of the bundle where there is one.
     pub(crate) fn toggled_worth(
         &self,
-        costs: &[i64; CELLS],
+        costs: &[i32; CELLS],
         x: Bundle,
         k: u32,
         spare: &Option<Spare>,
@@ -51,11 +51,11 @@ impl Dealer {
     }
 
     /// The worth that what was found shows, None where it shows nothing.
-    fn shown(&self, costs: &[i64; CELLS], x: Bundle, found: &Certificate) -> Option<Option<i128>>
+    fn shown(&self, costs: &[i32; CELLS], x: Bundle, found: &Certificate) -> Option<Option<i128>>
         requires costs { AreCosts self.now.pairs.items costs.now }
         ensures { IfSome result (λ worth. worth ≡ matched_worth self.now.pairs.items x) }
     {
-        let sum = sum(x, &found.numbers);
+        let sum = sum(x, self.trades as usize, &found.numbers);
         if !found.matched {
             return if 0 < sum && self.keeps(costs, x, &found.numbers, false) {
                 Some(None)
@@ -74,7 +74,7 @@ impl Dealer {
     /// Whether the numbers of no pair within the bundle sum to more than its cost, or than 0 where costs don't count.
     fn keeps(
         &self,
-        costs: &[i64; CELLS],
+        costs: &[i32; CELLS],
         x: Bundle,
         numbers: &[i64; POSITIONS],
         priced: bool,
@@ -84,8 +84,9 @@ impl Dealer {
     {
         let purchases = x.meet(self.buys);
         let sales = x.minus(self.buys);
-        for buy in 0..POSITIONS {
-            if !keeps_beside(costs, buy, purchases, sales, numbers, priced) {
+        let trades = self.trades as usize;
+        for buy in 0..trades {
+            if !keeps_beside(costs, trades, buy, purchases, sales, numbers, priced) {
                 return false;
             }
         }
@@ -93,14 +94,14 @@ impl Dealer {
     }
 
     /// The bundle that the mates match by listed pairs, and what these cost together.
-    fn taken(&self, costs: &[i64; CELLS], found: &Certificate) -> (Bundle, i128)
+    fn taken(&self, costs: &[i32; CELLS], found: &Certificate) -> (Bundle, i128)
         requires costs { AreCosts self.now.pairs.items costs.now }
         ensures worth { IsWorth (matched_worth self.now.pairs.items) result.0 (neg_ℤ result.1) }
         ensures small { IsAtMost result.1 (most_own * most_amount) }
     {
         let mut bundle = Bundle::empty();
         let mut cost = 0;
-        for k in 0..POSITIONS {
+        for k in 0..self.trades as usize {
             (bundle, cost) = take_in(costs, found.pair_at(k), bundle, cost);
         }
         (bundle, cost)
@@ -126,13 +127,14 @@ impl Dealer {
     }
 }
 
-/// The sum of the numbers of a bundle's positions.
-fn sum(x: Bundle, numbers: &[i64; POSITIONS]) -> i128
-    ensures sum { result ≡ sum_over (number_at numbers.now) most_own x }
+/// The sum of the numbers of a bundle's positions, of so many trades.
+fn sum(x: Bundle, trades: usize, numbers: &[i64; POSITIONS]) -> i128
+    requires few { trades ≤ most_own }
+    ensures sum { result ≡ sum_over (number_at numbers.now) trades x }
     ensures small { IsAtMost result (most_own * 2 ^ 63) }
 {
     let mut total = 0;
-    for k in 0..POSITIONS {
+    for k in 0..trades {
         total += number_in(x, numbers, k);
     }
     total
@@ -151,24 +153,26 @@ fn number_in(x: Bundle, numbers: &[i64; POSITIONS], k: usize) -> i128
     }
 }
 
-/// Whether the numbers of a purchase and of each of these sales sum to at most the cost of their pair, or to at most 0
-/// where costs don't count, if the purchase is one of these and the pair is listed.
+/// Whether the numbers of a purchase and of each of these sales, all among so many trades, sum to at most the cost of
+/// their pair, or to at most 0 where costs don't count, if the purchase is one of these and the pair is listed.
 fn keeps_beside(
-    costs: &[i64; CELLS],
+    costs: &[i32; CELLS],
+    trades: usize,
     buy: usize,
     purchases: Bundle,
     sales: Bundle,
     numbers: &[i64; POSITIONS],
     priced: bool,
 ) -> bool
-    requires { buy < most_own }
+    requires few { trades ≤ most_own }
+    requires own { buy < trades }
     ensures { result ≡ true → has purchases buy ≡ true
-        → KeepsBeside priced costs.now (number_at numbers.now) sales buy most_own }
+        → KeepsBeside priced costs.now (number_at numbers.now) sales buy trades }
 {
     if !purchases.has(buy as u32) {
         return true;
     }
-    for sell in 0..POSITIONS {
+    for sell in 0..trades {
         if breaks(costs, buy, sell, sales, numbers, priced) {
             return false;
         }
@@ -179,7 +183,7 @@ fn keeps_beside(
 /// Whether a purchase and a sale are a listed pair, the sale is one of these, and their numbers sum to more than its
 /// cost, or than 0 where costs don't count.
 fn breaks(
-    costs: &[i64; CELLS],
+    costs: &[i32; CELLS],
     buy: usize,
     sell: usize,
     sales: Bundle,
@@ -198,10 +202,10 @@ fn breaks(
 }
 
 /// Whether a cost is that of a listed pair.
-fn is_listed(cost: i64) -> bool
+fn is_listed(cost: i32) -> bool
     ensures { IsTrue result ↔ cost <ℤ far }
 {
-    cost < FAR
+    cost < UNLISTED
 }
 
 /// Whether two numbers sum to more.
@@ -212,14 +216,14 @@ fn exceed(first: i64, second: i64, most: i128) -> bool
 }
 
 /// What the numbers of a pair's trades may sum to.
-fn bound(cost: i64, priced: bool) -> i128
+fn bound(cost: i32, priced: bool) -> i128
     ensures { result ≡ (if priced then cost else pos 0) }
 {
     if priced { i128::from(cost) } else { 0 }
 }
 
 /// The bundle and the cost with a pair taken in, where it is listed and neither of its trades is there yet.
-fn take_in(costs: &[i64; CELLS], pair: (usize, usize), bundle: Bundle, cost: i128) -> (Bundle, i128)
+fn take_in(costs: &[i32; CELLS], pair: (usize, usize), bundle: Bundle, cost: i128) -> (Bundle, i128)
     requires { IsAtMost cost (most_own * most_amount) }
     ensures { MayTake costs.now bundle cost result.0 result.1 }
 {

@@ -1,9 +1,10 @@
 -- Every document that is read is a network with its names.
-use Rattle.std.proofs.Common.{◌≡◌, ℕ, ◌<◌, ◌^◌, List, [], length, Result, Ok, Err, refl, sym, ap, subst, ◌∙◌, arith}
+use Rattle.std.proofs.Common.{◌≡◌, ℕ, ◌<◌, ◌≤◌, ◌^◌, List, [], length, Result, Ok, Err, refl, sym, ap, subst, ◌∙◌, arith}
 use Rattle.std.specs.Prelude.{not, IfOk}
 use Rattle.serde_json.specs.Data.{Data, Items}
 use Rattle.serde_json.specs.Events.{items_len}
 use Rattle.tn_base.specs.Firm.{Firm}
+use Rattle.tn_market.specs.Valued.{IsWorthAtMost}
 use Rattle.tn_base.specs.declared.fault.FaultKind.TheVariants.{NotJson}
 use Rattle.tn_names.specs.Names.{no_names}
 use Rattle.tn_file.specs.declared.need.Need.{Need}
@@ -18,26 +19,31 @@ use Rattle.tn_read_parts.specs.Signed.{outcome_of}
 use Rattle.tn_read_parts.specs.Edited.{edits_of}
 use Rattle.tn_plain_data.specs.Edits.{AreEdits}
 use Rattle.tn_plain_data.specs.ClaimLimits.{IsClaimWithin}
+use Rattle.tn_plain_data.specs.Limits.{most_worth_among, worth_limit}
 use Rattle.tn_plain_data.specs.Network.{IsNetwork}
 use Rattle.tn_plain_data.specs.OutcomeLimits.{IsOutcomeWithin}
 use Rattle.tn_read_claims.specs.Claimed.{claim_of, claims_raw, is_raw, kind_is}
 use Rattle.tn_read_claims.proofs.ClaimLeads.{claim_leads}
-use Rattle.tn_read_claims.proofs.KindLeads.{raw_claims_are_told}
+use Rattle.tn_read_claims.proofs.KindLeads.{claims_keep_limits, raw_claims_are_told}
+use Rattle.tn_read_claims.specs.Laws.{KeepsClaimLimits}
 use Rattle.tn_file.specs.Document.{ExtraData, nothing, arrangement, on_alone, outcome, edits, claim, extra_of, content_of, document_of, is_accepted, is_tested, reading_of}
 use Rattle.tn_read_head.specs.Listing.{listed_of}
 use Rattle.tn_read_head.specs.Refused.{Reads}
 use Rattle.tn_read_head.specs.declared.refusal.DocRefusal.{DocRefusal}
 use Rattle.tn_file.specs.Refusal.{document_view}
 use Rattle.tn_file.specs.declared.document.Document.{Document}
-use Rattle.tn_file.specs.Laws.{IsDocument, IsExtra, DocumentsAreNetworks}
+use Rattle.tn_file.specs.Laws.{IsDocument, IsExtra, KeepsLimits, DocumentsAreNetworks}
 use Rattle.tn_shape.proofs.LeadLemmas.{Leads, leads_ok, leads_bind, leads_after, leads_both}
 use Rattle.tn_read_head.proofs.BesideLemmas.{leads_beside}
 use Rattle.tn_read_firms.proofs.FirmLeads.{AreFirms, firms_are, firms_are_counted, network_of, positions_ascend}
-use Rattle.tn_read_firms.proofs.KindLemmas.{listed_own_bundles, listed_may_abstain}
+use Rattle.tn_read_references.proofs.EntryLeads.{within_more}
+use Rattle.tn_read_firms.specs.Laws.{IsListedFirm}
+use Rattle.tn_read_firms.proofs.KindLemmas.{listed_own_bundles, listed_may_abstain, listed_worths}
+use Rattle.tn_read_firms.proofs.RoomLemmas.{a_set_is_allowed}
 use Rattle.tn_read_parts.proofs.ArrangementLeads.{arrangement_leads, trades_on_leads}
 use Rattle.tn_read_parts.proofs.OutcomeLeads.{outcome_leads}
-use Rattle.tn_read_parts.proofs.EditLeads.{edits_lead}
-use Rattle.tn_read_head.proofs.ListingLeads.{IsListing, listed_leads}
+use Rattle.tn_read_parts.proofs.EditLeads.{edits_are_few, edits_lead}
+use Rattle.tn_read_head.proofs.ListingLeads.{AreOfVersion, IsListing, listed_leads}
 
 module _ (listed : Listed) (trades : AreTrades listed) (firms : List Firm) (named : length listed.names.firms
     ≡ length firms) (network : IsNetwork firms listed.ends) where
@@ -77,6 +83,32 @@ module _ (listed : Listed) (trades : AreTrades listed) (firms : List Firm) (name
       leads_bind (IsClaimWithin firms listed.ends) IsRead (claim_of listed top) _
       (claim_leads listed trades firms named network top) (λ read is. leads_ok IsRead (claim read) is)
 
+-- the part beside the network keeps the limits of the version
+keeping_leads : (need : Need) (listed : Listed) (top : Data)
+    → Leads (KeepsLimits listed.limits) (extra_of need listed top)
+unfolding extra_of
+keeping_leads Market listed top = leads_ok (KeepsLimits listed.limits) nothing tt
+keeping_leads Raw listed top = leads_ok (KeepsLimits listed.limits) nothing tt
+keeping_leads Arrangement listed top =
+    leads_after (KeepsLimits listed.limits) (arrangement_of listed top) _
+    (λ part. leads_ok (KeepsLimits listed.limits) (arrangement part) tt)
+keeping_leads RawArrangement listed top =
+    leads_after (KeepsLimits listed.limits) (arrangement_of listed top) _
+    (λ part. leads_ok (KeepsLimits listed.limits) (arrangement part) tt)
+keeping_leads On listed top =
+    leads_after (KeepsLimits listed.limits) (trades_on_of listed.names.trades top) _
+    (λ on. leads_ok (KeepsLimits listed.limits) (on_alone on) tt)
+keeping_leads Outcome listed top =
+    leads_after (KeepsLimits listed.limits) (outcome_of listed top) _
+    (λ signed. leads_ok (KeepsLimits listed.limits) (outcome signed) tt)
+keeping_leads Edits listed top =
+    leads_bind (λ changes. length changes ≤ listed.limits.edits) (KeepsLimits listed.limits) (edits_of listed top) _
+    (edits_are_few listed top) (λ changes few. leads_ok (KeepsLimits listed.limits) (edits changes) few)
+keeping_leads Claim listed top =
+    leads_bind (KeepsClaimLimits listed.limits) (KeepsLimits listed.limits) (claim_of listed top) _
+    (record { at = claims_keep_limits listed top }) (λ read keeps.
+    leads_ok (KeepsLimits listed.limits) (claim read) keeps)
+
 -- whether firms are tested is told before the claim is read
 accepted_leads : (need : Need) (listed : Listed) (top : Data)
     → Leads (λ extra. is_accepted need extra ≡ is_tested need top) (extra_of need listed top)
@@ -103,6 +135,7 @@ record IsContent (need : Need) (top : Data) (found : Listed × Items) (listing :
   are : AreFirms (is_tested need top) found.0 listing.trades content.0
   count : length content.0 ≡ items_len found.1
   extra : IsExtra content.0 found.0.ends content.1
+  keeps : KeepsLimits found.0.limits content.1
   accepted : is_accepted need content.1 ≡ is_tested need top
 
 content_leads : (need : Need) (found : Listed × Items) (listing : IsListing found) (top : Data)
@@ -118,21 +151,34 @@ content_leads need found listing top =
     let count = are.1 in
     let named : length found.0.names.firms ≡ length firms = omega (arith, listing.count, count) in
     let network = network_of tested found.0 listing.trades firms are.0 named in
-    leads_bind (λ extra. IsExtra firms found.0.ends extra
-    × (is_accepted need extra ≡ tested)) (IsContent need top found listing) (extra_of need found.0 top) _
-    (leads_both (IsExtra firms found.0.ends) (λ extra. is_accepted need extra ≡ tested) (extra_of need found.0 top)
-    (extra_leads found.0 listing.trades firms named network need top) (accepted_leads need found.0 top))
-    (λ extra is.
+    let known = λ (extra : ExtraData). KeepsLimits found.0.limits extra × (is_accepted need extra ≡ tested) in
+    leads_bind (λ extra. IsExtra firms found.0.ends extra × known extra) (IsContent need top found listing)
+    (extra_of need found.0 top) _
+    (leads_both (IsExtra firms found.0.ends) known (extra_of need found.0 top)
+    (extra_leads found.0 listing.trades firms named network need top)
+    (leads_both (KeepsLimits found.0.limits) (λ extra. is_accepted need extra ≡ tested) (extra_of need found.0 top)
+    (keeping_leads need found.0 top) (accepted_leads need found.0 top))) (λ extra is.
     leads_ok (IsContent need top found listing) (
       firms,
       extra,
-    ) (record { are = are.0; count = are.1; extra = is.0; accepted = is.1 })))
+    ) (record { are = are.0; count = are.1; extra = is.0; keeps = is.1.0; accepted = is.1.1 })))
+
+-- what holds of the worths of a firm within the limits of a version, in a document with no more trades than these
+worths_are_small : (listed : Listed) → AreTrades listed → (f : ℕ) (firm : Firm) → AreOfVersion listed.limits
+    → IsListedFirm listed.limits listed.ends f firm → IsWorthAtMost (most_worth_among (length listed.ends)) firm
+worths_are_small listed trades f firm version is x a e =
+    within_more a (worth_limit listed.limits) (most_worth_among (length listed.ends))
+    (trades.limits.worths (length listed.ends) trades.few)
+    (listed_worths listed.limits trades.limits listed.ends f firm
+    (a_set_is_allowed version.0 listed.limits version.1) is x a e)
 
 is_document : (need : Need) (top : Data) (found : Listed × Items) (content : List Firm
     × ExtraData) (listing : IsListing found) → IsContent need top found listing content
     → IsDocument need (record { names = found.0.names; firms = content.0; ends = found.0.ends; extra = content.1 })
 is_document need top found content listing is =
     let tested = is_tested need top in
+    let limits = found.0.limits in
+    let are_limits = listing.trades.limits in
     let count = is.count in
     let named : length found.0.names.firms ≡ length content.0 = omega (arith, listing.count, count) in
     record {
@@ -140,21 +186,26 @@ is_document need top found content listing is =
       trade_names = listing.trade_names;
       firms_named = named;
       trades_named = listing.trades.named;
-      few_firms = omega (arith, count, listing.few);
-      few_trades = omega (arith, listing.trades.few, listing.trades.limits.trades);
+      version = listing.limits.0;
+      limits = limits;
+      limits_are = listing.limits.1;
+      few_firms = omega (arith, listing.count, count, listing.trades.few_firms);
+      few_trades = listing.trades.few;
       listed = λ f firm at. (is.are f firm at).listed;
+      worths = λ f firm at. (worths_are_small found.0 listing.trades f firm listing.limits (is.are f firm at).listed);
       network = network_of tested found.0 listing.trades content.0 is.are named;
       ascending = λ f i j firm at before below. (positions_ascend tested found.0 listing.trades content.0 is.are f i j
           firm at before below);
-      own_bundles = λ f firm at. listed_own_bundles found.0.ends f firm (is.are f firm at).listed;
-      abstain = λ f firm at. listed_may_abstain found.0.ends f firm (is.are f firm at).listed;
+      own_bundles = λ f firm at. listed_own_bundles limits are_limits found.0.ends f firm (is.are f firm at).listed;
+      abstain = λ f firm at. listed_may_abstain limits are_limits found.0.ends f firm (is.are f firm at).listed;
       accepted = λ accepted f firm at. (record {
         abstains =
-            listed_may_abstain found.0.ends f firm (is.are f firm at).listed;
+            listed_may_abstain limits are_limits found.0.ends f firm (is.are f firm at).listed;
         exchanges =
             (is.are f firm at).meets (sym is.accepted ∙ accepted);
       });
       extra = is.extra;
+      extra_keeps = is.keeps;
     }
 
 pub document_leads : (need : Need) (top : Data) → Leads (IsDocument need) (document_of need top)

@@ -2,3 +2,4 @@
 pub mod JsonLemmas
 pub mod DocumentLeads
 pub mod DocumentStops
+pub mod SizeLemmas

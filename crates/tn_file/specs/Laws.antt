@@ -3,15 +3,18 @@ use Rattle.std.specs.Prelude.{◌≡◌, ◌≢◌, ℕ, ◌≤◌, ◌<◌, ◌
 use Rattle.tn_base.specs.declared.fault.FaultKind.TheVariants.{TooLong}
 use Rattle.tn_base.specs.Firm.{Firm, HasOwnBundles, MayAbstain}
 use Rattle.tn_market.specs.Accepted.{AreAccepted}
+use Rattle.tn_market.specs.Limits.{AreWorthsWithin}
 use Rattle.tn_plain_data.specs.ClaimLimits.{IsClaimWithin}
-use Rattle.tn_plain_data.specs.Limits.{most_listed}
+use Rattle.tn_plain_data.specs.Limits.{limits_of, most_worth_among}
 use Rattle.tn_plain_data.specs.OutcomeLimits.{IsOutcomeWithin}
 use Rattle.tn_plain_data.specs.declared.ends.Ends.{Ends}
+use Rattle.tn_plain_data.specs.declared.limits.Limits.{Limits}
 use Rattle.tn_plain_data.specs.Network.{IsNetwork, HaveAscendingPositions}
 use Rattle.tn_names.specs.Names.{IsNameList}
 use Rattle.tn_file.specs.declared.need.Need.{Need}
 use Rattle.tn_read_head.specs.Beside.{Stop, IsStop}
 use Rattle.tn_file.specs.Document.{DocumentData, ExtraData, nothing, arrangement, on_alone, outcome, edits, claim, is_accepted, reading_of}
+use Rattle.tn_read_claims.specs.Laws.{KeepsClaimLimits}
 use Rattle.tn_read_firms.specs.Laws.{IsListedFirm}
 use Rattle.tn_read_parts.specs.Arranged.{IsArrangement}
 use Rattle.tn_plain_data.specs.Edits.{AreEdits}
@@ -24,15 +27,27 @@ IsExtra firms trades (outcome signed) = IsOutcomeWithin (length trades) signed
 IsExtra firms trades (edits listed) = AreEdits (length firms) (length trades) listed
 IsExtra firms trades (claim read) = IsClaimWithin firms trades read
 
+-- of the parts beside a network, edits and claims have limits that differ by version
+abbrev pub KeepsLimits : Limits → ExtraData → Type 0
+KeepsLimits limits (edits listed) = length listed ≤ limits.edits
+KeepsLimits limits (claim read) = KeepsClaimLimits limits read
+KeepsLimits limits extra = Unit {0}
+
 pub record IsDocument (need : Need) (doc : DocumentData) : Type 0 where
   -- different names that keep the rule, one for each firm and one for each trade
   pub firm_names : IsNameList doc.names.firms
   pub trade_names : IsNameList doc.names.trades
   pub firms_named : length doc.names.firms ≡ length doc.firms
   pub trades_named : length doc.names.trades ≡ length doc.ends
-  pub few_firms : length doc.firms ≤ most_listed
-  pub few_trades : length doc.ends ≤ most_listed
-  pub listed : (f : ℕ) (firm : Firm) → slice_get doc.firms f ≡ Some firm → IsListedFirm doc.ends f firm
+  -- no more firms and trades than the limits of its version allow, and firms within these limits
+  pub version : ℕ
+  pub limits : Limits
+  pub limits_are : limits_of version ≡ Some limits
+  pub few_firms : length doc.firms ≤ limits.firms
+  pub few_trades : length doc.ends ≤ limits.trades
+  pub listed : (f : ℕ) (firm : Firm) → slice_get doc.firms f ≡ Some firm → IsListedFirm limits doc.ends f firm
+  -- worths are smaller where there are many trades
+  pub worths : AreWorthsWithin (most_worth_among (length doc.ends)) doc.firms
   -- each trade has two different firms of the list, and firms and trades fit together
   pub network : IsNetwork doc.firms doc.ends
   -- at a later position of a firm stands a later trade
@@ -43,6 +58,7 @@ pub record IsDocument (need : Need) (doc : DocumentData) : Type 0 where
   -- a market may be made of the firms, unless the network is read raw: each meets exchange
   pub accepted : is_accepted need doc.extra ≡ true → AreAccepted doc.firms
   pub extra : IsExtra doc.firms doc.ends doc.extra
+  pub extra_keeps : KeepsLimits limits doc.extra
 
 -- every document that is read is one
 abbrev pub DocumentsAreNetworks : Type 0

@@ -24,9 +24,9 @@ pub enum Extra {
     /// Nothing.
     None,
     /// The arrangement.
-    Arrangement(Arrangement<2>),
+    Arrangement(Arrangement<16>),
     /// The trades that are on.
-    On(TradeSet<2>),
+    On(TradeSet<16>),
     /// The outcome.
     Outcome(Outcome),
     /// The edits.
@@ -41,7 +41,7 @@ pub enum RawExtra {
     /// Nothing.
     None,
     /// The arrangement.
-    Arrangement(Arrangement<2>),
+    Arrangement(Arrangement<16>),
     /// The claim, which is one on exchange or that there are no prices.
     Claim(Claim),
 }

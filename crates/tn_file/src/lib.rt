@@ -15,7 +15,7 @@ pub use extra::{Extra, RawExtra};
 pub use laws::{documents_are_networks, faults_are_sayable, readings_are_never_too_long};
 pub use need::Need;
 pub use read::read_doc;
-pub use tn_read_claims::{claims_are_within, nodes_are_few, raw_claims_are_told};
+pub use tn_read_claims::{claims_are_within, claims_keep_limits, raw_claims_are_told};
 pub use tn_read_firms::first_failures_are_first;
 pub use tn_read_head::DocRefusal;
 pub use tn_read_parts::{

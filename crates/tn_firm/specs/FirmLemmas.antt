@@ -11,14 +11,14 @@ use Rattle.tn_firm.specs.declared.value.FirmValue.TheVariants.{Table, Laminar, M
 use Rattle.tn_firm.specs.Firms.{firm_of}
 use Rattle.tn_market.specs.Widths.{most_worth, most_own}
 
--- whatever its kind, it is a firm that may be asked, and no worth of it is above 10^11
+-- whatever its kind, it is a firm that may be asked, and no worth of it is above (60 + 64) * 10^9
 pub firm_laws : (value : FirmValue) → IsLawful most_worth (firm_of value)
 firm_laws (Table table) = table_laws table
 firm_laws (Laminar firm) = laminar_laws firm
 firm_laws (Middle firm) = middle_laws firm
 firm_laws (Dealer firm) = dealer_laws firm
 
--- a firm of any kind has at most 32 own trades, which is what the search for a best bundle asks
+-- a firm of any kind has at most 60 own trades, which is what the search for a best bundle asks
 pub firm_few : (value : FirmValue) → (firm_of value).count ≤ most_own
 firm_few (Table table) = let few = table_few table in omega (arith, few)
 firm_few (Laminar firm) = firm.laminar.few

@@ -23,7 +23,8 @@ use Rattle.tn_cycle.proofs.DifferenceLemmas.{label_small, difference_within}
 use Rattle.tn_network.specs.Laws.{MeetExchange}
 use Rattle.tn_network.proofs.AdmittedLemmas.{admitted_network}
 use Rattle.tn_network.proofs.KeptLemmas.{one_cycle_for_each_trade}
-use Rattle.tn_network.proofs.EachLemmas.{each_within, same_prices}
+use Rattle.tn_network.proofs.EachLemmas.{same_prices}
+use Rattle.tn_market.specs.Limits.{AreWorthsWithin}
 use Rattle.tn_network.proofs.SupportLemmas.{arcs_small}
 use Rattle.tn_flow.specs.Underway.{AreUnderWay}
 use Rattle.tn_flow.specs.Solved.{IsSolution, AreSmallPrices}
@@ -67,27 +68,20 @@ solution_from firms trades graph finder allowed wanted on labels prices network 
     })
 
 -- and its prices are within the bound
-pub prices_within : {V : Type 0} (firm_of : V → Firm) (limit_of : V
-    → ℕ) (items : List V) (trades : List Ends) (allowed on : ℕ) (labels prices : List ℤ)
-    → IsNetwork (map firm_of items) trades
-    → ((v : V) → IsWorthAtMost (limit_of v) (firm_of v))
+pub prices_within : (firms : List Firm) (trades : List Ends) (allowed on : ℕ) (labels prices : List ℤ)
+    → IsNetwork firms trades
     → AreLabels (length trades + 1) (arcs_among (is_admitted (length trades) allowed)
-    (exchange_arc (map firm_of items) trades on)) labels → length prices ≡ length trades
+    (exchange_arc firms trades on)) labels → length prices ≡ length trades
     → ((t : ℕ) → t < length trades → price_at prices t ≡ label_in labels t -ℤ label_in labels (length trades))
-    → (bound : ℕ) → ((f : ℕ) (v : V) → slice_get items f ≡ Some v → limit_of v ≤ bound)
-    → AreSmallPrices (2 * bound * length trades) prices
-prices_within {V} firm_of limit_of items trades allowed on labels prices network within are counted priced bound limited
-    k d below =
+    → (bound : ℕ) → AreWorthsWithin bound firms → AreSmallPrices (2 * bound * length trades) prices
+prices_within firms trades allowed on labels prices network are counted priced bound bounded k d below =
     subst (λ (z : ℤ). IsAtMost z (2 * bound * length trades)) (sym (read ∙ priced k inside))
     (difference_within (length trades) (2 * bound) _ labels are
-    (small-arcs_among (is_admitted (length trades) allowed) (2 * bound) (exchange_arc (map firm_of items) trades on)
-    (arcs_small (map firm_of items) trades network bound on bounded)) k inside)
+    (small-arcs_among (is_admitted (length trades) allowed) (2 * bound) (exchange_arc firms trades on)
+    (arcs_small firms trades network bound on bounded)) k inside)
   where
     inside : k < length trades
     inside = omega (arith, below, counted)
 
     read : get_or prices k d ≡ price_at prices k
     read = get_or_default prices k d (pos 0) below
-
-    bounded : (f : ℕ) (firm : Firm) → slice_get (map firm_of items) f ≡ Some firm → IsWorthAtMost bound firm
-    bounded = each_within firm_of limit_of items within bound limited

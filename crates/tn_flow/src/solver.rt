@@ -6,6 +6,7 @@ ghost use Rattle.tn_base.specs.Widths.{most_cost, most_limbs};
 ghost use Rattle.tn_plain_data.specs.Prices.{price_at};
 ghost use Rattle.tn_market.specs.Equilibrium.{IsEquilibrium};
 ghost use Rattle.tn_market.specs.Graph.{graph_worths};
+ghost use Rattle.tn_market.specs.Limits.{AreWorthsWithin};
 ghost use Rattle.tn_flow.specs.Solved.{AreSmallPrices, IsSolution, IsUnsolved};
 ghost use Rattle.tn_market.specs.NetworkOf.{network_of};
 
@@ -108,7 +109,7 @@ impl<const W: usize> Solver<W> {
         requires small { (f : ℕ) (v : V) → slice_get market.now.firms f ≡ Some v
             → 2 * V.limit v * (length market.now.trades + 1) ≤ most_cost }
         ensures solution { network_of V.firm market.now IsSolution admitted.now self.new }
-        ensures prices { (bound : ℕ) → ((f : ℕ) (v : V) → slice_get market.now.firms f ≡ Some v → V.limit v ≤ bound)
+        ensures prices { (bound : ℕ) → AreWorthsWithin bound (map V.firm market.now.firms)
             → AreSmallPrices (2 * bound * length market.now.trades) self.new.prices }
         ensures asked { steps.new ≤ steps.old + (length market.now.trades + 1) * graph_worths
             (map V.firm market.now.firms) }
@@ -130,7 +131,7 @@ impl<const W: usize> Solver<W> {
         ensures equilibrium { network_of V.firm market.now IsEquilibrium (pos 1) self.new.on
             (price_at self.new.prices) }
         ensures inside { (t : ℕ) → has self.new.on t ≡ true → t < length market.now.trades }
-        ensures prices { (bound : ℕ) → ((f : ℕ) (v : V) → slice_get market.now.firms f ≡ Some v → V.limit v ≤ bound)
+        ensures prices { (bound : ℕ) → AreWorthsWithin bound (map V.firm market.now.firms)
             → AreSmallPrices (2 * bound * length market.now.trades) self.new.prices }
         ensures asked { steps.new ≤ steps.old + (length market.now.trades + 1) * graph_worths
             (map V.firm market.now.firms) }

@@ -1,5 +1,5 @@
 -- From how a firm stands to what is said of it, and of all firms.
-use Rattle.std.proofs.Common.{◌≡◌, ℕ, zero, suc, ◌+◌, ◌*◌, ◌^◌, ◌≤◌, cond, ℤ, pos, ◌+ℤ◌, ◌-ℤ◌, ◌*ℤ◌, List, [], ◌∷◌, ◌++◌, length, take, slice_get, count_by, refl, sym, ap, ◌∙◌, subst, arith, inl, inr}
+use Rattle.std.proofs.Common.{◌≡◌, ℕ, zero, suc, ◌+◌, ◌*◌, ◌≤◌, cond, ℤ, pos, ◌+ℤ◌, ◌-ℤ◌, ◌*ℤ◌, List, [], ◌∷◌, ◌++◌, length, take, slice_get, count_by, refl, sym, ap, ◌∙◌, subst, arith, inl, inr}
 use Rattle.std.specs.Prelude.{Option, Some, None, All, IfSome, option_map, option_and_then}
 use Rattle.std.proofs.lemmas.Int.{ints}
 use Rattle.std.proofs.lemmas.Bool.{cases_eq, cases_lt}
@@ -49,7 +49,7 @@ price_small prices t limit small = elim (cases_lt t (length prices)) [
 -- the utility of a bundle at prices of an arrangement
 utility_small : (firm : Firm) (prices : ℕ → ℤ) (x : ℕ) (value : ℤ) → firm.count ≤ most_own
     → IsWorthAtMost most_worth firm → ((k : ℕ) → IsAtMost (prices k) most_price)
-    → utility (pos 1) prices firm x ≡ Some value → IsAtMost value (4 * 10 ^ 15)
+    → utility (pos 1) prices firm x ≡ Some value → IsAtMost value most_told_utility
 utility_small firm prices x value few worths small is =
     let worth = option_map-some (λ a. pos 1 *ℤ a +ℤ sum_over (payments firm.buys prices) firm.count x) (firm.worth x)
     value is in
@@ -111,9 +111,8 @@ stand_small trades prices f own_bundle firm stand few worths small is = record {
     within : (x : ℕ) (z : ℤ) → utility_at trades (pos 1) (price_at prices) f firm x ≡ Some z
         → IsAtMost z most_told_utility
     within x z z_is =
-        smaller z (4 * 10 ^ 15) most_told_utility (omega arith)
-        (utility_small firm (λ k. price_at prices (own trades f k)) x z few worths
-        (λ k. price_small prices (own trades f k) most_price small) z_is)
+        utility_small firm (λ k. price_at prices (own trades f k)) x z few worths
+        (λ k. price_small prices (own trades f k) most_price small) z_is
 
 -- what is said of a firm that stands so
 pub told_there : (trades : List Ends) (on : ℕ) (prices : ℕ → ℤ) (f n : ℕ) (firm : Firm) (stand : Stand) (told : Holding)

@@ -40,7 +40,7 @@ stands firm prices own found most mine told worth_is told_mine mine_is is_best v
   kept_own = λ e. kept (sym told_mine ∙ e ∙ ap (λ (z : ℤ). Some z) value_is);
 }
 
--- no worth of a firm of any kind is above 10^11
+-- no worth of a firm of any kind is above (60 + 64) * 10^9
 pub table_worths : (table : TableRows) → IsWithinLimits table → IsWorthAtMost most_worth (firm_of_table table)
 table_worths table within x a is = smaller a most_amount most_worth (omega arith) (worth_is_small table within x a is)
 

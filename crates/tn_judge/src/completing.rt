@@ -116,7 +116,7 @@ fn completion_by_labels<V: Oracle>(
 
 /// Prices that complete an outcome, None exactly where there are none. It asks for no best bundle, and for at most
 /// a worth of each firm and one for each two of its places; it fails only where memory runs out. The limits of
-/// firms and outcomes hold, and there are at most 128 trades.
+/// firms and outcomes hold, so there are at most 1,024 trades.
 pub fn completion<V: Oracle>(
     alloc: Global,
     market: &Market<V>,
@@ -129,7 +129,7 @@ pub fn completion<V: Oracle>(
     ensures { IfOk result (network_of V.firm market.now AnswersCompletion outcome.now.over outcome.now.contracts) }
 {
     let trades = market.trades();
-    let signed: TradeSet<2> = signed_trades(&outcome.contracts, trades);
+    let signed: TradeSet<16> = signed_trades(&outcome.contracts, trades);
     match first_unable(market, &signed, steps) {
         Some(_) => Ok(None),
         None => {

@@ -54,8 +54,9 @@ fn blocking_over(outcome: &Outcome, count: u32) -> i128
 /// Judges an outcome: prices that complete it, exactly where there are any; or else the first firm that would drop
 /// contracts; or else a chain of contracts that blocks it. It fails only where memory runs out (Hatfield, Kominers,
 /// Nichifor, Ostrovsky and Westkamp, 2013, on stable outcomes and equilibria, and 2021 on chains). The limits of firms
-/// and outcomes hold: at most 1,024 firms, 32 own trades and worths of at most 10^11 in size; the outcome's denominator
-/// is 1 to 100, and its numerators are at most 10^11 in size. There are at most 128 trades.
+/// and outcomes hold: at most 1,024 firms and 1,024 trades, 60 own trades and worths of at most 1.24 * 10^11 in size, or
+/// 1.24 * 10^9 where there are more than 128 trades; the outcome's denominator is 1 to 100, and its numerators are at
+/// most 10^11 in size.
 pub fn judge<V: Oracle>(
     alloc: Global,
     market: &Market<V>,

@@ -14,7 +14,8 @@ use Rattle.tn_base.proofs.SumLemmas.{sum_over-toggle_in, sum_over-toggle_out}
 use Rattle.tn_law.specs.Nested.{count_sum, listed_from}
 use Rattle.tn_laminar.specs.declared.set.LaminarSet.{LaminarSet}
 use Rattle.tn_laminar.specs.declared.row.Slope.{Slope}
-use Rattle.tn_laminar.specs.LawLemmas.{all_at, listed_small, numbers_small, amounts_small}
+use Rattle.tn_laminar.specs.LawLemmas.{numbers_small, amounts_small}
+use Rattle.tn_laminar.specs.WithinLemmas.{all_at, listed_within}
 use Rattle.tn_laminar.specs.Rows.{most_counted, counted, listed_sum, counted_sum, counted_beside, IsSlope, step_of, counted_change, AreChanges}
 use Rattle.tn_laminar.specs.Sum.{HasNumbersWithin, IsLaminar, IsOwnSet, amount_at, laminar_sum, number_of, term_of}
 use Rattle.tn_laminar.specs.declared.masks.Masks.{Masks}
@@ -54,7 +55,8 @@ number_of_small buys x sets k all = by (slice_get sets k) refl
         → IfSome o (λ number. IsAtMost number most_amount)
     some set None is e = tt
     some set (Some u) is e =
-        listed_small set (all_at HasNumbersWithin sets k set all is) (net buys (meet x set.members)) u e
+        listed_within set most_amount (all_at HasNumbersWithin sets k set all is).small
+        (net buys (meet x set.members)) u e
 
     by : (o : Option LaminarSet) → slice_get sets k ≡ o
         → IfSome (number_of buys x o) (λ number. IsAtMost number most_amount)

@@ -16,7 +16,7 @@ use Rattle.tn_laminar.specs.declared.masks.Masks.{Masks}
 use Rattle.tn_laminar.specs.Masked.{masks_of, net_within}
 use Rattle.tn_laminar.proofs.MaskLemmas.{net_within_is}
 use Rattle.tn_laminar.specs.Sum.{term_of, number_of, HasNumbersWithin}
-use Rattle.tn_laminar.specs.LawLemmas.{listed_small}
+use Rattle.tn_laminar.specs.WithinLemmas.{listed_within}
 use Rattle.tn_base.specs.Widths.{most_amount}
 
 -- the total of the first sets, with the sum over the rest, is the sum; and it is small
@@ -134,7 +134,7 @@ pub number_small : (set : LaminarSet) (count : ℤ) (o : Option ℤ) → HasNumb
     → o ≡ listed_from set.low set.numbers count
     → IfSome o (λ number. IsAtMost number most_amount)
 number_small set count None within is = tt
-number_small set count (Some number) within is = listed_small set within count number (sym is)
+number_small set count (Some number) within is = listed_within set most_amount within.small count number (sym is)
 
 -- what the code computes
 pub step_is : (total number : ℤ) (k : ℕ) → k ≤ 64 → IsAtMost total (k * most_amount) → IsAtMost number most_amount

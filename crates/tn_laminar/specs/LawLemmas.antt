@@ -1,11 +1,11 @@
 -- The laws of a laminar firm, over what every one keeps.
-use Rattle.std.proofs.Common.{◌≡◌, ◌&&◌, ℕ, suc, ◌*◌, ◌^◌, ◌<◌, ◌≤◌, Bool, true, false, refl, sym, ap, ◌∙◌, subst, arith, if◌then◌else◌, List, [], ◌∷◌, length, Option, Some, None, ℤ, pos, negsuc, ◌+ℤ◌, ◌-ℤ◌}
-use Rattle.std.specs.Prelude.{All, map, slice_get, option_map, IsSome, nat_lt}
+use Rattle.std.proofs.Common.{◌≡◌, ◌&&◌, ℕ, suc, ◌+◌, ◌*◌, ◌^◌, ◌<◌, ◌≤◌, refl, sym, ap, ◌∙◌, subst, arith, if◌then◌else◌, List, [], ◌∷◌, length, Option, Some, None, ℤ, pos, ◌+ℤ◌}
+use Rattle.std.specs.Prelude.{All, map, slice_get, option_map, IsSome}
 use Rattle.std.proofs.lemmas.Int.{ints}
 use Rattle.std.proofs.lemmas.Nat.{pow_pos}
 use Rattle.std.proofs.lemmas.Bool.{lt-ltb, false≢true}
-use Rattle.std.proofs.lemmas.Option.{none-some, same_Some, slice_get-map, slice_get_within, get_or_from_slice_get}
-use Rattle.std.proofs.lemmas.List.Elements.{All-get_or}
+use Rattle.std.proofs.lemmas.Option.{none-some, same_Some, slice_get-map}
+use Rattle.std.proofs.lemmas.List.Elements.{All-weaker}
 use Rattle.tn_base.specs.Arcs.{IsAtMost}
 use Rattle.tn_base.specs.Sets.{has, meet, sum_over}
 use Rattle.tn_base.specs.Firm.{HasOwnBundles, MayAbstain, net}
@@ -13,26 +13,22 @@ use Rattle.tn_base.specs.Exchange.{MeetsExchange}
 use Rattle.tn_base.proofs.SetLemmas.{same_set, has-meet, has-zero}
 use Rattle.tn_base.proofs.FirmLemmas.{net-zero}
 use Rattle.tn_base.specs.Options.{both}
-use Rattle.tn_law.specs.Nested.{CountTerm, AreNested, Cross, IsConcave, count_sum, listed_from, at_place}
-use Rattle.tn_law.proofs.BoundLemmas.{sum_over_small}
+use Rattle.tn_law.specs.Nested.{CountTerm, AreNested, Cross, IsConcave, count_sum, listed_from}
 use Rattle.tn_law.proofs.NestedLemmas.{meets-nested}
 use Rattle.tn_law.proofs.ConcaveLemmas.{concave-listed}
 use Rattle.tn_market.specs.Valued.{IsWorthAtMost}
 use Rattle.tn_market.specs.Lawful.{IsLawful}
+use Rattle.tn_market.proofs.AscentLemmas.{smaller}
 use Rattle.tn_laminar.specs.declared.laminar.Laminar.{Laminar}
 use Rattle.tn_laminar.specs.Firms.{firm_of}
 use Rattle.tn_laminar.specs.declared.set.LaminarSet.{LaminarSet}
 use Rattle.tn_laminar.specs.declared.masks.Masks.{Masks}
 use Rattle.tn_laminar.specs.Faults.{HasEmpty}
 use Rattle.tn_laminar.specs.Sum.{HasNumbersWithin, IsLaminar, IsOwnSet, amount_at, laminar_sum, term_of}
+use Rattle.tn_laminar.specs.WithinLemmas.{HasNumbersUpTo, all_at, amounts_within, count_sum_within, laminar_sum_within}
 use Rattle.tn_base.specs.Widths.{most_amount}
 use Rattle.tn_market.specs.Widths.{most_own, most_worth}
 use Rattle.tn_plain_data.specs.Limits.{most_sets}
-
--- an element of a list of which all elements meet P meets it
-pub all_at : {X : Type 0} (P : X → Type 0) (xs : List X) (k : ℕ) (x : X) → All P xs → slice_get xs k ≡ Some x → P x
-all_at P xs k x all is =
-    subst P (get_or_from_slice_get xs k x x is) (All-get_or P xs k x (slice_get_within xs k x is) all)
 
 -- the term at a place is that of the set there
 term_at : (sets : List LaminarSet) (k : ℕ) (term : CountTerm) → slice_get (map term_of sets) k ≡ Some term
@@ -107,88 +103,38 @@ empty_is_possible_of count buys amounts sets masks is =
           ∙ ap (both (Some (sum_over (amount_at amounts) count 0))) counted.1,
     )
 
--- a listed number of a set with small numbers is small
-pub listed_small : (set : LaminarSet) → HasNumbersWithin set → (count u : ℤ)
-    → listed_from set.low set.numbers count ≡ Some u → IsAtMost u most_amount
-listed_small set within count u is = by (count -ℤ set.low) is
-  where
-    by : (place : ℤ) → at_place set.numbers place ≡ Some u → IsAtMost u most_amount
-    by (pos k) e = all_at (λ a. IsAtMost a most_amount) set.numbers k u within.small e
-    by (negsuc k) e = absurd (none-some u e)
-
--- both parts of a sum that is there are there
-both_parts : (first second : Option ℤ) (u : ℤ) → both first second ≡ Some u → (a : ℤ) × (b : ℤ) × (first ≡ Some a)
-    × (second ≡ Some b) × (a +ℤ b ≡ u)
-both_parts None second u e = absurd (none-some u e)
-both_parts (Some a) None u e = absurd (none-some u e)
-both_parts (Some a) (Some b) u e = (a, b, refl, refl, same_Some (a +ℤ b) u e)
-
--- a sum of numbers of at most 10^9 in size
-pub count_sum_small : (buys x : ℕ) (sets : List LaminarSet)
-    → ((k : ℕ) (set : LaminarSet) → slice_get sets k ≡ Some set → HasNumbersWithin set)
-    → (u : ℤ) → count_sum buys (map term_of sets) x ≡ Some u → IsAtMost u (length sets * most_amount)
-count_sum_small buys x [] each u is =
-    let e : pos 0 ≡ u = same_Some (pos 0) u is in
-    record { low = omega (arith, ints, e); high = omega (arith, ints, e) }
-count_sum_small buys x (set ∷ sets) each u is =
-    let parts = both_parts (listed_from set.low set.numbers (net buys (meet x set.members)))
-    (count_sum buys (map term_of sets) x) u is in
-    let here = listed_small set (each 0 set refl) (net buys (meet x set.members)) parts.0 parts.2 in
-    let rest = count_sum_small buys x sets (λ k other e. each (suc k) other e) parts.1 parts.3 in
-    let total : parts.0 +ℤ parts.1 ≡ u = parts.4 in
-    let a = here.low in
-    let b = here.high in
-    let c = rest.low in
-    let d = rest.high in
-    record { low = omega (arith, ints, total, a, b, c, d); high = omega (arith, ints, total, a, b, c, d) }
-
--- the amounts sum to at most 32 times 10^9
+-- the amounts sum to at most 60 times 10^9
 pub amounts_small : (count : ℕ) (amounts : List ℤ) (x : ℕ) → count ≤ most_own → length amounts ≡ count
     → All (λ a. IsAtMost a most_amount) amounts
     → IsAtMost (sum_over (amount_at amounts) count x) (most_own * most_amount)
 amounts_small count amounts x few as_many small =
-    let sum = sum_over_small (amount_at amounts) count x most_amount
-    (λ k h. All-get_or (λ a. IsAtMost a most_amount) amounts k (pos 0) (omega (arith, h, as_many)) small) in
+    let sum = amounts_within count amounts x most_amount as_many small in
     let low = sum.low in
     let high = sum.high in
     record { low = omega (arith, ints, few, low); high = omega (arith, ints, few, high) }
+
+small_numbers : (sets : List LaminarSet) → All HasNumbersWithin sets → All (HasNumbersUpTo most_amount) sets
+small_numbers = All-weaker HasNumbersWithin (HasNumbersUpTo most_amount) (λ set numbered. numbered.small)
 
 -- the numbers to at most 64 times
 pub numbers_small : (buys x : ℕ) (sets : List LaminarSet) → length sets ≤ most_sets → All HasNumbersWithin sets
     → (u : ℤ) → count_sum buys (map term_of sets) x ≡ Some u → IsAtMost u (most_sets * most_amount)
 numbers_small buys x sets few numbered u is =
-    let sum = count_sum_small buys x sets (λ k set e. all_at HasNumbersWithin sets k set numbered e) u is in
+    let sum = count_sum_within buys x sets most_amount (small_numbers sets numbered) u is in
     let low = sum.low in
     let high = sum.high in
     record { low = omega (arith, ints, few, low); high = omega (arith, ints, few, high) }
 
 within_of : (count buys : ℕ) (amounts : List ℤ) (sets : List LaminarSet) (masks : List Masks)
     → IsLaminar count buys amounts sets masks → IsWorthAtMost most_worth (laminar_sum count buys amounts sets)
-within_of count buys amounts sets masks is x a worth_is = by (nat_lt x (2 ^ count)) worth_is
-  where
-    by : (b : Bool)
-        → (if b then both (Some (sum_over (amount_at amounts) count x)) (count_sum buys (map term_of sets) x) else None)
-        ≡ Some a → IsAtMost a most_worth
-    by false e = absurd (none-some a e)
-    by true e =
-        let parts = both_parts (Some (sum_over (amount_at amounts) count x)) (count_sum buys (map term_of sets) x) a e
-        in
-        let first : sum_over (amount_at amounts) count x ≡ parts.0 =
-        same_Some (sum_over (amount_at amounts) count x) parts.0 parts.2 in
-        let total : parts.0 +ℤ parts.1 ≡ a = parts.4 in
-        let own = amounts_small count amounts x is.few is.as_many is.small in
-        let counted = numbers_small buys x sets is.few_sets is.numbered parts.1 parts.3 in
-        let p = own.low in
-        let q = own.high in
-        let r = counted.low in
-        let s = counted.high in
-        record {
-          low = omega (arith, ints, first, total, p, q, r, s);
-          high =
-              omega (arith, ints, first, total, p, q, r, s);
-        }
+within_of count buys amounts sets masks is x a worth_is =
+    let within = laminar_sum_within count buys amounts sets most_amount is.as_many is.small
+    (small_numbers sets is.numbered) x a worth_is in
+    let few = is.few in
+    let few_sets = is.few_sets in
+    smaller a ((count + length sets) * most_amount) most_worth (omega (arith, few, few_sets)) within
 
--- a laminar sum is a firm that may be asked, and no worth of it is above 10^11
+-- a laminar sum is a firm that may be asked, and no worth of it is above (60 + 64) * 10^9
 pub laminar_sum_laws : (count buys : ℕ) (amounts : List ℤ) (sets : List LaminarSet) (masks : List Masks)
     → IsLaminar count buys amounts sets masks
     → IsLawful most_worth (laminar_sum count buys amounts sets)

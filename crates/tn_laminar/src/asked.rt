@@ -28,7 +28,7 @@ impl Valuation for Laminar {
     }
 
     fn bound(&self) -> i128 {
-        // 32 amounts and 64 numbers of at most 10^9 in size are less.
+        // 60 amounts and 64 numbers of at most 10^9 in size.
         MOST_WORTH
     }
 

@@ -33,8 +33,8 @@ pub struct Laminar {
 impl Laminar {
     ghost use Rattle.tn_laminar.specs.Firms.{firm_of};
 
-    /// The firm with these sides and amounts by position and these sets. It has at most 32 trades and 64 sets, each
-    /// with at most 65 numbers from a net count of -32 to 32 on; amounts and numbers are at most 10^9 in size.
+    /// The firm with these sides and amounts by position and these sets. It has at most 60 trades and 64 sets, each
+    /// with at most 121 numbers from a net count of -60 to 60 on; amounts and numbers are at most 10^9 in size.
     ///
     /// The sets are tested in order, each for a number at 0, for a number below the middle of its neighbours, and for
     /// crossing an earlier set; the first test that fails is the refusal. Without one memory may still run out.

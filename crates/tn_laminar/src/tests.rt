@@ -32,7 +32,7 @@ fn one_car_is_sold_once(rt: HostRuntime) -> Result<(), Fail> {
     let mut steps = Steps::new(Asked);
     assert_eq!(rt; owner.trades(), 3);
     assert_eq!(rt; owner.side(1), Side::Sell);
-    assert_eq!(rt; owner.bound(), 100_000_000_000);
+    assert_eq!(rt; owner.bound(), 124_000_000_000);
     assert_eq!(rt; owner.value(Bundle::from_bits(0b010), &mut steps), Some(-4));
     assert_eq!(rt; owner.value(Bundle::from_bits(0b110), &mut steps), None);
     let mut room = Room::new(alloc)?;

@@ -17,19 +17,19 @@ use Rattle.tn_law.proofs.BoundLemmas.{times_small}
 use Rattle.tn_plain_data.specs.Prices.{price_at}
 use Rattle.tn_market.specs.declared.bundle_value.BundleValue.{BundleValue}
 use Rattle.tn_market.specs.Ascent.{aimed, IsBesideBest, IsNearbyBest, IsValued, StaysAt, IsNoWorse, TriesOne, TriesOthers, TriesBeside, TriesNearby}
-use Rattle.tn_market.specs.Widths.{most_limit, most_utility, most_worth, most_scale, most_own}
+use Rattle.tn_market.specs.Widths.{most_utility, most_worth, most_scale, most_own}
 
 -- ---- sizes
 
--- a scaled worth is at most 10^18 in size
+-- a scaled worth is at most so much in size
 pub scaled_small : (scale worth : ℤ) → pos 1 ≤ℤ scale → scale ≤ℤ pos most_scale → IsAtMost worth most_worth
-    → IsAtMost (scale *ℤ worth) most_limit
+    → IsAtMost (scale *ℤ worth) (most_scale * most_worth)
 scaled_small scale worth from_one small_scale small =
     times_small scale worth most_scale most_worth (record { low = omega (arith, ints, from_one); high = small_scale })
     small
 
 -- what the code computes
-pub valued_is : (scale worth gain : ℤ) → IsAtMost (scale *ℤ worth) most_limit
+pub valued_is : (scale worth gain : ℤ) → IsAtMost (scale *ℤ worth) (most_scale * most_worth)
     → IsAtMost gain (most_own * (2 * most_utility))
     → to_z w128 (of_z w128 (to_z w128 (of_z w128 (scale *ℤ worth)) +ℤ gain)) ≡ scale *ℤ worth +ℤ gain
 valued_is scale worth gain product small = omega (arith, ints, product.low, product.high, small.low, small.high)

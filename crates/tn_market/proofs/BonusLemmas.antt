@@ -201,7 +201,7 @@ record IsMadeOf (firm : Firm) (scale : ℤ) (prices : List ℤ) (y : ℕ) (value
   worth : ℤ
   is : firm.worth y ≡ Some worth
   sum : value ≡ scale *ℤ worth +ℤ sum_over (payments firm.buys (price_at prices)) firm.count y
-  small : IsAtMost value (3201 * 10 ^ 18)
+  small : IsAtMost value (6013 * 10 ^ 18)
 
 made_of : (firm : Firm) (limit need free : ℕ) (scale : ℤ) (prices gains : List ℤ)
     → IsQuestion firm limit need free scale prices gains

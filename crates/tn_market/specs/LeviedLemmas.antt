@@ -55,10 +55,12 @@ levied_within scale tax taxed limit firm few within x a is =
       high = omega (arith, ints, product.high, sum.high, most, value);
     }
 
-pub levied_laws : (scale tax : ℤ) (taxed limit : ℕ) (firm : Firm) → IsLevy scale tax limit → IsLawful limit firm
-    → IsLawful (levied_limit scale tax limit) (levied scale taxed tax firm)
-levied_laws scale tax taxed limit firm is laws =
-    let meets = levied_meets scale tax taxed limit firm is laws.own_bundles laws.exchange_one laws.exchange_net in
+-- the laws, where no worth is above `worth` in size, whatever limit the firm itself gives
+pub levied_laws : (scale tax : ℤ) (taxed worth limit : ℕ) (firm : Firm) → IsLevy scale tax worth
+    → IsWorthAtMost worth firm → IsLawful limit firm
+    → IsLawful (levied_limit scale tax worth) (levied scale taxed tax firm)
+levied_laws scale tax taxed worth limit firm is within laws =
+    let meets = levied_meets scale tax taxed worth firm is laws.own_bundles laws.exchange_one laws.exchange_net in
     record {
       few_trades = laws.few_trades;
       own_purchases = laws.own_purchases;
@@ -66,6 +68,6 @@ levied_laws scale tax taxed limit firm is laws =
       empty_is_possible = levied_abstains scale tax taxed firm laws.empty_is_possible;
       exchange_one = meets.1.one;
       exchange_net = meets.1.net_count;
-      within = levied_within scale tax taxed limit firm laws.few_trades laws.within;
+      within = levied_within scale tax taxed worth firm laws.few_trades within;
       small_limit = is.small;
     }

@@ -17,7 +17,7 @@ party_firm market (Outside out) = outside out.price
 
 -- a bound on the size of its worths
 abbrev pub party_limit : {V M : Type 0} (market : Ghosts V M) → Party V M market → ℕ
-party_limit market (Member v) = levied_limit v.scale v.tax (market.limit v.inner.now)
+party_limit market (Member v) = levied_limit v.scale v.tax (unsigned_abs v.worth)
 party_limit market (Outside out) = unsigned_abs out.price
 
 -- either is a firm that may be asked
@@ -25,5 +25,6 @@ pub party_laws : {V M : Type 0} {market : Ghosts V M} → ((v : V) → IsLawful 
     → (party : Party V M market)
     → IsLawful (party_limit market party) (party_firm market party)
 party_laws {V} {M} {market} laws (Member v) =
-    levied_laws v.scale v.tax v.taxed (market.limit v.inner.now) (market.firm v.inner.now) v.levy (laws v.inner.now)
+    levied_laws v.scale v.tax v.taxed (unsigned_abs v.worth) (market.limit v.inner.now) (market.firm v.inner.now) v.levy
+    v.worths (laws v.inner.now)
 party_laws {V} {M} {market} laws (Outside out) = outside_laws out.price out.small

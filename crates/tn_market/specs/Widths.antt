@@ -1,5 +1,6 @@
 -- What there is room for in a market, whatever a document says.
-use Rattle.std.specs.Prelude.{ℕ, ◌^◌}
+use Rattle.std.specs.Prelude.{ℕ, ◌*◌, ◌^◌}
+use Rattle.tn_plain_data.specs.Limits.{most_claimed_over, most_over, most_own_trades, most_worth as most_worth_of_any}
 
 -- a market has at most so many firms
 abbrev pub most_market_firms : ℕ
@@ -15,26 +16,27 @@ most_limit = 10 ^ 18
 
 -- a firm that is asked for best bundles has at most so many own trades
 abbrev pub most_own : ℕ
-most_own = 32
+most_own = most_own_trades
 
 -- its bound on worths is at most so much
 abbrev pub most_worth : ℕ
-most_worth = 10 ^ 11
+most_worth = most_worth_of_any
 
--- the prices that it is asked at are at most so much in size, and a worth counts at most so many times
+-- the prices that it is asked at are at most so much in size, and a worth counts at most so many times: as often as the
+-- denominators of an outcome and of what is claimed of it together
 abbrev pub most_asked_price : ℕ
 most_asked_price = 10 ^ 20
 
 abbrev pub most_scale : ℕ
-most_scale = 10000000
+most_scale = most_over * most_claimed_over
 
 -- a utility is at most so much in size
 abbrev pub most_utility : ℕ
-most_utility = 10 ^ 22
+most_utility = 2 * 10 ^ 22
 
 -- what the search for a best bundle compares, with the gains of wanted positions, is at most so much in size
 abbrev pub most_aimed : ℕ
-most_aimed = 10 ^ 24
+most_aimed = 4 * 10 ^ 24
 
 -- the price at which a firm outside the market takes a contract over is at most so much in size
 abbrev pub most_outside_price : ℕ

@@ -16,9 +16,9 @@ use crate::oracle::MOST_OWN;
 use crate::valuation::Valuation;
 use tn_base::{Bundle, Side, Steps};
 
-/// What a wanted position is worth to the search: more than any two utilities are apart, which are at most 3.3 * 10^21
+/// What a wanted position is worth to the search: more than any two utilities are apart, which are at most 6.1 * 10^21
 /// in size. So a bundle of greatest value has all wanted positions, if any possible bundle has them.
-const BONUS: i128 = 10_000_000_000_000_000_000_000;
+const BONUS: i128 = 20_000_000_000_000_000_000_000;
 
 /// What the search counts for a position: what the firm gets for it, and the bonus if it is wanted.
 fn gain(side: Side, price: i128, wanted: bool) -> i128
@@ -53,8 +53,8 @@ pub fn gains<V: Valuation>(firm: &V, need: Bundle, prices: &[i128]) -> [i128; MO
 ///
 /// The search goes up from the empty bundle by the best change of one or two positions, until none gains (steepest
 /// ascent: Murota, Discrete Convex Analysis, 2003). Positions in `need` and in `free` are own and differ. Prices are at
-/// most 10^20 in size and the scale is 1 to 10,000,000; the firm has at most 32 own trades and no worth above 10^11.
-/// There is a price for each position.
+/// most 10^20 in size and the scale is 1 to 100,000,000; the firm has at most 60 own trades and no worth above 1.24 *
+/// 10^11. There is a price for each position.
 pub fn best_by_ascent<V: Valuation>(
     firm: &V,
     need: Bundle,

@@ -1,8 +1,9 @@
 //! Firms under a levy.
 
-ghost use Rattle.std.specs.Prelude.{◌≡◌, ◌^◌, ◌<◌, ◌≤◌, pos, ◌≤ℤ◌, ◌-ℤ◌, ◌*ℤ◌};
+ghost use Rattle.std.specs.Prelude.{◌≡◌, ◌^◌, ◌<◌, ◌≤◌, pos, ◌≤ℤ◌, ◌-ℤ◌, ◌*ℤ◌, unsigned_abs};
 ghost use Rattle.tn_base.specs.Arcs.{IsAtMost};
 ghost use Rattle.tn_market.specs.Levied.{levied, levied_limit, IsLevy};
+ghost use Rattle.tn_market.specs.Valued.{IsWorthAtMost};
 ghost use Rattle.tn_market.specs.Widths.{most_limit};
 
 use crate::valuation::Valuation;
@@ -12,11 +13,15 @@ use tn_base::{Bundle, Side, Steps};
 #[derive(Drop)]
 pub struct Levied<'a, V: Valuation> {
     inner: &'a V,
+    /// A bound on the size of its worths.
+    worth: i128,
     scale: i128,
     /// The bits of the bundle of the taxed positions.
     taxed: u64,
     tax: i128,
-    ghost levy: { IsLevy scale tax (V.limit inner.now) },
+    ghost bound: { pos 0 ≤ℤ worth },
+    ghost worths: { IsWorthAtMost (unsigned_abs worth) (V.firm inner.now) },
+    ghost levy: { IsLevy scale tax (unsigned_abs worth) },
 }
 
 impl<'a, V: Valuation> Levied<'a, V> {
@@ -30,8 +35,22 @@ impl<'a, V: Valuation> Levied<'a, V> {
         ensures firm { ⟦<Levied<'a, V> as Valuation>⟧.firm result ≡ levied scale taxed tax (V.firm inner.now) }
         ensures limit { ⟦<Levied<'a, V> as Valuation>⟧.limit result ≡ levied_limit scale tax (V.limit inner.now) }
     {
+        Levied::within(inner, inner.bound(), scale, taxed, tax)
+    }
+
+    /// The same where no worth of `inner` is above `worth` in size, which may be less than its own bound.
+    pub fn within(inner: &'a V, worth: i128, scale: i128, taxed: Bundle, tax: i128) -> Levied<'a, V>
+        requires bound { pos 0 ≤ℤ worth }
+        requires worths { IsWorthAtMost (unsigned_abs worth) (V.firm inner.now) }
+        requires scaled { pos 1 ≤ℤ scale }
+        requires taxed { pos 0 ≤ℤ tax }
+        requires small { levied_limit scale tax (unsigned_abs worth) ≤ most_limit }
+        ensures firm { ⟦<Levied<'a, V> as Valuation>⟧.firm result ≡ levied scale taxed tax (V.firm inner.now) }
+        ensures limit { ⟦<Levied<'a, V> as Valuation>⟧.limit result ≡ levied_limit scale tax (unsigned_abs worth) }
+    {
         Levied {
             inner,
+            worth,
             scale,
             taxed: taxed.bits(),
             tax,
@@ -68,7 +87,7 @@ impl<V: Valuation> Valuation for Levied<'_, V> {
 
     ghost firm = { λ v. levied v.scale v.taxed v.tax (V.firm v.inner.now) };
 
-    ghost limit = { λ v. levied_limit v.scale v.tax (V.limit v.inner.now) };
+    ghost limit = { λ v. levied_limit v.scale v.tax (unsigned_abs v.worth) };
 
     fn trades(&self) -> u32 {
         self.inner.trades()
@@ -79,7 +98,7 @@ impl<V: Valuation> Valuation for Levied<'_, V> {
     }
 
     fn bound(&self) -> i128 {
-        self.scale * self.inner.bound() + 64 * self.tax
+        self.scale * self.worth + 64 * self.tax
     }
 
     fn value(&self, x: Bundle, steps: &mut Steps<V::Mark>) -> Option<i128> {
@@ -101,6 +120,6 @@ impl<V: Valuation> Valuation for Levied<'_, V> {
         }
     }
 
-    ghost lawful = { λ v. levied_laws v.scale v.tax v.taxed (V.limit v.inner.now) (V.firm v.inner.now) v.levy
-        (V.lawful v.inner.now) };
+    ghost lawful = { λ v. levied_laws v.scale v.tax v.taxed (unsigned_abs v.worth) (V.limit v.inner.now)
+        (V.firm v.inner.now) v.levy v.worths (V.lawful v.inner.now) };
 }

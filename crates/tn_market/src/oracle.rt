@@ -16,10 +16,10 @@ use crate::valuation::Valuation;
 use tn_base::{Asked, Bundle, Steps};
 
 /// How many own trades a firm may have that is asked for best bundles.
-pub const MOST_OWN: usize = 32;
+pub const MOST_OWN: usize = 60;
 
 /// The greatest bound on worths that such a firm may have.
-pub const MOST_WORTH: i128 = 100_000_000_000;
+pub const MOST_WORTH: i128 = 124_000_000_000;
 
 /// A firm that finds a best bundle at given prices: by the search that stands here, which asks for worths, or by one of
 /// its own.
@@ -28,7 +28,7 @@ pub trait Oracle: Valuation<Mark = Asked> {
     /// `free`, with that utility; where several are greatest, any of them. None exactly where no such bundle is
     /// possible. A worth counts `scale` times, and `prices` has a price for each position. It takes no memory.
     /// Positions in `need` and in `free` are own and differ. Prices are at most 10^20 in size and the scale is 1 to
-    /// 10,000,000; the firm has at most 32 own trades and no worth above 10^11.
+    /// 100,000,000; the firm has at most 60 own trades and no worth above 1.24 * 10^11.
     fn best(
         &self,
         need: Bundle,
@@ -106,7 +106,7 @@ pub fn utility_of<V: Oracle>(
 }
 
 /// The worth of a bundle, None where it is impossible: by one worth. It takes no memory. The bundle has own positions
-/// alone; the firm has at most 32 own trades and no worth above 10^11.
+/// alone; the firm has at most 60 own trades and no worth above 1.24 * 10^11.
 pub fn worth_of<V: Oracle>(firm: &V, x: Bundle, _room: &mut Room) -> Option<i128>
     requires own { x < 2 ^ (V.firm firm.now).count }
     requires few_trades { (V.firm firm.now).count ≤ most_own }

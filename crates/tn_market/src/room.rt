@@ -19,14 +19,14 @@ pub struct Room {
 }
 
 impl Room {
-    /// A room of 32 cells. It fails only where memory runs out.
+    /// A room of 60 cells. It fails only where memory runs out.
     pub fn new(alloc: Global) -> Result<Room, OutOfMemory> {
         Ok(Room {
             cells: vec![in alloc; None; CELLS]?,
         })
     }
 
-    /// The 32 cells, with any content. They are scratch: whoever asks for them may write what it likes. It takes no
+    /// The 60 cells, with any content. They are scratch: whoever asks for them may write what it likes. It takes no
     /// memory.
     pub fn cells(&mut self) -> &mut [Option<(Bundle, i128)>]
         ensures { length result.now ≡ most_own }

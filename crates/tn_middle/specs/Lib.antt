@@ -2,5 +2,6 @@
 pub mod Pairs
 pub mod Firms
 pub mod SetLemmas
+pub mod WithinLemmas
 pub mod LawLemmas
 pub mod PairLaw

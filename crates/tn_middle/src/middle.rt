@@ -27,7 +27,7 @@ impl Middle {
 
     /// The firm with these sides by position. Its numbers are the costs of its purchases and the gains of its sales;
     /// `keep` is what a purchase without a sale is worth before its cost, None where it isn't possible. There are at
-    /// most 32 trades, and no number is above 10^9 in size. It takes no memory.
+    /// most 60 trades, and no number is above 10^9 in size. It takes no memory.
     pub fn new(sides: Vec<Side>, numbers: Vec<i128>, keep: Option<i128>) -> Middle
         requires few { length sides.items ≤ most_own }
         requires as_many { length numbers.items ≡ length sides.items }

@@ -15,7 +15,7 @@ fn a_dealer_in_one_car(rt: HostRuntime) -> Result<(), Fail> {
     let mut steps = Steps::new(Asked);
     assert_eq!(rt; dealer.trades(), 4);
     assert_eq!(rt; dealer.side(1), Side::Buy);
-    assert_eq!(rt; dealer.bound(), 100_000_000_000);
+    assert_eq!(rt; dealer.bound(), 124_000_000_000);
     assert_eq!(rt;
         dealer.value(Bundle::from_bits(0b0110), &mut steps),
         Some(-2)

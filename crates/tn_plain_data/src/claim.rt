@@ -12,14 +12,14 @@ pub enum Claim {
     /// The arrangement is an equilibrium with this surplus.
     Equilibrium {
         /// The document's arrangement.
-        at: Arrangement<2>,
+        at: Arrangement<16>,
         /// The sum of the firms' worths.
         surplus: i128,
     },
     /// At the arrangement the firm has more by another bundle.
     Better {
         /// The document's arrangement.
-        at: Arrangement<2>,
+        at: Arrangement<16>,
         /// The firm.
         firm: u32,
         /// The other bundle.
@@ -30,7 +30,7 @@ pub enum Claim {
     /// The firm's bundle of the set is impossible.
     Impossible {
         /// The document's set of trades.
-        on: TradeSet<2>,
+        on: TradeSet<16>,
         /// The firm.
         firm: u32,
     },
@@ -50,14 +50,14 @@ pub enum Claim {
     /// The prices support the set.
     Supported {
         /// The document's set of trades.
-        on: TradeSet<2>,
+        on: TradeSet<16>,
         /// The price of each trade.
         prices: Prices,
     },
     /// The nodes go round on arcs of the set's exchange graph at a negative cost.
     Cycle {
         /// The document's set of trades.
-        on: TradeSet<2>,
+        on: TradeSet<16>,
         /// The nodes, in order.
         nodes: Nodes,
         /// The sum of the arcs' costs.
@@ -66,7 +66,7 @@ pub enum Claim {
     /// The arrangement is an equilibrium with this surplus.
     Solved {
         /// The claim's own arrangement.
-        at: Arrangement<2>,
+        at: Arrangement<16>,
         /// The sum of the firms' worths.
         surplus: i128,
     },

@@ -1,7 +1,7 @@
 //! The limits of each version of documents.
 
 ghost use Rattle.std.specs.Prelude.{◌≡◌, ◌<◌, ◌+◌, IfSome};
-ghost use Rattle.tn_plain_data.specs.Limits.{AreLimits, limits_of, limits_with};
+ghost use Rattle.tn_plain_data.specs.Limits.{AreLimits, limits_of, limits_of_many, limits_with};
 
 /// The limits of a document's version. A list may have as many items as its limit says, and a number may be as large in
 /// size.
@@ -49,11 +49,12 @@ impl Limits {
         match version {
             1 => Some(Limits::with(64)),
             2 => Some(Limits::with(128)),
+            3 => Some(Limits::of_many()),
             _ => None,
         }
     }
 
-    /// The limits of a version with at most so many firms and so many trades.
+    /// The limits of a version with at most so many firms and so many trades, fewer than a thousand.
     fn with(most: u32) -> Limits
         requires { most < 1000 }
         ensures { result ≡ limits_with most }
@@ -74,6 +75,29 @@ impl Limits {
             number: 1_000_000_000_000_000_000,
             claimed_over: 100_000,
             nodes: most + 1,
+        }
+    }
+
+    /// The limits of the version with a thousand trades: more of them, and more own ones, but smaller amounts.
+    fn of_many() -> Limits
+        ensures { result ≡ limits_of_many }
+    {
+        Limits {
+            firms: 1024,
+            trades: 1024,
+            own_of_table: 14,
+            own: 60,
+            amount: 10_000_000,
+            sets: 64,
+            from: 60,
+            values: 121,
+            price: 100_000_000_000_000,
+            numerator: 100_000_000_000,
+            over: 100,
+            edits: 2048,
+            number: 1_000_000_000_000_000_000,
+            claimed_over: 1_000_000,
+            nodes: 1025,
         }
     }
 }

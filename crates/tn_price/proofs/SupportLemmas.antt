@@ -19,7 +19,8 @@ use Rattle.tn_cycle.specs.Answers.{AreLabels, BeginsWell, IsNegative, label_in}
 use Rattle.tn_cycle.specs.Widths.{most_graph_nodes, most_read}
 use Rattle.tn_cycle.proofs.DifferenceLemmas.{labels-same, label_small, difference_within}
 use Rattle.tn_network.specs.Laws.{MeetExchange}
-use Rattle.tn_network.proofs.EachLemmas.{each_within, same_prices}
+use Rattle.tn_market.specs.Limits.{AreWorthsWithin}
+use Rattle.tn_network.proofs.EachLemmas.{same_prices}
 use Rattle.tn_network.proofs.SupportLemmas.{labels_are_supports, negative_cycles, arcs_small}
 use Rattle.tn_price.specs.Supports.{IsUnsupported}
 
@@ -106,21 +107,16 @@ labels_support firms trades on labels prices network meet possible are is = reco
       (labels_are_supports firms trades on (label_in labels) network meet possible are.keeps);
 }
 
-pub priced_within : {V : Type 0} (firm_of : V → Firm) (limit_of : V
-    → ℕ) (items : List V) (trades : List Ends) (on : ℕ) (labels prices : List ℤ) → IsNetwork (map firm_of items) trades
-    → ((v : V) → IsWorthAtMost (limit_of v) (firm_of v))
-    → AreLabels (length trades + 1) (exchange_arc (map firm_of items) trades on) labels
-    → AreRead (length trades) labels prices
-    → (bound : ℕ) → ((f : ℕ) (v : V) → slice_get items f ≡ Some v → limit_of v ≤ bound)
-    → All (λ price. IsAtMost price (2 * bound * length trades)) prices
-priced_within firm_of limit_of items trades on labels prices network within are is bound limited k d below =
+pub priced_within : (firms : List Firm) (trades : List Ends) (on : ℕ) (labels prices : List ℤ) → IsNetwork firms trades
+    → AreLabels (length trades + 1) (exchange_arc firms trades on) labels → AreRead (length trades) labels prices
+    → (bound : ℕ) → AreWorthsWithin bound firms → All (λ price. IsAtMost price (2 * bound * length trades)) prices
+priced_within firms trades on labels prices network are is bound within k d below =
     let sized = is.one_each in
     let inside : k < length trades = omega (arith, below, sized) in
     subst (λ (z : ℤ). IsAtMost z (2 * bound * length trades))
     (sym (get_or_default prices k d (pos 0) below ∙ is.each k inside))
-    (difference_within (length trades) (2 * bound) _ labels are
-    (arcs_small (map firm_of items) trades network bound on
-    (each_within firm_of limit_of items within bound limited)) k inside)
+    (difference_within (length trades) (2 * bound) _ labels are (arcs_small firms trades network bound on within) k
+    inside)
 
 -- ---- cycles
 

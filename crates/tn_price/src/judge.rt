@@ -64,7 +64,8 @@ fn standing_of<V: Oracle, const W: usize>(
 
 /// Judges a set of trades with prices at scale `over`: the first firm whose bundle is impossible or not best, or that
 /// they are an equilibrium. It takes no memory. There is one price for each trade, at most 10^18 in size, and `over` is
-/// 1 to 100,000; the market has at most `64 * W` trades, and each firm at most 32 own trades and no worth above 10^11.
+/// 1 to 1,000,000; the market has at most `64 * W` trades, and each firm at most 60 own trades and no worth above 1.24 *
+/// 10^11.
 pub fn judge_at<V: Oracle, const W: usize>(
     market: &Market<V>,
     on: &TradeSet<W>,
@@ -100,8 +101,8 @@ pub fn judge_at<V: Oracle, const W: usize>(
 
 /// Judges an arrangement at scale `over`: the first firm whose bundle is impossible or not best, or that the
 /// arrangement is an equilibrium. It takes no memory. There is one price for each trade, at most 10^18 in size, and
-/// `over` is 1 to 100,000; the market has at most `64 * W` trades, and each firm at most 32 own trades and no worth
-/// above 10^11.
+/// `over` is 1 to 1,000,000; the market has at most `64 * W` trades, and each firm at most 60 own trades and no worth
+/// above 1.24 * 10^11.
 pub fn judge_arrangement<V: Oracle, const W: usize>(
     market: &Market<V>,
     at: &Arrangement<W>,

@@ -7,6 +7,7 @@ ghost use Rattle.tn_base.specs.Widths.{most_cost};
 ghost use Rattle.tn_cycle.specs.Answers.{label_in};
 ghost use Rattle.tn_cycle.specs.Widths.{most_read};
 ghost use Rattle.tn_plain_data.specs.Prices.{price_at};
+ghost use Rattle.tn_market.specs.Limits.{AreWorthsWithin};
 ghost use Rattle.tn_market.specs.Graph.{graph_worths, ArePossible};
 ghost use Rattle.tn_market.specs.Widths.{most_market_trades};
 ghost use Rattle.tn_plain_data.specs.Network.{part};
@@ -81,7 +82,7 @@ fn support_by_labels<V: Valuation, const W: usize>(
     requires small { (f : ℕ) (v : V) → slice_get market.now.firms f ≡ Some v → 2 * V.limit v ≤ most_cost }
     requires possible { network_of V.firm market.now ArePossible on.now }
     ensures answer { IfOk result (network_of V.firm market.now Supports on.now) }
-    ensures prices { (bound : ℕ) → ((f : ℕ) (v : V) → slice_get market.now.firms f ≡ Some v → V.limit v ≤ bound)
+    ensures prices { (bound : ℕ) → AreWorthsWithin bound (map V.firm market.now.firms)
         → IfOk result (IsPricedWithin (2 * bound * length market.now.trades)) }
     ensures asked { steps.new ≤ steps.old + graph_worths (map V.firm market.now.firms) }
 {
@@ -114,7 +115,7 @@ pub fn support<V: Valuation, const W: usize>(
     requires wide { length market.now.trades ≤ 64 * W }
     requires small { (f : ℕ) (v : V) → slice_get market.now.firms f ≡ Some v → 2 * V.limit v ≤ most_cost }
     ensures answer { IfOk result (network_of V.firm market.now Supports on.now) }
-    ensures prices { (bound : ℕ) → ((f : ℕ) (v : V) → slice_get market.now.firms f ≡ Some v → V.limit v ≤ bound)
+    ensures prices { (bound : ℕ) → AreWorthsWithin bound (map V.firm market.now.firms)
         → IfOk result (IsPricedWithin (2 * bound * length market.now.trades)) }
     ensures asked { steps.new ≤ steps.old + 2 * graph_worths (map V.firm market.now.firms) }
 {

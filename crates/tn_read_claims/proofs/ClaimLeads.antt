@@ -31,7 +31,7 @@ use Rattle.tn_read_claims.specs.Laws.{ClaimsAreWithin}
 use Rattle.tn_read_claims.specs.Members.{claim_place, claimed_bundle, claimed_contracts, claimed_firm, claimed_nodes, claimed_number, claimed_on, claimed_over, claimed_prices, gain_or_null, member_place, own_or_null}
 use Rattle.tn_read_claims.specs.Planned.{claimed_plan}
 use Rattle.tn_read_claims.proofs.PlanLemmas.{ArePlanned, IsOwnPart, plan_leads}
-use Rattle.tn_read_claims.proofs.MemberLeads.{AreClaimedContracts, AreNodes, at_leads, claimed_contracts_lead, claimed_number_leads, claimed_prices_lead, gain_leads, nodes_lead, on_lead, over_lead}
+use Rattle.tn_read_claims.proofs.MemberLeads.{AreClaimedContracts, AreNodes, at_leads, claimed_contracts_lead, claimed_number_leads, claimed_prices_lead, gain_leads, nodes_lead, on_lead, over_lead, over_within}
 use Rattle.tn_read_claims.proofs.OwnCounts.{counts_own}
 
 -- ---- the limits
@@ -241,7 +241,11 @@ module _ (listed : Listed) (trades : AreTrades listed) (firms : List Firm) (name
       )))))
 
   own_part : (part : Part) → IsOwnPart listed trades part → IsPartWithin firms part
-  own_part part is = (own_firm part.firm (λ m. part.bundle < 2 ^ m) is.known is.own, is.weight)
+  own_part part is = (
+    own_firm part.firm (λ m. part.bundle < 2 ^ m) is.known is.own,
+    over_within listed trades.limits part.weight
+        is.weight,
+  )
 
   no_prices_leads : (claim : Data) → Leads IsWithin (no_prices_of listed claim)
   unfolding no_prices_of

@@ -1,13 +1,14 @@
--- The kind of the claim that reading gives is the one that its answer names, and its nodes are few.
-use Rattle.std.proofs.Common.{◌≡◌, ℕ, ◌≤◌, false, List, [], length, Option, Some, refl, sym, ap, ◌∙◌, arith}
-use Rattle.std.specs.Prelude.{codes, nat_le, option_and_then, option_map, unwrap_or}
+-- The kind of the claim that reading gives is the one that its answer names, and it keeps the limits.
+use Rattle.std.proofs.Common.{◌≡◌, ℕ, false, List, length, Some, refl, sym, ap, ◌∙◌}
+use Rattle.std.specs.Prelude.{All, codes, nat_le, option_and_then, option_map, unwrap_or}
 use Rattle.serde_json.specs.Data.{Data}
 use Rattle.serde_json.specs.Find.{get, as_str}
 use Rattle.tn_base.specs.declared.fault.FaultKind.TheVariants.{Limit, Shape}
 use Rattle.tn_plain_data.specs.Limits.{most_planned_trades}
 use Rattle.tn_plain_data.specs.declared.claim.Claim.{Claim}
+use Rattle.tn_plain_data.specs.declared.limits.Limits.{Limits}
 use Rattle.tn_plain_data.specs.declared.claim.Claim.TheVariants.{Equilibrium, Better, Impossible, Accepted, ExchangeFails, Supported, Cycle, Solved, Drops, Completes, Blocks, NoPrices}
-use Rattle.tn_plain_data.specs.declared.place.Word.TheVariants.{Answer, At, Bundle, Cost, Gain, Keeps, Surplus, X, Y}
+use Rattle.tn_plain_data.specs.declared.place.Word.TheVariants.{Answer, At, Bundle, Cost, Gain, Keeps, Over, Surplus, X, Y}
 use Rattle.tn_shape.specs.declared.claims.ClaimKind.{ClaimKind}
 use Rattle.tn_shape.specs.declared.claims.ClaimKind.TheVariants.{Equilibrium as EquilibriumKind, Better as BetterKind, Impossible as ImpossibleKind, Accepted as AcceptedKind, ExchangeFails as ExchangeFailsKind, Supported as SupportedKind, Cycle as CycleKind, Solved as SolvedKind, Drops as DropsKind, Completes as CompletesKind, Blocks as BlocksKind, NoPrices as NoPricesKind}
 use Rattle.tn_shape.specs.Claims.{claim_named}
@@ -18,163 +19,164 @@ use Rattle.tn_read_references.specs.Ordered.{Listed}
 use Rattle.tn_read_parts.specs.Arranged.{arrangement_of, trades_on_of}
 use Rattle.tn_read_parts.specs.Signed.{outcome_of}
 use Rattle.tn_read_claims.specs.Claimed.{accepted_of, better_of, blocks_of, claim_by, claim_of, claims_raw, completes_of, cycle_of, drops_of, equilibrium_of, failure_of, frame_of, impossible_of, is_raw, kind_is, kind_of, names_raw, no_prices_of, solved_of, supported_of}
-use Rattle.tn_read_claims.specs.Laws.{NodesAreFew, RawClaimsAreTold}
+use Rattle.tn_read_claims.specs.Laws.{ClaimsKeepLimits, KeepsClaimLimits, RawClaimsAreTold}
 use Rattle.tn_read_claims.specs.Members.{claim_place, claimed_bundle, claimed_contracts, claimed_firm, claimed_nodes, claimed_number, claimed_on, claimed_over, claimed_prices, gain_or_null, member_place, own_or_null}
 use Rattle.tn_read_claims.specs.Planned.{claimed_plan}
 use Rattle.tn_read_claims.proofs.MemberLeads.{AreNodes, nodes_lead}
+use Rattle.tn_read_claims.proofs.PlanLemmas.{IsWeight, parts_are_weighed}
+use Rattle.tn_read_parts.proofs.OutcomeLeads.{IsOver, over_leads}
 
-abbrev nodes_in : Claim → List (Option ℕ)
-nodes_in (Cycle on nodes cost) = nodes
-nodes_in claim = []
-
--- of this kind, with at most so many nodes
-record IsOf (kind : ClaimKind) (limit : ℕ) (claim : Claim) : Type 0 where
+-- of this kind, and within these limits
+record IsOf (kind : ClaimKind) (limits : Limits) (claim : Claim) : Type 0 where
   is : kind_is claim ≡ kind
-  few : length (nodes_in claim) ≤ limit
+  keeps : KeepsClaimLimits limits claim
 
 module _ (listed : Listed) (top claim : Data) where
-  equilibrium_is : Leads (IsOf EquilibriumKind listed.limits.nodes) (equilibrium_of listed top claim)
+  over_lead : Leads (IsOver listed.limits.claimed_over) (claimed_over listed claim)
+  over_lead = over_leads listed.limits.claimed_over (member_place Over) (get (codes "over") claim)
+
+  equilibrium_is : Leads (IsOf EquilibriumKind listed.limits) (equilibrium_of listed top claim)
   unfolding equilibrium_of
   equilibrium_is =
-      leads_after (IsOf EquilibriumKind listed.limits.nodes) (arrangement_of listed top) _ (λ at.
-      leads_after (IsOf EquilibriumKind listed.limits.nodes) (frame_of EquilibriumKind claim) _ (λ frame.
-      leads_after (IsOf EquilibriumKind listed.limits.nodes)
+      leads_after (IsOf EquilibriumKind listed.limits) (arrangement_of listed top) _ (λ at.
+      leads_after (IsOf EquilibriumKind listed.limits) (frame_of EquilibriumKind claim) _ (λ frame.
+      leads_after (IsOf EquilibriumKind listed.limits)
       (claimed_number listed Surplus (get (codes "surplus") claim)) _ (λ surplus.
-      leads_ok (IsOf EquilibriumKind listed.limits.nodes)
-      (Equilibrium (record { on = at.on; prices = at.prices }) surplus) (record { is = refl; few = omega arith }))))
+      leads_ok (IsOf EquilibriumKind listed.limits)
+      (Equilibrium (record { on = at.on; prices = at.prices }) surplus) (record { is = refl; keeps = tt }))))
 
-  better_is : Leads (IsOf BetterKind listed.limits.nodes) (better_of listed top claim)
+  better_is : Leads (IsOf BetterKind listed.limits) (better_of listed top claim)
   unfolding better_of
   better_is =
-      leads_after (IsOf BetterKind listed.limits.nodes) (arrangement_of listed top) _ (λ at.
-      leads_after (IsOf BetterKind listed.limits.nodes) (frame_of BetterKind claim) _ (λ frame.
-      leads_after (IsOf BetterKind listed.limits.nodes) (claimed_firm listed.names.firms claim) _ (λ f.
-      leads_after (IsOf BetterKind listed.limits.nodes) (claimed_bundle listed f Bundle (get (codes "bundle") claim)) _
+      leads_after (IsOf BetterKind listed.limits) (arrangement_of listed top) _ (λ at.
+      leads_after (IsOf BetterKind listed.limits) (frame_of BetterKind claim) _ (λ frame.
+      leads_after (IsOf BetterKind listed.limits) (claimed_firm listed.names.firms claim) _ (λ f.
+      leads_after (IsOf BetterKind listed.limits) (claimed_bundle listed f Bundle (get (codes "bundle") claim)) _
       (λ x.
-      leads_after (IsOf BetterKind listed.limits.nodes) (claimed_number listed Gain (get (codes "gain") claim)) _
+      leads_after (IsOf BetterKind listed.limits) (claimed_number listed Gain (get (codes "gain") claim)) _
       (λ gain.
-      leads_ok (IsOf BetterKind listed.limits.nodes) (Better (record { on = at.on; prices = at.prices }) f x gain)
-      (record { is = refl; few = omega arith }))))))
+      leads_ok (IsOf BetterKind listed.limits) (Better (record { on = at.on; prices = at.prices }) f x gain)
+      (record { is = refl; keeps = tt }))))))
 
-  impossible_is : Leads (IsOf ImpossibleKind listed.limits.nodes) (impossible_of listed top claim)
+  impossible_is : Leads (IsOf ImpossibleKind listed.limits) (impossible_of listed top claim)
   unfolding impossible_of
   impossible_is =
-      leads_after (IsOf ImpossibleKind listed.limits.nodes) (trades_on_of listed.names.trades top) _ (λ on.
-      leads_after (IsOf ImpossibleKind listed.limits.nodes) (frame_of ImpossibleKind claim) _ (λ frame.
-      leads_after (IsOf ImpossibleKind listed.limits.nodes) (claimed_firm listed.names.firms claim) _ (λ f.
-      leads_ok (IsOf ImpossibleKind listed.limits.nodes) (Impossible on f) (record { is = refl; few = omega arith }))))
+      leads_after (IsOf ImpossibleKind listed.limits) (trades_on_of listed.names.trades top) _ (λ on.
+      leads_after (IsOf ImpossibleKind listed.limits) (frame_of ImpossibleKind claim) _ (λ frame.
+      leads_after (IsOf ImpossibleKind listed.limits) (claimed_firm listed.names.firms claim) _ (λ f.
+      leads_ok (IsOf ImpossibleKind listed.limits) (Impossible on f) (record { is = refl; keeps = tt }))))
 
-  accepted_is : Leads (IsOf AcceptedKind listed.limits.nodes) (accepted_of claim)
+  accepted_is : Leads (IsOf AcceptedKind listed.limits) (accepted_of claim)
   unfolding accepted_of
   accepted_is =
-      leads_after (IsOf AcceptedKind listed.limits.nodes) (frame_of AcceptedKind claim) _ (λ frame.
-      leads_ok (IsOf AcceptedKind listed.limits.nodes) (Accepted) (record { is = refl; few = omega arith }))
+      leads_after (IsOf AcceptedKind listed.limits) (frame_of AcceptedKind claim) _ (λ frame.
+      leads_ok (IsOf AcceptedKind listed.limits) (Accepted) (record { is = refl; keeps = tt }))
 
-  failure_is : Leads (IsOf ExchangeFailsKind listed.limits.nodes) (failure_of listed claim)
+  failure_is : Leads (IsOf ExchangeFailsKind listed.limits) (failure_of listed claim)
   unfolding failure_of
   failure_is =
-      leads_after (IsOf ExchangeFailsKind listed.limits.nodes) (frame_of ExchangeFailsKind claim) _ (λ frame.
-      leads_after (IsOf ExchangeFailsKind listed.limits.nodes) (claimed_firm listed.names.firms claim) _ (λ f.
-      leads_after (IsOf ExchangeFailsKind listed.limits.nodes)
+      leads_after (IsOf ExchangeFailsKind listed.limits) (frame_of ExchangeFailsKind claim) _ (λ frame.
+      leads_after (IsOf ExchangeFailsKind listed.limits) (claimed_firm listed.names.firms claim) _ (λ f.
+      leads_after (IsOf ExchangeFailsKind listed.limits)
       (own_or_null listed f (member_place At) (get (codes "at") claim)) _ (λ at.
-      leads_after (IsOf ExchangeFailsKind listed.limits.nodes) (claimed_bundle listed f X (get (codes "x") claim)) _
+      leads_after (IsOf ExchangeFailsKind listed.limits) (claimed_bundle listed f X (get (codes "x") claim)) _
       (λ x.
-      leads_after (IsOf ExchangeFailsKind listed.limits.nodes) (claimed_bundle listed f Y (get (codes "y") claim)) _
+      leads_after (IsOf ExchangeFailsKind listed.limits) (claimed_bundle listed f Y (get (codes "y") claim)) _
       (λ y.
-      leads_ok (IsOf ExchangeFailsKind listed.limits.nodes) (ExchangeFails f x y at)
-      (record { is = refl; few = omega arith }))))))
+      leads_ok (IsOf ExchangeFailsKind listed.limits) (ExchangeFails f x y at)
+      (record { is = refl; keeps = tt }))))))
 
-  supported_is : Leads (IsOf SupportedKind listed.limits.nodes) (supported_of listed top claim)
+  supported_is : Leads (IsOf SupportedKind listed.limits) (supported_of listed top claim)
   unfolding supported_of
   supported_is =
-      leads_after (IsOf SupportedKind listed.limits.nodes) (trades_on_of listed.names.trades top) _ (λ on.
-      leads_after (IsOf SupportedKind listed.limits.nodes) (frame_of SupportedKind claim) _ (λ frame.
-      leads_after (IsOf SupportedKind listed.limits.nodes) (claimed_prices listed claim) _ (λ prices.
-      leads_ok (IsOf SupportedKind listed.limits.nodes) (Supported on prices) (record {
+      leads_after (IsOf SupportedKind listed.limits) (trades_on_of listed.names.trades top) _ (λ on.
+      leads_after (IsOf SupportedKind listed.limits) (frame_of SupportedKind claim) _ (λ frame.
+      leads_after (IsOf SupportedKind listed.limits) (claimed_prices listed claim) _ (λ prices.
+      leads_ok (IsOf SupportedKind listed.limits) (Supported on prices) (record {
         is = refl;
-        few =
-            omega arith;
+        keeps = tt;
       }))))
 
-  cycle_is : Leads (IsOf CycleKind listed.limits.nodes) (cycle_of listed top claim)
+  cycle_is : Leads (IsOf CycleKind listed.limits) (cycle_of listed top claim)
   unfolding cycle_of
   cycle_is =
-      leads_after (IsOf CycleKind listed.limits.nodes) (trades_on_of listed.names.trades top) _ (λ on.
-      leads_after (IsOf CycleKind listed.limits.nodes) (frame_of CycleKind claim) _ (λ frame.
-      leads_after (IsOf CycleKind listed.limits.nodes) (claimed_number listed Cost (get (codes "cost") claim)) _
+      leads_after (IsOf CycleKind listed.limits) (trades_on_of listed.names.trades top) _ (λ on.
+      leads_after (IsOf CycleKind listed.limits) (frame_of CycleKind claim) _ (λ frame.
+      leads_after (IsOf CycleKind listed.limits) (claimed_number listed Cost (get (codes "cost") claim)) _
       (λ cost.
-      leads_bind (AreNodes listed) (IsOf CycleKind listed.limits.nodes) (claimed_nodes listed claim) _
+      leads_bind (AreNodes listed) (IsOf CycleKind listed.limits) (claimed_nodes listed claim) _
       (nodes_lead listed claim) (λ nodes are.
-      leads_ok (IsOf CycleKind listed.limits.nodes) (Cycle on nodes cost) (record { is = refl; few = are.most })))))
+      leads_ok (IsOf CycleKind listed.limits) (Cycle on nodes cost) (record { is = refl; keeps = are.most })))))
 
-  solved_is : Leads (IsOf SolvedKind listed.limits.nodes) (solved_of listed claim)
+  solved_is : Leads (IsOf SolvedKind listed.limits) (solved_of listed claim)
   unfolding solved_of
   solved_is =
-      leads_after (IsOf SolvedKind listed.limits.nodes) (frame_of SolvedKind claim) _ (λ frame.
-      leads_after (IsOf SolvedKind listed.limits.nodes) (claimed_on listed.names.trades claim) _ (λ on.
-      leads_after (IsOf SolvedKind listed.limits.nodes) (claimed_prices listed claim) _ (λ prices.
-      leads_after (IsOf SolvedKind listed.limits.nodes) (claimed_number listed Surplus (get (codes "surplus") claim)) _
+      leads_after (IsOf SolvedKind listed.limits) (frame_of SolvedKind claim) _ (λ frame.
+      leads_after (IsOf SolvedKind listed.limits) (claimed_on listed.names.trades claim) _ (λ on.
+      leads_after (IsOf SolvedKind listed.limits) (claimed_prices listed claim) _ (λ prices.
+      leads_after (IsOf SolvedKind listed.limits) (claimed_number listed Surplus (get (codes "surplus") claim)) _
       (λ surplus.
-      leads_ok (IsOf SolvedKind listed.limits.nodes) (Solved (record { on = on; prices = prices }) surplus)
-      (record { is = refl; few = omega arith })))))
+      leads_ok (IsOf SolvedKind listed.limits) (Solved (record { on = on; prices = prices }) surplus)
+      (record { is = refl; keeps = tt })))))
 
-  drops_is : Leads (IsOf DropsKind listed.limits.nodes) (drops_of listed top claim)
+  drops_is : Leads (IsOf DropsKind listed.limits) (drops_of listed top claim)
   unfolding drops_of
   drops_is =
-      leads_after (IsOf DropsKind listed.limits.nodes) (outcome_of listed top) _ (λ outcome.
-      leads_after (IsOf DropsKind listed.limits.nodes) (frame_of DropsKind claim) _ (λ frame.
-      leads_after (IsOf DropsKind listed.limits.nodes) (claimed_firm listed.names.firms claim) _ (λ f.
-      leads_after (IsOf DropsKind listed.limits.nodes) (gain_or_null listed (get (codes "gain") claim)) _ (λ gain.
-      leads_after (IsOf DropsKind listed.limits.nodes) (claimed_bundle listed f Keeps (get (codes "keeps") claim)) _
+      leads_after (IsOf DropsKind listed.limits) (outcome_of listed top) _ (λ outcome.
+      leads_after (IsOf DropsKind listed.limits) (frame_of DropsKind claim) _ (λ frame.
+      leads_after (IsOf DropsKind listed.limits) (claimed_firm listed.names.firms claim) _ (λ f.
+      leads_after (IsOf DropsKind listed.limits) (gain_or_null listed (get (codes "gain") claim)) _ (λ gain.
+      leads_after (IsOf DropsKind listed.limits) (claimed_bundle listed f Keeps (get (codes "keeps") claim)) _
       (λ keeps.
-      leads_after (IsOf DropsKind listed.limits.nodes) (claimed_over listed claim) _ (λ over.
-      leads_ok (IsOf DropsKind listed.limits.nodes) (Drops outcome f keeps gain over) (record {
+      leads_bind (IsOver listed.limits.claimed_over) (IsOf DropsKind listed.limits) (claimed_over listed claim) _
+      over_lead (λ over is_over.
+      leads_ok (IsOf DropsKind listed.limits) (Drops outcome f keeps gain over) (record {
         is = refl;
-        few =
-            omega arith;
+        keeps = is_over.most;
       })))))))
 
-  completes_is : Leads (IsOf CompletesKind listed.limits.nodes) (completes_of listed top claim)
+  completes_is : Leads (IsOf CompletesKind listed.limits) (completes_of listed top claim)
   unfolding completes_of
   completes_is =
-      leads_after (IsOf CompletesKind listed.limits.nodes) (outcome_of listed top) _ (λ outcome.
-      leads_after (IsOf CompletesKind listed.limits.nodes) (frame_of CompletesKind claim) _ (λ frame.
-      leads_after (IsOf CompletesKind listed.limits.nodes) (claimed_over listed claim) _ (λ over.
-      leads_after (IsOf CompletesKind listed.limits.nodes) (claimed_prices listed claim) _ (λ prices.
-      leads_ok (IsOf CompletesKind listed.limits.nodes) (Completes outcome prices over) (record {
+      leads_after (IsOf CompletesKind listed.limits) (outcome_of listed top) _ (λ outcome.
+      leads_after (IsOf CompletesKind listed.limits) (frame_of CompletesKind claim) _ (λ frame.
+      leads_bind (IsOver listed.limits.claimed_over) (IsOf CompletesKind listed.limits) (claimed_over listed claim) _
+      over_lead (λ over is_over.
+      leads_after (IsOf CompletesKind listed.limits) (claimed_prices listed claim) _ (λ prices.
+      leads_ok (IsOf CompletesKind listed.limits) (Completes outcome prices over) (record {
         is = refl;
-        few =
-            omega arith;
+        keeps = is_over.most;
       })))))
 
-  blocks_is : Leads (IsOf BlocksKind listed.limits.nodes) (blocks_of listed top claim)
+  blocks_is : Leads (IsOf BlocksKind listed.limits) (blocks_of listed top claim)
   unfolding blocks_of
   blocks_is =
-      leads_after (IsOf BlocksKind listed.limits.nodes) (outcome_of listed top) _ (λ outcome.
-      leads_after (IsOf BlocksKind listed.limits.nodes) (frame_of BlocksKind claim) _ (λ frame.
-      leads_after (IsOf BlocksKind listed.limits.nodes) (claimed_contracts listed claim) _ (λ contracts.
-      leads_after (IsOf BlocksKind listed.limits.nodes) (claimed_over listed claim) _ (λ over.
-      leads_ok (IsOf BlocksKind listed.limits.nodes) (Blocks outcome contracts over) (record {
+      leads_after (IsOf BlocksKind listed.limits) (outcome_of listed top) _ (λ outcome.
+      leads_after (IsOf BlocksKind listed.limits) (frame_of BlocksKind claim) _ (λ frame.
+      leads_after (IsOf BlocksKind listed.limits) (claimed_contracts listed claim) _ (λ contracts.
+      leads_bind (IsOver listed.limits.claimed_over) (IsOf BlocksKind listed.limits) (claimed_over listed claim) _
+      over_lead (λ over is_over.
+      leads_ok (IsOf BlocksKind listed.limits) (Blocks outcome contracts over) (record {
         is = refl;
-        few =
-            omega arith;
+        keeps = is_over.most;
       })))))
 
-  no_prices_is : Leads (IsOf NoPricesKind listed.limits.nodes) (no_prices_of listed claim)
+  no_prices_is : Leads (IsOf NoPricesKind listed.limits) (no_prices_of listed claim)
   unfolding no_prices_of
   no_prices_is =
-      leads_after (IsOf NoPricesKind listed.limits.nodes)
+      leads_after (IsOf NoPricesKind listed.limits)
       (holds Limit claim_place (nat_le (length listed.ends) most_planned_trades)) _ (λ u.
-      leads_after (IsOf NoPricesKind listed.limits.nodes) (frame_of NoPricesKind claim) _ (λ frame.
-      leads_after (IsOf NoPricesKind listed.limits.nodes) (claimed_over listed claim) _ (λ over.
-      leads_after (IsOf NoPricesKind listed.limits.nodes) (claimed_plan listed claim) _ (λ plan.
-      leads_ok (IsOf NoPricesKind listed.limits.nodes) (NoPrices plan over) (record {
+      leads_after (IsOf NoPricesKind listed.limits) (frame_of NoPricesKind claim) _ (λ frame.
+      leads_bind (IsOver listed.limits.claimed_over) (IsOf NoPricesKind listed.limits) (claimed_over listed claim) _
+      over_lead (λ over is_over.
+      leads_bind (All (λ part. IsWeight listed part.weight)) (IsOf NoPricesKind listed.limits)
+      (claimed_plan listed claim) _ (parts_are_weighed listed claim) (λ plan are.
+      leads_ok (IsOf NoPricesKind listed.limits) (NoPrices plan over) (record {
         is = refl;
-        few =
-            omega arith;
+        keeps = (is_over.most, λ k d below. (are k d below).most);
       })))))
 
-  claim_is : (kind : ClaimKind) → Leads (IsOf kind listed.limits.nodes) (claim_by listed kind top claim)
+  claim_is : (kind : ClaimKind) → Leads (IsOf kind listed.limits) (claim_by listed kind top claim)
   claim_is EquilibriumKind = equilibrium_is
   claim_is BetterKind = better_is
   claim_is ImpossibleKind = impossible_is
@@ -191,7 +193,7 @@ module _ (listed : Listed) (top claim : Data) where
 -- what is known of a claim before and after it is read
 record IsTold (listed : Listed) (top : Data) (claim : Claim) : Type 0 where
   raw : claims_raw top ≡ is_raw (kind_is claim)
-  few : length (nodes_in claim) ≤ listed.limits.nodes
+  keeps : KeepsClaimLimits listed.limits claim
 
 -- the answer names the kind
 record IsNamedBy (claim : Data) (kind : ClaimKind) : Type 0 where
@@ -230,13 +232,13 @@ told_leads listed top =
     (leads_wanted Shape claim_place (get (codes "claim") top)) (λ claim at.
     leads_after (IsTold listed top) (object_at claim_place (Some claim)) _ (λ object.
     leads_bind (IsNamedBy claim) (IsTold listed top) (kind_of claim) _ (kind_leads claim) (λ kind by.
-    leads_as (IsOf kind listed.limits.nodes) (IsTold listed top) (claim_by listed kind top claim) (λ read is. record {
+    leads_as (IsOf kind listed.limits) (IsTold listed top) (claim_by listed kind top claim) (λ read is. record {
       raw = raw_named top claim kind at by ∙ ap is_raw (sym is.is);
-      few = is.few;
+      keeps = is.keeps;
     }) (claim_is listed top claim kind))))
 
 pub raw_claims_are_told : RawClaimsAreTold
 raw_claims_are_told listed top claim e = ((told_leads listed top).at claim e).raw
 
-pub nodes_are_few : NodesAreFew
-nodes_are_few listed top on nodes cost e = ((told_leads listed top).at (Cycle on nodes cost) e).few
+pub claims_keep_limits : ClaimsKeepLimits
+claims_keep_limits listed top claim e = ((told_leads listed top).at claim e).keeps

@@ -1,6 +1,7 @@
 -- What the members of a claim are that reading gives.
 use Rattle.std.proofs.Common.{◌≡◌, ℕ, ◌^◌, ◌+◌, ◌<◌, ◌≤◌, true, false, List, [], ◌∷◌, ◌++◌, length, slice_get, Option, Some, None, Result, Ok, inl, inr, sym, ap, subst, ◌∙◌, arith, true≢false}
-use Rattle.std.specs.Prelude.{ℤ, pos, ◌≤ℤ◌, codes, nat_le, not, All, IfSome}
+use Rattle.std.specs.Prelude.{ℤ, codes, nat_le, not, All, IfSome}
+use Rattle.std.proofs.lemmas.Int.{ints}
 use Rattle.std.proofs.lemmas.List.{length-append}
 use Rattle.std.proofs.lemmas.List.Elements.{All-nil, All-push}
 use Rattle.std.proofs.lemmas.Option.{none-some}
@@ -71,11 +72,15 @@ module _ (listed : Listed) (limits : AreLimits listed.limits) where
       unless_null_leads IsNumberWithin (number_at listed.limits.number (member_place Gain))
       (λ d. number_within (member_place Gain) (Some d)) gain)
 
+  -- a denominator within the document's limit is within that of claims
+  pub over_within : (over : ℤ) → IsOver listed.limits.claimed_over over → IsOverWithin over
+  over_within over is = let most = is.most in let room = limits.claimed_over in
+      record { least = is.least; most = omega (arith, ints, most, room) }
+
   pub over_lead : (claim : Data) → Leads IsOverWithin (claimed_over listed claim)
   over_lead claim =
       leads_as (IsOver listed.limits.claimed_over) IsOverWithin
-      (over_at listed.limits.claimed_over (member_place Over) (get (codes "over") claim))
-      (λ over is. record { least = is.least; most = subst (λ limit. over ≤ℤ pos limit) limits.claimed_over is.most })
+      (over_at listed.limits.claimed_over (member_place Over) (get (codes "over") claim)) over_within
       (over_leads listed.limits.claimed_over (member_place Over) (get (codes "over") claim))
 
 pub at_leads : (listed : Listed) (trades : AreTrades listed) (f : ℕ) (place : List PlaceStep) (value : Option Data)

@@ -1,6 +1,6 @@
 -- The parts of a plan that reading gives, and the faults at which it stops.
-use Rattle.std.proofs.Common.{◌≡◌, ℕ, ◌+◌, ◌^◌, ◌<◌, ◌≤◌, ◌&&◌, ◌++◌, [], ◌∷◌, true, List, length, Some, refl, subst, arith}
-use Rattle.std.specs.Prelude.{ℤ, pos, ◌≤ℤ◌, int_le, codes, All}
+use Rattle.std.proofs.Common.{◌≡◌, ℕ, ◌+◌, ◌^◌, ◌<◌, ◌≤◌, ◌&&◌, ◌++◌, [], ◌∷◌, true, List, length, Some, refl, arith}
+use Rattle.std.specs.Prelude.{ℤ, pos, int_le, codes, All}
 use Rattle.std.proofs.lemmas.Bool.{and_parts}
 use Rattle.std.proofs.lemmas.Int.{ints}
 use Rattle.std.proofs.lemmas.List.{length-append}
@@ -9,7 +9,6 @@ use Rattle.serde_json.specs.Data.{Data}
 use Rattle.serde_json.specs.Events.{items_len}
 use Rattle.serde_json.specs.Find.{get}
 use Rattle.tn_base.specs.declared.fault.FaultKind.TheVariants.{AmountRange}
-use Rattle.tn_plain_data.specs.ClaimLimits.{IsOverWithin}
 use Rattle.tn_plain_data.specs.Limits.{most_own_trades, most_parts}
 use Rattle.tn_plain_data.specs.declared.part.Part.{Part}
 use Rattle.tn_plain_data.specs.declared.place.PlaceStep.{PlaceStep}
@@ -24,6 +23,7 @@ use Rattle.tn_read_references.specs.References.{bundle_at, firm_at}
 use Rattle.tn_read_references.proofs.ReferenceLeads.{bundle_leads, firm_at_leads}
 use Rattle.tn_read_references.proofs.ReferenceStops.{bundle_stops, firm_at_stops}
 use Rattle.tn_read_claims.specs.Planned.{claimed_plan, in_part, one_part, part_at, part_of, plan_place, weight_at}
+use Rattle.tn_read_parts.proofs.OutcomeLeads.{IsOver}
 
 one_part_counts : (listed : Listed) (parts : List Part) (entry : Data)
     → Leads (λ next. length next ≡ length parts + 1) (one_part listed parts entry)
@@ -32,34 +32,63 @@ one_part_counts listed parts entry =
     leads_after (λ next. length next ≡ length parts + 1) (part_of listed (length parts) entry) _ (λ part.
     leads_ok (λ next. length next ≡ length parts + 1) (parts ++ part ∷ []) (length-append parts (part ∷ [])))
 
+-- ---- weights
+
+module _ (listed : Listed) where
+  -- a weight is within the document's limit on denominators
+  abbrev pub IsWeight : ℤ → Type 0
+  IsWeight weight = IsOver listed.limits.claimed_over weight
+
+  weight_from_test : (weight : ℤ) → (int_le (pos 1) weight && int_le weight (pos listed.limits.claimed_over)) ≡ true
+      → IsWeight weight
+  weight_from_test weight e =
+      let parts = and_parts (int_le (pos 1) weight) (int_le weight (pos listed.limits.claimed_over)) e in
+      record { least = search (arith, ints, parts.0); most = search (arith, ints, parts.1) }
+
+  weight_leads : (place : List PlaceStep) (value : Data) → Leads IsWeight (weight_at listed place value)
+  unfolding weight_at
+  weight_leads place value =
+      leads_after IsWeight (whole_at place (Some value)) _ (λ weight.
+      let test = int_le (pos 1) weight && int_le weight (pos listed.limits.claimed_over) in
+      leads_bind (λ _. test ≡ true) IsWeight (holds AmountRange place test) _ (leads_holds AmountRange place test)
+      (λ u within.
+      leads_ok IsWeight weight (weight_from_test weight within)))
+
+  abbrev IsWeighed : Part → Type 0
+  IsWeighed part = IsWeight part.weight
+
+  part_is_weighed : (k : ℕ) (entry : Data) → Leads IsWeighed (part_of listed k entry)
+  unfolding part_of
+  part_is_weighed k entry =
+      leads_after IsWeighed (three_at (part_at k) entry) _ (λ three.
+      leads_after IsWeighed (firm_at listed.names.firms (in_part k 0) (Some three.0)) _ (λ f.
+      leads_after IsWeighed (bundle_at listed f (in_part k 1) (Some three.1)) _ (λ x.
+      leads_bind IsWeight IsWeighed (weight_at listed (in_part k 2) three.2) _ (weight_leads (in_part k 2) three.2)
+      (λ w is.
+      leads_ok IsWeighed (record { firm = f; bundle = x; weight = w }) is))))
+
+  one_part_is_weighed : (parts : List Part) (entry : Data) → All IsWeighed parts
+      → Leads (All IsWeighed) (one_part listed parts entry)
+  unfolding one_part
+  one_part_is_weighed parts entry are =
+      leads_bind IsWeighed (All IsWeighed) (part_of listed (length parts) entry) _
+      (part_is_weighed (length parts) entry) (λ part is.
+      leads_ok (All IsWeighed) (parts ++ part ∷ []) (All-push IsWeighed parts part are is))
+
+  pub parts_are_weighed : (claim : Data) → Leads (All IsWeighed) (claimed_plan listed claim)
+  unfolding claimed_plan
+  parts_are_weighed claim =
+      leads_after (All IsWeighed) (few_at most_parts plan_place (get (codes "plan") claim)) _ (λ entries.
+      leads_each (All IsWeighed) (one_part listed) one_part_is_weighed [] entries (All-nil IsWeighed))
+
 -- ---- what a part is
 
 module _ (listed : Listed) (trades : AreTrades listed) where
-  weight_from_test : (weight : ℤ) → (int_le (pos 1) weight && int_le weight (pos listed.limits.claimed_over)) ≡ true
-      → IsOverWithin weight
-  weight_from_test weight e =
-      let parts = and_parts (int_le (pos 1) weight) (int_le weight (pos listed.limits.claimed_over)) e in
-      let most : weight ≤ℤ pos listed.limits.claimed_over = search (arith, ints, parts.1) in
-      record {
-        least = search (arith, ints, parts.0);
-        most =
-            subst (λ limit. weight ≤ℤ pos limit) trades.limits.claimed_over most;
-      }
-
-  weight_leads : (place : List PlaceStep) (value : Data) → Leads IsOverWithin (weight_at listed place value)
-  unfolding weight_at
-  weight_leads place value =
-      leads_after IsOverWithin (whole_at place (Some value)) _ (λ weight.
-      let test = int_le (pos 1) weight && int_le weight (pos listed.limits.claimed_over) in
-      leads_bind (λ _. test ≡ true) IsOverWithin (holds AmountRange place test) _ (leads_holds AmountRange place test)
-      (λ u within.
-      leads_ok IsOverWithin weight (weight_from_test weight within)))
-
   -- a bundle of the own trades of a listed firm, with a weight
   pub record IsOwnPart (part : Part) : Type 0 where
     pub known : part.firm < length listed.names.firms
     pub own : part.bundle < 2 ^ length (sides_of listed.ends part.firm)
-    pub weight : IsOverWithin part.weight
+    pub weight : IsWeight listed part.weight
 
   part_leads : (k : ℕ) (entry : Data) → Leads IsOwnPart (part_of listed k entry)
   unfolding part_of
@@ -71,8 +100,8 @@ module _ (listed : Listed) (trades : AreTrades listed) where
       leads_bind (λ x. x < 2 ^ length (sides_of listed.ends f)) IsOwnPart
       (bundle_at listed f (in_part k 1) (Some three.1)) _
       (bundle_leads listed trades f (in_part k 1) (Some three.1)) (λ x own.
-      leads_bind IsOverWithin IsOwnPart (weight_at listed (in_part k 2) three.2) _ (weight_leads (in_part k 2) three.2)
-      (λ w within.
+      leads_bind (IsWeight listed) IsOwnPart (weight_at listed (in_part k 2) three.2) _
+      (weight_leads listed (in_part k 2) three.2) (λ w within.
       leads_ok IsOwnPart (record { firm = f; bundle = x; weight = w }) (record {
         known = known;
         own = own;

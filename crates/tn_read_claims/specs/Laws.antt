@@ -1,12 +1,13 @@
 -- What holds of every claim that is read, and of every fault of one, in words that know nothing of the reading.
-use Rattle.std.specs.Prelude.{◌≡◌, ℕ, ℤ, ◌≤◌, List, length, Bool, true, false, Option, Ok, Err}
+use Rattle.std.specs.Prelude.{◌≡◌, ◌≤◌, pos, ◌≤ℤ◌, List, length, All, Bool, true, false, Ok, Err}
 use Rattle.serde_json.specs.Data.{Data}
 use Rattle.tn_base.specs.declared.fault.FaultKind.{FaultKind}
 use Rattle.tn_base.specs.declared.fault.FaultKind.TheVariants.{NotJson, TooLong, Shape, BadName, SameName, UnknownFirm, SelfTrade, UnknownTrade, Limit, AmountRange, NotOwnTrade, SameBundle, NoEmpty, NotLaminar, NotConcave, ExchangeFails, SameTrade, PriceMissing, BadOver, SamePair}
 use Rattle.tn_base.specs.Firm.{Firm}
 use Rattle.tn_plain_data.specs.declared.said.Fault.{Fault}
 use Rattle.tn_plain_data.specs.declared.claim.Claim.{Claim}
-use Rattle.tn_plain_data.specs.declared.claim.Claim.TheVariants.{Cycle}
+use Rattle.tn_plain_data.specs.declared.claim.Claim.TheVariants.{Cycle, Drops, Completes, Blocks, NoPrices}
+use Rattle.tn_plain_data.specs.declared.limits.Limits.{Limits}
 use Rattle.tn_plain_data.specs.ClaimLimits.{IsClaimWithin}
 use Rattle.tn_plain_data.specs.Network.{IsNetwork}
 use Rattle.tn_read_references.specs.Ordered.{Listed, AreTrades}
@@ -19,10 +20,20 @@ ClaimsAreWithin = (listed : Listed) (firms : List Firm) (top : Data) (claim : Cl
     → length listed.names.firms ≡ length firms → IsNetwork firms listed.ends
     → claim_of listed top ≡ Ok claim → IsClaimWithin firms listed.ends claim
 
--- its nodes are at most as many as the limit of its document
-abbrev pub NodesAreFew : Type 0
-NodesAreFew = (listed : Listed) (top : Data) (on : ℕ) (nodes : List (Option ℕ)) (cost : ℤ)
-    → claim_of listed top ≡ Ok (Cycle on nodes cost) → length nodes ≤ listed.limits.nodes
+-- the nodes of a claim, its denominator and its weights are within some limits
+abbrev pub KeepsClaimLimits : Limits → Claim → Type 0
+KeepsClaimLimits limits (Cycle on nodes cost) = length nodes ≤ limits.nodes
+KeepsClaimLimits limits (Drops outcome f keeps gain over) = over ≤ℤ pos limits.claimed_over
+KeepsClaimLimits limits (Completes outcome prices over) = over ≤ℤ pos limits.claimed_over
+KeepsClaimLimits limits (Blocks outcome contracts over) = over ≤ℤ pos limits.claimed_over
+KeepsClaimLimits limits (NoPrices plan over) = (over ≤ℤ pos limits.claimed_over)
+    × All (λ part. part.weight ≤ℤ pos limits.claimed_over) plan
+KeepsClaimLimits limits claim = Unit {0}
+
+-- they are within the limits of its document
+abbrev pub ClaimsKeepLimits : Type 0
+ClaimsKeepLimits = (listed : Listed) (top : Data) (claim : Claim) → claim_of listed top ≡ Ok claim
+    → KeepsClaimLimits listed.limits claim
 
 -- whether its network is read raw is told before it is read
 abbrev pub RawClaimsAreTold : Type 0

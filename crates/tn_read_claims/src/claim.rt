@@ -19,7 +19,7 @@ use tn_plain_data::{Claim, Word};
 use tn_read_references::Head;
 use tn_shape::{ClaimKind, ReadError, claim_named, found, member, object, present, text};
 
-/// The claim of a document whose network is listed. No firm has more than 32 own trades.
+/// The claim of a document whose network is listed. No firm has more than 60 own trades.
 #[tactic(auto, unfolding(crate::specs::Claimed::claim_of))]
 pub fn read_claim(alloc: Global, head: &Head, top: &Value) -> Result<Claim, ReadError>
     requires few { (f : ℕ) → f < length head.now.names.firms → length (sides_of head.now.ends f) ≤ most_own_trades }

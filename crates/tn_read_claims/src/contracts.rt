@@ -40,7 +40,7 @@ fn each_offer(
     at: ListAt,
     limit: u64,
     entries: &[Value],
-) -> Result<(TradeSet<2>, Vec<Contract>), ReadError>
+) -> Result<(TradeSet<16>, Vec<Contract>), ReadError>
     ensures { Gives (λ p. record { named = p.0; contracts = p.1.items }) result
         (each (one_offer head.now.names.trades (list_place at) limit) no_offers (items_view entries.now)) }
 {
@@ -59,7 +59,7 @@ fn add_offer(
     head: &Head,
     at: ListAt,
     limit: u64,
-    named: &mut TradeSet<2>,
+    named: &mut TradeSet<16>,
     contracts: &mut Vec<Contract>,
     entry: &Value,
 ) -> Result<(), ReadError>

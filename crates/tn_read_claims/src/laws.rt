@@ -1,6 +1,6 @@
 //! Laws of claims that are read: their limits, and their faults.
 
-ghost use Rattle.tn_read_claims.specs.Laws.{ClaimsAreWithin, FaultsOfClaims, NodesAreFew, RawClaimsAreTold};
+ghost use Rattle.tn_read_claims.specs.Laws.{ClaimsAreWithin, ClaimsKeepLimits, FaultsOfClaims, RawClaimsAreTold};
 
 /// A claim that is read of a network's document speaks of its firms, trades and positions, and its numbers keep the
 /// limits of claims. Of its contracts no two are on one trade.
@@ -8,9 +8,10 @@ pub fn claims_are_within()
     ensures { ClaimsAreWithin }
 {}
 
-/// A claimed cycle has no more nodes than the limit of the document: 65 in version 1, and 129 in version 2.
-pub fn nodes_are_few()
-    ensures { NodesAreFew }
+/// A claim keeps the limits of the document: its nodes are at most 65 in version 1, 129 in version 2, and 1,025 in
+/// version 3; its denominator and its weights are at most 100,000, and 1,000,000 in version 3.
+pub fn claims_keep_limits()
+    ensures { ClaimsKeepLimits }
 {}
 
 /// Whether the claim that is read is one that is made of firms as they are listed is told by the text of its answer.

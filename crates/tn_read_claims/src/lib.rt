@@ -12,5 +12,5 @@ mod plan;
 mod raw;
 
 pub use claim::read_claim;
-pub use laws::{claims_are_within, faults_of_claims, nodes_are_few, raw_claims_are_told};
+pub use laws::{claims_are_within, claims_keep_limits, faults_of_claims, raw_claims_are_told};
 pub use raw::claims_raw;

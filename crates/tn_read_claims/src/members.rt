@@ -120,7 +120,7 @@ pub(crate) fn over_of(alloc: Global, head: &Head, claim: &Value) -> Result<i128,
 
 /// The claim's trades that are on.
 #[tactic(auto, unfolding(crate::specs::Members::claimed_on))]
-pub(crate) fn on_of(alloc: Global, head: &Head, claim: &Value) -> Result<TradeSet<2>, ReadError>
+pub(crate) fn on_of(alloc: Global, head: &Head, claim: &Value) -> Result<TradeSet<16>, ReadError>
     ensures { Gives (λ on. on) result (claimed_on head.now.names.trades (view claim.now)) }
 {
     let at = ListAt {

@@ -25,6 +25,7 @@ use Rattle.tn_names.proofs.NameLemmas.{push_cases}
 use Rattle.tn_shape.specs.Reading.{each, holds}
 use Rattle.tn_shape.specs.Shapes.{number_at, optional_list_at}
 use Rattle.tn_read_references.proofs.EntryLeads.{number_within}
+use Rattle.tn_shape.proofs.ShapeLeads.{number_leads}
 use Rattle.tn_shape.proofs.LeadLemmas.{Leads, leads_ok, leads_bind, leads_after, leads_each, leads_holds, leads_wanted, leads_as, leads_both}
 use Rattle.tn_read_references.specs.Ordered.{Listed, AreTrades, AreInOrder, sides_of}
 use Rattle.tn_read_references.specs.References.{position_on, own_position}
@@ -84,6 +85,40 @@ any_at p (first ∷ pairs) (suc k) pair is meets = either (p first) (list_any p 
     either : (b d : Bool) → d ≡ true → (b || d) ≡ true
     either true d e = refl
     either false d e = e
+
+-- ---- costs
+
+module _ (listed : Listed) where
+  -- a pair's cost is within the limit of the version
+  abbrev pub IsCheap : Pair → Type 0
+  IsCheap pair = IsAtMost pair.cost listed.limits.amount
+
+  pair_is_cheap : (f k : ℕ) (entry : Data) → Leads IsCheap (pair_of listed f k entry)
+  unfolding pair_of
+  pair_is_cheap f k entry =
+      leads_after IsCheap (three_at (pair_place f k) entry) _ (λ three.
+      leads_after IsCheap (own_position listed f (Some Buy) (pair_place f k ++ Index 0 ∷ []) three.0) _ (λ b.
+      leads_after IsCheap (own_position listed f (Some Sell) (pair_place f k ++ Index 1 ∷ []) three.1) _ (λ s.
+      leads_bind (λ z. IsAtMost z listed.limits.amount) IsCheap
+      (number_at listed.limits.amount (pair_place f k ++ Index 2 ∷ []) three.2) _
+      (number_leads listed.limits.amount (pair_place f k ++ Index 2 ∷ []) (Some three.2)) (λ cost small.
+      leads_ok IsCheap (record { buy = b; sell = s; cost = cost }) small))))
+
+  one_more_is_cheap : (f : ℕ) (pairs : List Pair) (entry : Data) → All IsCheap pairs
+      → Leads (All IsCheap) (one_pair listed f pairs entry)
+  unfolding one_pair
+  one_more_is_cheap f pairs entry are =
+      leads_bind IsCheap (All IsCheap) (pair_of listed f (length pairs) entry) _
+      (pair_is_cheap f (length pairs) entry) (λ next is.
+      leads_after (All IsCheap) (holds SamePair (pair_place f (length pairs))
+      (not (list_any (is_same_pair next) pairs))) _ (λ u.
+      leads_ok (All IsCheap) (pairs ++ next ∷ []) (All-push IsCheap pairs next are is)))
+
+  pairs_are_cheap : (f : ℕ) (entries : Items) → Leads (All IsCheap) (each (one_pair listed f) [] entries)
+  pairs_are_cheap f entries =
+      leads_each (All IsCheap) (one_pair listed f) (one_more_is_cheap f) [] entries (All-nil IsCheap)
+
+-- ---- own pairs
 
 module _ (listed : Listed) (trades : AreTrades listed) (f : ℕ) where
   abbrev pub IsOwn : Pair → Type 0
@@ -216,19 +251,20 @@ module _ (listed : Listed) (trades : AreTrades listed) (f : ℕ) where
       near k d below = let own = are.own k d below in let buy = own.purchase in let sell = own.sale in
           record { buy = omega (arith, few, buy); sell = omega (arith, few, sell) }
 
-  pub dealer_leads : (firm : Data) → length (sides_of listed.ends f) ≤ most_own_trades
-      → Leads (IsDealerFirm listed.ends f) (dealer_of listed f firm)
+  pub dealer_leads : (firm : Data) → length (sides_of listed.ends f) ≤ listed.limits.own
+      → Leads (IsDealerFirm listed.limits listed.ends f) (dealer_of listed f firm)
   unfolding dealer_of
   dealer_leads firm few =
-      leads_after (IsDealerFirm listed.ends f) (optional_list_at (pairs_place f) (get (codes "pairs") firm)) _
-      (λ entries.
-      leads_bind AreNew (IsDealerFirm listed.ends f) (each (one_pair listed f) [] entries) _ (pairs_lead entries)
-      (λ pairs are.
-      leads_ok (IsDealerFirm listed.ends f) (dealer_firm (sides_of listed.ends f) pairs) (record {
+      let is_firm = IsDealerFirm listed.limits listed.ends f in
+      leads_after is_firm (optional_list_at (pairs_place f) (get (codes "pairs") firm)) _ (λ entries.
+      leads_bind (λ pairs. AreNew pairs × All (IsCheap listed) pairs) is_firm (each (one_pair listed f) [] entries) _
+      (leads_both AreNew (All (IsCheap listed)) (each (one_pair listed f) [] entries) (pairs_lead entries)
+      (pairs_are_cheap listed f entries)) (λ pairs are.
+      leads_ok is_firm (dealer_firm (sides_of listed.ends f) pairs) (record {
         pairs = pairs;
-        is =
-            refl;
+        is = refl;
         few = few;
-        own = are.own;
-        different = are.different;
+        own = are.0.own;
+        small = are.1;
+        different = are.0.different;
       })))

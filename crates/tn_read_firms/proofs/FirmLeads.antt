@@ -13,9 +13,11 @@ use Rattle.tn_base.specs.Exchange.{MeetsExchange}
 use Rattle.tn_base.proofs.ExchangeLemmas.{exchange_from_none_fails}
 use Rattle.tn_exchange.specs.Rows.{TableRows, firm_of_table}
 use Rattle.tn_exchange.specs.TestOrder.{Triple}
-use Rattle.tn_exchange.proofs.RowLemmas.{own_bundles, worth_is_small}
+use Rattle.tn_exchange.proofs.RowLemmas.{own_bundles}
 use Rattle.tn_local.specs.First.{IsFullIfLarge}
 use Rattle.tn_plain_data.specs.declared.ends.Ends.{Ends}
+use Rattle.tn_plain_data.specs.declared.limits.Limits.{Limits}
+use Rattle.tn_market.specs.Valued.{IsWorthAtMost}
 use Rattle.tn_shape.specs.Reading.{each, holds}
 use Rattle.tn_read_references.specs.Ordered.{Listed, AreInOrder, sides_of, AreTrades}
 use Rattle.tn_shape.specs.declared.members.FirmKind.{FirmKind}
@@ -23,7 +25,7 @@ use Rattle.tn_shape.specs.declared.members.FirmKind.TheVariants.{Table, Laminar,
 use Rattle.tn_shape.specs.declared.members.ObjectKind.TheVariants.{Firm as FirmObject}
 use Rattle.tn_shape.specs.Shapes.{object_of}
 use Rattle.tn_read_references.specs.References.{firm_place}
-use Rattle.tn_read_firms.specs.Kinds.{most_own, room_for, kind_of, frame_of}
+use Rattle.tn_read_firms.specs.Kinds.{most_own, kind_of, frame_of}
 use Rattle.tn_read_firms.specs.Tables.{table_of}
 use Rattle.tn_read_firms.specs.Laminars.{laminar_of}
 use Rattle.tn_read_firms.specs.Middlemen.{middle_of}
@@ -33,8 +35,7 @@ use Rattle.tn_read_firms.specs.FirstFailure.{first_failure}
 use Rattle.tn_read_firms.specs.Laws.{IsTableFirm, IsLaminarFirm, IsMiddlemanFirm, IsDealerFirm, IsListedFirm, table as table_is, laminar, middleman, dealer}
 use Rattle.tn_names.proofs.NameLemmas.{push_cases}
 use Rattle.tn_read_firms.proofs.FailureLemmas.{holds as none_fails}
-use Rattle.tn_read_firms.proofs.KindLemmas.{dealer_meets, laminar_meets, middleman_meets, listed_few_own}
-use Rattle.tn_read_firms.proofs.RoomLemmas.{own_room}
+use Rattle.tn_read_firms.proofs.KindLemmas.{dealer_meets, laminar_meets, middleman_meets, listed_few_own, table_within}
 use Rattle.tn_read_firms.proofs.TableLeads.{IsTableOf, table_leads}
 use Rattle.tn_read_firms.proofs.LaminarLeads.{laminar_leads}
 use Rattle.tn_read_firms.proofs.MiddleLeads.{middle_leads}
@@ -48,19 +49,20 @@ unless_failing_leads trades f count None = leads_ok (λ _. None ≡ None) tt ref
 unless_failing_leads trades f count (Some t) = record { at = λ x e. absurd (cc) }
 
 -- firm f, which meets exchange where that is tested
-pub record IsFirm (tested : Bool) (trades : List Ends) (f : ℕ) (firm : Firm) : Type 0 where
-  pub listed : IsListedFirm trades f firm
+pub record IsFirm (tested : Bool) (limits : Limits) (trades : List Ends) (f : ℕ) (firm : Firm) : Type 0 where
+  pub listed : IsListedFirm limits trades f firm
   pub meets : tested ≡ true → MeetsExchange firm
 
-of_table : (trades : List Ends) (f : ℕ) (table : TableRows) → IsTableOf trades f table
-    → IsTableFirm trades f (firm_of_table table)
-of_table trades f table is = record {
+of_table : (limits : Limits) (trades : List Ends) (f : ℕ) (table : TableRows) → IsTableOf limits trades f table
+    → IsTableFirm limits trades f (firm_of_table table)
+of_table limits trades f table is = record {
   rows = is.rows;
   apart = is.apart;
   is = is.is;
   few = is.few;
   full = is.full;
-  small = λ x amount e. worth_is_small table is.within x amount e;
+  small = subst (IsWorthAtMost limits.amount) (sym is.is) (table_within limits.amount (sides_of trades f) is.rows
+      is.small);
 }
 
 exchange_leads : (trades : List Ends) (f : ℕ) (table : TableRows) → IsFullIfLarge (firm_of_table table)
@@ -79,70 +81,73 @@ tested_leads true trades f table full =
 tested_leads false trades f table full = leads_ok (λ _. false ≡ true
     → MeetsExchange (firm_of_table table)) tt (λ is. absurd (cc))
 
-tested_firm_leads : (tested : Bool) (trades : List Ends) (f : ℕ) (table : TableRows) → IsTableOf trades f table
-    → Leads (IsFirm tested trades f) (tested_firm tested trades f table)
+tested_firm_leads : (tested : Bool) (limits : Limits) (trades : List Ends) (f : ℕ) (table : TableRows)
+    → IsTableOf limits trades f table → Leads (IsFirm tested limits trades f) (tested_firm tested trades f table)
 unfolding tested_firm
-tested_firm_leads tested trades f table is_table =
-    leads_bind (λ _. tested ≡ true → MeetsExchange (firm_of_table table)) (IsFirm tested trades f) (if tested
+tested_firm_leads tested limits trades f table is_table =
+    let is_firm = IsFirm tested limits trades f in
+    leads_bind (λ _. tested ≡ true → MeetsExchange (firm_of_table table)) is_firm (if tested
     then exchange_of trades f table else Ok tt) _ (tested_leads tested trades f table is_table.full) (λ u meets.
-    leads_ok (IsFirm tested trades f) (firm_of_table table) (record {
-      listed =
-          table_is (of_table trades f table is_table);
+    leads_ok is_firm (firm_of_table table) (record {
+      listed = table_is (of_table limits trades f table is_table);
       meets = meets;
     }))
 
 module _ (tested : Bool) (listed : Listed) (trades : AreTrades listed) where
-  kind_leads : (f : ℕ) (kind : FirmKind) (firm : Data) → length (sides_of listed.ends f) ≤ room_for kind
-      → Leads (IsFirm tested listed.ends f) (firm_by tested listed f kind firm)
+  abbrev IsFirmAt : ℕ → Firm → Type 0
+  IsFirmAt f firm = IsFirm tested listed.limits listed.ends f firm
+
+  kind_leads : (f : ℕ) (kind : FirmKind) (firm : Data) → length (sides_of listed.ends f) ≤ most_own listed.limits kind
+      → Leads (IsFirmAt f) (firm_by tested listed f kind firm)
   unfolding firm_by
   kind_leads f Table firm few =
-      leads_bind (IsTableOf listed.ends f) (IsFirm tested listed.ends f) (table_of listed f firm) _
+      leads_bind (IsTableOf listed.limits listed.ends f) (IsFirmAt f) (table_of listed f firm) _
       (table_leads listed trades f firm few) (λ table is_table.
-      tested_firm_leads tested listed.ends f table is_table)
+      tested_firm_leads tested listed.limits listed.ends f table is_table)
   kind_leads f Laminar firm few =
-      leads_as (IsLaminarFirm listed.ends f) (IsFirm tested listed.ends f) (laminar_of listed f firm)
-      (λ made is. record { listed = laminar is; meets = λ t. laminar_meets listed.ends f made is })
-      (laminar_leads listed trades f firm few)
+      leads_as (IsLaminarFirm listed.limits listed.ends f) (IsFirmAt f) (laminar_of listed f firm) (λ made is. record {
+        listed = laminar is;
+        meets = λ t. laminar_meets listed.limits trades.limits listed.ends f made is;
+      }) (laminar_leads listed trades f firm few)
   kind_leads f Middleman firm few =
-      leads_as (IsMiddlemanFirm listed.ends f) (IsFirm tested listed.ends f) (middle_of listed f firm)
-      (λ made is. record { listed = middleman is; meets = λ t. middleman_meets listed.ends f made is })
-      (middle_leads listed trades f firm few)
+      leads_as (IsMiddlemanFirm listed.limits listed.ends f) (IsFirmAt f) (middle_of listed f firm)
+      (λ made is. record { listed = middleman is; meets = λ t. middleman_meets listed.limits listed.ends f made is })
+      (middle_leads listed f firm few)
   kind_leads f Dealer firm few =
-      leads_as (IsDealerFirm listed.ends f) (IsFirm tested listed.ends f) (dealer_of listed f firm)
-      (λ made is. record { listed = dealer is; meets = λ t. dealer_meets listed.ends f made is })
+      leads_as (IsDealerFirm listed.limits listed.ends f) (IsFirmAt f) (dealer_of listed f firm)
+      (λ made is. record { listed = dealer is; meets = λ t. dealer_meets listed.limits listed.ends f made is })
       (dealer_leads listed trades f firm few)
 
   pub frame_leads : (f : ℕ) (kind : FirmKind) (firm : Data)
-      → Leads (λ _. length (sides_of listed.ends f) ≤ room_for kind) (frame_of listed f kind firm)
+      → Leads (λ _. length (sides_of listed.ends f) ≤ most_own listed.limits kind) (frame_of listed f kind firm)
   unfolding frame_of
   frame_leads f kind firm =
+      let count = length (sides_of listed.ends f) in
+      let most = most_own listed.limits kind in
       leads_after _ (object_of (FirmObject kind) (firm_place f) (Some firm)) _ (λ object.
-      leads_as (λ _. nat_le (length (sides_of listed.ends f)) (most_own listed.limits kind) ≡ true) _
-      (holds Limit (firm_place f) (nat_le (length (sides_of listed.ends f)) (most_own listed.limits kind)))
-      (λ u few. let most = le_from_test (length (sides_of listed.ends f)) (most_own listed.limits kind) few in
-      let room = own_room listed.limits trades.limits kind in omega (arith, most, room))
-      (leads_holds Limit (firm_place f) (nat_le (length (sides_of listed.ends f)) (most_own listed.limits kind))))
+      leads_as (λ _. nat_le count most ≡ true) _ (holds Limit (firm_place f) (nat_le count most))
+      (λ u few. le_from_test count most few) (leads_holds Limit (firm_place f) (nat_le count most)))
 
-  firm_leads : (f : ℕ) (firm : Data) → Leads (IsFirm tested listed.ends f) (firm_of tested listed f firm)
+  firm_leads : (f : ℕ) (firm : Data) → Leads (IsFirmAt f) (firm_of tested listed f firm)
   unfolding firm_of
   firm_leads f firm =
-      leads_after (IsFirm tested listed.ends f) (kind_of f firm) _ (λ kind.
-      leads_bind (λ _. length (sides_of listed.ends f) ≤ room_for kind) (IsFirm tested listed.ends f)
+      leads_after (IsFirmAt f) (kind_of f firm) _ (λ kind.
+      leads_bind (λ _. length (sides_of listed.ends f) ≤ most_own listed.limits kind) (IsFirmAt f)
       (frame_of listed f kind firm) _ (frame_leads f kind firm) (λ u few.
       kind_leads f kind firm few))
 
   abbrev pub AreFirms : List Firm → Type 0
-  AreFirms firms = (f : ℕ) (firm : Firm) → slice_get firms f ≡ Some firm → IsFirm tested listed.ends f firm
+  AreFirms firms = (f : ℕ) (firm : Firm) → slice_get firms f ≡ Some firm → IsFirmAt f firm
 
   one_firm_leads : (firms : List Firm) (firm : Data) → AreFirms firms
       → Leads AreFirms (one_firm tested listed firms firm)
   unfolding one_firm
   one_firm_leads firms firm are =
-      leads_bind (IsFirm tested listed.ends (length firms)) AreFirms (firm_of tested listed (length firms) firm) _
+      leads_bind (IsFirmAt (length firms)) AreFirms (firm_of tested listed (length firms) firm) _
       (firm_leads (length firms) firm) (λ next is.
       leads_ok AreFirms (firms ++ next ∷ []) (λ f other at. elim (push_cases firms next other f at) [
         | inl h ↦ are f other h
-        | inr h ↦ subst (IsFirm tested listed.ends f) h.1 (subst (λ g. IsFirm tested listed.ends g next) (sym h.0) is)
+        | inr h ↦ subst (IsFirmAt f) h.1 (subst (λ g. IsFirmAt g next) (sym h.0) is)
       ]))
 
   pub firms_are : (firms : Items) → Leads AreFirms (each (one_firm tested listed) [] firms)
@@ -167,12 +172,12 @@ module _ (tested : Bool) (listed : Listed) (trades : AreTrades listed) where
       → length (sides_of listed.ends f) ≤ most_own_trades
   few_own_firm firms are f below =
       let at = there firms f below in
-      listed_few_own listed.ends f at.0 (are f at.0 at.1).listed
+      listed_few_own listed.limits trades.limits listed.ends f at.0 (are f at.0 at.1).listed
 
   have_sides : (firms : List Firm) → AreFirms firms → HaveSides listed.ends firms
   have_sides firms are f firm at = by_kind (are f firm at).listed
     where
-      by_kind : IsListedFirm listed.ends f firm → (firm.count ≡ length (sides_of listed.ends f))
+      by_kind : IsListedFirm listed.limits listed.ends f firm → (firm.count ≡ length (sides_of listed.ends f))
           × (firm.buys ≡ buys_of (sides_of listed.ends f))
       by_kind (table_is t) = (ap (λ (x : Firm). x.count) t.is, ap (λ (x : Firm). x.buys) t.is)
       by_kind (laminar t) = (ap (λ (x : Firm). x.count) t.is, ap (λ (x : Firm). x.buys) t.is)

@@ -35,7 +35,7 @@ use Rattle.tn_shape.specs.Reading.{◌>>=◌, fault, each, holds}
 use Rattle.tn_shape.specs.Shapes.{text_at, list_at, optional_list_at, few_at, object_of, two_at, whole_at, number_at}
 use Rattle.tn_read_references.specs.Ordered.{Listed, sides_of, AreTrades}
 use Rattle.tn_read_references.specs.References.{bundle_at, firm_place}
-use Rattle.tn_read_firms.specs.Kinds.{room_for, kind_named, kind_of, most_own, frame_of}
+use Rattle.tn_read_firms.specs.Kinds.{kind_named, kind_of, most_own, frame_of}
 use Rattle.tn_read_firms.specs.Tables.{Rows, filled, full_if_large, has_each_row, row_place, row_of, one_row, rows_of, table_of}
 use Rattle.tn_read_firms.specs.OwnNumbers.{no_numbers, own_numbers}
 use Rattle.tn_read_firms.specs.Laminars.{amounts_list, bends, check_set, check_sets, checked_laminar, crosses, first_bend, laminar_of, low_at, one_set, one_value, set_of, set_place, sets_at, unless_bent, values_at}
@@ -52,6 +52,7 @@ use Rattle.tn_shape.proofs.ShapeLeads.{few_lead}
 use Rattle.tn_read_firms.proofs.TableLeads.{AreRows, IsOwnRow, IsTableOf, none_from, one_row_leads, row_leads, rows_start, table_leads}
 use Rattle.tn_read_firms.proofs.LaminarLeads.{AreFewSets, one_set_counts, sets_lead, value_counts}
 use Rattle.tn_read_firms.proofs.FirmLeads.{frame_leads, one_firm_count}
+use Rattle.tn_read_firms.proofs.RoomLemmas.{sets_room}
 use Rattle.tn_shape.proofs.StopLemmas.{IsPlain, IsPlainPlace, Stops, StopsPlainly, plain_fault, plain_holds, plain_wanted, stops_after, stops_bind, stops_each_few, stops_each, stops_err, stops_ok}
 use Rattle.tn_read_references.proofs.ToldLemmas.{IsTold, named_place, short_place, told_from_plain}
 use Rattle.tn_shape.proofs.ShapeStops.{text_stops, list_stops, optional_list_stops, few_stops, object_stops, two_stops, whole_stops, number_stops}
@@ -93,7 +94,7 @@ module _ (listed : Listed) (trades : AreTrades listed) (f : ℕ) (firm_few : IsF
       let places = counted.0.within.places in
       let few : 2 ^ length rows.table.sides ≤ 16384 =
       pow-le-pow_right (omega arith) (subst (λ (s : List Side). length s ≤ most_own_of_table) (sym counted.0.sides)
-      counted.0.few) in
+      (omega (arith, counted.0.few, trades.limits.own_of_table))) in
       let same = counted.1 in
       omega (arith, most, places, few, same)
 
@@ -141,7 +142,7 @@ module _ (listed : Listed) (trades : AreTrades listed) (f : ℕ) (firm_few : IsF
       plain_holds Limit (firm_place f ++ Key RowsWord ∷ []) (nat_le (length table.sides) 10 || has_each_row table.rows)
       refl (tt, (firm_few.number, (tt, tt)))
 
-  rows_stop : (items : Items) → length (sides_of listed.ends f) ≤ most_own_of_table
+  rows_stop : (items : Items) → length (sides_of listed.ends f) ≤ listed.limits.own_of_table
       → StopsPlainly (rows_of listed f items)
   unfolding rows_of
   rows_stop items few =
@@ -156,7 +157,7 @@ module _ (listed : Listed) (trades : AreTrades listed) (f : ℕ) (firm_few : IsF
       stops_bind IsPlain (full_if_large f rows.table) _ (full_stops rows.table) (λ full.
       stops_ok IsPlain rows.table))
 
-  table_stops : (firm : Data) → length (sides_of listed.ends f) ≤ most_own_of_table
+  table_stops : (firm : Data) → length (sides_of listed.ends f) ≤ listed.limits.own_of_table
       → StopsPlainly (table_of listed f firm)
   unfolding table_of
   table_stops firm few =
@@ -195,7 +196,7 @@ module _ (limits : Limits) (are_limits : AreLimits limits) (f s : ℕ) (near : f
       (λ values few.
       stops_each_few IsPlain (λ numbers. Unit {0}) length most_values (one_value limits f s)
       (λ numbers d start. leads_as (λ next. length next ≡ length numbers + 1) _ _ (λ next more. (tt, more))
-      (value_counts limits are_limits f s numbers d)) (λ numbers d start room. value_stops numbers d room) [] values
+      (value_counts limits f s numbers d)) (λ numbers d start room. value_stops numbers d room) [] values
       tt (omega (arith, few, are_limits.values)))
 
 module _ (f s : ℕ) (near : f ≤ 16384) (early : s ≤ 16384) where
@@ -309,7 +310,8 @@ module _ (listed : Listed) (trades : AreTrades listed) (f : ℕ) (firm_few : IsF
       ) (no_numbers listed.ends f) (get (codes "amounts") firm)) (λ amounts.
       stops_after IsPlain (AreFewSets listed trades f) (sets_at listed f (get (codes "sets") firm)) _
       (sets_lead listed trades f (get (codes "sets") firm)) (sets_stop (get (codes "sets") firm)) (λ sets so.
-      checked_stops f (sides_of listed.ends f) amounts sets firm_few.number so.1 so.0.numbered))
+      checked_stops f (sides_of listed.ends f) amounts sets firm_few.number (omega (arith, so.1, trades.limits.sets))
+      (sets_room listed.limits trades.limits sets so.0.numbered)))
 
 -- middlemen
 given_stops : (limits : Limits) (place : List PlaceStep) (value : Data) → IsPlainPlace place
@@ -435,30 +437,34 @@ module _ (listed : Listed) (trades : AreTrades listed) where
       else Ok tt) _ (tested_stops tested f table near sides) (λ met. stops_ok IsToldHere (firm_of_table table))
 
   firm_by_stops : (tested : Bool) (f : ℕ) (kind : FirmKind) (firm : Data) → f ≤ 16384
-      → length (sides_of listed.ends f) ≤ room_for kind → Stops IsToldHere (firm_by tested listed f kind firm)
+      → length (sides_of listed.ends f) ≤ most_own listed.limits kind
+      → Stops IsToldHere (firm_by tested listed f kind firm)
   unfolding firm_by
   firm_by_stops tested f Table firm near few =
-      stops_after IsToldHere (IsTableOf listed.ends f) (table_of listed f firm) _ (table_leads listed trades f firm few)
-      (told_from_plain listed.names.trades (table_of listed f firm)
-      (table_stops listed trades f (record { number = near; own = omega (arith, few) }) firm few)) (λ table is.
+      let own : length (sides_of listed.ends f) ≤ most_own_trades = omega (arith, few, trades.limits.own_of_table) in
+      stops_after IsToldHere (IsTableOf listed.limits listed.ends f) (table_of listed f firm) _
+      (table_leads listed trades f firm few) (told_from_plain listed.names.trades (table_of listed f firm)
+      (table_stops listed trades f (record { number = near; own = own }) firm few)) (λ table is.
       tested_firm_stops tested f table near is.sides)
   firm_by_stops tested f Laminar firm near few =
       told_from_plain listed.names.trades (laminar_of listed f firm)
-      (laminar_stops listed trades f (record { number = near; own = few }) firm)
+      (laminar_stops listed trades f (record { number = near; own = omega (arith, few, trades.limits.own) }) firm)
   firm_by_stops tested f Middleman firm near few =
       told_from_plain listed.names.trades (middle_of listed f firm)
-      (middle_stops listed trades f (record { number = near; own = few }) firm)
+      (middle_stops listed trades f (record { number = near; own = omega (arith, few, trades.limits.own) }) firm)
   firm_by_stops tested f Dealer firm near few =
-      told_from_plain listed.names.trades (dealer_of listed f firm) (dealer_stops listed trades f near few firm)
+      told_from_plain listed.names.trades (dealer_of listed f firm)
+      (dealer_stops listed trades f near (omega (arith, few, trades.limits.own)) firm)
 
   firm_stops : (tested : Bool) (f : ℕ) (firm : Data) → f ≤ 16384 → Stops IsToldHere (firm_of tested listed f firm)
   unfolding firm_of
   firm_stops tested f firm near =
       stops_bind IsToldHere (kind_of f firm) _ (told_from_plain listed.names.trades (kind_of f firm)
       (kind_stops f firm near)) (λ kind.
-      stops_after IsToldHere (λ _. length (sides_of listed.ends f) ≤ room_for kind) (frame_of listed f kind firm) _
-      (frame_leads tested listed trades f kind firm) (told_from_plain listed.names.trades (frame_of listed f kind firm)
-      (frame_stops listed f kind firm near)) (λ u few.
+      stops_after IsToldHere (λ _. length (sides_of listed.ends f) ≤ most_own listed.limits kind)
+      (frame_of listed f kind firm) _ (frame_leads tested listed trades f kind firm)
+      (told_from_plain listed.names.trades (frame_of listed f kind firm) (frame_stops listed f kind firm near))
+      (λ u few.
       firm_by_stops tested f kind firm near few))
 
   one_firm_stops : (tested : Bool) (firms : List Firm) (firm : Data) → length firms + 1 ≤ most_firms

@@ -1,7 +1,8 @@
 -- What the tables are that reading gives.
 use Rattle.std.proofs.Common.{arith, ◌≡◌, ◌≢◌, ℕ, ◌+◌, ◌^◌, ◌<◌, ◌≤◌, Bool, true, false, cond, List, [], ◌∷◌, ◌++◌, length, Option, Some, None, refl, sym, ap, subst, ◌∙◌}
-use Rattle.std.specs.Prelude.{ℤ, nat_eq, nat_le, ◌||◌, is_none, codes}
+use Rattle.std.specs.Prelude.{ℤ, nat_eq, nat_le, ◌||◌, is_none, codes, All}
 use Rattle.std.proofs.lemmas.Bool.{eq-eqb, ne_eqb}
+use Rattle.std.proofs.lemmas.List.Elements.{All-nil, All-push}
 use Rattle.serde_json.specs.Data.{Data, Items}
 use Rattle.serde_json.specs.Find.{get}
 use Rattle.tn_base.specs.Arcs.{IsAtMost}
@@ -13,7 +14,7 @@ use Rattle.tn_exchange.specs.Rows.{TableRows, IsWithinLimits, firm_of_table, row
 use Rattle.tn_exchange.specs.RowsLaw.{AreApart}
 use Rattle.tn_exchange.proofs.RowLemmas.{IsMadeOf, limits_with_row, limits_without_rows, made_of_none, made_with_row, made_firm}
 use Rattle.tn_local.specs.First.{IsFullIfLarge}
-use Rattle.tn_plain_data.specs.Limits.{most_own_of_table}
+use Rattle.tn_plain_data.specs.declared.limits.Limits.{Limits}
 use Rattle.tn_plain_data.specs.declared.ends.Ends.{Ends}
 use Rattle.tn_plain_data.specs.declared.place.PlaceStep.TheVariants.{Index, Key}
 use Rattle.tn_plain_data.specs.declared.place.Word.TheVariants.{Rows as RowsWord}
@@ -23,17 +24,19 @@ use Rattle.tn_read_references.specs.Ordered.{Listed, sides_of, AreTrades}
 use Rattle.tn_read_references.specs.References.{firm_place, bundle_at}
 use Rattle.tn_read_firms.specs.Tables.{Rows, full_if_large, has_each_row, row_place, row_of, one_row, rows_of, table_of}
 use Rattle.tn_read_firms.proofs.FullLemmas.{full_from_test}
-use Rattle.tn_read_references.proofs.EntryLeads.{number_within}
+use Rattle.tn_read_references.proofs.EntryLeads.{within_more}
 use Rattle.tn_read_references.proofs.ReferenceLeads.{bundle_leads}
+use Rattle.tn_shape.proofs.ShapeLeads.{number_leads}
 use Rattle.tn_shape.proofs.LeadLemmas.{Leads, leads_ok, leads_as, leads_bind, leads_after, leads_each, leads_holds}
 
 -- the table of firm f is a list of numbers for bundles of its own trades, no bundle twice; a large one has every bundle
-pub record IsTableOf (trades : List Ends) (f : ℕ) (table : TableRows) : Type 0 where
+pub record IsTableOf (limits : Limits) (trades : List Ends) (f : ℕ) (table : TableRows) : Type 0 where
   pub sides : table.sides ≡ sides_of trades f
-  pub few : length (sides_of trades f) ≤ most_own_of_table
+  pub few : length (sides_of trades f) ≤ limits.own_of_table
   pub full : IsFullIfLarge (firm_of_table table)
   pub within : IsWithinLimits table
   pub rows : List (ℕ × ℤ)
+  pub small : All (λ row. IsAtMost row.1 limits.amount) rows
   pub apart : AreApart (length (sides_of trades f)) rows
   pub is : firm_of_table table ≡ table_firm (sides_of trades f) rows
 
@@ -84,7 +87,7 @@ module _ (listed : Listed) (trades : AreTrades listed) (f : ℕ) where
   -- a row is on own trades, and its number is small
   pub record IsOwnRow (row : ℕ × ℤ) : Type 0 where
     pub own : row.0 < 2 ^ length (sides_of listed.ends f)
-    pub small : IsAtMost row.1 most_amount
+    pub small : IsAtMost row.1 listed.limits.amount
 
   pub row_leads : (r : ℕ) (row : Data) → Leads IsOwnRow (row_of listed f r row)
   unfolding row_of
@@ -93,27 +96,29 @@ module _ (listed : Listed) (trades : AreTrades listed) (f : ℕ) where
       leads_bind (λ b. b < 2 ^ length (sides_of listed.ends f)) IsOwnRow
       (bundle_at listed f (row_place f r ++ Index 0 ∷ []) (Some two.0)) _
       (bundle_leads listed trades f (row_place f r ++ Index 0 ∷ []) (Some two.0)) (λ b own.
-      leads_bind (λ z. IsAtMost z most_amount) IsOwnRow (number_at listed.limits.amount (row_place f r ++ Index 1 ∷ [])
-      two.1) _ (number_within listed.limits.amount most_amount trades.limits.amount (row_place f r ++ Index 1 ∷ [])
-      (Some two.1))
-      (λ z small. leads_ok IsOwnRow (b, z) (record { own = own; small = small }))))
+      leads_bind (λ z. IsAtMost z listed.limits.amount) IsOwnRow
+      (number_at listed.limits.amount (row_place f r ++ Index 1 ∷ []) two.1) _
+      (number_leads listed.limits.amount (row_place f r ++ Index 1 ∷ []) (Some two.1)) (λ z small.
+      leads_ok IsOwnRow (b, z) (record { own = own; small = small }))))
 
   -- the rows so far
   pub record AreRows (rows : Rows) : Type 0 where
     pub sides : rows.table.sides ≡ sides_of listed.ends f
-    pub few : length (sides_of listed.ends f) ≤ most_own_of_table
+    pub few : length (sides_of listed.ends f) ≤ listed.limits.own_of_table
     pub within : IsWithinLimits rows.table
     pub listed_rows : List (ℕ × ℤ)
+    pub small : All (λ row. IsAtMost row.1 listed.limits.amount) listed_rows
     pub apart : AreApart (length (sides_of listed.ends f)) listed_rows
     pub made : IsMadeOf rows.table listed_rows
 
-  pub rows_start : length (sides_of listed.ends f) ≤ most_own_of_table
+  pub rows_start : length (sides_of listed.ends f) ≤ listed.limits.own_of_table
       → AreRows (record { count = 0; table = without_rows (sides_of listed.ends f) })
   rows_start few = record {
     sides = refl;
     few = few;
-    within = limits_without_rows (sides_of listed.ends f) (omega (arith, few));
+    within = limits_without_rows (sides_of listed.ends f) (omega (arith, few, trades.limits.own_of_table));
     listed_rows = [];
+    small = All-nil (λ row. IsAtMost row.1 listed.limits.amount);
     apart = tt;
     made = made_of_none (sides_of listed.ends f);
   }
@@ -137,18 +142,22 @@ module _ (listed : Listed) (trades : AreTrades listed) (f : ℕ) where
           record {
             sides = kept.sides;
             few = kept.few;
-            within = limits_with_row rows.table kept.within next.0 next.1 own is_own.small;
+            within = limits_with_row rows.table kept.within next.0 next.1 own
+                (within_more next.1 listed.limits.amount most_amount trades.limits.amount is_own.small);
             listed_rows = kept.listed_rows ++ next ∷ [];
+            small = All-push (λ row. IsAtMost row.1 listed.limits.amount) kept.listed_rows next kept.small
+                is_own.small;
             apart = apart_push (length (sides_of listed.ends f)) kept.listed_rows next kept.apart is_own.own absent;
             made = made_with_row rows.table kept.listed_rows next.0 next.1
                 (subst (λ m. next.0 < m) (sym kept.within.places) own) absent kept.made;
           }
 
-  pub rows_lead : (items : Items) → length (sides_of listed.ends f) ≤ most_own_of_table
-      → Leads (IsTableOf listed.ends f) (rows_of listed f items)
+  pub rows_lead : (items : Items) → length (sides_of listed.ends f) ≤ listed.limits.own_of_table
+      → Leads (IsTableOf listed.limits listed.ends f) (rows_of listed f items)
   unfolding rows_of
   rows_lead items few =
-      leads_bind AreRows (IsTableOf listed.ends f) (each (one_row listed f) (record {
+      let is_table = IsTableOf listed.limits listed.ends f in
+      leads_bind AreRows is_table (each (one_row listed f) (record {
         count = 0;
         table =
             without_rows (sides_of listed.ends f);
@@ -159,22 +168,23 @@ module _ (listed : Listed) (trades : AreTrades listed) (f : ℕ) where
             without_rows (sides_of listed.ends f);
       }) items (rows_start few))
       (λ rows kept.
-      leads_bind (λ _. IsFullIfLarge (firm_of_table rows.table)) (IsTableOf listed.ends f) (full_if_large f rows.table)
-      _ (full_leads f rows.table kept.within.places) (λ u full.
-      leads_ok (IsTableOf listed.ends f) rows.table (record {
+      leads_bind (λ _. IsFullIfLarge (firm_of_table rows.table)) is_table (full_if_large f rows.table) _
+      (full_leads f rows.table kept.within.places) (λ u full.
+      leads_ok is_table rows.table (record {
         sides = kept.sides;
         few = kept.few;
         full = full;
         within = kept.within;
         rows = kept.listed_rows;
+        small = kept.small;
         apart = kept.apart;
         is = made_firm rows.table kept.listed_rows kept.within.places kept.made
             ∙ ap (λ (s : List Side). table_firm s kept.listed_rows) kept.sides;
       })))
 
-  pub table_leads : (firm : Data) → length (sides_of listed.ends f) ≤ most_own_of_table
-      → Leads (IsTableOf listed.ends f) (table_of listed f firm)
+  pub table_leads : (firm : Data) → length (sides_of listed.ends f) ≤ listed.limits.own_of_table
+      → Leads (IsTableOf listed.limits listed.ends f) (table_of listed f firm)
   unfolding table_of
   table_leads firm few =
-      leads_after (IsTableOf listed.ends f) (list_at (firm_place f ++ Key RowsWord ∷ []) (get (codes "rows") firm)) _
-      (λ items. rows_lead items few)
+      leads_after (IsTableOf listed.limits listed.ends f)
+      (list_at (firm_place f ++ Key RowsWord ∷ []) (get (codes "rows") firm)) _ (λ items. rows_lead items few)

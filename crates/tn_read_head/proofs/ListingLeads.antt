@@ -5,7 +5,7 @@ use Rattle.serde_json.specs.Data.{Data, Items}
 use Rattle.serde_json.specs.Events.{items_len}
 use Rattle.serde_json.specs.Find.{get, as_number, as_u64}
 use Rattle.tn_base.specs.declared.fault.FaultKind.TheVariants.{Shape}
-use Rattle.tn_plain_data.specs.Limits.{AreLimits, limits_of, most_listed}
+use Rattle.tn_plain_data.specs.Limits.{AreLimits, limits_of, most_firms}
 use Rattle.tn_plain_data.specs.declared.limits.Limits.{Limits}
 use Rattle.tn_plain_data.proofs.LimitLemmas.{limits_are}
 use Rattle.tn_plain_data.specs.declared.place.PlaceStep.TheVariants.{Key}
@@ -23,30 +23,41 @@ use Rattle.tn_read_head.proofs.BesideLemmas.{leads_beside}
 use Rattle.tn_read_head.proofs.NameLeads.{IsListWhileFew, AreListed, firms_lead, firms_count, trades_lead, trades_count}
 use Rattle.tn_shape.proofs.ShapeLeads.{few_lead}
 
-pub limits_lead : (top : Data) → Leads AreLimits (limits_at top)
+-- the limits are those of a version
+abbrev pub AreOfVersion : Limits → Type 0
+AreOfVersion limits = (version : ℕ) × (limits_of version ≡ Some limits)
+
+version_lead : (top : Data) → Leads AreOfVersion (limits_at top)
 unfolding limits_at
-limits_lead top =
+version_lead top =
     leads_after _
     (wanted Shape (Key Version ∷ []) (option_and_then as_u64
     (option_and_then as_number (get (codes "version") top)))) _ (λ version.
-    leads_as (λ limits. limits_of version ≡ Some limits) AreLimits _ (limits_are version)
+    leads_as (λ limits. limits_of version ≡ Some limits) AreOfVersion _ (λ limits is. (version, is))
     (leads_wanted Shape (Key Version ∷ []) (limits_of version)))
+
+pub limits_lead : (top : Data) → Leads AreLimits (limits_at top)
+limits_lead top =
+    leads_as AreOfVersion AreLimits (limits_at top) (λ limits version. limits_are version.0 limits version.1)
+    (version_lead top)
 
 -- the head of a document with so many firms
 pub record IsListing (found : Listed × Items) : Type 0 where
   pub firm_names : IsNameList found.0.names.firms
   pub trade_names : IsNameList found.0.names.trades
   pub trades : AreTrades found.0
+  pub limits : AreOfVersion found.0.limits
   pub count : length found.0.names.firms ≡ items_len found.1
-  pub few : items_len found.1 ≤ most_listed
+  pub few : items_len found.1 ≤ most_firms
 
 is_listing : (limits : Limits) (names : NameLists) (firms : Items) (trades : Items) (named : NamedTrades)
-    → AreLimits limits
+    → AreOfVersion limits
     → items_len firms ≤ limits.firms → IsListWhileFew names.firms → length names.firms ≡ items_len firms
     → items_len trades ≤ limits.trades → AreListed names.firms named → length named.ends ≡ items_len trades
     → IsListing (record { limits = limits; names = named.names; ends = named.ends }, firms)
-is_listing limits names firms trades named are_limits few_firms kept count few_trades are trades_count =
+is_listing limits names firms trades named version few_firms kept count few_trades are trades_count =
     let same = ap length are.firms_are in
+    let are_limits = limits_are version.0 limits version.1 in
     record {
       firm_names = subst IsNameList (sym are.firms_are) (kept (omega (arith, are_limits.firms, few_firms, count)));
       trade_names = are.kept (omega (arith, are_limits.trades, few_trades, trades_count, are.named));
@@ -57,6 +68,7 @@ is_listing limits names firms trades named are_limits few_firms kept count few_t
         few = omega (arith, few_trades, trades_count);
         order = subst (λ (n : List (List ℕ)). AreInOrder (length n) named.ends) (sym are.firms_are) are.order;
       };
+      limits = version;
       count = same ∙ count;
       few = omega (arith, are_limits.firms, few_firms);
     }
@@ -65,8 +77,8 @@ pub listed_leads : (top : Data) → Leads IsListing (listed_of top)
 unfolding listed_of
 listed_leads top =
     leads_after IsListing (with_names no_names (object_of Top [] (Some top))) _ (λ object.
-    leads_bind AreLimits IsListing (with_names no_names (limits_at top)) _
-    (leads_beside _ no_names (limits_at top) (limits_lead top)) (λ limits are_limits.
+    leads_bind AreOfVersion IsListing (with_names no_names (limits_at top)) _
+    (leads_beside _ no_names (limits_at top) (version_lead top)) (λ limits version.
     leads_bind (λ items. items_len items ≤ limits.firms) IsListing
     (with_names no_names (few_at limits.firms (Key Firms ∷ []) (get (codes "firms") top))) _
     (leads_beside _ no_names _ (few_lead limits.firms (Key Firms ∷ []) (get (codes "firms") top)))
@@ -85,5 +97,5 @@ listed_leads top =
     leads_ok IsListing (
       record { limits = limits; names = named.names; ends = named.ends },
       firms,
-    ) (is_listing limits names firms trades named are_limits few_firms are_names.0.0 (are_names.1
+    ) (is_listing limits names firms trades named version few_firms are_names.0.0 (are_names.1
     ∙ omega arith) few_trades are.0 (are.1 ∙ omega arith))))))))

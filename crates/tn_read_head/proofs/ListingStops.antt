@@ -5,7 +5,7 @@ use Rattle.serde_json.specs.Data.{Data}
 use Rattle.serde_json.specs.Events.{items_len}
 use Rattle.serde_json.specs.Find.{get, as_number, as_u64}
 use Rattle.tn_base.specs.declared.fault.FaultKind.TheVariants.{Shape}
-use Rattle.tn_plain_data.specs.Limits.{AreLimits, limits_of, most_listed}
+use Rattle.tn_plain_data.specs.Limits.{AreLimits, limits_of, most_firms, most_trades}
 use Rattle.tn_plain_data.specs.declared.place.PlaceStep.TheVariants.{Key}
 use Rattle.tn_plain_data.specs.declared.place.Word.TheVariants.{Firms, Trades, Version}
 use Rattle.tn_plain_data.specs.declared.said.Fault.{Fault}
@@ -64,14 +64,14 @@ one_firm_name_leads names firm kept =
       more_count names.firms next.firms more.0,
     )) (firm_name_leads names firm))
 
-few_names : (names : NameLists) → AreFirmNames names → length names.firms ≤ most_listed → AreNames names
+few_names : (names : NameLists) → AreFirmNames names → length names.firms ≤ most_firms → AreNames names
 few_names names kept few = record {
   firms = kept.0 (omega (arith, few));
   trades =
       subst IsNameList (sym kept.1) (none_named (omega arith));
 }
 
-one_firm_name_stops : (names : NameLists) (firm : Data) → AreFirmNames names → length names.firms + 1 ≤ most_listed
+one_firm_name_stops : (names : NameLists) (firm : Data) → AreFirmNames names → length names.firms + 1 ≤ most_firms
     → Stops IsStop (one_firm_name names firm)
 one_firm_name_stops names firm kept few =
     stops_beside IsStop IsPlain names (firm_name names firm)
@@ -79,7 +79,7 @@ one_firm_name_stops names firm kept few =
 
 -- a trade is named, and then its ends are read beside its name
 one_trade_stops : (firms : List (List ℕ)) → IsNameList firms → (listed : NamedTrades) (trade : Data)
-    → AreListed firms listed → length listed.ends + 1 ≤ most_listed → Stops IsStop (one_trade listed trade)
+    → AreListed firms listed → length listed.ends + 1 ≤ most_trades → Stops IsStop (one_trade listed trade)
 unfolding one_trade
 one_trade_stops firms firm_names listed trade are few =
     let before : AreNames listed.names = record {
@@ -132,7 +132,7 @@ listed_stops top =
     stops_after IsStop (λ end. AreFirmNames end × (length end.firms ≡ 0 + items_len firms))
     (each one_firm_name no_names firms) _
     (leads_both _ _ _ (firms_lead no_names firms refl refl) (firms_count no_names firms))
-    (stops_each_few IsStop AreFirmNames (λ (names : NameLists). length names.firms) most_listed one_firm_name
+    (stops_each_few IsStop AreFirmNames (λ (names : NameLists). length names.firms) most_firms one_firm_name
     one_firm_name_leads one_firm_name_stops no_names firms (
       none_named,
       refl,
@@ -145,7 +145,7 @@ listed_stops top =
     (stops_beside IsStop IsPlain names _ (plain_stop names named)
     (few_stops (Key Trades ∷ []) (tt, tt) limits.trades (get (codes "trades") top))) (λ trades few_trades.
     stops_bind IsStop (each one_trade (record { names = names; ends = [] }) trades) _
-    (stops_each_few IsStop (AreListed names.firms) (λ (listed : NamedTrades). length listed.ends) most_listed one_trade
+    (stops_each_few IsStop (AreListed names.firms) (λ (listed : NamedTrades). length listed.ends) most_trades one_trade
     (λ listed trade are. leads_both _ _ _ (one_trade_leads names.firms listed trade are) (one_trade_count listed trade))
     (one_trade_stops names.firms named.firms) (record { names = names; ends = [] }) trades
     (no_trades_listed names are_names.0.1) (omega (arith, few_trades, are_limits.trades))) (λ listed.

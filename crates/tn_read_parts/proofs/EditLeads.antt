@@ -109,3 +109,17 @@ edits_lead listed limits top =
     (leads_both (All (IsKnown names)) (λ edits. length edits ≡ 0 + items_len entries) (each (one_edit names) [] entries)
     (leads_each (All (IsKnown names)) (one_edit names) (one_edit_leads names) [] entries (All-nil (IsKnown names)))
     (leads_count length (one_edit names) (one_edit_counts names) [] entries)))
+
+-- and there are no more of them than the document's limit
+pub edits_are_few : (listed : Listed) (top : Data)
+    → Leads (λ edits. length edits ≤ listed.limits.edits) (edits_of listed top)
+unfolding edits_of
+edits_are_few listed top =
+    let names = listed.names in
+    let limit = listed.limits.edits in
+    leads_bind (λ items. items_len items ≤ limit) (λ edits. length edits ≤ limit)
+    (few_at limit (Key Edits ∷ []) (get (codes "edits") top)) _
+    (few_lead limit (Key Edits ∷ []) (get (codes "edits") top)) (λ entries few.
+    leads_as (λ edits. length edits ≡ 0 + items_len entries) (λ edits. length edits ≤ limit)
+    (each (one_edit names) [] entries) (λ edits count. omega (arith, few, count))
+    (leads_count length (one_edit names) (one_edit_counts names) [] entries))

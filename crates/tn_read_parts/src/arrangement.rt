@@ -19,7 +19,7 @@ pub fn read_arrangement(
     alloc: Global,
     head: &Head,
     top: &Value,
-) -> Result<Arrangement<2>, ReadError>
+) -> Result<Arrangement<16>, ReadError>
     ensures { Gives (λ part. record { on = part.on; prices = part.prices }) result
         (arrangement_of head.now (view top.now)) }
 {
@@ -38,7 +38,7 @@ pub fn read_arrangement(
 
 /// The trades that are on in a document's arrangement, whatever its prices are.
 #[tactic(auto, unfolding(crate::specs::Arranged::trades_on_of))]
-pub fn read_trades_on(alloc: Global, head: &Head, top: &Value) -> Result<TradeSet<2>, ReadError>
+pub fn read_trades_on(alloc: Global, head: &Head, top: &Value) -> Result<TradeSet<16>, ReadError>
     ensures { Gives (λ on. on) result (trades_on_of head.now.names.trades (view top.now)) }
 {
     let (_, on) = read_on(alloc, head, top)?;
@@ -51,7 +51,7 @@ fn read_on<'a>(
     alloc: Global,
     head: &Head,
     top: &'a Value,
-) -> Result<(&'a Value, TradeSet<2>), ReadError>
+) -> Result<(&'a Value, TradeSet<16>), ReadError>
     ensures { Gives (λ p. (view p.0.now, p.1)) result (on_of head.now.names.trades (view top.now)) }
 {
     let part = present(

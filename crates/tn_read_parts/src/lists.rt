@@ -2,7 +2,7 @@
 
 ghost use Rattle.std.specs.Prelude.{◌≡◌, ◌<◌, ◌≤◌, length, IfOk, Some};
 ghost use Rattle.serde_json.specs.View.{view, items_view};
-ghost use Rattle.tn_plain_data.specs.Limits.{most_listed};
+ghost use Rattle.tn_plain_data.specs.Limits.{most_trades};
 ghost use Rattle.tn_plain_data.specs.Prices.{price_at};
 ghost use Rattle.tn_plain_data.specs.Choices.{contracts_of};
 ghost use Rattle.tn_shape.specs.Reading.{Gives, each};
@@ -31,7 +31,7 @@ pub fn read_trades(
     head: &Head,
     at: ListAt,
     references: &[Value],
-) -> Result<TradeSet<2>, ReadError>
+) -> Result<TradeSet<16>, ReadError>
     ensures { Gives (λ on. on) result
         (each (one_on head.now.names.trades (list_place at)) 0 (items_view references.now)) }
 {
@@ -48,7 +48,7 @@ fn add_trade(
     alloc: Global,
     head: &Head,
     at: ListAt,
-    on: &mut TradeSet<2>,
+    on: &mut TradeSet<16>,
     reference: &Value,
 ) -> Result<(), ReadError>
     ensures { Gives (λ _. on.new) result
@@ -97,10 +97,10 @@ pub(crate) fn read_contracts(
 /// The contracts of the trades of a set at their prices, ascending.
 fn contracts_of(
     alloc: Global,
-    named: &TradeSet<2>,
+    named: &TradeSet<16>,
     prices: &[i128],
 ) -> Result<Vec<Contract>, OutOfMemory>
-    requires { length prices.now ≤ most_listed }
+    requires { length prices.now ≤ most_trades }
     ensures { IfOk result (λ contracts. contracts.items
         ≡ contracts_of named.now (price_at prices.now) (length prices.now)) }
 {
@@ -125,11 +125,11 @@ fn named_prices(
     at: ListAt,
     limit: u64,
     entries: &[Value],
-) -> Result<(TradeSet<2>, Vec<i128>), ReadError>
+) -> Result<(TradeSet<16>, Vec<i128>), ReadError>
     ensures gives { Gives (λ p. record { named = p.0; numbers = p.1.items }) result
         (named_prices head.now.names.trades (list_place at) limit (items_view entries.now)) }
     ensures places { IfOk result (λ p. length p.1.items ≡ length head.now.names.trades) }
-    ensures few { IfOk result (λ p. length p.1.items ≤ most_listed) }
+    ensures few { IfOk result (λ p. length p.1.items ≤ most_trades) }
 {
     let mut prices = vec![in alloc; 0; head.names().trades() as usize]?;
     let named = read_entries(alloc, head, at, limit, entries, &mut prices)?;
@@ -144,7 +144,7 @@ fn read_entries(
     limit: u64,
     entries: &[Value],
     prices: &mut [i128],
-) -> Result<TradeSet<2>, ReadError>
+) -> Result<TradeSet<16>, ReadError>
     requires places { length prices.old ≡ length head.now.names.trades }
     ensures gives { Gives (λ named. record { named = named; numbers = prices.new }) result
         (each (one_price head.now.names.trades (list_place at) limit)
@@ -165,7 +165,7 @@ fn add_price(
     head: &Head,
     at: ListAt,
     limit: u64,
-    named: &mut TradeSet<2>,
+    named: &mut TradeSet<16>,
     prices: &mut [i128],
     entry: &Value,
 ) -> Result<(), ReadError>
@@ -188,13 +188,13 @@ pub fn price_of(
     head: &Head,
     at: ListAt,
     limit: u64,
-    named: &TradeSet<2>,
+    named: &TradeSet<16>,
     entry: &Value,
 ) -> Result<(u32, i128), ReadError>
     ensures gives { Gives (λ p. p) result
         (price_of head.now.names.trades (list_place at) limit named.now (view entry.now)) }
     ensures known { IfOk result (λ p. p.0 < length head.now.names.trades) }
-    ensures listed { IfOk result (λ p. p.0 < most_listed) }
+    ensures listed { IfOk result (λ p. p.0 < most_trades) }
 {
     let k = Index(named.count());
     let (reference, price) = two(alloc, entry, &[at.part, at.member, k])?;
@@ -209,10 +209,10 @@ pub fn price_of(
 fn check_complete(
     alloc: Global,
     at: ListAt,
-    named: &TradeSet<2>,
+    named: &TradeSet<16>,
     trades: u32,
 ) -> Result<(), ReadError>
-    requires { trades ≤ most_listed }
+    requires { trades ≤ most_trades }
     ensures { Gives (λ _. tt) result
         (unless_missing (list_place at) (first_without named.now 0 trades)) }
 {

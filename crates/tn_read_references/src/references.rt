@@ -2,7 +2,7 @@
 
 ghost use Rattle.std.specs.Prelude.{◌≡◌, ◌<◌, length, option_map, IfOk, Some};
 ghost use Rattle.serde_json.specs.View.{view};
-ghost use Rattle.tn_plain_data.specs.Limits.{most_listed};
+ghost use Rattle.tn_plain_data.specs.Limits.{most_trades};
 ghost use Rattle.tn_shape.specs.Reading.{Gives};
 ghost use Rattle.tn_read_references.specs.Ordered.{sides_of};
 ghost use Rattle.tn_read_references.specs.References.{firm_at, new_trade, own_position, position_in, position_on, trade_at};
@@ -41,7 +41,7 @@ pub fn trade(
 ) -> Result<u32, ReadError>
     ensures gives { Gives (λ t. t) result (trade_at head.now.names.trades place.now (view value.now)) }
     ensures known { IfOk result (λ t. t < length head.now.names.trades) }
-    ensures listed { IfOk result (λ t. t < most_listed) }
+    ensures listed { IfOk result (λ t. t < most_trades) }
 {
     let name = text(alloc, Some(value), place)?;
     found(
@@ -58,14 +58,14 @@ pub fn trade(
 pub fn new_trade(
     alloc: Global,
     head: &Head,
-    named: &TradeSet<2>,
+    named: &TradeSet<16>,
     value: &Value,
     place: &[PlaceStep],
 ) -> Result<u32, ReadError>
     ensures gives { Gives (λ t. t) result
         (new_trade head.now.names.trades place.now named.now (view value.now)) }
     ensures known { IfOk result (λ t. t < length head.now.names.trades) }
-    ensures listed { IfOk result (λ t. t < most_listed) }
+    ensures listed { IfOk result (λ t. t < most_trades) }
 {
     let t = trade(alloc, head, value, place)?;
     require(alloc, !named.has(t), FaultKind::SameTrade, place)?;

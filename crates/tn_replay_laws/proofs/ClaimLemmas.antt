@@ -10,7 +10,7 @@ use Rattle.serde_json.specs.View.{items_of}
 use Rattle.tn_base.specs.Arcs.{IsAtMost}
 use Rattle.tn_base.specs.Firm.{Firm}
 use Rattle.tn_base.specs.Sets.{has, set_of}
-use Rattle.tn_plain_data.specs.Limits.{AreLimits, least_nodes, most_claimed_over, most_number}
+use Rattle.tn_plain_data.specs.Limits.{AreLimits, least_nodes, most_number}
 use Rattle.tn_plain_data.specs.declared.claim.Claim.TheVariants.{Equilibrium, Better, Impossible, Accepted, ExchangeFails, Supported, Cycle, Solved, Drops, Completes, Blocks}
 use Rattle.tn_plain_data.specs.declared.contract.Contract.{Contract}
 use Rattle.tn_plain_data.specs.declared.contract.Outcome.{Outcome}
@@ -47,7 +47,7 @@ module _ (listed : Listed) (limits : AreLimits listed.limits) where
   short = let same = limits.number in omega (arith, same)
 
   short_over : listed.limits.claimed_over < 2 ^ 63
-  short_over = let same = limits.claimed_over in omega (arith, same)
+  short_over = let most = limits.claimed_over in omega (arith, most)
 
   -- what is within the limits of claims is within those of the document
   small_number : (z : ℤ) → IsAtMost z most_number → IsAtMost z listed.limits.number
@@ -62,11 +62,10 @@ module _ (listed : Listed) (limits : AreLimits listed.limits) where
   gain_back None small = refl
   gain_back (Some z) small = rw (number_back listed.limits.number (member_place Gain) z short (small_number z small))
 
-  claimed_over_back : (z : ℤ) → pos 1 ≤ℤ z → z ≤ℤ pos most_claimed_over
+  claimed_over_back : (z : ℤ) → pos 1 ≤ℤ z → z ≤ℤ pos listed.limits.claimed_over
       → over_at listed.limits.claimed_over (member_place Over) (Some (integer_data z)) ≡ Ok z
   claimed_over_back z least most =
-      over_back listed.limits.claimed_over (member_place Over) z short_over least
-      (subst (λ limit. z ≤ℤ pos limit) (sym limits.claimed_over) most)
+      over_back listed.limits.claimed_over (member_place Over) z short_over least most
 
 module _ (listed : Listed) (limits : AreLimits listed.limits) (are : IsNameList listed.names.trades)
     (value : Data) where
@@ -224,7 +223,7 @@ module _ (listed : Listed) (firms : List Firm) (are : AreRead listed firms) (top
 
   pub drops_back : (outcome : Outcome) (f : ℕ) (firm : Firm) (keeps : ℕ) (gain : Option ℤ) (over : ℤ)
       → slice_get firms f ≡ Some firm → keeps < 2 ^ firm.count
-      → IfSome gain (λ z. IsAtMost z most_number) → pos 1 ≤ℤ over → over ≤ℤ pos most_claimed_over
+      → IfSome gain (λ z. IsAtMost z most_number) → pos 1 ≤ℤ over → over ≤ℤ pos listed.limits.claimed_over
       → get (codes "claim") top
       ≡ Some (answer_data listed.names (Said.Drops f (trades_of listed.ends f firm.count keeps) gain over))
       → outcome_of listed top ≡ Ok outcome
@@ -243,7 +242,7 @@ module _ (listed : Listed) (firms : List Firm) (are : AreRead listed firms) (top
       )
 
   pub completes_back : (outcome : Outcome) (prices : List ℤ) (over : ℤ) → length prices ≡ length names
-      → All (λ z. IsAtMost z most_number) prices → pos 1 ≤ℤ over → over ≤ℤ pos most_claimed_over
+      → All (λ z. IsAtMost z most_number) prices → pos 1 ≤ℤ over → over ≤ℤ pos listed.limits.claimed_over
       → get (codes "claim") top ≡ Some (answer_data listed.names (Said.Completes prices over))
       → outcome_of listed top ≡ Ok outcome → claim_of listed top ≡ Ok (Completes outcome prices over)
   unfolding claim_of kind_of completes_of object_of allows allows_in_claim
@@ -260,7 +259,7 @@ module _ (listed : Listed) (firms : List Firm) (are : AreRead listed firms) (top
       → ((k : ℕ) (contract : Contract) → slice_get contracts k ≡ Some contract → contract.trade < length names)
       → ((j k : ℕ) (one other : Contract) → slice_get contracts j ≡ Some one → slice_get contracts k ≡ Some other
       → one.trade ≡ other.trade → j ≡ k) → All (λ contract. IsAtMost contract.price most_number) contracts
-      → pos 1 ≤ℤ over → over ≤ℤ pos most_claimed_over
+      → pos 1 ≤ℤ over → over ≤ℤ pos listed.limits.claimed_over
       → get (codes "claim") top ≡ Some (answer_data listed.names (Said.Blocks contracts over))
       → outcome_of listed top ≡ Ok outcome → claim_of listed top ≡ Ok (Blocks outcome contracts over)
   unfolding claim_of kind_of blocks_of object_of allows allows_in_claim

@@ -4,13 +4,13 @@ use Rattle.std.specs.Prelude.{codes, All, IfSome, ◌≤ℤ◌, ◌*ℤ◌, int_
 use Rattle.std.proofs.lemmas.Int.{ints}
 use Rattle.serde_json.specs.Data.{Data}
 use Rattle.tn_base.specs.Arcs.{IsAtMost}
-use Rattle.tn_plain_data.specs.Limits.{most_claimed_over, most_number}
+use Rattle.tn_plain_data.specs.Limits.{AreLimits, most_number}
 use Rattle.tn_base.specs.Firm.{Firm}
 use Rattle.tn_base.specs.Sets.{has}
 use Rattle.tn_base.proofs.SetLemmas.{has_below, set_of_within}
 use Rattle.tn_cert.specs.Claims.{AreSigned, GainsByKeeping, IsPositive}
 use Rattle.tn_chain.specs.Search.{chain_scale}
-use Rattle.tn_chain.proofs.SizeLemmas.{scale_small}
+use Rattle.tn_chain.proofs.SizeLemmas.{scale_within}
 use Rattle.tn_judge.specs.Judges.{IsBlockedBy}
 use Rattle.tn_judge.specs.Verdict.{IsCompletedBy, IsFirstDrop}
 use Rattle.tn_law.proofs.KeepLemmas.{times-le}
@@ -37,6 +37,7 @@ use Rattle.tn_file.specs.Document.{DocumentData, outcome}
 use Rattle.tn_file.specs.Laws.{IsExtra}
 use Rattle.tn_replay_laws.specs.Laws.{JudgementsReplay}
 use Rattle.tn_replay_laws.specs.Replayed.{IsReplayed, with_claim}
+use Rattle.tn_read_head.proofs.ListingLeads.{listed_leads}
 use Rattle.tn_replay_laws.proofs.CheckedLemmas.{IsReadFrom, are_read, read_from, replayed, there}
 use Rattle.tn_replay_laws.proofs.ClaimLemmas.{blocks_back, completes_back, drops_back}
 use Rattle.tn_replay_laws.proofs.DocumentLemmas.{listed_in}
@@ -61,8 +62,23 @@ module _ (top : Data) (doc : DocumentData) (signed : OutcomeIs) (from : IsReadFr
   feasible : IsFeasible doc.ends signed.contracts
   feasible = outcome_feasible doc.ends signed.over signed.contracts within_limits
 
-  over_most : signed.over ≤ℤ pos most_claimed_over
-  over_most = let most = within_limits.most in omega (arith, ints, most)
+  limits_are : AreLimits from.parts.limits
+  limits_are = (are_read Outcome top doc from).limits
+
+  over_most : signed.over ≤ℤ pos from.parts.limits.claimed_over
+  over_most =
+      let most = within_limits.most in
+      let enough = limits_are.enough_over in
+      omega (arith, ints, most, enough)
+
+  -- what blocks is told over no more than the document's version has in claims
+  scale_most : (signed.over *ℤ chain_scale (length doc.ends) signed.contracts) ≤ℤ pos from.parts.limits.claimed_over
+  scale_most =
+      let high = (scale_within signed.over (length doc.ends) signed.contracts within_limits.least
+      within_limits.most).high in
+      let few = ((listed_leads top).at (listed_in from.parts.limits doc, from.parts.items) from.parts.listed).trades.few in
+      let enough = limits_are.enough_over in
+      omega (arith, ints, high, few, enough)
 
   -- ---- a firm that would drop contracts
 
@@ -179,7 +195,7 @@ module _ (top : Data) (doc : DocumentData) (signed : OutcomeIs) (from : IsReadFr
 
   -- ---- contracts that block it
 
-  blocks_replay : (offers : List Contract) → (over : ℤ) → pos 1 ≤ℤ over → over ≤ℤ pos most_claimed_over
+  blocks_replay : (offers : List Contract) → (over : ℤ) → pos 1 ≤ℤ over → over ≤ℤ pos from.parts.limits.claimed_over
       → DoBlock doc.firms doc.ends signed.over signed.contracts over offers
       → All (λ contract. IsAtMost contract.price most_number) offers → IsReplayed top doc (Blocks offers over)
   blocks_replay offers over least most blocks small =
@@ -201,10 +217,8 @@ module _ (top : Data) (doc : DocumentData) (signed : OutcomeIs) (from : IsReadFr
       let scale = chain_scale (length doc.ends) signed.contracts in
       let least : pos 1 ≤ℤ (signed.over *ℤ scale) =
       product_least signed.over scale within_limits.least (omega (arith, ints)) in
-      let most = scale_small signed.over (length doc.ends) signed.contracts from.is.few_trades within_limits.least
-      within_limits.most in
       subst (λ over. IsReplayed top doc (Blocks offers over)) (sym blocked.over_is)
-      (blocks_replay offers (signed.over *ℤ scale) least most blocked.chain.blocks small)
+      (blocks_replay offers (signed.over *ℤ scale) least scale_most blocked.chain.blocks small)
 
 judged : (top : Data) (doc : DocumentData) (signed : OutcomeIs) (said : Said) → IsReadFrom Outcome top doc
     → doc.extra ≡ outcome signed

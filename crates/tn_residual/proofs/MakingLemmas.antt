@@ -1,8 +1,9 @@
 -- The lists of a residual market, made item by item.
-use Rattle.std.proofs.Common.{◌≡◌, ℕ, zero, suc, ◌+◌, ◌-◌, ◌*◌, ◌<◌, ◌≤◌, Bool, true, false, not, ◌&&◌, if◌then◌else◌, List, [], ◌∷◌, ◌++◌, length, map, take, append_assoc, append-nil, slice_get, Option, Some, None, is_some, refl, sym, ap, ap₂, ◌∙◌, subst, arith, inl, inr, ℤ, pos, negsuc, ◌*ℤ◌, ◌≤ℤ◌}
+use Rattle.std.proofs.Common.{◌≡◌, ℕ, zero, suc, ◌+◌, ◌-◌, ◌*◌, ◌<◌, ◌≤◌, ◌^◌, nat_le, Bool, true, false, not, ◌&&◌, if◌then◌else◌, List, [], ◌∷◌, ◌++◌, length, map, take, append_assoc, append-nil, slice_get, Option, Some, None, is_some, refl, sym, ap, ap₂, ◌∙◌, subst, arith, mul_assoc, mul-add, inl, inr, ℤ, pos, ◌*ℤ◌, ◌≤ℤ◌}
 use Rattle.std.specs.Int.RustNames.{unsigned_abs}
 use Rattle.std.specs.List.Sorted.{IsStrictlyIncreasing}
 use Rattle.std.proofs.Math.IntN.{*ℤ_comm}
+use Rattle.std.proofs.Math.Nat.{mul_comm}
 use Rattle.std.proofs.lemmas.Int.{ints, by_lt_z, unsigned_abs-mul}
 use Rattle.std.proofs.lemmas.Nat.{mul-le}
 use Rattle.std.proofs.lemmas.List.{length-append, map-append}
@@ -20,7 +21,7 @@ use Rattle.tn_plain_data.specs.Network.{own, part}
 use Rattle.tn_plain_data.specs.Choices.{IsFeasible}
 use Rattle.tn_market.specs.Levied.{levied_limit}
 use Rattle.tn_market.specs.Widths.{most_limit, most_worth}
-use Rattle.tn_plain_data.specs.Limits.{most_claimed_over, most_numerator}
+use Rattle.tn_plain_data.specs.Limits.{few_trades, most_claimed_over, most_numerator, most_own_trades, most_sets, most_worth_among}
 use Rattle.tn_market.specs.Limits.{IsOutcomeOf}
 use Rattle.tn_market.specs.Outside.{outside}
 use Rattle.tn_market.specs.Signed.{is_signed, signed_price}
@@ -204,6 +205,15 @@ free_same contracts t trades old now none test isnt inside same before = elim (s
 
 -- ---- numbers
 
+-- a bound on worths among some trades is one on worths
+pub among_small : (n : ℕ) → most_worth_among n ≤ most_worth
+unfolding most_worth_among
+among_small n = by (nat_le n few_trades)
+  where
+    by : (few : Bool) → (if few then most_worth else (most_own_trades + most_sets) * 10 ^ 7) ≤ most_worth
+    by true = omega arith
+    by false = omega arith
+
 -- a levy that counts worths no more often than a denominator may be, with a tax of at most 1, keeps them within the
 -- bound on worths
 pub levy_fits : (scale tax : ℤ) (limit : ℕ) → pos 1 ≤ℤ scale → scale ≤ℤ pos most_claimed_over → pos 0 ≤ℤ tax
@@ -217,48 +227,32 @@ levy_fits scale tax limit from_one small from_zero small_tax small_limit =
     within : (p t : ℕ) → p ≤ most_claimed_over * most_worth → t ≤ 1 → p + 64 * t ≤ most_limit
     within p t product size = omega (arith, product, size)
 
--- what it keeps them within
-pub levy_limit : (scale tax : ℤ) (limit : ℕ) → pos 0 ≤ℤ tax → tax ≤ℤ pos 1 → limit ≤ most_worth
-    → levied_limit scale tax limit ≤ residual_limit scale
-levy_limit scale tax limit from_zero small_tax small_limit =
-    let tax_size = abs_small tax 1 (record { low = omega (arith, ints, from_zero); high = small_tax }) in
-    let product = mul-le (unsigned_abs scale) limit (unsigned_abs scale) most_worth (omega arith) small_limit in
-    within (unsigned_abs scale * limit) (unsigned_abs scale * most_worth) (unsigned_abs tax) product tax_size
+-- what it keeps them within, counted over a denominator
+pub levy_limit : (n : ℕ) (over scale tax : ℤ) → pos 0 ≤ℤ tax → tax ≤ℤ pos 1
+    → levied_limit (over *ℤ scale) tax (most_worth_among n) ≤ residual_limit n over scale
+levy_limit n over scale tax from_zero small_tax =
+    within (unsigned_abs (over *ℤ scale)) (unsigned_abs over) (unsigned_abs scale) (most_worth_among n)
+    (unsigned_abs tax) (unsigned_abs-mul over scale)
+    (abs_small tax 1 (record { low = omega (arith, ints, from_zero); high = small_tax }))
   where
-    within : (p q t : ℕ) → p ≤ q → t ≤ 1 → p + 64 * t ≤ q + 64
-    within p q t product size = omega (arith, product, size)
+    within : (p o s w t : ℕ) → p ≡ o * s → t ≤ 1 → p * w + 64 * t ≤ s * (o * w + most_numerator) + 64
+    within p o s w t size small =
+        let product : p * w ≡ s * (o * w) = ap (λ (q : ℕ). q * w) (size ∙ mul_comm o s) ∙ mul_assoc s o w in
+        let parts = mul-add s (o * w) most_numerator in
+        omega (arith, product, parts, small)
 
--- and so does a firm outside
+-- the worths of a firm outside are within the scaled bound on prices, and so within the same
 pub outside_limit : (scale price : ℤ) → IsAtMost price most_numerator
-    → unsigned_abs (scale *ℤ price) ≤ residual_limit scale
+    → unsigned_abs (scale *ℤ price) ≤ unsigned_abs scale * most_numerator
 outside_limit scale price small =
-    let size = abs_small price most_numerator small in
-    let product = mul-le (unsigned_abs scale) (unsigned_abs price) (unsigned_abs scale) most_worth (omega arith) size in
-    within (unsigned_abs (scale *ℤ price)) (unsigned_abs scale * unsigned_abs price) (unsigned_abs scale * most_worth)
-    (unsigned_abs-mul scale price) product
-  where
-    within : (a p q : ℕ) → a ≡ p → p ≤ q → a ≤ q + 64
-    within a p q same product = omega (arith, same, product)
+    subst (λ (a : ℕ). a ≤ unsigned_abs scale * most_numerator) (sym (unsigned_abs-mul scale price))
+    (mul-le (unsigned_abs scale) (unsigned_abs price) (unsigned_abs scale) most_numerator (omega arith)
+    (abs_small price most_numerator small))
 
--- a scale from 1 on is no more than its product with a denominator from 1 on
-pub limit_grows : (over scale : ℤ) → pos 1 ≤ℤ over → pos 1 ≤ℤ scale
-    → residual_limit scale ≤ residual_limit (over *ℤ scale)
-limit_grows over scale over_from_one from_one =
-    let step = times-le scale (pos 1) over (omega (arith, ints, from_one)) over_from_one in
-    let one : scale *ℤ pos 1 ≡ scale = omega (arith, ints) in
-    let turned = *ℤ_comm over scale in
-    let less : scale ≤ℤ (over *ℤ scale) = omega (arith, ints, step, one, turned) in
-    let size = grows scale (over *ℤ scale) from_one less in
-    let product = mul-le (unsigned_abs scale) most_worth (unsigned_abs (over *ℤ scale)) most_worth size (omega arith) in
-    within (unsigned_abs scale * most_worth) (unsigned_abs (over *ℤ scale) * most_worth) product
-  where
-    grows : (a b : ℤ) → pos 1 ≤ℤ a → a ≤ℤ b → unsigned_abs a ≤ unsigned_abs b
-    grows (pos m) (pos n) low less = omega (arith, ints, less)
-    grows (pos m) (negsuc n) low less = absurd (omega (arith, ints, less))
-    grows (negsuc m) b low less = absurd (omega (arith, ints, low))
-
-    within : (p q : ℕ) → p ≤ q → p + 64 ≤ q + 64
-    within p q h = omega (arith, h)
+pub outsides_limit : (n : ℕ) (over scale : ℤ) → unsigned_abs scale * most_numerator ≤ residual_limit n over scale
+outsides_limit n over scale =
+    let parts = mul-add (unsigned_abs scale) (unsigned_abs over * most_worth_among n) most_numerator in
+    omega (arith, parts)
 
 -- the scale is within the limits where its product with the denominator is
 pub scale_fits : (over scale : ℤ) → pos 1 ≤ℤ over → pos 1 ≤ℤ (over *ℤ scale) → (over *ℤ scale) ≤ℤ pos most_claimed_over

@@ -6,11 +6,11 @@ use Rattle.tn_base.specs.Sets.{has, set_of}
 use Rattle.tn_base.specs.Firm.{Firm}
 use Rattle.tn_plain_data.specs.declared.ends.Ends.{Ends}
 use Rattle.tn_plain_data.specs.declared.contract.Contract.{Contract}
+use Rattle.tn_plain_data.specs.Limits.{most_numerator, most_worth_among}
 use Rattle.tn_plain_data.specs.Network.{part}
 use Rattle.tn_market.specs.Levied.{levied}
 use Rattle.tn_market.specs.Outside.{outside}
 use Rattle.tn_market.specs.Signed.{is_signed}
-use Rattle.tn_market.specs.Widths.{most_worth}
 
 -- ---- its trades
 
@@ -63,9 +63,10 @@ abbrev pub residual_of : List Firm → List Ends → ℤ → List Contract → �
 residual_of firms trades over contracts scale tax =
     levied_from trades contracts (over *ℤ scale) tax 0 firms ++ outsides scale contracts
 
--- a bound on the size of every worth of a firm, where worths, and prices that are no larger, count `scale` times
-abbrev pub residual_limit : ℤ → ℕ
-residual_limit scale = unsigned_abs scale * most_worth + 64
+-- a bound on the size of every worth of a firm, of a market of n trades: each price counts `scale` times, each worth
+-- `over` times as often
+abbrev pub residual_limit : ℕ → ℤ → ℤ → ℕ
+residual_limit n over scale = unsigned_abs scale * (unsigned_abs over * most_worth_among n + most_numerator) + 64
 
 -- ---- its surplus
 

@@ -1,9 +1,10 @@
 //! The firms of a residual market.
 
-ghost use Rattle.std.specs.Prelude.{◌≡◌, ℕ, ◌++◌, ◌*◌, ◌+◌, ◌<◌, ◌≤◌, All, IfOk, pos, ◌≤ℤ◌, ◌*ℤ◌, length, map, slice_get, Some};
+ghost use Rattle.std.specs.Prelude.{◌≡◌, ℕ, ◌++◌, ◌*◌, ◌+◌, ◌<◌, ◌≤◌, All, IfOk, pos, ◌≤ℤ◌, ◌*ℤ◌, length, map, slice_get, unsigned_abs, Some};
 ghost use Rattle.tn_base.specs.Arcs.{IsAtMost};
+ghost use Rattle.tn_market.specs.Levied.{levied_limit};
 ghost use Rattle.tn_market.specs.Limits.{IsOutcomeOf, IsWithinLimits};
-ghost use Rattle.tn_plain_data.specs.Limits.{most_claimed_over, most_numerator};
+ghost use Rattle.tn_plain_data.specs.Limits.{most_claimed_over, most_numerator, most_worth_among};
 ghost use Rattle.tn_plain_data.specs.Network.{part};
 ghost use Rattle.tn_residual.specs.Residual.{levied_from, outsides, residual_limit, residual_of, unsigned};
 ghost use Rattle.tn_market.specs.NetworkOf.{network_of};
@@ -11,7 +12,25 @@ ghost use Rattle.tn_market.specs.NetworkOf.{network_of};
 use crate::signed::contract_price;
 use std::alloc::Global;
 use tn_base::{Bundle, OutOfMemory};
-use tn_market::{Levied, Market, Outcome, Outside, Party, Valuation};
+use tn_market::{Levied, MOST_WORTH, Market, Outcome, Outside, Party, Valuation};
+
+/// A market of at most so many trades may have greater worths than one of more.
+const FEW_TRADES: u32 = 128;
+
+/// No worth of a firm is above this in size in a market of more trades.
+const MOST_WORTH_AMONG_MANY: i128 = 1_240_000_000;
+
+/// A bound on the size of each worth of a market's firms, by how many trades it has.
+#[tactic(auto, unfolding(tn_plain_data::specs::Limits::most_worth_among))]
+fn most_worth_among(trades: u32) -> i128
+    ensures { result ≡ pos (most_worth_among trades) }
+{
+    if trades <= FEW_TRADES {
+        MOST_WORTH
+    } else {
+        MOST_WORTH_AMONG_MANY
+    }
+}
 
 /// The unsigned positions of firm `f`.
 fn unsigned_of<V: Valuation>(market: &Market<V>, f: u32, outcome: &Outcome) -> Bundle
@@ -29,8 +48,9 @@ fn unsigned_of<V: Valuation>(market: &Market<V>, f: u32, outcome: &Outcome) -> B
     unsigned
 }
 
-/// The firms of the market, their worths counted `scale` times, with a tax on each unsigned trade. It fails only where
-/// memory runs out.
+/// The firms of the market, their worths counted `scale` times, with a tax on each unsigned trade. Their bounds are
+/// those that hold for as many trades as the market has, which may be smaller than their own. It fails only where memory
+/// runs out.
 fn members<'a, V: Valuation>(
     alloc: Global,
     market: &'a Market<V>,
@@ -46,12 +66,14 @@ fn members<'a, V: Valuation>(
     ensures firms { IfOk result (λ parties. map ⟦<Party<'a, V> as Valuation>⟧.firm parties.items
         ≡ levied_from market.now.trades outcome.now.contracts scale tax 0 (map V.firm market.now.firms)) }
     ensures limits { IfOk result
-        (λ parties. All (λ party. ⟦<Party<'a, V> as Valuation>⟧.limit party ≤ residual_limit scale) parties.items) }
+        (λ parties. All (λ party. ⟦<Party<'a, V> as Valuation>⟧.limit party
+        ≤ levied_limit scale tax (most_worth_among (length market.now.trades))) parties.items) }
 {
+    let worth = most_worth_among(market.trades());
     let mut parties = Vec::with_capacity(alloc, market.firms() as usize)?;
     for f in 0..market.firms() {
         let taxed = unsigned_of(market, f, outcome);
-        parties.push(Party::Firm(Levied::new(market.firm(f), scale, taxed, tax)))?;
+        parties.push(Party::Firm(Levied::within(market.firm(f), worth, scale, taxed, tax)))?;
     }
     Ok(parties)
 }
@@ -78,7 +100,7 @@ fn add_outsides<'a, V: Valuation>(
     requires small { All (λ contract. IsAtMost contract.price most_numerator) outcome.now.contracts }
     ensures firms { IfOk result (λ done. map ⟦<Party<'a, V> as Valuation>⟧.firm parties.new.items
         ≡ map ⟦<Party<'a, V> as Valuation>⟧.firm parties.old.items ++ outsides scale outcome.now.contracts) }
-    ensures limits { IfOk result (λ done. (limit : ℕ) → residual_limit scale ≤ limit
+    ensures limits { IfOk result (λ done. (limit : ℕ) → unsigned_abs scale * most_numerator ≤ limit
         → All (λ party. ⟦<Party<'a, V> as Valuation>⟧.limit party ≤ limit) parties.old.items
         → All (λ party. ⟦<Party<'a, V> as Valuation>⟧.limit party ≤ limit) parties.new.items) }
 {
@@ -107,8 +129,8 @@ pub fn all_parties<'a, V: Valuation>(
     ensures firms { IfOk result (λ parties. map ⟦<Party<'a, V> as Valuation>⟧.firm parties.items
         ≡ network_of V.firm market.now residual_of outcome.now.over outcome.now.contracts scale tax) }
     ensures limits { IfOk result
-        (λ parties. All (λ party. ⟦<Party<'a, V> as Valuation>⟧.limit party ≤ residual_limit
-        (outcome.now.over *ℤ scale)) parties.items) }
+        (λ parties. All (λ party. ⟦<Party<'a, V> as Valuation>⟧.limit party
+        ≤ residual_limit (length market.now.trades) outcome.now.over scale) parties.items) }
 {
     let mut parties = members(alloc, market, outcome, outcome.over * scale, tax)?;
     add_outsides(&mut parties, outcome, scale)?;

@@ -20,8 +20,9 @@ use tn_market::{Market, Outcome, Party, Valuation};
 ///
 /// For each set of unsigned trades its greatest surplus is that of their reduced worths: each end of a contract is on
 /// where its own firm likes it, and the firm outside pays the one end what it gets from the other. The limits of firms
-/// and outcomes hold (at most 1,024 firms and 1,024 trades, 32 own trades, worths and numerators of at most 10^11 in
-/// size, a denominator of 1 to 100); `over * scale` is 1 to 100,000, and the tax is 0 or 1.
+/// and outcomes hold (at most 1,024 firms and 1,024 trades, 60 own trades, worths of at most 1.24 * 10^11 in size, or
+/// 1.24 * 10^9 where there are more than 128 trades, numerators of at most 10^11, a denominator of 1 to 100); `over *
+/// scale` is 1 to 1,000,000, and the tax is 0 or 1.
 pub fn residual<'a, V: Valuation>(
     alloc: Global,
     market: &'a Market<V>,
@@ -40,8 +41,8 @@ pub fn residual<'a, V: Valuation>(
     ensures trades { IfOk result (λ residual. residual.trades
         ≡ residual_trades (length market.now.firms) market.now.trades outcome.now.contracts) }
     ensures limits { IfOk result
-        (λ residual. All (λ party. ⟦<Party<'a, V> as Valuation>⟧.limit party ≤ residual_limit
-        (outcome.now.over *ℤ scale)) residual.firms) }
+        (λ residual. All (λ party. ⟦<Party<'a, V> as Valuation>⟧.limit party
+        ≤ residual_limit (length market.now.trades) outcome.now.over scale) residual.firms) }
     ensures surplus { IfOk result (λ residual. network_of ⟦<Party<'a, V> as Valuation>⟧.firm residual IsSurplusOfReduced
         (map V.firm market.now.firms) market.now.trades outcome.now.over outcome.now.contracts scale tax) }
 {

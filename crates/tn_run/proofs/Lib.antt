@@ -1,6 +1,7 @@
 -- The files of lemmas of this crate.
 pub mod TestLemmas
 pub mod TakenLemmas
+pub mod FitLemmas
 pub mod VerdictLemmas
 pub mod NamedLemmas
 pub mod CompleteLemmas

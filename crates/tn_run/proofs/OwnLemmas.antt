@@ -8,7 +8,6 @@ use Rattle.tn_cert.specs.Reasons.{IsFirstToFail}
 use Rattle.tn_file.specs.declared.need.Need.{Need}
 use Rattle.tn_file.specs.Document.{DocumentData}
 use Rattle.tn_file.specs.Laws.{IsDocument}
-use Rattle.tn_read_firms.proofs.KindLemmas.{listed_own_bundles}
 use Rattle.tn_local.proofs.FirstLemmas.{triple_fails}
 use Rattle.tn_read_firms.proofs.ShownLemmas.{OwnAreNamed, own_position_of, trades_named, triple_named}
 use Rattle.tn_plain_data.specs.Network.{own, trades_of, trades_on}
@@ -50,7 +49,7 @@ module _ (need : Need) (doc : DocumentData) (is : IsDocument need doc) where
   pub failure_named : (f : ℕ) (x y : List ℕ) (at : Option ℕ) → IsFirstToFail doc.firms doc.ends f x y at
       → IsNamed doc.names.firms f × IsNamedTriple doc.names.trades (record { x = x; y = y; at = at })
   failure_named f x y at fails =
-      let own_bundles = listed_own_bundles doc.ends f fails.firm (is.listed f fails.firm fails.is) in
+      let own_bundles = is.own_bundles f fails.firm fails.is in
       let triple =
       triple_named doc.names.trades doc.ends f fails.firm.count fails.triple (own_named f fails.firm fails.is)
       (own_position_of fails.firm fails.triple own_bundles (triple_fails fails.firm fails.triple fails.first)) in (

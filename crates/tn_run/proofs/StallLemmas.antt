@@ -1,5 +1,5 @@
 -- Of the two stalls of the tests: they are a network, and whatever they trade is possible.
-use Rattle.std.proofs.Common.{◌≡◌, Bool, true, false, if◌then◌else◌, ℤ, pos, negsuc, ◌+ℤ◌, arith, ap, ap₂, ◌∙◌, refl, sym, subst, ◌≢◌, ℕ, zero, suc, ◌<◌, List, [], ◌∷◌, slice_get, Some, lit<, ◌==◌, ◌&&◌, ◌⊎◌, inl, inr}
+use Rattle.std.proofs.Common.{◌≡◌, Bool, true, false, if◌then◌else◌, ℤ, pos, negsuc, ◌+ℤ◌, arith, ap, ap₂, ◌∙◌, refl, sym, subst, ◌≢◌, ℕ, zero, suc, ◌<◌, List, [], ◌∷◌, length, slice_get, Some, lit<, lit≤, ◌≤◌, ◌==◌, ◌&&◌, ◌⊎◌, inl, inr}
 use Rattle.std.specs.Prelude.{IsSome, is_some}
 use Rattle.std.proofs.lemmas.Int.{ints}
 use Rattle.std.proofs.lemmas.Bool.{or_cases, and_parts, eqb-true}
@@ -11,9 +11,14 @@ use Rattle.tn_base.specs.Firm.{Firm}
 use Rattle.tn_base.proofs.SetLemmas.{set_of_within}
 use Rattle.tn_plain_data.specs.declared.ends.Ends.{Ends}
 use Rattle.tn_plain_data.specs.Network.{own, stands_at, IsNetwork, part}
+use Rattle.tn_plain_data.specs.Limits.{most_worth_among}
 use Rattle.tn_market.specs.Graph.{ArePossible}
+use Rattle.tn_market.specs.Limits.{IsWithinLimits}
+use Rattle.tn_market.specs.Traded.{Traded}
+use Rattle.tn_market.specs.Valued.{IsWorthAtMost}
+use Rattle.tn_market.proofs.AscentLemmas.{smaller}
 use Rattle.tn_run.specs.Stall.{amounts_of, stall, trade_between}
-use Rattle.tn_run.specs.StallLemmas.{stall-worth}
+use Rattle.tn_run.specs.StallLemmas.{stall-within, stall-worth}
 
 -- what the code computes
 pub counted_sum : (buys sells b s : Bool) (cost gain : ℤ) → b ≡ buys → s ≡ sells
@@ -140,3 +145,22 @@ stalls-possible fs ts on are f firm is =
     subst (λ (z : Firm). IsSome (z.worth (part ts f z.count on)))
     (each_is f firm (sym (ap (λ (xs : List Firm). slice_get xs f) are) ∙ is))
     (ap is_some (stall-worth (part ts f 2 on) (set_of_within (λ k. has on (own ts f k)) 2)))
+
+-- ---- limits
+
+among_two : 8 ≤ most_worth_among 2
+unfolding most_worth_among
+among_two = lit≤ tt
+
+-- a market of two stalls is one on which outcomes are judged
+pub stalls-within : {V : Type 0} (market : Traded V) → length market.firms ≡ 2 → length market.trades ≡ 2
+    → IsWithinLimits (λ (v : V). stall) (λ (v : V). 8) market
+stalls-within {V} market firms trades = record {
+  few_firms = omega (arith, firms);
+  few_trades = omega (arith, trades);
+  few_own = λ f v is. lit≤ tt;
+  small_worths = λ f v is. omega arith;
+  worths = λ f v is.
+      subst (λ (n : ℕ). IsWorthAtMost (most_worth_among n) stall) (sym trades) (λ x a worth.
+      smaller a 8 (most_worth_among 2) among_two (stall-within x a worth));
+}

@@ -21,7 +21,7 @@ use Rattle.tn_run.specs.Answer.{IsAnswerOf}
 use Rattle.tn_run.specs.Words.{need_of}
 
 pub verdict_answers : {E : Type 0} (command : Command) (names : NameLists) (market : Traded FirmValue)
-    (at : ArrangementIs 2) (result : Result Said E) → IsFor (need_of command) (Market market (Arrangement at))
+    (at : ArrangementIs 16) (result : Result Said E) → IsFor (need_of command) (Market market (Arrangement at))
     → IsDocument (need_of command) (document_view (record { names = names; content = Market market (Arrangement at) }))
     → IfOk result (Judges (map firm_of market.firms) market.trades (pos 1) at.on (price_at at.prices))
     → IfOk result

@@ -6,7 +6,8 @@ ghost use Rattle.tn_file.specs.Document.{reading_of};
 ghost use Rattle.tn_file.specs.Laws.{IsDocument};
 ghost use Rattle.tn_file.specs.Refusal.{IsFor, document_view};
 ghost use Rattle.tn_firm.specs.Firms.{firm_of};
-ghost use Rattle.tn_plain_data.specs.Limits.{most_listed};
+ghost use Rattle.tn_plain_data.specs.Limits.{most_trades};
+ghost use Rattle.tn_command.specs.Limits.{AreWorthsAnswered};
 ghost use Rattle.tn_run.specs.Answer.{IsAnswerOf, IsAnswerTo, KeepsRules, MayBeSaid, network_alone, too_long};
 ghost use Rattle.tn_run.specs.Words.{need_of};
 
@@ -35,7 +36,8 @@ fn answer_network(
     market: &Market<FirmValue>,
 ) -> Result<Said, OutOfMemory>
     requires reads { need_of command ≡ Need.Market }
-    requires few_trades { length market.now.trades ≤ most_listed }
+    requires few_trades { length market.now.trades ≤ most_trades }
+    requires worths { AreWorthsAnswered (map firm_of market.now.firms) market.now.trades }
     ensures answer { IfOk result (IsAnswerOf command (network_alone (map firm_of market.now.firms) market.now.trades)) }
     ensures within { IfOk result IsWithinClaims }
 {

@@ -30,7 +30,8 @@ fn stalls_keep_what_they_like(rt: HostRuntime) {
     assert!(rt; buyer == Some((none, 0)));
 }
 
-/// The other trade stays, and a firm outside stands between the two stalls.
+/// The other trade stays, and a firm outside stands between the two stalls. Twice what a worth may be among two trades
+/// bounds the worths of a stall, and what 64 taxes come to.
 #[test]
 fn residual_market_of_two_stalls(rt: HostRuntime) {
     let market = two_stalls(rt.alloc()).expect(&rt, "memory");
@@ -42,7 +43,7 @@ fn residual_market_of_two_stalls(rt: HostRuntime) {
     assert!(rt; residual.ends(2) == ends(2, 1));
     assert_eq!(rt;
         (residual.firm(0).bound(), residual.firm(2).bound()),
-        (80, 8)
+        (248_000_000_064, 8)
     );
 }
 

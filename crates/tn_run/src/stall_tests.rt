@@ -71,9 +71,9 @@ fn bundles_of_a_stall(rt: HostRuntime) {
 fn room_has_its_cells(rt: HostRuntime) {
     let mut room = Room::new(rt.alloc()).expect(&rt, "memory");
     let cells = room.cells();
-    assert_eq!(rt; cells.len(), 32);
-    cells[31] = Some((Bundle::empty(), 7));
-    let last = cells[31];
+    assert_eq!(rt; cells.len(), 60);
+    cells[59] = Some((Bundle::empty(), 7));
+    let last = cells[59];
     assert!(rt; last == Some((Bundle::empty(), 7)));
 }
 

@@ -29,7 +29,7 @@ use Rattle.tn_network.specs.Kept.{IsKept}
 use Rattle.tn_cycle.specs.GraphLemmas.{small-arcs_among}
 use Rattle.tn_flow.proofs.RoundLemmas.{near-wider}
 use Rattle.tn_flow.proofs.SolverLemmas.{small_bound, solution_from}
-use Rattle.tn_session.specs.Standing.{standing_of, differences, HoldsEquilibrium, HasSmallPrices, AreFirmsSmall, AreSettled, IsBound, IsSession}
+use Rattle.tn_session.specs.Standing.{standing_of, differences, HoldsEquilibrium, HasSmallPrices, AreFirmsSmall, AreSettled, IsSession}
 use Rattle.tn_session.specs.Widths.{most_path}
 use Rattle.tn_cycle.specs.Widths.{label_step, most_label, most_read}
 use Rattle.tn_base.specs.Widths.{most_cost}
@@ -88,7 +88,7 @@ one_bound {V} limit_of P none (first ∷ items) each =
 
 -- a bound that is small enough
 pub small_bound_of : {V : Type 0} (limit_of : V → ℕ) (market : Traded V) → AreFirmsSmall limit_of market → (bound : ℕ)
-    × IsBound limit_of market bound × (2 * bound * (length market.trades + 1) ≤ most_path)
+    × ((f : ℕ) (v : V) → slice_get market.firms f ≡ Some v → limit_of v ≤ bound) × (2 * bound * (length market.trades + 1) ≤ most_path)
 small_bound_of limit_of market small =
     one_bound limit_of (λ b. 2 * b * (length market.trades + 1) ≤ most_path) (omega arith) market.firms small
 
@@ -103,13 +103,14 @@ price-is count labels t below =
     get_or-map-range_with_len (λ t. label_in labels t -ℤ label_in labels count) 0 count t t (pos 0) below (omega arith)
 
 -- the numbers that the prices are made of go no further than a path may cost
-pub numbers_near : {V : Type 0} (limit_of : V → ℕ) (market : Traded V) (numbers : List ℤ)
-    → AreFirmsSmall limit_of market
-    → length numbers ≡ length market.trades + 1 → AreSettled limit_of market numbers → AreNear most_path numbers
-numbers_near limit_of market numbers small counted settled t below =
+pub numbers_near : {V : Type 0} (firm_of : V → Firm) (limit_of : V → ℕ) (market : Traded V) (numbers : List ℤ)
+    → ((v : V) → IsWorthAtMost (limit_of v) (firm_of v)) → AreFirmsSmall limit_of market
+    → length numbers ≡ length market.trades + 1 → AreSettled firm_of market numbers → AreNear most_path numbers
+numbers_near firm_of limit_of market numbers laws small counted settled t below =
     let bound = small_bound_of limit_of market small in
     let inside : t < length market.trades + 1 = subst (λ (n : ℕ). t < n) counted below in
-    within bound.0 (length market.trades) bound.2 (settled.high t inside) (settled.low bound.0 t bound.1 inside)
+    within bound.0 (length market.trades) bound.2 (settled.high t inside) (settled.low bound.0 t
+    (each_within firm_of limit_of market.firms laws bound.0 bound.1) inside)
   where
     within : (bound count : ℕ) → 2 * bound * (count + 1) ≤ most_path → label_in numbers t ≤ℤ pos 0
         → neg_ℤ (pos (2 * bound * count)) ≤ℤ label_in numbers t → IsAtMost (label_in numbers t) most_path
@@ -117,12 +118,13 @@ numbers_near limit_of market numbers small counted settled t below =
         let e : 2 * bound * (count + 1) ≡ 2 * bound * count + 2 * bound = grind arith in
         record { low = omega (arith, ints, most, e, low); high = omega (arith, ints, high) }
 
-pub numbers_small : {V : Type 0} (limit_of : V → ℕ) (market : Traded V) (numbers : List ℤ)
-    → AreFirmsSmall limit_of market
-    → length numbers ≡ length market.trades + 1 → AreSettled limit_of market numbers → (t : ℕ) → t < length numbers
+pub numbers_small : {V : Type 0} (firm_of : V → Firm) (limit_of : V → ℕ) (market : Traded V) (numbers : List ℤ)
+    → ((v : V) → IsWorthAtMost (limit_of v) (firm_of v)) → AreFirmsSmall limit_of market
+    → length numbers ≡ length market.trades + 1 → AreSettled firm_of market numbers → (t : ℕ) → t < length numbers
     → IsAtMost (label_in numbers t) most_read
-numbers_small limit_of market numbers small counted settled =
-    near-wider most_path most_read numbers (omega arith) (numbers_near limit_of market numbers small counted settled)
+numbers_small firm_of limit_of market numbers laws small counted settled =
+    near-wider most_path most_read numbers (omega arith)
+    (numbers_near firm_of limit_of market numbers laws small counted settled)
 
 -- one round goes no further than labels may
 pub round_near : (count : ℕ) (labels : List ℤ) → count ≤ most_market_trades
@@ -136,7 +138,7 @@ pub settled : {V : Type 0} (firm_of : V → Firm) (limit_of : V
     → ℕ) (market : Traded V) (allowed on : ℕ) (labels : List ℤ) → HasLaws firm_of limit_of market
     → AreLabels (length market.trades + 1) (arcs_among (is_admitted (length market.trades) allowed)
     (exchange_arc (map firm_of market.firms) market.trades on)) labels
-    → AreSettled limit_of market labels
+    → AreSettled firm_of market labels
 settled firm_of limit_of market allowed on labels laws are = record {
   high = are.high;
   low = λ bound v bounded below.
@@ -144,8 +146,7 @@ settled firm_of limit_of market allowed on labels laws are = record {
       subst (λ (n : ℕ). neg_ℤ (pos n) ≤ℤ label_in labels v) e
       (are.low (2 * bound) v (small-arcs_among (is_admitted (length market.trades) allowed) (2 * bound)
       (exchange_arc (map firm_of market.firms) market.trades on)
-      (arcs_small (map firm_of market.firms) market.trades laws.network bound on
-      (each_within firm_of limit_of market.firms laws.within bound bounded))) below);
+      (arcs_small (map firm_of market.firms) market.trades laws.network bound on bounded)) below);
 }
 
 pub holds : {V : Type 0} (firm_of : V → Firm) (limit_of : V
@@ -157,9 +158,9 @@ holds firm_of limit_of market graph finder allowed on laws way =
     (differences (length market.trades) finder.labels) laws.network laws.meet way refl way.labels.keeps
     (one_each (length market.trades) finder.labels) (price-is (length market.trades) finder.labels)
 
-pub small_prices : {V : Type 0} (limit_of : V → ℕ) (market : Traded V) (allowed on : ℕ) (numbers : List ℤ)
-    → AreSettled limit_of market numbers → HasSmallPrices limit_of (standing_of market allowed on numbers)
-small_prices limit_of market allowed on numbers are bound bounded k d below =
+pub small_prices : {V : Type 0} (firm_of : V → Firm) (market : Traded V) (allowed on : ℕ) (numbers : List ℤ)
+    → AreSettled firm_of market numbers → HasSmallPrices firm_of (standing_of market allowed on numbers)
+small_prices firm_of market allowed on numbers are bound bounded k d below =
     let inside : k < length market.trades = subst (λ (n : ℕ). k < n) (one_each (length market.trades) numbers) below in
     subst (λ (z : ℤ). IsAtMost z (2 * bound * length market.trades))
     (sym (get_or_default (differences (length market.trades) numbers) k d (pos 0) below

@@ -4,6 +4,7 @@ use Rattle.std.specs.List.{range_with_len}
 use Rattle.tn_base.specs.Sets.{has, toggle}
 use Rattle.tn_base.specs.Firm.{Firm}
 use Rattle.tn_base.specs.Widths.{most_cost}
+use Rattle.tn_market.specs.Limits.{AreWorthsWithin}
 use Rattle.tn_market.specs.Traded.{Traded}
 use Rattle.tn_plain_data.specs.declared.ends.Ends.{Ends}
 use Rattle.tn_plain_data.specs.Network.{IsNetwork}
@@ -37,13 +38,9 @@ abbrev pub HoldsEquilibrium : {V : Type 0} → (V → Firm) → Standing V → T
 HoldsEquilibrium firm_of standing =
     IsSolution (map firm_of standing.market.firms) standing.market.trades standing.admitted standing.solution
 
--- no firm's worths are above this size
-abbrev pub IsBound : {V : Type 0} → (V → ℕ) → Traded V → ℕ → Type 0
-IsBound {V} limit_of market bound = (f : ℕ) (v : V) → slice_get market.firms f ≡ Some v → limit_of v ≤ bound
-
 -- no price is above twice a bound of all worths for each trade
-abbrev pub HasSmallPrices : {V : Type 0} → (V → ℕ) → Standing V → Type 0
-HasSmallPrices limit_of standing = (bound : ℕ) → IsBound limit_of standing.market bound
+abbrev pub HasSmallPrices : {V : Type 0} → (V → Firm) → Standing V → Type 0
+HasSmallPrices firm_of standing = (bound : ℕ) → AreWorthsWithin bound (map firm_of standing.market.firms)
     → AreSmallPrices (2 * bound * length standing.market.trades) standing.solution.prices
 
 -- twice the bound of each firm's worths, for each trade and once more, is no more than a path may cost
@@ -52,9 +49,9 @@ AreFirmsSmall {V} limit_of market = (f : ℕ) (v : V) → slice_get market.firms
     → 2 * limit_of v * (length market.trades + 1) ≤ most_path
 
 -- labels that are no more than 0, and no further below it than a path may cost
-pub record AreSettled {V : Type 0} (limit_of : V → ℕ) (market : Traded V) (numbers : List ℤ) : Type 0 where
+pub record AreSettled {V : Type 0} (firm_of : V → Firm) (market : Traded V) (numbers : List ℤ) : Type 0 where
   pub high : (v : ℕ) → v < length market.trades + 1 → label_in numbers v ≤ℤ pos 0
-  pub low : (bound v : ℕ) → IsBound limit_of market bound → v < length market.trades + 1
+  pub low : (bound v : ℕ) → AreWorthsWithin bound (map firm_of market.firms) → v < length market.trades + 1
       → neg_ℤ (pos (2 * bound * length market.trades)) ≤ℤ label_in numbers v
 
 -- what a session keeps: rounds that are under way, with such labels
@@ -66,7 +63,7 @@ pub record IsSession {V : Type 0} (firm_of : V → Firm) (limit_of : V
   -- so no arc costs more than a graph may hold
   pub fits_graph : (f : ℕ) (v : V) → slice_get market.firms f ≡ Some v → 2 * limit_of v ≤ most_cost
   pub under_way : AreUnderWay (map firm_of market.firms) market.trades graph finder allowed on
-  pub settled : AreSettled limit_of market finder.labels
+  pub settled : AreSettled firm_of market finder.labels
 
 -- rounds that are under way with a trade that is on, beside the admitted ones
 pub record IsLeaving (firms : List Firm) (trades : List Ends) (graph : Blocks) (finder : Reading)

@@ -55,7 +55,7 @@ fn settle<V: Valuation, const W: usize>(rounds: &mut Rounds<W>, market: &Market<
         rounds.new.on }
     ensures equilibrium { HoldsEquilibrium V.firm (standing_of market.now rounds.new.allowed rounds.new.on
         rounds.new.finder.labels) }
-    ensures prices { HasSmallPrices V.limit (standing_of market.now rounds.new.allowed rounds.new.on
+    ensures prices { HasSmallPrices V.firm (standing_of market.now rounds.new.allowed rounds.new.on
         rounds.new.finder.labels) }
     ensures admitted { rounds.new.allowed ≡ rounds.old.allowed }
     ensures on { rounds.new.on ≡ rounds.old.on }
@@ -80,7 +80,7 @@ impl<'a, V: Valuation, const W: usize> Session<'a, V, W> {
         ensures none_admitted { IfOk result (λ session. session.admitted ≡ 0) }
         ensures none_on { IfOk result (λ session. session.solution.on ≡ 0) }
         ensures equilibrium { IfOk result (HoldsEquilibrium V.firm) }
-        ensures prices { IfOk result (HasSmallPrices V.limit) }
+        ensures prices { IfOk result (HasSmallPrices V.firm) }
         ensures asked { steps.new ≤ steps.old + graph_worths (map V.firm market.now.firms) }
     {
         let mut rounds = Rounds::with_room(alloc, market.trades())?;
@@ -99,7 +99,7 @@ impl<'a, V: Valuation, const W: usize> Session<'a, V, W> {
         ensures unchanged { result ≡ false → (self.new ≡ self.old) × (steps.new ≡ steps.old) }
         ensures market { self.new.market ≡ self.old.market }
         ensures equilibrium { HoldsEquilibrium V.firm self.new }
-        ensures prices { HasSmallPrices V.limit self.new }
+        ensures prices { HasSmallPrices V.firm self.new }
         ensures asked { steps.new ≤ steps.old + graph_worths (map V.firm self.old.market.firms) }
     {
         if self.rounds.allowed.has(t) {
@@ -122,7 +122,7 @@ impl<'a, V: Valuation, const W: usize> Session<'a, V, W> {
         ensures unmoved { has self.old.solution.on t ≡ false → self.new.solution ≡ self.old.solution }
         ensures market { self.new.market ≡ self.old.market }
         ensures equilibrium { HoldsEquilibrium V.firm self.new }
-        ensures prices { HasSmallPrices V.limit self.new }
+        ensures prices { HasSmallPrices V.firm self.new }
         ensures asked { steps.new ≤ steps.old + graph_worths (map V.firm self.old.market.firms) }
     {
         if !self.rounds.allowed.has(t) {

@@ -20,7 +20,7 @@ at_most_bound z small =
     let high = small.high in
     record { low = omega (arith, ints, low); high = omega (arith, ints, high) }
 
--- a table is a firm that may be asked, and no worth of it is above 10^11
+-- a table is a firm that may be asked, and no worth of it is above (60 + 64) * 10^9
 pub table_laws : (table : Table) → IsLawful most_worth (firm_of table)
 table_laws table =
     let few = table.within.few in

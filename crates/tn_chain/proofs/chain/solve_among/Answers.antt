@@ -1,8 +1,8 @@
 -- What shows the clauses of `solve_among` of `src/chain.rt`.
-use Rattle.std.proofs.Common.{◌∙◌, ◌+◌, ◌*◌, ◌≤◌, ℕ, map, length, arith, sym, ap, subst, lit<, ◌<◌, ◌*ℤ◌}
+use Rattle.std.proofs.Common.{◌∙◌, ◌+◌, ◌*◌, ◌≤◌, ℕ, map, length, arith, sym, ap, subst, lit<, ◌<◌}
 use Rattle.std.proofs.lemmas.Nat.{mul-le}
 use Rattle.tn_base.specs.Firm.{Firm, HasOwnBundles}
-use Rattle.tn_market.specs.Parties.{party_firm, party_limit}
+use Rattle.tn_market.specs.Parties.{party_firm, party_laws, party_limit}
 use Rattle.tn_network.proofs.EachLemmas.{each_firm}
 use Rattle.tn_residual.proofs.MakingLemmas.{outcome_feasible}
 use Rattle.tn_residual.specs.Residual.{residual_limit, number_from}
@@ -59,8 +59,8 @@ solve_among-requires g c = (
               let limit = c.requires.residual.limits f v is in
               let small = c.requires.residual.small in
               let product = mul-le (2 * party_limit g.V.Valuation v) (length c.args.residual.now.trades + 1)
-              (2 * residual_limit (c.args.outcome.now.over *ℤ chain_scale (length c.args.market.now.trades)
-              c.args.outcome.now.contracts)) (length c.args.residual.now.trades + 1) (omega (arith, limit))
+              (2 * residual_limit (length c.args.market.now.trades) c.args.outcome.now.over
+              (chain_scale (length c.args.market.now.trades) c.args.outcome.now.contracts)) (length c.args.residual.now.trades + 1) (omega (arith, limit))
               (omega arith) in
               omega (arith, product, small),
         ),
@@ -78,7 +78,8 @@ returns g c = record {
       (outcome_feasible c.args.market.now.trades c.args.outcome.now.over c.args.outcome.now.contracts
       c.requires.outcome)
       (each_firm g.V.Valuation.firm (λ (z : Firm). HasOwnBundles z) c.args.market.now.firms
-      (λ v. (g.met.V.Valuation.lawful v).own_bundles)) c.requires.residual c.requires.free
+      (λ v. (g.met.V.Valuation.lawful v).own_bundles)) c.requires.residual
+      (λ party. (party_laws (λ v. g.met.V.Valuation.lawful v) party).within) c.requires.free
       (subst (λ (n : ℕ). AreNumbers c.args.outcome.now.contracts c.args.allowed.now n c.numbers_of-numbers.result)
       c.trades-count.ensures.count c.numbers_of-numbers.ensures)
       (subst (λ (n : ℕ). AreNumbersUpTo c.numbers_of-numbers.result c.args.free n c.add_numbers.new.numbers)

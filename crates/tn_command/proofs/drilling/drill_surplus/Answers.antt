@@ -6,13 +6,21 @@ use Rattle.tn_drill.proofs.DrawLemmas.{trades_counted}
 use Rattle.tn_plain_data.specs.declared.ends.Ends.{Ends}
 use Rattle.tn_plain_data.specs.Prices.{price_at}
 use Rattle.tn_command.proofs.DrillLemmas.{drilled_from}
+use Rattle.tn_plain_data.specs.Limits.{few_trades}
 use Rattle.tn_command.specs.Limits.{most_answered_trades}
+use Rattle.tn_command.proofs.SupportedLemmas.{few_answered}
 use Rattle.tn_command.proofs.drilling.drill_surplus.Goals as goal
 
-pub equilibrium-requires : goal.equilibrium-requires
-equilibrium-requires c =
+pub equilibrium-requires-clause-wide : goal.equilibrium-requires-clause-wide
+equilibrium-requires-clause-wide c =
     subst (λ (trades : List Ends). length trades ≤ most_answered_trades) (sym c.in_ok-market.ensures.trades)
     (let counted = trades_counted c.args.start c.args.size in omega (arith, counted, c.requires.few))
+
+pub equilibrium-requires-clause-worths : goal.equilibrium-requires-clause-worths
+equilibrium-requires-clause-worths c =
+    few_answered c.in_ok-market.market.firms c.in_ok-market.market.trades
+    (subst (λ (trades : List Ends). length trades ≤ few_trades) (sym c.in_ok-market.ensures.trades)
+    (let counted = trades_counted c.args.start c.args.size in omega (arith, counted, c.requires.few)))
 
 pub surplus-requires-clause-wide : goal.surplus-requires-clause-wide
 surplus-requires-clause-wide c =

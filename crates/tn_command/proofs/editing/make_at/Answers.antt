@@ -7,7 +7,8 @@ use Rattle.tn_command.proofs.editing.make_at.Goals as goal
 pub returns-clause-stands : goal.returns-clause-stands
 returns-clause-stands c = λ firms trades stands.
     let done = c.put_to_use.ensures in
-    stands_from firms trades c.put_to_use.new.session (done.market ∙ stands.market) done.equilibrium done.prices
+    stands_from firms trades c.put_to_use.new.session (done.market ∙ stands.market) stands.worths done.equilibrium
+    done.prices
 
 pub returns-clause-here : goal.returns-clause-here
 returns-clause-here c = λ edits before.

@@ -17,6 +17,7 @@ loop-k-init c =
           c.in_ok-session.session) (sym c.nothing_kept-kept.ensures)
           (stands_at_first c.args.market.now.firms c.args.market.now.trades c.in_ok-session.session begun.none_admitted
           (stands_from c.args.market.now.firms c.args.market.now.trades c.in_ok-session.session begun.market
+          c.requires.worths
           begun.equilibrium begun.prices)),
       subst (All IsWithinState) (sym c.in_ok-states.ensures.items) (λ k d below. absurd (omega (arith, below))),
     )

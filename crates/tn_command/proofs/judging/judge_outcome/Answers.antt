@@ -2,12 +2,28 @@
 use Rattle.std.proofs.Common.{◌≡◌, map, subst, arith, to_z, of_z}
 use Rattle.std.specs.Int.{w128}
 use Rattle.std.proofs.lemmas.Int.{ints}
+use Rattle.std.proofs.lemmas.Option.{slice_get_within}
 use Rattle.tn_firm.specs.Firms.{firm_of}
 use Rattle.tn_judge.specs.Judges.{JudgesContracts}
 use Rattle.tn_plain_data.specs.Prices.{price_at}
-use Rattle.tn_command.proofs.CheckLemmas.{completed_lasts}
+use Rattle.tn_command.proofs.CheckLemmas.{completed_lasts, value_at}
+use Rattle.tn_command.proofs.SupportedLemmas.{within_limits}
 use Rattle.tn_command.proofs.OutcomeLemmas.{drop_keeps, drop_small, blocking_over_small, blocking_prices_small}
 use Rattle.tn_command.proofs.judging.judge_outcome.Goals as goal
+
+pub judge-requires-clause-limits : goal.judge-requires-clause-limits
+judge-requires-clause-limits c =
+    within_limits c.args.market.now.firms c.args.market.now.trades c.requires.few_firms c.requires.wide
+    c.requires.worths
+
+pub trades_in-requires : goal.trades_in-requires
+trades_in-requires c =
+    let firms = c.args.market.now.firms in
+    let first =
+    subst (JudgesContracts (map firm_of firms) c.args.market.now.trades c.args.outcome.now.over
+    c.args.outcome.now.contracts) c.in-Drops.is c.in_ok-firm.ensures in
+    let there = value_at firms c.in-Drops.firm first.firm first.is in
+    slice_get_within firms c.in-Drops.firm there.0 there.1
 
 pub returns-in-Drops-clause-answer : goal.returns-in-Drops-clause-answer
 returns-in-Drops-clause-answer c =

@@ -15,4 +15,4 @@ returns-clause-answer c = (
 pub returns-clause-within : goal.returns-clause-within
 returns-clause-within c =
     ranges_small c.args.market.now.firms c.args.market.now.trades c.in_ok-at.at.on c.in_ok-ranges.ranges
-    c.trades.ensures.network c.requires.wide c.in_ok-ranges.ensures.ranges
+    c.trades.ensures.network c.requires.wide c.requires.worths c.in_ok-ranges.ensures.ranges

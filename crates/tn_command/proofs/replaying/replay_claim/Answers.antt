@@ -4,7 +4,13 @@ use Rattle.tn_cert.specs.Replays.{Replays}
 use Rattle.tn_firm.specs.Firms.{firm_of}
 use Rattle.tn_command.proofs.CheckLemmas.{claim_implies}
 use Rattle.tn_command.proofs.ReasonLemmas.{reason_small}
+use Rattle.tn_command.proofs.SupportedLemmas.{within_limits}
 use Rattle.tn_command.proofs.replaying.replay_claim.Goals as goal
+
+pub replay-requires-clause-limits : goal.replay-requires-clause-limits
+replay-requires-clause-limits c =
+    within_limits c.args.market.now.firms c.args.market.now.trades c.requires.few_firms c.requires.wide
+    c.requires.worths
 
 pub returns-clause-within : goal.returns-clause-within
 returns-clause-within c =

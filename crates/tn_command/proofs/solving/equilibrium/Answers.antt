@@ -8,7 +8,7 @@ use Rattle.tn_market.specs.Equilibrium.{IsEquilibrium}
 use Rattle.tn_command.proofs.SolveLemmas.{small_prices}
 use Rattle.tn_command.specs.Limits.{most_answered_trades}
 use Rattle.tn_base.specs.Widths.{most_cost}
-use Rattle.tn_plain_data.specs.Limits.{most_price}
+use Rattle.tn_plain_data.specs.Limits.{most_price, most_worth_among}
 use Rattle.tn_market.specs.Widths.{most_worth}
 use Rattle.tn_command.proofs.solving.equilibrium.Goals as goal
 
@@ -18,7 +18,14 @@ few trades most = omega (arith, most)
 pub solve_in-requires : goal.solve_in-requires
 solve_in-requires c = (
   omega arith,
-  (c.requires, (c.in_ok-solver.ensures.one_each, (λ f v is. few (length c.args.market.now.trades) c.requires))),
+  (
+    c.requires.wide,
+    (
+      c.in_ok-solver.ensures.one_each,
+      (λ f v is. few (length c.args.market.now.trades)
+          c.requires.wide),
+    ),
+  ),
 )
 
 pub returns-clause-equilibrium : goal.returns-clause-equilibrium
@@ -35,5 +42,5 @@ returns-clause-one_each c = ap length c.in_ok-prices_of.ensures ∙ c.solve_in.e
 pub returns-clause-small : goal.returns-clause-small
 returns-clause-small c =
     subst (λ (prices : List ℤ). All (λ p. IsAtMost p most_price) prices) (sym c.in_ok-prices_of.ensures)
-    (small_prices (length c.args.market.now.trades) c.solve_in.new.self.prices c.requires
-    (c.solve_in.ensures.prices most_worth (λ f v is. omega arith)))
+    (small_prices (length c.args.market.now.trades) c.solve_in.new.self.prices c.requires.wide
+    (c.solve_in.ensures.prices (most_worth_among (length c.args.market.now.trades)) c.requires.worths))

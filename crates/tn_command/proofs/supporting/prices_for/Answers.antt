@@ -8,7 +8,7 @@ use Rattle.tn_plain_data.specs.declared.said.Said.TheVariants.{Supported}
 use Rattle.tn_answer.specs.Kept.{IsWithinClaims}
 use Rattle.tn_command.specs.Supported.{SupportsSet}
 use Rattle.tn_command.proofs.SupportedLemmas.{supports_imply, cycle_fits, cost_fits, if_ok}
-use Rattle.tn_market.specs.Widths.{most_worth}
+use Rattle.tn_plain_data.specs.Limits.{most_worth_among}
 use Rattle.tn_command.proofs.supporting.prices_for.Goals as goal
 
 pub returns-in-Supported-clause-answer : goal.returns-in-Supported-clause-answer
@@ -30,8 +30,8 @@ pub returns-in-Supported-clause-within : goal.returns-in-Supported-clause-within
 returns-in-Supported-clause-within c =
     let trades = c.args.market.now.trades in
     let small = small_prices (length trades) c.in-Supported.prices c.requires.wide
-    (subst (IsPricedWithin (2 * most_worth * length trades)) c.in-Supported.is
-    (c.in_ok-prices.ensures.prices most_worth (λ f v is. omega arith))) in
+    (subst (IsPricedWithin (2 * most_worth_among (length trades) * length trades)) c.in-Supported.is
+    (c.in_ok-prices.ensures.prices (most_worth_among (length trades)) c.requires.worths)) in
     if_ok IsWithinClaims c.supported.result (Supported (trades_on c.args.on.now (length trades)) c.in-Supported.prices
     trades) small c.supported.ensures
 
@@ -41,4 +41,5 @@ returns-clause-within c =
     let answer =
     subst (Supports firms c.args.market.now.trades c.args.on.now) c.in-Cycle.is c.in_ok-prices.ensures.answer in
     cost_fits c.in-Cycle.cost (cycle_fits c.args.market.now.firms c.args.market.now.trades c.args.on.now
-    c.in-Cycle.nodes c.in-Cycle.cost c.trades-count.ensures.network c.requires.wide answer.0)
+    c.in-Cycle.nodes c.in-Cycle.cost c.trades-count.ensures.network c.requires.wide
+    c.requires.worths answer.0)

@@ -36,9 +36,8 @@ pub returns-in-Feasible-clause-prices : goal.returns-in-Feasible-clause-prices
 returns-in-Feasible-clause-prices g c =
     let firms = map g.V.Valuation.firm c.args.market.now.firms in
     let trades = c.args.market.now.trades in
-    priced_within g.V.Valuation.firm g.V.Valuation.limit c.args.market.now.firms trades c.args.on.now
-    c.labels.new.self.labels c.in_ok-prices_from-in-Feasible.field-0 c.trades-trades.ensures.network
-    (λ v. (g.met.V.Valuation.lawful v).within)
+    priced_within firms trades c.args.on.now c.labels.new.self.labels c.in_ok-prices_from-in-Feasible.field-0
+    c.trades-trades.ensures.network
     (exchange_labels firms trades c.args.on.now c.in_ok-finder.finder.nodes c.fill.new.self c.labels.new.self.labels
     c.fill.ensures.graph (search rules) c.in-Feasible.ensures.answer.1)
     (read c.trades-trades.result (length trades) c.labels.new.self.labels c.in_ok-prices_from-in-Feasible.field-0

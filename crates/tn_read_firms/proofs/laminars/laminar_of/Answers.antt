@@ -1,5 +1,5 @@
 -- What shows the clauses of `laminar_of` of `src/laminars.rt`.
-use Rattle.std.proofs.Common.{rules, ◌≡◌, length, subst, sym, ap, ◌∙◌}
+use Rattle.std.proofs.Common.{rules, ◌≡◌, length, subst, sym, ap, ◌∙◌, arith}
 use Rattle.std.specs.Prelude.{ℤ, List, All}
 use Rattle.tn_base.specs.Widths.{most_amount}
 use Rattle.tn_base.specs.declared.side.Side.{Side}
@@ -10,6 +10,7 @@ use Rattle.tn_read_firms.specs.OwnNumbers.{no_numbers}
 use Rattle.tn_read_references.proofs.EntryLeads.{AreNumbers, all_within, zeros}
 use Rattle.tn_read_firms.proofs.OwnLemmas.{own_numbers_lead}
 use Rattle.tn_read_firms.proofs.LaminarLeads.{sets_lead}
+use Rattle.tn_read_firms.proofs.RoomLemmas.{sets_room}
 use Rattle.tn_read_firms.proofs.laminars.laminar_of.Goals as goal
 
 pub checked-requires-clause-small : goal.checked-requires-clause-small
@@ -25,7 +26,10 @@ checked-requires-clause-small c =
 
 pub checked-requires-clause-few_sets : goal.checked-requires-clause-few_sets
 checked-requires-clause-few_sets c =
-    ((sets_lead c.args.head.now c.ends.ensures.trades c.args.f _).at c.in_ok-sets.sets.items c.in_ok-sets.ensures).1
+    let most = c.ends.ensures.trades.limits.sets in
+    let few = ((sets_lead c.args.head.now c.ends.ensures.trades c.args.f _).at c.in_ok-sets.sets.items
+    c.in_ok-sets.ensures).1 in
+    omega (arith, few, most)
 
 pub checked-requires-clause-own : goal.checked-requires-clause-own
 checked-requires-clause-own c =
@@ -35,5 +39,6 @@ checked-requires-clause-own c =
 
 pub checked-requires-clause-numbered : goal.checked-requires-clause-numbered
 checked-requires-clause-numbered c =
+    sets_room c.args.head.now.limits c.ends.ensures.trades.limits c.in_ok-sets.sets.items
     ((sets_lead c.args.head.now c.ends.ensures.trades c.args.f _).at c.in_ok-sets.sets.items
     c.in_ok-sets.ensures).0.numbered

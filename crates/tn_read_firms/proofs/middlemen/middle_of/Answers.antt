@@ -5,7 +5,7 @@ use Rattle.tn_base.specs.Widths.{most_amount}
 use Rattle.tn_read_firms.specs.Middlemen.{costs_list, gains_list}
 use Rattle.tn_read_references.specs.Ordered.{sides_of}
 use Rattle.tn_read_firms.specs.OwnNumbers.{no_numbers}
-use Rattle.tn_read_references.proofs.EntryLeads.{AreNumbers, all_within, zeros}
+use Rattle.tn_read_references.proofs.EntryLeads.{AreNumbers, all_within, within_more, zeros}
 use Rattle.tn_read_firms.proofs.OwnLemmas.{own_numbers_lead}
 use Rattle.tn_read_firms.proofs.MiddleLeads.{keep_leads}
 use Rattle.tn_read_firms.proofs.middlemen.middle_of.Goals as goal
@@ -25,4 +25,6 @@ new-requires-clause-small c =
 
 pub new-requires-clause-small_keep : goal.new-requires-clause-small_keep
 new-requires-clause-small_keep c =
-    (keep_leads c.args.head.now.limits c.ends.ensures.trades.limits _ _).at c.in_ok-keep.keep c.in_ok-keep.ensures
+    let limits = c.args.head.now.limits in
+    let small = (keep_leads limits _ _).at c.in_ok-keep.keep c.in_ok-keep.ensures in
+    λ number is. within_more number limits.amount most_amount c.ends.ensures.trades.limits.amount (small number is)

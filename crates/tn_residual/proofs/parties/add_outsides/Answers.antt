@@ -1,5 +1,5 @@
 -- What shows the clauses of `add_outsides` of `src/parties.rt`.
-use Rattle.std.proofs.Common.{rules, ◌≡◌, ◌∙◌, arith, sym, ap, subst, suc, ◌+◌, ◌≤◌, ◌++◌, map, take, append-nil, ℕ, ℤ, ◌*ℤ◌, List}
+use Rattle.std.proofs.Common.{rules, ◌≡◌, ◌∙◌, arith, sym, ap, subst, suc, ◌+◌, ◌*◌, ◌≤◌, ◌++◌, map, take, append-nil, ℕ, ℤ, ◌*ℤ◌, List}
 use Rattle.std.proofs.lemmas.Int.{to_z-of_z}
 use Rattle.std.proofs.lemmas.List.{take_all}
 use Rattle.std.proofs.lemmas.Option.{slice_get_within, get_or_from_slice_get}
@@ -14,7 +14,7 @@ use Rattle.tn_plain_data.specs.Limits.{most_numerator}
 use Rattle.tn_market.specs.Outside.{outside}
 use Rattle.tn_market.specs.declared.party.Party.{Party}
 use Rattle.tn_market.specs.Parties.{party_firm, party_limit}
-use Rattle.tn_residual.specs.Residual.{outsides, residual_limit}
+use Rattle.tn_residual.specs.Residual.{outsides}
 use Rattle.tn_residual.proofs.MakingLemmas.{outsides-next, one_more, outside_limit}
 use Rattle.tn_residual.proofs.parties.add_outsides.Goals as goal
 
@@ -59,10 +59,11 @@ loop-c-preserved g c =
           (ap (λ (n : ℕ). outsides c.args.scale (take n c.args.outcome.now.contracts)) next
           ∙ outsides-next c.args.scale c.loop-c.c c.args.outcome.now.contracts c.at.result c.at.ensures)),
       λ limit enough old.
-          let bound : residual_limit c.args.scale ≤ limit = subst (λ (s : ℤ). residual_limit s ≤ limit) plain enough in
+          let bound : unsigned_abs c.args.scale * most_numerator ≤ limit =
+          subst (λ (s : ℤ). unsigned_abs s * most_numerator ≤ limit) plain enough in
           let here = outside_limit c.args.scale c.at.result.price small in
-          let size : unsigned_abs c.new.result.price ≤ residual_limit c.args.scale =
-          subst (λ (p : ℤ). unsigned_abs p ≤ residual_limit c.args.scale) (sym price_is) here in
+          let size : unsigned_abs c.new.result.price ≤ unsigned_abs c.args.scale * most_numerator =
+          subst (λ (p : ℤ). unsigned_abs p ≤ unsigned_abs c.args.scale * most_numerator) (sym price_is) here in
           subst (λ (items : List (Party g.row.V.Denot g.row.V-Mark.Denot g.V.Valuation)). All
           (λ party. party_limit g.V.Valuation party ≤ limit) items) (sym c.in_ok-push.ensures.items)
           (All-push (λ party. party_limit g.V.Valuation party ≤ limit) c.loop-c.parties.items _
@@ -76,7 +77,7 @@ pub returns-clause-limits : goal.returns-clause-limits
 returns-clause-limits g c = λ limit enough old.
     let scale_fits : SFits w128 c.args.scale = c.ranges.scale in
     let plain : to_z w128 (of_z w128 c.args.scale) ≡ c.args.scale = to_z-of_z w128 c.args.scale scale_fits in
-    c.loop-c.invariant.1 limit (subst (λ (s : ℤ). residual_limit s ≤ limit) (sym plain) enough) old
+    c.loop-c.invariant.1 limit (subst (λ (s : ℤ). unsigned_abs s * most_numerator ≤ limit) (sym plain) enough) old
 
 pub returns-clause-firms : goal.returns-clause-firms
 returns-clause-firms g c =

@@ -1,5 +1,5 @@
 -- What shows the clauses of `residual` of `src/residual_market.rt`.
-use Rattle.std.proofs.Common.{◌≡◌, ◌∙◌, arith, sym, ap, subst, ◌≤◌, length, map, ℕ, ◌*ℤ◌}
+use Rattle.std.proofs.Common.{◌≡◌, ◌∙◌, arith, sym, ap, subst, ◌≤◌, length, map, ℕ}
 use Rattle.std.specs.List.{All}
 use Rattle.std.proofs.lemmas.Int.{ints, to_z-of_z}
 use Rattle.std.proofs.lemmas.List.{length-map}
@@ -78,7 +78,8 @@ returns-clause-limits g c =
     let limits_are = simp to_z-of_z at c.in_ok-parties.ensures.limits in
     IfOk-weaker c.new.result _ _
     (λ market is. subst (λ (m : Traded (Party g.row.V.Denot g.row.V-Mark.Denot g.V.Valuation)).
-    All (λ party. party_limit g.V.Valuation party ≤ residual_limit (c.args.outcome.now.over *ℤ c.args.scale)) m.firms)
+    All (λ party. party_limit g.V.Valuation party ≤ residual_limit (length c.args.market.now.trades)
+    c.args.outcome.now.over c.args.scale) m.firms)
     (sym is) limits_are) c.new.ensures
 
 pub returns-clause-surplus : goal.returns-clause-surplus

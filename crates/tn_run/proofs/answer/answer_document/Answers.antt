@@ -8,8 +8,94 @@ use Rattle.tn_file.specs.Laws.{IsDocument}
 use Rattle.tn_file.specs.Refusal.{IsFor, document_view}
 use Rattle.tn_run.specs.Answer.{IsAnswerOf}
 use Rattle.tn_run.specs.Words.{need_of}
+use Rattle.tn_run.proofs.FitLemmas.{market_fits, raw_fits}
 use Rattle.tn_run.proofs.VerdictLemmas.{verdict_answers}
 use Rattle.tn_run.proofs.answer.answer_document.Goals as goal
+
+pub answer_network-requires-clause-few_trades : goal.answer_network-requires-clause-few_trades
+answer_network-requires-clause-few_trades c =
+    (market_fits (need_of c.args.command) c.args.doc.now c.requires.document c.in-Market.market c.in-Market.extra
+    c.in-Market.is).few_trades
+
+pub answer_network-requires-clause-worths : goal.answer_network-requires-clause-worths
+answer_network-requires-clause-worths c =
+    (market_fits (need_of c.args.command) c.args.doc.now c.requires.document c.in-Market.market c.in-Market.extra
+    c.in-Market.is).worths
+
+pub check-requires-clause-wide : goal.check-requires-clause-wide
+check-requires-clause-wide c =
+    (market_fits (need_of c.args.command) c.args.doc.now c.requires.document c.in-Market.market c.in-Market.extra
+    c.in-Market.is).few_trades
+
+pub prices_for-requires-clause-wide : goal.prices_for-requires-clause-wide
+prices_for-requires-clause-wide c =
+    (market_fits (need_of c.args.command) c.args.doc.now c.requires.document c.in-Market.market c.in-Market.extra
+    c.in-Market.is).few_trades
+
+pub prices_for-requires-clause-worths : goal.prices_for-requires-clause-worths
+prices_for-requires-clause-worths c =
+    (market_fits (need_of c.args.command) c.args.doc.now c.requires.document c.in-Market.market c.in-Market.extra
+    c.in-Market.is).worths
+
+pub judge_outcome-requires-clause-few_firms : goal.judge_outcome-requires-clause-few_firms
+judge_outcome-requires-clause-few_firms c =
+    (market_fits (need_of c.args.command) c.args.doc.now c.requires.document c.in-Market.market c.in-Market.extra
+    c.in-Market.is).few_firms
+
+pub judge_outcome-requires-clause-wide : goal.judge_outcome-requires-clause-wide
+judge_outcome-requires-clause-wide c =
+    (market_fits (need_of c.args.command) c.args.doc.now c.requires.document c.in-Market.market c.in-Market.extra
+    c.in-Market.is).few_trades
+
+pub judge_outcome-requires-clause-worths : goal.judge_outcome-requires-clause-worths
+judge_outcome-requires-clause-worths c =
+    (market_fits (need_of c.args.command) c.args.doc.now c.requires.document c.in-Market.market c.in-Market.extra
+    c.in-Market.is).worths
+
+pub states_after-requires-clause-wide : goal.states_after-requires-clause-wide
+states_after-requires-clause-wide c =
+    (market_fits (need_of c.args.command) c.args.doc.now c.requires.document c.in-Market.market c.in-Market.extra
+    c.in-Market.is).few_trades
+
+pub states_after-requires-clause-worths : goal.states_after-requires-clause-worths
+states_after-requires-clause-worths c =
+    (market_fits (need_of c.args.command) c.args.doc.now c.requires.document c.in-Market.market c.in-Market.extra
+    c.in-Market.is).worths
+
+pub replay_claim-requires-clause-few_firms : goal.replay_claim-requires-clause-few_firms
+replay_claim-requires-clause-few_firms c =
+    (market_fits (need_of c.args.command) c.args.doc.now c.requires.document c.in-Market.market c.in-Market.extra
+    c.in-Market.is).few_firms
+
+pub replay_claim-requires-clause-wide : goal.replay_claim-requires-clause-wide
+replay_claim-requires-clause-wide c =
+    (market_fits (need_of c.args.command) c.args.doc.now c.requires.document c.in-Market.market c.in-Market.extra
+    c.in-Market.is).few_trades
+
+pub replay_claim-requires-clause-worths : goal.replay_claim-requires-clause-worths
+replay_claim-requires-clause-worths c =
+    (market_fits (need_of c.args.command) c.args.doc.now c.requires.document c.in-Market.market c.in-Market.extra
+    c.in-Market.is).worths
+
+pub test-requires-clause-few_firms : goal.test-requires-clause-few_firms
+test-requires-clause-few_firms c =
+    (raw_fits (need_of c.args.command) c.args.doc.now c.requires.document c.in-Raw.net c.in-Raw.extra
+    c.in-Raw.is).few_firms
+
+pub test-requires-clause-few_trades : goal.test-requires-clause-few_trades
+test-requires-clause-few_trades c =
+    (raw_fits (need_of c.args.command) c.args.doc.now c.requires.document c.in-Raw.net c.in-Raw.extra
+    c.in-Raw.is).few_trades
+
+pub replay_raw-requires-clause-few_firms : goal.replay_raw-requires-clause-few_firms
+replay_raw-requires-clause-few_firms c =
+    (raw_fits (need_of c.args.command) c.args.doc.now c.requires.document c.in-Raw.net c.in-Raw.extra
+    c.in-Raw.is).few_firms
+
+pub replay_raw-requires-clause-few_trades : goal.replay_raw-requires-clause-few_trades
+replay_raw-requires-clause-few_trades c =
+    (raw_fits (need_of c.args.command) c.args.doc.now c.requires.document c.in-Raw.net c.in-Raw.extra
+    c.in-Raw.is).few_trades
 
 pub returns-in-Arrangement-clause-answer : goal.returns-in-Arrangement-clause-answer
 returns-in-Arrangement-clause-answer c =

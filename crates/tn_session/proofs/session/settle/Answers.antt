@@ -40,5 +40,5 @@ returns-clause-equilibrium g c =
 
 pub returns-clause-prices : goal.returns-clause-prices
 returns-clause-prices g c =
-    small_prices g.V.Valuation.limit c.args.market.now c.settle.new.self.allowed c.settle.new.self.on
+    small_prices g.V.Valuation.firm c.args.market.now c.settle.new.self.allowed c.settle.new.self.on
     c.settle.new.self.finder.labels (returns-clause-settled g c).settled

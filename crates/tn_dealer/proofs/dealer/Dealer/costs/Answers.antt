@@ -3,7 +3,7 @@ use Rattle.std.proofs.Common.{rules, arith, refl, length, sym, subst, ℕ, ℤ, 
 use Rattle.std.specs.Prelude.{set}
 use Rattle.std.proofs.lemmas.Int.{to_z-of_z}
 use Rattle.std.proofs.lemmas.Option.{slice_get_read}
-use mir.Syntax.{w64}
+use mir.Syntax.{w32}
 use mir.Val.{SFits}
 use Rattle.tn_dealer.specs.Costs.{AreCostsBelow}
 use Rattle.tn_dealer.specs.WorthLemmas.{own_pairs}
@@ -19,7 +19,7 @@ loop-k-preserved c =
     let pairs = dealer.pairs.items in
     let pair = c.index-pair.result.now in
     let own = own_pairs dealer.trades dealer.buys pairs dealer.dealer.own in
-    let fit : SFits w64 c.cost_of.result = search rules in
+    let fit : SFits w32 c.cost_of.result = search rules in
     let count : c.len-k-end.result ≡ length c.args.self.now.pairs.items = search rules in
     let below = c.loop-k-test.true in
     let is = slice_get_read pairs (length pairs) c.loop-k.k pair refl (omega (arith, below, count)) c.index-pair.ensures

@@ -5,7 +5,6 @@ use Rattle.tn_dealer.specs.Certificates.{number_at, KeepsBeside}
 use Rattle.tn_dealer.specs.WorthLemmas.{own_pairs}
 use Rattle.tn_dealer.proofs.CertificateLemmas.{keeps_listed, keeps_more}
 use Rattle.tn_dealer.proofs.dealer.Dealer.keeps.Goals as goal
-use Rattle.tn_market.specs.Widths.{most_own}
 
 pub loop-buy-init : goal.loop-buy-init
 loop-buy-init c = λ buy below. absurd (omega (arith, below))
@@ -15,9 +14,9 @@ loop-buy-preserved c =
     let dealer = c.args.self.now in
     let number = number_at c.args.numbers.now in
     keeps_more c.args.priced c.args.costs.now number (meet c.args.x dealer.buys) (minus c.args.x dealer.buys)
-    c.loop-buy.buy c.loop-buy.invariant
-    (λ member. subst (λ (sales : ℕ). KeepsBeside c.args.priced c.args.costs.now number sales c.loop-buy.buy most_own)
-    c.minus-sales.ensures
+    dealer.trades c.loop-buy.buy c.loop-buy.invariant
+    (λ member. subst (λ (sales : ℕ). KeepsBeside c.args.priced c.args.costs.now number sales c.loop-buy.buy
+    dealer.trades) c.minus-sales.ensures
     (c.keeps_beside.ensures c.if-not-keeps_beside.false (ap (λ (z : ℕ). has z c.loop-buy.buy) c.meet-purchases.ensures
     ∙ member)))
 
@@ -25,6 +24,6 @@ pub returns : goal.returns
 returns c = λ _.
     let dealer = c.args.self.now in
     keeps_listed dealer.trades dealer.buys dealer.pairs.items c.args.costs.now c.args.priced
-    (number_at c.args.numbers.now) c.args.x dealer.dealer.few
+    (number_at c.args.numbers.now) c.args.x
     (own_pairs dealer.trades dealer.buys dealer.pairs.items dealer.dealer.own) c.requires.costs
     (λ buy near member. c.loop-buy.invariant buy (let past = c.loop-buy-test.false in omega (arith, near, past)) member)

@@ -10,6 +10,7 @@ use Rattle.tn_law.proofs.PairLemmas.{IsWorth}
 use Rattle.tn_dealer.specs.WorthLemmas.{own_pairs}
 use Rattle.tn_dealer.proofs.CertificateLemmas.{shows_none, shows_least, cost_fits, minus_is}
 use Rattle.tn_dealer.proofs.dealer.Dealer.shown.Goals as goal
+use Rattle.tn_market.specs.Widths.{most_own}
 
 pub returns-then-keeps : goal.returns-then-keeps
 returns-then-keeps c =
@@ -17,7 +18,7 @@ returns-then-keeps c =
     let more = simp to_z-of_z at c.if-sum-gt0.true in
     let sum = c.sum-sum.ensures.sum in
     shows_none c.args.self.now.trades c.args.self.now.buys (number_at c.args.found.now.numbers)
-    c.args.self.now.pairs.items c.args.self.now.dealer.few
+    c.args.self.now.pairs.items
     (own_pairs c.args.self.now.trades c.args.self.now.buys c.args.self.now.pairs.items c.args.self.now.dealer.own)
     c.args.x
     (omega (arith, ints, more, sum)) (c.keeps.ensures c.if-keeps.true)
@@ -26,8 +27,8 @@ pub returns-then-keeps-2 : goal.returns-then-keeps-2
 returns-then-keeps-2 c =
     let fit : SFits w128 c.sum-sum.result = search rules in
     let small = c.taken-bundle.ensures.small in
-    let length_fits : 32 < 2 ^ 64 = search rules in
-    let cost_fit : SFits w128 c.taken-bundle.result.1 = cost_fits c.taken-bundle.result.1 32 small length_fits in
+    let length_fits : most_own < 2 ^ 64 = search rules in
+    let cost_fit : SFits w128 c.taken-bundle.result.1 = cost_fits c.taken-bundle.result.1 most_own small length_fits in
     let equal : to_z w128 (of_z w128 c.taken-bundle.result.1) ≡ to_z w128 (of_z w128 c.sum-sum.result) =
     ap (to_z w128) c.if-cost-sum.true in
     let same = simp to_z-of_z at equal in
@@ -35,9 +36,9 @@ returns-then-keeps-2 c =
     let worth = subst (λ (x : ℕ). IsWorth (matched_worth c.args.self.now.pairs.items) x (neg_ℤ c.taken-bundle.result.1))
     bundle c.taken-bundle.ensures.worth in
     let sum = c.sum-sum.ensures.sum in
-    ap Some (minus_is c.taken-bundle.result.1 32 small length_fits)
+    ap Some (minus_is c.taken-bundle.result.1 most_own small length_fits)
     ∙ shows_least c.args.self.now.trades c.args.self.now.buys (number_at c.args.found.now.numbers)
-    c.args.self.now.pairs.items c.args.self.now.dealer.few
+    c.args.self.now.pairs.items
     (own_pairs c.args.self.now.trades c.args.self.now.buys c.args.self.now.pairs.items c.args.self.now.dealer.own)
     c.args.x c.taken-bundle.result.1 worth
     (sym (same ∙ sum)) (c.keeps-then-cost-sum.ensures c.if-keeps-2.true)

@@ -66,10 +66,9 @@ returns-clause-solution g c =
 pub returns-clause-prices : goal.returns-clause-prices
 returns-clause-prices g c =
     let count = c.trades.ensures.count in
-    prices_within g.V.Valuation.firm g.V.Valuation.limit c.args.market.now.firms c.args.market.now.trades
+    prices_within (map g.V.Valuation.firm c.args.market.now.firms) c.args.market.now.trades
     c.admit_all.new.self.allowed c.admit_all.new.self.on
     c.settle.new.self.finder.labels c.write_differences.new.into.items c.trades.ensures.network
-    (λ v. (g.met.V.Valuation.lawful v).within) c.settle.ensures.labels (c.write_differences.ensures.one_each
-    ∙ count)
+    c.settle.ensures.labels (c.write_differences.ensures.one_each ∙ count)
     (read c.write_differences.new.into.items c.settle.new.self.finder.labels c.trades.result
     (length c.args.market.now.trades) count c.write_differences.ensures.each)

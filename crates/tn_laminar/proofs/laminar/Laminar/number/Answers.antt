@@ -7,7 +7,7 @@ use mir.Syntax.{w32}
 use mir.Val.{SFits}
 use Rattle.tn_law.specs.Nested.{listed_from}
 use Rattle.tn_laminar.specs.Masked.{masks_of}
-use Rattle.tn_laminar.specs.LawLemmas.{all_at}
+use Rattle.tn_laminar.specs.WithinLemmas.{all_at}
 use Rattle.tn_laminar.specs.Sum.{HasNumbersWithin}
 use Rattle.tn_laminar.proofs.ValueLemmas.{number_by_masks, number_small}
 use Rattle.tn_laminar.proofs.laminar.Laminar.number.Goals as goal

@@ -22,7 +22,8 @@ admit-requires g c = (
           (
             search rules,
             near-wider most_path most_label c.self.inside.rounds.finder.labels (omega arith)
-                (numbers_near g.V.Valuation.limit c.self.inside.market.now c.self.inside.rounds.finder.labels
+                (numbers_near g.V.Valuation.firm g.V.Valuation.limit c.self.inside.market.now
+                c.self.inside.rounds.finder.labels (λ v. (g.met.V.Valuation.lawful v).within)
                 c.self.invariant.small c.self.invariant.under_way.labels.one_each c.self.invariant.settled),
           ),
         ),
@@ -41,7 +42,8 @@ settle-requires g c = (
       (
         c.admit.ensures.under_way,
         c.admit.ensures.near most_path
-            (numbers_near g.V.Valuation.limit c.self.inside.market.now c.self.inside.rounds.finder.labels
+            (numbers_near g.V.Valuation.firm g.V.Valuation.limit c.self.inside.market.now
+            c.self.inside.rounds.finder.labels (λ v. (g.met.V.Valuation.lawful v).within)
             c.self.invariant.small c.self.invariant.under_way.labels.one_each c.self.invariant.settled),
       ),
     ),
@@ -57,8 +59,8 @@ returns-then-has-clause-equilibrium g c = subst (HoldsEquilibrium g.V.Valuation.
     c.self.invariant.under_way)
 
 pub returns-then-has-clause-prices : goal.returns-then-has-clause-prices
-returns-then-has-clause-prices g c = subst (HasSmallPrices g.V.Valuation.limit) c.self.view_is
-    (small_prices g.V.Valuation.limit c.self.inside.market.now c.self.inside.rounds.allowed c.self.inside.rounds.on
+returns-then-has-clause-prices g c = subst (HasSmallPrices g.V.Valuation.firm) c.self.view_is
+    (small_prices g.V.Valuation.firm c.self.inside.market.now c.self.inside.rounds.allowed c.self.inside.rounds.on
     c.self.inside.rounds.finder.labels c.self.invariant.settled)
 
 pub returns-clause-admitted : goal.returns-clause-admitted

@@ -24,7 +24,8 @@ switch_off-requires g c = (
             (
               search rules,
               near-wider most_path most_label c.self.inside.rounds.finder.labels (omega arith)
-                  (numbers_near g.V.Valuation.limit c.self.inside.market.now c.self.inside.rounds.finder.labels
+                  (numbers_near g.V.Valuation.firm g.V.Valuation.limit c.self.inside.market.now
+                  c.self.inside.rounds.finder.labels (λ v. (g.met.V.Valuation.lawful v).within)
                   c.self.invariant.small c.self.invariant.under_way.labels.one_each c.self.invariant.settled),
             ),
           ),
@@ -44,7 +45,8 @@ settle-requires g c = (
       (
         c.switch_off.ensures.under_way,
         c.switch_off.ensures.near most_path
-            (numbers_near g.V.Valuation.limit c.self.inside.market.now c.self.inside.rounds.finder.labels
+            (numbers_near g.V.Valuation.firm g.V.Valuation.limit c.self.inside.market.now
+            c.self.inside.rounds.finder.labels (λ v. (g.met.V.Valuation.lawful v).within)
             c.self.invariant.small c.self.invariant.under_way.labels.one_each c.self.invariant.settled),
       ),
     ),
@@ -60,8 +62,8 @@ returns-then-not-has-clause-equilibrium g c = subst (HoldsEquilibrium g.V.Valuat
     c.self.invariant.under_way)
 
 pub returns-then-not-has-clause-prices : goal.returns-then-not-has-clause-prices
-returns-then-not-has-clause-prices g c = subst (HasSmallPrices g.V.Valuation.limit) c.self.view_is
-    (small_prices g.V.Valuation.limit c.self.inside.market.now c.self.inside.rounds.allowed c.self.inside.rounds.on
+returns-then-not-has-clause-prices g c = subst (HasSmallPrices g.V.Valuation.firm) c.self.view_is
+    (small_prices g.V.Valuation.firm c.self.inside.market.now c.self.inside.rounds.allowed c.self.inside.rounds.on
     c.self.inside.rounds.finder.labels c.self.invariant.settled)
 
 pub invariant_of-self-else-has : goal.invariant_of-self-else-has
@@ -94,5 +96,5 @@ returns-else-has-clause-equilibrium g c =
 
 pub returns-else-has-clause-prices : goal.returns-else-has-clause-prices
 returns-else-has-clause-prices g c =
-    small_prices g.V.Valuation.limit c.self.inside.market.now c.toggle.new.self c.self.inside.rounds.on
+    small_prices g.V.Valuation.firm c.self.inside.market.now c.toggle.new.self c.self.inside.rounds.on
     c.self.inside.rounds.finder.labels (invariant_of-self-else-has g c).settled
