@@ -578,9 +578,9 @@ module _ (names : NameLists) (firms : IsNameList names.firms) (trades : IsNameLi
   same_object (PageIs Help) (PageIs Help) h k short short' line e = refl
   same_object (PageIs VersionPage) (PageIs VersionPage) h k short short' line e = refl
   same_object (PageIs Help) (PageIs VersionPage) h k short short' line e =
-      absurd (clash 102 49 refl (ap eighth_byte line))
+      absurd (clash 102 50 refl (ap eighth_byte line))
   same_object (PageIs VersionPage) (PageIs Help) h k short short' line e =
-      absurd (clash 49 102 refl (ap eighth_byte line))
+      absurd (clash 50 102 refl (ap eighth_byte line))
   same_object first second h k short short' line e =
       absurd (clash (mark (answer_text first)) (mark (answer_text second)) refl (same_mark first second e))
 

@@ -48,7 +48,7 @@ help_lines =
 
 -- the program's version, and the kit that proved it
 abbrev pub version_lines : List (List ℕ)
-version_lines = codes "market 1.9.0" ∷ codes "rattle-kit-13f logic dac8208d650f15bf" ∷ []
+version_lines = codes "market 2.0.0" ∷ codes "rattle-kit-13f logic dac8208d650f15bf" ∷ []
 
 abbrev pub page_lines : Page → List (List ℕ)
 page_lines Help = help_lines

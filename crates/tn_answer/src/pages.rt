@@ -58,7 +58,7 @@ fn help_text() -> &'static str
 fn version_text() -> &'static str
     ensures { result.now ≡ lines_text version_lines }
 {
-    concat!("market 1.9.0\n", "rattle-kit-13f logic dac8208d650f15bf\n")
+    concat!("market 2.0.0\n", "rattle-kit-13f logic dac8208d650f15bf\n")
 }
 
 /// The lines of a page.

@@ -24,8 +24,6 @@ const SHAPE: &str = "{\"answer\":\"fault\",\"fault\":3,\"name\":\"Shape\",\"plac
 
 const USAGE: &str = "{\"answer\":\"usage\"}\n";
 
-const VERSION: &str = "market 1.9.0\nrattle-kit-13f logic dac8208d650f15bf\n";
-
 const HELP_BEGINS: &[u8] =
     b"market finds, checks and judges equilibria of trading networks.\n\n  check ";
 
@@ -69,17 +67,21 @@ fn answers_each_document(rt: HostRuntime) -> Result<(), Fail> {
         ("check", b"null", 1, SHAPE),
         ("solve solve", DEAL, 2, USAGE),
         ("", DEAL, 2, USAGE),
-        ("--version", DEAL, 0, VERSION),
         ("check --help", DEAL, 2, USAGE),
     ] {
         let (found, written) = run_on(rt.alloc(), words, document)?;
         assert_eq!(rt; found, status);
         assert_eq!(rt; written.as_slice(), text.as_bytes());
     }
-    for words in ["help", "-h", "--help"] {
+    for (words, begins) in [
+        ("help", HELP_BEGINS),
+        ("-h", HELP_BEGINS),
+        ("--help", HELP_BEGINS),
+        ("--version", b"market ".as_slice()),
+    ] {
         let (found, written) = run_on(rt.alloc(), words, DEAL)?;
         assert_eq!(rt; found, 0);
-        assert!(rt; written.starts_with(HELP_BEGINS), "{words}");
+        assert!(rt; written.starts_with(begins), "{words}");
     }
     assert_eq!(rt;
         no_memory_text(),
