@@ -1,5 +1,6 @@
 # A network of four sellers and four buyers, each with a capacity of half its trades, whose amounts are drawn from a number: trade
-# k goes from S(k) to B(k + k / 4), counted in fours. Needs jq 1.6 or later, called without input:
+# k goes from S(k) to B(k + k / 4), counted in fours. Beyond 240 trades there are eight, twelve and more of each, and it is counted in
+# so many, so that none has more than 60 own trades. Needs jq 1.6 or later, called without input:
 #   jq -n -c --argjson size 32 --argjson start 1 -f dense.jq
 
 # (as in drill.jq)
@@ -10,10 +11,11 @@ def firm($name; $own; $sign): ([$own | length / 2 | floor, 1] | max) as $most
   | {name: $name, kind: "laminar", amounts: $own,
      sets: [{trades: ($own | map(.[0])), from: (if $sign < 0 then -$most else 0 end), values: [range($most + 1) | 0]}]};
 
-({state: ($start | next)} | draws(2 * $size)) as $drawn
-| [range($size) | {name: "t\(.)", seller: "S\(. % 4)", buyer: "B\((. + (. / 4 | floor)) % 4)", cost: ($drawn[2 * .] % 100), gain: (50 + $drawn[2 * . + 1] % 100)}] as $trades
-| {version: (if $size > 64 then 2 else 1 end),
+([4 * ($size / 240 | ceil), 4] | max) as $many
+| ({state: ($start | next)} | draws(2 * $size)) as $drawn
+| [range($size) | {name: "t\(.)", seller: "S\(. % $many)", buyer: "B\((. + (. / $many | floor)) % $many)", cost: ($drawn[2 * .] % 100), gain: (50 + $drawn[2 * . + 1] % 100)}] as $trades
+| {version: (if $size > 128 then 3 elif $size > 64 then 2 else 1 end),
    firms: [
-     (range(4) | "S\(.)" as $name | firm($name; [$trades[] | select(.seller == $name) | [.name, 0 - .cost]]; -1)),
-     (range(4) | "B\(.)" as $name | firm($name; [$trades[] | select(.buyer == $name) | [.name, .gain]]; 1))],
+     (range($many) | "S\(.)" as $name | firm($name; [$trades[] | select(.seller == $name) | [.name, 0 - .cost]]; -1)),
+     (range($many) | "B\(.)" as $name | firm($name; [$trades[] | select(.buyer == $name) | [.name, .gain]]; 1))],
    trades: ($trades | map({name, seller, buyer}))}

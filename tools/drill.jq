@@ -1,8 +1,11 @@
 # The network of `drill SIZE START` as a document, drawn as docs/ANSWERS.md says; its trades are t0, t1 and so on. Beyond the 64
-# trades of `drill` it goes on in the same way, up to 128. Needs jq 1.6 or later, called without input:
+# trades of `drill` it goes on in the same way, up to 1,024: beyond 240 with two, three and more times as many firms, so that none
+# has more than 60 own trades. Needs jq 1.6 or later, called without input:
 #   jq -n -c --argjson size 3 --argjson start 1 -f drill.jq
 
-def over($n): . / $n | floor;
+# how many times the firms of a small network there are: a middleman has at most a quarter of each 240 trades
+([$size / 240 | ceil, 1] | max) as $times
+| def over($n): . / $n | floor;
 # (products stay below 2^53, up to which jq counts exactly: the multiplier is taken in two parts)
 def next: (. * 16838 % 2147483648 * 65536 + . * 20077 + 12345) % 2147483648;
 # a number below $n, after what was drawn before
@@ -11,10 +14,10 @@ def draw($n): .state |= next | .drawn += [.state | over(65536) % $n];
 def draws($i): draw(2) | draw(if $i % 2 == 0 then 50 else 100 end) | draw(10);
 # trade $i: from a producer to a middleman, or from a middleman to a consumer
 def trade($i; $step; $amount; $number):
-  "t\($i)" as $name | ($i | over(2)) as $turn | "M\(($turn + $step) % 8)" as $middleman
+  "t\($i)" as $name | ($i | over(2)) as $turn | "M\(($turn + $step) % (8 * $times))" as $middleman
   | if $i % 2 == 0
-    then {name: $name, seller: "P\($turn % 4)", buyer: $middleman, numbers: [-(1 + $amount), $number]}
-    else {name: $name, seller: $middleman, buyer: "C\($turn % 4)", numbers: [$number, 50 + $amount]} end;
+    then {name: $name, seller: "P\($turn % (4 * $times))", buyer: $middleman, numbers: [-(1 + $amount), $number]}
+    else {name: $name, seller: $middleman, buyer: "C\($turn % (4 * $times))", numbers: [$number, 50 + $amount]} end;
 
 reduce range($size) as $i ({state: $start, trades: []};
     .drawn = [] | draws($i) | .trades += [trade($i; .drawn[0]; .drawn[1]; .drawn[2])])
@@ -23,10 +26,10 @@ reduce range($size) as $i ({state: $start, trades: []};
   def purchases($firm): [$trades[] | select(.buyer == $firm)];
   def laminar($own; $at; $from; $values):
     {kind: "laminar", amounts: ($own | map([.name, .numbers[$at]])), sets: [{trades: ($own | map(.name)), from: $from, values: $values}]};
-  {version: (if $size > 64 then 2 else 1 end),
+  {version: (if $size > 128 then 3 elif $size > 64 then 2 else 1 end),
    firms: (
-     [range(4) | "P\(.)" | {name: .} + laminar(sales(.); 0; -3; [-9, -4, -1, 0])]
-     + [range(8) | "M\(.)" | {name: ., kind: "middleman",
+     [range(4 * $times) | "P\(.)" | {name: .} + laminar(sales(.); 0; -3; [-9, -4, -1, 0])]
+     + [range(8 * $times) | "M\(.)" | {name: ., kind: "middleman",
           costs: (purchases(.) | map([.name, .numbers[1]])), gains: (sales(.) | map([.name, .numbers[0]]))}]
-     + [range(4) | "C\(.)" | {name: .} + laminar(purchases(.); 1; 0; [0, -1, -4, -9])]),
+     + [range(4 * $times) | "C\(.)" | {name: .} + laminar(purchases(.); 1; 0; [0, -1, -4, -9])]),
    trades: ($trades | map({name, seller, buyer}))}

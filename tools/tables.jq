@@ -13,6 +13,6 @@
   def rows($k): (bought($k) + sold($k)) as $own | range(1; pow(2; 2 * $half)) | members($own[:$half]) as $in
     | (. / pow(2; $half) | floor | members($own[$half:])) as $out
     | [$in + $out, ([$in | length, 1] | min) - (($in | length) - ($out | length) | fabs)];
-  {version: (if $count > 64 then 2 else 1 end),
+  {version: (if $count > 128 then 3 elif $count > 64 then 2 else 1 end),
    firms: [range($firms) | {name: "F\(.)", kind: "table", rows: [rows(.)]}],
    trades: [range($count) | {name: $names[.], seller: "F\(. / $half | floor)", buyer: "F\(((. / $half | floor) + 1) % $firms)"}]}
