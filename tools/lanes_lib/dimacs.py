@@ -10,7 +10,7 @@ import math
 from dataclasses import dataclass
 from typing import Iterator, Optional
 
-from .document import LARGEST, MOST_FIRMS, MOST_OF_VERSION_1, MOST_OWN_TRADES, MOST_TRADES
+from .document import LARGE, Version, version_for
 from .tables import Trouble
 
 
@@ -89,11 +89,12 @@ def flow_document(flow: Flow, lot: Optional[int] = None) -> dict:
     if any(supply % lot for supply in flow.supplies.values()):
         raise Trouble(f"a supply is no whole number of lots of {lot}")
     worth = 1 + sum(abs(arc.cost) for arc in flow.arcs) * lot
-    trades = trades_of(flow, lot)
-    if worth * (flow.demand // lot) > LARGEST:
-        raise Trouble(f"the demand is worth {worth * (flow.demand // lot)}, and {LARGEST} is the most")
+    trades, version = trades_of(flow, lot)
+    if worth * (flow.demand // lot) > version.largest:
+        raise Trouble(f"the demand is worth {worth * (flow.demand // lot)}, and {version.largest} is the most where "
+                      f"there are {flow.size} firms and {len(trades)} lots")
     return {
-        "version": 1 if max(flow.size, len(trades)) <= MOST_OF_VERSION_1 else 2,
+        "version": version.number,
         "note": {"lot": lot, "worth": worth, "demand": flow.demand // lot},
         "firms": [firm_of(number, flow.supplies.get(number, 0) // lot, worth, trades)
                   for number in range(1, flow.size + 1)],
@@ -101,12 +102,12 @@ def flow_document(flow: Flow, lot: Optional[int] = None) -> dict:
     }
 
 
-def trades_of(flow: Flow, lot: int) -> list[tuple[str, Arc, int]]:
-    """A trade for each lot of each arc: its name, the arc, and what it costs. Where no arc has a cost below 0, no more
-    lots than are demanded go by one."""
-    if flow.size > MOST_FIRMS:
-        raise Trouble(f"there are {flow.size} firms, and a document has at most {MOST_FIRMS}")
-    demand = flow.demand // lot if all(arc.cost >= 0 for arc in flow.arcs) else MOST_TRADES
+def trades_of(flow: Flow, lot: int) -> tuple[list[tuple[str, Arc, int]], Version]:
+    """A trade for each lot of each arc: its name, the arc, and what it costs; and the version that has room for them.
+    Where no arc has a cost below 0, no more lots than are demanded go by one."""
+    if flow.size > LARGE.most:
+        raise Trouble(f"there are {flow.size} firms, and a document has at most {LARGE.most}")
+    demand = flow.demand // lot if all(arc.cost >= 0 for arc in flow.arcs) else LARGE.most
     trades: list[tuple[str, Arc, int]] = []
     own: dict[int, int] = {}
     for k, arc in enumerate(flow.arcs, 1):
@@ -114,12 +115,12 @@ def trades_of(flow: Flow, lot: int) -> list[tuple[str, Arc, int]]:
         trades += [(f"a{k}.{n}", arc, arc.cost * lot) for n in range(1, lots + 1)]
         for number in (arc.source, arc.target):
             own[number] = own.get(number, 0) + lots
-            if own[number] > MOST_OWN_TRADES:
-                raise Trouble(f"{arc.place}: with this arc {number} has more than {MOST_OWN_TRADES} lots that may come "
+            if own[number] > LARGE.most_own:
+                raise Trouble(f"{arc.place}: with this arc {number} has more than {LARGE.most_own} lots that may come "
                               "or go, which is the most")
-        if len(trades) > MOST_TRADES:
-            raise Trouble(f"{arc.place}: with this arc there are more than {MOST_TRADES} lots, which is the most")
-    return trades
+        if len(trades) > LARGE.most:
+            raise Trouble(f"{arc.place}: with this arc there are more than {LARGE.most} lots, which is the most")
+    return trades, version_for(max(flow.size, len(trades)), max(own.values(), default=0))
 
 
 def firm_of(number: int, supply: int, worth: int, trades: list[tuple[str, Arc, int]]) -> dict:

@@ -18,15 +18,39 @@ from typing import Iterable, Iterator, Optional, Union
 from .network import BUYS, SELLS, Firm, Lane, Network, Schedule, each
 from .tables import Measure, Trouble, digits, raise_all
 
-MOST_FIRMS = MOST_TRADES = 128
-MOST_OF_VERSION_1 = 64
-MOST_OWN_TRADES = 32
-LARGEST = 1_000_000_000
 LONGEST_NAME = 32
 # letters that have no accent to take away
 PLAIN_LETTERS = str.maketrans({
     "ł": "l", "Ł": "L", "ø": "o", "Ø": "O", "đ": "d", "Đ": "D", "ß": "ss", "æ": "ae", "Æ": "AE", "œ": "oe", "Œ": "OE",
     "þ": "th", "Þ": "Th", "ð": "d", "Ð": "D", "ı": "i"})
+
+
+@dataclass(frozen=True)
+class Version:
+    """A version of documents: the most firms, and the most trades; the most trades of a firm; the largest number of a
+    firm."""
+    number: int
+    most: int
+    most_own: int
+    largest: int
+
+    def small(self, amount: int, place: str) -> int:
+        if abs(amount) <= self.largest:
+            return amount
+        few, where, advice = VERSIONS[-2], "", "take a larger --unit"
+        if self is LARGE:
+            where = f" where there are more than {few.most} firms or lots, or more than {few.most_own} lots at a firm"
+            advice += ", or a larger --lot, so that there are fewer"
+        raise Trouble(f"{place}: this comes to {amount} units of money, and {self.largest} is the most{where}: {advice}")
+
+
+VERSIONS = (Version(1, 64, 32, 10 ** 9), Version(2, 128, 32, 10 ** 9), Version(3, 1024, 60, 10 ** 7))
+LARGE = VERSIONS[-1]
+
+
+def version_for(count: int, own: int) -> Version:
+    """The first version with room for so many firms and so many trades, and so many trades of a firm."""
+    return next(version for version in VERSIONS if count <= version.most and own <= version.most_own)
 
 
 @dataclass(frozen=True)
@@ -125,8 +149,8 @@ def in_lots(schedule: Schedule, sizes: Sizes, is_value: bool) -> LotSchedule:
 
 def build(network: Network, sizes: Sizes) -> Built:
     """The document of a network, within the limits of documents."""
-    if len(network.firms) > MOST_FIRMS:
-        raise Trouble(f"{network.firms[MOST_FIRMS].place}: a document has at most {MOST_FIRMS} firms")
+    if len(network.firms) > LARGE.most:
+        raise Trouble(f"{network.firms[LARGE.most].place}: a document has at most {LARGE.most} firms")
     troubles: list[str] = []
     firm_schedules = each(network.firms, lambda firm: in_lots(firm.schedule, sizes, firm.role == BUYS), troubles)
     lane_schedules = each(network.lanes, lambda lane: in_lots(lane.schedule, sizes, False), troubles)
@@ -134,11 +158,13 @@ def build(network: Network, sizes: Sizes) -> Built:
     schedules = {firm.name: schedule for firm, schedule in zip(network.firms, firm_schedules)}
     codes = codes_of(network.firms)
     lots = [lot for lane, schedule in zip(network.lanes, lane_schedules) for lot in lots_of(lane, schedule, schedules)]
-    check_limits(lots)
+    version = version_for(max(len(network.firms), len(lots)), most_own(lots))
+    for lot in lots:
+        version.small(lot.cost, lot.lane.place)
     document = {
-        "version": 1 if max(len(network.firms), len(lots)) <= MOST_OF_VERSION_1 else 2,
+        "version": version.number,
         "note": sizes.note(),
-        "firms": [laminar(firm, codes[firm.name], schedules[firm.name], lots) for firm in network.firms],
+        "firms": [laminar(firm, codes[firm.name], schedules[firm.name], lots, version) for firm in network.firms],
         "trades": [{"name": lot.code, "seller": codes[lot.lane.source], "buyer": codes[lot.lane.target],
                     "note": str(lot.lane)} for lot in lots],
     }
@@ -163,42 +189,38 @@ def lots_of(lane: Lane, schedule: LotSchedule, schedules: dict[str, LotSchedule]
     count = min((bound for bound in bounds if bound is not None), default=None)
     if count is None:
         raise Trouble(f"{lane.place}: neither this lane nor a firm at its ends has a capacity")
-    if count > MOST_OWN_TRADES:
-        raise Trouble(f"{lane.place}: {count} lots may go by this lane, and a firm has at most {MOST_OWN_TRADES}: "
+    if count > LARGE.most_own:
+        raise Trouble(f"{lane.place}: {count} lots may go by this lane, and a firm has at most {LARGE.most_own}: "
                       "take a larger --lot, or a smaller capacity")
     for k, cost in enumerate(schedule.amounts(count), 1):
-        yield Lot(f"L{lane.row}.{k}", lane, small(cost, lane.place))
+        yield Lot(f"L{lane.row}.{k}", lane, cost)
 
 
-def small(amount: int, place: str) -> int:
-    if abs(amount) > LARGEST:
-        raise Trouble(f"{place}: this comes to {amount} units of money, and {LARGEST} is the most: "
-                      "take a larger --unit")
-    return amount
-
-
-def check_limits(lots: list[Lot]) -> None:
+def most_own(lots: list[Lot]) -> int:
+    """The most lots of a firm; says by which lane there are too many, of a firm or of all."""
     own: dict[str, int] = {}
     for k, lot in enumerate(lots, 1):
-        if k > MOST_TRADES:
-            raise Trouble(f"{lot.lane.place}: with this lane there are more than {MOST_TRADES} lots that may go by a "
+        if k > LARGE.most:
+            raise Trouble(f"{lot.lane.place}: with this lane there are more than {LARGE.most} lots that may go by a "
                           "lane, which is the most: take a larger --lot, or smaller capacities of lanes")
         for firm in (lot.lane.source, lot.lane.target):
             own[firm] = own.get(firm, 0) + 1
-            if own[firm] > MOST_OWN_TRADES:
-                raise Trouble(f"{lot.lane.place}: with this lane {firm} has more than {MOST_OWN_TRADES} lots that may "
+            if own[firm] > LARGE.most_own:
+                raise Trouble(f"{lot.lane.place}: with this lane {firm} has more than {LARGE.most_own} lots that may "
                               "come or go, which is the most of a firm: take a larger --lot, or smaller capacities of "
                               "its lanes")
+    return max(own.values(), default=0)
 
 
-def laminar(firm: Firm, code: str, schedule: LotSchedule, lots: list[Lot]) -> dict:
+def laminar(firm: Firm, code: str, schedule: LotSchedule, lots: list[Lot], version: Version) -> dict:
     sales = [lot for lot in lots if lot.lane.source == firm.name]
     purchases = [lot.code for lot in lots if lot.lane.target == firm.name]
     sold = [lot.code for lot in sales]
     counted = sold if firm.role == SELLS else purchases
     most = len(counted) if schedule.capacity is None else min(schedule.capacity, len(counted))
     sign = 1 if firm.role == BUYS else -1
-    values = [0, *(small(sum_, firm.place) for sum_ in accumulate(sign * amount for amount in schedule.amounts(most)))]
+    sums = accumulate(sign * amount for amount in schedule.amounts(most))
+    values = [0, *(version.small(amount, firm.place) for amount in sums)]
     if firm.role == SELLS:
         sets = [{"trades": sold, "from": -most, "values": values[::-1]}]
     elif firm.role == BUYS:
