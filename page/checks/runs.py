@@ -52,7 +52,7 @@ def drawn(count: int) -> list[Run]:
     """Documents that tools/fuzz draws, each with one command after another."""
     sys.path.insert(0, str(ROOT / "tools"))
     documents = importlib.import_module("fuzz_lib.documents")
-    examples = [path.read_text() for path in sorted((ROOT / "examples").glob("*.json"))]
+    examples = [path.read_text() for path in documents.small_examples(ROOT / "examples")]
     runs = []
     for k in range(count):
         draw = random.Random(f"page-{k}")

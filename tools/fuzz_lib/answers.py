@@ -7,7 +7,7 @@ import os
 import pathlib
 import sys
 
-from fuzz_lib.documents import CLAIMS, NO, add_parts, change, spoil, usable_after
+from fuzz_lib.documents import CLAIMS, NO, add_parts, at_limit, change, spoil, usable_after
 from fuzz_lib.faults import first_fault
 from fuzz_lib.network import Network, first_triple, payments, takes_all
 
@@ -342,10 +342,18 @@ def hold_quickly(program, document, draw):
             want(found == {"answer": "equilibrium", "surplus": said["surplus"]}, "what is solved", said, found)
 
 
+def is_drawn(document):
+    """Whether firms and trades are lists of what has a name."""
+    return all(isinstance(each, dict) and "name" in each for part in ("firms", "trades") for each in document[part]) and document["firms"]
+
+
 def hold_refusals(program, document, draw, commands=4):
     """Asks some commands of a text that may be anything: each answer has its status and is one line, and a fault is the first."""
-    for _ in range(draw.randint(1, 3)):
-        change(draw, document, small=False)
+    if draw.random() < 0.25 and is_drawn(document):
+        at_limit(draw, document)
+    else:
+        for _ in range(draw.randint(1, 3)):
+            change(draw, document, small=False)
     text = json.dumps(document, ensure_ascii=draw.random() < 0.5).encode()
     if draw.random() < 0.3:
         text = spoil(draw, text)

@@ -1,6 +1,7 @@
 """Documents that are drawn, and changes of them."""
 import json
 
+from fuzz_lib.limits import LIMITS, NUMERATOR, OVER, PRICE, SETS
 from fuzz_lib.network import laminar_worth
 
 NO = ("better", "impossible", "exchange_fails", "cycle", "drops", "blocks", "invalid")
@@ -32,7 +33,7 @@ def draw_laminar(draw, buys, sells):
         least = -draw.randint(0, sum(t in sells for t in trades))
         most = draw.randint(0, sum(t in buys for t in trades))
         sets.append({"trades": trades, "from": least, "values": concave(draw, least, most)})
-    return {"amounts": [[t, number(draw)] for t in own if draw.random() < 0.8], "sets": sets}
+    return {"amounts": [[t, number(draw)] for t in own if draw.random() < 0.8], "sets": sets[:SETS]}
 
 
 def draw_table(draw, buys, sells):
@@ -68,14 +69,48 @@ def draw_firm(draw, name, buys, sells):
 
 
 def draw_document(draw):
-    firms = [f"F{k}" for k in range(draw.randint(2, 5))]
-    trades = []
-    for k in range(draw.randint(1, 8)):
-        seller, buyer = draw.sample(firms, 2)
-        trades.append({"name": draw.choice(["t", "F", "-", "a."]) + str(k), "seller": seller, "buyer": buyer})
-    own = {firm: [[trade["name"] for trade in trades if trade[end] == firm] for end in ("buyer", "seller")] for firm in firms}
-    firms = [draw_firm(draw, firm, *own[firm]) for firm in firms]
-    return {"version": draw.choice([1, 2]), "firms": firms, "trades": trades}
+    """A network of which all bundles can be tried."""
+    return draw_network(draw, draw.choice([*LIMITS]), draw.randint(2, 5), draw.randint(1, 8))
+
+
+def draw_large(draw):
+    """A network of more trades, and mostly of more firms: some have as many own trades as a firm may have."""
+    version = draw.choice([*LIMITS, 3])
+    return draw_network(draw, version, draw.choice([2, 3, 6, 20, 60]), draw.choice([20, 60, 120, 180]))
+
+
+def draw_network(draw, version, firms, trades):
+    """A network of so many firms and of at most so many trades, within the limits of a version."""
+    limits, drawn, count = LIMITS[version], [], {f"F{k}": 0 for k in range(firms)}
+    for k in range(min(trades, limits.most)):
+        open_firms = [firm for firm, own in count.items() if own < limits.own]
+        if len(open_firms) < 2:
+            break
+        seller, buyer = draw.sample(open_firms, 2)
+        drawn.append({"name": draw.choice(["t", "F", "-", "a."]) + str(k), "seller": seller, "buyer": buyer})
+        count[seller], count[buyer] = count[seller] + 1, count[buyer] + 1
+    own = {firm: [[trade["name"] for trade in drawn if trade[end] == firm] for end in ("buyer", "seller")] for firm in count}
+    document = {"version": version, "firms": [draw_firm(draw, firm, *own[firm]) for firm in count], "trades": drawn}
+    return enlarged(document, limits.amount) if draw.random() < 0.05 else document
+
+
+def numbers_of(value):
+    """The lists and members of a firm that have its numbers, each with where one stands."""
+    for place in places(value):
+        at = value
+        for step in place[:-1]:
+            at = at[step]
+        if place and type(at[place[-1]]) is int and place[-1] != "from":
+            yield at, place[-1]
+
+
+def enlarged(document, most):
+    """The same network with all numbers of firms as many times as large as they may be."""
+    numbers = [each for firm in document["firms"] for each in numbers_of(firm)]
+    times = most // max((abs(at[key]) for at, key in numbers), default=1) if any(at[key] for at, key in numbers) else 1
+    for at, key in numbers:
+        at[key] *= times
+    return document
 
 
 def add_parts(draw, document, on, prices):
@@ -87,11 +122,12 @@ def add_parts(draw, document, on, prices):
     def some():
         return [name for name in names if (name in on) != (draw.random() < turned)]
 
-    def near(name, scale):
-        return [name, scale * prices.get(name, 0) + draw.choice([0, 0, 0, 0, -1, 1, draw.randint(-9, 9)])]
+    def near(name, scale, most):
+        price = scale * prices.get(name, 0) + draw.choice([0, 0, 0, 0, -1, 1, draw.randint(-9, 9)])
+        return [name, max(-most, min(price, most))]
 
-    document["arrangement"] = {"on": some(), "prices": [near(name, 1) for name in names]}
-    document["outcome"] = {"over": over, "contracts": [near(name, over) for name in some()]}
+    document["arrangement"] = {"on": some(), "prices": [near(name, 1, PRICE) for name in names]}
+    document["outcome"] = {"over": over, "contracts": [near(name, over, NUMERATOR) for name in some()]}
     document["edits"] = [draw_edit(draw, names, document["firms"]) for _ in range(draw.randint(0, 12))]
 
 
@@ -131,15 +167,63 @@ def change(draw, document, small):
         at = at[step]
     old = at[place[-1]]
     if small and type(old) is int:
-        at[place[-1]] = old + draw.choice([-1, 1, -old, draw.randint(-9, 9), 10 ** 9 - old])
+        limits = limits_of(document)
+        at[place[-1]] = old + draw.choice([-1, 1, -old, draw.randint(-9, 9), limits.amount - old])
     elif small and isinstance(at, list) and len(at) > 1:
         draw.choice([draw.shuffle, lambda items: items.pop(place[-1])])(at)
     elif not small and draw.random() < 0.3:
         del at[place[-1]]
     elif not small:
-        numbers = [-1, 0, 1, 1.0, -0.0, 1e300, 2 ** 63 - 1, 2 ** 63, -2 ** 63, 10 ** 9 + 1, 10 ** 14 + 1]
+        numbers = [-1, 0, 1, 1.0, -0.0, 1e300, 2 ** 63 - 1, 2 ** 63, -2 ** 63, limits_of(document).amount + 1, 10 ** 14 + 1]
         texts = ["", "S", "\u00e9", "\0", "x" * 33]
         at[place[-1]] = draw.choice([None, True, [], {}, [[]], {"note": 0}, [old, old], {"a": old}, *numbers, *texts])
+
+
+def limits_of(document):
+    """The limits of a document's version, those of the first where it has none."""
+    version = document.get("version") if isinstance(document, dict) else None
+    return LIMITS[version if type(version) is int and version in LIMITS else 1]
+
+
+def at_limit(draw, document):
+    """Takes a list or a number of a drawn document to what its version allows, or one beyond."""
+    limits, more = limits_of(document), draw.choice([0, 1])
+    firms, trades, sign = document["firms"], document["trades"], draw.choice([-1, 1])
+
+    def bought(count, own):
+        """So many trades more, between firms that have so many each."""
+        for k in range(count):
+            pair = [f"{side}{k // own}.." for side in "SB"]
+            firms.extend({"name": name, "kind": "laminar"} for name in pair if k % own == 0)
+            trades.append({"name": f"t{k}..", "seller": pair[0], "buyer": pair[1]})
+
+    def with_set(**member):
+        firms.append({"name": "set..", "kind": "laminar", "sets": [{"trades": [], "from": 0, "values": [0], **member}]})
+
+    def claimed(answer, **members):
+        document["claim"] = {"answer": answer, **members}
+
+    def signed(**member):
+        document["outcome"] = {"over": 1, "contracts": [], **member}
+
+    some = trades[0]["name"] if trades else "none"
+    draw.choice([
+        lambda: firms.extend({"name": f"F{k}..", "kind": "laminar"} for k in range(limits.most + more - len(firms))),
+        lambda: bought(limits.most + more - len(trades), limits.own),
+        lambda: bought(limits.own + more, limits.own + more),
+        lambda: firms.append({"name": "sets..", "kind": "laminar", "sets": [{"trades": [], "from": 0, "values": [0]}] * (SETS + more)}),
+        lambda: with_set(**{"from": -(limits.values // 2), "values": [0] * (limits.values + more)}),
+        lambda: with_set(**{"from": sign * (limits.farthest + more), "values": [0] * (limits.farthest + 2)}),
+        lambda: with_set(values=[sign * (limits.amount + more)]),
+        lambda: firms.append({"name": "keep..", "kind": "middleman", "keep": sign * (limits.amount + more)}),
+        lambda: document.update(edits=[["bar", "*"]] * (limits.edits + more)),
+        lambda: document.update(arrangement={"on": [], "prices": [[trade["name"], sign * (PRICE + more)] for trade in trades]}),
+        lambda: signed(over=OVER + more),
+        lambda: signed(contracts=[[some, sign * (NUMERATOR + more)]]),
+        lambda: claimed("cycle", cost=-1, nodes=[None] * (limits.nodes + more)),
+        lambda: claimed("blocks", contracts=[], over=limits.claimed_over + more),
+        lambda: claimed("none", over=1, plan=[[firms[0]["name"], [], limits.claimed_over + more]]),
+    ])()
 
 
 def spoil(draw, text):
@@ -149,10 +233,17 @@ def spoil(draw, text):
     return draw.choice([text[:at], changed, text[:at] + text[at:at + 9] + text[at:], text + text[at:]])
 
 
+def small_examples(folder):
+    """The files of the examples that are small enough to be asked thousands of times."""
+    return [path for path in sorted(folder.glob("*.json")) if path.stat().st_size <= 20_000]
+
+
 def make(draw, examples):
     """A document, and whether it is one to be refused."""
     turn = draw.randrange(3)
     document = draw_document(draw) if turn == 0 or draw.random() < 0.3 else json.loads(draw.choice(examples))
+    if turn == 0 and draw.random() < 0.06:
+        document = draw_large(draw)
     if turn:
         for _ in range(draw.randint(1, 3)):
             change(draw, document, small=True)
@@ -169,9 +260,9 @@ def plan_of(draw, document):
     firms, trades = document.get("firms"), document.get("trades")
     ends = [(trade.get("name"), trade.get("seller"), trade.get("buyer")) for trade in trades if isinstance(trade, dict)] if isinstance(trades, list) else []
     names = [firm.get("name") for firm in firms if isinstance(firm, dict)] if isinstance(firms, list) else []
-    plan = []
+    plan, most = [], limits_of(document).claimed_over
     for _ in range(draw.randint(0, 4)):
         firm = draw.choice([*names, "nobody"])
         own = [name for name, *its in ends if firm in its or draw.random() < 0.05]
-        plan.append([firm, draw.sample(own, draw.randint(0, len(own))), draw.choice([1, 2, 3, 100_000, 0, 100_001, -1, 1.5, "1"])])
-    return {"answer": "none", "over": draw.choice([1, 2, 100_000, 0, None]), "plan": plan}
+        plan.append([firm, draw.sample(own, draw.randint(0, len(own))), draw.choice([1, 2, 3, most, 0, most + 1, -1, 1.5, "1"])])
+    return {"answer": "none", "over": draw.choice([1, 2, most, 0, None]), "plan": plan}

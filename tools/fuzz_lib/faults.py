@@ -2,6 +2,8 @@
 import json
 import re
 
+from fuzz_lib.limits import CLAIMED, LIMITS, NUMERATOR, OVER, OWN_OF_TABLE, PARTS, PLANNED, PRICE, SETS
+
 NAMES = ("NotJson TooLong Shape BadName SameName UnknownFirm SelfTrade UnknownTrade Limit AmountRange NotOwnTrade "
          "SameBundle NoEmpty NotLaminar NotConcave ExchangeFails SameTrade PriceMissing BadOver SamePair").split()
 (NOT_JSON, TOO_LONG, SHAPE, BAD_NAME, SAME_NAME, UNKNOWN_FIRM, SELF_TRADE, UNKNOWN_TRADE, LIMIT, AMOUNT_RANGE, NOT_OWN_TRADE,
@@ -12,7 +14,6 @@ CLAIM_MEMBERS = dict(  # in the order in which they are read
     solved="on prices surplus", drops="firm gain keeps over", completes="over prices", blocks="contracts over", accepted="",
     exchange_fails="firm at x y", none="over plan")
 RAW_CLAIMS = ("accepted", "exchange_fails", "none")
-AMOUNTS, PRICES, CONTRACTS, CLAIMED = 10 ** 9, 10 ** 14, 10 ** 11, 10 ** 18
 STRING = re.compile(r'"(?:[^"\\]|\\.)*"')
 
 
@@ -177,14 +178,14 @@ class Reader:
     def head(self):
         self.object(self.top, [], "version firms trades arrangement outcome claim edits note")
         version, place = self.member(self.top, [], "version")
-        want(is_whole(version) and version in (1, 2), SHAPE, place)
-        self.most = 64 * version
-        for firm, at in self.list(*self.member(self.top, [], "firms"), self.most):
+        want(is_whole(version) and version in LIMITS, SHAPE, place)
+        self.limits = LIMITS[version]
+        for firm, at in self.list(*self.member(self.top, [], "firms"), self.limits.most):
             want(isinstance(firm, dict), SHAPE, at)
             self.firms.append(self.name(firm, at, self.firms))
 
     def ends(self):
-        for trade, at in self.list(*self.member(self.top, [], "trades"), self.most):
+        for trade, at in self.list(*self.member(self.top, [], "trades"), self.limits.most):
             self.object(trade, at, "name seller buyer note")
             name = self.name(trade, at, self.trades)
             for end in ("seller", "buyer"):
@@ -201,7 +202,7 @@ class Reader:
         want(isinstance(kind, str) and kind in MEMBERS, SHAPE, at)
         self.object(firm, place, "name kind note " + MEMBERS[kind])
         buys, sells = self.own(firm["name"])
-        want(len(buys) + len(sells) <= (14 if kind == "table" else 32), LIMIT, place)
+        want(len(buys) + len(sells) <= (OWN_OF_TABLE if kind == "table" else self.limits.own), LIMIT, place)
         getattr(self, kind)(firm, place, buys, sells)
         own = [name for name in self.trades if name in buys + sells]  # in the order of the document
         shown = kind == "table" and not raw and self.triple_of(firm, place, own, buys)
@@ -214,7 +215,7 @@ class Reader:
         for row, at in self.list(rows, rows_at):
             (trades, trades_at), (number, number_at) = self.list(row, at, length=2)
             bundle = frozenset(self.references(trades, trades_at, buys + sells))
-            self.number(number, number_at, AMOUNTS)
+            self.number(number, number_at, self.limits.amount)
             want(bundle not in bundles, SAME_BUNDLE, at)
             bundles.add(bundle)
         count = len(buys) + len(sells)
@@ -222,16 +223,16 @@ class Reader:
 
     def laminar(self, firm, place, buys, sells):
         own = buys + sells
-        self.entries(firm.get("amounts", []), [*place, "amounts"], AMOUNTS, own)
+        self.entries(firm.get("amounts", []), [*place, "amounts"], self.limits.amount, own)
         sets = []
-        for part, at in self.list(firm.get("sets", []), [*place, "sets"], 64):
+        for part, at in self.list(firm.get("sets", []), [*place, "sets"], SETS):
             self.object(part, at, "trades from values")
             sets.append((set(self.references(*self.member(part, at, "trades"), own)), part, at))
             least, least_at = self.member(part, at, "from")
             want(is_whole(least), SHAPE, least_at)
-            want(-32 <= least <= 32, LIMIT, least_at)
-            for number, number_at in self.list(*self.member(part, at, "values"), 65):
-                self.number(number, number_at, AMOUNTS)
+            want(abs(least) <= self.limits.farthest, LIMIT, least_at)
+            for number, number_at in self.list(*self.member(part, at, "values"), self.limits.values):
+                self.number(number, number_at, self.limits.amount)
         for k, (trades, part, at) in enumerate(sets):
             values = part["values"]
             want(0 <= -part["from"] < len(values), NO_EMPTY, at)
@@ -241,10 +242,10 @@ class Reader:
                 want(not trades & earlier or trades <= earlier or earlier <= trades, NOT_LAMINAR, at)
 
     def middleman(self, firm, place, buys, sells):
-        self.entries(firm.get("costs", []), [*place, "costs"], AMOUNTS, buys)
-        self.entries(firm.get("gains", []), [*place, "gains"], AMOUNTS, sells)
+        self.entries(firm.get("costs", []), [*place, "costs"], self.limits.amount, buys)
+        self.entries(firm.get("gains", []), [*place, "gains"], self.limits.amount, sells)
         if firm.get("keep") is not None:
-            self.number(firm["keep"], [*place, "keep"], AMOUNTS)
+            self.number(firm["keep"], [*place, "keep"], self.limits.amount)
 
     def dealer(self, firm, place, buys, sells):
         listed = []
@@ -252,7 +253,7 @@ class Reader:
             (buy, buy_at), (sell, sell_at), (cost, cost_at) = self.list(pair, at, length=3)
             self.reference(buy, buy_at, buys)
             self.reference(sell, sell_at, sells)
-            self.number(cost, cost_at, AMOUNTS)
+            self.number(cost, cost_at, self.limits.amount)
             want((buy, sell) not in listed, SAME_PAIR, at)
             listed.append((buy, sell))
 
@@ -261,16 +262,16 @@ class Reader:
         self.object(value, place, "on prices")
         self.references(*self.member(value, place, "on"))
         if with_prices:
-            self.all_prices(*self.member(value, place, "prices"), PRICES)
+            self.all_prices(*self.member(value, place, "prices"), PRICE)
 
     def outcome(self):
         value, place = self.member(self.top, [], "outcome")
         self.object(value, place, "over contracts")
-        self.over(*self.member(value, place, "over"), 100)
-        self.entries(*self.member(value, place, "contracts"), CONTRACTS)
+        self.over(*self.member(value, place, "over"), OVER)
+        self.entries(*self.member(value, place, "contracts"), NUMERATOR)
 
     def edits(self):
-        for edit, at in self.list(*self.member(self.top, [], "edits"), 256):
+        for edit, at in self.list(*self.member(self.top, [], "edits"), self.limits.edits):
             (word, word_at), (name, name_at) = self.list(edit, at, length=2)
             want(isinstance(word, str) and word in ("admit", "bar", "leave", "join"), SHAPE, word_at)
             if word in ("leave", "join"):
@@ -288,7 +289,7 @@ class Reader:
         elif answer in ("drops", "completes", "blocks"):
             self.outcome()
         elif answer == "none":
-            want(len(self.trades) <= 20, LIMIT, place)
+            want(len(self.trades) <= PLANNED, LIMIT, place)
         self.object(claim, place, "answer " + CLAIM_MEMBERS[answer])
         for name in CLAIM_MEMBERS[answer].split():
             self.claimed(claim, answer, name, *self.member(claim, place, name))
@@ -309,15 +310,15 @@ class Reader:
             self.entries(value, place, CLAIMED)
         elif name == "nodes":
             nodes = self.list(value, place)
-            want(2 <= len(nodes) <= self.most + 1, LIMIT, place)
+            want(2 <= len(nodes) <= self.limits.nodes, LIMIT, place)
             for node, at in nodes:
                 if node is not None:
                     self.reference(node, at)
         elif name == "plan":
-            for part, at in self.list(value, place, 1024):
+            for part, at in self.list(value, place, PARTS):
                 self.part(part, at)
         elif name == "over":
-            self.over(value, place, 100_000)
+            self.over(value, place, self.limits.claimed_over)
         elif value is not None or (answer, name) != ("drops", "gain"):
             self.number(value, place, CLAIMED)
 
@@ -326,4 +327,4 @@ class Reader:
         self.known_firm(firm, firm_at)
         self.references(trades, trades_at, sum(self.own(firm), []))
         want(is_whole(weight), SHAPE, weight_at)
-        want(1 <= weight <= 100_000, AMOUNT_RANGE, weight_at)
+        want(1 <= weight <= self.limits.claimed_over, AMOUNT_RANGE, weight_at)
