@@ -1,5 +1,6 @@
 // A form for the firms and trades of a document, as plain data: what can be put in, what stands there, and by which changes
 // of the text. One firm is shown at a time, and all trades.
+import {limitsOf} from "../read/limits.js";
 import {say} from "../words/say.js";
 import {
     firmAdded, firmRemoved, freeName, itemAdded, itemRemoved, itemsIn, moved, NAME, numbered, objectsIn, ofKind, renamed,
@@ -15,9 +16,6 @@ const KINDS = [["table", "kind.table"], ["laminar", "kind.laminar"], ["middleman
 
 /** How many rows of a table, and beyond how many trades only those of the firm, are in the form. */
 const MOST_ROWS = 40, MOST_TRADES = 160;
-
-/** The most and the least net count that the form goes to. */
-const FARTHEST = 32;
 
 /**
  * The form of a document, as groups `{key, title, hint, lines}`; a line is `{key, says, controls}`. A control has a `key`, a
@@ -183,8 +181,9 @@ function setGroup(network, firm, own, set, k) {
 
 /** The least and the greatest net count of a set; 0 stays between them. */
 function setEnds(network, set, k, from, to) {
+    const {farthest} = limitsOf(network);
     const end = (name, [says, whole], now, isIn, change) => {
-        const isRight = (text) => COUNT.test(text) && Math.abs(Number(text)) <= FARTHEST && isIn(Number(text));
+        const isRight = (text) => COUNT.test(text) && Math.abs(Number(text)) <= farthest && isIn(Number(text));
         const field = number(`set ${k} ${name}`, say(says), say(whole, {set: k + 1}), `${now}`,
             (text) => change(Number(text)));
         return {...field, isRight};

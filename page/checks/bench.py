@@ -549,11 +549,11 @@ def tries_of_files(page: Bench, program: str | None):
 
 
 def many_trades() -> bytes:
-    """1,024 trades, more than the program takes so far."""
+    """1,024 trades, as many as a document may have."""
     ends = [(f"S{k // 32}", f"B{k % 32}") for k in range(1024)]
-    firms = [{"name": f"{side}{k}", "kind": "table", "rows": []} for side in "SB" for k in range(32)]
+    firms = [{"name": f"{side}{k}", "kind": "laminar"} for side in "SB" for k in range(32)]
     trades = [{"name": f"t{k}", "seller": seller, "buyer": buyer} for k, (seller, buyer) in enumerate(ends)]
-    return json.dumps({"version": 2, "firms": firms, "trades": trades, "arrangement": {"on": [], "prices": [[f"t{k}", k] for k in range(1024)]}}).encode()
+    return json.dumps({"version": 3, "firms": firms, "trades": trades, "arrangement": {"on": [], "prices": [[f"t{k}", k] for k in range(1024)]}}).encode()
 
 
 # Scrolls the table to its end in 40 steps, and answers the longest time between two pictures, in milliseconds.
@@ -580,6 +580,7 @@ def tries_of_size(page: Bench, program: str | None):
     print(f"{page.browser.name}: 1,024 trades scrolled, at most {longest:.0f} ms between two pictures")
     yield "the last one is there when it is scrolled to", page.value("document.querySelector('#trades tbody [data-trade=t1023]') !== null")
     yield "one firm's neighbourhood is drawn", len(page.drawn()["lanes"]) == 32
+    yield "a document of 1,024 trades is answered", "fault" not in page.ask("check")["sentences"][0]
     page.browser.run("const filter = document.getElementById('filter'); filter.value = 't1000'; filter.dispatchEvent(new Event('input'))")
     yield "the table is filtered", page.value("document.querySelectorAll('#trades tbody tr[data-trade]').length") == 1
     page.browser.run("const filter = document.getElementById('filter'); filter.value = ''; filter.dispatchEvent(new Event('input'))")

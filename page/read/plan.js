@@ -1,10 +1,8 @@
 // A plan in parts, of the claim that there are no prices: what its shares are worth, and the most that a set of trades is.
 import {linesAt, worths} from "./firms.js";
 import {parse, plain} from "./json.js";
+import {limitsOf} from "./limits.js";
 import {objectOf, withMember} from "./network.js";
-
-/** The greatest denominator, and the greatest weight, of a plan. */
-const MOST_WEIGHT = 100000n;
 
 /** Up to how many trades the most is asked for: with each one more `replay` takes twice as long, and with 20 a second or more. */
 const MOST_ASKED = 16;
@@ -44,7 +42,7 @@ export async function mostOf(network, {plan, over}, worth, ask) {
     let most = below(worth, over), step = 0n, isBetween = false;
     while (least.surplus < most) {
         const room = most - least.surplus, aim = isBetween ? (room + 1n) / 2n : room > step ? room - step : 1n;
-        const times = MOST_WEIGHT / over, above = worth - least.surplus * over, weight = aim * times * over / above;
+        const times = limitsOf(network).over / over, above = worth - least.surplus * over, weight = aim * times * over / above;
         if (weight === 0n) return null;
         const said = await replayed(network, between(network, plan, over, least.on, weight, times), ask);
         if (said.reason === "whole") [least, isBetween] = [said, true];

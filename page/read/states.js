@@ -3,10 +3,11 @@
 import {say} from "../words/say.js";
 import {NoAnswer, readAnswer} from "./answer.js";
 import {linesAt} from "./firms.js";
+import {limitsOf} from "./limits.js";
 import {entriesOf, withMember} from "./network.js";
 
-/** The most edits that a document may have. */
-const MOST_EDITS = 256;
+/** How many edits are asked of one session at most where several do: each state of its answer has the prices of all trades. */
+const FEW_EDITS = 256;
 
 const ALL = ["admit", "*"], BACK = {leave: "join", bar: "admit"};
 
@@ -66,7 +67,7 @@ async function linesIn(ask, network, {on, prices}) {
  * there is no session. Throws NoAnswer where there would be too many edits.
  */
 export async function contributions(ask, network, before) {
-    const base = [ALL, ...before], most = Math.max(1, Math.floor((MOST_EDITS - base.length) / 2));
+    const base = [ALL, ...before], most = Math.max(1, Math.floor((FEW_EDITS - base.length) / 2));
     const changes = thereIn(network, before), found = {leave: new Map(), bar: new Map()};
     for (let k = 0; k < changes.length; k += most) {
         const part = changes.slice(k, k + most), edits = part.flatMap((change) => [change, undone(change)]);
@@ -88,9 +89,8 @@ function thereIn(network, before) {
 
 /** What `session` says of a document with these edits in place of its own; of one that can't have any, what it says. */
 async function sessionOf(ask, network, edits) {
-    if (edits.length > MOST_EDITS) {
-        throw new NoAnswer(say("trouble.edits", {count: edits.length, most: MOST_EDITS}));
-    }
+    const {edits: most} = limitsOf(network);
+    if (edits.length > most) throw new NoAnswer(say("trouble.edits", {count: edits.length, most}));
     const isObject = network.root.kind === "object";
     return readAnswer(await ask(["session"], isObject ? withMember(network, "edits", JSON.stringify(edits)) : network.text));
 }

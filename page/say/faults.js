@@ -1,5 +1,6 @@
 // Faults in words: what is wrong, where it stands, and of limits which one it is and what was found.
 import {find, lineAndColumn, plain} from "../read/json.js";
+import {limitsOf} from "../read/limits.js";
 import {itemsOf} from "../read/network.js";
 import {say} from "../words/say.js";
 import {large, listed} from "./words.js";
@@ -44,9 +45,10 @@ function detail(network, fault, place, found) {
     if (fault === 4) return say("fault.name_rule", {name: quoted(value)});
     if ([5, 6, 8, 11, 17].includes(fault)) return say("fault.the_name", {name: quoted(value)});
     if (fault === 9) return limitOf(network, place, value);
-    if (fault === 10) return say("fault.number_range", {value, most: rangeOf(place)});
-    if (fault === 19) return say(place[0] === "claim" ? "fault.claim_over" : "fault.outcome_over", {value});
-    return null;
+    if (fault === 10) return say("fault.number_range", {value, most: large(rangeOf(network, place))});
+    if (fault !== 19) return null;
+    return place[0] === "claim" ? say("fault.claim_over", {value, most: large(limitsOf(network).over)})
+        : say("fault.outcome_over", {value});
 }
 
 function quoted(value) {
@@ -71,18 +73,20 @@ const OF_KINDS = {table: "limit.table", laminar: "limit.laminar", middleman: "li
 
 /** The limit that a count or a number keeps, by where it stands. */
 function limitOf(network, place, value) {
-    const {version} = network.data, last = place[place.length - 1], most = version === 2n ? 128 : 64;
+    const limits = limitsOf(network), last = place[place.length - 1];
     const firm = place[0] === "firms" && place.length > 1 ? network.firms[Number(place[1])] : null;
     const own = firm ? network.trades.filter(({seller, buyer}) => seller === firm.name || buyer === firm.name).length
         : 0;
-    const values = {value, count: itemsOf(value).length, version: String(version), most, nodes: most + 1, own,
-        bundles: large(2 ** own - 1)};
+    const values = {value, count: itemsOf(value).length, version: String(network.data.version), own,
+        most: limits.most, most_own: limits.own, nodes: limits.most + 1, farthest: limits.farthest,
+        most_values: limits.values, most_edits: limits.edits, bundles: large(2 ** own - 1)};
     if (Object.hasOwn(LIMITS, last)) return say(LIMITS[last], values);
     return firm && Object.hasOwn(OF_KINDS, firm.kind) ? say(OF_KINDS[firm.kind], {...values, count: own}) : null;
 }
 
-function rangeOf(place) {
-    if (place[0] === "firms") return large(10n ** 9n);
-    if (place[0] === "claim") return large(10n ** 18n);
-    return large(10n ** (place[0] === "outcome" ? 11n : 14n));
+/** The largest number at a place. */
+function rangeOf(network, [part, member]) {
+    if (part === "firms") return limitsOf(network).amount;
+    if (part === "claim") return member === "plan" ? limitsOf(network).over : 10n ** 18n;
+    return 10n ** (part === "outcome" ? 11n : 14n);
 }

@@ -92,7 +92,7 @@ export const CLAIMS = {
             + "ein Punkt.",
         the_name: "Der Name ist {name}.",
         number_range: "{value}; eine Zahl hat dort höchstens den Betrag {most}.",
-        claim_over: "{value}; der Nenner einer Behauptung liegt zwischen 1 und 100.000.",
+        claim_over: "{value}; der Nenner einer Behauptung liegt zwischen 1 und {most}.",
         outcome_over: "{value}; der Nenner dessen, was unterschrieben ist, liegt zwischen 1 und 100.",
     },
     cause: {
@@ -128,8 +128,8 @@ export const CLAIMS = {
             other: "{count} Geschäfte; ein Dokument der Version {version} hat höchstens {most}.",
         },
         edits: {
-            one: "{count} Änderung; ein Dokument hat höchstens 256.",
-            other: "{count} Änderungen; ein Dokument hat höchstens 256.",
+            one: "{count} Änderung; ein Dokument der Version {version} hat höchstens {most_edits}.",
+            other: "{count} Änderungen; ein Dokument der Version {version} hat höchstens {most_edits}.",
         },
         nodes: {
             one: "{count} Knoten; ein Kreis eines Dokuments der Version {version} hat 2 bis {nodes}.",
@@ -140,10 +140,10 @@ export const CLAIMS = {
             other: "{count} Mengen; eine laminare Firma hat höchstens 64.",
         },
         values: {
-            one: "{count} Zahl; eine Menge hat höchstens 65.",
-            other: "{count} Zahlen; eine Menge hat höchstens 65.",
+            one: "{count} Zahl; eine Menge in einem Dokument der Version {version} hat höchstens {most_values}.",
+            other: "{count} Zahlen; eine Menge in einem Dokument der Version {version} hat höchstens {most_values}.",
         },
-        from: "{value}; eine Menge beginnt zwischen -32 und 32.",
+        from: "{value}; eine Menge in einem Dokument der Version {version} beginnt zwischen -{farthest} und {farthest}.",
         rows: {
             one: "{count} Zeile; eine Tabelle mit {own} Geschäften hat eine Zeile für jedes der {bundles} Bündel, "
                 + "die nicht leer sind.",
@@ -151,9 +151,11 @@ export const CLAIMS = {
                 + "Bündel, die nicht leer sind.",
         },
         table: "{count} Geschäfte; eine Tabelle hat höchstens 14.",
-        laminar: "{count} Geschäfte; eine laminare Firma hat höchstens 32.",
-        middleman: "{count} Geschäfte; ein Zwischenhändler hat höchstens 32.",
-        dealer: "{count} Geschäfte; ein Händler hat höchstens 32.",
+        laminar: "{count} Geschäfte; eine laminare Firma in einem Dokument der Version {version} hat höchstens "
+            + "{most_own}.",
+        middleman: "{count} Geschäfte; ein Zwischenhändler in einem Dokument der Version {version} hat höchstens "
+            + "{most_own}.",
+        dealer: "{count} Geschäfte; ein Händler in einem Dokument der Version {version} hat höchstens {most_own}.",
     },
     json: {
         more: "hinter dem Wert steht noch etwas", no_utf8: "die Bytes sind kein UTF-8",

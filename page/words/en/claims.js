@@ -78,7 +78,7 @@ export const CLAIMS = {
         name_rule: "{name}; a name has 1 to 32 characters, each an ASCII letter, an ASCII digit, _, - or a point.",
         the_name: "The name is {name}.",
         number_range: "{value}; a number there is at most {most} in size.",
-        claim_over: "{value}; the denominator of a claim is from 1 to 100,000.",
+        claim_over: "{value}; the denominator of a claim is from 1 to {most}.",
         outcome_over: "{value}; the denominator of an outcome is from 1 to 100.",
     },
     cause: {
@@ -112,8 +112,8 @@ export const CLAIMS = {
             other: "{count} trades; a document of version {version} has at most {most}.",
         },
         edits: {
-            one: "{count} edit; a document has at most 256.",
-            other: "{count} edits; a document has at most 256.",
+            one: "{count} edit; a document of version {version} has at most {most_edits}.",
+            other: "{count} edits; a document of version {version} has at most {most_edits}.",
         },
         nodes: {
             one: "{count} node; a cycle of a document of version {version} has 2 to {nodes}.",
@@ -123,8 +123,11 @@ export const CLAIMS = {
             one: "{count} set; a laminar firm has at most 64.",
             other: "{count} sets; a laminar firm has at most 64.",
         },
-        values: {one: "{count} value; a set has at most 65.", other: "{count} values; a set has at most 65."},
-        from: "{value}; a set begins from -32 to 32.",
+        values: {
+            one: "{count} value; a set in a document of version {version} has at most {most_values}.",
+            other: "{count} values; a set in a document of version {version} has at most {most_values}.",
+        },
+        from: "{value}; a set in a document of version {version} begins from -{farthest} to {farthest}.",
         rows: {
             one: "{count} row; a table of {own} trades has a row for each of the {bundles} bundles that aren't "
                 + "empty.",
@@ -132,9 +135,9 @@ export const CLAIMS = {
                 + "empty.",
         },
         table: "{count} trades; a table has at most 14.",
-        laminar: "{count} trades; a laminar firm has at most 32.",
-        middleman: "{count} trades; a middleman has at most 32.",
-        dealer: "{count} trades; a dealer has at most 32.",
+        laminar: "{count} trades; a laminar firm in a document of version {version} has at most {most_own}.",
+        middleman: "{count} trades; a middleman in a document of version {version} has at most {most_own}.",
+        dealer: "{count} trades; a dealer in a document of version {version} has at most {most_own}.",
     },
     json: {
         more: "there is more after the value", no_utf8: "the bytes are no UTF-8",

@@ -58,6 +58,19 @@ test("a fault is told with its limit and its place in the text", async () => {
     const trades = JSON.stringify({version: 2, firms: [], trades: Array(246).fill({})}).replace('"trades"', '\n"trades"');
     const lines = await explain(new Network(trades), readAnswer('{"answer":"fault","fault":9,"name":"Limit","place":["trades"]}'), null);
     assert.deepEqual(lines.slice(1), ["It is found at trades: line 2, column 10.", "246 trades; a document of version 2 has at most 128."]);
+    const {trades: pairs, ...rest} = {version: 3, firms: [{name: "S", kind: "laminar", sets: [{trades: [], from: 61, values: Array(122).fill(0)}]}, {name: "B", kind: "dealer"}],
+        trades: Array.from({length: 61}, (_, k) => ({name: `t${k}`, seller: "S", buyer: "B"})), edits: Array(2049).fill(["bar", "*"])};
+    const large = new Network(JSON.stringify({...rest, trades: pairs})), place = (...steps) => JSON.stringify(steps);
+    for (const [at, wanted] of [[place("firms", 1), "61 trades; a dealer in a document of version 3 has at most 60."],
+        [place("firms", 0, "sets", 0, "from"), "61; a set in a document of version 3 begins from -60 to 60."],
+        [place("firms", 0, "sets", 0, "values"), "122 values; a set in a document of version 3 has at most 121."],
+        [place("edits"), "2049 edits; a document of version 3 has at most 2048."]]) {
+        const told = await explain(large, readAnswer(`{"answer":"fault","fault":9,"name":"Limit","place":${at}}`), null);
+        assert.equal(told.at(-1), wanted);
+    }
+    const amount = '{"version":3,"firms":[{"name":"S","kind":"middleman","keep":10000001}],"trades":[]}';
+    const range = await explain(new Network(amount), readAnswer('{"answer":"fault","fault":10,"name":"AmountRange","place":["firms",0,"keep"]}'), null);
+    assert.equal(range.at(-1), "10000001; a number there is at most 10,000,000 in size.");
     const broken = await explain(new Network('{"a":1,}'), readAnswer('{"answer":"fault","fault":1,"name":"NotJson","place":[]}'), null);
     assert.equal(broken[1], "It is found at line 1, column 8: a member begins with its name in quotes.");
 });

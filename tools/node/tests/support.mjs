@@ -3,9 +3,15 @@ import {readdirSync, readFileSync} from "node:fs";
 
 const FOLDER = new URL("../../../examples/", import.meta.url);
 
-/** Every example, as `{name, bytes}`. */
+/** Every example, as `{name, bytes}`, but for large ones, which would take too long to be tried in every way. */
 export function examples() {
-    return readdirSync(FOLDER).filter((name) => name.endsWith(".json")).map((name) => ({name, bytes: readFileSync(new URL(name, FOLDER))}));
+    const all = readdirSync(FOLDER).filter((name) => name.endsWith(".json")).map((name) => ({name, bytes: readFileSync(new URL(name, FOLDER))}));
+    return all.filter(({bytes}) => bytes.length <= 20000);
+}
+
+/** The large example, of which most firms have more trades than those of the others may have. */
+export function largeExample() {
+    return readFileSync(new URL("supply-chain.json", FOLDER));
 }
 
 /** A function that draws a whole number below its argument; the same start draws the same numbers. */

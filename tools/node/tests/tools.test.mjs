@@ -10,8 +10,9 @@ import {fileURLToPath} from "node:url";
 import {networkPicture} from "../../../page/draw/network.js";
 import {isSo, NoAnswer, readAnswer} from "../../../page/read/answer.js";
 import {Network} from "../../../page/read/network.js";
+import {explain} from "../../../page/say/explain.js";
 import {askOf} from "../ask.mjs";
-import {examples} from "./support.mjs";
+import {examples, largeExample} from "./support.mjs";
 
 const HOME = fileURLToPath(new URL("../../../", import.meta.url));
 const ask = askOf(), skip = ask === null && "there is no program";
@@ -65,6 +66,17 @@ test("a network of very many arrows is a table, and one of its firms a picture",
     assert.equal([...table.matchAll(/data-trades=/g)].length, 128);
     assert.doesNotMatch(table, /data-firm/);
     assert.equal([...networkPicture(network, {}, {firm: "S1"}).matchAll(/data-firm=/g)].length, 17);
+});
+
+test("so is the large example, and its answers are drawn and told", {skip}, async () => {
+    const bytes = largeExample(), network = new Network(bytes.toString());
+    assert.equal(network.trades.length, 797);
+    for (const command of ["solve", "range", "check"]) {
+        const said = readAnswer(await ask([command], bytes));
+        assert.equal([...networkPicture(network, said).matchAll(/data-trades=/g)].length, 200);
+        assert.ok((await explain(network, said, null)).length > 0);
+    }
+    assert.equal([...networkPicture(network, {}, {firm: "Packing-Lyon"}).matchAll(/data-firm=/g)].length, 15);
 });
 
 test("a firm may have any name that the rule allows, also one that objects have already", () => {
