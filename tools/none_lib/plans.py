@@ -13,7 +13,7 @@ from who_lib.document import Prices, arranged, scaled
 
 from . import simplex
 
-MOST_OVER = 100_000  # of a claim
+MOST_OVER = {1: 100_000, 2: 100_000, 3: 1_000_000}  # of a claim, in a document of each version
 
 
 @dataclass(frozen=True)
@@ -38,11 +38,11 @@ class Plan:
         """The trades of a whole plan."""
         return list(dict.fromkeys(trade for part in self.parts for trade in part.bundle))
 
-    def claim(self) -> dict:
-        """That there are no prices, as a claim."""
-        over = common(part.share for part in self.parts)
-        if over > MOST_OVER:
-            raise Trouble(f"the plan's shares are over {over}, and a claim's over {MOST_OVER} at most")
+    def claim(self, version: int) -> dict:
+        """That there are no prices, as a claim in a document of the version."""
+        over, most = common(part.share for part in self.parts), MOST_OVER[version]
+        if over > most:
+            raise Trouble(f"the plan's shares are over {over}, and a claim's over {most} at most")
         return {"answer": "none", "over": over,
                 "plan": [[part.firm, list(part.bundle), int(part.share * over)] for part in self.parts]}
 
@@ -128,7 +128,7 @@ def decided(program: Program, document: dict, plan: Plan) -> tuple[bool, dict]:
     or else with trades and prices at which all are content."""
     if plan.is_whole():
         return False, priced(program, document, plan.on(), plan)
-    claimed = {**document, "claim": plan.claim()}
+    claimed = {**document, "claim": plan.claim(document["version"])}
     said = program.run("replay", claimed)
     if said["answer"] == "valid":
         return True, claimed
