@@ -11,7 +11,7 @@ from .document import Ranged, are_whole
 FIRM_HEAD = ("firm", "has", "worth", "alone", "surplus without", "contribution", "pays", "gain at lowest",
              "gain at highest", "reached")
 TRADE_HEAD = ("trade", "seller", "buyer", "on", "surplus without", "contribution")
-MOST_EDITS = 256  # of one session
+MOST_EDITS = 256  # of one session, in every version: each state of an answer lists the prices of all trades
 SAID = {(True, True): "both", (True, False): "lowest", (False, True): "highest", (False, False): "neither"}
 
 
