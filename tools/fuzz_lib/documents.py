@@ -75,7 +75,7 @@ def draw_document(draw):
 
 def draw_large(draw):
     """A network of more trades, and mostly of more firms: some have as many own trades as a firm may have."""
-    version = draw.choice([*LIMITS, 3])
+    version = draw.choice([*LIMITS, max(LIMITS)])
     return draw_network(draw, version, draw.choice([2, 3, 6, 20, 60]), draw.choice([20, 60, 120, 180]))
 
 
