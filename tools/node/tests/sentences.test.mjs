@@ -1,8 +1,10 @@
 // Whether every answer to an example has sentences, with the numbers that `firms` says, and none is said of another document.
 import assert from "node:assert/strict";
+import {readFileSync} from "node:fs";
 import {test} from "node:test";
 import {belongs, isSo, NoAnswer, readAnswer} from "../../../page/read/answer.js";
 import {costs, gains, worths} from "../../../page/read/firms.js";
+import {limitsOf} from "../../../page/read/limits.js";
 import {Network} from "../../../page/read/network.js";
 import {mostOf, sharesOf, worthOf} from "../../../page/read/plan.js";
 import {explain} from "../../../page/say/explain.js";
@@ -52,6 +54,18 @@ test("what firms have before and after contracts that block", {skip}, async (con
     const found = await gains(ask, network, readAnswer(await ask(["judge"], bytes)));
     assert.deepEqual(found.get("O1"), {now: 51n, then: 52n, keeps: []});
     return undefined;
+});
+
+test("limits that are told are those of FORMAT, for each version", () => {
+    const format = readFileSync(new URL("../../../docs/FORMAT.md", import.meta.url), "utf8");
+    const rows = {most: "The most firms", own: "The most own trades of a firm of another kind", values: "The most numbers of a set", edits: "The most edits",
+        farthest: "The farthest net count from 0 that the first number of a set may be for", amount: "The largest number of a firm", over: "The largest denominator of a claim"};
+    const cells = (head) => format.split("\n").find((line) => line.startsWith(`| ${head} |`)).split("|").slice(2, -1).map((cell) => Number(cell.replaceAll(",", "")));
+    for (const version of [1, 2, 3]) {
+        const limits = limitsOf(new Network(JSON.stringify({version, firms: [], trades: []})));
+        for (const [name, head] of Object.entries(rows)) assert.equal(Number(limits[name]), cells(head)[version - 1], `${name} of version ${version}`);
+    }
+    assert.deepEqual(cells("The most trades"), cells("The most firms"));
 });
 
 test("a fault is told with its limit and its place in the text", async () => {
