@@ -95,7 +95,8 @@ async function start() {
         document.documentElement.dataset.violation = `${violatedDirective} ${blockedURI}`;
     });
     const module = await compiled(), [program, guesser, tracer, marker] = [1, 2, 3, 4].map(() => new Program(module, partOf("worker")));
-    const documents = JSON.parse(partOf("documents"));
+    // (a quote in an example is a backtick there)
+    const documents = JSON.parse(partOf("documents"), (_, value) => (typeof value === "string" ? value.replaceAll("\x60", "\"") : value));
     readyEditor(store);
     readyTrades(store);
     readyClaim(store);
