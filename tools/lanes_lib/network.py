@@ -6,10 +6,9 @@ from dataclasses import dataclass, field, replace
 from fractions import Fraction
 from typing import Callable, Iterable, Iterator, Optional
 
-from .tables import Cell, Measure, Row, Table, Trouble, digits, raise_all
+from .tables import STEPS, Cell, Measure, Row, Table, Trouble, digits, raise_all
 
 SELLS, MAKES, PASSES_ON, BUYS = ROLES = ("sells", "makes", "passes on", "buys")
-STEPS = r"(quantity|at) [1-9]\d?"
 FIRM_COLUMNS = re.compile(rf"firm|role|capacity|{STEPS}|inputs|outputs|note")
 LANE_COLUMNS = re.compile(rf"from|to|good|by|capacity|{STEPS}|note")
 
@@ -110,11 +109,12 @@ def same_names(parts: list, name_of: Callable[[object], object], troubles: list[
 
 
 def firm_of(row: Row) -> Firm:
-    name, role = wanted(row["firm"], "a firm needs a name"), row["role"].text.lower()
+    name = wanted(row["firm"], "a firm needs a name")
+    role = wanted(row["role"], f"a role is one of {', '.join(ROLES)}").lower()
     if name == "*":
         raise row["firm"].trouble("* stands for all firms, and is no name")
     if role not in ROLES:
-        raise row["role"].trouble(f"{row['role'].text or 'nothing'} is none of {', '.join(ROLES)}")
+        raise row["role"].trouble(f"{row['role'].text} is none of {', '.join(ROLES)}")
     schedule = schedule_of(row)
     if role == BUYS and not row["at 1"].text:
         raise row["at 1"].trouble("it isn't said what a unit is worth to it")

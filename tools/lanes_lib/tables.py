@@ -12,7 +12,8 @@ import unicodedata
 SEPARATORS = ",;\t"
 BLANKS = " '"  # what may part thousands (`plain` makes a blank of each kind of them)
 NUMBER = re.compile(rf"[+-]?(\d+|\d{{1,3}}([{BLANKS}]\d{{3}})+)([.,]\d+)?")
-NUMERIC = re.compile(r"capacity|value|(quantity|at) [1-9]\d?")
+STEPS = r"(quantity|at) [1-9]\d?"
+NUMERIC = re.compile(rf"capacity|value|{STEPS}")
 MARK = "\ufeff"
 
 
@@ -69,8 +70,9 @@ class Cell:
             raise self.trouble(f"{text} is no number")
         other = "." if self.decimal == "," else ","
         if other in text:
-            raise self.trouble(f"{text} has the sign {other} where {self.decimal} is the decimal sign: "
-                               f"write it without, or say --decimal {'point' if other == '.' else 'comma'}")
+            raise self.trouble(f"{text} has the sign {other} where {self.decimal} is the decimal sign: write thousands "
+                               f"without a sign; where {other} is the decimal sign of the whole table, say --decimal "
+                               f"{'point' if other == '.' else 'comma'}")
         return Fraction(re.sub(f"[{BLANKS}]", "", text).replace(",", "."))
 
 
@@ -152,10 +154,15 @@ def head_of(path: str, line: list[str], columns: re.Pattern) -> list[str]:
     for k, name in enumerate(head):
         place = f"{path}, row 1, column {letter_of(k)}"
         if name and not columns.fullmatch(name):
-            raise Trouble(f"{place}: there is no column {name} in such a table")
+            raise Trouble(f"{place}: there is no column {name} in such a table; there are {named(columns)}")
         if name and name in head[:k]:
             raise Trouble(f"{place}: there is a column {name} already")
     return head
+
+
+def named(columns: re.Pattern) -> str:
+    """The names of columns, as people read them."""
+    return columns.pattern.replace(STEPS, "quantity 1|at 1|quantity 2|at 2 and so on").replace("|", ", ")
 
 
 def row_of(path: str, number: int, line: list[str], head: list[str], decimal: str) -> Row:
