@@ -79,7 +79,8 @@ def matches(change: Row, row: Row, *columns: str) -> bool:
 def with_change(table: Table, found: list[Row], change: Row, columns: re.Pattern) -> Table:
     what, value = change["change"].text.lower(), change["value"]
     if not found:
-        raise change.trouble(f"{table.path} has no such row")
+        names = filter(None, (change[name].text for name in ("firm", "from", "to", "good", "by")))
+        raise change.trouble(f"{table.path} has no row of {', '.join(names)}")
     if what == OUT:
         if value.text:
             raise value.trouble("what is out has no value")
