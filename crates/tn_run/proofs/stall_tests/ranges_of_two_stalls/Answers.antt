@@ -6,9 +6,12 @@ use Rattle.tn_base.specs.Arcs.{IsAtMost}
 use Rattle.tn_base.specs.declared.memory.OutOfMemory.{OutOfMemory}
 use Rattle.tn_market.specs.Supported.{AreSupports}
 use Rattle.tn_market.specs.Traded.{Traded}
+use Rattle.tn_market.specs.Valued.{IsWorthAtMost}
+use Rattle.tn_network.proofs.EachLemmas.{each_firm}
 use Rattle.tn_price.specs.Supports.{IsPricedWithin, Supports}
 use Rattle.tn_price.specs.declared.supported.Support.{Support}
 use Rattle.tn_run.specs.Stall.{stall}
+use Rattle.tn_run.specs.StallLemmas.{stall-within}
 use Rattle.tn_run.specs.declared.stalls.Stall.{Stall}
 use Rattle.tn_run.proofs.stall_tests.ranges_of_two_stalls.Goals as goal
 
@@ -27,7 +30,8 @@ range-requires g c =
     let small : All (λ price. IsAtMost price (2 * 8 * length market.trades)) c.in-Supported.prices =
     subst (λ (support : Support). IsPricedWithin (2 * 8 * length market.trades) support) c.in-Supported.is
     (subst (λ (r : Result Support OutOfMemory). IfOk r (IsPricedWithin (2 * 8 * length market.trades)))
-    c.expect.ensures (c.support.ensures.prices 8 (λ f v is. lit≤ tt))) in (
+    c.expect.ensures (c.support.ensures.prices 8
+    (each_firm (λ (v : Stall). stall) (IsWorthAtMost 8) market.firms (λ v. stall-within)))) in (
       lit< tt,
       (
         omega (arith, trades),
