@@ -13,6 +13,8 @@ pub mod KeyLemmas
 pub mod CountLemmas
 pub mod KeptLemmas
 pub mod ListLemmas
+pub mod HeapLemmas
+pub mod QueueLemmas
 pub mod OfferLemmas
 pub mod StoppedLemmas
 pub mod KeptCycleLemmas

@@ -14,6 +14,18 @@ waiting_same nodes waits now list count same lists = record {
   once = lists.once;
 }
 
+-- one node more, that doesn't wait
+pub waiting_more : (v : ℕ) (waits : ℕ → Bool) (list : List ℕ) (count : ℕ) → AreWaiting v waits list count
+    → waits v ≡ false → AreWaiting (v + 1) waits list count
+waiting_more v waits list count lists shut = record {
+  each = λ i below. let own = lists.each i below in (omega (arith, own.0), own.1);
+  all = λ u inside waiting. elim (cases_eq u v) [
+    | inl same ↦ absurd (false≢true (sym shut ∙ subst (λ (z : ℕ). waits z ≡ true) same waiting))
+    | inr off ↦ lists.all u (omega (arith, inside, off)) waiting
+  ];
+  once = lists.once;
+}
+
 -- one node more waits, and comes to the end of the list
 module _ (before nodes : ℕ) (waits now : ℕ → Bool) (list : List ℕ) (count v : ℕ)
     (lists : AreWaiting before waits list count)

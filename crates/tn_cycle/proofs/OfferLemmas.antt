@@ -105,15 +105,19 @@ module _ (arc : ℕ → ℕ → Option ℤ) (end u : ℕ) (beyond : Cell) (waits
   ArePassed row k = (v : ℕ) → (row v ≡ old v) ⊎ ((i : ℕ) × (i < k) × (at i ≡ v))
 
   module _ (row : ℕ → Cell) (k : ℕ) (after : AreAfter row k) (passed : ArePassed row k) where
+    -- the next predecessor was offered nothing yet
+    pub not_yet : ((i : ℕ) → i < k → at i ≢ at k) → row (at k) ≡ old (at k)
+    not_yet once = elim (passed (at k)) [
+      | inl same ↦ same
+      | inr earlier ↦ absurd (once earlier.0 earlier.1 earlier.2)
+    ]
+
     -- one predecessor more
     module _ (new : ℕ → Cell) (once : (i : ℕ) → i < k → at i ≢ at k)
         (own : AfterOffer arc end u beyond (waits (at k)) (at k) (row (at k)) (new (at k)))
         (others : (v : ℕ) → v ≢ at k → new v ≡ row v) where
       was : row (at k) ≡ old (at k)
-      was = elim (passed (at k)) [
-        | inl same ↦ same
-        | inr earlier ↦ absurd (once earlier.0 earlier.1 earlier.2)
-      ]
+      was = not_yet once
 
       pub after_next : AreAfter new (k + 1)
       after_next i below = elim (cases_eq i k) [

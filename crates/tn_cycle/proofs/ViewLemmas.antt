@@ -125,19 +125,20 @@ reads_along turns nodes arc end path labels row between none found v inside =
     (leads_along nodes arc end (cell_at row) between none found turns v inside))
 
 -- the finder keeps its places where others of its cells may be read
-pub places_kept : (nodes count labelled reached path labels row_places waits : ℕ) (row : List Cell)
+pub places_kept : (nodes count labelled reached path labels row_places waits spaces : ℕ) (row : List Cell)
     (count' labelled' reached' : ℕ) (row' : List Cell)
-    → HasPlaces nodes count labelled reached path labels row_places waits row → count' ≤ nodes + 2 → labelled' ≤ nodes
+    → HasPlaces nodes count labelled reached path labels row_places waits spaces row → count' ≤ nodes + 2 → labelled' ≤ nodes
     → reached' ≤ nodes
     → ((v : ℕ) → v < reached' → IsListable (nodes + 2) row' v)
-    → HasPlaces nodes count' labelled' reached' path labels row_places waits row'
-places_kept nodes count labelled reached path labels row_places waits row count' labelled' reached' row' had few
+    → HasPlaces nodes count' labelled' reached' path labels row_places waits spaces row'
+places_kept nodes count labelled reached path labels row_places waits spaces row count' labelled' reached' row' had few
     few_labels few_walks listable = record {
       some = had.some;
       not_many = had.not_many;
       row_sized = had.row_sized;
       waits_sized = had.waits_sized;
       path_sized = had.path_sized;
+      spaced = had.spaced;
       labels_sized = had.labels_sized;
       listed = few;
       labels_read = few_labels;

@@ -3,7 +3,6 @@ use Rattle.std.specs.Prelude.{◌≡◌, ◌≢◌, ℕ, ◌+◌, ◌<◌, ◌�
 use Rattle.tn_base.specs.Options.{both}
 use Rattle.tn_base.specs.Walks.{is_admitted, walk_cost}
 use Rattle.tn_cycle.specs.declared.cell.Cell.{Cell}
-use Rattle.tn_cycle.specs.declared.kept.Near.{Near}
 use Rattle.tn_cycle.specs.declared.kept.Sought.{Sought}
 use Rattle.tn_cycle.specs.declared.kept.Sought.TheVariants as seek
 use Rattle.tn_cycle.specs.declared.answer.Path.{Path}
@@ -75,15 +74,6 @@ abbrev pub IsPast : Sought → Cell → ℤ → ℕ → Type 0
 IsPast seek.Walks own cost inner = ⊥
 IsPast (seek.Cycle cap) own cost inner = HasBy own cost inner ⊎ IsCapped cap cost
 
--- which of the best node so far and another one's walk comes first
-pub record IsNearer (best : Option Near) (place : ℕ) (own : Cell) (label : ℤ) (found : Option Near) : Type 0 where
-  pub one : (found ≡ best) ⊎ ((w : ℤ) × (own.cost ≡ Some w)
-      × (found ≡ Some (record { place = place; key = w +ℤ label; round = own.round })))
-  pub before_best : (near : Near) → best ≡ Some near → (first : Near) × (found ≡ Some first)
-      × IsNotAfter first.key first.round near.key near.round
-  pub before_own : (w : ℤ) → own.cost ≡ Some w → (first : Near) × (found ≡ Some first)
-      × IsNotAfter first.key first.round (w +ℤ label) own.round
-
 -- a node that waits, with its walk, before which no other one comes
 pub record ComesFirst (nodes : ℕ) (label : ℕ → ℤ) (cell : ℕ → Cell) (waits : ℕ
     → Bool) (u : ℕ) (key : ℤ) (round : ℕ) : Type 0 where
@@ -95,14 +85,6 @@ pub record ComesFirst (nodes : ℕ) (label : ℕ → ℤ) (cell : ℕ → Cell) 
   pub round_is : round ≡ (cell u).round
   pub first : (v : ℕ) (w : ℤ) → v < nodes → waits v ≡ true → (cell v).cost ≡ Some w
       → IsNotAfter key round (w +ℤ label v) (cell v).round
-
--- no node that waits has a walk
-abbrev pub NoneWaits : ℕ → (ℕ → Cell) → (ℕ → Bool) → Type 0
-NoneWaits nodes cell waits = (v : ℕ) → v < nodes → waits v ≡ true → (cell v).cost ≡ None
-
-abbrev pub IsNearest : ℕ → (ℕ → ℤ) → (ℕ → Cell) → (ℕ → Bool) → Option Near → Type 0
-IsNearest nodes label cell waits None = NoneWaits nodes cell waits
-IsNearest nodes label cell waits (Some near) = ComesFirst nodes label cell waits near.place near.key near.round
 
 -- no node that waits matters
 abbrev pub AllArePast : ℕ → ℤ → Sought → (ℕ → ℤ) → (ℕ → Cell) → Cell → (ℕ → Bool) → Type 0

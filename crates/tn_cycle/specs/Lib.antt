@@ -4,6 +4,7 @@ pub mod Order
 pub mod Cells
 pub mod Searched
 pub mod Kept
+pub mod Queue
 pub mod Graphs
 pub mod GraphLemmas
 pub mod ListingLemmas

@@ -44,6 +44,8 @@ pub struct Finder {
     reached: u32,
     turns: bool,
     end: u32,
+    /// Where each node stands in the list of those that wait, while a search runs.
+    places: Vec<u32>,
 }
 
 impl Model for Finder {
@@ -56,7 +58,7 @@ impl Model for Finder {
         f.row.items };
 
     ghost invariant = { λ f. HasPlaces f.nodes f.count f.labelled f.reached (vec_len f.path) (vec_len f.labels)
-        (vec_len f.row) (vec_len f.waits) f.row.items };
+        (vec_len f.row) (vec_len f.waits) (vec_len f.places) f.row.items };
 }
 
 impl Finder {
@@ -87,6 +89,7 @@ impl Finder {
             reached: 0,
             turns: false,
             end: 0,
+            places: vec![in alloc; 0; places + 1]?,
         })
     }
 
@@ -183,6 +186,7 @@ impl Finder {
             &mut self.waits,
             &mut self.row,
             &mut self.path,
+            &mut self.places,
         );
         self.count = found.arcs();
         found
@@ -226,6 +230,7 @@ impl Finder {
             &mut self.waits,
             &mut self.row,
             &mut self.path,
+            &mut self.places,
         );
         self.count = found.arcs();
         found
@@ -259,6 +264,7 @@ impl Finder {
             &mut self.waits,
             &mut self.row,
             &mut self.path,
+            &mut self.places,
         );
     }
 
@@ -280,6 +286,7 @@ impl Finder {
             &mut self.waits,
             &mut self.row,
             &mut self.path,
+            &mut self.places,
         );
     }
 
@@ -299,6 +306,7 @@ impl Finder {
             &mut self.waits,
             &mut self.row,
             &mut self.path,
+            &mut self.places,
         );
         self.count = found.arcs();
         match found {
@@ -344,6 +352,7 @@ impl Finder {
             &mut self.waits,
             &mut self.row,
             &mut self.path,
+            &mut self.places,
         );
         self.reached = self.nodes;
         self.turns = turns;

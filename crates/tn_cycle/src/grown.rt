@@ -31,11 +31,13 @@ pub(crate) fn grow_labels<C: Costs>(
     waits: &mut [bool],
     row: &mut [Cell],
     path: &mut [u32],
+    places: &mut [u32],
 ) -> Path
     requires some { 1 ≤ C.node_count costs.now }
     requires sized { C.node_count costs.now ≤ length row.old }
     requires waits_sized { C.node_count costs.now ≤ length waits.old }
     requires path_sized { C.node_count costs.now + 1 ≤ length path.old }
+    requires spaced { length row.old ≤ length places.old }
     requires labels_sized { length labels.old ≡ C.node_count costs.now }
     requires short { length path.old ≤ 2 ^ 31 }
     requires few { C.node_count costs.now ≤ most_graph_nodes }
@@ -48,11 +50,11 @@ pub(crate) fn grow_labels<C: Costs>(
     for first in (0..null).rev() {
         mark_between(waits, first + 1, null);
         let part = Part { costs, null, first };
-        let found = find_added(&part, first, labels, waits, row, path);
+        let found = find_added(&part, first, labels, waits, row, path, places);
         if found.arcs() > 0 {
             return found;
         }
     }
     mark_between(waits, 0, null);
-    find_added(costs, null, labels, waits, row, path)
+    find_added(costs, null, labels, waits, row, path, places)
 }

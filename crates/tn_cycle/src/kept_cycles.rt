@@ -114,10 +114,12 @@ fn find_kept<C: Costs>(
     waits: &mut [bool],
     row: &mut [Cell],
     path: &mut [u32],
+    places: &mut [u32],
 ) -> Path
     requires sized { C.node_count costs.now ≤ length row.old }
     requires waits_sized { C.node_count costs.now ≤ length waits.old }
     requires path_sized { C.node_count costs.now + 1 ≤ length path.old }
+    requires spaced { length row.old ≤ length places.old }
     requires labels_sized { length labels.old ≡ C.node_count costs.now }
     requires short { length path.old ≤ 2 ^ 31 }
     requires few { C.node_count costs.now ≤ most_graph_nodes }
@@ -145,6 +147,7 @@ fn find_kept<C: Costs>(
         waits,
         row,
         path,
+        places,
     );
     let found = read_cycle(row, node, cap, path);
     raise(labels, row, node, gain(base, found.cost()));
@@ -256,10 +259,12 @@ pub(crate) fn find_added<C: Costs>(
     waits: &mut [bool],
     row: &mut [Cell],
     path: &mut [u32],
+    places: &mut [u32],
 ) -> Path
     requires sized { C.node_count costs.now ≤ length row.old }
     requires waits_sized { C.node_count costs.now ≤ length waits.old }
     requires path_sized { C.node_count costs.now + 1 ≤ length path.old }
+    requires spaced { length row.old ≤ length places.old }
     requires labels_sized { length labels.old ≡ C.node_count costs.now }
     requires short { length path.old ≤ 2 ^ 31 }
     requires few { C.node_count costs.now ≤ most_graph_nodes }
@@ -277,7 +282,7 @@ pub(crate) fn find_added<C: Costs>(
 {
     labels[node as usize] = node_label(costs, node, labels);
     if break_into(costs, node, labels) {
-        find_kept(costs, node, Some(0), labels, waits, row, path)
+        find_kept(costs, node, Some(0), labels, waits, row, path, places)
     } else {
         Path::None
     }
@@ -291,11 +296,13 @@ pub(crate) fn negative_kept<C: Costs, const W: usize>(
     waits: &mut [bool],
     row: &mut [Cell],
     path: &mut [u32],
+    places: &mut [u32],
 ) -> Path
     requires labels_sized { length labels.old ≡ looked.now.among.null + 1 }
     requires sized { length labels.old ≤ length row.old }
     requires waits_sized { length labels.old ≤ length waits.old }
     requires path_sized { length labels.old + 1 ≤ length path.old }
+    requires spaced { length row.old ≤ length places.old }
     requires short { length path.old ≤ 2 ^ 31 }
     requires few { length labels.old ≤ most_graph_nodes }
     requires trade { looked.now.node < looked.now.among.null }
@@ -314,7 +321,7 @@ pub(crate) fn negative_kept<C: Costs, const W: usize>(
         → AreNear (reach + label_step (length labels.old)) labels.new }
 {
     looked.mark_others(waits);
-    find_added(looked, looked.node, labels, waits, row, path)
+    find_added(looked, looked.node, labels, waits, row, path, places)
 }
 
 /// Finds a least cycle through a node whose label is kept too. Its nodes then stand at the front of `path`.
@@ -324,11 +331,13 @@ pub(crate) fn least_kept<C: Costs, const W: usize>(
     waits: &mut [bool],
     row: &mut [Cell],
     path: &mut [u32],
+    places: &mut [u32],
 ) -> Path
     requires labels_sized { length labels.old ≡ looked.now.among.null + 1 }
     requires sized { length labels.old ≤ length row.old }
     requires waits_sized { length labels.old ≤ length waits.old }
     requires path_sized { length labels.old + 1 ≤ length path.old }
+    requires spaced { length row.old ≤ length places.old }
     requires short { length path.old ≤ 2 ^ 31 }
     requires few { length labels.old ≤ most_graph_nodes }
     requires trade { looked.now.node < looked.now.among.null }
@@ -348,7 +357,7 @@ pub(crate) fn least_kept<C: Costs, const W: usize>(
         → AreNear (reach + label_step (length labels.old)) labels.new }
 {
     looked.mark_others(waits);
-    find_kept(looked, looked.node, None, labels, waits, row, path)
+    find_kept(looked, looked.node, None, labels, waits, row, path, places)
 }
 
 /// Labels at most 0 that keep the arcs, by labels that do. The nodes that arcs lead between are marked by `waits`: no
@@ -359,11 +368,13 @@ pub(crate) fn relabel_kept<C: Costs>(
     waits: &mut [bool],
     row: &mut [Cell],
     path: &mut [u32],
+    places: &mut [u32],
 )
     requires labels_sized { length labels.old ≡ C.node_count costs.now }
     requires sized { C.node_count costs.now + 1 ≤ length row.old }
     requires waits_sized { length waits.old ≡ C.node_count costs.now + 1 }
     requires path_sized { C.node_count costs.now + 1 ≤ length path.old }
+    requires spaced { length row.old ≤ length places.old }
     requires marked { (u v : ℕ) (cost : ℤ) → C.arc costs.now u v ≡ Some cost → (flag_at waits.old u ≡ true)
         × (flag_at waits.old v ≡ true) }
     requires few { C.node_count costs.now ≤ most_graph_nodes }
@@ -382,6 +393,7 @@ pub(crate) fn relabel_kept<C: Costs>(
         waits,
         row,
         path,
+        places,
     );
     write_labels(row, lowest_cost(row, sink), labels);
 }
@@ -393,18 +405,20 @@ pub(crate) fn relabel_all<C: Costs>(
     waits: &mut [bool],
     row: &mut [Cell],
     path: &mut [u32],
+    places: &mut [u32],
 )
     requires labels_sized { length labels.old ≡ C.node_count costs.now }
     requires sized { C.node_count costs.now + 1 ≤ length row.old }
     requires waits_sized { length waits.old ≡ C.node_count costs.now + 1 }
     requires path_sized { C.node_count costs.now + 1 ≤ length path.old }
+    requires spaced { length row.old ≤ length places.old }
     requires few { C.node_count costs.now ≤ most_graph_nodes }
     requires near { AreNear most_label labels.old }
     requires keeps { KeepsArcs (C.arc costs.now) (label_in labels.old) }
     ensures { AreLabels (C.node_count costs.now) (C.arc costs.now) labels.new }
 {
     waits.fill(true);
-    relabel_kept(costs, labels, waits, row, path);
+    relabel_kept(costs, labels, waits, row, path, places);
 }
 
 /// The same on the admitted trades and the null node alone.
@@ -414,11 +428,13 @@ pub(crate) fn relabel_among<C: Costs, const W: usize>(
     waits: &mut [bool],
     row: &mut [Cell],
     path: &mut [u32],
+    places: &mut [u32],
 )
     requires labels_sized { length labels.old ≡ among.now.null + 1 }
     requires sized { length labels.old + 1 ≤ length row.old }
     requires waits_sized { length waits.old ≡ length labels.old + 1 }
     requires path_sized { length labels.old + 1 ≤ length path.old }
+    requires spaced { length row.old ≤ length places.old }
     requires few { length labels.old ≤ most_graph_nodes }
     requires near { AreNear most_label labels.old }
     requires keeps { KeepsArcs (arcs_among (is_admitted among.now.null among.now.admitted.now)
@@ -427,5 +443,5 @@ pub(crate) fn relabel_among<C: Costs, const W: usize>(
         (C.arc among.now.costs.now)) labels.new }
 {
     among.mark_nodes(waits);
-    relabel_kept(among, labels, waits, row, path);
+    relabel_kept(among, labels, waits, row, path, places);
 }

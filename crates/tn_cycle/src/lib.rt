@@ -23,6 +23,7 @@ mod grown;
 mod kept;
 mod kept_cycles;
 mod labels;
+mod queue;
 mod read;
 #[cfg(test)]
 mod tests;

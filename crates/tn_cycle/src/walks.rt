@@ -32,10 +32,12 @@ pub(crate) fn find_walks<C: Costs>(
     waits: &mut [bool],
     row: &mut [Cell],
     path: &mut [u32],
+    places: &mut [u32],
 )
     requires sized { C.node_count costs.now ≤ length row.old }
     requires waits_sized { C.node_count costs.now ≤ length waits.old }
     requires path_sized { C.node_count costs.now ≤ length path.old }
+    requires spaced { length row.old ≤ length places.old }
     requires labels_sized { length labels.now ≡ C.node_count costs.now }
     requires few { C.node_count costs.now ≤ most_graph_nodes }
     requires inside { node < C.node_count costs.now }
@@ -46,5 +48,15 @@ pub(crate) fn find_walks<C: Costs>(
     waits.fill(true);
     waits[node as usize] = false;
     let base = labels[node as usize];
-    search_kept(costs, node, base, Sought::Walks, labels, waits, row, path);
+    search_kept(
+        costs,
+        node,
+        base,
+        Sought::Walks,
+        labels,
+        waits,
+        row,
+        path,
+        places,
+    );
 }

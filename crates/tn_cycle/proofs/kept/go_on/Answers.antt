@@ -1,16 +1,138 @@
 -- What shows the clauses of `go_on` of `src/kept.rt`.
-use Rattle.std.proofs.Common.{◌∙◌, sym}
+use Rattle.std.proofs.Common.{◌≡◌, ◌+◌, ◌∙◌, ℕ, ℤ, Option, Some, set, refl, sym, ap, subst, arith, Bool, true, false, ◌&&◌, not, is_some}
+use Rattle.std.proofs.lemmas.Bool.{false≢true}
+use Rattle.std.specs.Prelude.{unwrap_or}
+use Rattle.tn_cycle.specs.declared.cell.Cell.{Cell}
+use Rattle.tn_cycle.specs.Answers.{label_in}
+use Rattle.tn_cycle.specs.Cells.{cell_at}
+use Rattle.tn_cycle.specs.Kept.{IsOffered, is_ready, node_at}
+use Rattle.tn_cycle.specs.Queue.{IsBefore}
+use Rattle.tn_cycle.proofs.HeapLemmas.{lower_heap, other_heap}
+use Rattle.tn_cycle.proofs.ListLemmas.{ready}
 use Rattle.tn_cycle.proofs.OfferLemmas.{list_kept, list_reached}
+use Rattle.tn_cycle.proofs.QueueLemmas.{before-trans, changed_key, changed_queue, forward_order, offered_room, place_of, same_order, same_waiting, some_cost}
 use Rattle.tn_cycle.proofs.kept.go_on.Goals as goal
 
-pub returns-then-is_reached-clause-listed : goal.returns-then-is_reached-clause-listed
-returns-then-is_reached-clause-listed c nodes flag inside flag_is lists =
-    list_reached nodes c.args.v c.args.u c.args.count c.args.waits flag c.args.first c.args.beyond c.offered-new.result
-    c.args.row.now c.args.list.now inside c.requires.sized flag_is c.offered-new.ensures lists c.requires.places
-    (sym c.is_reached.ensures ∙ c.if-is_reached.true)
+-- the better cell is offered
+better_offered : (own new : Cell) (found : Option Cell) (first : Option ℤ) (beyond : Cell) (u : ℕ)
+    → found ≡ Some new → IsOffered own first beyond u (unwrap_or found own) → IsOffered own first beyond u new
+better_offered own new found first beyond u is offers =
+    subst (λ (o : Option Cell). IsOffered own first beyond u (unwrap_or o own)) is offers
 
-pub returns-else-is_reached-clause-listed : goal.returns-else-is_reached-clause-listed
-returns-else-is_reached-clause-listed c nodes flag inside flag_is lists =
-    list_kept nodes c.args.v c.args.u c.args.count c.args.waits flag c.args.first c.args.beyond c.offered-new.result
-    c.args.row.now c.args.list.now inside c.requires.sized flag_is c.offered-new.ensures lists
-    (sym c.is_reached.ensures ∙ c.if-is_reached.false)
+-- a node without a walk isn't ready
+unready : (waits : Bool) (own : Cell) → is_some own.cost ≡ false → is_ready waits own ≡ false
+unready true own none = none
+unready false own none = refl
+
+-- whether a node has its first walk
+not_first : (now was : Bool) → was ≡ true → (now && not was) ≡ false
+not_first true true is = refl
+not_first false true is = refl
+not_first now false is = absurd (false≢true is)
+
+is_first : (now was : Bool) → now ≡ true → was ≡ false → (now && not was) ≡ true
+is_first true false is none = refl
+is_first true true is none = absurd (false≢true (sym none))
+is_first false was is none = absurd (false≢true is)
+
+pub returns-then-not-waits-clause-heap : goal.returns-then-not-waits-clause-heap
+returns-then-not-waits-clause-heap c =
+    let labels = c.args.labels.now in
+    let row = c.args.row.now in
+    let v = c.args.v in
+    other_heap (IsBefore (label_in labels) (cell_at row))
+    (IsBefore (label_in labels) (cell_at (set row v c.in-Some.new))) v c.args.list.now c.args.count
+    (same_order labels row v c.in-Some.new c.requires.sized)
+    (c.requires.unready (ap (λ (s : Bool). is_ready s (cell_at row v)) c.if-not-waits.true)) c.requires.heap
+
+pub rise-requires-clause-queue : goal.rise-requires-clause-queue
+rise-requires-clause-queue c =
+    let own = cell_at c.args.row.now c.args.v in
+    let offers = better_offered own c.in-Some.new c.better.result c.args.first c.args.beyond c.args.u c.in-Some.is
+    c.better.ensures.offered in
+    changed_queue c.args.labels.now c.args.row.now c.args.v c.in-Some.new c.requires.sized c.args.list.now
+    c.args.places.now c.args.count
+    (offered_room own c.args.first c.args.beyond c.args.u c.in-Some.new offers c.requires.room c.requires.first
+    c.requires.rest) c.requires.queue
+
+pub rise-requires-clause-heap : goal.rise-requires-clause-heap
+rise-requires-clause-heap c =
+    let labels = c.args.labels.now in
+    let row = c.args.row.now in
+    let v = c.args.v in
+    let list = c.args.list.now in
+    let own = cell_at row v in
+    let new = c.in-Some.new in
+    let offers = better_offered own new c.better.result c.args.first c.args.beyond c.args.u c.in-Some.is
+    c.better.ensures.offered in
+    let cost = some_cost own.cost (sym c.is_some.ensures ∙ c.if-is_some.true) in
+    let at = c.requires.ready (ready c.args.waits own cost.0 c.if-not-waits.false cost.1) in
+    let place = place_of labels row list c.args.places.now c.args.count c.requires.queue v in
+    let here : node_at c.args.places.now v ≡ at.0 = place at.0 at.1 at.2 in
+    lower_heap (IsBefore (label_in labels) (cell_at row)) (IsBefore (label_in labels) (cell_at (set row v new))) v list
+    c.args.count (same_order labels row v new c.requires.sized) (before-trans (label_in labels) (cell_at row))
+    (forward_order labels row v new c.requires.sized cost.0 cost.1 (offers.by_own cost.0 cost.1))
+    (node_at c.args.places.now v) (ap (node_at list) here ∙ at.2) (λ i inside is. sym (place i inside is))
+    c.requires.heap (omega (arith, here, at.1))
+
+pub push-requires-clause-heap : goal.push-requires-clause-heap
+push-requires-clause-heap c =
+    let labels = c.args.labels.now in
+    let row = c.args.row.now in
+    let v = c.args.v in
+    other_heap (IsBefore (label_in labels) (cell_at row))
+    (IsBefore (label_in labels) (cell_at (set row v c.in-Some.new))) v c.args.list.now c.args.count
+    (same_order labels row v c.in-Some.new c.requires.sized)
+    (c.requires.unready (unready c.args.waits (cell_at row v) (sym c.is_some.ensures ∙ c.if-is_some.false)))
+    c.requires.heap
+
+pub push-requires-clause-keyed : goal.push-requires-clause-keyed
+push-requires-clause-keyed c =
+    let row = c.args.row.now in
+    let own = cell_at row c.args.v in
+    let offers = better_offered own c.in-Some.new c.better.result c.args.first c.args.beyond c.args.u c.in-Some.is
+    c.better.ensures.offered in
+    changed_key c.args.labels.now row c.args.v c.in-Some.new c.requires.sized
+    (offered_room own c.args.first c.args.beyond c.args.u c.in-Some.new offers c.requires.room c.requires.first
+    c.requires.rest) c.args.v
+    (record {
+      labelled = c.requires.labelled c.if-not-waits.false;
+      inside = c.requires.sized;
+      room = c.requires.room;
+    })
+
+pub returns-then-is_some-clause-listed : goal.returns-then-is_some-clause-listed
+returns-then-is_some-clause-listed c nodes flag inside flag_is lists =
+    let row = c.args.row.now in
+    let v = c.args.v in
+    let own = cell_at row v in
+    let new = c.in-Some.new in
+    let offers = better_offered own new c.better.result c.args.first c.args.beyond c.args.u c.in-Some.is
+    c.better.ensures.offered in
+    let cost = some_cost own.cost (sym c.is_some.ensures ∙ c.if-is_some.true) in
+    let was : is_ready c.args.waits own ≡ true = ready c.args.waits own cost.0 c.if-not-waits.false cost.1 in
+    let kept = list_kept nodes v c.args.u c.args.count c.args.waits flag c.args.first c.args.beyond new row
+    c.args.list.now inside c.requires.sized flag_is offers lists
+    (not_first (is_ready c.args.waits new) (is_ready c.args.waits own) was) in
+    same_waiting c.args.labels.now (set row v new) c.rise.new.list c.rise.new.places c.args.count c.rise.ensures.queue
+    nodes (λ w. is_ready (flag w) (cell_at (set row v new) w)) c.args.list.now kept c.rise.ensures.same
+
+pub returns-else-is_some-clause-listed : goal.returns-else-is_some-clause-listed
+returns-else-is_some-clause-listed c nodes flag inside flag_is lists =
+    let row = c.args.row.now in
+    let v = c.args.v in
+    let own = cell_at row v in
+    let new = c.in-Some.new in
+    let offers = better_offered own new c.better.result c.args.first c.args.beyond c.args.u c.in-Some.is
+    c.better.ensures.offered in
+    let over = c.better.ensures.over new c.in-Some.is in
+    let now : is_ready c.args.waits new ≡ true =
+    ready c.args.waits new over.cost c.if-not-waits.false over.cost_is in
+    let was : is_ready c.args.waits own ≡ false =
+    unready c.args.waits own (sym c.is_some.ensures ∙ c.if-is_some.false) in
+    let reached = list_reached nodes v c.args.u c.args.count c.args.waits flag c.args.first c.args.beyond new row
+    c.args.list.now inside c.requires.sized flag_is offers lists c.requires.places
+    (is_first (is_ready c.args.waits new) (is_ready c.args.waits own) now was) in
+    same_waiting c.args.labels.now (set row v new) c.push.new.list c.push.new.places (c.args.count + 1)
+    c.push.ensures.queue nodes (λ w. is_ready (flag w) (cell_at (set row v new) w))
+    (set c.args.list.now c.args.count v) reached c.push.ensures.same

@@ -1,24 +1,27 @@
 -- What shows the clauses of `offer` of `src/kept.rt`.
-use Rattle.std.proofs.Common.{◌≡◌, ◌≢◌, ◌<◌, ◌∙◌, ℕ, List, refl, sym, ap, subst, arith}
+use Rattle.std.proofs.Common.{◌≡◌, ◌≢◌, ◌<◌, ◌∙◌, ℕ, List, Some, refl, sym, ap, subst, arith}
+use Rattle.std.proofs.lemmas.Int.{ints}
 use Rattle.tn_base.specs.Arcs.{ListsPredecessors}
 use Rattle.tn_cycle.specs.declared.cell.Cell.{Cell}
 use Rattle.tn_cycle.specs.Cells.{cell_at}
-use Rattle.tn_cycle.specs.Kept.{AfterOffer, AreReady, flag_at}
+use Rattle.tn_cycle.specs.Kept.{AfterOffer, flag_at}
+use Rattle.tn_cycle.specs.Queue.{AreQueued}
 use Rattle.tn_cycle.proofs.CountLemmas.{ready_fewer}
-use Rattle.tn_cycle.proofs.OfferLemmas.{after_all, after_next, after_none, after_some, passed_next}
+use Rattle.tn_cycle.proofs.OfferLemmas.{after_all, after_next, after_none, after_some, not_yet, passed_next}
+use Rattle.tn_cycle.proofs.QueueLemmas.{carry}
 use Rattle.tn_cycle.proofs.kept.offer.Goals.{then-is_some, else-is_some}
 use Rattle.tn_cycle.proofs.kept.offer.Goals as goal
 
 pub go_on-listed-requires-clause-places : goal.go_on-listed-requires-clause-places
 go_on-listed-requires-clause-places g c =
     let fewer = ready_fewer (g.C.Costs.node_count c.args.costs.now) (flag_at c.args.waits.now) (cell_at c.loop-k.row)
-    c.loop-k.list c.loop-k.listed c.args.end c.loop-k.invariant.listed c.requires.last c.requires.shut in
+    c.loop-k.list c.loop-k.listed c.args.end c.loop-k.invariant.queued.listed c.requires.last c.requires.shut in
     omega (arith, fewer, c.requires.places, c.loop-k.auto.list)
 
 pub go_on-listed-requires-clause-few : goal.go_on-listed-requires-clause-few
 go_on-listed-requires-clause-few g c =
     let fewer = ready_fewer (g.C.Costs.node_count c.args.costs.now) (flag_at c.args.waits.now) (cell_at c.loop-k.row)
-    c.loop-k.list c.loop-k.listed c.args.end c.loop-k.invariant.listed c.requires.last c.requires.shut in
+    c.loop-k.list c.loop-k.listed c.args.end c.loop-k.invariant.queued.listed c.requires.last c.requires.shut in
     omega (arith, fewer, c.requires.few)
 
 pub loop-k-preserved : goal.loop-k-preserved
@@ -61,21 +64,25 @@ loop-k-preserved g c =
       | then-is_some w ↦ ap (λ (cells : List Cell). cell_at cells x) w.row-is ∙ w.go_on-listed.ensures.others x off
       | else-is_some w ↦ ap (λ (cells : List Cell). cell_at cells x) w.row-is
     ] in
-    let listed : AreReady nodes waits (cell_at c.if-is_some.row) c.if-is_some.list c.if-is_some.listed =
+    let queued : AreQueued nodes waits c.args.labels.now c.if-is_some.row c.if-is_some.list c.if-is_some.places
+    c.if-is_some.listed =
     elim c.if-is_some.branch [
       | then-is_some w ↦
-          subst (AreReady nodes waits (cell_at c.if-is_some.row) c.if-is_some.list) (sym w.listed-is)
-          (subst (λ (list : List ℕ). AreReady nodes waits (cell_at c.if-is_some.row) list w.go_on-listed.result)
-          (sym w.list-is)
-          (subst (λ (cells : List Cell). AreReady nodes waits (cell_at cells) w.go_on-listed.new.list
-          w.go_on-listed.result) (sym w.row-is)
-          (w.go_on-listed.ensures.listed nodes waits within refl c.loop-k.invariant.listed)))
+          subst (λ (cells : List Cell). AreQueued nodes waits c.args.labels.now cells c.if-is_some.list
+          c.if-is_some.places c.if-is_some.listed) (sym w.row-is)
+          (carry (AreQueued nodes waits c.args.labels.now w.go_on-listed.new.row) c.if-is_some.list
+          w.go_on-listed.new.list c.if-is_some.places w.go_on-listed.new.places c.if-is_some.listed
+          w.go_on-listed.result w.list-is w.places-is w.listed-is (record {
+            listed = w.go_on-listed.ensures.listed nodes waits within refl c.loop-k.invariant.queued.listed;
+            queue = w.go_on-listed.ensures.queue;
+            heap = w.go_on-listed.ensures.heap;
+          }))
       | else-is_some w ↦
-          subst (AreReady nodes waits (cell_at c.if-is_some.row) c.if-is_some.list) (sym w.listed-is)
-          (subst (λ (list : List ℕ). AreReady nodes waits (cell_at c.if-is_some.row) list c.loop-k.listed)
-          (sym w.list-is)
-          (subst (λ (cells : List Cell). AreReady nodes waits (cell_at cells) c.loop-k.list c.loop-k.listed)
-          (sym w.row-is) c.loop-k.invariant.listed))
+          subst (λ (cells : List Cell). AreQueued nodes waits c.args.labels.now cells c.if-is_some.list
+          c.if-is_some.places c.if-is_some.listed) (sym w.row-is)
+          (carry (AreQueued nodes waits c.args.labels.now c.loop-k.row) c.if-is_some.list c.loop-k.list
+          c.if-is_some.places c.loop-k.places c.if-is_some.listed c.loop-k.listed w.list-is w.places-is w.listed-is
+          c.loop-k.invariant.queued)
     ] in
     let own_at =
     subst (λ (z : ℕ). AfterOffer arc end u beyond (waits z) z (row z) (cell_at c.if-is_some.row z)) v_is own
@@ -86,7 +93,7 @@ loop-k-preserved g c =
           c.loop-k.invariant.passed (cell_at c.if-is_some.row) once own_at others_at;
       passed = passed_next arc end u beyond waits at (cell_at c.args.row.now) row k c.loop-k.invariant.after
           c.loop-k.invariant.passed (cell_at c.if-is_some.row) once own_at others_at;
-      listed = listed;
+      queued = queued;
     }
 
 pub returns-clause-offered : goal.returns-clause-offered
@@ -107,3 +114,29 @@ returns-clause-offered g c v inside =
     (cell_at c.loop-k.row) k c.loop-k.invariant.after c.loop-k.invariant.passed nodes
     (subst (λ (n : ℕ). ListsPredecessors nodes arc u n at) all
     (g.met.C.Costs.lists_predecessors costs u c.requires.settled)) v
+
+pub go_on-listed-requires-clause-rest : goal.go_on-listed-requires-clause-rest
+go_on-listed-requires-clause-rest g c = c.requires.room c.args.u c.requires.settled
+
+-- no predecessor was offered anything before, so that its cell is what it was
+pub go_on-listed-requires-clause-room : goal.go_on-listed-requires-clause-room
+go_on-listed-requires-clause-room g c x is =
+    let costs = c.args.costs.now in
+    let u = c.args.u in
+    let at = g.C.Costs.predecessor_at costs u in
+    let k = c.loop-k.k in
+    let lists = g.met.C.Costs.lists_predecessors costs u c.requires.settled in
+    let below : k < g.C.Costs.predecessor_count costs u =
+    omega (arith, c.loop-k-test.true, c.predecessors-k-end.ensures) in
+    let once : (i : ℕ) → i < k → at i ≢ at k =
+    λ i earlier e. let q : i ≡ k = lists.once i k (omega (arith, earlier, below)) below e in omega (arith, q, earlier)
+    in
+    let same : cell_at c.loop-k.row (at k) ≡ cell_at c.args.row.now (at k) =
+    not_yet (g.C.Costs.arc costs) c.args.end u (cell_at c.args.row.now u) (flag_at c.args.waits.now) at
+    (cell_at c.args.row.now) (cell_at c.loop-k.row) k c.loop-k.invariant.after c.loop-k.invariant.passed once in
+    let v_is : c.predecessor-v.result ≡ at k = c.predecessor-v.ensures in
+    let here : (cell_at c.args.row.now (at k)).cost ≡ Some x =
+    sym (ap (λ (own : Cell). own.cost) same)
+    ∙ subst (λ (z : ℕ). (cell_at c.loop-k.row z).cost ≡ Some x) v_is is in
+    let small = c.requires.room (at k) (lists.inside k below) x here in
+    record { low = omega (arith, ints, small.low); high = omega (arith, ints, small.high) }

@@ -63,7 +63,7 @@ invariant_of-self g c =
     let listable =
     listable_all f.nodes arc c.args.node written between none found
     (omega (arith, places, c.self.invariant.row_sized)) in
-    places_kept f.nodes _ _ _ _ _ _ _ _ 0 0 f.nodes _ c.self.invariant (omega arith) (omega arith) (omega arith)
+    places_kept f.nodes _ _ _ _ _ _ _ _ _ 0 0 f.nodes _ c.self.invariant (omega arith) (omega arith) (omega arith)
     (λ v inside. subst (λ (row : List Cell). IsListable (f.nodes + 2) row v)
     (sym (written-back written f.row.items f.row.len places)) (listable v inside))
 

@@ -35,7 +35,7 @@ invariant_of-self c =
     let counted : c.list_walk-self-inside.result ≡ (cell_at f.row.items c.args.v).round + 2 =
     c.list_walk-self-inside.ensures.count ∙ ap (λ (row : List Cell). (cell_at row c.args.v).round + 2)
     c.deref.ensures.value in
-    places_kept f.nodes _ _ _ _ _ _ _ f.row.items c.list_walk-self-inside.result f.labelled f.reached f.row.items had
+    places_kept f.nodes _ _ _ _ _ _ _ _ f.row.items c.list_walk-self-inside.result f.labelled f.reached f.row.items had
     (omega (arith, listable.few, counted))
     had.labels_read had.walks_read had.listable
 
