@@ -70,6 +70,10 @@ solve
 0 {"answer":"solved","on":["a"],"prices":[["a",3~5]],"surplus":2}
 
 solve
+{"version":3,"firms":[{"name":"S","kind":"table","rows":[[["a"],-3]]},{"name":"B","kind":"table","rows":[[["a"],5]]}],"trades":[{"name":"a","seller":"S","buyer":"B"}]}
+0 {"answer":"solved","on":["a"],"prices":[["a",3~5]],"surplus":2}
+
+solve
 {"version":1,"firms":[{"name":"S","kind":"table","rows":[[[],7]]},{"name":"B","kind":"table","rows":[]}],"trades":[]}
 0 {"answer":"solved","on":[],"prices":[],"surplus":7}
 
@@ -104,6 +108,18 @@ solve
 solve
 {"version":1,"firms":[{"name":"S","kind":"table","rows":[[["a"],-1000000000]]},{"name":"B","kind":"table","rows":[[["a"],1000000000]]}],"trades":[{"name":"a","seller":"S","buyer":"B"}]}
 0 {"answer":"solved","on":[..],"prices":[["a",1000000000]],"surplus":0}
+
+solve
+{"version":2,"firms":[{"name":"S","kind":"table","rows":[[["a"],-1000000000]]},{"name":"B","kind":"table","rows":[[["a"],1000000000]]}],"trades":[{"name":"a","seller":"S","buyer":"B"}]}
+0 {"answer":"solved","on":[..],"prices":[["a",1000000000]],"surplus":0}
+
+solve
+{"version":3,"firms":[{"name":"S","kind":"table","rows":[[["a"],-10000000]]},{"name":"B","kind":"table","rows":[[["a"],10000000]]}],"trades":[{"name":"a","seller":"S","buyer":"B"}]}
+0 {"answer":"solved","on":[..],"prices":[["a",10000000]],"surplus":0}
+
+solve
+{"version":3,"firms":[{"name":"S","kind":"table","rows":[[["a"],-3]]},{"name":"B","kind":"laminar","amounts":[["a",5]],"sets":[{"trades":["a"],"from":-60,"values":[0,0,0,0,0,0,0,0,0,0,0,0,0,0,0,0,0,0,0,0,0,0,0,0,0,0,0,0,0,0,0,0,0,0,0,0,0,0,0,0,0,0,0,0,0,0,0,0,0,0,0,0,0,0,0,0,0,0,0,0,0,-1]}]}],"trades":[{"name":"a","seller":"S","buyer":"B"}]}
+0 {"answer":"solved","on":["a"],"prices":[["a",3~4]],"surplus":1}
 
 solve
 {"version":1,"firms":[{"name":"S","kind":"table","rows":[[["a"],-1]]},{"name":"M","kind":"middleman","costs":[["a",2]],"gains":[["b",3]],"keep":8},{"name":"B","kind":"table","rows":[[["b"],1]]}],"trades":[{"name":"a","seller":"S","buyer":"M"},{"name":"b","seller":"M","buyer":"B"}]}

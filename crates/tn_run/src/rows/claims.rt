@@ -53,6 +53,14 @@ replay
 6 {"answer":"invalid","reason":"signed","trade":"a"}
 
 replay
+{"version":3,"firms":[{"name":"S","kind":"table","rows":[[["a"],-3]]},{"name":"B","kind":"table","rows":[[["a"],5]]}],"trades":[{"name":"a","seller":"S","buyer":"B"}],"outcome":{"over":1,"contracts":[]},"claim":{"answer":"blocks","contracts":[["a",3000001]],"over":1000000}}
+0 {"answer":"valid"}
+
+replay
+{"version":2,"firms":[{"name":"S","kind":"table","rows":[[["a"],-3]]},{"name":"B","kind":"table","rows":[[["a"],5]]}],"trades":[{"name":"a","seller":"S","buyer":"B"}],"outcome":{"over":1,"contracts":[]},"claim":{"answer":"blocks","contracts":[["a",3000001]],"over":1000000}}
+1 {"answer":"fault","fault":19,"name":"BadOver","place":["claim","over"]}
+
+replay
 {"version":1,"firms":[{"name":"S","kind":"table","rows":[[["a"],-3]]},{"name":"B","kind":"table","rows":[[["a"],5]]}],"trades":[{"name":"a","seller":"S","buyer":"B"}],"arrangement":{"on":[]},"claim":{"answer":"cycle","cost":-2,"nodes":[null,"a"]}}
 0 {"answer":"valid"}
 

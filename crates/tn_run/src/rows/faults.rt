@@ -93,6 +93,10 @@ solve
 1 {"answer":"fault","fault":10,"name":"AmountRange","place":["firms",1,"rows",0,1]}
 
 solve
+{"version":3,"firms":[{"name":"S","kind":"table","rows":[[["a"],-10000000]]},{"name":"B","kind":"table","rows":[[["a"],10000001]]}],"trades":[{"name":"a","seller":"S","buyer":"B"}]}
+1 {"answer":"fault","fault":10,"name":"AmountRange","place":["firms",1,"rows",0,1]}
+
+solve
 {"firms":[{"name":"
 1 {"answer":"fault","fault":1,"name":"NotJson","place":[]}
 

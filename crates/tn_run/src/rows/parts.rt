@@ -49,6 +49,10 @@ solve
 1 {"answer":"fault","fault":9,"name":"Limit","place":["firms",1,"sets",0,"from"]}
 
 solve
+{"version":2,"firms":[{"name":"S","kind":"table","rows":[[["a"],-3]]},{"name":"B","kind":"laminar","amounts":[["a",5]],"sets":[{"trades":["a"],"from":-60,"values":[0,0,0,0,0,0,0,0,0,0,0,0,0,0,0,0,0,0,0,0,0,0,0,0,0,0,0,0,0,0,0,0,0,0,0,0,0,0,0,0,0,0,0,0,0,0,0,0,0,0,0,0,0,0,0,0,0,0,0,0,0,-1]}]}],"trades":[{"name":"a","seller":"S","buyer":"B"}]}
+1 {"answer":"fault","fault":9,"name":"Limit","place":["firms",1,"sets",0,"from"]}
+
+solve
 {"version":1,"firms":[{"name":"S","kind":"laminar"},{"name":"B","kind":"laminar","sets":[{"trades":["a"],"from":32}]}],"trades":[{"name":"a","seller":"S","buyer":"B"},{"name":"b","seller":"S","buyer":"B"},{"name":"c","seller":"B","buyer":"S"}]}
 1 {"answer":"fault","fault":3,"name":"Shape","place":["firms",1,"sets",0,"values"]}
 
