@@ -16,12 +16,12 @@ use Rattle.tn_market.specs.Widths.{most_own, most_worth}
 use Rattle.tn_plain_data.specs.Limits.{most_price}
 use Rattle.tn_market.proofs.AskLemmas.{payment_small}
 
--- each firm of a list has worths of at most 10^11 in size
+-- each firm of a list has worths of at most `most_worth` in size
 abbrev pub AreSmallFirms : List Firm → Type 0
 AreSmallFirms [] = Unit {0}
 AreSmallFirms (firm ∷ firms) = IsWorthAtMost most_worth firm × AreSmallFirms firms
 
--- a surplus is at most 10^11 for each firm
+-- a surplus is at most `most_worth` for each firm
 pub surplus_small : (trades : List Ends) (on f : ℕ) (firms : List Firm) (s : ℤ) → AreSmallFirms firms
     → surplus_from trades on f firms ≡ Some s → IsAtMost s (length firms * most_worth)
 surplus_small trades on f [] s small is = let e : pos 0 ≡ s = same_Some (pos 0) s is in

@@ -44,7 +44,8 @@ pub fn solutions_replay()
 {}
 
 /// Every answer of `judge` replays: contracts that a firm would drop, prices that complete the outcome, and a chain
-/// that blocks it. The denominator of a chain is at most 25,700, so it is one that a claim may have.
+/// that blocks it. The denominator of a chain is the outcome's times twice the number of unsigned trades and one, and
+/// the limits of each version let a claim have one so large.
 pub fn judgements_replay()
     ensures { JudgementsReplay }
 {}
