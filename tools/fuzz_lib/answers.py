@@ -5,6 +5,7 @@ import functools
 import json
 import os
 import pathlib
+import subprocess
 import sys
 
 from fuzz_lib.documents import CLAIMS, NO, add_parts, at_limit, change, spoil, usable_after
@@ -30,6 +31,12 @@ class Unconfirmed(Exception):
 def want(so, *why):
     if not so:
         raise Unconfirmed(*why)
+
+
+def status_of(answer):
+    """The status that a run ends with which gives this answer."""
+    is_no = answer["answer"] == "firms" and answer["content"] < len(answer["firms"])
+    return 6 if is_no else STATUS.get(answer["answer"], 0)
 
 
 class Program:
@@ -64,14 +71,35 @@ class Program:
             return output.decode()
         want(output.endswith(b"\n") and output.count(b"\n") == 1, "not one line", words, output)
         answer = json.loads(output)
-        is_no = answer["answer"] == "firms" and answer["content"] < len(answer["firms"])
-        want(status == (6 if is_no else STATUS.get(answer["answer"], 0)), "the status", words, answer, status)
+        want(status == status_of(answer), "the status", words, answer, status)
         hold_fault(words, text, answer)
         self.counts[words, answer["answer"]] += 1
         return answer
 
     def ask(self, words, document, **members):
         return self.run(words, json.dumps({**document, **members}).encode())
+
+
+class LineProgram(Program):
+    """The same with one process for each command, which answers line by line, so that a document takes no start. What has a
+    line end within, and what asks for rows, has a process of its own still."""
+
+    def __init__(self, path):
+        super().__init__(path)
+        self.processes = {}
+
+    def start(self, words, text):
+        if b"\n" in text or not text.strip() or " " in words:
+            return super().start(words, text)
+        if words not in self.processes:
+            ends = dict(stdin=subprocess.PIPE, stdout=subprocess.PIPE, stderr=self.ends[2], env=self.environment)
+            self.processes[words] = subprocess.Popen([self.path, words, "--lines"], **ends)
+        process = self.processes[words]
+        process.stdin.write(text + b"\n")
+        process.stdin.flush()
+        output = process.stdout.readline()
+        # (the process has one status for all its lines, so that of a single run is taken from the answer)
+        return status_of(json.loads(output)), output, os.pread(self.ends[2], os.fstat(self.ends[2]).st_size, 0)
 
 
 @functools.lru_cache(maxsize=10_000)
