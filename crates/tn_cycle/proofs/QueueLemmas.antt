@@ -144,7 +144,8 @@ module _ (labels : List ℤ) (row : List Cell) (list places : List ℕ) (count :
 
     -- what a call that exchanges them leaves
     pub exchanged_queue : (new_list new_places : List ℕ) → new_list ≡ exchanged list i k
-        → new_places ≡ set (set places (node_at list k) i) (node_at list i) k → IsQueue labels row new_list new_places count
+        → new_places ≡ set (set places (node_at list k) i) (node_at list i) k
+        → IsQueue labels row new_list new_places count
     exchanged_queue new_list new_places list_is places_is =
         subst (λ (l : List ℕ). IsQueue labels row l new_places count) (sym list_is)
         (subst (λ (p : List ℕ). IsQueue labels row (exchanged list i k) p count) (sym places_is) exchange_queue)

@@ -127,8 +127,8 @@ reads_along turns nodes arc end path labels row between none found v inside =
 -- the finder keeps its places where others of its cells may be read
 pub places_kept : (nodes count labelled reached path labels row_places waits spaces : ℕ) (row : List Cell)
     (count' labelled' reached' : ℕ) (row' : List Cell)
-    → HasPlaces nodes count labelled reached path labels row_places waits spaces row → count' ≤ nodes + 2 → labelled' ≤ nodes
-    → reached' ≤ nodes
+    → HasPlaces nodes count labelled reached path labels row_places waits spaces row → count' ≤ nodes + 2
+    → labelled' ≤ nodes → reached' ≤ nodes
     → ((v : ℕ) → v < reached' → IsListable (nodes + 2) row' v)
     → HasPlaces nodes count' labelled' reached' path labels row_places waits spaces row'
 places_kept nodes count labelled reached path labels row_places waits spaces row count' labelled' reached' row' had few

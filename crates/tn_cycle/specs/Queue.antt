@@ -48,12 +48,14 @@ pub record AreQueued (nodes : ℕ) (waits : ℕ
   pub queue : IsQueue labels row list places count
   pub heap : IsHeap (IsBefore (label_in labels) (cell_at row)) list count
 
--- a heap, but that the node at a place may come before the one above it, and not before those two above
+-- a heap, but that the node at a place may come before the one above it; the nodes below that place don't come before
+-- the one above it
 pub record IsHeapBelow (before : ℕ → ℕ → Type 0) (list : List ℕ) (count at : ℕ) : Type 0 where
   pub others : (p c : ℕ) → c < count → c ≢ at → IsAbove p c → before (node_at list p) (node_at list c)
   pub beyond : (p c : ℕ) → c < count → IsAbove p at → IsAbove at c → before (node_at list p) (node_at list c)
 
--- a heap, but that the node at a place may come after those that it stands above
+-- a heap, but that the node at a place may come after those that it stands above; these don't come before the one
+-- above that place
 pub record IsHeapAbove (before : ℕ → ℕ → Type 0) (list : List ℕ) (count at : ℕ) : Type 0 where
   pub others : (p c : ℕ) → c < count → p ≢ at → IsAbove p c → before (node_at list p) (node_at list c)
   pub beyond : (p c : ℕ) → c < count → IsAbove p at → IsAbove at c → before (node_at list p) (node_at list c)

@@ -57,7 +57,8 @@ pub record IsListable (places : ℕ) (row : List Cell) (v : ℕ) : Type 0 where
   pub inside : All (λ u. u < length row) (trail (cell_at row) (cell_at row v).round v)
 
 -- the finder's lists are long enough for its nodes
-pub record HasPlaces (nodes count labelled reached path labels row_places waits spaces : ℕ) (row : List Cell) : Type 0 where
+pub record HasPlaces (nodes count labelled reached path labels row_places waits spaces : ℕ)
+    (row : List Cell) : Type 0 where
   pub some : 1 ≤ nodes
   pub not_many : nodes ≤ most_graph_nodes
   pub row_sized : row_places ≡ nodes + 1

@@ -143,8 +143,8 @@ fn is_past(sought: Sought, own: Cell, cost: i128, round: u32) -> bool
     }
 }
 
-/// Whether the front of the queue is to be settled. It isn't where no waiting node matters: there is none, or a cycle is
-/// sought, and the front's key is past that of the end or past the cap.
+/// Whether the front of the queue is to be settled. It isn't where no waiting node matters: there is none, or a cycle
+/// is sought, and the front's key is past that of the end or past the cap.
 fn front_counts(
     end: u32,
     base: i128,

@@ -13,7 +13,7 @@ use std::marker::Model;
 use tn_base::{Bundle, OutOfMemory, TradeSet};
 use tn_plain_data::Ends;
 
-/// Firms and the trades between them, which fit together: at most 1,024 of each.
+/// Firms and the trades between them, which fit together: at most 2,048 of each.
 ///
 /// Contracts see the list of the firms and the list of the ends of the trades. That they are a network is a clause of
 /// `firms` and of `trades`.

@@ -53,4 +53,5 @@ returns-clause-no c ends =
     let over_is = simp to_z-of_z at c.over.ensures in
     past_all c.args.count c.args.base c.args.sought (label_by label c.args.list.now) (cell_by cell c.args.list.now)
     (cell c.args.end) every 0 (own.0 +ℤ label front) (cell front).round first
-    (subst (λ (z : ℤ). IsPast c.args.sought (cell c.args.end) z (cell front).round) (over_is ∙ ap (λ (z : ℤ). z -ℤ c.args.base) key_is) past)
+    (subst (λ (z : ℤ). IsPast c.args.sought (cell c.args.end) z (cell front).round)
+    (over_is ∙ ap (λ (z : ℤ). z -ℤ c.args.base) key_is) past)

@@ -40,8 +40,8 @@ loop-v-preserved c =
           }
       | else-is_ready w ↦
           record {
-            queued = carry (AreQueued (v + 1) flag labels row) then.list list then.places c.loop-v.places then.count count
-                w.list-is w.places-is w.count-is (record {
+            queued = carry (AreQueued (v + 1) flag labels row) then.list list then.places c.loop-v.places then.count
+                count w.list-is w.places-is w.count-is (record {
                   listed = waiting_more v ready list count kept.queued.listed
                       (sym c.is_ready.ensures ∙ w.if-is_ready.false);
                   queue = kept.queued.queue;

@@ -167,8 +167,8 @@ loop-settled-preserved g c =
     let now = flag_at (set c.loop-settled.waits u false) in
     let first = c.front_counts.ensures.yes c.if-not-front_counts.false in
     let chosen : ComesFirst nodes label cell waits u first.0 first.1 =
-    listed_first nodes label cell waits list c.loop-settled.count c.loop-settled.invariant.queued.listed 0 first.0 first.1
-    first.2 in
+    listed_first nodes label cell waits list c.loop-settled.count c.loop-settled.invariant.queued.listed 0 first.0
+    first.1 first.2 in
     let within : u < length c.loop-settled.waits = omega (
       arith,
       chosen.inside,
