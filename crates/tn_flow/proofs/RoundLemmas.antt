@@ -1,7 +1,7 @@
 -- What a round of the solver keeps.
-use Rattle.std.proofs.Common.{◌≡◌, ◌≢◌, not, ◌&&◌, nat_lt, ap₂, inl, inr, ◌⊎◌, ℕ, suc, ◌+◌, ◌-◌, ◌*◌, ◌<◌, ◌≤◌, Bool, true, false, ◌==◌, ltb, refl, sym, ap, ◌∙◌, subst, arith, if◌then◌else◌, ℤ, pos, ◌+ℤ◌, ◌≤ℤ◌, List, [], ◌∷◌, ◌++◌, length, map, take, slice_get, Some}
+use Rattle.std.proofs.Common.{◌≡◌, ◌≢◌, not, ◌&&◌, ◌||◌, nat_lt, ap₂, inl, inr, ◌⊎◌, ℕ, suc, ◌+◌, ◌-◌, ◌*◌, ◌<◌, ◌≤◌, Bool, true, false, ◌==◌, ltb, refl, sym, ap, ◌∙◌, subst, arith, if◌then◌else◌, ℤ, pos, ◌+ℤ◌, ◌≤ℤ◌, List, [], ◌∷◌, ◌++◌, length, map, take, slice_get, Some, None, Option}
 use Rattle.std.proofs.lemmas.Int.{ints}
-use Rattle.std.proofs.lemmas.Bool.{cases_eq, cases_lt, lt-ltb, le-ltb}
+use Rattle.std.proofs.lemmas.Bool.{cases_eq, cases_lt, lt-ltb, le-ltb, ne_eqb, and_parts}
 use Rattle.std.proofs.lemmas.Nat.{mul-le}
 use Rattle.tn_base.proofs.SetLemmas.{has-zero, has-toggle_same, has-toggle_other, same_set}
 use Rattle.std.proofs.Math.Seq.{take-suc}
@@ -9,13 +9,15 @@ use Rattle.std.proofs.lemmas.Option.{get_or_from_slice_get}
 use Rattle.tn_base.specs.Sets.{has, toggle}
 use Rattle.tn_base.specs.Firm.{Firm, MayAbstain}
 use Rattle.tn_base.specs.Walks.{arcs_among, is_admitted, is_looked_at, KeepsArcs, KeepsArcsEntering}
-use Rattle.tn_base.proofs.WalkLemmas.{SameArcs, least_cycle-same, cycles-same, among-same}
+use Rattle.tn_base.proofs.WalkLemmas.{SameArcs, least_cycle-same, cycles-same}
 use Rattle.tn_plain_data.specs.declared.ends.Ends.{Ends}
-use Rattle.tn_plain_data.specs.Network.{part, IsNetwork}
-use Rattle.tn_market.specs.Graph.{exchange_arc, graph_worths}
+use Rattle.tn_plain_data.specs.Network.{IsNetwork}
+use Rattle.tn_market.specs.Best.{IsSubset}
+use Rattle.tn_market.specs.Graph.{exchange_arc}
 use Rattle.tn_market.specs.Widths.{most_market_trades}
 use Rattle.tn_graph.specs.Blocks.{Blocks, arcs_of}
-use Rattle.tn_graph.specs.Reading.{changed_worths_from}
+use Rattle.tn_graph.specs.Reading.{IsExchangeAmong}
+use Rattle.tn_graph.proofs.AdmitLemmas.{among_fewer}
 use Rattle.tn_cycle.specs.Reading.{Reading}
 use Rattle.tn_cycle.specs.Answers.{AnswersCycle, AreLabels, AreNear, cost_of, label_in}
 use Rattle.tn_cycle.specs.Widths.{label_step, most_label}
@@ -73,6 +75,65 @@ labels_at firms trades allowed on labels network none none_on counted =
 
 -- ---- a search
 
+-- graphs that agree between the nodes of a test are one among these
+among-within : (test : ℕ → Bool) (one other : ℕ → ℕ → Option ℤ)
+    → ((u v : ℕ) → test u ≡ true → test v ≡ true → one u v ≡ other u v)
+    → SameArcs (arcs_among test one) (arcs_among test other)
+among-within test one other same u v = by (test u && test v) refl
+  where
+    at : (ℕ → ℕ → Option ℤ) → Bool → Option ℤ
+    at arc b = if b then arc u v else None
+
+    by : (b : Bool) → (test u && test v) ≡ b → at one (test u && test v) ≡ at other (test u && test v)
+    by true is = (let parts = and_parts (test u) (test v) is in
+        ap (λ (o : Option ℤ). if test u && test v then o else None) (same u v parts.0 parts.1))
+    by false is = ap (at one) is ∙ sym (ap (at other) is)
+
+-- a node that is looked at is admitted with the trade
+looked_at_joined : (null allowed t v : ℕ) → has allowed t ≡ false → is_looked_at null t allowed v ≡ true
+    → is_admitted null (toggle allowed t) v ≡ true
+looked_at_joined null allowed t v out is = elim (cases_eq v t) [
+  | inl e ↦
+      let there : has (toggle allowed t) v ≡ true = ap (has (toggle allowed t)) e ∙ has-toggle_same allowed t
+      ∙ ap not out in
+      ap (λ (b : Bool). (v == null) || b) there ∙ or_true (v == null)
+  | inr d ↦
+      ap (λ (b : Bool). (v == null) || b) (has-toggle_other allowed t v d)
+      ∙ sym (ap (λ (b : Bool). b || is_admitted null allowed v) (ne_eqb v t d)) ∙ is
+]
+  where
+    or_true : (b : Bool) → (b || true) ≡ true
+    or_true true = refl
+    or_true false = refl
+
+-- the arcs that the search for a cycle through a trade looks at, where the trade's own are read
+pub looked_same : (firms : List Firm) (trades : List Ends) (on allowed t : ℕ) (graph : Blocks) → has allowed t ≡ false
+    → IsExchangeAmong firms trades on (toggle allowed t) graph
+    → SameArcs (arcs_among (is_looked_at (length trades) t allowed) (arcs_of graph))
+    (arcs_among (is_looked_at (length trades) t allowed) (exchange_arc firms trades on))
+looked_same firms trades on allowed t graph out joined =
+    among-within (is_looked_at (length trades) t allowed) (arcs_of graph) (exchange_arc firms trades on)
+    (λ u v u_in v_in. joined.arcs u v (looked_at_joined (length trades) allowed t u out u_in)
+    (looked_at_joined (length trades) allowed t v out v_in))
+
+-- the graph is right among the trades that were admitted before, too
+pub before_joined : (firms : List Firm) (trades : List Ends) (on allowed t : ℕ) (graph : Blocks)
+    → has allowed t ≡ false → IsExchangeAmong firms trades on (toggle allowed t) graph
+    → IsExchangeAmong firms trades on allowed graph
+before_joined firms trades on allowed t graph out joined =
+    among_fewer firms trades on allowed (toggle allowed t) graph (λ k there. elim (cases_eq k t) [
+      | inl e ↦ absurd (let absent : has allowed k ≡ false = ap (has allowed) e ∙ out in cc (there, absent))
+      | inr d ↦ has-toggle_other allowed t k d ∙ there
+    ]) joined
+
+-- a trade that isn't admitted is off
+pub off_where_out : (allowed on t : ℕ) → IsSubset on allowed → has allowed t ≡ false → has on t ≡ false
+off_where_out allowed on t inside out = by (has on t) refl
+  where
+    by : (b : Bool) → has on t ≡ b → b ≡ false
+    by true there = absurd (let member = inside t there in cc (member, out))
+    by false absent = refl
+
 pub last_node : (nodes count : ℕ) → nodes ≡ count + 1 → nodes - 1 ≡ count
 last_node nodes count e = omega (arith, e)
 
@@ -83,19 +144,21 @@ pub search_asks : (firms : List Firm) (trades : List Ends) (graph : Blocks) (fin
 search_asks firms trades graph finder allowed on null way same =
     subst (λ (n : ℕ). KeepsArcs (arcs_among (is_admitted n allowed) (arcs_of graph)) (label_in finder.labels))
     (sym same)
-    (keeps-same _ _ (among-same (is_admitted (length trades) allowed) (arcs_of graph) (exchange_arc firms trades on)
+    (keeps-same _ _ (among-within (is_admitted (length trades) allowed) (arcs_of graph) (exchange_arc firms trades on)
     way.arcs.arcs) (label_in finder.labels) way.labels.keeps)
 
 -- what it answers, with the labels that it leaves
 pub search_answers : (firms : List Firm) (trades : List Ends) (graph : Blocks) (finder : Reading) (allowed on t : ℕ)
     (after : Reading) (answer : Path) → IsNetwork firms trades → MeetExchange firms
     → AreUnderWay firms trades graph finder allowed on → t < length trades → has allowed t ≡ false
+    → IsExchangeAmong firms trades on (toggle allowed t) graph
     → AnswersCycle (arcs_among (is_looked_at (finder.nodes - 1) t allowed) (arcs_of graph)) t after.listed answer
     → length after.labels ≡ finder.nodes
     → KeepsArcsEntering (arcs_among (is_looked_at (finder.nodes - 1) t allowed) (arcs_of graph)) t
     (label_in after.labels t +ℤ cost_of answer) (label_in after.labels)
     → IsNext firms trades allowed on t after answer
-search_answers firms trades graph finder allowed on t after answer network meet way below out found sized keeps =
+search_answers firms trades graph finder allowed on t after answer network meet way below out joined found sized
+    keeps =
     by answer (subst (λ (n : ℕ). AnswersCycle (arcs_among (is_looked_at n t allowed) (arcs_of graph)) t after.listed
     answer) (last_node finder.nodes (length trades) way.sized) found)
     (entering-same _ _ same t (label_in after.labels t +ℤ cost_of answer) (label_in after.labels)
@@ -105,8 +168,7 @@ search_answers firms trades graph finder allowed on t after answer network meet 
   where
     same : SameArcs (arcs_with firms trades allowed on t)
         (arcs_among (is_looked_at (length trades) t allowed) (arcs_of graph))
-    same u v = sym (among-same (is_looked_at (length trades) t allowed) (arcs_of graph) (exchange_arc firms trades on)
-        way.arcs.arcs u v)
+    same u v = sym (looked_same firms trades on allowed t graph out joined u v)
 
     one_each : length after.labels ≡ length trades + 1
     one_each = sized ∙ way.sized
@@ -141,29 +203,16 @@ search_answers firms trades graph finder allowed on t after answer network meet 
         ) in
         (cycle.counted, next.0, next.1)
 
--- at most as many worths are asked anew as in all
-pub changed_le : (trades : List Ends) (before on f : ℕ) (firms : List Firm)
-    → changed_worths_from trades before on f firms ≤ graph_worths firms
-changed_le trades before on f [] = omega arith
-changed_le trades before on f (firm ∷ firms) =
-    let rest = changed_le trades before on (f + 1) firms in
-    let here = at (part trades f firm.count before == part trades f firm.count on) in
-    omega (arith, rest, here)
-  where
-    at : (b : Bool) → (if b then 0 else (firm.count + 1) * (firm.count + 1)) ≤ (firm.count + 1) * (firm.count + 1)
-    at true = omega arith
-    at false = omega arith
-
 -- ---- labels
 
 -- the arcs among the admitted trades and null
-admitted_same : (firms : List Firm) (trades : List Ends) (graph : Blocks) (finder : Reading) (allowed on : ℕ)
+pub admitted_same : (firms : List Firm) (trades : List Ends) (graph : Blocks) (finder : Reading) (allowed on : ℕ)
     → AreUnderWay firms trades graph finder allowed on
     → SameArcs (arcs_among (is_admitted (length trades) allowed) (exchange_arc firms trades on))
     (arcs_among (is_admitted (length trades) allowed) (arcs_of graph))
 admitted_same firms trades graph finder allowed on way u v =
-    sym (among-same (is_admitted (length trades) allowed) (arcs_of graph) (exchange_arc firms trades on) way.arcs.arcs u
-    v)
+    sym (among-within (is_admitted (length trades) allowed) (arcs_of graph) (exchange_arc firms trades on)
+    way.arcs.arcs u v)
 
 pub settled_labels : (firms : List Firm) (trades : List Ends) (graph : Blocks) (finder : Reading) (allowed on count : ℕ)
     (labels : List ℤ) → AreUnderWay firms trades graph finder allowed on → count ≡ length trades
@@ -246,9 +295,5 @@ pub worths_step : (old before new worths t : ℕ) → before ≤ old + t * worth
 worths_step old before new worths t first second = let e : (t + 1) * worths ≡ t * worths + worths = grind arith in
     omega (arith, first, second, e)
 
-pub worths_sum : (old first new worths t count : ℕ) → first ≤ old + worths → new ≤ first + t * worths → t ≡ count
-    → new ≤ old + (count + 1) * worths
-worths_sum old first new worths t count begin all same =
-    let e : (t + 1) * worths ≡ t * worths + worths = grind arith in
-    let n = ap (λ (k : ℕ). (k + 1) * worths) same in
-    omega (arith, begin, all, e, n)
+pub worths_all : (old new worths t count : ℕ) → new ≤ old + t * worths → t ≡ count → new ≤ old + count * worths
+worths_all old new worths t count all same = subst (λ (k : ℕ). new ≤ old + k * worths) same all

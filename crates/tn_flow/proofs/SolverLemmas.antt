@@ -1,5 +1,5 @@
 -- From labels to prices.
-use Rattle.std.proofs.Common.{◌≡◌, ℕ, ◌+◌, ◌*◌, ◌<◌, ◌≤◌, sym, ◌∙◌, subst, arith, ℤ, pos, ◌-ℤ◌, List, length, map, slice_get, Some}
+use Rattle.std.proofs.Common.{◌≡◌, ℕ, ◌+◌, ◌*◌, ◌<◌, ◌≤◌, sym, ◌∙◌, subst, arith, ℤ, pos, ◌-ℤ◌, List, length}
 use Rattle.std.specs.Prelude.{get_or}
 use Rattle.std.proofs.lemmas.List.{get_or_default}
 use Rattle.tn_base.specs.Arcs.{IsAtMost}
@@ -9,11 +9,10 @@ use Rattle.tn_base.specs.Widths.{most_cost}
 use Rattle.tn_plain_data.specs.declared.ends.Ends.{Ends}
 use Rattle.tn_plain_data.specs.Network.{IsNetwork}
 use Rattle.tn_plain_data.specs.Prices.{price_at}
-use Rattle.tn_market.specs.Valued.{IsWorthAtMost}
 use Rattle.tn_market.specs.Widths.{most_market_trades}
 use Rattle.tn_market.specs.Graph.{exchange_arc}
 use Rattle.tn_market.specs.Admitted.{admitted}
-use Rattle.tn_graph.specs.Blocks.{Blocks}
+use Rattle.tn_graph.specs.Blocks.{Blocks, arcs_of}
 use Rattle.tn_graph.specs.BlockLemmas.{arcs_of-small}
 use Rattle.tn_cycle.specs.Reading.{Reading}
 use Rattle.tn_cycle.specs.Answers.{AreLabels, label_in}
@@ -27,6 +26,7 @@ use Rattle.tn_network.proofs.EachLemmas.{same_prices}
 use Rattle.tn_market.specs.Limits.{AreWorthsWithin}
 use Rattle.tn_network.proofs.SupportLemmas.{arcs_small}
 use Rattle.tn_flow.specs.Underway.{AreUnderWay}
+use Rattle.tn_flow.proofs.RoundLemmas.{admitted_same}
 use Rattle.tn_flow.specs.Solved.{IsSolution, AreSmallPrices}
 
 -- ---- numbers
@@ -42,8 +42,8 @@ pub labels_small : (firms : List Firm) (trades : List Ends) (graph : Blocks) (fi
     labels → (t : ℕ) → t < length labels → IsAtMost (label_in labels t) most_read
 labels_small firms trades graph finder allowed on labels way few are =
     label_small (length trades + 1) _ labels are
-    (small-arcs_among (is_admitted (length trades) allowed) most_cost (exchange_arc firms trades on)
-    (λ u v cost is. arcs_of-small graph u v cost (way.arcs.arcs u v ∙ is)))
+    (λ u v cost is. small-arcs_among (is_admitted (length trades) allowed) most_cost (arcs_of graph)
+    (arcs_of-small graph) u v cost (sym (admitted_same firms trades graph finder allowed on way u v) ∙ is))
     (omega (arith, few))
 
 -- ---- prices

@@ -6,7 +6,7 @@ use Rattle.tn_base.specs.Walks.{arcs_among, is_admitted, KeepsArcs}
 use Rattle.tn_plain_data.specs.declared.ends.Ends.{Ends}
 use Rattle.tn_market.specs.Graph.{exchange_arc}
 use Rattle.tn_graph.specs.Blocks.{Blocks}
-use Rattle.tn_graph.specs.Reading.{IsExchangeGraph}
+use Rattle.tn_graph.specs.Reading.{IsExchangeAmong}
 use Rattle.tn_cycle.specs.Reading.{Reading}
 use Rattle.tn_cycle.specs.Answers.{label_in}
 use Rattle.tn_cycle.specs.declared.answer.Path.{Path}
@@ -25,11 +25,11 @@ pub record AreKept (firms : List Firm) (trades : List Ends) (allowed on : ℕ) (
   pub keeps : KeepsArcs (arcs_among (is_admitted (length trades) allowed) (exchange_arc firms trades on))
       (label_in labels)
 
--- the graph is the exchange graph at the set that is on, the set is what a round leaves with the admitted trades, and
--- so are the labels
+-- the graph is the exchange graph at the set that is on, among the admitted trades and null; the set is what a round
+-- leaves with the admitted trades, and so are the labels
 pub record AreUnderWay (firms : List Firm) (trades : List Ends) (graph : Blocks) (finder : Reading)
     (allowed on : ℕ) : Type 0 where
-  pub arcs : IsExchangeGraph firms trades on graph
+  pub arcs : IsExchangeAmong firms trades on allowed graph
   pub sized : finder.nodes ≡ length trades + 1
   pub kept : IsKept firms trades allowed on
   pub labels : AreKept firms trades allowed on finder.labels

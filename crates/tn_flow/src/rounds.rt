@@ -10,6 +10,7 @@ ghost use Rattle.tn_base.specs.Walks.{arcs_among, is_admitted};
 ghost use Rattle.tn_base.specs.Widths.{most_cost, most_limbs};
 ghost use Rattle.tn_cycle.specs.Answers.{AreLabels, AreNear};
 ghost use Rattle.tn_cycle.specs.Widths.{label_step, most_label};
+ghost use Rattle.tn_graph.specs.Reading.{IsExchangeAmong};
 ghost use Rattle.tn_market.specs.Graph.{exchange_arc, graph_worths};
 ghost use Rattle.tn_market.specs.Widths.{most_market_trades};
 ghost use Rattle.tn_network.specs.Along.{along};
@@ -25,10 +26,11 @@ use tn_cycle::{Finder, Path};
 use tn_graph::Graph;
 use tn_market::{Market, Valuation};
 
-/// The rounds of a solver over one market: which trades are admitted, which are on, and the exchange graph at these.
+/// The rounds of a solver over one market: which trades are admitted, which are on, and the exchange graph at these
+/// among those.
 #[derive(Drop)]
 pub struct Rounds<const W: usize> {
-    /// The exchange graph at the trades that are on.
+    /// The exchange graph at the trades that are on, among the admitted ones and null.
     pub graph: Graph,
     /// What searches it, with a label for each trade and null.
     pub finder: Finder,
@@ -75,26 +77,23 @@ impl<const W: usize> Rounds<W> {
         })
     }
 
-    /// Begins anew on a market: no trade is admitted, none is on, and each label is 0. It asks for at most a worth for
-    /// each two places of each firm. The market has at most `64 * W` trades, as many as the rounds were made for, and
-    /// twice the bound of each firm is at most 10^18.
-    pub fn begin<V: Valuation>(&mut self, market: &Market<V>, steps: &mut Steps<V::Mark>)
+    /// Begins anew on a market: no trade is admitted, none is on, and each label is 0. It asks for no worth. The market
+    /// has at most `64 * W` trades, as many as the rounds were made for.
+    pub fn begin<V: Valuation>(&mut self, market: &Market<V>)
         requires width { W ≤ most_limbs }
         requires wide { length market.now.trades ≤ 64 * W }
         requires room { HaveRoom (length market.now.trades) self.old.graph self.old.finder }
-        requires small { (f : ℕ) (v : V) → slice_get market.now.firms f ≡ Some v → 2 * V.limit v ≤ most_cost }
         ensures under_way { network_of V.firm market.now AreUnderWay self.new.graph self.new.finder self.new.allowed
             self.new.on }
         ensures none_admitted { self.new.allowed ≡ 0 }
         ensures none_on { self.new.on ≡ 0 }
         ensures near { AreNear 0 self.new.finder.labels }
-        ensures asked { steps.new ≤ steps.old + graph_worths (map V.firm market.now.firms) }
     {
         know(market);
         self.allowed = TradeSet::empty();
         self.on = TradeSet::empty();
         self.finder.label_all();
-        self.graph.fill(market, &self.on, steps);
+        self.graph.lay_out(market, &self.on);
     }
 
     /// Toggles the trades among the nodes of the cycle that the finder found last.
@@ -109,14 +108,16 @@ impl<const W: usize> Rounds<W> {
         }
     }
 
-    /// Looks for a cycle through a trade that is negative, over it, the admitted trades and null. The labels that it
-    /// leaves keep the arcs once the trade is admitted.
+    /// Looks for a cycle through a trade that is negative, over it, the admitted trades and null, where the trade's
+    /// arcs are read. The labels that it leaves keep the arcs once the trade is admitted.
     fn find<V: Valuation>(&mut self, market: &Market<V>, t: u32) -> Path
         requires wide { length market.now.trades ≤ 64 * W }
         requires under_way { network_of V.firm market.now AreUnderWay self.old.graph self.old.finder self.old.allowed
             self.old.on }
         requires trade { t < length market.now.trades }
         requires out { has self.old.allowed t ≡ false }
+        requires joined { network_of V.firm market.now IsExchangeAmong self.old.on (toggle self.old.allowed t)
+            self.old.graph }
         requires near { AreNear most_label self.old.finder.labels }
         ensures rest { self.new ≡ record self.old { finder = self.new.finder } }
         ensures sized { self.new.finder.nodes ≡ self.old.finder.nodes }
@@ -128,10 +129,11 @@ impl<const W: usize> Rounds<W> {
         self.finder.through(&self.graph, t, &self.allowed)
     }
 
-    /// Admits a trade: one round of the solver. Where a cycle of the exchange graph through it is negative, the trades
-    /// are toggled along one of least cost and then of least arcs; where none is, only labels change, and no worth is
-    /// asked for. It asks for at most a worth for each two places of each firm, and takes no memory. The rounds are
-    /// under way on this market, the trade is one of it that isn't admitted, and the labels are at most 10^26 in size.
+    /// Admits a trade: one round of the solver. Its arcs are read first. Where a cycle of the exchange graph through it
+    /// is negative, the trades are toggled along one of least cost and then of least arcs, and the arcs of the firms
+    /// whose bundles change are read anew; where none is, only labels change. It asks for at most a worth for each two
+    /// places of each firm, and takes no memory. The rounds are under way on this market, the trade is one of it that
+    /// isn't admitted, and the labels are at most 10^26 in size.
     pub fn admit<V: Valuation>(&mut self, market: &Market<V>, t: u32, steps: &mut Steps<V::Mark>)
         requires wide { length market.now.trades ≤ 64 * W }
         requires small { (f : ℕ) (v : V) → slice_get market.now.firms f ≡ Some v → 2 * V.limit v ≤ most_cost }
@@ -147,12 +149,17 @@ impl<const W: usize> Rounds<W> {
         ensures admitted { self.new.allowed ≡ toggle self.old.allowed t }
         ensures asked { steps.new ≤ steps.old + graph_worths (map V.firm market.now.firms) }
     {
+        know(market);
         let before = self.on;
+        let mut joined = self.allowed;
+        joined.toggle(t);
+        self.graph.admit(market, t, &before, &joined, steps);
         let found = self.find(market, t);
-        self.allowed.toggle(t);
+        self.allowed = joined;
         if let Path::Cycle { length, .. } = found {
             self.toggle_nodes(length, market.trades());
-            self.graph.refresh(market, &before, &self.on, steps);
+            let on = self.on;
+            self.graph.refresh(market, &before, &on, &joined, steps);
         }
     }
 
@@ -184,7 +191,7 @@ impl<const W: usize> Rounds<W> {
     }
 
     /// Begins anew on a market, and admits some of its trades, one after another. It asks for at most a worth for each
-    /// two places of each firm, once and once more for each trade. The market has at most `64 * W` trades, as many as
+    /// two places of each firm, once for each trade. The market has at most `64 * W` trades, as many as
     /// the rounds were made for, and twice the bound of each firm is at most 10^18.
     pub fn admit_all<V: Valuation>(
         &mut self,
@@ -201,10 +208,10 @@ impl<const W: usize> Rounds<W> {
             self.new.on }
         ensures near { AreNear most_label self.new.finder.labels }
         ensures admitted { self.new.allowed ≡ admitted.now }
-        ensures asked { steps.new ≤ steps.old + (length market.now.trades + 1) * graph_worths
+        ensures asked { steps.new ≤ steps.old + length market.now.trades * graph_worths
             (map V.firm market.now.firms) }
     {
-        self.begin(market, steps);
+        self.begin(market);
         for t in 0..market.trades() {
             self.admit_if(market, t, admitted.has(t), steps);
         }

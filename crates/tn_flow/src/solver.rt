@@ -93,10 +93,10 @@ impl<const W: usize> Solver<W> {
 
     /// Finds an equilibrium of the market that the given trades admit: trades among these, and prices of all trades, at
     /// which each firm's bundle is best among its bundles within the admitted trades. It has no refusal, takes no
-    /// memory, and asks for at most a worth for each two places of each firm, once and once more for each trade
-    /// (existence: Hatfield, Kominers, Nichifor, Ostrovsky and Westkamp, 2013). The market has at most `64 * W` trades,
-    /// as many as the solver was made for; twice the bound of each firm, times one more than the number of trades, is
-    /// at most 10^18. The admitted trades are of the market.
+    /// memory, and asks for at most a worth for each two places of each firm, once for each trade (existence: Hatfield,
+    /// Kominers, Nichifor, Ostrovsky and Westkamp, 2013). The market has at most `64 * W` trades, as many as the solver
+    /// was made for; twice the bound of each firm, times one more than the number of trades, is at most 10^18. The
+    /// admitted trades are of the market.
     pub fn solve_among<V: Valuation>(
         &mut self,
         market: &Market<V>,
@@ -111,7 +111,7 @@ impl<const W: usize> Solver<W> {
         ensures solution { network_of V.firm market.now IsSolution admitted.now self.new }
         ensures prices { (bound : ℕ) → AreWorthsWithin bound (map V.firm market.now.firms)
             → AreSmallPrices (2 * bound * length market.now.trades) self.new.prices }
-        ensures asked { steps.new ≤ steps.old + (length market.now.trades + 1) * graph_worths
+        ensures asked { steps.new ≤ steps.old + length market.now.trades * graph_worths
             (map V.firm market.now.firms) }
     {
         self.rounds.admit_all(market, admitted, steps);
@@ -133,7 +133,7 @@ impl<const W: usize> Solver<W> {
         ensures inside { (t : ℕ) → has self.new.on t ≡ true → t < length market.now.trades }
         ensures prices { (bound : ℕ) → AreWorthsWithin bound (map V.firm market.now.firms)
             → AreSmallPrices (2 * bound * length market.now.trades) self.new.prices }
-        ensures asked { steps.new ≤ steps.old + (length market.now.trades + 1) * graph_worths
+        ensures asked { steps.new ≤ steps.old + length market.now.trades * graph_worths
             (map V.firm market.now.firms) }
     {
         let _trades = market.trades();

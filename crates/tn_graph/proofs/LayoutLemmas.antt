@@ -469,7 +469,8 @@ own_index firms trades network f k firm is inside =
 
 -- the numbers of places are small
 pub room_fits : (firms : List Firm) (trades : List Ends) → IsNetwork firms trades → length trades ≤ most_market_trades
-    → ((f : ℕ) (firm : Firm) → slice_get firms f ≡ Some firm → firm.count ≤ 64) → (f : ℕ) (firm : Firm) → slice_get firms f ≡ Some firm
+    → ((f : ℕ) (firm : Firm) → slice_get firms f ≡ Some firm → firm.count ≤ 64) → (f : ℕ) (firm : Firm)
+    → slice_get firms f ≡ Some firm
     → room_before firms f + block_size firm.count ≤ 2 * (2049 * 66)
 room_fits firms trades network few each f firm is =
     let f_in = slice_get_within firms f firm is in

@@ -1,14 +1,12 @@
--- How a graph comes to be the exchange graph, cost by cost and firm by firm.
-use Rattle.std.proofs.Common.{◌≡◌, ◌≢◌, ℕ, zero, suc, ◌+◌, ◌*◌, ◌^◌, get_or, ◌<◌, ◌≤◌, Bool, true, false, not, ◌==◌, ◌&&◌, ◌||◌, if◌then◌else◌, List, [], ◌∷◌, length, take, slice_get, Some, None, Option, option_map, refl, sym, ap, ap₂, ◌∙◌, subst, arith, inl, inr, ◌⊎◌, ℤ}
+-- How a graph comes to be the exchange graph, firm by firm.
+use Rattle.std.proofs.Common.{◌≡◌, ◌≢◌, ℕ, zero, suc, ◌+◌, ◌*◌, ◌<◌, ◌≤◌, Bool, true, false, not, ◌==◌, ◌&&◌, ◌||◌, if◌then◌else◌, List, [], ◌∷◌, length, take, slice_get, Some, None, Option, option_map, refl, sym, ap, ap₂, ◌∙◌, subst, arith, inl, inr, ◌⊎◌, ℤ}
 use Rattle.std.specs.Prelude.{nat_lt, nat_le}
 use Rattle.std.proofs.lemmas.Bool.{cases_Bool, cases_eq, cases_lt, eqb-true, eq-eqb, ne_eqb, lt-ltb, le-ltb, or_parts}
 use Rattle.std.proofs.lemmas.Option.{same_Some, slice_get_within, slice_get_past, slice_get_cases}
-use Rattle.tn_base.specs.Sets.{has, toggle, size}
-use Rattle.tn_base.proofs.SetLemmas.{has-set_of, set_of_within, toggle_within}
-use Rattle.tn_base.proofs.SizeLemmas.{size_le, size-toggle_in}
+use Rattle.tn_base.specs.Sets.{has}
+use Rattle.tn_base.specs.Walks.{is_admitted}
 use Rattle.tn_base.specs.Firm.{Firm}
-use Rattle.tn_law.specs.Places.{trade_level, level, toggle_at, move, CanRise, CanFall}
-use Rattle.tn_law.proofs.PlaceLemmas.{level-trade, toggle_at-trade, toggle_at-null}
+use Rattle.tn_law.specs.Places.{move}
 use Rattle.tn_plain_data.specs.declared.ends.Ends.{Ends}
 use Rattle.tn_plain_data.specs.Network.{own, part, IsNetwork}
 use Rattle.tn_market.specs.Graph.{raised, lowered, raised_by, lowered_by, loss, exchange_arc, graph_worths}
@@ -16,8 +14,7 @@ use Rattle.tn_market.specs.ArcPlaces.{node_at, AreArcPlaces, common_firm, arc_fi
 use Rattle.tn_market.proofs.GraphLemmas.{node_at-trade, node_at-null, has-part, arc_at, move_of_arc, no_arc, same_firm}
 use Rattle.tn_graph.specs.Blocks.{Blocks, arcs_of}
 use Rattle.tn_graph.specs.Layout.{IsLaidOut}
-use Rattle.tn_market.specs.Valued.{HasToggledWorths}
-use Rattle.tn_graph.specs.Reading.{IsRowRead, falling, IsWithoutArcs, IsWritten, IsExchangeGraph, Improves, IsStand, HasRow, HasArcsOf, is_toggled, AreForgotten, IsRightFor, IsUnchanged, changed_worths_from}
+use Rattle.tn_graph.specs.Reading.{IsWithoutArcs, IsWritten, IsExchangeGraph, IsExchangeAmong, Improves, HasArcsOf, is_toggled, AreForgotten, IsRightFor, IsUnchanged, changed_worths_from, block_worths, admitted_count}
 
 -- ---- improvements
 
@@ -43,6 +40,15 @@ pub stays_right : (arc : ℕ → ℕ → Option ℤ) (before after : Blocks) →
     → arcs_of before u v ≡ arc u v → arcs_of after u v ≡ arc u v
 stays_right arc before after improves u v right = elim (improves.each u v) [ inl now ↦ now | inr same ↦ same ∙ right ]
 
+-- where there can be no arc, none comes
+pub none_stays : (firms : List Firm) (trades : List Ends) (on : ℕ) (before after : Blocks)
+    → Improves (exchange_arc firms trades on) before after → (u v : ℕ) → arc_firm trades on u v ≡ None
+    → arcs_of before u v ≡ None → arcs_of after u v ≡ None
+none_stays firms trades on before after improved u v is none = elim (improved.each u v) [
+  | inl now ↦ now ∙ no_arc firms trades on u v is
+  | inr same ↦ same ∙ none
+]
+
 -- a right cost that is written improves
 pub written_improves : (arc : ℕ → ℕ → Option ℤ) (before after : Blocks) (a b : ℕ) (cost : Option ℤ)
     → IsWritten before a b cost after → cost ≡ arc a b
@@ -59,249 +65,77 @@ written_improves arc before after a b cost written right = record {
   ];
 }
 
--- ---- one firm
-
--- what a move costs is the cost of its arc
-pub loss_is_arc : (firms : List Firm) (trades : List Ends) (on f n : ℕ) (firm : Firm) (limit x : ℕ) (worth : ℤ)
-    → IsStand firms trades on f n firm limit x worth
-    → (i j : ℕ) → AreArcPlaces firm x i j → (cost : Option ℤ) → cost ≡ loss firm x (move n x i j)
-    → cost ≡ exchange_arc firms trades on (node_at trades f n i) (node_at trades f n j)
-loss_is_arc firms trades on f n firm limit x worth stand i j places cost is =
-    let counted : n ≡ firm.count = stand.counted in
-    let here : x ≡ part trades f firm.count on = stand.bundle_is ∙ ap (λ (k : ℕ). part trades f k on) counted in
-    is ∙ ap₂ (λ (k y : ℕ). loss firm y (move k y i j)) counted here
-    ∙ sym (arc_at firms trades stand.network on f firm stand.is i j
-    (subst (λ (y : ℕ). AreArcPlaces firm y i j) here places))
-    ∙ ap (λ (k : ℕ). exchange_arc firms trades on (node_at trades f k i) (node_at trades f k j)) (sym counted)
-
--- places that can be raised and lowered
-pub arc_places : (firms : List Firm) (trades : List Ends) (on f n : ℕ) (firm : Firm) (limit x : ℕ) (worth : ℤ)
-    → IsStand firms trades on f n firm limit x worth
-    → (i j : ℕ) → i ≤ n → j < n + 1 → j ≢ i → CanRise n (level n firm.buys x) i → CanFall n (level n firm.buys x) j
-    → AreArcPlaces firm x i j
-arc_places firms trades on f n firm limit x worth stand i j i_within j_within apart rises falls =
-    let counted : n ≡ firm.count = stand.counted in
-    record {
-      from_within = omega (arith, i_within, counted);
-      to_within = omega (arith, j_within, counted);
-      apart = λ e. apart (sym e);
-      rises = subst (λ (k : ℕ). CanRise k (level k firm.buys x) i) counted rises;
-      falls = subst (λ (k : ℕ). CanFall k (level k firm.buys x) j) counted falls;
-    }
-
--- what the positions that can be lowered are
-falls_at : (buys x n falls j : ℕ) → falls ≡ falling buys x n → j < n → has falls j ≡ (trade_level buys x j == 1)
-falls_at buys x n falls j is below =
-    ap (λ (z : ℕ). has z j) is ∙ has-set_of (λ k. trade_level buys x k == 1) n j
-    ∙ ap (λ (b : Bool). b && (trade_level buys x j == 1)) (lt-ltb j n below)
-
--- a position that can be lowered, beside a place that can be raised
-pub fall_is_place : (firms : List Firm) (trades : List Ends) (on f n : ℕ) (firm : Firm) (limit x : ℕ) (worth : ℤ)
-    → IsStand firms trades on f n firm limit x worth
-    → (i j falls : ℕ) → i ≤ n → CanRise n (level n firm.buys x) i → falls ≡ falling firm.buys x n → j < n
-    → has falls j ≡ true → AreArcPlaces firm x i j
-fall_is_place firms trades on f n firm limit x worth stand i j falls i_within rises is below member =
-    let high : trade_level firm.buys x j ≡ 1 =
-    eqb-true (trade_level firm.buys x j) 1 (sym (falls_at firm.buys x n falls j is below) ∙ member) in
-    let at : level n firm.buys x j ≡ 1 = level-trade n firm.buys x j below ∙ high in
-    let apart : j ≢ i = λ e. apart_at e at in
-    arc_places firms trades on f n firm limit x worth stand i j i_within (omega (arith, below)) apart rises (λ _. at)
-  where
-    apart_at : j ≡ i → level n firm.buys x j ≡ 1 → ⊥
-    apart_at e at =
-        let low : level n firm.buys x i ≡ 0 = rises (subst (λ (k : ℕ). k < n) e below) in
-        let same : level n firm.buys x j ≡ level n firm.buys x i = ap (level n firm.buys x) e in
-        absurd (omega (arith, low, at, same))
-
--- no other position can be lowered
-pub no_fall_no_place : (firms : List Firm) (trades : List Ends) (on f n : ℕ) (firm : Firm) (limit x : ℕ) (worth : ℤ)
-    → IsStand firms trades on f n firm limit x worth
-    → (i j falls : ℕ) → falls ≡ falling firm.buys x n → j < n → has falls j ≡ false → AreArcPlaces firm x i j → ⊥
-no_fall_no_place firms trades on f n firm limit x worth stand i j falls is below absent places =
-    let counted : n ≡ firm.count = stand.counted in
-    let at : level n firm.buys x j ≡ 1 =
-    subst (λ (k : ℕ). CanFall k (level k firm.buys x) j) (sym counted) places.falls below in
-    let high : trade_level firm.buys x j ≡ 1 = sym (level-trade n firm.buys x j below) ∙ at in
-    absurd (let member : has falls j ≡ true = falls_at firm.buys x n falls j is below
-    ∙ eq-eqb (trade_level firm.buys x j) 1 high in cc (member, absent))
-
--- a worth of the row is that of the bundle moved at the two places
-pub row_worth : (n x i j falls : ℕ) (worth_of : ℕ → Option ℤ) (worths : List (Option ℤ))
-    → HasToggledWorths worth_of (toggle_at n x i) falls worths
-    → j < n → has falls j ≡ true → get_or worths j None ≡ worth_of (move n x i j)
-unfolding move
-row_worth n x i j falls worth_of worths row below member =
-    row j member ∙ ap worth_of (sym (toggle_at-trade n (toggle_at n x i) j below))
-
--- so is the worth of the raised bundle, for null
-pub null_worth : (n x i raised : ℕ) → raised ≡ toggle_at n x i → raised ≡ move n x i n
-unfolding move
-null_worth n x i raised is = is ∙ sym (toggle_at-null n (toggle_at n x i) n (omega arith))
-
-pub row_start : (firms : List Firm) (trades : List Ends) (on f n : ℕ) (firm : Firm) (x i : ℕ) (graph : Blocks)
-    → IsRowRead firms trades on f n firm x i graph 0 graph
-row_start firms trades on f n firm x i graph = record {
-  improved = improves-none (exchange_arc firms trades on) graph;
-  row = λ k h. absurd (omega (arith, h));
-}
-
-pub row_read : (firms : List Firm) (trades : List Ends) (on f n : ℕ) (firm : Firm) (x i : ℕ) (before : Blocks) (j : ℕ)
-    (graph : Blocks)
-    → IsRowRead firms trades on f n firm x i before j graph → (after : Blocks)
-    → Improves (exchange_arc firms trades on) graph after
-    → arcs_of after (node_at trades f n i) (node_at trades f n j)
-    ≡ exchange_arc firms trades on (node_at trades f n i) (node_at trades f n j)
-    → IsRowRead firms trades on f n firm x i before (j + 1) after
-row_read firms trades on f n firm x i before j graph read after improved right = record {
-  improved = improves-trans (exchange_arc firms trades on) before graph after read.improved improved;
-  row = λ k h places. elim (cases_eq k j) [
-    | inl e ↦ subst (λ (m : ℕ). arcs_of after (node_at trades f n i) (node_at trades f n m)
-        ≡ exchange_arc firms trades on (node_at trades f n i) (node_at trades f n m)) (sym e) right
-    | inr d ↦ stays_right (exchange_arc firms trades on) graph after improved _ _
-        (read.row k (omega (arith, h, d)) places)
-  ];
-}
-
-pub row_skipped : (firms : List Firm) (trades : List Ends) (on f n : ℕ) (firm : Firm) (x i : ℕ) (before : Blocks)
-    (j : ℕ) (graph : Blocks)
-    → IsRowRead firms trades on f n firm x i before j graph → (AreArcPlaces firm x i j → ⊥)
-    → IsRowRead firms trades on f n firm x i before (j + 1) graph
-row_skipped firms trades on f n firm x i before j graph read none = record {
-  improved = read.improved;
-  row = λ k h places. elim (cases_eq k j) [
-    | inl e ↦ absurd (none (subst (AreArcPlaces firm x i) e places))
-    | inr d ↦ read.row k (omega (arith, h, d)) places
-  ];
-}
-
--- the places of a row are the positions and null
-pub whole_row : (firms : List Firm) (trades : List Ends) (on f n : ℕ) (firm : Firm) (limit x : ℕ) (worth : ℤ)
-    → IsStand firms trades on f n firm limit x worth
-    → (i : ℕ) (before graph : Blocks) → IsRowRead firms trades on f n firm x i before (n + 1) graph
-    → HasRow firms trades on f n firm x i graph
-whole_row firms trades on f n firm limit x worth stand i before graph read j places =
-    let within = places.to_within in
-    let counted : n ≡ firm.count = stand.counted in
-    read.row j (omega (arith, within, counted)) places
-
--- null is beside each position, and not beside itself
-pub null_is_place : (firms : List Firm) (trades : List Ends) (on f n : ℕ) (firm : Firm) (limit x : ℕ) (worth : ℤ)
-    → IsStand firms trades on f n firm limit x worth
-    → (i : ℕ) → i < n → CanRise n (level n firm.buys x) i → AreArcPlaces firm x i n
-null_is_place firms trades on f n firm limit x worth stand i below rises =
-    arc_places firms trades on f n firm limit x worth stand i n (omega (arith, below)) (omega arith)
-    (λ e. absurd (omega (arith, below, e))) rises (λ h. absurd (omega (arith, h)))
-
-pub null_no_place : (firm : Firm) (x i n : ℕ) → i ≤ n → n ≤ i → AreArcPlaces firm x i n → ⊥
-null_no_place firm x i n within past places = places.apart (omega (arith, within, past))
-
--- a row has at most as many positions as there are, and a position that can be raised isn't among them
-pub falls_own : (buys x n falls : ℕ) → falls ≡ falling buys x n → falls < 2 ^ n
-falls_own buys x n falls is = subst (λ (z : ℕ). z < 2 ^ n) (sym is) (set_of_within (λ k. trade_level buys x k == 1) n)
-
-pub falls_few : (buys x n falls : ℕ) → falls ≡ falling buys x n → size falls ≤ n
-falls_few buys x n falls is = size_le n falls (falls_own buys x n falls is)
-
-pub falls_fewer : (buys x n falls i : ℕ) → falls ≡ falling buys x n → i < n → CanRise n (level n buys x) i
-    → size falls + 1 ≤ n
-falls_fewer buys x n falls i is below rises =
-    let low : trade_level buys x i ≡ 0 = sym (level-trade n buys x i below) ∙ rises below in
-    let absent : has falls i ≡ false = falls_at buys x n falls i is below
-    ∙ ne_eqb (trade_level buys x i) 1 (omega (arith, low)) in
-    let more : size (toggle falls i) ≡ size falls + 1 = size-toggle_in falls i absent in
-    let most : size (toggle falls i) ≤ n =
-    size_le n (toggle falls i) (toggle_within falls i n (falls_own buys x n falls is) below) in
-    omega (arith, more, most)
-
--- the arcs of the rows before row i
-pub record AreRowsRead (firms : List Firm) (trades : List Ends) (on f n : ℕ) (firm : Firm) (x : ℕ) (before : Blocks)
-    (asked_before i : ℕ) (graph : Blocks) (asked : ℕ) : Type 0 where
-  pub improved : Improves (exchange_arc firms trades on) before graph
-  pub rows : (k : ℕ) → k < i → HasRow firms trades on f n firm x k graph
-  pub asked_most : asked ≤ asked_before + i * n
-
--- all rows are all arcs of the firm
-pub all_rows : (firms : List Firm) (trades : List Ends) (on f n : ℕ) (firm : Firm) (limit x : ℕ) (worth : ℤ)
-    → IsStand firms trades on f n firm limit x worth
-    → (graph : Blocks) → ((k : ℕ) → k < n + 1 → HasRow firms trades on f n firm x k graph)
-    → HasArcsOf firms trades on f graph
-all_rows firms trades on f n firm limit x worth stand graph rows u v is =
-    let at = move_of_arc firms trades stand.network on u v f is in
-    let one = same_firm firms f at.firm firm at.is stand.is in
-    let counted : n ≡ firm.count = stand.counted in
-    let here : part trades f firm.count on ≡ x = sym (stand.bundle_is ∙ ap (λ (k : ℕ). part trades f k on) counted) in
-    let places : AreArcPlaces firm x at.from at.to =
-    subst (λ (y : ℕ). AreArcPlaces firm y at.from at.to) here
-    (subst (λ (z : Firm). AreArcPlaces z (part trades f z.count on) at.from at.to) one at.places) in
-    let count_is : at.firm.count ≡ n = ap (λ (z : Firm). z.count) one ∙ sym counted in
-    let from_is : node_at trades f n at.from ≡ u = sym (ap (λ (k : ℕ). node_at trades f k at.from) count_is) ∙ at.begin
-    in
-    let to_is : node_at trades f n at.to ≡ v = sym (ap (λ (k : ℕ). node_at trades f k at.to) count_is) ∙ at.end in
-    let within : at.from < n + 1 = (let w = places.from_within in omega (arith, w, counted)) in
-    sym (ap₂ (arcs_of graph) from_is to_is) ∙ rows at.from within at.to places
-    ∙ ap₂ (exchange_arc firms trades on) from_is to_is
-
 -- ---- all firms
 
 -- with the arcs of one firm more
-pub right_more : (firms : List Firm) (trades : List Ends) (on : ℕ) (done more : ℕ
-    → Type 0) (f : ℕ) (before after : Blocks) → IsRightFor firms trades on done before
-    → Improves (exchange_arc firms trades on) before after → HasArcsOf firms trades on f after
+pub right_more : (firms : List Firm) (trades : List Ends) (on : ℕ) (counts : ℕ → Bool) (done more : ℕ
+    → Type 0) (f : ℕ) (before after : Blocks) → IsRightFor firms trades on counts done before
+    → Improves (exchange_arc firms trades on) before after → HasArcsOf firms trades on counts f after
     → ((g : ℕ) → more g → (g ≡ f) ⊎ done g)
-    → IsRightFor firms trades on more after
-right_more firms trades on done more f before after right improved arcs split = record {
+    → IsRightFor firms trades on counts more after
+right_more firms trades on counts done more f before after right improved arcs split = record {
   nodes = improved.nodes ∙ right.nodes;
   laid_out = subst (IsLaidOut trades (has on)) (sym improved.places) right.laid_out;
-  right = λ u v all. by_case u v (arc_firm trades on u v) refl all;
+  right = λ u v g u_counts v_counts is all. elim (split g all) [
+    | inl e ↦ arcs u v u_counts v_counts (is ∙ ap (λ (k : ℕ). Some k) e)
+    | inr d ↦ stays_right (exchange_arc firms trades on) before after improved u v
+        (right.right u v g u_counts v_counts is d)
+  ];
+  none = λ u v is. none_stays firms trades on before after improved u v is (right.none u v is);
 }
-  where
-    by_case : (u v : ℕ) (o : Option ℕ) → arc_firm trades on u v ≡ o
-        → ((g : ℕ) → arc_firm trades on u v ≡ Some g → more g)
-        → arcs_of after u v ≡ exchange_arc firms trades on u v
-    by_case u v None none all =
-        stays_right (exchange_arc firms trades on) before after improved u v
-        (right.right u v (λ g is. absurd (cc (none, is))))
-    by_case u v (Some g) some all = elim (split g (all g some)) [
-      | inl e ↦ arcs u v (some ∙ ap (λ (k : ℕ). Some k) e)
-      | inr d ↦ stays_right (exchange_arc firms trades on) before after improved u v (right.right u v (λ k is.
-          let same : g ≡ k = same_Some g k (sym some ∙ is) in subst done same d))
-    ]
 
-pub right_same : (firms : List Firm) (trades : List Ends) (on : ℕ) (done more : ℕ → Type 0) (graph : Blocks)
-    → IsRightFor firms trades on done graph
-    → ((g : ℕ) → more g → done g) → IsRightFor firms trades on more graph
-right_same firms trades on done more graph right weaker = record {
+pub right_same : (firms : List Firm) (trades : List Ends) (on : ℕ) (counts : ℕ → Bool) (done more : ℕ
+    → Type 0) (graph : Blocks) → IsRightFor firms trades on counts done graph
+    → ((g : ℕ) → more g → done g) → IsRightFor firms trades on counts more graph
+right_same firms trades on counts done more graph right weaker = record {
   nodes = right.nodes;
   laid_out = right.laid_out;
-  right = λ u v all. right.right u v (λ f is. weaker f (all f is));
+  right = λ u v f u_counts v_counts is all. right.right u v f u_counts v_counts is (weaker f all);
+  none = right.none;
 }
 
 -- a graph without arcs is right for no firm
-pub right_without : (firms : List Firm) (trades : List Ends) (on : ℕ) (done : ℕ → Type 0) (graph : Blocks)
-    → IsWithoutArcs (length trades + 1) graph → IsLaidOut trades (has on) graph.places
-    → ((g : ℕ) → done g → ⊥) → IsRightFor firms trades on done graph
-right_without firms trades on done graph without laid_out never = record {
+pub right_without : (firms : List Firm) (trades : List Ends) (on : ℕ) (counts : ℕ → Bool) (done : ℕ
+    → Type 0) (graph : Blocks) → IsWithoutArcs (length trades + 1) graph → IsLaidOut trades (has on) graph.places
+    → ((g : ℕ) → done g → ⊥) → IsRightFor firms trades on counts done graph
+right_without firms trades on counts done graph without laid_out never = record {
   nodes = without.nodes;
   laid_out = laid_out;
-  right = λ u v all. by_case u v (arc_firm trades on u v) refl all;
+  right = λ u v f u_counts v_counts is all. absurd (never f all);
+  none = λ u v is. without.none u v;
 }
-  where
-    by_case : (u v : ℕ) (o : Option ℕ) → arc_firm trades on u v ≡ o
-        → ((g : ℕ) → arc_firm trades on u v ≡ Some g → done g)
-        → arcs_of graph u v ≡ exchange_arc firms trades on u v
-    by_case u v None none all = without.none u v ∙ sym (no_arc firms trades on u v none)
-    by_case u v (Some g) some all = absurd (never g (all g some))
 
--- right for all firms, it is the exchange graph
+-- right for all firms, it is the exchange graph between the nodes that count
+pub right_arcs : (firms : List Firm) (trades : List Ends) (on : ℕ) (counts : ℕ → Bool) (done : ℕ
+    → Type 0) (graph : Blocks) → IsNetwork firms trades → IsRightFor firms trades on counts done graph
+    → ((g : ℕ) → g < length firms → done g) → (u v : ℕ) → counts u ≡ true → counts v ≡ true
+    → arcs_of graph u v ≡ exchange_arc firms trades on u v
+right_arcs firms trades on counts done graph network right all u v u_counts v_counts =
+    by_case (arc_firm trades on u v) refl
+  where
+    by_case : (o : Option ℕ) → arc_firm trades on u v ≡ o → arcs_of graph u v ≡ exchange_arc firms trades on u v
+    by_case None none = right.none u v none ∙ sym (no_arc firms trades on u v none)
+    by_case (Some f) some =
+        let at = move_of_arc firms trades network on u v f some in
+        right.right u v f u_counts v_counts some (all f (slice_get_within firms f at.firm at.is))
+
 pub right_all : (firms : List Firm) (trades : List Ends) (on : ℕ) (done : ℕ → Type 0) (graph : Blocks)
-    → IsNetwork firms trades → IsRightFor firms trades on done graph
+    → IsNetwork firms trades → IsRightFor firms trades on (λ v. true) done graph
     → ((g : ℕ) → g < length firms → done g) → IsExchangeGraph firms trades on graph
 right_all firms trades on done graph network right all = record {
   nodes = right.nodes;
   laid_out = right.laid_out;
-  arcs = λ u v. right.right u v (λ f is.
-      let at = move_of_arc firms trades network on u v f is in
-      all f (slice_get_within firms f at.firm at.is));
+  arcs = λ u v. right_arcs firms trades on (λ k. true) done graph network right all u v refl refl;
+}
+
+pub right_among : (firms : List Firm) (trades : List Ends) (on admitted : ℕ) (done : ℕ → Type 0) (graph : Blocks)
+    → IsNetwork firms trades → IsRightFor firms trades on (is_admitted (length trades) admitted) done graph
+    → ((g : ℕ) → g < length firms → done g) → IsExchangeAmong firms trades on admitted graph
+right_among firms trades on admitted done graph network right all = record {
+  nodes = right.nodes;
+  laid_out = right.laid_out;
+  arcs = λ u v. right_arcs firms trades on (is_admitted (length trades) admitted) done graph network right all u v;
+  none = right.none;
 }
 
 -- ---- what is forgotten
@@ -495,41 +329,33 @@ same_arc firms trades network before on f firm is i j same places =
 
 -- once the toggled trades are forgotten, the graph is right for the firms whose bundles are the same
 pub right_kept : (firms : List Firm) (trades : List Ends) → IsNetwork firms trades
-    → (before on : ℕ) (graph after : Blocks) → IsExchangeGraph firms trades before graph
+    → (before on admitted : ℕ) (graph after : Blocks) → IsExchangeAmong firms trades before admitted graph
     → AreForgotten (is_toggled (length trades) before on) graph after → IsLaidOut trades (has on) after.places
     → (done : ℕ → Type 0) → ((g : ℕ) → done g → IsUnchanged firms trades before on g)
-    → IsRightFor firms trades on done after
-right_kept firms trades network before on graph after exchange forgotten laid_out done unchanged = record {
+    → IsRightFor firms trades on (is_admitted (length trades) admitted) done after
+right_kept firms trades network before on admitted graph after exchange forgotten laid_out done unchanged = record {
   nodes = forgotten.nodes ∙ exchange.nodes;
   laid_out = laid_out;
-  right = λ u v all. by_firm u v (arc_firm trades on u v) refl all;
+  right = λ u v f u_counts v_counts some all.
+      let at = move_of_arc firms trades network on u v f some in
+      let same = unchanged f all at.firm at.is in
+      let u_kept = sym (ap cut at.begin) ∙ place_kept trades before on f at.firm.count at.from same in
+      let v_kept = sym (ap cut at.end) ∙ place_kept trades before on f at.firm.count at.to same in
+      forgotten.kept u v (ap₂ (λ (a b : Bool). a || b) u_kept v_kept) ∙ exchange.arcs u v u_counts v_counts
+      ∙ sym (ap₂ (exchange_arc firms trades before) at.begin at.end)
+      ∙ same_arc firms trades network before on f at.firm at.is at.from at.to same at.places
+      ∙ ap₂ (exchange_arc firms trades on) at.begin at.end;
+  none = λ u v none. elim (cases_Bool (cut u || cut v)) [
+    | inl does ↦ forgotten.gone u v does
+    | inr off ↦
+        let parts = or_parts (cut u) (cut v) off in
+        forgotten.kept u v off
+        ∙ exchange.none u v (same_arc_firm trades before on u v parts.0 parts.1 ∙ none)
+  ];
 }
   where
     cut : ℕ → Bool
     cut = is_toggled (length trades) before on
-
-    stays : (u v : ℕ) → (cut u || cut v) ≡ false → arcs_of after u v ≡ exchange_arc firms trades before u v
-    stays u v off = forgotten.kept u v off ∙ exchange.arcs u v
-
-    by_firm : (u v : ℕ) (o : Option ℕ) → arc_firm trades on u v ≡ o
-        → ((g : ℕ) → arc_firm trades on u v ≡ Some g → done g)
-        → arcs_of after u v ≡ exchange_arc firms trades on u v
-    by_firm u v None none all = elim (cases_Bool (cut u || cut v)) [
-      | inl does ↦ forgotten.gone u v does ∙ sym (no_arc firms trades on u v none)
-      | inr off ↦
-          let parts = or_parts (cut u) (cut v) off in
-          stays u v off ∙ no_arc firms trades before u v (same_arc_firm trades before on u v parts.0 parts.1 ∙ none)
-          ∙ sym (no_arc firms trades on u v none)
-    ]
-    by_firm u v (Some f) some all =
-        let at = move_of_arc firms trades network on u v f some in
-        let same = unchanged f (all f some) at.firm at.is in
-        let u_kept = sym (ap cut at.begin) ∙ place_kept trades before on f at.firm.count at.from same in
-        let v_kept = sym (ap cut at.end) ∙ place_kept trades before on f at.firm.count at.to same in
-        stays u v (ap₂ (λ (a b : Bool). a || b) u_kept v_kept)
-        ∙ sym (ap₂ (exchange_arc firms trades before) at.begin at.end)
-        ∙ same_arc firms trades network before on f at.firm at.is at.from at.to same at.places
-        ∙ ap₂ (exchange_arc firms trades on) at.begin at.end
 
 -- ---- how many worths are asked
 
@@ -541,20 +367,22 @@ worths_more (first ∷ firms) zero firm is =
     ap (λ (z : Firm). (z.count + 1) * (z.count + 1) + 0) same ∙ omega arith
 worths_more (first ∷ firms) (suc f) firm is = let rest = worths_more firms f firm is in omega (arith, rest)
 
-pub changed_more : (trades : List Ends) (before on s g : ℕ) (firms : List Firm) (f : ℕ) (firm : Firm) → g ≡ s + f
+pub changed_more : (trades : List Ends) (before on admitted s g : ℕ) (firms : List Firm) (f : ℕ) (firm : Firm)
+    → g ≡ s + f
     → slice_get firms f ≡ Some firm
-    → changed_worths_from trades before on s (take (suc f) firms)
-    ≡ changed_worths_from trades before on s (take f firms)
+    → changed_worths_from trades before on admitted s (take (suc f) firms)
+    ≡ changed_worths_from trades before on admitted s (take f firms)
     + (if part trades g firm.count before == part trades g firm.count on then 0
-    else (firm.count + 1) * (firm.count + 1))
-changed_more trades before on s g [] f firm at is = absurd (cc is)
-changed_more trades before on s g (first ∷ firms) zero firm at is =
+    else block_worths (admitted_count trades admitted g firm))
+changed_more trades before on admitted s g [] f firm at is = absurd (cc is)
+changed_more trades before on admitted s g (first ∷ firms) zero firm at is =
     let same : first ≡ firm = same_Some first firm is in
     let here : s ≡ g = omega (arith, at) in
     ap₂ (λ (z : Firm) (k : ℕ). (if part trades k z.count before == part trades k z.count on then 0
-    else (z.count + 1) * (z.count + 1)) + 0) same here ∙ omega arith
-changed_more trades before on s g (first ∷ firms) (suc f) firm at is =
-    let rest = changed_more trades before on (s + 1) g firms f firm (omega (arith, at)) is in omega (arith, rest)
+    else block_worths (admitted_count trades admitted k z)) + 0) same here ∙ omega arith
+changed_more trades before on admitted s g (first ∷ firms) (suc f) firm at is =
+    let rest = changed_more trades before on admitted (s + 1) g firms f firm (omega (arith, at)) is in
+    omega (arith, rest)
 
 -- ---- a round over the firms
 
@@ -583,31 +411,31 @@ pub record AreBundles (firms : List Firm) (trades : List Ends) (before on f : �
   pub old_is : old ≡ part trades f firm.count before
   pub new_is : new ≡ part trades f firm.count on
 
-pub changed_step : (firms : List Firm) (trades : List Ends) (before on f : ℕ) (firm : Firm) (old new : ℕ)
+pub changed_step : (firms : List Firm) (trades : List Ends) (before on admitted f : ℕ) (firm : Firm) (old new : ℕ)
     → AreBundles firms trades before on f firm old new
-    → (start was now : ℕ) → was ≤ start + changed_worths_from trades before on 0 (take f firms)
-    → now ≤ was + (if old == new then 0 else (firm.count + 1) * (firm.count + 1))
-    → now ≤ start + changed_worths_from trades before on 0 (take (f + 1) firms)
-changed_step firms trades before on f firm old new bundles start was now most asked =
-    let more : changed_worths_from trades before on 0 (take (f + 1) firms)
-    ≡ changed_worths_from trades before on 0 (take f firms)
+    → (start was now : ℕ) → was ≤ start + changed_worths_from trades before on admitted 0 (take f firms)
+    → now ≤ was + (if old == new then 0 else block_worths (admitted_count trades admitted f firm))
+    → now ≤ start + changed_worths_from trades before on admitted 0 (take (f + 1) firms)
+changed_step firms trades before on admitted f firm old new bundles start was now most asked =
+    let more : changed_worths_from trades before on admitted 0 (take (f + 1) firms)
+    ≡ changed_worths_from trades before on admitted 0 (take f firms)
     + (if part trades f firm.count before == part trades f firm.count on then 0
-    else (firm.count + 1) * (firm.count + 1)) =
-    ap (changed_worths_from trades before on 0) (next_take firms f)
-    ∙ changed_more trades before on 0 f firms f firm (omega arith) bundles.is in
-    let same : (if old == new then 0 else (firm.count + 1) * (firm.count + 1))
+    else block_worths (admitted_count trades admitted f firm)) =
+    ap (changed_worths_from trades before on admitted 0) (next_take firms f)
+    ∙ changed_more trades before on admitted 0 f firms f firm (omega arith) bundles.is in
+    let same : (if old == new then 0 else block_worths (admitted_count trades admitted f firm))
     ≡ (if part trades f firm.count before == part trades f firm.count on then 0
-    else (firm.count + 1) * (firm.count + 1)) =
-    ap₂ (λ (a b : ℕ). if a == b then 0 else (firm.count + 1) * (firm.count + 1)) bundles.old_is bundles.new_is in
+    else block_worths (admitted_count trades admitted f firm)) =
+    ap₂ (λ (a b : ℕ). if a == b then 0 else block_worths (admitted_count trades admitted f firm)) bundles.old_is
+    bundles.new_is in
     omega (arith, most, asked, more, same)
 
 -- what the test on the two bundles says
-pub asked_where_differs : (old new n was now : ℕ) (unequal : Bool) → unequal ≡ not (old == new) → unequal ≡ true
-    → now ≤ was + (n + 1) * (n + 1)
-    → now ≤ was + (if old == new then 0 else (n + 1) * (n + 1))
-asked_where_differs old new n was now unequal is holds asked = by_case (old == new) refl
+pub asked_where_differs : (old new worths was now : ℕ) (unequal : Bool) → unequal ≡ not (old == new) → unequal ≡ true
+    → now ≤ was + worths → now ≤ was + (if old == new then 0 else worths)
+asked_where_differs old new worths was now unequal is holds asked = by_case (old == new) refl
   where
-    by_case : (b : Bool) → (old == new) ≡ b → now ≤ was + (if b then 0 else (n + 1) * (n + 1))
+    by_case : (b : Bool) → (old == new) ≡ b → now ≤ was + (if b then 0 else worths)
     by_case true e = absurd (cc (is, holds, ap not e))
     by_case false e = asked
 

@@ -1,8 +1,8 @@
 -- A firm at a set of trades: which places can be raised and lowered, and what a move costs.
 use Rattle.std.specs.Prelude.{IfSome}
-use Rattle.std.proofs.Common.{◌≡◌, refl, ℕ, suc, ◌+◌, ◌*◌, ◌^◌, ◌<◌, ◌≤◌, Bool, true, false, not, ◌==◌, Some, None, Option, option_map, sym, ap, ap₂, ◌∙◌, subst, arith, inl, inr, ◌↔◌, IsTrue, List, ℤ, neg_ℤ, ◌+ℤ◌, ◌-ℤ◌}
+use Rattle.std.proofs.Common.{◌≡◌, refl, ℕ, suc, ◌+◌, ◌*◌, ◌^◌, ◌<◌, ◌≤◌, Bool, true, false, ◌&&◌, Some, None, Option, option_map, sym, ap, ap₂, ◌∙◌, subst, arith, inl, inr, List, ℤ, neg_ℤ, ◌+ℤ◌, ◌-ℤ◌}
 use Rattle.std.proofs.lemmas.Int.{ints}
-use Rattle.std.proofs.lemmas.Bool.{cases_Bool, cases_lt, eq-eqb, ne_eqb}
+use Rattle.std.proofs.lemmas.Bool.{cases_lt}
 use mir.Syntax.{w128}
 use mir.Val.{SFits}
 use Rattle.tn_base.specs.Options.{both}
@@ -11,52 +11,46 @@ use Rattle.tn_base.specs.Arcs.{IsAtMost}
 use Rattle.tn_base.specs.Firm.{Firm}
 use Rattle.tn_base.specs.Widths.{most_cost}
 use Rattle.tn_base.proofs.SetLemmas.{toggle_within, set_of_within}
-use Rattle.tn_law.specs.Places.{trade_level, level, toggle_at, CanRise}
-use Rattle.tn_law.proofs.PlaceLemmas.{level-trade, toggle_at-trade, toggle_at-null, trade_level-le}
+use Rattle.tn_law.specs.Places.{toggle_at}
+use Rattle.tn_law.proofs.PlaceLemmas.{toggle_at-trade, toggle_at-null}
 use Rattle.tn_plain_data.specs.declared.ends.Ends.{Ends}
 use Rattle.tn_plain_data.specs.Network.{own}
 use Rattle.tn_market.specs.Graph.{loss}
-use Rattle.tn_graph.specs.Reading.{IsStand, falling}
+use Rattle.tn_graph.specs.Reading.{IsStand, has_level, partners}
 
--- ---- places
-
-pub rises_where_low : (n buys x k : ℕ) (high : Bool) → k < n → high ≡ (trade_level buys x k == 1) → IsTrue (not high)
-    ↔ CanRise n (level n buys x) k
-rises_where_low n buys x k high below is =
-    let at = level-trade n buys x k below in
-    let small = trade_level-le buys x k in (
-      (λ yes inside. elim (cases_Bool high) [
-        | inl h ↦ absurd (let no : not high ≡ false = ap not h in cc (no, yes))
-        | inr l ↦
-            let not_one : trade_level buys x k ≡ 1 → ⊥ = λ e. absurd (let h : high ≡ true =
-            is ∙ eq-eqb (trade_level buys x k) 1 e in cc (h, l)) in
-            omega (arith, at, small, not_one)
-      ]),
-      (λ rises.
-          let low : trade_level buys x k ≡ 0 = sym at ∙ rises below in
-          ap not (is ∙ ne_eqb (trade_level buys x k) 1 (omega (arith, low)))),
-    )
+-- ---- partners of a place
 
 -- no position is below 0
-pub falling_none : (buys x : ℕ) → 0 ≡ falling buys x 0
+pub partners_none : (buys x asked : ℕ) (high : Bool) → 0 ≡ partners buys x asked high 0
 unfolding set_of
-falling_none buys x = refl
+partners_none buys x asked high = refl
 
--- a position of level 1 is put in
-pub falling_more : (buys x k falls : ℕ) → falls ≡ falling buys x k → (trade_level buys x k == 1) ≡ true
-    → toggle falls k ≡ falling buys x (k + 1)
+-- a position of the level that is asked for is put in
+pub partners_more : (buys x asked : ℕ) (high : Bool) (k found : ℕ) → found ≡ partners buys x asked high k
+    → (has asked k && has_level buys x high k) ≡ true → toggle found k ≡ partners buys x asked high (k + 1)
 unfolding set_of
-falling_more buys x k falls is high =
+partners_more buys x asked high k found is there =
     let next : k + 1 ≡ suc k = omega arith in
-    rw (next, high) (ap (λ (z : ℕ). toggle z k) is)
+    rw (next, there) (ap (λ (z : ℕ). toggle z k) is)
 
 -- another one isn't
-pub falling_same : (buys x k falls : ℕ) → falls ≡ falling buys x k → (trade_level buys x k == 1) ≡ false
-    → falls ≡ falling buys x (k + 1)
+pub partners_same : (buys x asked : ℕ) (high : Bool) (k found : ℕ) → found ≡ partners buys x asked high k
+    → (has asked k && has_level buys x high k) ≡ false → found ≡ partners buys x asked high (k + 1)
 unfolding set_of
-falling_same buys x k falls is low =
+partners_same buys x asked high k found is absent =
     let next : k + 1 ≡ suc k = omega arith in
-    rw (next, low) is
+    rw (next, absent) is
+
+-- nor is any below 0 of all of them, and each next one is put in
+pub all_none : 0 ≡ set_of (λ k. true) 0
+unfolding set_of
+all_none = refl
+
+pub all_more : (k found : ℕ) → found ≡ set_of (λ k. true) k → toggle found k ≡ set_of (λ k. true) (k + 1)
+unfolding set_of
+all_more k found is =
+    let next : k + 1 ≡ suc k = omega arith in
+    rw next (ap (λ (z : ℕ). toggle z k) is)
 
 -- ---- moves
 
@@ -66,15 +60,15 @@ toggle_at_within n x k below = elim (cases_lt k n) [
   | inr p ↦ subst (λ (y : ℕ). y < 2 ^ n) (sym (toggle_at-null n x k p)) below
 ]
 
--- a bundle of a stand has own positions alone, also once it is raised
-pub raised_own : (firms : List Firm) (trades : List Ends) (on f n : ℕ) (firm : Firm) (limit x : ℕ) (worth : ℤ)
+-- a bundle of a stand has own positions alone, also once it is toggled
+pub toggled_own : (firms : List Firm) (trades : List Ends) (on f n : ℕ) (firm : Firm) (limit x : ℕ) (worth : ℤ)
     → IsStand firms trades on f n firm limit x worth
-    → (i raised : ℕ) → raised ≡ toggle_at n x i → raised < 2 ^ firm.count
-raised_own firms trades on f n firm limit x worth stand i raised is =
+    → (k toggled : ℕ) → toggled ≡ toggle_at n x k → toggled < 2 ^ firm.count
+toggled_own firms trades on f n firm limit x worth stand k toggled is =
     let below : x < 2 ^ n =
     subst (λ (y : ℕ). y < 2 ^ n) (sym stand.bundle_is) (set_of_within (λ k. has on (own trades f k)) n) in
-    subst (λ (y : ℕ). y < 2 ^ firm.count) (sym is) (subst (λ (m : ℕ). toggle_at n x i < 2 ^ m) stand.counted
-    (toggle_at_within n x i below))
+    subst (λ (y : ℕ). y < 2 ^ firm.count) (sym is) (subst (λ (m : ℕ). toggle_at n x k < 2 ^ m) stand.counted
+    (toggle_at_within n x k below))
 
 -- ---- losses
 

@@ -13,8 +13,8 @@ no_spot = record { start = 0; count = 0; own = 0; position = 0 }
 abbrev pub block_size : ℕ → ℕ
 block_size count = count * (count + 2)
 
--- room for the blocks of every market of so many nodes: a trade is in two blocks, and a firm has at most 64 own trades, so
--- that its block has for each of them no more costs than 66, or than there are nodes
+-- room for the blocks of every market of so many nodes: a trade is in two blocks, and a firm has at most 64 own trades,
+-- so that its block has for each of them no more costs than 66, or than there are nodes
 unfoldable pub room_of : ℕ → ℕ
 room_of nodes = 2 * (nodes * (if nat_lt nodes 66 then nodes else 66))
 

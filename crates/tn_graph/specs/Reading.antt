@@ -1,9 +1,10 @@
 -- How a graph becomes the exchange graph: cost by cost, and firm by firm.
 use Rattle.std.specs.Prelude.{◌≡◌, ◌≢◌, ℕ, ◌+◌, ◌*◌, ◌<◌, ◌≤◌, ℤ, ◌⊎◌, List, [], ◌∷◌, length, slice_get, Bool, true, false, not, ◌==◌, ◌&&◌, ◌||◌, nat_lt, if◌then◌else◌, Option, Some, None}
-use Rattle.tn_base.specs.Sets.{has, set_of}
+use Rattle.tn_base.specs.Sets.{has, set_of, size}
 use Rattle.tn_base.specs.Firm.{Firm}
+use Rattle.tn_base.specs.Walks.{is_admitted}
 use Rattle.tn_base.specs.Widths.{most_cost}
-use Rattle.tn_law.specs.Places.{trade_level}
+use Rattle.tn_law.specs.Places.{trade_level, level, CanRise, CanFall}
 use Rattle.tn_plain_data.specs.declared.ends.Ends.{Ends}
 use Rattle.tn_plain_data.specs.Network.{part, IsNetwork}
 use Rattle.tn_market.specs.Graph.{exchange_arc}
@@ -30,6 +31,14 @@ pub record IsExchangeGraph (firms : List Firm) (trades : List Ends) (on : ℕ) (
   pub laid_out : IsLaidOut trades (has on) graph.places
   pub arcs : (u v : ℕ) → arcs_of graph u v ≡ exchange_arc firms trades on u v
 
+-- the same among some trades and null alone; the costs of other arcs may be any, but for those that can't be there
+pub record IsExchangeAmong (firms : List Firm) (trades : List Ends) (on admitted : ℕ) (graph : Blocks) : Type 0 where
+  pub nodes : graph.nodes ≡ length trades + 1
+  pub laid_out : IsLaidOut trades (has on) graph.places
+  pub arcs : (u v : ℕ) → is_admitted (length trades) admitted u ≡ true → is_admitted (length trades) admitted v ≡ true
+      → arcs_of graph u v ≡ exchange_arc firms trades on u v
+  pub none : (u v : ℕ) → arc_firm trades on u v ≡ None → arcs_of graph u v ≡ None
+
 -- each cost is as it was or as it is to be
 pub record Improves (arc : ℕ → ℕ → Option ℤ) (before after : Blocks) : Type 0 where
   pub nodes : after.nodes ≡ before.nodes
@@ -48,28 +57,65 @@ pub record IsStand (firms : List Firm) (trades : List Ends) (on f n : ℕ) (firm
   pub within : IsWorthAtMost limit firm
   pub small : 2 * limit ≤ most_cost
 
--- the positions below n that can be lowered
-abbrev pub falling : ℕ → ℕ → ℕ → ℕ
-falling buys x n = set_of (λ k. trade_level buys x k == 1) n
+-- whether a position has level 1, or has not
+abbrev pub has_level : ℕ → ℕ → Bool → ℕ → Bool
+has_level buys x high k = if high then trade_level buys x k == 1 else not (trade_level buys x k == 1)
 
--- the arcs from place i of a firm to its places before j are read, and each other cost is as it was or right
-pub record IsRowRead (firms : List Firm) (trades : List Ends) (on f n : ℕ) (firm : Firm) (x i : ℕ) (before : Blocks)
-    (j : ℕ) (graph : Blocks) : Type 0 where
-  pub improved : Improves (exchange_arc firms trades on) before graph
-  pub row : (k : ℕ) → k < j → AreArcPlaces firm x i k
-      → arcs_of graph (node_at trades f n i) (node_at trades f n k)
-      ≡ exchange_arc firms trades on (node_at trades f n i) (node_at trades f n k)
+-- those of some positions below n that can be lowered, or that can be raised
+abbrev pub partners : ℕ → ℕ → ℕ → Bool → ℕ → ℕ
+partners buys x asked high n = set_of (λ k. has asked k && has_level buys x high k) n
 
--- the costs of the arcs from place i of a firm are right
-abbrev pub HasRow : List Firm → List Ends → ℕ → ℕ → ℕ → Firm → ℕ → ℕ → Blocks → Type 0
-HasRow firms trades on f n firm x i graph = (j : ℕ) → AreArcPlaces firm x i j
-    → arcs_of graph (node_at trades f n i) (node_at trades f n j)
+-- of two places of a firm the one that is raised, and the one that is lowered: k where it rises, or the other one
+abbrev pub raised_place : Bool → ℕ → ℕ → ℕ
+raised_place rises k other = if rises then k else other
+
+abbrev pub lowered_place : Bool → ℕ → ℕ → ℕ
+lowered_place rises k other = if rises then other else k
+
+-- a place can be raised, or lowered
+abbrev pub CanMove : Bool → ℕ → (ℕ → ℕ) → ℕ → Type 0
+CanMove true n level_of k = CanRise n level_of k
+CanMove false n level_of k = CanFall n level_of k
+
+-- the cost of the arc from place i of a firm to its place j is right
+abbrev pub HasArc : List Firm → List Ends → ℕ → ℕ → ℕ → ℕ → ℕ → Blocks → Type 0
+HasArc firms trades on f n i j graph = arcs_of graph (node_at trades f n i) (node_at trades f n j)
     ≡ exchange_arc firms trades on (node_at trades f n i) (node_at trades f n j)
 
--- the costs of the arcs of firm f are right
-abbrev pub HasArcsOf : List Firm → List Ends → ℕ → ℕ → Blocks → Type 0
-HasArcsOf firms trades on f graph = (u v : ℕ) → arc_firm trades on u v ≡ Some f
-    → arcs_of graph u v ≡ exchange_arc firms trades on u v
+-- the arcs between place k of a firm and those of some positions that are before j are read, and each other cost is as
+-- it was or right
+pub record IsLineRead (firms : List Firm) (trades : List Ends) (on f n : ℕ) (rises : Bool) (k others : ℕ)
+    (before : Blocks) (j : ℕ) (graph : Blocks) : Type 0 where
+  pub improved : Improves (exchange_arc firms trades on) before graph
+  pub line : (other : ℕ) → other < j → has others other ≡ true
+      → HasArc firms trades on f n (raised_place rises k other) (lowered_place rises k other) graph
+
+-- position k of a firm is admitted, and can be raised, or lowered
+pub record IsAskedPosition (trades : List Ends) (f : ℕ) (firm : Firm) (on admitted : ℕ) (rises : Bool) (k : ℕ) : Type 0
+  where
+    pub own : k < firm.count
+    pub joined : has (part trades f firm.count admitted) k ≡ true
+    pub moves : CanMove rises firm.count (level firm.count firm.buys (part trades f firm.count on)) k
+
+-- whether a place of a firm is asked for: null always is
+abbrev pub is_asked : ℕ → ℕ → ℕ → Bool
+is_asked n asked k = if nat_lt k n then has asked k else true
+
+-- the costs of the arcs from place k of a firm, or of those to it, are right where the other place is asked for
+abbrev pub HasLine : List Firm → List Ends → ℕ → ℕ → ℕ → Firm → ℕ → ℕ → Bool → ℕ → Blocks → Type 0
+HasLine firms trades on f n firm x asked rises k graph = (other : ℕ) → is_asked n asked other ≡ true
+    → AreArcPlaces firm x (raised_place rises k other) (lowered_place rises k other)
+    → HasArc firms trades on f n (raised_place rises k other) (lowered_place rises k other) graph
+
+-- the costs of the arcs of a firm are right where both places are asked for
+abbrev pub HasArcsAmong : List Firm → List Ends → ℕ → ℕ → ℕ → Firm → ℕ → ℕ → Blocks → Type 0
+HasArcsAmong firms trades on f n firm x asked graph = (i j : ℕ) → is_asked n asked i ≡ true → is_asked n asked j ≡ true
+    → AreArcPlaces firm x i j → HasArc firms trades on f n i j graph
+
+-- the costs of the arcs of firm f are right between nodes that count
+abbrev pub HasArcsOf : List Firm → List Ends → ℕ → (ℕ → Bool) → ℕ → Blocks → Type 0
+HasArcsOf firms trades on counts f graph = (u v : ℕ) → counts u ≡ true → counts v ≡ true
+    → arc_firm trades on u v ≡ Some f → arcs_of graph u v ≡ exchange_arc firms trades on u v
 
 -- whether trade t is in one of two sets alone
 abbrev pub is_toggled : ℕ → ℕ → ℕ → ℕ → Bool
@@ -92,26 +138,39 @@ pub record IsCut (from : Bool) (t : ℕ) (before after : Blocks) : Type 0 where
   pub gone : (u : ℕ) → arc_beside after from t u ≡ None
   pub kept : (u v : ℕ) → (if from then u else v) ≢ t → arcs_of after u v ≡ arcs_of before u v
 
--- the costs of the arcs of some firms are right, and there is no arc where there can be none
-pub record IsRightFor (firms : List Firm) (trades : List Ends) (on : ℕ) (done : ℕ
+-- the costs of the arcs of some firms are right between nodes that count, and there is no arc where there can be none
+pub record IsRightFor (firms : List Firm) (trades : List Ends) (on : ℕ) (counts : ℕ → Bool) (done : ℕ
     → Type 0) (graph : Blocks) : Type 0 where
   pub nodes : graph.nodes ≡ length trades + 1
   pub laid_out : IsLaidOut trades (has on) graph.places
-  pub right : (u v : ℕ) → ((f : ℕ) → arc_firm trades on u v ≡ Some f → done f)
+  pub right : (u v f : ℕ) → counts u ≡ true → counts v ≡ true → arc_firm trades on u v ≡ Some f → done f
       → arcs_of graph u v ≡ exchange_arc firms trades on u v
+  pub none : (u v : ℕ) → arc_firm trades on u v ≡ None → arcs_of graph u v ≡ None
 
 -- firm f has the same bundle of two sets
 abbrev pub IsUnchanged : List Firm → List Ends → ℕ → ℕ → ℕ → Type 0
 IsUnchanged firms trades before on f = (firm : Firm) → slice_get firms f ≡ Some firm
     → part trades f firm.count before ≡ part trades f firm.count on
 
--- how many worths the arcs of the firms from number f on are made of whose bundles of the two sets differ: for each one
--- for each two of its places
-abbrev pub changed_worths_from : List Ends → ℕ → ℕ → ℕ → List Firm → ℕ
-changed_worths_from trades before on f [] = 0
-changed_worths_from trades before on f (firm ∷ firms) =
-    (if part trades f firm.count before == part trades f firm.count on then 0 else (firm.count + 1) * (firm.count + 1))
-    + changed_worths_from trades before on (f + 1) firms
+-- how many of a firm's own trades are admitted
+abbrev pub admitted_count : List Ends → ℕ → ℕ → Firm → ℕ
+admitted_count trades admitted f firm = size (part trades f firm.count admitted)
 
-abbrev pub changed_worths : List Firm → List Ends → ℕ → ℕ → ℕ
-changed_worths firms trades before on = changed_worths_from trades before on 0 firms
+-- how many worths are asked for to read the arcs among so many positions and null at most, and those of one of them
+abbrev pub block_worths : ℕ → ℕ
+block_worths count = count * count + 1
+
+abbrev pub line_worths : ℕ → ℕ
+line_worths count = count + 1
+
+-- how many worths the arcs among the admitted trades and null are made of, of the firms from number f on whose bundles
+-- of the two sets differ
+abbrev pub changed_worths_from : List Ends → ℕ → ℕ → ℕ → ℕ → List Firm → ℕ
+changed_worths_from trades before on admitted f [] = 0
+changed_worths_from trades before on admitted f (firm ∷ firms) =
+    (if part trades f firm.count before == part trades f firm.count on then 0
+    else block_worths (admitted_count trades admitted f firm))
+    + changed_worths_from trades before on admitted (f + 1) firms
+
+abbrev pub changed_worths : List Firm → List Ends → ℕ → ℕ → ℕ → ℕ
+changed_worths firms trades before on admitted = changed_worths_from trades before on admitted 0 firms

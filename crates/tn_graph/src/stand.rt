@@ -1,15 +1,17 @@
 //! How a firm stands at a set of trades, and what its arcs cost.
 
-ghost use Rattle.std.specs.Prelude.{◌≡◌, ℕ, ◌^◌, ◌≤◌, ◌<◌, ◌==◌, ◌↔◌, IsTrue, IfSome};
+ghost use Rattle.std.specs.Prelude.{◌≡◌, ℕ, ◌+◌, ◌*◌, ◌^◌, ◌≤◌, ◌<◌, ◌==◌, ◌&&◌, Some, IfSome, length, slice_get};
 ghost use Rattle.tn_base.specs.Arcs.{IsAtMost};
 ghost use Rattle.tn_base.specs.Widths.{most_cost};
-ghost use Rattle.tn_law.specs.Places.{trade_level, level, toggle_at, CanRise};
+ghost use Rattle.tn_base.specs.Sets.{has};
+ghost use Rattle.tn_law.specs.Places.{trade_level, toggle_at};
 ghost use Rattle.tn_market.specs.ArcPlaces.{node_at};
-ghost use Rattle.tn_market.specs.Graph.{loss};
+ghost use Rattle.tn_market.specs.Graph.{loss, ArePossible};
+ghost use Rattle.tn_plain_data.specs.Network.{IsNetwork};
 ghost use Rattle.tn_market.specs.NetworkOf.{network_of};
-ghost use Rattle.tn_graph.specs.Reading.{IsStand, falling};
+ghost use Rattle.tn_graph.specs.Reading.{IsStand, has_level, partners};
 
-use tn_base::{Bundle, Side, TradeSet};
+use tn_base::{Bundle, Side, Steps, TradeSet};
 use tn_market::{Market, Valuation};
 
 /// A firm with its bundle of a set of trades, and what that is worth. The firm's places are its positions and, after
@@ -25,6 +27,8 @@ pub struct Stand<'a, V: Valuation, const W: usize> {
     pub count: u32,
     pub bundle: Bundle,
     pub worth: i128,
+    /// The positions whose arcs are asked for.
+    pub asked: Bundle,
 }
 
 /// A bundle of at most 64 positions toggled at a place: at null it stays.
@@ -36,7 +40,43 @@ fn toggled(x: Bundle, count: u32, k: u32) -> Bundle
     if k < count { x.toggle(k) } else { x }
 }
 
-impl<V: Valuation, const W: usize> Stand<'_, V, W> {
+impl<'a, V: Valuation, const W: usize> Stand<'a, V, W> {
+    /// How firm `f` stands. It asks for one worth.
+    pub fn new(
+        market: &'a Market<V>,
+        f: u32,
+        on: &'a TradeSet<W>,
+        asked: Bundle,
+        steps: &mut Steps<V::Mark>,
+    ) -> Stand<'a, V, W>
+        requires wide { length market.now.trades ≤ 64 * W }
+        requires network { network_of V.firm market.now IsNetwork }
+        requires firm { f < length market.now.firms }
+        requires possible { network_of V.firm market.now ArePossible on.now }
+        requires small { (g : ℕ) (v : V) → slice_get market.now.firms g ≡ Some v → 2 * V.limit v ≤ most_cost }
+        ensures market { result.market.now ≡ market.now }
+        ensures on { result.on.now ≡ on.now }
+        ensures number { result.f ≡ f }
+        ensures firm { slice_get market.now.firms f ≡ Some result.firm.now }
+        ensures asked_for { result.asked ≡ asked }
+        ensures stand { network_of V.firm market.now IsStand on.now f result.count (V.firm result.firm.now)
+            (V.limit result.firm.now) result.bundle result.worth }
+        ensures asked { steps.new ≡ steps.old + 1 }
+    {
+        let firm = market.firm(f);
+        let bundle = market.bundle_of(f, on);
+        Stand {
+            market,
+            on,
+            f,
+            firm,
+            count: firm.trades(),
+            bundle,
+            worth: firm.value(bundle, steps).unwrap(),
+            asked,
+        }
+    }
+
     /// The node of a place.
     pub fn node(&self, k: u32) -> u32
         requires stand { network_of V.firm self.now.market.now IsStand self.now.on.now self.now.f self.now.count
@@ -64,39 +104,41 @@ impl<V: Valuation, const W: usize> Stand<'_, V, W> {
         }
     }
 
-    /// Whether a place can be raised.
-    pub fn can_rise(&self, k: u32) -> bool
+    /// Whether a position is asked for and has level 1, or hasn't.
+    pub fn is_partner(&self, k: u32, high: bool) -> bool
         requires stand { network_of V.firm self.now.market.now IsStand self.now.on.now self.now.f self.now.count
             (V.firm self.now.firm.now) (V.limit self.now.firm.now) self.now.bundle self.now.worth }
-        ensures { IsTrue result
-            ↔ CanRise self.now.count (level self.now.count (V.firm self.now.firm.now).buys self.now.bundle) k }
+        requires own { k < self.now.count }
+        ensures { result
+            ≡ (has self.now.asked k && has_level (V.firm self.now.firm.now).buys self.now.bundle high k) }
     {
-        k >= self.count || !self.is_high(k)
+        self.asked.has(k) && self.is_high(k) == high
     }
 
-    /// The positions that can be lowered.
-    pub fn falls(&self) -> Bundle
+    /// The positions that are asked for and can be lowered, or raised.
+    pub fn partners(&self, high: bool) -> Bundle
         requires stand { network_of V.firm self.now.market.now IsStand self.now.on.now self.now.f self.now.count
             (V.firm self.now.firm.now) (V.limit self.now.firm.now) self.now.bundle self.now.worth }
-        ensures { result ≡ falling (V.firm self.now.firm.now).buys self.now.bundle self.now.count }
+        ensures { result ≡ partners (V.firm self.now.firm.now).buys self.now.bundle self.now.asked high
+            self.now.count }
     {
-        let mut falls = Bundle::empty();
+        let mut found = Bundle::empty();
         for k in 0..self.count {
-            if self.is_high(k) {
-                falls = falls.toggle(k);
+            if self.is_partner(k, high) {
+                found = found.toggle(k);
             }
         }
-        falls
+        found
     }
 
-    /// The bundle with a place raised.
-    pub fn raised(&self, i: u32) -> Bundle
+    /// The bundle toggled at a place.
+    pub fn toggled_at(&self, k: u32) -> Bundle
         requires stand { network_of V.firm self.now.market.now IsStand self.now.on.now self.now.f self.now.count
             (V.firm self.now.firm.now) (V.limit self.now.firm.now) self.now.bundle self.now.worth }
-        ensures raised { result ≡ toggle_at self.now.count self.now.bundle i }
+        ensures toggled { result ≡ toggle_at self.now.count self.now.bundle k }
         ensures own { result < 2 ^ (V.firm self.now.firm.now).count }
     {
-        toggled(self.bundle, self.count, i)
+        toggled(self.bundle, self.count, k)
     }
 
     /// What the firm loses by a bundle of this worth, None where it is impossible.

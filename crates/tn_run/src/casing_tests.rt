@@ -1,7 +1,6 @@
 //! Books of cases that are run.
 
 use crate::run_cases;
-use crate::tests::run_on;
 use std::test::Fail;
 use tn_cases::{Case, CaseBook};
 
@@ -29,18 +28,7 @@ static TWO: [Case; 2] = [
 fn lists_the_case_that_fails(rt: HostRuntime) -> Result<(), Fail> {
     let book = CaseBook::<2>::new(&TWO);
     let failed = run_cases(rt.alloc(), &book)?;
-    assert_eq!(rt; failed.len(), 1);
-    assert_eq!(rt; failed.at(0), 2);
-    Ok(())
-}
-
-#[test]
-fn passes_its_own_cases(rt: HostRuntime) -> Result<(), Fail> {
-    let (status, written) = run_on(rt.alloc(), "cases", b"")?;
-    assert_eq!(rt; status, 0);
-    assert_eq!(rt;
-        written.as_slice(),
-        b"{\"answer\":\"cases\",\"count\":12,\"failed\":[]}\n".as_slice()
-    );
+    assert!(rt; failed.len() == 1);
+    assert!(rt; failed.at(0) == 2);
     Ok(())
 }

@@ -7,8 +7,6 @@ mod casing;
 mod casing_tests;
 mod command;
 mod exit;
-#[cfg(test)]
-mod layout_tests;
 mod lines;
 mod numbers;
 mod replaying;

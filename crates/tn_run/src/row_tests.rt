@@ -3,7 +3,9 @@
 use crate::rows::answers::ANSWERS;
 use crate::rows::claims::CLAIMS;
 use crate::rows::faults::FAULTS;
+use crate::rows::layouts::LAYOUTS;
 use crate::rows::parts::PARTS;
+use crate::rows::runs::RUNS;
 use crate::tests::run_on;
 use std::alloc::Global;
 use std::test::Fail;
@@ -92,32 +94,13 @@ fn agrees(alloc: Global, row: &str) -> Result<bool, Fail> {
 }
 
 #[test]
-fn answers_agree(rt: HostRuntime) -> Result<(), Fail> {
-    for row in ANSWERS.split("\n\n") {
-        assert!(rt; agrees(rt.alloc(), row)?, "{row}");
+fn worked_rows_agree(rt: HostRuntime) -> Result<(), Fail> {
+    for rows in [ANSWERS, CLAIMS, FAULTS, PARTS, LAYOUTS] {
+        for row in rows.split("\n\n") {
+            assert!(rt; agrees(rt.alloc(), row)?, "{row}");
+        }
     }
-    Ok(())
-}
-
-#[test]
-fn verdicts_on_outcomes_and_claims_agree(rt: HostRuntime) -> Result<(), Fail> {
-    for row in CLAIMS.split("\n\n") {
-        assert!(rt; agrees(rt.alloc(), row)?, "{row}");
-    }
-    Ok(())
-}
-
-#[test]
-fn faults_agree(rt: HostRuntime) -> Result<(), Fail> {
-    for row in FAULTS.split("\n\n") {
-        assert!(rt; agrees(rt.alloc(), row)?, "{row}");
-    }
-    Ok(())
-}
-
-#[test]
-fn faults_of_parts_agree(rt: HostRuntime) -> Result<(), Fail> {
-    for row in PARTS.split("\n\n") {
+    for row in RUNS.split("\n\n\n") {
         assert!(rt; agrees(rt.alloc(), row)?, "{row}");
     }
     Ok(())

@@ -5,4 +5,6 @@
 pub(crate) mod answers;
 pub(crate) mod claims;
 pub(crate) mod faults;
+pub(crate) mod layouts;
 pub(crate) mod parts;
+pub(crate) mod runs;

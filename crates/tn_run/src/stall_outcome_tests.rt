@@ -15,9 +15,11 @@ use tn_judge::{Judged, judge};
 use tn_market::{Arrangement, Claim, Nodes, Prices, Reason, Room, Valuation};
 use tn_residual::{contract_price, reduced_best, residual};
 
-/// The seller keeps its contract at 4, and the buyer, to whom the thing is worth -3, drops its own.
+/// The seller keeps its contract at 4, and the buyer, to whom the thing is worth -3, drops its own. In the residual
+/// market the other trade stays, and a firm outside stands between the two stalls. Twice what a worth may be among two
+/// trades bounds the worths of a stall, and what 64 taxes come to.
 #[test]
-fn stalls_keep_what_they_like(rt: HostRuntime) {
+fn reduced_worths_of_two_stalls(rt: HostRuntime) {
     let market = two_stalls(rt.alloc()).expect(&rt, "memory");
     let outcome = sold_at_4(rt.alloc()).expect(&rt, "memory");
     let mut room = Room::new(rt.alloc()).expect(&rt, "memory");
@@ -28,23 +30,13 @@ fn stalls_keep_what_they_like(rt: HostRuntime) {
     assert!(rt; seller == Some((Bundle::from_bits(2), 9)));
     let buyer = reduced_best(&market, 1, &outcome, none, &mut room);
     assert!(rt; buyer == Some((none, 0)));
-}
-
-/// The other trade stays, and a firm outside stands between the two stalls. Twice what a worth may be among two trades
-/// bounds the worths of a stall, and what 64 taxes come to.
-#[test]
-fn residual_market_of_two_stalls(rt: HostRuntime) {
-    let market = two_stalls(rt.alloc()).expect(&rt, "memory");
-    let outcome = sold_at_4(rt.alloc()).expect(&rt, "memory");
     let residual = residual(rt.alloc(), &market, &outcome, 2, 1).expect(&rt, "memory");
-    assert_eq!(rt; (residual.firms(), residual.trades()), (3, 3));
+    assert!(rt; [residual.firms(), residual.trades()] == [3, 3]);
     assert!(rt; residual.ends(0) == ends(1, 0));
     assert!(rt; residual.ends(1) == ends(0, 2));
     assert!(rt; residual.ends(2) == ends(2, 1));
-    assert_eq!(rt;
-        (residual.firm(0).bound(), residual.firm(2).bound()),
-        (248_000_000_064, 8)
-    );
+    assert!(rt; residual.firm(0).bound() == 248_000_000_064);
+    assert!(rt; residual.firm(2).bound() == 8);
 }
 
 /// What each stall loses by selling, by buying and by both, where nothing is signed.
@@ -52,44 +44,36 @@ fn residual_market_of_two_stalls(rt: HostRuntime) {
 fn reduced_graph_of_two_stalls(rt: HostRuntime) {
     let market = two_stalls(rt.alloc()).expect(&rt, "memory");
     let outcome = nothing_signed(rt.alloc());
-    assert_eq!(rt; chain_scale(&outcome.contracts, 2), 5);
+    assert!(rt; chain_scale(&outcome.contracts, 2) == 5);
     let graph = reduced_graph(rt.alloc(), &market, &outcome).expect(&rt, "memory");
-    assert_eq!(rt; (graph.cost(2, 0), graph.cost(0, 2)), (Some(-5), Some(3)));
-    assert_eq!(rt; (graph.cost(0, 1), graph.cost(2, 2)), (Some(-2), None));
+    assert!(rt; [graph.cost(2, 0), graph.cost(0, 2)] == [Some(-5), Some(3)]);
+    assert!(rt; [graph.cost(0, 1), graph.cost(2, 2)] == [Some(-2), None]);
 }
 
-/// The buyer, to whom the thing is worth -3, would drop its contract at 4, and have 7 more.
+/// The buyer, to whom the thing is worth -3, would drop its contract at 4, and have 7 more. With both trades at -4 each
+/// stall has 2, and would keep both. Where nothing is signed each trade gains 2, so a price between -5 and -3 blocks,
+/// over 5 from -24 to -16.
 #[test]
-fn a_buyer_drops(rt: HostRuntime) {
-    let market = two_stalls(rt.alloc()).expect(&rt, "memory");
-    let outcome = sold_at_4(rt.alloc()).expect(&rt, "memory");
-    match judge(rt.alloc(), &market, &outcome, &mut Steps::new(Asked)).expect(&rt, "memory") {
+fn verdicts_on_three_outcomes(rt: HostRuntime) {
+    let alloc = rt.alloc();
+    let market = two_stalls(alloc).expect(&rt, "memory");
+    let mut steps = Steps::new(Asked);
+    let outcome = sold_at_4(alloc).expect(&rt, "memory");
+    match judge(alloc, &market, &outcome, &mut steps).expect(&rt, "memory") {
         Judged::Drops { firm, keeps, gain } => {
             assert!(rt; firm == 1 && keeps == Bundle::empty() && gain == Some(7));
         }
         _ => assert!(rt; false),
     }
-}
-
-/// With both trades at -4 each stall has 2, and would keep both.
-#[test]
-fn two_sales_are_complete(rt: HostRuntime) {
-    let market = two_stalls(rt.alloc()).expect(&rt, "memory");
-    let outcome = both_sold(rt.alloc()).expect(&rt, "memory");
-    match judge(rt.alloc(), &market, &outcome, &mut Steps::new(Asked)).expect(&rt, "memory") {
+    let outcome = both_sold(alloc).expect(&rt, "memory");
+    match judge(alloc, &market, &outcome, &mut steps).expect(&rt, "memory") {
         Judged::Completes { prices } => {
             assert!(rt; prices.len() == 2 && prices.at(0) == -4 && prices.at(1) == -4);
         }
         _ => assert!(rt; false),
     }
-}
-
-/// Each trade gains 2, so a price between -5 and -3 blocks, over 5 from -24 to -16.
-#[test]
-fn nothing_signed_is_blocked(rt: HostRuntime) {
-    let market = two_stalls(rt.alloc()).expect(&rt, "memory");
-    let outcome = nothing_signed(rt.alloc());
-    match judge(rt.alloc(), &market, &outcome, &mut Steps::new(Asked)).expect(&rt, "memory") {
+    let outcome = nothing_signed(alloc);
+    match judge(alloc, &market, &outcome, &mut steps).expect(&rt, "memory") {
         Judged::Blocks { contracts, over } => {
             assert!(rt; over == 5 && 0 < contracts.len());
             let price = contracts.at(0).price;
@@ -127,38 +111,30 @@ fn round(alloc: Global, cost: i128) -> Result<Claim, OutOfMemory>
     Ok(Claim::Cycle { on, nodes, cost })
 }
 
-/// Each stall has 2, and would do no better.
+/// In the equilibrium each stall has 2, and would do no better; in the cycle the seller loses -5 and the buyer 3.
 #[test]
-fn an_equilibrium_is_replayed(rt: HostRuntime) {
+fn claims_are_replayed(rt: HostRuntime) {
     let alloc = rt.alloc();
     let market = two_stalls(alloc).expect(&rt, "memory");
     let mut steps = Steps::new(Asked);
     let claim = both_on(alloc, 4).expect(&rt, "memory");
     match replay(alloc, &market, &claim, &mut steps).expect(&rt, "memory") {
         Replayed::Valid => {}
-        other => panic!(rt; "{:?}", other),
+        _ => assert!(rt; false),
     }
     let claim = both_on(alloc, 5).expect(&rt, "memory");
     match replay(alloc, &market, &claim, &mut steps).expect(&rt, "memory") {
-        Replayed::Invalid(Reason::Surplus { surplus }) => assert_eq!(rt; surplus, 4),
-        other => panic!(rt; "{:?}", other),
+        Replayed::Invalid(Reason::Surplus { surplus }) => assert!(rt; surplus == 4),
+        _ => assert!(rt; false),
     }
-}
-
-/// The seller loses -5 and the buyer 3.
-#[test]
-fn a_cycle_is_replayed(rt: HostRuntime) {
-    let alloc = rt.alloc();
-    let market = two_stalls(alloc).expect(&rt, "memory");
-    let mut steps = Steps::new(Asked);
     let claim = round(alloc, -2).expect(&rt, "memory");
     match replay(alloc, &market, &claim, &mut steps).expect(&rt, "memory") {
         Replayed::Valid => {}
-        other => panic!(rt; "{:?}", other),
+        _ => assert!(rt; false),
     }
     let claim = round(alloc, -1).expect(&rt, "memory");
     match replay(alloc, &market, &claim, &mut steps).expect(&rt, "memory") {
-        Replayed::Invalid(Reason::Cost { cost }) => assert_eq!(rt; cost, -2),
-        other => panic!(rt; "{:?}", other),
+        Replayed::Invalid(Reason::Cost { cost }) => assert!(rt; cost == -2),
+        _ => assert!(rt; false),
     }
 }

@@ -16,15 +16,15 @@ use tn_session::Session;
 #[test]
 fn market_keeps_its_trades(rt: HostRuntime) {
     let market = two_stalls(rt.alloc()).expect(&rt, "memory");
-    assert_eq!(rt; (market.firms(), market.trades()), (2, 2));
+    assert!(rt; [market.firms(), market.trades()] == [2, 2]);
     assert!(rt; market.ends(1) == ends(1, 0));
-    assert_eq!(rt; (market.own(0, 0), market.own(0, 1)), (1, 0));
-    assert_eq!(rt; (market.own(1, 0), market.own(1, 1)), (0, 1));
-    assert_eq!(rt; market.firm(1).trades(), 2);
+    assert!(rt; [market.own(0, 0), market.own(0, 1)] == [1, 0]);
+    assert!(rt; [market.own(1, 0), market.own(1, 1)] == [0, 1]);
+    assert!(rt; market.firm(1).trades() == 2);
     let mut on = TradeSet::<1>::empty();
     on.toggle(0);
-    assert_eq!(rt; market.bundle_of(0, &on).bits(), 2);
-    assert_eq!(rt; market.bundle_of(1, &on).bits(), 1);
+    assert!(rt; market.bundle_of(0, &on).bits() == 2);
+    assert!(rt; market.bundle_of(1, &on).bits() == 1);
 }
 
 /// What the stall does at these prices and a scale of 2, where it must have `need` and may have `free`.
@@ -59,46 +59,37 @@ fn best_bundle_of_a_stall(rt: HostRuntime) {
     assert!(rt; best_at(alloc, 0, 0, -8, 40) == Ok(Some((0, 0))));
 }
 
+/// What two bundles are worth, and the cells of the room that they are asked in.
 #[test]
 fn bundles_of_a_stall(rt: HostRuntime) {
     let mut room = Room::new(rt.alloc()).expect(&rt, "memory");
     let both = Bundle::from_bits(3);
     assert!(rt; worth_of(&Stall, both, &mut room) == Some(2));
     assert!(rt; utility_of(&Stall, both, 2, &[4, 4], &mut room) == Some(4));
-}
-
-#[test]
-fn room_has_its_cells(rt: HostRuntime) {
-    let mut room = Room::new(rt.alloc()).expect(&rt, "memory");
     let cells = room.cells();
-    assert_eq!(rt; cells.len(), 60);
+    assert!(rt; cells.len() == 60);
     cells[59] = Some((Bundle::empty(), 7));
     let last = cells[59];
     assert!(rt; last == Some((Bundle::empty(), 7)));
 }
 
+/// A stall under a tax, a stall of a residual market, and the firm outside.
 #[test]
-fn levied_stall(rt: HostRuntime) {
-    let stall = Stall;
-    let firm = Levied::new(&stall, 2, Bundle::from_bits(1), 1);
-    let mut steps = Steps::new(Asked);
-    assert!(rt; firm.value(Bundle::from_bits(3), &mut steps) == Some(3));
-    assert!(rt; firm.value(Bundle::from_bits(2), &mut steps) == Some(10));
-    assert_eq!(rt; (firm.trades(), firm.bound()), (2, 80));
-}
-
-#[test]
-fn parties_beside_a_stall(rt: HostRuntime) {
+fn firms_made_of_a_stall(rt: HostRuntime) {
     let stall = Stall;
     let mut steps = Steps::new(Asked);
+    let taxed = Levied::new(&stall, 2, Bundle::from_bits(1), 1);
+    assert!(rt; taxed.value(Bundle::from_bits(3), &mut steps) == Some(3));
+    assert!(rt; taxed.value(Bundle::from_bits(2), &mut steps) == Some(10));
+    assert!(rt; taxed.trades() == 2 && taxed.bound() == 80);
     let member = Party::Firm(Levied::new(&stall, 1, Bundle::empty(), 0));
     assert!(rt; member.value(Bundle::from_bits(3), &mut steps) == Some(2));
     let outside: Party<Stall> = Party::Outside(Outside::new(-7));
     assert!(rt; outside.value(Bundle::from_bits(1), &mut steps) == Some(-7));
     assert!(rt; outside.value(Bundle::from_bits(2), &mut steps) == Some(7));
     assert!(rt; outside.value(Bundle::from_bits(3), &mut steps) == Some(0));
-    assert_eq!(rt; (outside.trades(), outside.bound()), (2, 7));
-    assert!(rt; (outside.side(0), outside.side(1)) == (Side::Buy, Side::Sell));
+    assert!(rt; outside.trades() == 2 && outside.bound() == 7);
+    assert!(rt; outside.side(0) == Side::Buy && outside.side(1) == Side::Sell);
 }
 
 #[test]
@@ -108,24 +99,23 @@ fn graph_of_two_stalls(rt: HostRuntime) {
     let none = TradeSet::<1>::empty();
     let mut one = none;
     one.toggle(0);
+    let mut both = one;
+    both.toggle(1);
     let mut steps = Steps::new(Asked);
+    graph.lay_out(&market, &none);
+    graph.admit(&market, 0, &none, &one, &mut steps);
+    assert!(rt; [graph.cost(0, 2), graph.cost(2, 0)] == [Some(3), Some(-5)]);
     graph.fill(&market, &none, &mut steps);
-    assert_eq!(rt;
-        (graph.cost(0, 0), graph.cost(0, 1), graph.cost(0, 2)),
-        (None, Some(-2), Some(3))
+    assert!(rt;
+        [graph.cost(0, 0), graph.cost(0, 1), graph.cost(0, 2)] == [None, Some(-2), Some(3)]
     );
-    assert_eq!(rt;
-        (graph.cost(2, 0), graph.cost(2, 1), graph.cost(2, 2)),
-        (Some(-5), Some(-5), None)
+    assert!(rt;
+        [graph.cost(2, 0), graph.cost(2, 1), graph.cost(2, 2)] == [Some(-5), Some(-5), None]
     );
-    graph.refresh(&market, &none, &one, &mut steps);
-    assert_eq!(rt;
-        (graph.cost(0, 0), graph.cost(0, 1), graph.cost(0, 2)),
-        (None, None, Some(5))
-    );
-    assert_eq!(rt;
-        (graph.cost(2, 0), graph.cost(2, 1), graph.cost(2, 2)),
-        (Some(-3), Some(-5), None)
+    graph.refresh(&market, &none, &one, &both, &mut steps);
+    assert!(rt; [graph.cost(0, 0), graph.cost(0, 1), graph.cost(0, 2)] == [None, None, Some(5)]);
+    assert!(rt;
+        [graph.cost(2, 0), graph.cost(2, 1), graph.cost(2, 2)] == [Some(-3), Some(-5), None]
     );
 }
 
@@ -138,24 +128,24 @@ fn prices_for_two_stalls(rt: HostRuntime) {
     match support(rt.alloc(), &market, &on, &mut steps).expect(&rt, "memory") {
         Support::Cycle { nodes, cost } => {
             assert!(rt; nodes.len() == 2 && cost == -4);
-            assert_eq!(rt; (nodes.at(0), nodes.at(1)), (Some(0), Some(1)));
+            assert!(rt; [nodes.at(0), nodes.at(1)] == [Some(0), Some(1)]);
         }
-        other => panic!(rt; "{:?}", other),
+        _ => assert!(rt; false),
     }
     on.toggle(0);
     match support(rt.alloc(), &market, &on, &mut steps).expect(&rt, "memory") {
         Support::Cycle { nodes, cost } => {
             assert!(rt; nodes.len() == 2 && cost == -2);
-            assert_eq!(rt; (nodes.at(0), nodes.at(1)), (None, Some(1)));
+            assert!(rt; [nodes.at(0), nodes.at(1)] == [None, Some(1)]);
         }
-        other => panic!(rt; "{:?}", other),
+        _ => assert!(rt; false),
     }
     on.toggle(1);
     match support(rt.alloc(), &market, &on, &mut steps).expect(&rt, "memory") {
         Support::Supported { prices } => {
-            assert_eq!(rt; (prices.at(0), prices.at(1)), (-3, -3));
+            assert!(rt; [prices.at(0), prices.at(1)] == [-3, -3]);
         }
-        other => panic!(rt; "{:?}", other),
+        _ => assert!(rt; false),
     }
 }
 
@@ -170,20 +160,14 @@ fn ranges_of_two_stalls(rt: HostRuntime) {
     match support(rt.alloc(), &market, &on, &mut steps).expect(&rt, "memory") {
         Support::Supported { prices } => {
             let ranges = range(rt.alloc(), &market, &on, &prices, &mut steps).expect(&rt, "memory");
-            assert_eq!(rt; ranges.len(), 2);
+            assert!(rt; ranges.len() == 2);
             let second = ranges.at(1);
-            assert_eq!(rt; (second.low, second.high), (Some(-5), Some(-3)));
+            assert!(rt; [second.low, second.high] == [Some(-5), Some(-3)]);
             assert!(rt; second.low_path.len() == 2 && second.high_path.len() == 2);
-            assert_eq!(rt;
-                (second.low_path.at(0), second.low_path.at(1)),
-                (Some(1), None)
-            );
-            assert_eq!(rt;
-                (second.high_path.at(0), second.high_path.at(1)),
-                (None, Some(1))
-            );
+            assert!(rt; [second.low_path.at(0), second.low_path.at(1)] == [Some(1), None]);
+            assert!(rt; [second.high_path.at(0), second.high_path.at(1)] == [None, Some(1)]);
         }
-        other => panic!(rt; "{:?}", other),
+        _ => assert!(rt; false),
     }
 }
 
@@ -193,10 +177,10 @@ fn solves_two_stalls(rt: HostRuntime) {
     let mut solver = Solver::<1>::with_room(rt.alloc(), &market).expect(&rt, "memory");
     let mut steps = Steps::new(Asked);
     solver.solve_in(&market, &mut steps);
-    assert_eq!(rt; (solver.on().has(0), solver.on().has(1)), (true, true));
-    assert_eq!(rt; (solver.price(0), solver.price(1)), (-3, -3));
+    assert!(rt; solver.on().has(0) && solver.on().has(1));
+    assert!(rt; [solver.price(0), solver.price(1)] == [-3, -3]);
     solver.solve_among(&market, &TradeSet::empty(), &mut steps);
-    assert_eq!(rt; solver.on().count(), 0);
+    assert!(rt; solver.on().count() == 0);
 }
 
 #[test]
@@ -206,23 +190,16 @@ fn admits_and_bars_two_stalls(rt: HostRuntime) {
     let mut session = Session::<Stall, 1>::begin(rt.alloc(), &market, &mut steps).expect(
         &rt, "memory",
     );
-    assert_eq!(rt; (session.admitted().count(), session.on().count()), (0, 0));
+    assert!(rt; [session.admitted().count(), session.on().count()] == [0, 0]);
     assert!(rt; !session.bar(0, &mut steps));
     assert!(rt; session.admit(0, &mut steps));
     assert!(rt; !session.admit(0, &mut steps));
-    assert_eq!(rt;
-        (session.on().has(0), session.on().has(1), session.price(0)),
-        (true, false, -3)
-    );
+    assert!(rt; session.on().has(0) && !session.on().has(1));
+    assert!(rt; session.price(0) == -3);
     assert!(rt; session.admit(1, &mut steps));
-    assert_eq!(rt; (session.on().has(0), session.on().has(1)), (true, true));
+    assert!(rt; session.on().has(0) && session.on().has(1));
     assert!(rt; session.bar(0, &mut steps));
-    assert_eq!(rt;
-        (session.admitted().has(0), session.admitted().has(1)),
-        (false, true)
-    );
-    assert_eq!(rt;
-        (session.on().has(0), session.on().has(1), session.price(1)),
-        (false, true, -3)
-    );
+    assert!(rt; !session.admitted().has(0) && session.admitted().has(1));
+    assert!(rt; !session.on().has(0) && session.on().has(1));
+    assert!(rt; session.price(1) == -3);
 }

@@ -2,10 +2,9 @@
 use Rattle.std.proofs.Common.{◌≡◌, ℕ, ◌-◌, sym, ◌∙◌, subst, ℤ, ◌+ℤ◌, List, length, slice_get, Some}
 use Rattle.tn_base.specs.Firm.{Firm, MayAbstain}
 use Rattle.tn_base.specs.Walks.{arcs_among, is_looked_at, IsUnreached, KeepsArcs, KeepsArcsEntering}
-use Rattle.tn_base.proofs.WalkLemmas.{SameArcs, walk-same, least_cycle-same, among-same}
+use Rattle.tn_base.proofs.WalkLemmas.{SameArcs, walk-same, least_cycle-same}
 use Rattle.tn_plain_data.specs.declared.ends.Ends.{Ends}
 use Rattle.tn_plain_data.specs.Network.{IsNetwork}
-use Rattle.tn_market.specs.Graph.{exchange_arc}
 use Rattle.tn_graph.specs.Blocks.{Blocks, arcs_of}
 use Rattle.tn_cycle.specs.Reading.{Reading}
 use Rattle.tn_cycle.specs.Answers.{IsLeastFound, label_in}
@@ -16,7 +15,7 @@ use Rattle.tn_network.specs.Rounds.{arcs_with}
 use Rattle.tn_network.proofs.KeptLemmas.{keeps-same, entering-same, with_arcs}
 use Rattle.tn_network.proofs.BarLemmas.{one_cycle_bars_a_trade}
 use Rattle.tn_flow.specs.Underway.{AreKept}
-use Rattle.tn_flow.proofs.RoundLemmas.{last_node}
+use Rattle.tn_flow.proofs.RoundLemmas.{last_node, looked_same as joined_same}
 use Rattle.tn_session.specs.Standing.{IsLeaving}
 
 -- the arcs that the search looks at
@@ -28,8 +27,7 @@ looked_same firms trades graph finder allowed on t leaving u v =
     subst (λ (n : ℕ). arcs_with firms trades allowed on t u v
     ≡ arcs_among (is_looked_at n t allowed) (arcs_of graph) u v)
     (sym (last_node finder.nodes (length trades) leaving.under_way.sized))
-    (sym (among-same (is_looked_at (length trades) t allowed) (arcs_of graph) (exchange_arc firms trades on)
-    leaving.under_way.arcs.arcs u v))
+    (sym (joined_same firms trades on allowed t graph leaving.out leaving.under_way.arcs u v))
 
 -- what it asks for
 pub leaving_asks : (firms : List Firm) (trades : List Ends) (graph : Blocks) (finder : Reading) (allowed on t : ℕ)

@@ -15,6 +15,7 @@ use Rattle.tn_market.specs.Lawful.{IsLawful}
 use Rattle.tn_market.specs.Valued.{IsWorthAtMost}
 use Rattle.tn_plain_data.specs.Prices.{price_at}
 use Rattle.tn_graph.specs.Blocks.{Blocks}
+use Rattle.tn_graph.specs.Reading.{IsExchangeAmong}
 use Rattle.tn_cycle.specs.Reading.{Reading}
 use Rattle.tn_cycle.specs.Answers.{AreLabels, AreNear, label_in}
 use Rattle.tn_base.specs.Walks.{arcs_among, is_admitted}
@@ -27,7 +28,7 @@ use Rattle.tn_network.proofs.SupportLemmas.{arcs_small}
 use Rattle.tn_network.proofs.BarLemmas.{one_cycle_bars_a_trade}
 use Rattle.tn_network.specs.Kept.{IsKept}
 use Rattle.tn_cycle.specs.GraphLemmas.{small-arcs_among}
-use Rattle.tn_flow.proofs.RoundLemmas.{near-wider}
+use Rattle.tn_flow.proofs.RoundLemmas.{near-wider, before_joined}
 use Rattle.tn_flow.proofs.SolverLemmas.{small_bound, solution_from}
 use Rattle.tn_session.specs.Standing.{standing_of, differences, HoldsEquilibrium, HasSmallPrices, AreFirmsSmall, AreSettled, IsSession}
 use Rattle.tn_session.specs.Widths.{most_path}
@@ -88,7 +89,8 @@ one_bound {V} limit_of P none (first ∷ items) each =
 
 -- a bound that is small enough
 pub small_bound_of : {V : Type 0} (limit_of : V → ℕ) (market : Traded V) → AreFirmsSmall limit_of market → (bound : ℕ)
-    × ((f : ℕ) (v : V) → slice_get market.firms f ≡ Some v → limit_of v ≤ bound) × (2 * bound * (length market.trades + 1) ≤ most_path)
+    × ((f : ℕ) (v : V) → slice_get market.firms f ≡ Some v → limit_of v ≤ bound) × (2 * bound *
+    (length market.trades + 1) ≤ most_path)
 small_bound_of limit_of market small =
     one_bound limit_of (λ b. 2 * b * (length market.trades + 1) ≤ most_path) (omega arith) market.firms small
 
@@ -216,7 +218,9 @@ barred_off firm_of limit_of width market graph finder allowed on t after session
   small = session.small;
   fits_graph = session.fits_graph;
   under_way = record {
-    arcs = session.under_way.arcs;
+    arcs = before_joined (map firm_of market.firms) market.trades on after t graph out
+        (with_trade allowed t after e (λ x y. IsExchangeAmong (map firm_of market.firms) market.trades y x graph) on
+        session.under_way.arcs);
     sized = session.under_way.sized;
     kept = one_cycle_bars_a_trade.still (map firm_of market.firms) market.trades after on t
         (with_trade allowed t after e (IsKept (map firm_of market.firms) market.trades) on session.under_way.kept) out

@@ -75,5 +75,6 @@ pub fn switch_off<V: Valuation, const W: usize>(
     let before = rounds.on;
     let count = find_cycle(rounds, market, t);
     rounds.toggle_nodes(count, market.trades());
-    rounds.graph.refresh(market, &before, &rounds.on, steps);
+    let (on, admitted) = (rounds.on, rounds.allowed);
+    rounds.graph.refresh(market, &before, &on, &admitted, steps);
 }

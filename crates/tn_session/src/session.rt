@@ -65,9 +65,9 @@ fn settle<V: Valuation, const W: usize>(rounds: &mut Rounds<W>, market: &Market<
 }
 
 impl<'a, V: Valuation, const W: usize> Session<'a, V, W> {
-    /// A session on a market: no trade is admitted, and none is on. It asks for at most a worth for each two places of
-    /// each firm, and fails only where memory runs out. The market has at most `64 * W` trades; twice the bound of each
-    /// firm, times one more than the number of trades, is at most 10^17.
+    /// A session on a market: no trade is admitted, and none is on. It asks for no worth, so the counter, which every
+    /// call of a session is handed, stays as it is. It fails only where memory runs out. The market has at most
+    /// `64 * W` trades; twice the bound of each firm, times one more than the number of trades, is at most 10^17.
     pub fn begin(
         alloc: Global,
         market: &'a Market<V>,
@@ -81,10 +81,10 @@ impl<'a, V: Valuation, const W: usize> Session<'a, V, W> {
         ensures none_on { IfOk result (λ session. session.solution.on ≡ 0) }
         ensures equilibrium { IfOk result (HoldsEquilibrium V.firm) }
         ensures prices { IfOk result (HasSmallPrices V.firm) }
-        ensures asked { steps.new ≤ steps.old + graph_worths (map V.firm market.now.firms) }
+        ensures asked { steps.new ≡ steps.old }
     {
         let mut rounds = Rounds::with_room(alloc, market.trades())?;
-        rounds.begin(market, steps);
+        rounds.begin(market);
         settle(&mut rounds, market);
         Ok(Session { market, rounds })
     }

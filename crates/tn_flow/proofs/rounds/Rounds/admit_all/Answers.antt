@@ -5,7 +5,7 @@ use Rattle.tn_cycle.specs.Answers.{AreNear}
 use Rattle.tn_cycle.specs.Widths.{label_step}
 use Rattle.tn_market.specs.Graph.{graph_worths}
 use Rattle.tn_flow.specs.Underway.{AreAdmittedBelow}
-use Rattle.tn_flow.proofs.RoundLemmas.{near-next, rounds_near, none_below, not_yet, one_more_below, all_below, worths_step, worths_sum}
+use Rattle.tn_flow.proofs.RoundLemmas.{near-next, rounds_near, none_below, not_yet, one_more_below, all_below, worths_step, worths_all}
 use Rattle.tn_flow.proofs.rounds.Rounds.admit_all.Goals as goal
 
 pub loop-t-init : goal.loop-t-init
@@ -26,7 +26,7 @@ loop-t-preserved g c = record {
       (sym (c.admit_if.ensures.admitted ∙ ap (λ (b : Bool). if b then toggle c.loop-t.self.allowed c.loop-t.t
       else c.loop-t.self.allowed) c.has.ensures))
       (one_more_below c.args.admitted.now c.loop-t.t c.loop-t.self.allowed c.loop-t.invariant.below);
-  asked = worths_step c.begin.new.steps c.loop-t.steps c.admit_if.new.steps
+  asked = worths_step c.args.steps.now c.loop-t.steps c.admit_if.new.steps
       (graph_worths (map g.V.Valuation.firm c.args.market.now.firms)) c.loop-t.t
       c.loop-t.invariant.asked c.admit_if.ensures.asked;
 }
@@ -79,6 +79,5 @@ returns-clause-asked g c =
     let count = c.trades-t-end.ensures.count in
     let end = c.loop-t.auto.t-end in
     let test = c.loop-t-test.false in
-    worths_sum c.args.steps.now c.begin.new.steps c.loop-t.steps
-    (graph_worths (map g.V.Valuation.firm c.args.market.now.firms)) c.loop-t.t _
-    c.begin.ensures.asked c.loop-t.invariant.asked (omega (arith, count, end, test))
+    worths_all c.args.steps.now c.loop-t.steps (graph_worths (map g.V.Valuation.firm c.args.market.now.firms))
+    c.loop-t.t _ c.loop-t.invariant.asked (omega (arith, count, end, test))

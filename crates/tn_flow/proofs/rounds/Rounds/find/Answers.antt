@@ -35,5 +35,5 @@ returns-clause-next g c =
     search_answers (map g.V.Valuation.firm c.args.market.now.firms) c.args.market.now.trades c.args.self.now.graph
     c.args.self.now.finder c.args.self.now.allowed c.args.self.now.on c.args.t
     c.through.new.self c.through.result c.know.ensures.network c.know.ensures.meet c.requires.under_way c.requires.trade
-    c.requires.out c.through.ensures.answer
+    c.requires.out c.requires.joined c.through.ensures.answer
     c.through.ensures.labelled c.through.ensures.keeps

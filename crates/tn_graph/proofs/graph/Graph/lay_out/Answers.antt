@@ -1,5 +1,5 @@
 -- What shows the clauses of `Graph::lay_out` of `src/graph.rt`.
-use Rattle.std.proofs.Common.{ap, subst, sym, ◌∙◌, ◌≡◌, ◌+◌, ◌*◌, arith, ℕ, map, length}
+use Rattle.std.proofs.Common.{ap, subst, sym, ◌∙◌, ◌≡◌, ◌+◌, arith, ℕ, map, length}
 use Rattle.std.proofs.lemmas.List.{length-map}
 use Rattle.tn_base.specs.Sets.{has}
 use Rattle.tn_graph.specs.Blocks.{Blocks, IsSound, room_of}

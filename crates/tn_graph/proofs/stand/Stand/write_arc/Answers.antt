@@ -2,7 +2,8 @@
 use Rattle.std.proofs.Common.{◌∙◌, ap₂, sym, map, lit<}
 use Rattle.tn_market.specs.Graph.{exchange_arc}
 use Rattle.tn_graph.specs.Blocks.{arcs_of}
-use Rattle.tn_graph.proofs.ReadingLemmas.{written_improves, loss_is_arc}
+use Rattle.tn_graph.proofs.ReadingLemmas.{written_improves}
+use Rattle.tn_graph.proofs.LineLemmas.{loss_is_arc}
 use Rattle.tn_graph.proofs.PlacedLemmas.{placed_cost}
 use Rattle.tn_graph.proofs.StandLemmas.{worth_small}
 use Rattle.tn_graph.proofs.stand.Stand.write_arc.Goals as goal

@@ -1,10 +1,6 @@
 -- What shows the clauses of `Session::begin` of `src/session.rt`.
 use Rattle.std.proofs.Common.{rules}
-use Rattle.tn_session.proofs.StandingLemmas.{firms_small}
 use Rattle.tn_session.proofs.session.Session.begin.Goals as goal
 
 pub begin-requires : goal.begin-requires
-begin-requires g c = (
-  search rules,
-  (search rules, (search rules, (search rules, firms_small g.V.Valuation.limit c.args.market.now c.requires.small))),
-)
+begin-requires g c = (search rules, (search rules, search rules))

@@ -41,8 +41,10 @@ returns g c =
     subst (λ (s : Standing g.row.V.Denot). c.args.t < length s.market.trades) (sym c.self.view_is) c.requires in
     to_z-of_z w128 c.label_less.result (fits c.self.inside.rounds.finder.labels (length c.self.inside.market.now.trades
     + 1) c.args.t c.trades.result c.label_less.result c.self.invariant.under_way.labels.one_each
-    (omega (arith, below)) (omega (arith, count)) (numbers_small g.V.Valuation.firm g.V.Valuation.limit c.self.inside.market.now
-    c.self.inside.rounds.finder.labels (λ v. (g.met.V.Valuation.lawful v).within) c.self.invariant.small c.self.invariant.under_way.labels.one_each
+    (omega (arith, below)) (omega (arith, count)) (numbers_small g.V.Valuation.firm g.V.Valuation.limit
+    c.self.inside.market.now
+    c.self.inside.rounds.finder.labels (λ v. (g.met.V.Valuation.lawful v).within) c.self.invariant.small
+    c.self.invariant.under_way.labels.one_each
     c.self.invariant.settled) c.label_less.ensures)
     ∙ c.label_less.ensures
     ∙ ap (λ (n : ℕ). label_in c.self.inside.rounds.finder.labels c.args.t
