@@ -100,7 +100,7 @@ def numbers_of(value):
         at = value
         for step in place[:-1]:
             at = at[step]
-        if place and type(at[place[-1]]) is int and place[-1] != "from":
+        if type(at[place[-1]]) is int and place[-1] != "from":
             yield at, place[-1]
 
 
@@ -151,17 +151,21 @@ def usable_after(document, edits):
     return {name for name in admitted if not ends[name] & away}
 
 
-def places(value, place=()):
-    """All values of a document, by their places."""
-    yield place
-    items = value.items() if isinstance(value, dict) else enumerate(value) if isinstance(value, list) else ()
-    for key, item in items:
-        yield from places(item, (*place, key))
+def places(value):
+    """The places of all values within a document, each before those within it."""
+    found, rest = [], [((), value)]
+    while rest:
+        place, value = rest.pop()
+        items = value.items() if isinstance(value, dict) else enumerate(value) if isinstance(value, list) else ()
+        within = [((*place, key), item) for key, item in items]
+        found += (place for place, item in within)
+        rest += within
+    return found
 
 
 def change(draw, document, small):
     """Changes one value: to one like it, or to one that has to be refused."""
-    place = draw.choice([place for place in places(document) if place])
+    place = draw.choice(places(document))
     at = document
     for step in place[:-1]:
         at = at[step]
