@@ -156,11 +156,10 @@ def places(value):
     found, rest = [], [((), value)]
     while rest:
         place, value = rest.pop()
+        found.append(place)
         items = value.items() if isinstance(value, dict) else enumerate(value) if isinstance(value, list) else ()
-        within = [((*place, key), item) for key, item in items]
-        found += (place for place, item in within)
-        rest += within
-    return found
+        rest += [((*place, key), item) for key, item in reversed(list(items))]
+    return found[1:]
 
 
 def change(draw, document, small):
