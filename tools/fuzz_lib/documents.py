@@ -94,14 +94,9 @@ def draw_network(draw, version, firms, trades):
     return enlarged(document, limits.amount) if draw.random() < 0.05 else document
 
 
-def numbers_of(value):
+def numbers_of(firm):
     """The lists and members of a firm that have its numbers, each with where one stands."""
-    for place in places(value):
-        at = value
-        for step in place[:-1]:
-            at = at[step]
-        if type(at[place[-1]]) is int and place[-1] != "from":
-            yield at, place[-1]
+    return [(at, key) for at, key in slots(firm) if type(at[key]) is int and key != "from"]
 
 
 def enlarged(document, most):
@@ -151,35 +146,33 @@ def usable_after(document, edits):
     return {name for name in admitted if not ends[name] & away}
 
 
-def places(value):
-    """The places of all values within a document, each before those within it."""
-    found, rest = [], [((), value)]
+def slots(value):
+    """The lists and objects of a document, each with an index or a key of it: where the values within it stand."""
+    found, rest = [], [value]
     while rest:
-        place, value = rest.pop()
-        found.append(place)
-        items = value.items() if isinstance(value, dict) else enumerate(value) if isinstance(value, list) else ()
-        rest += [((*place, key), item) for key, item in reversed(list(items))]
-    return found[1:]
+        holder = rest.pop()
+        for key in holder if isinstance(holder, dict) else range(len(holder)):
+            found.append((holder, key))
+            if isinstance(holder[key], (dict, list)):
+                rest.append(holder[key])
+    return found
 
 
 def change(draw, document, small):
     """Changes one value: to one like it, or to one that has to be refused."""
-    place = draw.choice(places(document))
-    at = document
-    for step in place[:-1]:
-        at = at[step]
-    old = at[place[-1]]
+    at, key = draw.choice(slots(document))
+    old = at[key]
     if small and type(old) is int:
         limits = limits_of(document)
-        at[place[-1]] = old + draw.choice([-1, 1, -old, draw.randint(-9, 9), limits.amount - old])
+        at[key] = old + draw.choice([-1, 1, -old, draw.randint(-9, 9), limits.amount - old])
     elif small and isinstance(at, list) and len(at) > 1:
-        draw.choice([draw.shuffle, lambda items: items.pop(place[-1])])(at)
+        draw.choice([draw.shuffle, lambda items: items.pop(key)])(at)
     elif not small and draw.random() < 0.3:
-        del at[place[-1]]
+        del at[key]
     elif not small:
         numbers = [-1, 0, 1, 1.0, -0.0, 1e300, 2 ** 63 - 1, 2 ** 63, -2 ** 63, limits_of(document).amount + 1, 10 ** 14 + 1]
         texts = ["", "S", "\u00e9", "\0", "x" * 33]
-        at[place[-1]] = draw.choice([None, True, [], {}, [[]], {"note": 0}, [old, old], {"a": old}, *numbers, *texts])
+        at[key] = draw.choice([None, True, [], {}, [[]], {"note": 0}, [old, old], {"a": old}, *numbers, *texts])
 
 
 def limits_of(document):

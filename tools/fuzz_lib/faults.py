@@ -69,9 +69,10 @@ def value_of(text):
     try:
         text = text.decode()
         value = json.loads(text, parse_int=int_of, parse_float=float_of, parse_constant=no_constant)
-        halves = [string for string in STRING.findall(text) if "\\u" in string and re.search("[\ud800-\udfff]", json.loads(string))]
-        if halves or depth_of(text) > 127:
-            raise ValueError("half of a pair of surrogates, or too deep")
+        if "\\u" in text and any(re.search("[\ud800-\udfff]", json.loads(string)) for string in STRING.findall(text)):
+            raise ValueError("half of a pair of surrogates")
+        if text.count("[") + text.count("{") > 127 and depth_of(text) > 127:
+            raise ValueError("too deep")
     except (ValueError, RecursionError):
         raise Fault(NOT_JSON, []) from None
     return value
