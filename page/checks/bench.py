@@ -108,6 +108,13 @@ class Bench(look.Page):
     def focused(self) -> str:
         return self.value("document.activeElement.dataset.key ?? ''")
 
+    def link(self) -> str:
+        """Makes a link of the document, and answers it. An earlier one stands in the page until this one is made."""
+        self.browser.run("document.documentElement.dataset.linked = 'false'")
+        self.click("#link")
+        self.wait_for("linked", "true")
+        return self.value("document.getElementById('fragment').value")
+
     def guess(self) -> str:
         """Waits for the answer to the guess, and answers what is said of it."""
         self.wait_for("guess", "answered", "fault", "none", "trouble")
@@ -597,9 +604,7 @@ def packed(data: bytes) -> str:
 
 def tries_of_links(page: Bench, address: str):
     page.open("houses.json", look.example("houses.json"))
-    page.click("#link")
-    page.wait_for("linked", "true")
-    fragment = page.value("document.getElementById('fragment').value")
+    fragment = page.link()
     yield "from a disk the link is the fragment alone", fragment.startswith("#1.") and len(fragment) < 8000 and "behind any address" in page.says("linked-says")
     for name, there, wanted in (("a link brings the document back", fragment, example("houses.json")),
                                 ("and so does one from elsewhere", packed(look.example("ring.json")), example("ring.json"))):

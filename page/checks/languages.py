@@ -113,9 +113,7 @@ def tries_of_a_change(page: bench.Bench, address: str):
 def tries_of_links(page: bench.Bench, address: str):
     """Which language is handed on, and kept."""
     page.open("houses.json", look.example("houses.json"))
-    page.click("#link")
-    page.wait_for("linked", "true")
-    fragment = page.value("document.getElementById('fragment').value")
+    fragment = page.link()
     yield "a link hands on the language that was chosen", fragment.startswith("#1.") and fragment.endswith("&lang=de")
     page.click("#forget")
     page.again(address + fragment)

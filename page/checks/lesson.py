@@ -188,9 +188,7 @@ def tries_of_exercises(page: Bench, program: str | None):
     there = set(page.browser.run(THERE))
     yield "of contracts that are to last the objections are told too", "doesn't last" in judged(page) or "isn't kept" in judged(page)
     yield "and nothing else", not there & (SOLVING | {"make", "tab-guess"}) and "denominator" in there
-    page.click("#link")
-    page.wait_for("linked", "true")
-    fragment = page.value("document.getElementById('fragment').value")
+    fragment = page.link()
     page.click("#linked-close")
     page.open("used-cars.json", look.example("used-cars.json"))
     yield "another document is none", page.value("document.documentElement.dataset.exercise") == "none" and "tab-document" in page.browser.run(THERE)
@@ -335,13 +333,12 @@ SQUARES = "Number((document.querySelector('#code-picture svg')?.getAttribute('vi
 def tries_of_codes(page: Bench, address: str):
     page.again(address)
     page.open("houses.json", look.example("houses.json"))
-    page.click("#link")
-    page.wait_for("linked", "true")
+    fragment = page.link()
     page.focus_on("code")
     page.press("Enter")
     yield "from a disk a code wants an address", page.says("code-says").startswith("Type the address") and page.value(SQUARES) == 0
     page.press(*"http://a.example/m.html#x")
-    whole = "http://a.example/m.html" + page.value("document.getElementById('fragment').value")
+    whole = "http://a.example/m.html" + fragment
     yield "the code has the size for its letters", page.says("code-says") == f"The link has {len(whole)} letters, and its code {page.value(SQUARES)} squares on each side."
     read = read_code(page)
     if read is None:
@@ -352,7 +349,7 @@ def tries_of_codes(page: Bench, address: str):
     page.click("#code-save")
     yield "it is saved as a picture", [(name, text[:4]) for name, text in page.browser.run(OFFERED)] == [("houses-code.svg", "<svg")]
     page.open("many.json", b'{"version":1,"firms":[],"trades":[],"note":"' + b64encode(b"".join(hashlib.sha512(bytes([k])).digest() for k in range(40))) + b'"}')
-    page.click("#link")
+    page.link()
     page.click("#code")
     yield "a document too long for a code is told", page.says("code-says").startswith("The document is too long for a code: the link has ") and page.value(SQUARES) == 0
     page.click("#linked-close")
