@@ -8,8 +8,6 @@ mod laws;
 mod memory;
 mod side;
 mod steps;
-#[cfg(test)]
-mod tests;
 mod trade_set;
 
 pub use bundle::Bundle;

@@ -3,8 +3,6 @@
 
 mod case;
 mod shipped;
-#[cfg(test)]
-mod tests;
 
 pub use case::{Case, CaseBook};
 pub use shipped::book;

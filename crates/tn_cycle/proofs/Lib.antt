@@ -18,5 +18,4 @@ pub mod QueueLemmas
 pub mod OfferLemmas
 pub mod StoppedLemmas
 pub mod KeptCycleLemmas
-pub mod RingLemmas
 pub mod GrownLemmas

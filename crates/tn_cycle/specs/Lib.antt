@@ -10,5 +10,3 @@ pub mod GraphLemmas
 pub mod ListingLemmas
 pub mod Reading
 pub mod Answers
-pub mod Ring
-pub mod RingLemmas

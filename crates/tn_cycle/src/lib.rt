@@ -25,8 +25,6 @@ mod kept_cycles;
 mod labels;
 mod queue;
 mod read;
-#[cfg(test)]
-mod tests;
 mod walks;
 
 pub use answer::{Labels, Path};

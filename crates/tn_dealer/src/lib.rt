@@ -9,8 +9,6 @@ mod laws;
 mod pair;
 mod repeated;
 mod search;
-#[cfg(test)]
-mod tests;
 mod worth;
 
 pub use dealer::Dealer;

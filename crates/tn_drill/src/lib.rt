@@ -5,7 +5,5 @@
 mod draws;
 mod firms;
 mod network;
-#[cfg(test)]
-mod tests;
 
 pub use network::drill;

@@ -7,8 +7,6 @@ mod exchange;
 mod laws;
 mod refusal;
 mod table;
-#[cfg(test)]
-mod tests;
 mod verdict;
 
 pub use exchange::{are_enough, fails_at, test, test_pair};

@@ -3,8 +3,6 @@
 #![tactic(auto)]
 
 mod raw;
-#[cfg(test)]
-mod tests;
 mod value;
 
 pub use raw::RawFirm;

@@ -8,8 +8,6 @@ mod sink;
 mod source;
 mod standard;
 mod steady;
-#[cfg(test)]
-mod tests;
 mod writing;
 
 pub use lines::{LineReader, LineStop};

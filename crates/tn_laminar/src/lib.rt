@@ -10,8 +10,6 @@ mod masks;
 mod refusal;
 mod row;
 mod set;
-#[cfg(test)]
-mod tests;
 
 pub use laminar::Laminar;
 pub use refusal::LaminarRefusal;

@@ -5,8 +5,6 @@
 
 mod local;
 mod quads;
-#[cfg(test)]
-mod tests;
 mod verdict;
 mod walk;
 

@@ -5,8 +5,6 @@
 mod asked;
 mod laws;
 mod middle;
-#[cfg(test)]
-mod tests;
 
 pub use laws::middlemen_pair;
 pub use middle::Middle;

@@ -11,4 +11,3 @@ pub mod ReplayLemmas
 pub mod CaseLemmas
 pub mod HeadlineLemmas
 pub mod LinedLemmas
-pub mod StallLemmas

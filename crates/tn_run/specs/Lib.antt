@@ -8,5 +8,3 @@ pub mod Cases
 pub mod Complete
 pub mod Headline
 pub mod Lined
-pub mod Stall
-pub mod StallLemmas

@@ -3,26 +3,12 @@
 
 mod answer;
 mod casing;
-#[cfg(test)]
-mod casing_tests;
 mod command;
 mod exit;
 mod lines;
 mod numbers;
 mod replaying;
-#[cfg(test)]
-mod row_tests;
-#[cfg(test)]
-mod rows;
-#[cfg(test)]
-mod stall_outcome_tests;
-#[cfg(test)]
-mod stall_tests;
-#[cfg(test)]
-mod stalls;
 mod testing;
-#[cfg(test)]
-mod tests;
 mod top;
 
 pub use casing::run_cases;

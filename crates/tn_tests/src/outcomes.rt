@@ -1,0 +1,140 @@
+//! Outcomes between two stalls, and claims about them.
+
+ghost use Rattle.std.specs.Prelude.{◌≡◌, List, IfOk, false, [], ◌∷◌};
+ghost use Rattle.tn_base.specs.Firm.{Firm};
+ghost use Rattle.tn_cert.specs.Replays.{is_raw};
+ghost use Rattle.tn_plain_data.specs.ClaimLimits.{IsClaimWithin, IsNumberWithin};
+ghost use Rattle.tn_tests.specs.Stall.{trade_between};
+
+use crate::stalls::{both_sold, ends, nothing_signed, sold_at_4, two_stalls};
+use std::alloc::Global;
+use tn_base::{Asked, Bundle, Costs, OutOfMemory, Steps, TradeSet};
+use tn_cert::{Replayed, replay};
+use tn_chain::{chain_scale, reduced_graph};
+use tn_judge::{Judged, judge};
+use tn_market::{Arrangement, Claim, Nodes, Prices, Reason, Room, Valuation};
+use tn_residual::{contract_price, reduced_best, residual};
+
+/// The seller keeps its contract at 4, and the buyer, to whom the thing is worth -3, drops its own. In the residual
+/// market the other trade stays, and a firm outside stands between the two stalls. Twice what a worth may be among two
+/// trades bounds the worths of a stall, and what 64 taxes come to.
+#[test]
+fn reduced_worths_of_two_stalls(rt: HostRuntime) {
+    let market = two_stalls(rt.alloc()).expect(&rt, "memory");
+    let outcome = sold_at_4(rt.alloc()).expect(&rt, "memory");
+    let mut room = Room::new(rt.alloc()).expect(&rt, "memory");
+    assert!(rt; contract_price(&outcome.contracts, 0) == Some(4));
+    assert!(rt; contract_price(&outcome.contracts, 1) == None);
+    let none = Bundle::empty();
+    let seller = reduced_best(&market, 0, &outcome, none, &mut room);
+    assert!(rt; seller == Some((Bundle::from_bits(2), 9)));
+    let buyer = reduced_best(&market, 1, &outcome, none, &mut room);
+    assert!(rt; buyer == Some((none, 0)));
+    let residual = residual(rt.alloc(), &market, &outcome, 2, 1).expect(&rt, "memory");
+    assert!(rt; [residual.firms(), residual.trades()] == [3, 3]);
+    assert!(rt; residual.ends(0) == ends(1, 0));
+    assert!(rt; residual.ends(1) == ends(0, 2));
+    assert!(rt; residual.ends(2) == ends(2, 1));
+    assert!(rt; residual.firm(0).bound() == 248_000_000_064);
+    assert!(rt; residual.firm(2).bound() == 8);
+}
+
+/// What each stall loses by selling, by buying and by both, where nothing is signed.
+#[test]
+fn reduced_graph_of_two_stalls(rt: HostRuntime) {
+    let market = two_stalls(rt.alloc()).expect(&rt, "memory");
+    let outcome = nothing_signed(rt.alloc());
+    assert!(rt; chain_scale(&outcome.contracts, 2) == 5);
+    let graph = reduced_graph(rt.alloc(), &market, &outcome).expect(&rt, "memory");
+    assert!(rt; [graph.cost(2, 0), graph.cost(0, 2)] == [Some(-5), Some(3)]);
+    assert!(rt; [graph.cost(0, 1), graph.cost(2, 2)] == [Some(-2), None]);
+}
+
+/// The buyer, to whom the thing is worth -3, would drop its contract at 4, and have 7 more. With both trades at -4 each
+/// stall has 2, and would keep both. Where nothing is signed each trade gains 2, so a price between -5 and -3 blocks,
+/// over 5 from -24 to -16.
+#[test]
+fn verdicts_on_three_outcomes(rt: HostRuntime) {
+    let alloc = rt.alloc();
+    let market = two_stalls(alloc).expect(&rt, "memory");
+    let mut steps = Steps::new(Asked);
+    let outcome = sold_at_4(alloc).expect(&rt, "memory");
+    match judge(alloc, &market, &outcome, &mut steps).expect(&rt, "memory") {
+        Judged::Drops { firm, keeps, gain } => {
+            assert!(rt; firm == 1 && keeps == Bundle::empty() && gain == Some(7));
+        }
+        _ => assert!(rt; false),
+    }
+    let outcome = both_sold(alloc).expect(&rt, "memory");
+    match judge(alloc, &market, &outcome, &mut steps).expect(&rt, "memory") {
+        Judged::Completes { prices } => {
+            assert!(rt; prices.len() == 2 && prices.at(0) == -4 && prices.at(1) == -4);
+        }
+        _ => assert!(rt; false),
+    }
+    let outcome = nothing_signed(alloc);
+    match judge(alloc, &market, &outcome, &mut steps).expect(&rt, "memory") {
+        Judged::Blocks { contracts, over } => {
+            assert!(rt; over == 5 && 0 < contracts.len());
+            let price = contracts.at(0).price;
+            assert!(rt; -24 <= price && price <= -16);
+        }
+        _ => assert!(rt; false),
+    }
+}
+
+/// Both trades are on at -4, an equilibrium with this surplus.
+#[tactic(auto, unfolding(tn_base::specs::Sets::toggle))]
+fn both_on(alloc: Global, surplus: i128) -> Result<Claim, OutOfMemory>
+    requires { IsNumberWithin surplus }
+    ensures within { IfOk result (λ claim. (firms : List Firm)
+        → IsClaimWithin firms (trade_between 0 1 ∷ trade_between 1 0 ∷ []) claim) }
+    ensures kind { IfOk result (λ claim. is_raw claim ≡ false) }
+{
+    let mut on = TradeSet::empty();
+    on.toggle(0);
+    on.toggle(1);
+    let prices = Prices::from_vec(vec![in alloc; -4, -4]?);
+    let at = Arrangement { on, prices };
+    Ok(Claim::Equilibrium { at, surplus })
+}
+
+/// Trade 0 put on, from null and back, at this cost.
+fn round(alloc: Global, cost: i128) -> Result<Claim, OutOfMemory>
+    requires { IsNumberWithin cost }
+    ensures within { IfOk result (λ claim. (firms : List Firm)
+        → IsClaimWithin firms (trade_between 0 1 ∷ trade_between 1 0 ∷ []) claim) }
+    ensures kind { IfOk result (λ claim. is_raw claim ≡ false) }
+{
+    let on = TradeSet::empty();
+    let nodes = Nodes::from_vec(vec![in alloc; None, Some(0)]?);
+    Ok(Claim::Cycle { on, nodes, cost })
+}
+
+/// In the equilibrium each stall has 2, and would do no better; in the cycle the seller loses -5 and the buyer 3.
+#[test]
+fn claims_are_replayed(rt: HostRuntime) {
+    let alloc = rt.alloc();
+    let market = two_stalls(alloc).expect(&rt, "memory");
+    let mut steps = Steps::new(Asked);
+    let claim = both_on(alloc, 4).expect(&rt, "memory");
+    match replay(alloc, &market, &claim, &mut steps).expect(&rt, "memory") {
+        Replayed::Valid => {}
+        _ => assert!(rt; false),
+    }
+    let claim = both_on(alloc, 5).expect(&rt, "memory");
+    match replay(alloc, &market, &claim, &mut steps).expect(&rt, "memory") {
+        Replayed::Invalid(Reason::Surplus { surplus }) => assert!(rt; surplus == 4),
+        _ => assert!(rt; false),
+    }
+    let claim = round(alloc, -2).expect(&rt, "memory");
+    match replay(alloc, &market, &claim, &mut steps).expect(&rt, "memory") {
+        Replayed::Valid => {}
+        _ => assert!(rt; false),
+    }
+    let claim = round(alloc, -1).expect(&rt, "memory");
+    match replay(alloc, &market, &claim, &mut steps).expect(&rt, "memory") {
+        Replayed::Invalid(Reason::Cost { cost }) => assert!(rt; cost == -2),
+        _ => assert!(rt; false),
+    }
+}

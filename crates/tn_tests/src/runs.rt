@@ -1,0 +1,94 @@
+//! Whole runs on documents, and over ends that fail.
+
+use std::alloc::Global;
+use std::process::ExitCode;
+use std::test::Fail;
+use tn_answer::no_memory_text;
+use tn_io::{MemorySink, MemorySource, SteadySink, SteadySource};
+use tn_run::{run_market, run_steadily, run_to_exit};
+
+/// One trade from S to B at the price 4, worth -3 and 5.
+const DEAL: &[u8] =
+    b"{\"version\":1,\"firms\":[{\"name\":\"S\",\"kind\":\"table\",\"rows\":[[[\"a\"],-3]]},{\"name\":\"B\",\"kind\":\"table\",\"rows\":[[[\"a\"],5]]}],\"trades\":[{\"name\":\"a\",\"seller\":\"S\",\"buyer\":\"B\"}],\"arrangement\":{\"on\":[\"a\"],\"prices\":[[\"a\",4]]}}";
+
+const EQUILIBRIUM: &str = "{\"answer\":\"equilibrium\",\"surplus\":2}\n";
+
+const NOT_JSON: &str = "{\"answer\":\"fault\",\"fault\":1,\"name\":\"NotJson\",\"place\":[]}\n";
+
+/// Words with blanks between them.
+fn words_of(alloc: Global, text: &str) -> Result<Vec<String>, Fail> {
+    let mut words = Vec::new(alloc);
+    for word in text.split_whitespace() {
+        words.push(String::from_str(alloc, word)?)?;
+    }
+    Ok(words)
+}
+
+/// The status and the written text of a run over ends that never fail.
+pub(crate) fn run_on(alloc: Global, words: &str, document: &[u8]) -> Result<(u8, Vec<u8>), Fail> {
+    let words = words_of(alloc, words)?;
+    let mut source = SteadySource::new(document.to_vec(alloc)?, 100);
+    let mut sink = SteadySink::with_room(alloc, 65_536, 10)?;
+    let run = run_steadily(alloc, &words, &mut source, &mut sink);
+    let text = sink.written().ok_or("more than the room was written")?;
+    Ok((run.status, text.to_vec(alloc)?))
+}
+
+#[test]
+fn takes_no_document_that_is_cut(rt: HostRuntime) -> Result<(), Fail> {
+    for length in 0..DEAL.len() {
+        let (status, written) = run_on(rt.alloc(), "check", &DEAL[..length])?;
+        assert!(rt; status == 1 && written.as_slice() == NOT_JSON.as_bytes());
+    }
+    Ok(())
+}
+
+/// Whether a run on the deal ends with a status and writes a text, where the source fails at one call, and a sink of this
+/// room at another. Calls count from 1.
+fn ends_with(
+    alloc: Global,
+    read: u64,
+    write: u64,
+    room: usize,
+    status: u8,
+    text: Option<&[u8]>,
+) -> Result<bool, Fail> {
+    let words = words_of(alloc, "check")?;
+    let mut source = MemorySource::new(DEAL.to_vec(alloc)?, 16, [read].to_vec(alloc)?);
+    let mut sink = MemorySink::new(alloc, room, 8, [write].to_vec(alloc)?)?;
+    let run = run_market(alloc, &words, &mut source, &mut sink);
+    Ok(run.status == status && Some(sink.written()) == text)
+}
+
+/// A failed read is told; a failed write leaves the pieces of 8 bytes before it, and a full room what it had room for.
+#[test]
+fn tells_a_failed_end(rt: HostRuntime) -> Result<(), Fail> {
+    let read_fault = b"{\"answer\":\"read_fault\"}\n".as_slice();
+    for read in 1..4 {
+        assert!(rt; ends_with(rt.alloc(), read, 0, 100, 3, Some(read_fault))?);
+    }
+    let line = EQUILIBRIUM.as_bytes();
+    for write in 1..6 {
+        let length = 8 * (write as usize - 1);
+        assert!(rt; ends_with(rt.alloc(), 0, write, 100, 4, line.get(..length))?);
+    }
+    assert!(rt; ends_with(rt.alloc(), 0, 6, 100, 0, line.get(..37))?);
+    assert!(rt; ends_with(rt.alloc(), 0, 0, 10, 4, line.get(..10))?);
+    assert!(rt; no_memory_text() == b"{\"answer\":\"no_memory\"}\n".as_slice());
+    Ok(())
+}
+
+#[test]
+fn answers_line_by_line(rt: HostRuntime) -> Result<(), Fail> {
+    let mut lines = DEAL.to_vec(rt.alloc())?;
+    lines.extend_from_slice(b"\n\n")?;
+    lines.extend_from_slice(DEAL)?;
+    let mut source = SteadySource::new(lines, 100);
+    let mut sink = SteadySink::with_room(rt.alloc(), 1_000, 10)?;
+    let words = words_of(rt.alloc(), "check --lines")?;
+    let exit = run_to_exit(rt.alloc(), &words, &mut source, &mut sink);
+    assert!(rt; exit == ExitCode::from(1));
+    let written = format!(in rt.alloc(); "{EQUILIBRIUM}{NOT_JSON}{EQUILIBRIUM}")?;
+    assert!(rt; sink.written() == Some(written.as_bytes()));
+    Ok(())
+}
