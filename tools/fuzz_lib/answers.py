@@ -57,7 +57,8 @@ class Program:
         status = os.waitstatus_to_exitcode(os.waitpid(child, 0)[1])
         return status, *(os.pread(end, os.fstat(end).st_size, 0) for end in self.ends[1:])
 
-    def run(self, words, text):
+    def say(self, words, text):
+        """The answer to a text, or its rows, which have their status and are nothing but one line, or but lines of fields."""
         status, output, errors = self.start(words, text)
         self.runs += 1
         want(errors == b"", "text on standard error", words, errors)
@@ -66,23 +67,31 @@ class Program:
             rows = list(csv.reader(output.decode().splitlines()))[1:]
             is_no = words == "firms --csv" and any(row[1] == "0" for row in rows)
             want(status == (6 if is_no else 0), "the status of rows", words, status)
-            hold_fault(words, text, {"answer": "rows"})
             self.counts[words, "rows"] += 1
             return output.decode()
         want(output.endswith(b"\n") and output.count(b"\n") == 1, "not one line", words, output)
         answer = json.loads(output)
-        want(status == status_of(answer), "the status", words, answer, status)
-        hold_fault(words, text, answer)
+        want(status in (status_of(answer), None), "the status", words, answer, status)
         self.counts[words, answer["answer"]] += 1
         return answer
+
+    def run(self, words, text):
+        """The same, and a fault is answered exactly where there is one, and is the first."""
+        said = self.say(words, text)
+        hold_fault(words, text, {"answer": "rows"} if isinstance(said, str) else said)
+        return said
 
     def ask(self, words, document, **members):
         return self.run(words, json.dumps({**document, **members}).encode())
 
+    def again(self, words, document, **members):
+        """What is said of a document without a fault, with another part, where one answer is wanted: so no fault is looked for."""
+        return self.say(words, json.dumps({**document, **members}).encode())
+
 
 class LineProgram(Program):
-    """The same with one process for each command, which answers line by line, so that a document takes no start. What has a
-    line end within, and what asks for rows, has a process of its own still."""
+    """The same with one process for each command, which answers line by line, so that a document takes no start; it has one
+    status for all, so those lines have none. What has a line end within, and what asks for rows, has a process of its own still."""
 
     def __init__(self, path):
         super().__init__(path)
@@ -98,8 +107,7 @@ class LineProgram(Program):
         process.stdin.write(text + b"\n")
         process.stdin.flush()
         output = process.stdout.readline()
-        # (the process has one status for all its lines, so that of a single run is taken from the answer)
-        return status_of(json.loads(output)), output, os.pread(self.ends[2], os.fstat(self.ends[2]).st_size, 0)
+        return None, output, os.pread(self.ends[2], os.fstat(self.ends[2]).st_size, 0)
 
 
 @functools.lru_cache(maxsize=10_000)
@@ -135,15 +143,15 @@ def hold_triple(document, fault, tested):
         want(tested["answer"] == "fault", "a network that is accepted", fault, tested)
 
 
-def hold_claim(program, document, answer):
+def hold_claim(ask, document, answer):
     """An answer that can be a claim is valid, and isn't with another number."""
     if answer["answer"] not in CLAIMS:
         return
-    said = program.ask("replay", document, claim=answer)
+    said = ask("replay", document, claim=answer)
     want(said == {"answer": "valid"}, "no valid claim", answer, said)
     member = NUMBERS.get(answer["answer"])
     if member and answer[member] is not None:
-        said = program.ask("replay", document, claim={**answer, member: answer[member] - 1})
+        said = ask("replay", document, claim={**answer, member: answer[member] - 1})
         wanted = {"answer": "invalid", "reason": member, member: answer[member]}
         want({**said, **wanted} == said, "a wrong claim", answer, said)
 
@@ -166,7 +174,7 @@ def hold_test(program, document):
     said = program.ask("test", document)
     if said["answer"] == "fault":
         return said
-    hold_claim(program, document, said)
+    hold_claim(program.ask, document, said)
     if len(document["trades"]) > MOST_TRADES:
         return said
     network, failed = Network(document), None
@@ -191,7 +199,7 @@ def hold_support(program, document, network, on):
     want(said["answer"] == kind, "the verdict of support", said, kind)
     if kind == "prices":
         want(network.verdict(on, dict(said["prices"]))["answer"] == "equilibrium", "supporting prices", said)
-    hold_claim(program, {**document, "arrangement": {"on": network.listed(on)}}, said)
+    hold_claim(program.ask, {**document, "arrangement": {"on": network.listed(on)}}, said)
 
 
 def hold_range(program, document, network, draw):
@@ -244,7 +252,7 @@ def hold_judge(program, document, network):
     else:
         want(said["answer"] == "blocks", "the verdict of judge", said)
         hold_blocks(network, over, signed, said)
-    hold_claim(program, document, said)
+    hold_claim(program.ask, document, said)
 
 
 def hold_blocks(network, over, signed, said):
@@ -296,19 +304,19 @@ def hold_all(program, document, draw):
         hold_triple(document, solved, tested)
         return
     want(tested["answer"] == "accepted", "a network that isn't accepted", tested)
-    hold_claim(program, document, solved)
+    hold_claim(program.ask, document, solved)
     add_parts(draw, document, solved["on"], dict(solved["prices"]))
     if draw.random() < 0.1:
         hold_rows(program, document)
     if len(document["trades"]) > MOST_TRADES:
         for words in ("check", "support", "judge", "session", "range"):
-            hold_claim(program, document, program.ask(words, document))  # (too many sets to try them all)
+            hold_claim(program.ask, document, program.ask(words, document))  # (too many sets to try them all)
         return
     network = Network(document)
     wanted = {"answer": "equilibrium", "surplus": network.greatest(network.all)}
     hold_check(program, document, network, network.set_of(solved["on"]), dict(solved["prices"]), **wanted)
     on, prices = network.set_of(document["arrangement"]["on"]), dict(document["arrangement"]["prices"])
-    hold_claim(program, document, hold_check(program, document, network, on, prices))
+    hold_claim(program.ask, document, hold_check(program, document, network, on, prices))
     hold_support(program, document, network, on)
     hold_judge(program, document, network)
     hold_session(program, document, network)
@@ -316,7 +324,7 @@ def hold_all(program, document, draw):
 
 
 def quick_check(program, document, on, prices):
-    return program.ask("check", document, arrangement={"on": on, "prices": [*map(list, prices.items())]})
+    return program.again("check", document, arrangement={"on": on, "prices": [*map(list, prices.items())]})
 
 
 def hold_state(program, document, states, draw):
@@ -351,7 +359,7 @@ def restricted(document, admitted):
 def hold_quickly(program, document, draw):
     """Asks one command of a document."""
     add_parts(draw, document, [], {})
-    words = draw.choice(("check", "test", "support", "solve", "solve --csv", "judge", "range", "session"))
+    words = draw.choice(("check", "test", "support", "solve", "judge", "range", "session") * 4 + ("solve --csv",))  # (rows take long)
     said = program.ask(words, document)
     if isinstance(said, str):
         rows = list(csv.reader(said.splitlines()))[1:]
@@ -364,7 +372,7 @@ def hold_quickly(program, document, draw):
     elif words == "range":
         hold_ends(said["ranges"], {"answer": "equilibrium"}, draw, lambda prices: quick_check(program, document, said["on"], prices))
     else:
-        hold_claim(program, document, said)
+        hold_claim(program.again, document, said)
         if words == "solve":
             found = quick_check(program, document, said["on"], dict(said["prices"]))
             want(found == {"answer": "equilibrium", "surplus": said["surplus"]}, "what is solved", said, found)
@@ -380,8 +388,7 @@ def hold_refusals(program, document, draw, commands=4):
     if draw.random() < 0.25 and is_drawn(document):
         at_limit(draw, document)
     else:
-        for _ in range(draw.randint(1, 3)):
-            change(draw, document, small=False)
+        change(draw, document, small=False)
     text = json.dumps(document, ensure_ascii=draw.random() < 0.5).encode()
     if draw.random() < 0.3:
         text = spoil(draw, text)

@@ -9,7 +9,8 @@ CLAIMS = ("equilibrium", "accepted", "prices", "solved", "completes", *NO[:-1])
 
 
 def number(draw):
-    return draw.choice([draw.randint(-3, 3), draw.randint(-9, 9), draw.randint(-9, 9), draw.randint(-99, 99)])
+    most = draw.choice((3, 9, 9, 99))
+    return draw.randint(-most, most)
 
 
 def concave(draw, least, most):
@@ -96,7 +97,7 @@ def draw_network(draw, version, firms, trades):
 
 def numbers_of(firm):
     """The lists and members of a firm that have its numbers, each with where one stands."""
-    return [(at, key) for at, key in slots(firm) if type(at[key]) is int and key != "from"]
+    return [(at, key) for at in holders(firm) for key in keys_of(at) if type(at[key]) is int and key != "from"]
 
 
 def enlarged(document, most):
@@ -118,7 +119,8 @@ def add_parts(draw, document, on, prices):
         return [name for name in names if (name in on) != (draw.random() < turned)]
 
     def near(name, scale, most):
-        price = scale * prices.get(name, 0) + draw.choice([0, 0, 0, 0, -1, 1, draw.randint(-9, 9)])
+        most = draw.choice((0, 0, 0, 0, 1, 1, 9))
+        price = scale * prices.get(name, 0) + (draw.randint(-most, most) if most else 0)
         return [name, max(-most, min(price, most))]
 
     document["arrangement"] = {"on": some(), "prices": [near(name, 1, PRICE) for name in names]}
@@ -146,21 +148,27 @@ def usable_after(document, edits):
     return {name for name in admitted if not ends[name] & away}
 
 
-def slots(value):
-    """The lists and objects of a document, each with an index or a key of it: where the values within it stand."""
-    found, rest = [], [value]
-    while rest:
-        holder = rest.pop()
-        for key in holder if isinstance(holder, dict) else range(len(holder)):
-            found.append((holder, key))
-            if isinstance(holder[key], (dict, list)):
-                rest.append(holder[key])
+def holders(value):
+    """The lists and objects of a document, itself among them."""
+    found = [value]
+    for holder in found:
+        found += [each for each in (holder.values() if type(holder) is dict else holder) if type(each) in (dict, list)]
     return found
 
 
+def keys_of(holder):
+    return holder if type(holder) is dict else range(len(holder))
+
+
 def change(draw, document, small):
-    """Changes one value: to one like it, or to one that has to be refused."""
-    at, key = draw.choice(slots(document))
+    """Changes one to three values, each as likely as any other: to one like it, or to one that has to be refused."""
+    found = holders(document)
+    for _ in range(draw.randint(1, 3)):
+        at = draw.choices(found, [*map(len, found)])[0]
+        change_at(draw, document, at, draw.choice([*keys_of(at)]), small)
+
+
+def change_at(draw, document, at, key, small):
     old = at[key]
     if small and type(old) is int:
         limits = limits_of(document)
@@ -241,8 +249,7 @@ def make(draw, examples):
     if turn == 0 and draw.random() < 0.06:
         document = draw_large(draw)
     if turn:
-        for _ in range(draw.randint(1, 3)):
-            change(draw, document, small=True)
+        change(draw, document, small=True)
     if turn == 2:
         add_parts(draw, document, [], {})
         document["claim"] = {"answer": draw.choice((*CLAIMS, "none")), "firm": "S", draw.choice(["on", "prices", "over", "gain"]): []}

@@ -1,4 +1,5 @@
 """The first fault of a document, by the words of docs/FORMAT.md alone: `first_fault`. Nothing here looks at the program."""
+import functools
 import json
 import re
 
@@ -15,19 +16,30 @@ CLAIM_MEMBERS = dict(  # in the order in which they are read
     exchange_fails="firm at x y", none="over plan")
 RAW_CLAIMS = ("accepted", "exchange_fails", "none")
 STRING = re.compile(r'"(?:[^"\\]|\\.)*"')
+NAME = re.compile("[A-Za-z0-9_.-]{1,32}")
+
+
+# A place is the way from the top: TOP, or the place of what holds it with a key or an index there. (A list for each value
+# that is read would take a third of the time; most are never shown.)
+TOP = ()
+
+
+def way(place):
+    """A place as an answer shows it."""
+    return [*way(place[0]), place[1]] if place else []
 
 
 class Fault(Exception):
     """A fault, its place, and what it shows."""
 
     def __init__(self, number, place, **shown):
-        self.answer = dict(answer="fault", fault=number, name=NAMES[number - 1], place=list(place), **shown)
+        self.answer = dict(answer="fault", fault=number, name=NAMES[number - 1], place=way(place), **shown)
 
 
 def first_fault(words, text, triple_of):
     """What a command answers where the bytes have a fault, and otherwise None.
 
-    `triple_of(firm, place, own, buys)` gives the triple at which a table fails exchange, as `x`, `y` and `at`, or None.
+    `triple_of(firm, place, own, buys)`, with the place as an answer shows it, gives the triple at which a table fails exchange, as `x`, `y` and `at`, or None.
     """
     try:
         Reader(words, value_of(text), triple_of).read()
@@ -65,7 +77,7 @@ def depth_of(text):
 
 def value_of(text):
     if len(text) > 4_194_304:
-        raise Fault(TOO_LONG, [])
+        raise Fault(TOO_LONG, TOP)
     try:
         text = text.decode()
         value = json.loads(text, parse_int=int_of, parse_float=float_of, parse_constant=no_constant)
@@ -74,7 +86,7 @@ def value_of(text):
         if text.count("[") + text.count("{") > 127 and depth_of(text) > 127:
             raise ValueError("too deep")
     except (ValueError, RecursionError):
-        raise Fault(NOT_JSON, []) from None
+        raise Fault(NOT_JSON, TOP) from None
     return value
 
 
@@ -89,31 +101,36 @@ def is_whole(value):
     return type(value) is int and -2 ** 63 <= value < 2 ** 63
 
 
+@functools.cache
+def words_of(members):
+    return frozenset(members.split())
+
+
 class Reader:
-    """The reading of a document for a command, step by step; a place is the way from the top."""
+    """The reading of a document for a command, step by step."""
 
     def __init__(self, words, top, triple_of):
         self.command, self.top, self.triple_of = words.split()[0], top, triple_of
-        self.firms, self.trades = [], {}  # names of firms; trades by their names
+        self.firms, self.trades = {}, {}  # by their names: what each firm buys and sells; trades
 
     # -- parts that stand in several places
 
     def object(self, value, place, members):
-        want(isinstance(value, dict) and all(member in members.split() for member in value), SHAPE, place)
+        want(isinstance(value, dict) and value.keys() <= words_of(members), SHAPE, place)
 
     def member(self, value, place, name):
-        want(name in value, SHAPE, [*place, name])
-        return value[name], [*place, name]
+        want(name in value, SHAPE, (place, name))
+        return value[name], (place, name)
 
     def list(self, value, place, most=None, length=None):
         want(isinstance(value, list) and length in (None, len(value)), SHAPE, place)
         want(most is None or len(value) <= most, LIMIT, place)
-        return [(item, [*place, k]) for k, item in enumerate(value)]
+        return [(item, (place, k)) for k, item in enumerate(value)]
 
     def name(self, value, place, taken):
         name, place = self.member(value, place, "name")
         want(isinstance(name, str), SHAPE, place)
-        want(re.fullmatch("[A-Za-z0-9_.-]{1,32}", name), BAD_NAME, place)
+        want(NAME.fullmatch(name), BAD_NAME, place)
         want(name not in taken, SAME_NAME, place)
         return name
 
@@ -149,7 +166,7 @@ class Reader:
     def all_prices(self, value, place, size):
         priced = self.entries(value, place, size)
         for trade in self.trades:
-            want(trade in priced, PRICE_MISSING, [*place, trade])
+            want(trade in priced, PRICE_MISSING, (place, trade))
 
     def over(self, value, place, most):
         want(is_whole(value), SHAPE, place)
@@ -162,7 +179,7 @@ class Reader:
         self.ends()
         raw = self.command == "test" or self.command == "replay" and self.is_raw_claim()
         for k, firm in enumerate(self.top["firms"]):
-            self.firm(firm, ["firms", k], raw)
+            self.firm(firm, ((TOP, "firms"), k), raw)
         if self.command in ("check", "support"):
             self.arrangement(self.command == "check")
         elif self.command == "judge":
@@ -177,16 +194,16 @@ class Reader:
         return isinstance(claim, dict) and claim.get("answer") in [*RAW_CLAIMS] and isinstance(claim["answer"], str)
 
     def head(self):
-        self.object(self.top, [], "version firms trades arrangement outcome claim edits note")
-        version, place = self.member(self.top, [], "version")
+        self.object(self.top, TOP, "version firms trades arrangement outcome claim edits note")
+        version, place = self.member(self.top, TOP, "version")
         want(is_whole(version) and version in LIMITS, SHAPE, place)
         self.limits = LIMITS[version]
-        for firm, at in self.list(*self.member(self.top, [], "firms"), self.limits.most):
+        for firm, at in self.list(*self.member(self.top, TOP, "firms"), self.limits.most):
             want(isinstance(firm, dict), SHAPE, at)
-            self.firms.append(self.name(firm, at, self.firms))
+            self.firms[self.name(firm, at, self.firms)] = [], []
 
     def ends(self):
-        for trade, at in self.list(*self.member(self.top, [], "trades"), self.limits.most):
+        for trade, at in self.list(*self.member(self.top, TOP, "trades"), self.limits.most):
             self.object(trade, at, "name seller buyer note")
             name = self.name(trade, at, self.trades)
             for end in ("seller", "buyer"):
@@ -194,21 +211,21 @@ class Reader:
                 self.known_firm(firm, place)
             want(trade["seller"] != trade["buyer"], SELF_TRADE, at)
             self.trades[name] = trade
-
-    def own(self, firm):
-        return [[name for name, trade in self.trades.items() if trade[end] == firm] for end in ("buyer", "seller")]
+            for firm, own in ((trade["buyer"], 0), (trade["seller"], 1)):
+                self.firms[firm][own].append(name)
 
     def firm(self, firm, place, raw):
         kind, at = self.member(firm, place, "kind")
         want(isinstance(kind, str) and kind in MEMBERS, SHAPE, at)
         self.object(firm, place, "name kind note " + MEMBERS[kind])
-        buys, sells = self.own(firm["name"])
+        buys, sells = self.firms[firm["name"]]
         want(len(buys) + len(sells) <= (OWN_OF_TABLE if kind == "table" else self.limits.own), LIMIT, place)
         getattr(self, kind)(firm, place, buys, sells)
-        own = [name for name in self.trades if name in buys + sells]  # in the order of the document
-        shown = kind == "table" and not raw and self.triple_of(firm, place, own, buys)
-        if shown:
-            raise Fault(EXCHANGE_FAILS, place, **shown)
+        if kind == "table" and not raw:
+            own = [name for name in self.trades if name in buys or name in sells]  # in the order of the document
+            shown = self.triple_of(firm, way(place), own, buys)
+            if shown:
+                raise Fault(EXCHANGE_FAILS, place, **shown)
 
     def table(self, firm, place, buys, sells):
         rows, rows_at = self.member(firm, place, "rows")
@@ -224,9 +241,9 @@ class Reader:
 
     def laminar(self, firm, place, buys, sells):
         own = buys + sells
-        self.entries(firm.get("amounts", []), [*place, "amounts"], self.limits.amount, own)
+        self.entries(firm.get("amounts", []), (place, "amounts"), self.limits.amount, own)
         sets = []
-        for part, at in self.list(firm.get("sets", []), [*place, "sets"], SETS):
+        for part, at in self.list(firm.get("sets", []), (place, "sets"), SETS):
             self.object(part, at, "trades from values")
             sets.append((set(self.references(*self.member(part, at, "trades"), own)), part, at))
             least, least_at = self.member(part, at, "from")
@@ -238,19 +255,19 @@ class Reader:
             values = part["values"]
             want(0 <= -part["from"] < len(values), NO_EMPTY, at)
             for i in range(1, len(values) - 1):
-                want(2 * values[i] >= values[i - 1] + values[i + 1], NOT_CONCAVE, [*at, "values", i])
+                want(2 * values[i] >= values[i - 1] + values[i + 1], NOT_CONCAVE, ((at, "values"), i))
             for earlier, _, _ in sets[:k]:
                 want(not trades & earlier or trades <= earlier or earlier <= trades, NOT_LAMINAR, at)
 
     def middleman(self, firm, place, buys, sells):
-        self.entries(firm.get("costs", []), [*place, "costs"], self.limits.amount, buys)
-        self.entries(firm.get("gains", []), [*place, "gains"], self.limits.amount, sells)
+        self.entries(firm.get("costs", []), (place, "costs"), self.limits.amount, buys)
+        self.entries(firm.get("gains", []), (place, "gains"), self.limits.amount, sells)
         if firm.get("keep") is not None:
-            self.number(firm["keep"], [*place, "keep"], self.limits.amount)
+            self.number(firm["keep"], (place, "keep"), self.limits.amount)
 
     def dealer(self, firm, place, buys, sells):
         listed = []
-        for pair, at in self.list(firm.get("pairs", []), [*place, "pairs"]):
+        for pair, at in self.list(firm.get("pairs", []), (place, "pairs")):
             (buy, buy_at), (sell, sell_at), (cost, cost_at) = self.list(pair, at, length=3)
             self.reference(buy, buy_at, buys)
             self.reference(sell, sell_at, sells)
@@ -259,20 +276,20 @@ class Reader:
             listed.append((buy, sell))
 
     def arrangement(self, with_prices):
-        value, place = self.member(self.top, [], "arrangement")
+        value, place = self.member(self.top, TOP, "arrangement")
         self.object(value, place, "on prices")
         self.references(*self.member(value, place, "on"))
         if with_prices:
             self.all_prices(*self.member(value, place, "prices"), PRICE)
 
     def outcome(self):
-        value, place = self.member(self.top, [], "outcome")
+        value, place = self.member(self.top, TOP, "outcome")
         self.object(value, place, "over contracts")
         self.over(*self.member(value, place, "over"), OVER)
         self.entries(*self.member(value, place, "contracts"), NUMERATOR)
 
     def edits(self):
-        for edit, at in self.list(*self.member(self.top, [], "edits"), self.limits.edits):
+        for edit, at in self.list(*self.member(self.top, TOP, "edits"), self.limits.edits):
             (word, word_at), (name, name_at) = self.list(edit, at, length=2)
             want(isinstance(word, str) and word in ("admit", "bar", "leave", "join"), SHAPE, word_at)
             if word in ("leave", "join"):
@@ -281,7 +298,7 @@ class Reader:
                 self.reference(name, name_at)
 
     def claim(self):
-        claim, place = self.member(self.top, [], "claim")
+        claim, place = self.member(self.top, TOP, "claim")
         want(isinstance(claim, dict), SHAPE, place)
         answer, at = self.member(claim, place, "answer")
         want(isinstance(answer, str) and answer in CLAIM_MEMBERS, SHAPE, at)
@@ -299,10 +316,10 @@ class Reader:
         if name == "firm":
             self.known_firm(value, place)
         elif name in ("bundle", "keeps", "x", "y"):
-            self.references(value, place, sum(self.own(claim["firm"]), []))
+            self.references(value, place, sum(self.firms[claim["firm"]], []))
         elif name == "at":
             if value is not None:
-                self.reference(value, place, sum(self.own(claim["firm"]), []))
+                self.reference(value, place, sum(self.firms[claim["firm"]], []))
         elif name == "on":
             self.references(value, place)
         elif name == "prices":
@@ -326,6 +343,6 @@ class Reader:
     def part(self, part, place):
         (firm, firm_at), (trades, trades_at), (weight, weight_at) = self.list(part, place, length=3)
         self.known_firm(firm, firm_at)
-        self.references(trades, trades_at, sum(self.own(firm), []))
+        self.references(trades, trades_at, sum(self.firms[firm], []))
         want(is_whole(weight), SHAPE, weight_at)
         want(1 <= weight <= self.limits.claimed_over, AMOUNT_RANGE, weight_at)
