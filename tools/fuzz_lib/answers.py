@@ -13,12 +13,14 @@ from fuzz_lib.faults import first_fault
 from fuzz_lib.network import Network, first_triple, payments, takes_all
 
 HOME = pathlib.Path(__file__).resolve().parent.parent.parent
-COMMANDS = ("check", "test", "support", "solve", "solve --csv", "judge", "range", "session", "replay")
+ASKED = ("check", "firms", "test", "support", "solve", "judge", "range", "session")
 STATUS = dict(fault=1, usage=2, read_fault=3, no_memory=5, **{answer: 6 for answer in NO})  # and 0 for all others
 # the head of what a layout writes
 LAYOUTS = {"solve --csv": "trade,on,price", "solve --csv=wide": "trade,seller,buyer,on,price",
            "support --csv": "trade,seller,buyer,on,price", "range --csv": "trade,seller,buyer,on,low,high",
            "firms --csv": "firm,content,worth,utility,best_utility,gain,has,best"}
+COMMANDS = (*ASKED, "replay", *LAYOUTS)
+MORE_ASKED = 6  # how many times as often as for rows, which take a process of their own
 NUMBERS = dict(equilibrium="surplus", better="gain", cycle="cost", solved="surplus", drops="gain")
 MOST_TRADES = 9  # of networks of which all sets are tried
 MOST_BUNDLES = 24  # of tables of which all triples are tried
@@ -285,15 +287,37 @@ def field_of(value):
     return "" if value is None else str(int(value)) if isinstance(value, bool) else str(value)
 
 
-def hold_rows(program, document):
-    """In each layout the same is said as in the object."""
-    for words, head in LAYOUTS.items():
-        answer, said = (program.ask(asked, document) for asked in (words.split()[0], words))
-        if answer["answer"] in ("solved", "prices", "ranges", "firms"):
-            rows = [[field_of(entry[column]) for column in head.split(",")] for entry in entries_of(document, answer)]
-            want(isinstance(said, str) and list(csv.reader(said.splitlines()))[1:] == rows, "rows", words, said, answer)
-        else:
-            want(said == answer, "no rows", words, said, answer)
+def hold_rows(ask, document, words, said):
+    """In a layout the same is said as in the object."""
+    answer = ask(words.split()[0], document)
+    if answer["answer"] in ("solved", "prices", "ranges", "firms"):
+        columns = LAYOUTS[words].split(",")
+        rows = [[field_of(entry[column]) for column in columns] for entry in entries_of(document, answer)]
+        want(isinstance(said, str) and list(csv.reader(said.splitlines()))[1:] == rows, "rows", words, said, answer)
+    else:
+        want(said == answer, "no rows", words, said, answer)
+
+
+def hold_firms(ask, document, said):
+    """`check` names the first firm that isn't content, and says what it would gain, or that there is none; or a table fails."""
+    first = next((firm for firm in said["firms"] if firm["gain"] != 0), None)
+    if first is None:
+        wanted = {"answer": "equilibrium", "surplus": said["surplus"]}
+    else:
+        wanted = {"answer": "impossible"} if first["gain"] is None else {"answer": "better", "gain": first["gain"]}
+        wanted["firm"] = first["firm"]
+    checked = ask("check", document)
+    want({**checked, **wanted} == checked or checked.get("name") == "ExchangeFails", "the first that isn't content", said, checked)
+    want(said["content"] == sum(firm["gain"] == 0 for firm in said["firms"]), "how many are content", said)
+
+
+def hold_utilities(network, on, prices, said):
+    """Each firm has the utility of its bundle, and the best one is that of the best of all its bundles."""
+    for own, bought, worths, firm in zip(network.own, network.bought, network.worths, said["firms"]):
+        paid = payments(own, bought, [prices[name] for name in network.names])
+        utility = {x: worth + paid[x] for x, worth in worths.items()}
+        best = utility[network.set_of(firm["best"])]
+        want(firm["utility"] == utility.get(on & own) and max(utility.values()) == firm["best_utility"] == best, "utilities", firm)
 
 
 def hold_all(program, document, draw):
@@ -307,7 +331,10 @@ def hold_all(program, document, draw):
     hold_claim(program.ask, document, solved)
     add_parts(draw, document, solved["on"], dict(solved["prices"]))
     if draw.random() < 0.1:
-        hold_rows(program, document)
+        for words in LAYOUTS:
+            hold_rows(program.ask, document, words, program.ask(words, document))
+    has = program.ask("firms", document)
+    hold_firms(program.ask, document, has)
     if len(document["trades"]) > MOST_TRADES:
         for words in ("check", "support", "judge", "session", "range"):
             hold_claim(program.ask, document, program.ask(words, document))  # (too many sets to try them all)
@@ -317,6 +344,7 @@ def hold_all(program, document, draw):
     hold_check(program, document, network, network.set_of(solved["on"]), dict(solved["prices"]), **wanted)
     on, prices = network.set_of(document["arrangement"]["on"]), dict(document["arrangement"]["prices"])
     hold_claim(program.ask, document, hold_check(program, document, network, on, prices))
+    hold_utilities(network, on, prices, has)
     hold_support(program, document, network, on)
     hold_judge(program, document, network)
     hold_session(program, document, network)
@@ -359,14 +387,14 @@ def restricted(document, admitted):
 def hold_quickly(program, document, draw):
     """Asks one command of a document."""
     add_parts(draw, document, [], {})
-    words = draw.choice(("check", "test", "support", "solve", "judge", "range", "session") * 4 + ("solve --csv",))  # (rows take long)
+    words = draw.choice(ASKED * MORE_ASKED + (*LAYOUTS,))
     said = program.ask(words, document)
-    if isinstance(said, str):
-        rows = list(csv.reader(said.splitlines()))[1:]
-        on, prices = [name for name, is_on, _ in rows if is_on == "1"], {name: int(price) for name, _, price in rows}
-        want(quick_check(program, document, on, prices)["answer"] == "equilibrium", "rows", said)
+    if words in LAYOUTS:
+        hold_rows(program.again, document, words, said)
     elif said["answer"] == "fault":
         return
+    elif words == "firms":
+        hold_firms(program.again, document, said)
     elif words == "session":
         hold_state(program, document, said["edits"], draw)
     elif words == "range":
@@ -392,7 +420,7 @@ def hold_refusals(program, document, draw, commands=4):
     text = json.dumps(document, ensure_ascii=draw.random() < 0.5).encode()
     if draw.random() < 0.3:
         text = spoil(draw, text)
-    for words in draw.sample(COMMANDS, commands):
+    for words in draw.sample((*ASKED, "replay") * MORE_ASKED + (*LAYOUTS,), commands):
         program.run(words, text)
 
 

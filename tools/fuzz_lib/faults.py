@@ -177,11 +177,11 @@ class Reader:
     def read(self):
         self.head()
         self.ends()
-        raw = self.command == "test" or self.command == "replay" and self.is_raw_claim()
+        raw = self.command in ("test", "firms") or self.command == "replay" and self.is_raw_claim()
         for k, firm in enumerate(self.top["firms"]):
             self.firm(firm, ((TOP, "firms"), k), raw)
-        if self.command in ("check", "support"):
-            self.arrangement(self.command == "check")
+        if self.command in ("check", "firms", "support"):
+            self.arrangement(self.command != "support")
         elif self.command == "judge":
             self.outcome()
         elif self.command == "session":
