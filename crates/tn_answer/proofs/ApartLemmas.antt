@@ -1,5 +1,5 @@
 -- Answers over the same names whose data are equal are written alike.
-use Rattle.std.proofs.Common.{◌≡◌, ℕ, suc, ℤ, pos, negsuc, ◌+◌, ◌*◌, List, [], ◌∷◌, slice_get, get_or, Option, None, Some, is_some, true≢false, option_and_then, unwrap_or, find, All, IfSome, codes, bytes_eq, refl, sym, ap, ◌∙◌, subst, ◌++◌, arith}
+use Rattle.std.proofs.Common.{◌≡◌, ◌==◌, false, ℕ, suc, ℤ, pos, negsuc, ◌+◌, ◌*◌, List, [], ◌∷◌, slice_get, get_or, Option, None, Some, is_some, true≢false, option_and_then, unwrap_or, find, All, IfSome, codes, bytes_eq, refl, sym, ap, ◌∙◌, subst, ◌++◌, arith}
 use Rattle.std.proofs.lemmas.List.Elements.{All-head, All-tail}
 use Rattle.std.proofs.lemmas.Option.{same_Some, slice_get-get_or, unwrap_or-slice_get}
 use Rattle.std.specs.List.{AllZip}
@@ -398,6 +398,11 @@ module _ (names : NameLists) (firms : IsNameList names.firms) (trades : IsNameLi
   same_reason_mark first second e =
       ap mark (sym (reason_says names first) ∙ ap (λ d. text_in (part (codes "reason") d)) e ∙ reason_says names second)
 
+  reason_differs : (first second : Reason) → (mark (reason_text first) == mark (reason_text second)) ≡ false
+      → invalid names first ≡ invalid names second → ⊥
+  reason_differs first second other e =
+      clash (mark (reason_text first)) (mark (reason_text second)) other (same_reason_mark first second e)
+
   same_firm : (firm other : ℕ) → IsNamed names.firms firm → IsNamed names.firms other → (first second : Reason)
       → invalid names first ≡ invalid names second
       → part (codes "firm") (invalid names first) ≡ name_data names.firms firm
@@ -458,7 +463,7 @@ module _ (names : NameLists) (firms : IsNameList names.firms) (trades : IsNameLi
       let surplus_is = same_integer surplus surplus' (ap (part (codes "surplus")) e) in
       λ i. Whole (on_is i) (surplus_is i)
   same_reason first second h k e =
-      absurd (clash (mark (reason_text first)) (mark (reason_text second)) refl (same_reason_mark first second e))
+      absurd (reason_differs first second refl e)
 
 -- what firms have
 module _ (names : NameLists) (trades : IsNameList names.trades) where
@@ -499,6 +504,11 @@ module _ (names : NameLists) (firms : IsNameList names.firms) (trades : IsNameLi
       → mark (answer_text first) ≡ mark (answer_text second)
   same_mark first second e =
       ap mark (sym (answer_says names first) ∙ ap (λ d. text_in (part (codes "answer") d)) e ∙ answer_says names second)
+
+  differs : (first second : Said) → (mark (answer_text first) == mark (answer_text second)) ≡ false
+      → answer_data names first ≡ answer_data names second → ⊥
+  differs first second other e =
+      clash (mark (answer_text first)) (mark (answer_text second)) other (same_mark first second e)
 
   -- of pages the text is told, of others the data
   same_object : (first second : Said) → IsNamedAnswer names first → IsNamedAnswer names second → HasShortNumbers first
@@ -582,7 +592,7 @@ module _ (names : NameLists) (firms : IsNameList names.firms) (trades : IsNameLi
   same_object (PageIs VersionPage) (PageIs Help) h k short short' line e =
       absurd (clash 50 102 refl (ap eighth_byte line))
   same_object first second h k short short' line e =
-      absurd (clash (mark (answer_text first)) (mark (answer_text second)) refl (same_mark first second e))
+      absurd (differs first second refl e)
 
 -- ---- forms
 
@@ -641,7 +651,40 @@ module _ (names : NameLists) (firms : IsNameList names.firms) (trades : IsNameLi
   abbrev byte : ℕ → List ℕ → ℕ
   byte k text = get_or text k 0
 
-  -- heads of different tables differ in a byte, and rows begin with another byte than other answers
+  -- rows begin with another byte than other answers
+  no_rows : (l : Form) (text : List ℕ) (first : ℕ) → (first == 123) ≡ false → (first == 109) ≡ false
+      → form_text l ≡ text → first_byte (form_text l) ≡ beginning l → byte 0 text ≡ first → ⊥
+  no_rows (json value) text first brace letter e at is =
+      clash first 123 brace (sym is ∙ ap (byte 0) (sym e) ∙ at)
+  no_rows (lines texts) text first brace letter e at is =
+      clash first 109 letter (sym is ∙ ap (byte 0) (sym e) ∙ at)
+
+  -- an answer without rows beside any other
+  same_beside_rows : (first second : Said) → IsNamedAnswer names first → IsNamedAnswer names second
+      → HasShortNumbers first → HasShortNumbers second
+      → form_text (answer_form names first) ≡ text_of (table_of names second AsRows) (answer_form names second)
+      → IsSameObject names first second
+  unfolding fields_text
+  same_beside_rows first (Supported on prices ends) h k short short' e =
+      absurd (no_rows (answer_form names first) _ 116 refl refl e (begins names first) refl)
+  same_beside_rows first (Solved on prices surplus ends) h k short short' e =
+      absurd (no_rows (answer_form names first) _ 116 refl refl e (begins names first) refl)
+  same_beside_rows first (Ranges on ranges ends) h k short short' e =
+      absurd (no_rows (answer_form names first) _ 116 refl refl e (begins names first) refl)
+  same_beside_rows first (FirmsIs content holdings surplus) h k short short' e =
+      absurd (no_rows (answer_form names first) _ 102 refl refl e (begins names first) refl)
+  same_beside_rows first second h k short short' e = told_apart first second h k short short' e
+
+  same_beside_wide_rows : (first second : Said) → IsNamedAnswer names first → IsNamedAnswer names second
+      → HasShortNumbers first → HasShortNumbers second
+      → form_text (answer_form names first) ≡ text_of (table_of names second AsWideRows) (answer_form names second)
+      → IsSameObject names first second
+  unfolding fields_text
+  same_beside_wide_rows first (Solved on prices surplus ends) h k short short' e =
+      absurd (no_rows (answer_form names first) _ 116 refl refl e (begins names first) refl)
+  same_beside_wide_rows first second h k short short' e = told_apart first second h k short short' e
+
+  -- heads of different tables differ in a byte
   same_in_rows : (first second : Said) → IsNamedAnswer names first → IsNamedAnswer names second → HasShortNumbers first
       → HasShortNumbers second
       → text_of (table_of names first AsRows) (answer_form names first)
@@ -687,15 +730,7 @@ module _ (names : NameLists) (firms : IsNameList names.firms) (trades : IsNameLi
       absurd (clash 116 (start second) refl (ap (byte 0) e ∙ begins names second))
   same_in_rows (FirmsIs content holdings surplus) second h k short short' e =
       absurd (clash 102 (start second) refl (ap (byte 0) e ∙ begins names second))
-  same_in_rows first (Supported on prices ends) h k short short' e =
-      absurd (clash 116 (start first) refl (ap (byte 0) (sym e) ∙ begins names first))
-  same_in_rows first (Solved on prices surplus ends) h k short short' e =
-      absurd (clash 116 (start first) refl (ap (byte 0) (sym e) ∙ begins names first))
-  same_in_rows first (Ranges on ranges ends) h k short short' e =
-      absurd (clash 116 (start first) refl (ap (byte 0) (sym e) ∙ begins names first))
-  same_in_rows first (FirmsIs content holdings surplus) h k short short' e =
-      absurd (clash 102 (start first) refl (ap (byte 0) (sym e) ∙ begins names first))
-  same_in_rows first second h k short short' e = told_apart first second h k short short' e
+  same_in_rows first second h k short short' e = same_beside_rows first second h k short short' e
 
   same_in_wide_rows : (first second : Said) → IsNamedAnswer names first → IsNamedAnswer names second
       → HasShortNumbers first → HasShortNumbers second
@@ -705,9 +740,7 @@ module _ (names : NameLists) (firms : IsNameList names.firms) (trades : IsNameLi
       same_deals names firms trades on prices ends on' prices' ends' h.0 k.0 h.1 k.1 h.2 k.2 short.0 short'.0 e
   same_in_wide_rows (Solved on prices surplus ends) second h k short short' e =
       absurd (clash 116 (start second) refl (ap (byte 0) e ∙ begins names second))
-  same_in_wide_rows first (Solved on prices surplus ends) h k short short' e =
-      absurd (clash 116 (start first) refl (ap (byte 0) (sym e) ∙ begins names first))
-  same_in_wide_rows first second h k short short' e = told_apart first second h k short short' e
+  same_in_wide_rows first second h k short short' e = same_beside_wide_rows first second h k short short' e
 
 pub answers_told_apart : AnswersAreToldApart
 unfolding answer_line

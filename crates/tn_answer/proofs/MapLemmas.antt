@@ -1,8 +1,8 @@
--- A list that is filled place by place with what a function gives for each item of another.
-use Rattle.std.proofs.Common.{◌≡◌, ℕ, zero, suc, ◌+◌, ◌≤◌, List, [], ◌∷◌, ◌++◌, map, take, length, slice_get, Some, sym, ap, ◌∙◌, arith, add-one}
+-- A list that is filled place by place.
+use Rattle.std.proofs.Common.{◌≡◌, ℕ, zero, suc, ◌+◌, ◌≤◌, List, [], ◌∷◌, ◌++◌, map, take, length, slice_get, Some, option_map, sym, ap, ◌∙◌, arith, add-one}
 use Rattle.std.proofs.lemmas.Grind.{common_steps}
 use Rattle.std.proofs.lemmas.List.{map-append}
-use Rattle.std.proofs.lemmas.Option.{none-some, same_Some}
+use Rattle.std.proofs.lemmas.Option.{none-some, same_Some, slice_get-map}
 
 module _ {B : Type 0} where
   pub take-suc-at : (xs : List B) (k : ℕ) (x : B) → slice_get xs k ≡ Some x → take (suc k) xs ≡ take k xs ++ x ∷ []
@@ -13,13 +13,17 @@ module _ {B : Type 0} where
   pub take-whole : (xs : List B) (k : ℕ) → length xs ≤ k → take k xs ≡ xs
   take-whole xs k h = grind (arith, common_steps)
 
-module _ {A B C : Type 0} (v : A → C) (f : B → C) (done : List A) (xs : List B) (k : ℕ) (so_far : map v done
-    ≡ map f (take k xs)) where
-  pub map-push : (next : A) (x : B) → slice_get xs k ≡ Some x → v next ≡ f x
-      → map v (done ++ next ∷ []) ≡ map f (take (k + 1) xs)
-  map-push next x at same =
-      map-append v done (next ∷ []) ∙ (λ j. so_far j ++ same j ∷ []) ∙ sym (map-append f (take k xs) (x ∷ []))
-      ∙ ap (map f) (sym (take-suc-at xs k x at)) ∙ ap (λ n. map f (take n xs)) (sym (add-one k))
+  pub taken-whole : (done all : List B) (k : ℕ) → done ≡ take k all → length all ≤ k → done ≡ all
+  taken-whole done all k so_far h = so_far ∙ take-whole all k h
 
-  pub map-whole : length xs ≤ k → map v done ≡ map f xs
-  map-whole h = so_far ∙ ap (map f) (take-whole xs k h)
+module _ {A B : Type 0} where
+  pub map-there : (f : A → B) (xs : List A) (k : ℕ) (x : A) (y : B) → slice_get xs k ≡ Some x → y ≡ f x
+      → slice_get (map f xs) k ≡ Some y
+  map-there f xs k x y at same = slice_get-map f xs k ∙ ap (option_map f) at ∙ ap Some (sym same)
+
+  -- the first items, with one more
+  pub take-push : (v : A → B) (done : List A) (all : List B) (k : ℕ) → map v done ≡ take k all → (next : A)
+      → slice_get all k ≡ Some (v next) → map v (done ++ next ∷ []) ≡ take (k + 1) all
+  take-push v done all k so_far next at =
+      map-append v done (next ∷ []) ∙ ap (λ vs. vs ++ v next ∷ []) so_far ∙ sym (take-suc-at all k (v next) at)
+      ∙ ap (λ n. take n all) (sym (add-one k))

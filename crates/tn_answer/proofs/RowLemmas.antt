@@ -16,7 +16,6 @@ use Rattle.std.proofs.lemmas.List.Folds.{list_any-append}
 use Rattle.std.proofs.lemmas.Map.Keys.{any_passes_from_place}
 use Rattle.tn_answer.proofs.DataTexts.{clash, first_of_decimal}
 use Rattle.std.proofs.lemmas.Grind.{flat_map-append}
-use Rattle.tn_answer.proofs.EachLemmas.{each-more, each-whole}
 use Rattle.tn_answer.proofs.MapLemmas.{take-suc-at, take-whole}
 
 -- ---- fields
@@ -176,16 +175,13 @@ module _ (ks : List ℕ) (k at : ℕ) where
 
 -- ---- rows that are written one after another
 
-module _ {A : Type 0} (head : List (List ℕ)) (row : ℕ → A → List (List ℕ)) (xs : List A) (k : ℕ) where
-  pub rows-more : (x : A) (written : List (List ℕ)) → slice_get xs k ≡ Some x → written ≡ row k x
-      → rows_text (head ∷ take k (each_from row 0 xs)) ++ row_text default_writer written
-      ≡ rows_text (head ∷ take (k + 1) (each_from row 0 xs))
-  rows-more x written at same =
-      let done = take k (each_from row 0 xs) in
-      ap (λ r. rows_text (head ∷ done) ++ r) (ap (row_text default_writer) same
-      ∙ sym (append-nil (row_text default_writer (row k x))))
-      ∙ sym (flat_map-append (row_text default_writer) (head ∷ done) (row k x ∷ []))
-      ∙ ap (λ rows. rows_text (head ∷ rows)) (sym (each-more row xs k x at))
+module _ (head : List (List ℕ)) (all : List (List (List ℕ))) (k : ℕ) where
+  pub rows-more : (row : List (List ℕ)) → slice_get all k ≡ Some row
+      → rows_text (head ∷ take k all) ++ row_text default_writer row ≡ rows_text (head ∷ take (k + 1) all)
+  rows-more row at =
+      ap (λ r. rows_text (head ∷ take k all) ++ r) (sym (append-nil (row_text default_writer row)))
+      ∙ sym (flat_map-append (row_text default_writer) (head ∷ take k all) (row ∷ []))
+      ∙ ap (λ rows. rows_text (head ∷ rows)) (sym (take-suc-at all k row at) ∙ ap (λ n. take n all) (sym (add-one k)))
 
-  pub rows-whole : length xs ≤ k → rows_text (head ∷ take k (each_from row 0 xs)) ≡ rows_text (table head row xs)
-  rows-whole h = ap (λ rows. rows_text (head ∷ rows)) (each-whole row xs k h)
+  pub rows-whole : length all ≤ k → rows_text (head ∷ take k all) ≡ rows_text (head ∷ all)
+  rows-whole h = ap (λ rows. rows_text (head ∷ rows)) (take-whole all k h)

@@ -5,11 +5,12 @@ ghost use Rattle.std.specs.Prelude.{◌≡◌, [], All, IfOk, IfSome, FitsSigned
 ghost use Rattle.std.specs.Int.{w64};
 ghost use Rattle.serde_json.specs.View.{view};
 ghost use Rattle.tn_plain_data.specs.declared.said.Said.TheVariants.{Firms};
-ghost use Rattle.tn_answer.specs.AnswerText.{answer_data, holding_data, holdings_data};
+ghost use Rattle.tn_answer.specs.AnswerText.{answer_data, holding_data};
 ghost use Rattle.tn_answer.specs.Sayable.{IsShortHolding};
 
-use crate::fields::{Field, bound_value, object_of};
-use serde_json::{Value, json};
+use crate::arrays::Items;
+use crate::fields::{Field, object_of, object_with};
+use serde_json::Value;
 use std::alloc::{AllocError, Global};
 use tn_names::Names;
 use tn_plain_data::{Holding, Holdings};
@@ -46,15 +47,23 @@ fn holding_value<'a>(
     object_of(alloc, names, &fields)
 }
 
-fn holdings_value(alloc: Global, names: &Names, holdings: &Holdings) -> Result<Value, AllocError>
-    requires { All IsShortHolding holdings.now }
-    ensures { IfOk result (λ value. view value ≡ holdings_data names.now holdings.now) }
-{
-    let mut values = Vec::new(alloc);
-    for k in 0..holdings.len() {
-        values.push(holding_value(alloc, names, k, holdings.at(k))?)?;
+impl Items for Holdings {
+    ghost use Rattle.std.specs.Prelude.{All};
+    ghost use Rattle.tn_answer.specs.AnswerText.{holding_data};
+    ghost use Rattle.tn_answer.specs.Rows.{each_from};
+    ghost use Rattle.tn_answer.specs.Sayable.{IsShortHolding};
+
+    ghost values_data = { λ names holdings. each_from (holding_data names) 0 holdings };
+
+    ghost IsShort = { All IsShortHolding };
+
+    fn count(&self) -> usize {
+        self.len()
     }
-    Ok(Value::Array(values))
+
+    fn value_at(&self, alloc: Global, names: &Names, k: usize) -> Result<Value, AllocError> {
+        holding_value(alloc, names, k, self.at(k))
+    }
 }
 
 pub(crate) fn firms_value(
@@ -69,10 +78,10 @@ pub(crate) fn firms_value(
     ensures { IfOk result
         (λ value. view value ≡ answer_data names.now (Firms content firms.now surplus)) }
 {
-    json!(in alloc; {
-        "answer": "firms",
-        "content": content,
-        "firms": holdings_value(alloc, names, firms)?,
-        "surplus": bound_value(surplus),
-    })
+    let fields = [
+        ("answer", Field::Word("firms")),
+        ("content", Field::Natural(content)),
+        ("surplus", Field::Bound(surplus)),
+    ];
+    object_with(alloc, names, &fields, "firms", firms)
 }

@@ -1,7 +1,7 @@
 //! Layouts of an answer.
 
 /// How an answer is written.
-#[derive(Clone, Copy, Debug, PartialEq, Eq)]
+#[derive(Clone, Copy)]
 pub enum Layout {
     /// As one JSON object.
     Object,

@@ -2,6 +2,7 @@
 //! Which text each answer has, and how far a text tells its answer, stands in `specs/`.
 #![tactic(auto)]
 
+mod arrays;
 mod cells;
 mod fields;
 mod holdings;
@@ -12,6 +13,7 @@ mod ranges;
 mod reasons;
 mod rows;
 mod states;
+mod tables;
 mod text;
 mod values;
 mod words;

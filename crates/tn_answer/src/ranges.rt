@@ -1,11 +1,12 @@
 //! Ranges of prices, as JSON values.
 
 // The prices that trades may have, as JSON values.
-ghost use Rattle.std.specs.Prelude.{◌≡◌, All, IfOk};
+ghost use Rattle.std.specs.Prelude.{◌≡◌, IfOk};
 ghost use Rattle.serde_json.specs.View.{view};
-ghost use Rattle.tn_answer.specs.AnswerText.{range_data, ranges_data};
+ghost use Rattle.tn_answer.specs.AnswerText.{range_data};
 ghost use Rattle.tn_answer.specs.Sayable.{HasShortBounds};
 
+use crate::arrays::Items;
 use crate::fields::{Field, object_of};
 use crate::values::name_at;
 use serde_json::Value;
@@ -32,17 +33,21 @@ fn range_value<'a>(
     object_of(alloc, names, &fields)
 }
 
-pub(crate) fn ranges_value(
-    alloc: Global,
-    names: &Names,
-    ranges: &Ranges,
-) -> Result<Value, AllocError>
-    requires { All HasShortBounds ranges.now }
-    ensures { IfOk result (λ value. view value ≡ ranges_data names.now.trades ranges.now) }
-{
-    let mut values = Vec::new(alloc);
-    for k in 0..ranges.len() {
-        values.push(range_value(alloc, names, k, ranges.at(k))?)?;
+impl Items for Ranges {
+    ghost use Rattle.std.specs.Prelude.{All};
+    ghost use Rattle.tn_answer.specs.AnswerText.{range_data};
+    ghost use Rattle.tn_answer.specs.Rows.{each_from};
+    ghost use Rattle.tn_answer.specs.Sayable.{HasShortBounds};
+
+    ghost values_data = { λ names ranges. each_from (range_data names.trades) 0 ranges };
+
+    ghost IsShort = { All HasShortBounds };
+
+    fn count(&self) -> usize {
+        self.len()
     }
-    Ok(Value::Array(values))
+
+    fn value_at(&self, alloc: Global, names: &Names, k: usize) -> Result<Value, AllocError> {
+        range_value(alloc, names, k, self.at(k))
+    }
 }

@@ -9,7 +9,7 @@ ghost use Rattle.tn_answer.specs.AnswerText.{answer};
 ghost use Rattle.tn_answer.specs.ReasonText.{because, firm_because, reason_members, IsShortReason};
 ghost use Rattle.tn_answer.specs.Values.{integer_data, name_data, numbers_data};
 
-use crate::fields::{Field, object_of};
+use crate::fields::{Field, invalid_of};
 use serde_json::Value;
 use std::alloc::{AllocError, Global};
 use tn_names::Names;
@@ -51,11 +51,7 @@ fn plain_value(alloc: Global, names: &Names, reason: &str) -> Result<Value, Allo
     ensures { IfOk result
         (λ value. view value ≡ answer (codes "invalid") (because reason.now no_members)) }
 {
-    let fields = [
-        ("answer", Field::Word("invalid")),
-        ("reason", Field::Word(reason)),
-    ];
-    object_of(alloc, names, &fields)
+    invalid_of(alloc, names, reason, &[])
 }
 
 /// A reason that names a firm alone.
@@ -63,12 +59,8 @@ fn firm_value(alloc: Global, names: &Names, firm: u32, reason: &str) -> Result<V
     ensures { IfOk result
         (λ value. view value ≡ answer (codes "invalid") (firm_because names.now firm reason.now no_members)) }
 {
-    let fields = [
-        ("answer", Field::Word("invalid")),
-        ("firm", Field::Firm(firm)),
-        ("reason", Field::Word(reason)),
-    ];
-    object_of(alloc, names, &fields)
+    let fields = [("firm", Field::Firm(firm))];
+    invalid_of(alloc, names, reason, &fields)
 }
 
 /// A reason that names a trade alone.
@@ -77,12 +69,8 @@ fn trade_value(alloc: Global, names: &Names, trade: u32, reason: &str) -> Result
         (λ value. view value ≡ answer (codes "invalid")
         (because reason.now (member (codes "trade") (name_data names.now.trades trade) no_members))) }
 {
-    let fields = [
-        ("answer", Field::Word("invalid")),
-        ("reason", Field::Word(reason)),
-        ("trade", Field::Trade(trade)),
-    ];
-    object_of(alloc, names, &fields)
+    let fields = [("trade", Field::Trade(trade))];
+    invalid_of(alloc, names, reason, &fields)
 }
 
 fn better_value(
@@ -95,12 +83,10 @@ fn better_value(
         (λ value. view value ≡ answer (codes "invalid") (reason_members names.now (Reason.Better firm bundle.now))) }
 {
     let fields = [
-        ("answer", Field::Word("invalid")),
         ("bundle", Field::Trades(bundle)),
         ("firm", Field::Firm(firm)),
-        ("reason", Field::Word("better")),
     ];
-    object_of(alloc, names, &fields)
+    invalid_of(alloc, names, "better", &fields)
 }
 
 fn surplus_value(alloc: Global, names: &Names, surplus: i128) -> Result<Value, AllocError>
@@ -109,24 +95,16 @@ fn surplus_value(alloc: Global, names: &Names, surplus: i128) -> Result<Value, A
         (λ value. view value ≡ answer (codes "invalid")
         (because (codes "surplus") (member (codes "surplus") (integer_data surplus) no_members))) }
 {
-    let fields = [
-        ("answer", Field::Word("invalid")),
-        ("reason", Field::Word("surplus")),
-        ("surplus", Field::Number(surplus)),
-    ];
-    object_of(alloc, names, &fields)
+    let fields = [("surplus", Field::Number(surplus))];
+    invalid_of(alloc, names, "surplus", &fields)
 }
 
 fn arc_value(alloc: Global, names: &Names, index: u32) -> Result<Value, AllocError>
     ensures { IfOk result
         (λ value. view value ≡ answer (codes "invalid") (reason_members names.now (Reason.Arc index))) }
 {
-    let fields = [
-        ("answer", Field::Word("invalid")),
-        ("index", Field::Natural(index)),
-        ("reason", Field::Word("arc")),
-    ];
-    object_of(alloc, names, &fields)
+    let fields = [("index", Field::Natural(index))];
+    invalid_of(alloc, names, "arc", &fields)
 }
 
 fn cost_value(alloc: Global, names: &Names, cost: i128) -> Result<Value, AllocError>
@@ -135,12 +113,8 @@ fn cost_value(alloc: Global, names: &Names, cost: i128) -> Result<Value, AllocEr
         (λ value. view value ≡ answer (codes "invalid")
         (member (codes "cost") (integer_data cost) (because (codes "cost") no_members))) }
 {
-    let fields = [
-        ("answer", Field::Word("invalid")),
-        ("cost", Field::Number(cost)),
-        ("reason", Field::Word("cost")),
-    ];
-    object_of(alloc, names, &fields)
+    let fields = [("cost", Field::Number(cost))];
+    invalid_of(alloc, names, "cost", &fields)
 }
 
 fn over_value(alloc: Global, names: &Names, over: i128) -> Result<Value, AllocError>
@@ -149,12 +123,8 @@ fn over_value(alloc: Global, names: &Names, over: i128) -> Result<Value, AllocEr
         (λ value. view value ≡ answer (codes "invalid")
         (member (codes "over") (integer_data over) (because (codes "over") no_members))) }
 {
-    let fields = [
-        ("answer", Field::Word("invalid")),
-        ("over", Field::Number(over)),
-        ("reason", Field::Word("over")),
-    ];
-    object_of(alloc, names, &fields)
+    let fields = [("over", Field::Number(over))];
+    invalid_of(alloc, names, "over", &fields)
 }
 
 fn gain_value(
@@ -167,13 +137,8 @@ fn gain_value(
     ensures { IfOk result
         (λ value. view value ≡ answer (codes "invalid") (reason_members names.now (Reason.Gain firm gain))) }
 {
-    let fields = [
-        ("answer", Field::Word("invalid")),
-        ("firm", Field::Firm(firm)),
-        ("gain", Field::Bound(gain)),
-        ("reason", Field::Word("gain")),
-    ];
-    object_of(alloc, names, &fields)
+    let fields = [("firm", Field::Firm(firm)), ("gain", Field::Bound(gain))];
+    invalid_of(alloc, names, "gain", &fields)
 }
 
 fn exchange_value<'a>(
@@ -189,27 +154,20 @@ fn exchange_value<'a>(
         ≡ answer (codes "invalid") (reason_members names.now (Reason.Exchange firm x.now y.now at))) }
 {
     let fields = [
-        ("answer", Field::Word("invalid")),
         ("at", Field::TradeOrNull(at)),
         ("firm", Field::Firm(firm)),
-        ("reason", Field::Word("exchange")),
         ("x", Field::Trades(x)),
         ("y", Field::Trades(y)),
     ];
-    object_of(alloc, names, &fields)
+    invalid_of(alloc, names, "exchange", &fields)
 }
 
 fn choice_value(alloc: Global, names: &Names, firm: u32, trade: u32) -> Result<Value, AllocError>
     ensures { IfOk result
         (λ value. view value ≡ answer (codes "invalid") (reason_members names.now (Reason.Choice firm trade))) }
 {
-    let fields = [
-        ("answer", Field::Word("invalid")),
-        ("firm", Field::Firm(firm)),
-        ("reason", Field::Word("choice")),
-        ("trade", Field::Trade(trade)),
-    ];
-    object_of(alloc, names, &fields)
+    let fields = [("firm", Field::Firm(firm)), ("trade", Field::Trade(trade))];
+    invalid_of(alloc, names, "choice", &fields)
 }
 
 fn whole_value(
@@ -223,12 +181,10 @@ fn whole_value(
         (λ value. view value ≡ answer (codes "invalid") (reason_members names.now (Reason.Whole on.now surplus))) }
 {
     let fields = [
-        ("answer", Field::Word("invalid")),
         ("on", Field::Trades(on)),
-        ("reason", Field::Word("whole")),
         ("surplus", Field::Number(surplus)),
     ];
-    object_of(alloc, names, &fields)
+    invalid_of(alloc, names, "whole", &fields)
 }
 
 fn number_value(n: u32) -> Value

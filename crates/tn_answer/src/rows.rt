@@ -6,8 +6,9 @@ ghost use Rattle.csv.specs.Writing.{default_writer, fields_written, has_written,
 ghost use Rattle.tn_answer.specs.Rows.{IsBetweenRows, buyer_text, deal_head, deal_row, firm_head, firm_row, is_listed, is_nothing, price_head, price_row, range_head, range_row, rows_text, seller_text, table};
 ghost use Rattle.tn_answer.specs.Sayable.{HasShortBounds, IsShortHolding};
 
-use crate::cells::{Cell, begin, finish, write_row};
+use crate::cells::{Cell, write_row};
 use crate::holdings::firm_name_at;
+use crate::tables::{Table, table_text};
 use crate::values::{firm_name, name_at};
 use csv::Writer;
 use std::alloc::Global;
@@ -84,22 +85,49 @@ fn write_price(
     write_row(alloc, writer, names, &row)
 }
 
+/// The trades with their prices, and whether they are on.
+#[derive(Clone, Copy)]
+struct PriceRows<'a> {
+    on: &'a Trades,
+    prices: &'a Prices,
+}
+
+impl Table for PriceRows<'_> {
+    ghost use Rattle.std.specs.Prelude.{All, FitsSigned};
+    ghost use Rattle.std.specs.Int.{w64};
+    ghost use Rattle.tn_answer.specs.Rows.{each_from, price_row};
+
+    ghost rows = { λ names table. each_from (price_row names table.on.now) 0 table.prices.now };
+
+    ghost IsShort = { λ table. All (FitsSigned w64) table.prices.now };
+
+    fn count(&self) -> usize {
+        self.prices.len()
+    }
+
+    fn write_at(
+        &self,
+        alloc: Global,
+        writer: &mut Writer<Vec<u8>>,
+        names: &Names,
+        k: usize,
+    ) -> Result<(), OutOfMemory> {
+        write_price(alloc, writer, names, self.on, k, self.prices.at(k))
+    }
+}
+
 /// Each trade with its price, and whether it is on.
-pub(crate) fn price_rows(
+pub(crate) fn price_rows<'a>(
     alloc: Global,
     names: &Names,
-    on: &Trades,
-    prices: &Prices,
+    on: &'a Trades,
+    prices: &'a Prices,
 ) -> Result<Vec<u8>, OutOfMemory>
     requires { All (FitsSigned w64) prices.now }
     ensures { IfOk result (λ text. text.items ≡ rows_text (table price_head (price_row names.now on.now) prices.now)) }
 {
     let head = [Cell::Name("trade"), Cell::Name("on"), Cell::Name("price")];
-    let mut writer = begin(alloc, names, &head)?;
-    for k in 0..prices.len() {
-        write_price(alloc, &mut writer, names, on, k, prices.at(k))?;
-    }
-    finish(writer)
+    table_text(alloc, names, &head, &PriceRows { on, prices })
 }
 
 /// Writes the row of a trade with its ends and its price.
@@ -131,12 +159,52 @@ fn write_deal(
 }
 
 /// The same with who sells and who buys.
-pub(crate) fn deal_rows(
+#[derive(Clone, Copy)]
+struct DealRows<'a> {
+    on: &'a Trades,
+    prices: &'a Prices,
+    ends: &'a TradeEnds,
+}
+
+impl Table for DealRows<'_> {
+    ghost use Rattle.std.specs.Prelude.{All, FitsSigned};
+    ghost use Rattle.std.specs.Int.{w64};
+    ghost use Rattle.tn_answer.specs.Rows.{deal_row, each_from};
+
+    ghost rows = { λ names table. each_from (deal_row names table.on.now table.ends.now) 0 table.prices.now };
+
+    ghost IsShort = { λ table. All (FitsSigned w64) table.prices.now };
+
+    fn count(&self) -> usize {
+        self.prices.len()
+    }
+
+    fn write_at(
+        &self,
+        alloc: Global,
+        writer: &mut Writer<Vec<u8>>,
+        names: &Names,
+        k: usize,
+    ) -> Result<(), OutOfMemory> {
+        write_deal(
+            alloc,
+            writer,
+            names,
+            self.on,
+            self.ends,
+            k,
+            self.prices.at(k),
+        )
+    }
+}
+
+/// The same with who sells and who buys.
+pub(crate) fn deal_rows<'a>(
     alloc: Global,
     names: &Names,
-    on: &Trades,
-    prices: &Prices,
-    ends: &TradeEnds,
+    on: &'a Trades,
+    prices: &'a Prices,
+    ends: &'a TradeEnds,
 ) -> Result<Vec<u8>, OutOfMemory>
     requires { All (FitsSigned w64) prices.now }
     ensures { IfOk result (λ text. text.items ≡ rows_text
@@ -149,11 +217,7 @@ pub(crate) fn deal_rows(
         Cell::Name("on"),
         Cell::Name("price"),
     ];
-    let mut writer = begin(alloc, names, &head)?;
-    for k in 0..prices.len() {
-        write_deal(alloc, &mut writer, names, on, ends, k, prices.at(k))?;
-    }
-    finish(writer)
+    table_text(alloc, names, &head, &DealRows { on, prices, ends })
 }
 
 /// Writes the row of a trade with its ends and the prices that it may have.
@@ -185,13 +249,53 @@ fn write_range(
     write_row(alloc, writer, names, &row)
 }
 
+/// The trades with their ends and the prices that they may have.
+#[derive(Clone, Copy)]
+struct RangeRows<'a> {
+    on: &'a Trades,
+    ranges: &'a Ranges,
+    ends: &'a TradeEnds,
+}
+
+impl Table for RangeRows<'_> {
+    ghost use Rattle.std.specs.Prelude.{All};
+    ghost use Rattle.tn_answer.specs.Rows.{each_from, range_row};
+    ghost use Rattle.tn_answer.specs.Sayable.{HasShortBounds};
+
+    ghost rows = { λ names table. each_from (range_row names table.on.now table.ends.now) 0 table.ranges.now };
+
+    ghost IsShort = { λ table. All HasShortBounds table.ranges.now };
+
+    fn count(&self) -> usize {
+        self.ranges.len()
+    }
+
+    fn write_at(
+        &self,
+        alloc: Global,
+        writer: &mut Writer<Vec<u8>>,
+        names: &Names,
+        k: usize,
+    ) -> Result<(), OutOfMemory> {
+        write_range(
+            alloc,
+            writer,
+            names,
+            self.on,
+            self.ends,
+            k,
+            self.ranges.at(k),
+        )
+    }
+}
+
 /// Each trade with the prices that it may have.
-pub(crate) fn range_rows(
+pub(crate) fn range_rows<'a>(
     alloc: Global,
     names: &Names,
-    on: &Trades,
-    ranges: &Ranges,
-    ends: &TradeEnds,
+    on: &'a Trades,
+    ranges: &'a Ranges,
+    ends: &'a TradeEnds,
 ) -> Result<Vec<u8>, OutOfMemory>
     requires { All HasShortBounds ranges.now }
     ensures { IfOk result (λ text. text.items ≡ rows_text
@@ -205,11 +309,7 @@ pub(crate) fn range_rows(
         Cell::Name("low"),
         Cell::Name("high"),
     ];
-    let mut writer = begin(alloc, names, &head)?;
-    for k in 0..ranges.len() {
-        write_range(alloc, &mut writer, names, on, ends, k, ranges.at(k))?;
-    }
-    finish(writer)
+    table_text(alloc, names, &head, &RangeRows { on, ranges, ends })
 }
 
 /// Writes the row of a firm with what it has.
@@ -241,6 +341,30 @@ fn write_firm<'a>(
     write_row(alloc, writer, names, &row)
 }
 
+impl Table for Holdings {
+    ghost use Rattle.std.specs.Prelude.{All};
+    ghost use Rattle.tn_answer.specs.Rows.{each_from, firm_row};
+    ghost use Rattle.tn_answer.specs.Sayable.{IsShortHolding};
+
+    ghost rows = { λ names firms. each_from (firm_row names) 0 firms };
+
+    ghost IsShort = { All IsShortHolding };
+
+    fn count(&self) -> usize {
+        self.len()
+    }
+
+    fn write_at(
+        &self,
+        alloc: Global,
+        writer: &mut Writer<Vec<u8>>,
+        names: &Names,
+        k: usize,
+    ) -> Result<(), OutOfMemory> {
+        write_firm(alloc, writer, names, k, self.at(k))
+    }
+}
+
 /// Each firm with what it has, and which bundle it would rather have.
 pub(crate) fn firm_rows(
     alloc: Global,
@@ -260,9 +384,5 @@ pub(crate) fn firm_rows(
         Cell::Name("has"),
         Cell::Name("best"),
     ];
-    let mut writer = begin(alloc, names, &head)?;
-    for k in 0..firms.len() {
-        write_firm(alloc, &mut writer, names, k, firms.at(k))?;
-    }
-    finish(writer)
+    table_text(alloc, names, &head, firms)
 }

@@ -1,12 +1,13 @@
 //! The states of a session, as JSON values.
 
 // Contracts, and the states after changes of the admitted trades, as JSON values.
-ghost use Rattle.std.specs.Prelude.{◌≡◌, All, IfOk, FitsSigned};
+ghost use Rattle.std.specs.Prelude.{◌≡◌, IfOk, FitsSigned};
 ghost use Rattle.std.specs.Int.{w64};
 ghost use Rattle.serde_json.specs.View.{view};
-ghost use Rattle.tn_answer.specs.AnswerText.{contract_data, contracts_data, state_data, states_data};
+ghost use Rattle.tn_answer.specs.AnswerText.{contract_data, state_data};
 ghost use Rattle.tn_answer.specs.Sayable.{IsShortState};
 
+use crate::arrays::Items;
 use crate::fields::{Field, object_of};
 use crate::values::price_value;
 use serde_json::Value;
@@ -21,19 +22,22 @@ fn contract_value(alloc: Global, names: &Names, contract: Contract) -> Result<Va
     price_value(alloc, names, contract.trade as usize, contract.price)
 }
 
-pub(crate) fn contracts_value(
-    alloc: Global,
-    names: &Names,
-    contracts: &Contracts,
-) -> Result<Value, AllocError>
-    requires { All (λ contract. FitsSigned w64 contract.price) contracts.now }
-    ensures { IfOk result (λ value. view value ≡ contracts_data names.now.trades contracts.now) }
-{
-    let mut values = Vec::new(alloc);
-    for k in 0..contracts.len() {
-        values.push(contract_value(alloc, names, contracts.at(k))?)?;
+impl Items for Contracts {
+    ghost use Rattle.std.specs.Prelude.{All, FitsSigned, map};
+    ghost use Rattle.std.specs.Int.{w64};
+    ghost use Rattle.tn_answer.specs.AnswerText.{contract_data};
+
+    ghost values_data = { λ names contracts. map (contract_data names.trades) contracts };
+
+    ghost IsShort = { λ contracts. All (λ contract. FitsSigned w64 contract.price) contracts };
+
+    fn count(&self) -> usize {
+        self.len()
     }
-    Ok(Value::Array(values))
+
+    fn value_at(&self, alloc: Global, names: &Names, k: usize) -> Result<Value, AllocError> {
+        contract_value(alloc, names, self.at(k))
+    }
 }
 
 fn state_value(alloc: Global, names: &Names, state: &State) -> Result<Value, AllocError>
@@ -48,17 +52,20 @@ fn state_value(alloc: Global, names: &Names, state: &State) -> Result<Value, All
     object_of(alloc, names, &fields)
 }
 
-pub(crate) fn states_value(
-    alloc: Global,
-    names: &Names,
-    states: &States,
-) -> Result<Value, AllocError>
-    requires { All IsShortState states.now }
-    ensures { IfOk result (λ value. view value ≡ states_data names.now.trades states.now) }
-{
-    let mut values = Vec::new(alloc);
-    for k in 0..states.len() {
-        values.push(state_value(alloc, names, states.at(k))?)?;
+impl Items for States {
+    ghost use Rattle.std.specs.Prelude.{All, map};
+    ghost use Rattle.tn_answer.specs.AnswerText.{state_data};
+    ghost use Rattle.tn_answer.specs.Sayable.{IsShortState};
+
+    ghost values_data = { λ names states. map (state_data names.trades) states };
+
+    ghost IsShort = { All IsShortState };
+
+    fn count(&self) -> usize {
+        self.len()
     }
-    Ok(Value::Array(values))
+
+    fn value_at(&self, alloc: Global, names: &Names, k: usize) -> Result<Value, AllocError> {
+        state_value(alloc, names, self.at(k))
+    }
 }

@@ -6,15 +6,14 @@ ghost use Rattle.std.specs.Prelude.{◌≡◌, [], All, unwrap_or, slice_get, If
 ghost use Rattle.std.specs.Int.{w64};
 ghost use Rattle.serde_json.specs.Data.{no_members};
 ghost use Rattle.serde_json.specs.View.{view};
-ghost use Rattle.tn_answer.specs.AnswerText.{answer, answer_data, fault_data, nodes_data, place_data, price_data, prices_data, step_data};
-ghost use Rattle.tn_answer.specs.Values.{name_data, names_data, option_data};
+ghost use Rattle.tn_answer.specs.AnswerText.{answer, answer_data, fault_data, price_data, step_data};
+ghost use Rattle.tn_answer.specs.Values.{name_data, option_data};
 ghost use Rattle.tn_answer.specs.Sayable.{HasShortBounds, IsSayable, IsShortState};
 
-use crate::fields::{Field, object_of};
+use crate::arrays::Items;
+use crate::fields::{Field, answer_of, object_with};
 use crate::holdings::firms_value;
-use crate::ranges::ranges_value;
 use crate::reasons::invalid_value;
-use crate::states::states_value;
 use crate::words::kind_name;
 use serde_json::{Value, json};
 use std::alloc::{AllocError, Global};
@@ -80,7 +79,7 @@ pub(crate) fn answer_value(alloc: Global, names: &Names, said: &Said) -> Result<
 fn plain_value(alloc: Global, names: &Names, kind: &str) -> Result<Value, AllocError>
     ensures { IfOk result (λ value. view value ≡ answer kind.now no_members) }
 {
-    object_of(alloc, names, &[("answer", Field::Word(kind))])
+    answer_of(alloc, names, kind, &[])
 }
 
 fn fault_value(alloc: Global, names: &Names, fault: &Fault) -> Result<Value, AllocError>
@@ -96,12 +95,11 @@ fn plain_fault_value(alloc: Global, names: &Names, fault: &Fault) -> Result<Valu
     ensures { IfOk result (λ value. view value ≡ fault_data names.now.trades fault.now None) }
 {
     let fields = [
-        ("answer", Field::Word("fault")),
         ("fault", Field::Natural(fault.kind.number() as u32)),
         ("name", Field::Word(kind_name(fault.kind))),
         ("place", Field::Place(&fault.place)),
     ];
-    object_of(alloc, names, &fields)
+    answer_of(alloc, names, "fault", &fields)
 }
 
 fn shown_fault_value<'a>(
@@ -114,7 +112,6 @@ fn shown_fault_value<'a>(
         (λ value. view value ≡ fault_data names.now.trades fault.now (Some shown.now)) }
 {
     let fields = [
-        ("answer", Field::Word("fault")),
         ("at", Field::TradeOrNull(shown.at)),
         ("fault", Field::Natural(fault.kind.number() as u32)),
         ("name", Field::Word(kind_name(fault.kind))),
@@ -122,7 +119,7 @@ fn shown_fault_value<'a>(
         ("x", Field::Trades(&shown.x)),
         ("y", Field::Trades(&shown.y)),
     ];
-    object_of(alloc, names, &fields)
+    answer_of(alloc, names, "fault", &fields)
 }
 
 fn equilibrium_value(alloc: Global, names: &Names, surplus: i128) -> Result<Value, AllocError>
@@ -130,11 +127,8 @@ fn equilibrium_value(alloc: Global, names: &Names, surplus: i128) -> Result<Valu
     ensures { IfOk result
         (λ value. view value ≡ answer_data names.now (Said.Equilibrium surplus)) }
 {
-    let fields = [
-        ("answer", Field::Word("equilibrium")),
-        ("surplus", Field::Number(surplus)),
-    ];
-    object_of(alloc, names, &fields)
+    let fields = [("surplus", Field::Number(surplus))];
+    answer_of(alloc, names, "equilibrium", &fields)
 }
 
 fn better_value(
@@ -149,22 +143,18 @@ fn better_value(
         (λ value. view value ≡ answer_data names.now (Said.Better firm bundle.now gain)) }
 {
     let fields = [
-        ("answer", Field::Word("better")),
         ("bundle", Field::Trades(bundle)),
         ("firm", Field::Firm(firm)),
         ("gain", Field::Number(gain)),
     ];
-    object_of(alloc, names, &fields)
+    answer_of(alloc, names, "better", &fields)
 }
 
 fn impossible_value(alloc: Global, names: &Names, firm: u32) -> Result<Value, AllocError>
     ensures { IfOk result (λ value. view value ≡ answer_data names.now (Said.Impossible firm)) }
 {
-    let fields = [
-        ("answer", Field::Word("impossible")),
-        ("firm", Field::Firm(firm)),
-    ];
-    object_of(alloc, names, &fields)
+    let fields = [("firm", Field::Firm(firm))];
+    answer_of(alloc, names, "impossible", &fields)
 }
 
 fn exchange_fails_value<'a>(
@@ -179,13 +169,12 @@ fn exchange_fails_value<'a>(
         (λ value. view value ≡ answer_data names.now (Said.ExchangeFails firm x.now y.now at)) }
 {
     let fields = [
-        ("answer", Field::Word("exchange_fails")),
         ("at", Field::TradeOrNull(at)),
         ("firm", Field::Firm(firm)),
         ("x", Field::Trades(x)),
         ("y", Field::Trades(y)),
     ];
-    object_of(alloc, names, &fields)
+    answer_of(alloc, names, "exchange_fails", &fields)
 }
 
 fn supported_value(alloc: Global, names: &Names, prices: &Prices) -> Result<Value, AllocError>
@@ -193,11 +182,8 @@ fn supported_value(alloc: Global, names: &Names, prices: &Prices) -> Result<Valu
     ensures { IfOk result
         (λ value. view value ≡ answer_data names.now (Said.Supported [] prices.now [])) }
 {
-    let fields = [
-        ("answer", Field::Word("prices")),
-        ("prices", Field::Prices(prices)),
-    ];
-    object_of(alloc, names, &fields)
+    let fields = [("prices", Field::Prices(prices))];
+    answer_of(alloc, names, "prices", &fields)
 }
 
 fn cycle_value(alloc: Global, names: &Names, nodes: &Nodes, cost: i128) -> Result<Value, AllocError>
@@ -206,11 +192,10 @@ fn cycle_value(alloc: Global, names: &Names, nodes: &Nodes, cost: i128) -> Resul
         (λ value. view value ≡ answer_data names.now (Said.Cycle nodes.now cost)) }
 {
     let fields = [
-        ("answer", Field::Word("cycle")),
         ("cost", Field::Number(cost)),
         ("nodes", Field::Nodes(nodes)),
     ];
-    object_of(alloc, names, &fields)
+    answer_of(alloc, names, "cycle", &fields)
 }
 
 fn solved_value<'a>(
@@ -226,12 +211,11 @@ fn solved_value<'a>(
         (λ value. view value ≡ answer_data names.now (Said.Solved on.now prices.now surplus [])) }
 {
     let fields = [
-        ("answer", Field::Word("solved")),
         ("on", Field::Trades(on)),
         ("prices", Field::Prices(prices)),
         ("surplus", Field::Number(surplus)),
     ];
-    object_of(alloc, names, &fields)
+    answer_of(alloc, names, "solved", &fields)
 }
 
 fn drill_value(
@@ -247,13 +231,12 @@ fn drill_value(
         (λ value. view value ≡ answer_data names.now (Said.Drill size start firms surplus)) }
 {
     let fields = [
-        ("answer", Field::Word("drill")),
         ("firms", Field::Natural(firms)),
         ("size", Field::Natural(size)),
         ("start", Field::Natural(start)),
         ("surplus", Field::Number(surplus)),
     ];
-    object_of(alloc, names, &fields)
+    answer_of(alloc, names, "drill", &fields)
 }
 
 fn ranged_value(
@@ -266,18 +249,16 @@ fn ranged_value(
     ensures { IfOk result
         (λ value. view value ≡ answer_data names.now (Said.Ranges on.now ranges.now [])) }
 {
-    json!(in alloc; {
-        "answer": "ranges",
-        "on": trades_value(alloc, names, on)?,
-        "ranges": ranges_value(alloc, names, ranges)?,
-    })
+    let fields = [("answer", Field::Word("ranges")), ("on", Field::Trades(on))];
+    object_with(alloc, names, &fields, "ranges", ranges)
 }
 
 fn session_value(alloc: Global, names: &Names, edits: &States) -> Result<Value, AllocError>
     requires { All IsShortState edits.now }
     ensures { IfOk result (λ value. view value ≡ answer_data names.now (Said.Session edits.now)) }
 {
-    json!(in alloc; {"answer": "session", "edits": states_value(alloc, names, edits)?})
+    let fields = [("answer", Field::Word("session"))];
+    object_with(alloc, names, &fields, "edits", edits)
 }
 
 fn drops_value(
@@ -294,13 +275,12 @@ fn drops_value(
         (λ value. view value ≡ answer_data names.now (Said.Drops firm keeps.now gain over)) }
 {
     let fields = [
-        ("answer", Field::Word("drops")),
         ("firm", Field::Firm(firm)),
         ("gain", Field::Bound(gain)),
         ("keeps", Field::Trades(keeps)),
         ("over", Field::Number(over)),
     ];
-    object_of(alloc, names, &fields)
+    answer_of(alloc, names, "drops", &fields)
 }
 
 fn completes_value(
@@ -315,11 +295,10 @@ fn completes_value(
         (λ value. view value ≡ answer_data names.now (Said.Completes prices.now over)) }
 {
     let fields = [
-        ("answer", Field::Word("completes")),
         ("over", Field::Number(over)),
         ("prices", Field::Prices(prices)),
     ];
-    object_of(alloc, names, &fields)
+    answer_of(alloc, names, "completes", &fields)
 }
 
 fn blocks_value(
@@ -334,11 +313,10 @@ fn blocks_value(
         (λ value. view value ≡ answer_data names.now (Said.Blocks contracts.now over)) }
 {
     let fields = [
-        ("answer", Field::Word("blocks")),
         ("contracts", Field::Contracts(contracts)),
         ("over", Field::Number(over)),
     ];
-    object_of(alloc, names, &fields)
+    answer_of(alloc, names, "blocks", &fields)
 }
 
 fn cases_value(
@@ -351,11 +329,10 @@ fn cases_value(
         (λ value. view value ≡ answer_data names.now (Said.Cases count failed.now)) }
 {
     let fields = [
-        ("answer", Field::Word("cases")),
         ("count", Field::Natural(count)),
         ("failed", Field::Numbers(failed)),
     ];
-    object_of(alloc, names, &fields)
+    answer_of(alloc, names, "cases", &fields)
 }
 
 /// The name of a firm, empty where it has none.
@@ -399,28 +376,38 @@ pub(crate) fn option_value(
     }
 }
 
-pub(crate) fn trades_value(
-    alloc: Global,
-    names: &Names,
-    trades: &Trades,
-) -> Result<Value, AllocError>
-    ensures { IfOk result (λ value. view value ≡ names_data names.now.trades trades.now) }
-{
-    let mut values = Vec::new(alloc);
-    for k in 0..trades.len() {
-        values.push(trade_value(alloc, names, trades.at(k))?)?;
+impl Items for Trades {
+    ghost use Rattle.std.specs.Prelude.{map};
+    ghost use Rattle.tn_answer.specs.Values.{name_data};
+
+    ghost values_data = { λ names trades. map (name_data names.trades) trades };
+
+    ghost IsShort = { λ trades. Unit {0} };
+
+    fn count(&self) -> usize {
+        self.len()
     }
-    Ok(Value::Array(values))
+
+    fn value_at(&self, alloc: Global, names: &Names, k: usize) -> Result<Value, AllocError> {
+        trade_value(alloc, names, self.at(k))
+    }
 }
 
-pub(crate) fn nodes_value(alloc: Global, names: &Names, nodes: &Nodes) -> Result<Value, AllocError>
-    ensures { IfOk result (λ value. view value ≡ nodes_data names.now.trades nodes.now) }
-{
-    let mut values = Vec::new(alloc);
-    for k in 0..nodes.len() {
-        values.push(option_value(alloc, names, nodes.at(k))?)?;
+impl Items for Nodes {
+    ghost use Rattle.std.specs.Prelude.{map};
+    ghost use Rattle.tn_answer.specs.Values.{option_data};
+
+    ghost values_data = { λ names nodes. map (option_data names.trades) nodes };
+
+    ghost IsShort = { λ nodes. Unit {0} };
+
+    fn count(&self) -> usize {
+        self.len()
     }
-    Ok(Value::Array(values))
+
+    fn value_at(&self, alloc: Global, names: &Names, k: usize) -> Result<Value, AllocError> {
+        option_value(alloc, names, self.at(k))
+    }
 }
 
 /// The name of the trade at a place, empty where there is none.
@@ -446,19 +433,22 @@ pub(crate) fn price_value(
     json!(in alloc; [name_at(names, k), price as i64])
 }
 
-pub(crate) fn prices_value(
-    alloc: Global,
-    names: &Names,
-    prices: &Prices,
-) -> Result<Value, AllocError>
-    requires { All (FitsSigned w64) prices.now }
-    ensures { IfOk result (λ value. view value ≡ prices_data names.now.trades prices.now) }
-{
-    let mut values = Vec::new(alloc);
-    for k in 0..prices.len() {
-        values.push(price_value(alloc, names, k, prices.at(k))?)?;
+impl Items for Prices {
+    ghost use Rattle.std.specs.Prelude.{All, FitsSigned};
+    ghost use Rattle.std.specs.Int.{w64};
+    ghost use Rattle.tn_answer.specs.AnswerText.{prices_from};
+
+    ghost values_data = { λ names prices. prices_from names.trades 0 prices };
+
+    ghost IsShort = { λ prices. All (FitsSigned w64) prices };
+
+    fn count(&self) -> usize {
+        self.len()
     }
-    Ok(Value::Array(values))
+
+    fn value_at(&self, alloc: Global, names: &Names, k: usize) -> Result<Value, AllocError> {
+        price_value(alloc, names, k, self.at(k))
+    }
 }
 
 fn step_value(alloc: Global, names: &Names, step: PlaceStep) -> Result<Value, AllocError>
@@ -471,12 +461,19 @@ fn step_value(alloc: Global, names: &Names, step: PlaceStep) -> Result<Value, Al
     }
 }
 
-pub(crate) fn place_value(alloc: Global, names: &Names, place: &Place) -> Result<Value, AllocError>
-    ensures { IfOk result (λ value. view value ≡ place_data names.now.trades place.now) }
-{
-    let mut values = Vec::new(alloc);
-    for k in 0..place.len() {
-        values.push(step_value(alloc, names, place.at(k))?)?;
+impl Items for Place {
+    ghost use Rattle.std.specs.Prelude.{map};
+    ghost use Rattle.tn_answer.specs.AnswerText.{step_data};
+
+    ghost values_data = { λ names place. map (step_data names.trades) place };
+
+    ghost IsShort = { λ place. Unit {0} };
+
+    fn count(&self) -> usize {
+        self.len()
     }
-    Ok(Value::Array(values))
+
+    fn value_at(&self, alloc: Global, names: &Names, k: usize) -> Result<Value, AllocError> {
+        step_value(alloc, names, self.at(k))
+    }
 }

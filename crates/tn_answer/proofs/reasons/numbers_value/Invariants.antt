@@ -5,4 +5,4 @@ use Rattle.serde_json.specs.View.{view}
 use Rattle.tn_answer.proofs.reasons.numbers_value.Given as goal
 
 abbrev pub invariant-loop-k : goal.invariant-loop-k
-invariant-loop-k l = map view l.values.items ≡ map (λ n. number (unsigned n)) (take l.k l.numbers)
+invariant-loop-k l = map view l.values.items ≡ take l.k (map (λ n. number (unsigned n)) l.numbers)
