@@ -1,9 +1,11 @@
 -- Offers and an outcome together: their prices and trades.
-use Rattle.std.proofs.Common.{◌≡◌, ℕ, ◌+◌, ◌*◌, ◌<◌, ◌≤◌, List, [], ◌∷◌, ◌++◌, take, slice_get, Some, refl, sym, ap, ap₂, ◌∙◌, subst, arith, ℤ, pos, ◌*ℤ◌, ◌≤ℤ◌}
+use Rattle.std.proofs.Common.{◌≡◌, ℕ, ◌+◌, ◌*◌, ◌<◌, ◌≤◌, List, [], ◌∷◌, ◌++◌, length, length-append, take, slice_get, Some, refl, sym, ap, ap₂, ◌∙◌, subst, arith, ℤ, pos, ◌*ℤ◌, ◌≤ℤ◌}
 use Rattle.std.specs.List.{All}
 use Rattle.std.proofs.lemmas.Int.{ints}
-use Rattle.std.proofs.lemmas.List.{map-append, take_more}
-use Rattle.std.proofs.lemmas.List.Elements.{All-append}
+use mir.Syntax.{w128}
+use mir.Val.{SFits}
+use Rattle.std.proofs.lemmas.List.{length-map, map-append, take_more}
+use Rattle.std.proofs.lemmas.List.Elements.{All-append, All-weaker}
 use Rattle.std.proofs.lemmas.Option.{slice_get_within, get_or_from_slice_get, slice_get-get_or}
 use Rattle.tn_base.specs.Arcs.{IsAtMost}
 use Rattle.tn_market.specs.Widths.{most_asked_price}
@@ -68,6 +70,31 @@ product_small times price most limit whole least above small fits =
     let product = times_small times price most limit (record { low = omega (arith, ints, least); high = above }) small
     in
     record { low = omega (arith, ints, product.low, fits); high = omega (arith, ints, product.high, fits) }
+
+-- the offers stand first in the pool
+pub pool_room : (e d : ℤ) (offers contracts : List Contract) → length offers ≤ length (together e offers d contracts)
+pool_room e d offers contracts =
+    let both = length-append (counted d offers) (counted e contracts) in
+    let first : length (counted d offers) ≡ length offers = length-map offers _ in
+    omega (arith, both, first)
+
+-- a numerator of an outcome is a number of a claim
+pub numerators_small : (contracts : List Contract) → All (λ contract. IsAtMost contract.price most_numerator) contracts
+    → All (λ contract. IsAtMost contract.price most_number) contracts
+numerators_small contracts small =
+    All-weaker (λ contract. IsAtMost contract.price most_numerator) (λ contract. IsAtMost contract.price most_number)
+    (λ contract at_most. wider contract.price at_most) contracts small
+  where
+    wider : (z : ℤ) → IsAtMost z most_numerator → IsAtMost z most_number
+    wider z at_most = record { low = omega (arith, ints, at_most.low); high = omega (arith, ints, at_most.high) }
+
+-- a counted price has room
+pub counted_fits : (times price : ℤ) → pos 0 ≤ℤ times → times ≤ℤ pos most_claimed_over → IsAtMost price most_number
+    → SFits w128 (times *ℤ price)
+counted_fits times price least most small =
+    let product = product_small times price most_claimed_over most_number (most_claimed_over * most_number) least most
+    small (omega arith) in
+    omega (arith, ints, product.low, product.high)
 
 -- and its prices are within the limit of the search for best bundles
 pub pool_small : (e d : ℤ) (offers contracts : List Contract) → pos 0 ≤ℤ e → e ≤ℤ pos most_claimed_over → pos 0 ≤ℤ d

@@ -3,7 +3,7 @@
 use tn_market::Reason;
 
 /// What the replay of a claim says.
-#[derive(Debug, Drop)]
+#[derive(Drop)]
 pub enum Replayed {
     /// Each condition of the claim holds.
     Valid,

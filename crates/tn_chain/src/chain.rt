@@ -124,6 +124,43 @@ fn search<'a, V: Oracle>(
     }
 }
 
+/// Makes room for that search, of the residual market and the reduced graph, and searches. It fails only where memory
+/// runs out.
+fn search_in_room<'a, V: Oracle>(
+    alloc: Global,
+    market: &Market<V>,
+    outcome: &Outcome,
+    residual: &Market<Party<'a, V>>,
+    graph: &Graph,
+    steps: &mut Steps<V::Mark>,
+) -> Result<Contracts, OutOfMemory>
+    requires limits { IsWithinLimits V.firm V.limit market.now }
+    requires few { length market.now.trades ≤ most_judged_trades }
+    requires outcome { IsOutcomeOf market.now.trades outcome.now.over outcome.now.contracts }
+    requires rational { network_of V.firm market.now IsIndividuallyRational outcome.now.over outcome.now.contracts }
+    requires residual { network_of V.firm market.now
+        (IsResidual ⟦<Party<'a, V> as Valuation>⟧.firm ⟦<Party<'a, V> as Valuation>⟧.limit)
+        outcome.now.over outcome.now.contracts residual.now }
+    requires graph { IsExchangeGraph (reduced_firms market.now.trades outcome.now.over outcome.now.contracts
+        (map V.firm market.now.firms)) market.now.trades 0 graph.now }
+    requires incomplete { (prices : ℕ → ℤ)
+        → network_of V.firm market.now Completes outcome.now.over outcome.now.contracts prices → ⊥ }
+    ensures { IfOk result (network_of V.firm market.now IsBlockingChain outcome.now.over outcome.now.contracts) }
+{
+    let mut finder = Finder::new(alloc, market.trades() + 1)?;
+    let mut solver = Solver::with_room(alloc, residual)?;
+    search(
+        alloc,
+        market,
+        outcome,
+        residual,
+        graph,
+        &mut finder,
+        &mut solver,
+        steps,
+    )
+}
+
 /// Twice the number of unsigned trades, and one: the scale at which the taxes on a chain are less than a whole number.
 /// It takes no memory.
 pub fn chain_scale(contracts: &Contracts, count: u32) -> i128
@@ -173,16 +210,5 @@ pub fn chain_of<V: Oracle>(
 {
     let residual = taxed_residual(alloc, market, outcome)?;
     let graph = reduced_graph(alloc, market, outcome)?;
-    let mut finder = Finder::new(alloc, market.trades() + 1)?;
-    let mut solver = Solver::with_room(alloc, &residual)?;
-    search(
-        alloc,
-        market,
-        outcome,
-        &residual,
-        &graph,
-        &mut finder,
-        &mut solver,
-        steps,
-    )
+    search_in_room(alloc, market, outcome, &residual, &graph, steps)
 }

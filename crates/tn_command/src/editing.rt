@@ -1,9 +1,9 @@
 //! The answer of `session`.
 
-ghost use Rattle.std.specs.Prelude.{◌≡◌, ◌≢◌, ℕ, ◌+◌, ◌<◌, ◌≤◌, List, [], ◌∷◌, ◌++◌, ◌&&◌, not, IfOk, length, take};
+ghost use Rattle.std.specs.Prelude.{◌≡◌, ◌≢◌, ℕ, ◌+◌, ◌<◌, ◌≤◌, List, [], ◌∷◌, ◌++◌, ◌&&◌, not, All, IfOk, length, take};
 ghost use Rattle.tn_base.specs.Sets.{has};
 ghost use Rattle.tn_answer.specs.Kept.{IsWithinClaims, IsWithinState};
-ghost use Rattle.tn_command.specs.Edited.{IsAfter, IsStateOf, StandsAfter, StandsOn, TellsStates, is_admitted_by, is_away_by};
+ghost use Rattle.tn_command.specs.Edited.{AreStates, IsAfter, IsStateOf, StandsAfter, StandsOn, TellsStates, is_admitted_by, is_away_by};
 ghost use Rattle.tn_command.specs.Limits.{AreWorthsAnswered, most_answered_trades};
 ghost use Rattle.tn_firm.specs.Firms.{firm_of};
 ghost use Rattle.tn_plain_data.specs.Prices.{price_at};
@@ -193,6 +193,29 @@ fn make(
     }
 }
 
+/// The state after each of some edits, of a session that admits no trade before them.
+fn states_from(
+    alloc: Global,
+    market: &Market<FirmValue>,
+    edits: &Edits,
+    session: &mut Session<FirmValue, 16>,
+    steps: &mut Steps<Asked>,
+) -> Result<States, OutOfMemory>
+    requires wide { length market.now.trades ≤ most_answered_trades }
+    requires stands { StandsOn market.now.firms market.now.trades session.old }
+    requires none_admitted { session.old.admitted ≡ 0 }
+    ensures states { IfOk result (network_of firm_of market.now AreStates edits.now) }
+    ensures within { IfOk result (All IsWithinState) }
+{
+    let mut kept = nothing_kept();
+    let mut states = Vec::with_capacity(alloc, edits.len())?;
+    for k in 0..edits.len() {
+        make(session, &mut kept, market, edits, k, steps);
+        states.push(state_of(alloc, market, session)?)?;
+    }
+    Ok(States::from_vec(states))
+}
+
 /// An equilibrium of the market of the trades that can be used, after each of some edits. At first no trade is admitted
 /// and no firm is away. There are at most 1,024 trades, and worths are small enough for so many.
 pub fn states_after(
@@ -207,13 +230,6 @@ pub fn states_after(
 {
     let mut steps = Steps::new(Asked);
     let mut session = Session::<FirmValue, 16>::begin(alloc, market, &mut steps)?;
-    let mut kept = nothing_kept();
-    let mut states = Vec::with_capacity(alloc, edits.len())?;
-    for k in 0..edits.len() {
-        make(&mut session, &mut kept, market, edits, k, &mut steps);
-        states.push(state_of(alloc, market, &session)?)?;
-    }
-    Ok(Said::Session {
-        edits: States::from_vec(states),
-    })
+    let edits = states_from(alloc, market, edits, &mut session, &mut steps)?;
+    Ok(Said::Session { edits })
 }

@@ -4,7 +4,7 @@ use Rattle.std.specs.Prelude.{◌≤ℤ◌, ◌<ℤ◌, slice_get, option_map, I
 use Rattle.std.proofs.lemmas.Int.{ints}
 use Rattle.std.proofs.lemmas.Bool.{cases_eq, false≢true}
 use Rattle.std.proofs.lemmas.Option.{none-some, same_Some, slice_get_within, get_or_from_slice_get}
-use mir.Syntax.{w128}
+use mir.Syntax.{w32, w128}
 use mir.Val.{SFits, of_z, to_z}
 use Rattle.tn_base.specs.Arcs.{IsAtMost}
 use Rattle.tn_base.specs.Sets.{has, toggle, meet, minus, sum_over}
@@ -15,11 +15,11 @@ use Rattle.tn_market.specs.Reduced.{greater}
 use Rattle.tn_dealer.specs.declared.pair.Pair.{Pair}
 use Rattle.tn_dealer.specs.Pairs.{matched_worth, IsOwnPair}
 use Rattle.tn_dealer.specs.Certificates.{bound_of, KeepsPairs, KeepsAt, KeepsBeside, TakesAt, MayTake}
-use Rattle.tn_dealer.specs.Costs.{AreCosts, cost_at, far}
+use Rattle.tn_dealer.specs.Costs.{AreCosts, cost_at, far, place_of}
 use Rattle.tn_law.proofs.PairLemmas.{IsWorth}
 use Rattle.tn_dealer.specs.WorthLemmas.{AreOwnPairs, Paired, own_rest, matched_left, matched_right, matched_from, matched_none, matched_empty}
 use Rattle.tn_dealer.specs.WithinLemmas.{matched_within}
-use Rattle.tn_market.specs.Widths.{most_worth}
+use Rattle.tn_market.specs.Widths.{most_own, most_worth}
 use Rattle.tn_base.specs.Widths.{most_amount}
 
 -- ---- sums
@@ -308,6 +308,33 @@ takes_pair pair here buy sell x cost next next_cost same_buy same_sell same_cost
       ∙ ap (λ (z : ℕ). toggle (toggle x pair.buy) z) (sym same_sell);
   cost_is = takes.cost_is ∙ ap (λ (z : ℤ). cost +ℤ z) (sym same_cost);
 }
+
+-- what the code takes in
+pub pair_taken : (costs : List ℤ) (buy sell place bundle next : ℕ) (cost here : ℤ) → buy < most_own → sell < most_own
+    → place ≡ place_of buy sell → here ≡ get_or costs place (pos 0) → SFits w32 (get_or costs place (pos 0))
+    → IsAtMost cost (most_own * most_amount) → get_or costs place (pos 0) <ℤ far
+    → has bundle buy ≡ false → has bundle sell ≡ false → next ≡ toggle (toggle bundle buy) sell
+    → MayTake costs bundle cost next
+    (to_z w128 (of_z w128 (to_z w128 (of_z w128 cost) +ℤ to_z w128 (of_z w128 here))))
+pair_taken costs buy sell place bundle next cost here buy_near sell_near at is fits small near no_buy no_sell taken =
+    let there = ap (λ (k : ℕ). get_or costs k (pos 0)) at in
+    inr (record {
+      buy = buy;
+      sell = sell;
+      buy_near = buy_near;
+      sell_near = sell_near;
+      takes = record {
+        near = subst (λ (z : ℤ). z <ℤ far) there near;
+        no_buy = no_buy;
+        no_sell = no_sell;
+        bundle_is = taken;
+        cost_is = sum (get_or costs place (pos 0)) is fits ∙ ap (λ (z : ℤ). cost +ℤ z) there;
+      };
+    })
+  where
+    sum : (z : ℤ) → here ≡ z → SFits w32 z
+        → to_z w128 (of_z w128 (to_z w128 (of_z w128 cost) +ℤ to_z w128 (of_z w128 here))) ≡ cost +ℤ z
+    sum z is fits = omega (arith, ints, is, fits, small.low, small.high)
 
 pub taken_more : (count buys : ℕ) (pairs : List Pair) (costs : List ℤ) → AreOwnPairs count buys pairs
     → AreCosts pairs costs

@@ -1,5 +1,5 @@
 -- What is taxed in a bundle, counted.
-use Rattle.std.proofs.Common.{◌≡◌, ℕ, zero, suc, ◌+◌, ◌*◌, ◌^◌, ◌<◌, ◌≤◌, Bool, true, false, ◌&&◌, if◌then◌else◌, Some, option_map, sym, ap, ◌∙◌, arith, ℤ, pos, ◌+ℤ◌, ◌-ℤ◌, ◌*ℤ◌, neg_ℤ}
+use Rattle.std.proofs.Common.{◌≡◌, ℕ, zero, suc, ◌+◌, ◌*◌, ◌^◌, ◌<◌, ◌≤◌, Bool, true, false, ◌&&◌, if◌then◌else◌, Some, option_map, refl, sym, ap, ap₂, ◌∙◌, arith, ℤ, pos, negsuc, ◌+ℤ◌, ◌-ℤ◌, ◌*ℤ◌, neg_ℤ, ◌≤ℤ◌}
 use Rattle.std.specs.Int.RustNames.{unsigned_abs}
 use Rattle.std.proofs.lemmas.Int.{ints}
 use mir.Syntax.{w128}
@@ -11,7 +11,7 @@ use Rattle.tn_base.proofs.SetLemmas.{has-meet, meet_within}
 use Rattle.tn_base.proofs.SizeLemmas.{size_at}
 use Rattle.tn_base.proofs.SumLemmas.{times-plus}
 use Rattle.tn_law.proofs.BoundLemmas.{small_abs, times_small}
-use Rattle.tn_market.specs.Levied.{levy, levied, IsLevy}
+use Rattle.tn_market.specs.Levied.{levy, levied, levied_limit, IsLevy}
 use Rattle.tn_market.specs.Widths.{most_limit}
 
 -- the tax is due once for each taxed position
@@ -120,3 +120,44 @@ difference_fits a b first second = omega (arith, ints, first.low, first.high, se
 pub difference_is : (a b : ℤ) → IsAtMost a most_limit → IsAtMost b most_limit
     → to_z w128 (of_z w128 (to_z w128 (of_z w128 a) -ℤ to_z w128 (of_z w128 b))) ≡ a -ℤ b
 difference_is a b first second = omega (arith, ints, first.low, first.high, second.low, second.high)
+
+-- the bound of the levied firm has two parts, neither below 0
+pub record AreParts (scaled taxes : ℤ) (limit : ℕ) : Type 0 where
+  pub scaled_least : pos 0 ≤ℤ scaled
+  pub taxes_least : pos 0 ≤ℤ taxes
+  pub sum : scaled +ℤ taxes ≡ pos limit
+  pub small : limit ≤ most_limit
+
+pub parts_of : (scale tax worth : ℤ) → pos 0 ≤ℤ worth → IsLevy scale tax (unsigned_abs worth)
+    → AreParts (scale *ℤ worth) (pos 64 *ℤ tax) (levied_limit scale tax (unsigned_abs worth))
+parts_of scale tax worth bound is =
+    let scaled = ap₂ (λ (x y : ℤ). x *ℤ y) (is_size scale (omega (arith, ints, is.from_one))) (is_size worth bound) in
+    let taxes = ap (λ (z : ℤ). pos 64 *ℤ z) (is_size tax is.from_zero) in
+    parts (scale *ℤ worth) (pos 64 *ℤ tax) (unsigned_abs scale * unsigned_abs worth) (64 * unsigned_abs tax) scaled
+    taxes is.small
+  where
+    is_size : (z : ℤ) → pos 0 ≤ℤ z → z ≡ pos (unsigned_abs z)
+    is_size (pos n) least = refl
+    is_size (negsuc n) least = absurd (omega (arith, ints, least))
+
+    parts : (a b : ℤ) (m n : ℕ) → a ≡ pos m → b ≡ pos n → m + n ≤ most_limit → AreParts a b (m + n)
+    parts a b m n first second small = record {
+      scaled_least = omega (arith, ints, first);
+      taxes_least = omega (arith, ints, second);
+      sum = omega (arith, ints, first, second);
+      small = small;
+    }
+
+pub scaled_fits : (a b : ℤ) (limit : ℕ) → AreParts a b limit → SFits w128 a
+scaled_fits a b limit parts = omega (arith, ints, parts.scaled_least, parts.taxes_least, parts.sum, parts.small)
+
+pub taxes_fit : (a b : ℤ) (limit : ℕ) → AreParts a b limit → SFits w128 b
+taxes_fit a b limit parts = omega (arith, ints, parts.scaled_least, parts.taxes_least, parts.sum, parts.small)
+
+pub sum_fits : (a b : ℤ) (limit : ℕ) → AreParts a b limit
+    → SFits w128 (to_z w128 (of_z w128 a) +ℤ to_z w128 (of_z w128 b))
+sum_fits a b limit parts = omega (arith, ints, parts.scaled_least, parts.taxes_least, parts.sum, parts.small)
+
+pub sum_is : (a b : ℤ) (limit : ℕ) → AreParts a b limit
+    → to_z w128 (of_z w128 (to_z w128 (of_z w128 a) +ℤ to_z w128 (of_z w128 b))) ≡ pos limit
+sum_is a b limit parts = omega (arith, ints, parts.scaled_least, parts.taxes_least, parts.sum, parts.small)

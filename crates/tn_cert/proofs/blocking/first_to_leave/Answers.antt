@@ -11,9 +11,27 @@ use Rattle.tn_market.specs.Widths.{most_asked_price}
 use Rattle.tn_plain_data.specs.declared.contract.Contract.{Contract}
 use Rattle.tn_plain_data.specs.Choices.{together}
 use Rattle.tn_cert.proofs.BlockingLemmas.{AreTakenBefore, FindsLeftAt, one_taken, first_leaver, left_at}
-use Rattle.tn_cert.proofs.CountedLemmas.{pool_known, pool_small}
+use Rattle.tn_cert.proofs.CountedLemmas.{numerators_small, pool_known, pool_room, pool_small}
 use Rattle.tn_cert.proofs.KeptLemmas.{firm_at, for_firm, listed}
 use Rattle.tn_cert.proofs.blocking.first_to_leave.Goals as goal
+
+pub together-requires-clause-over_least : goal.together-requires-clause-over_least
+together-requires-clause-over_least g c =
+    let least = c.requires.over.least in
+    let most = c.requires.over.most in
+    omega (arith, ints, least, most)
+
+pub together-requires-clause-outcome_most : goal.together-requires-clause-outcome_most
+together-requires-clause-outcome_most g c =
+    let most = c.requires.outcome.most in
+    omega (arith, ints, most)
+
+pub together-requires-clause-small_outcome : goal.together-requires-clause-small_outcome
+together-requires-clause-small_outcome g c =
+    numerators_small c.args.outcome.now.contracts c.requires.outcome.contracts.small
+
+pub loop-f-init : goal.loop-f-init
+loop-f-init g c = λ f firm k offer below. absurd (omega (arith, below))
 
 pub first_left-requires-clause-known : goal.first_left-requires-clause-known
 first_left-requires-clause-known g c =
@@ -34,6 +52,27 @@ first_left-requires-clause-small g c =
     (omega (arith, ints, over_least)) c.requires.over.most
     (omega (arith, ints, outcome_least)) c.requires.outcome.most c.requires.offers.small
     c.requires.outcome.contracts.small)
+
+pub first_left-requires-clause-first : goal.first_left-requires-clause-first
+first_left-requires-clause-first g c =
+    let offers = c.args.offers.now in
+    let contracts = c.args.outcome.now.contracts in
+    let first = pool_room (to_z w128 (of_z w128 c.args.over)) c.args.outcome.now.over offers contracts in
+    let pool = ap length c.in_ok-pool.ensures in
+    let count = c.len.ensures in
+    omega (arith, first, pool, count)
+
+pub first_left-requires-clause-from_one : goal.first_left-requires-clause-from_one
+first_left-requires-clause-from_one g c =
+    let least = c.common-scale.ensures.least in
+    let most = c.common-scale.ensures.most in
+    omega (arith, ints, least, most)
+
+pub first_left-requires-clause-small_scale : goal.first_left-requires-clause-small_scale
+first_left-requires-clause-small_scale g c =
+    let least = c.common-scale.ensures.least in
+    let most = c.common-scale.ensures.most in
+    omega (arith, ints, least, most)
 
 pub returns-in-Some : goal.returns-in-Some
 returns-in-Some g c =

@@ -3,7 +3,7 @@ use Rattle.std.proofs.Common.{◌∙◌, ◌+◌, ◌<◌, ℕ, map, length, ari
 use Rattle.std.proofs.lemmas.Result.{IfOk-weaker}
 use Rattle.tn_residual.specs.Residual.{unsigned, unsigned_part}
 use Rattle.tn_base.specs.Sets.{size}
-use Rattle.tn_base.specs.Walks.{arcs_among, is_admitted, KeepsArcs}
+use Rattle.tn_base.specs.Walks.{AreDifferent, arcs_among, is_admitted, KeepsArcs}
 use Rattle.tn_graph.specs.Blocks.{arcs_of}
 use Rattle.tn_chain.specs.Listed.{IsBegin, AreAtNodes}
 use Rattle.tn_chain.specs.Search.{HasCycle, IsBlockingChain}
@@ -33,8 +33,19 @@ find_cycle-count-requires-clause-broken g c = λ label keeps.
     (subst (λ (n : ℕ). KeepsArcs (arcs_among (is_admitted n c.loop-on.left) (arcs_of c.args.graph.now)) label)
     c.trades-null.ensures.count keeps)
 
+pub listed_trades-cycle-requires-clause-different : goal.listed_trades-cycle-requires-clause-different
+listed_trades-cycle-requires-clause-different g c =
+    let round = c.find_cycle-count.ensures.cycle.1 in
+    subst AreDifferent (sym round.nodes_are) round.cycle.different
+
+pub listed_trades-cycle-requires-clause-counted : goal.listed_trades-cycle-requires-clause-counted
+listed_trades-cycle-requires-clause-counted g c = c.find_cycle-count.ensures.cycle.1.counted
+
 pub solve_among-requires-clause-made_for : goal.solve_among-requires-clause-made_for
 solve_among-requires-clause-made_for g c = c.loop-on.invariant.solver_sized
+
+pub contracts_at-requires-clause-counted : goal.contracts_at-requires-clause-counted
+contracts_at-requires-clause-counted g c = c.find_cycle-count.ensures.cycle.1.counted
 
 pub contracts_at-requires-clause-few : goal.contracts_at-requires-clause-few
 contracts_at-requires-clause-few g c = λ k v above is.

@@ -1,7 +1,7 @@
--- What shows the clauses of `chain_of` of `src/chain.rt`.
+-- What shows the clauses of `search_in_room` of `src/chain.rt`.
 use Rattle.std.proofs.Common.{map}
 use Rattle.tn_chain.proofs.ChainLemmas.{first_cycle, rational_outcome}
-use Rattle.tn_chain.proofs.chain.chain_of.Goals as goal
+use Rattle.tn_chain.proofs.chain.search_in_room.Goals as goal
 
 pub search-requires-clause-rational : goal.search-requires-clause-rational
 search-requires-clause-rational g c =

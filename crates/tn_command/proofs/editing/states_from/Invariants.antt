@@ -1,9 +1,9 @@
--- What the loops of `states_after` of `src/editing.rt` keep.
+-- What the loops of `states_from` of `src/editing.rt` keep.
 use Rattle.std.proofs.Common.{take, All}
 use Rattle.tn_answer.specs.Kept.{IsWithinState}
 use Rattle.tn_command.specs.Edited.{StandsAfter}
 use Rattle.tn_command.proofs.EditLemmas.{AreStatesBefore}
-use Rattle.tn_command.proofs.editing.states_after.Given as goal
+use Rattle.tn_command.proofs.editing.states_from.Given as goal
 
 abbrev pub invariant-loop-k : goal.invariant-loop-k
 invariant-loop-k l =
