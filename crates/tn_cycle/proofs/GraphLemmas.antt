@@ -49,6 +49,13 @@ off_sink nodes arc between a b p q = elim (cases_lt a nodes) [
     by (Some cost) e outside = let inside : a < nodes = (between a b cost e).0 in
         absurd (omega (arith, inside, outside))
 
+-- an arc that doesn't end at the sink is one of the graph
+pub arc_off_sink : (nodes : ℕ) (arc : ℕ → ℕ → Option ℤ) (u v : ℕ) (cost : ℤ) → v ≢ nodes
+    → with_sink nodes arc u v ≡ Some cost → arc u v ≡ Some cost
+arc_off_sink nodes arc u v cost off is =
+    sym (ap (λ (s : Bool). if s then Some (pos 0) else arc u v) (ne_eqb v nodes off))
+    ∙ (some_if (nat_lt u nodes) (if v == nodes then Some (pos 0) else arc u v) cost is).1
+
 -- where no cycle is negative, none off the sink is
 pub none_off_sink : (nodes : ℕ) (arc : ℕ → ℕ → Option ℤ) → AreBetweenNodes nodes arc → HasNoNegativeCycle arc
     → HasNoNegativeCycleOff (with_sink nodes arc) nodes

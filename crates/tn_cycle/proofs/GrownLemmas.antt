@@ -1,13 +1,15 @@
 -- Labels that grow node by node, and the negative cycle that ends their growth.
-use Rattle.std.proofs.Common.{◌≡◌, ℕ, ◌+◌, ◌<◌, ◌≤◌, sym, ap, subst, arith, inl, inr, List, ◌∷◌, length, ℤ, pos, ◌+ℤ◌, Option, Some, true}
-use Rattle.std.specs.Prelude.{All, nat_le, nat_lt}
+use Rattle.std.proofs.Common.{◌≡◌, ◌≢◌, ℕ, ◌+◌, ◌<◌, ◌≤◌, ◌∙◌, sym, ap, subst, arith, inl, inr, List, ◌∷◌, length, ℤ, pos, ◌+ℤ◌, Option, Some, None, Bool, true, false, ◌&&◌}
+use Rattle.std.specs.Prelude.{All, if◌then◌else◌, nat_le, nat_lt}
 use Rattle.std.proofs.lemmas.Int.{ints}
-use Rattle.std.proofs.lemmas.Bool.{and_parts, cases_eq, leb-true, ltb-true}
+use Rattle.std.proofs.lemmas.Bool.{and_parts, cases_eq, le-leb, le-ltb, leb-true, lt-leb, lt-ltb, ltb-true}
+use Rattle.std.proofs.lemmas.Bool.Decides.{nat_tests}
 use Rattle.std.proofs.lemmas.List.Elements.{All-weaker}
 use Rattle.tn_base.specs.Arcs.{AreBetweenNodes}
 use Rattle.tn_base.specs.Walks.{arcs_among, KeepsArcs, KeepsArcsEntering}
 use Rattle.tn_cycle.specs.declared.answer.Path.{Path}
 use Rattle.tn_cycle.specs.declared.answer.Path.TheVariants as path
+use Rattle.tn_cycle.specs.GraphLemmas.{some_if}
 use Rattle.tn_cycle.specs.Graphs.{is_between}
 use Rattle.tn_cycle.specs.Kept.{KeepsArcsAvoiding}
 use Rattle.tn_cycle.specs.Answers.{AnswersCycle, AnswersGrown, AreNear, arc_count, cost_of, label_in}
@@ -90,3 +92,57 @@ whole_grown nodes null arc listed labels (path.Cycle cost count) last answer ent
   cycle = answer.least.cycle;
   begins = inl last;
 }
+
+-- off the first one, the same nodes are trades from it on and from the next on
+between_same : (first null v : ℕ) → v ≢ first → is_between first null v ≡ is_between (first + 1) null v
+between_same first null v off = ap (λ (b : Bool). b && nat_lt v null) (same first v off)
+  where
+    same : (first v : ℕ) → v ≢ first → nat_le first v ≡ nat_le (first + 1) v
+    same first v off = grind (arith, nat_tests)
+
+-- marks of the trades after the first one are those of its graph without it
+module _ (first null places : ℕ) (mark : ℕ → Bool)
+    (marks : (v : ℕ) → v < places → mark v ≡ is_between (first + 1) null v) where
+  pub marked_off : (arc : ℕ → ℕ → Option ℤ) → null ≤ places → (v u : ℕ) (cost : ℤ) → v ≢ first
+      → arcs_among (is_between first null) arc v u ≡ Some cost → mark v ≡ true
+  marked_off arc room v u cost off is =
+      let both = (some_if (is_between first null v && is_between first null u) (arc v u) cost is).0 in
+      let own : is_between first null v ≡ true = (and_parts (is_between first null v) (is_between first null u) both).0
+      in
+      let below : v < null = ltb-true v null (and_parts (nat_le first v) (nat_lt v null) own).1 in
+      marks v (omega (arith, below, room)) ∙ sym (between_same first null v off) ∙ own
+
+  pub unmarked : first < places → mark first ≡ false
+  unmarked inside = marks first inside ∙ ap (λ (b : Bool). b && nat_lt first null) (above first)
+    where
+      above : (first : ℕ) → nat_le (first + 1) first ≡ false
+      above first = lt-leb (first + 1) first (omega arith)
+
+-- labels that keep the arcs among the trades after the first one
+pub first_avoiding : (first next null : ℕ) (arc : ℕ → ℕ → Option ℤ) (label : ℕ → ℤ) → next ≡ first + 1
+    → KeepsArcs (arcs_among (is_between next null) arc) label
+    → KeepsArcsAvoiding (arcs_among (is_between first null) arc) first label
+first_avoiding first next null arc label is keeps =
+    keeps_avoiding (arcs_among (is_between first null) arc) (arcs_among (is_between (first + 1) null) arc) first label
+    (λ a b a_off b_off. ap (λ (t : Bool). if t && is_between first null b then arc a b else None)
+    (between_same first null a a_off)
+    ∙ ap (λ (t : Bool). if is_between (first + 1) null a && t then arc a b else None) (between_same first null b b_off))
+    (subst (λ (k : ℕ). KeepsArcs (arcs_among (is_between k null) arc) label) is keeps)
+
+-- marks of all trades
+module _ (nodes null places : ℕ) (mark : ℕ → Bool) (last : nodes ≡ null + 1) (room : nodes ≤ places)
+    (marks : (v : ℕ) → v < places → mark v ≡ is_between 0 null v) where
+  pub marked_all : (arc : ℕ → ℕ → Option ℤ) → AreBetweenNodes nodes arc → (v u : ℕ) (cost : ℤ) → v ≢ null
+      → arc v u ≡ Some cost → mark v ≡ true
+  marked_all arc between v u cost off is =
+      let inside : v < nodes = (between v u cost is).0 in
+      marks v (omega (arith, inside, room)) ∙ below v null (omega (arith, inside, last, off))
+    where
+      below : (v null : ℕ) → v < null → is_between 0 null v ≡ true
+      below v null less = ap (λ (b : Bool). b && nat_lt v null) (le-leb 0 v (omega arith)) ∙ lt-ltb v null less
+
+  pub null_unmarked : mark null ≡ false
+  null_unmarked = marks null (omega (arith, last, room)) ∙ none null
+    where
+      none : (null : ℕ) → is_between 0 null null ≡ false
+      none null = ap (λ (b : Bool). b && nat_lt null null) (le-leb 0 null (omega arith)) ∙ le-ltb null null (omega arith)

@@ -49,6 +49,38 @@ all-read f now view many =
     let size : length (take f.labelled f.labels.items) ≡ length now.labels = ap length is in
     sym is ∙ take_all f.labelled f.labels.items (omega (arith, many, size, length-take f.labelled f.labels.items))
 
+-- how many nodes are read off the finder
+pub nodes-read : (f : Inside) (now : Reading)
+    → reading_of f.nodes f.count f.path.items f.labelled f.labels.items f.reached f.turns f.end f.row.items ≡ now
+    → now.nodes ≡ f.nodes
+nodes-read f now view = ap (λ (reading : Reading). reading.nodes) (sym view)
+
+-- a finder that lends all its labels
+module _ (f : Inside) (now : Reading)
+    (view : reading_of f.nodes f.count f.path.items f.labelled f.labels.items f.reached f.turns f.end f.row.items ≡ now)
+    (sized : f.labels.len ≡ f.nodes) (labelled : length now.labels ≡ now.nodes) where
+  -- those that are lent are those that were read
+  pub lent-read : (lent : List ℤ) → lent ≡ f.labels.items → length lent ≡ f.labels.len → now.labels ≡ lent
+  lent-read lent is whole =
+      all-read f now view (omega (arith, ap length is, whole, sized, labelled, nodes-read f now view)) ∙ sym is
+
+  -- and those that are written are read afterwards
+  pub written-read : (written : List ℤ) → length written ≡ f.labels.len
+      → take f.labelled (take f.labels.len (written ++ drop (length written) f.labels.items)) ≡ written
+  written-read written whole =
+      let size : length (take f.labelled f.labels.items) ≡ length now.labels =
+      ap (λ (reading : Reading). length reading.labels) view in
+      let all : length written ≤ f.labelled = omega (
+        arith,
+        whole,
+        sized,
+        labelled,
+        nodes-read f now view,
+        size,
+        length-take f.labelled f.labels.items,
+      ) in
+      ap (take f.labelled) (written-back written f.labels.items f.labels.len whole) ∙ take_all f.labelled written all
+
 -- labels, or their negatives, that were written
 pub signed_near_all : (negates : Bool) (old new : List ℤ) → length new ≡ length old → AreNear most_label old
     → ((v : ℕ) → v < length old → label_in new v ≡ signed negates (label_in old v)) → AreNear most_label new
@@ -145,3 +177,13 @@ places_kept nodes count labelled reached path labels row_places waits spaces row
       walks_read = few_walks;
       listable = listable;
     }
+
+-- and where no walks may be read
+pub places_free : (nodes count labelled reached path labels row_places waits spaces : ℕ) (row : List Cell)
+    (count' labelled' : ℕ) (row' : List Cell)
+    → HasPlaces nodes count labelled reached path labels row_places waits spaces row → count' ≤ nodes + 2
+    → labelled' ≤ nodes → HasPlaces nodes count' labelled' 0 path labels row_places waits spaces row'
+places_free nodes count labelled reached path labels row_places waits spaces row count' labelled' row' had few
+    few_labels =
+    places_kept nodes count labelled reached path labels row_places waits spaces row count' labelled' 0 row' had few
+    few_labels (omega arith) (λ v none. absurd (omega (arith, none)))

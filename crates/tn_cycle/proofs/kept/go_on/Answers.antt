@@ -1,10 +1,11 @@
 -- What shows the clauses of `go_on` of `src/kept.rt`.
-use Rattle.std.proofs.Common.{◌≡◌, ◌+◌, ◌∙◌, ℕ, ℤ, Option, Some, set, refl, sym, ap, subst, arith, Bool, true, false, ◌&&◌, not, is_some}
+use Rattle.std.proofs.Common.{◌≡◌, ◌≢◌, ◌+◌, ◌<◌, ◌∙◌, ℕ, ℤ, List, length, Option, Some, set, refl, sym, ap, subst, arith, Bool, true, false, ◌&&◌, not, is_some}
 use Rattle.std.proofs.lemmas.Bool.{false≢true}
+use Rattle.std.proofs.lemmas.List.{get_or-set_same, get_or-set_other, length-set}
 use Rattle.std.specs.Prelude.{unwrap_or}
 use Rattle.tn_cycle.specs.declared.cell.Cell.{Cell}
 use Rattle.tn_cycle.specs.Answers.{label_in}
-use Rattle.tn_cycle.specs.Cells.{cell_at}
+use Rattle.tn_cycle.specs.Cells.{cell_at, no_cell}
 use Rattle.tn_cycle.specs.Kept.{IsOffered, is_ready, node_at}
 use Rattle.tn_cycle.specs.Queue.{IsBefore}
 use Rattle.tn_cycle.proofs.HeapLemmas.{lower_heap, other_heap}
@@ -136,3 +137,103 @@ returns-else-is_some-clause-listed c nodes flag inside flag_is lists =
     same_waiting c.args.labels.now (set row v new) c.push.new.list c.push.new.places (c.args.count + 1)
     c.push.ensures.queue nodes (λ w. is_ready (flag w) (cell_at (set row v new) w))
     (set c.args.list.now c.args.count v) reached c.push.ensures.same
+
+pub bounds-places-v : goal.bounds-places-v
+bounds-places-v c = omega (arith, c.requires.sized, c.requires.spaced)
+
+pub rise-requires-clause-inside : goal.rise-requires-clause-inside
+rise-requires-clause-inside c =
+    let own = cell_at c.args.row.now c.args.v in
+    let cost = some_cost own.cost (sym c.is_some.ensures ∙ c.if-is_some.true) in
+    let at = c.requires.ready (ready c.args.waits own cost.0 c.if-not-waits.false cost.1) in
+    let here : node_at c.args.places.now c.args.v ≡ at.0 =
+    place_of c.args.labels.now c.args.row.now c.args.list.now c.args.places.now c.args.count c.requires.queue c.args.v
+    at.0 at.1 at.2 in
+    omega (arith, here, at.1)
+
+pub push-requires-clause-absent : goal.push-requires-clause-absent
+push-requires-clause-absent c =
+    c.requires.unready (unready c.args.waits (cell_at c.args.row.now c.args.v)
+    (sym c.is_some.ensures ∙ c.if-is_some.false))
+
+pub push-requires-clause-queue : goal.push-requires-clause-queue
+push-requires-clause-queue c =
+    let own = cell_at c.args.row.now c.args.v in
+    let offers = better_offered own c.in-Some.new c.better.result c.args.first c.args.beyond c.args.u c.in-Some.is
+    c.better.ensures.offered in
+    changed_queue c.args.labels.now c.args.row.now c.args.v c.in-Some.new c.requires.sized c.args.list.now
+    c.args.places.now c.args.count
+    (offered_room own c.args.first c.args.beyond c.args.u c.in-Some.new offers c.requires.room c.requires.first
+    c.requires.rest) c.requires.queue
+
+pub push-requires-clause-spaced : goal.push-requires-clause-spaced
+push-requires-clause-spaced c = omega (arith, c.requires.spaced, length-set c.args.row.now c.args.v c.in-Some.new)
+
+pub returns-then-not-waits-clause-queue : goal.returns-then-not-waits-clause-queue
+returns-then-not-waits-clause-queue c =
+    let own = cell_at c.args.row.now c.args.v in
+    let offers = better_offered own c.in-Some.new c.better.result c.args.first c.args.beyond c.args.u c.in-Some.is
+    c.better.ensures.offered in
+    changed_queue c.args.labels.now c.args.row.now c.args.v c.in-Some.new c.requires.sized c.args.list.now
+    c.args.places.now c.args.count
+    (offered_room own c.args.first c.args.beyond c.args.u c.in-Some.new offers c.requires.room c.requires.first
+    c.requires.rest) c.requires.queue
+
+-- a node that doesn't wait has no first walk in the queue
+not_ready : (waits was : Bool) (new : Cell) → waits ≡ false → (is_ready waits new && not was) ≡ false
+not_ready false was new is = refl
+not_ready true was new is = absurd (false≢true (sym is))
+
+pub returns-then-not-waits-clause-listed : goal.returns-then-not-waits-clause-listed
+returns-then-not-waits-clause-listed c nodes flag inside flag_is lists =
+    let row = c.args.row.now in
+    let v = c.args.v in
+    let own = cell_at row v in
+    let new = c.in-Some.new in
+    let offers = better_offered own new c.better.result c.args.first c.args.beyond c.args.u c.in-Some.is
+    c.better.ensures.offered in
+    list_kept nodes v c.args.u c.args.count c.args.waits flag c.args.first c.args.beyond new row c.args.list.now inside
+    c.requires.sized flag_is offers lists
+    (not_ready c.args.waits (is_ready c.args.waits own) new c.if-not-waits.true)
+
+pub returns-in_default-clause-listed : goal.returns-in_default-clause-listed
+returns-in_default-clause-listed c nodes flag inside flag_is lists = lists
+
+-- the cell of the node is the new one, and all others stay
+module _ (own new : Cell) (row : List Cell) (v : ℕ) where
+  own_new : (found : Option Cell) (first : Option ℤ) (beyond : Cell) (u : ℕ) → v < length row → found ≡ Some new
+      → IsOffered own first beyond u (unwrap_or found own)
+      → IsOffered own first beyond u (cell_at (set row v new) v)
+  own_new found first beyond u inside is offers =
+      subst (IsOffered own first beyond u) (sym (get_or-set_same row v new no_cell inside))
+      (better_offered own new found first beyond u is offers)
+
+  others_stay : (w : ℕ) → w ≢ v → cell_at (set row v new) w ≡ cell_at row w
+  others_stay w off = get_or-set_other row v w new no_cell off
+
+pub returns-then-not-waits-clause-own : goal.returns-then-not-waits-clause-own
+returns-then-not-waits-clause-own c =
+    own_new (cell_at c.args.row.now c.args.v) c.in-Some.new c.args.row.now c.args.v c.better.result c.args.first
+    c.args.beyond c.args.u c.requires.sized c.in-Some.is c.better.ensures.offered
+
+pub returns-then-is_some-clause-own : goal.returns-then-is_some-clause-own
+returns-then-is_some-clause-own c =
+    own_new (cell_at c.args.row.now c.args.v) c.in-Some.new c.args.row.now c.args.v c.better.result c.args.first
+    c.args.beyond c.args.u c.requires.sized c.in-Some.is c.better.ensures.offered
+
+pub returns-else-is_some-clause-own : goal.returns-else-is_some-clause-own
+returns-else-is_some-clause-own c =
+    own_new (cell_at c.args.row.now c.args.v) c.in-Some.new c.args.row.now c.args.v c.better.result c.args.first
+    c.args.beyond c.args.u c.requires.sized c.in-Some.is c.better.ensures.offered
+
+pub returns-then-not-waits-clause-others : goal.returns-then-not-waits-clause-others
+returns-then-not-waits-clause-others c =
+    others_stay (cell_at c.args.row.now c.args.v) c.in-Some.new c.args.row.now c.args.v
+
+pub returns-then-is_some-clause-others : goal.returns-then-is_some-clause-others
+returns-then-is_some-clause-others c =
+    others_stay (cell_at c.args.row.now c.args.v) c.in-Some.new c.args.row.now c.args.v
+
+pub returns-else-is_some-clause-others : goal.returns-else-is_some-clause-others
+returns-else-is_some-clause-others c =
+    others_stay (cell_at c.args.row.now c.args.v) c.in-Some.new c.args.row.now c.args.v

@@ -1,17 +1,22 @@
 -- What shows the clauses of `search_kept` of `src/kept.rt`.
-use Rattle.std.proofs.Common.{◌≡◌, ◌≢◌, ◌+◌, ◌-◌, ◌<◌, ◌∙◌, ℕ, List, set, sym, ap, subst, arith, inl, inr, Bool, true, false, length}
-use Rattle.std.proofs.lemmas.Int.{ints}
+use Rattle.std.proofs.Common.{◌≡◌, ◌≢◌, ◌+◌, ◌-◌, ◌*◌, ◌<◌, ◌∙◌, ℕ, zero, suc, ℤ, ◌+ℤ◌, ◌-ℤ◌, List, [], ◌∷◌, set, refl, sym, ap, subst, arith, rules, inl, inr, Bool, true, false, is_some, length}
+use Rattle.std.proofs.lemmas.Int.{ints, to_z-of_z}
 use Rattle.std.proofs.lemmas.Bool.{cases_eq, false≢true}
-use Rattle.std.proofs.lemmas.List.{get_or-set_same, get_or-set_other}
+use Rattle.std.proofs.lemmas.List.{get_or-set_same, get_or-set_other, length-set}
+use mir.Syntax.{w128}
+use mir.Val.{SFits}
+use Rattle.tn_base.specs.Arcs.{IsAtMost}
+use Rattle.tn_cycle.specs.declared.kept.Sought.{Sought}
 use Rattle.tn_cycle.specs.declared.cell.Cell.{Cell}
-use Rattle.tn_cycle.specs.Answers.{label_in}
+use Rattle.tn_cycle.specs.Answers.{AreNear, label_in}
 use Rattle.tn_cycle.specs.Cells.{cell_at}
-use Rattle.tn_cycle.specs.Kept.{AreReady, ComesFirst, flag_at, is_ready, node_at}
+use Rattle.tn_cycle.specs.Kept.{AllArePast, AreReady, ComesFirst, IsPast, cell_by, every, flag_at, is_ready, label_by, node_at}
 use Rattle.tn_cycle.specs.Queue.{AreQueued, IsBefore, IsHeap, IsQueue}
+use Rattle.tn_cycle.specs.Widths.{most_label}
 use Rattle.tn_cycle.proofs.CellLemmas.{led_room}
 use Rattle.tn_cycle.proofs.CountLemmas.{ready_fewer, waiting, waiting_fewer, waiting_less}
 use Rattle.tn_cycle.proofs.KeptLemmas.{begun, known_next}
-use Rattle.tn_cycle.proofs.ListLemmas.{listed_first, taken_out}
+use Rattle.tn_cycle.proofs.ListLemmas.{listed_first, ready, taken_out}
 use Rattle.tn_cycle.proofs.QueueLemmas.{same_waiting}
 use Rattle.tn_cycle.proofs.kept.search_kept.Goals as goal
 
@@ -199,4 +204,129 @@ loop-settled-preserved g c =
         c.offer-count.auto.row,
         c.offer-count.auto.places,
       );
+    }
+
+pub bounds-waits-u : goal.bounds-waits-u
+bounds-waits-u g c =
+    let first = c.front_counts.ensures.yes c.if-not-front_counts.false in
+    omega (
+      arith,
+      (c.loop-settled.invariant.queued.listed.each 0 first.2.inside).0,
+      c.loop-settled.auto.waits,
+      c.requires.waits_sized,
+    )
+
+-- each label is near, also that of a node that has none
+near_all : (reach : ℕ) (labels : List ℤ) → AreNear reach labels → (v : ℕ) → IsAtMost (label_in labels v) reach
+near_all reach [] near v = record { low = omega (arith, ints); high = omega (arith, ints) }
+near_all reach (label ∷ labels) near zero = near 0 (omega arith)
+near_all reach (label ∷ labels) near (suc v) =
+    near_all reach labels (λ u inside. near (suc u) (omega (arith, inside))) v
+
+pub front_counts-requires-clause-base : goal.front_counts-requires-clause-base
+front_counts-requires-clause-base g c =
+    let fits : SFits w128 c.args.base = search rules in
+    simp to_z-of_z (subst (λ (z : ℤ). IsAtMost z (2 * most_label)) (sym c.requires.based)
+    (near_all (2 * most_label) c.args.labels.now c.requires.near c.args.end))
+
+pub front_counts-requires-clause-last : goal.front_counts-requires-clause-last
+front_counts-requires-clause-last g c =
+    omega (arith, c.requires.inside, c.requires.sized, c.begin.auto.row, c.loop-settled.auto.row)
+
+-- a node that is ready has a walk
+ready_some : (waits : Bool) (own : Cell) → is_ready waits own ≡ true → is_some own.cost ≡ true
+ready_some true own is = is
+ready_some false own is = absurd (false≢true is)
+
+pub front_counts-requires-clause-reached : goal.front_counts-requires-clause-reached
+front_counts-requires-clause-reached g c i inside =
+    let at = node_at c.loop-settled.list i in
+    ready_some (flag_at c.loop-settled.waits at) (cell_at c.loop-settled.row at)
+    (c.loop-settled.invariant.queued.listed.each i inside).1
+
+pub list_waiting-count-requires-clause-sized : goal.list_waiting-count-requires-clause-sized
+list_waiting-count-requires-clause-sized g c =
+    omega (arith, c.nodes-nodes.ensures, c.requires.sized, c.begin.auto.row)
+
+pub offer-count-requires-clause-counted : goal.offer-count-requires-clause-counted
+offer-count-requires-clause-counted g c =
+    let known = c.loop-settled.invariant.known in
+    let u = node_at c.loop-settled.list 0 in
+    let first = c.front_counts.ensures.yes c.if-not-front_counts.false in
+    let own = (c.loop-settled.invariant.queued.listed.each 0 first.2.inside).0 in
+    omega (arith, known.few u own, c.loop-settled.invariant.fewer, c.requires.few)
+
+pub offer-count-requires-clause-places : goal.offer-count-requires-clause-places
+offer-count-requires-clause-places g c =
+    omega (arith, c.requires.places, c.loop-settled.auto.list, c.take_front.auto.list)
+
+pub offer-count-requires-clause-settled : goal.offer-count-requires-clause-settled
+offer-count-requires-clause-settled g c =
+    let first = c.front_counts.ensures.yes c.if-not-front_counts.false in
+    (c.loop-settled.invariant.queued.listed.each 0 first.2.inside).0
+
+pub offer-count-requires-clause-shut : goal.offer-count-requires-clause-shut
+offer-count-requires-clause-shut g c =
+    let first = c.front_counts.ensures.yes c.if-not-front_counts.false in
+    let u = node_at c.loop-settled.list 0 in
+    let own = (c.loop-settled.invariant.queued.listed.each 0 first.2.inside).0 in
+    let within : u < length c.loop-settled.waits = omega (
+      arith,
+      own,
+      c.loop-settled.auto.waits,
+      c.requires.waits_sized,
+    ) in
+    still_shut c.loop-settled.waits u within c.args.end c.loop-settled.invariant.known.shut
+
+pub offer-count-requires-clause-sized : goal.offer-count-requires-clause-sized
+offer-count-requires-clause-sized g c =
+    omega (arith, c.requires.sized, c.begin.auto.row, c.loop-settled.auto.row)
+
+pub offer-count-requires-clause-spaced : goal.offer-count-requires-clause-spaced
+offer-count-requires-clause-spaced g c = omega (arith, c.loop-settled.invariant.spaced, c.take_front.auto.places)
+
+pub offer-count-requires-clause-waits_sized : goal.offer-count-requires-clause-waits_sized
+offer-count-requires-clause-waits_sized g c =
+    omega (
+      arith,
+      c.requires.waits_sized,
+      c.loop-settled.auto.waits,
+      length-set c.loop-settled.waits (node_at c.loop-settled.list 0) false,
+    )
+
+pub overflow_sub-count : goal.overflow_sub-count
+overflow_sub-count g c =
+    let first = c.front_counts.ensures.yes c.if-not-front_counts.false in
+    omega (arith, first.2.inside)
+
+pub returns : goal.returns
+returns g c =
+    absurd (omega (arith, c.loop-settled-test.false, c.nodes-nodes.ensures, c.loop-settled.invariant.fewer))
+
+-- all nodes that wait are past where those of the queue are
+past_listed : (nodes count : ℕ) (base : ℤ) (sought : Sought) (label : ℕ → ℤ) (cell : ℕ → Cell) (own : Cell)
+    (waits : ℕ → Bool) (list : List ℕ) → AreReady nodes waits cell list count
+    → AllArePast count base sought (label_by label list) (cell_by cell list) own every
+    → AllArePast nodes base sought label cell own waits
+past_listed nodes count base sought label cell own waits list listed past v w inside waiting is =
+    let at = listed.all v inside (ready (waits v) (cell v) w waiting is) in
+    subst (λ (z : ℕ). IsPast sought own ((w +ℤ label z) -ℤ base) (cell z).round) at.2
+    (past at.0 w at.1 refl (ap (λ (z : ℕ). (cell z).cost) at.2 ∙ is))
+
+pub returns-then-not-front_counts : goal.returns-then-not-front_counts
+returns-then-not-front_counts g c =
+    let nodes = g.C.Costs.node_count c.args.costs.now in
+    let label = label_in c.args.labels.now in
+    let cell = cell_at c.loop-settled.row in
+    let waits = flag_at c.loop-settled.waits in
+    let fits : SFits w128 c.args.base = search rules in
+    let past = simp to_z-of_z at (c.front_counts.ensures.no c.if-not-front_counts.true) in
+    record {
+      settled = c.loop-settled.settled;
+      fewer = omega (arith, c.loop-settled.invariant.fewer);
+      known = c.loop-settled.invariant.known;
+      past =
+          subst (λ (z : ℤ). AllArePast nodes z c.args.sought label cell (cell c.args.end) waits) c.requires.based
+          (past_listed nodes c.loop-settled.count c.args.base c.args.sought label cell (cell c.args.end) waits
+          c.loop-settled.list c.loop-settled.invariant.queued.listed past);
     }

@@ -1,6 +1,7 @@
 -- What shows the clauses of `find_added` of `src/kept_cycles.rt`.
-use Rattle.std.proofs.Common.{◌+◌, ◌<◌, length, set, refl, arith, rules}
+use Rattle.std.proofs.Common.{◌+◌, ◌<◌, ◌∙◌, inl, length, set, refl, arith, rules}
 use Rattle.std.proofs.lemmas.Int.{ints, to_z-of_z}
+use Rattle.std.proofs.lemmas.List.{length-set}
 use mir.Syntax.{w128}
 use mir.Val.{SFits}
 use Rattle.tn_base.specs.Widths.{most_cost}
@@ -70,3 +71,29 @@ returns-else-break_into-clause-near g c reach near =
     (c.node_label.ensures.near reach near) in
     simp to_z-of_z (λ v inside. let far = moved v inside in
     record { low = omega (arith, ints, far.low); high = omega (arith, ints, far.high) })
+
+pub node_label-requires-clause-near : goal.node_label-requires-clause-near
+node_label-requires-clause-near g c = c.requires.near
+
+pub bounds-labels-node : goal.bounds-labels-node
+bounds-labels-node g c = omega (arith, c.requires.inside, c.requires.labels_sized)
+
+pub break_into-requires-clause-labels_sized : goal.break_into-requires-clause-labels_sized
+break_into-requires-clause-labels_sized g c =
+    length-set c.args.labels.now c.args.node _ ∙ c.requires.labels_sized
+
+pub find_kept-requires-clause-labels_sized : goal.find_kept-requires-clause-labels_sized
+find_kept-requires-clause-labels_sized g c =
+    length-set c.args.labels.now c.args.node _ ∙ c.requires.labels_sized
+
+pub find_kept-requires-clause-covers : goal.find_kept-requires-clause-covers
+find_kept-requires-clause-covers g c = c.requires.covers
+
+pub find_kept-requires-clause-shut : goal.find_kept-requires-clause-shut
+find_kept-requires-clause-shut g c = c.requires.shut
+
+pub returns-then-break_into-clause-answer : goal.returns-then-break_into-clause-answer
+returns-then-break_into-clause-answer g c = c.find_kept.ensures.negative refl
+
+pub returns-then-break_into-clause-keeps : goal.returns-then-break_into-clause-keeps
+returns-then-break_into-clause-keeps g c = c.find_kept.ensures.keeps (inl refl)

@@ -1,13 +1,16 @@
 -- What shows the clauses of `find_kept` of `src/kept_cycles.rt`.
-use Rattle.std.proofs.Common.{◌≡◌, ◌∙◌, ℕ, ℤ, ◌+ℤ◌, length, sym, ap, subst, arith, rules}
+use Rattle.std.proofs.Common.{◌≡◌, ◌≢◌, ◌<◌, ◌≤◌, ◌∙◌, ℕ, ℤ, ◌+ℤ◌, List, Option, false, length, refl, sym, ap, subst, arith, rules}
 use Rattle.std.specs.Prelude.{take}
 use Rattle.std.proofs.lemmas.Int.{ints, to_z-of_z}
+use Rattle.std.proofs.lemmas.List.Elements.{All-weaker}
 use mir.Syntax.{w128}
 use mir.Val.{SFits}
 use Rattle.tn_cycle.specs.Answers.{arc_count, cost_of, label_in}
+use Rattle.tn_cycle.specs.declared.answer.Path.{Path}
+use Rattle.tn_cycle.specs.declared.answer.Path.TheVariants as path
 use Rattle.tn_cycle.specs.declared.cell.Cell.{Cell}
-use Rattle.tn_cycle.specs.Cells.{HasRoom, cell_at}
-use Rattle.tn_cycle.specs.Kept.{AreRaised, flag_at}
+use Rattle.tn_cycle.specs.Cells.{HasRoom, cell_at, trail}
+use Rattle.tn_cycle.specs.Kept.{AreRaised, IsCycleRead, flag_at}
 use Rattle.tn_cycle.proofs.StoppedLemmas.{raised_keep}
 use Rattle.tn_cycle.proofs.KeptCycleLemmas.{kept_room, raised_near, read_least, read_negative, read_small, read_under}
 use Rattle.tn_cycle.proofs.kept_cycles.find_kept.Goals as goal
@@ -139,3 +142,67 @@ returns-clause-near g c reach all v inside =
     (limit_is nodes (length c.args.labels.now) c.args.node label new cell c.gain.result c.cost.result (cost_of found)
     c.requires.labels_sized gain c.cost.ensures raised)
     v (omega (arith, inside, c.raise.auto.labels, c.requires.labels_sized))
+
+pub search_kept-requires-clause-based : goal.search_kept-requires-clause-based
+search_kept-requires-clause-based g c =
+    let near = c.requires.near c.args.node (omega (arith, c.requires.inside, c.requires.labels_sized)) in
+    let fits : SFits w128 (label_in c.args.labels.now c.args.node) = omega (arith, ints, near.low, near.high) in
+    simp to_z-of_z refl
+
+pub search_kept-requires-clause-begins : goal.search_kept-requires-clause-begins
+search_kept-requires-clause-begins g c v u cost off _ is = c.requires.covers v u cost off is
+
+pub search_kept-requires-clause-passes : goal.search_kept-requires-clause-passes
+search_kept-requires-clause-passes g c v u cost last off _ is = c.requires.covers u c.args.node last off is
+
+pub search_kept-requires-clause-labelled : goal.search_kept-requires-clause-labelled
+search_kept-requires-clause-labelled g c v inside _ = omega (arith, inside, c.requires.labels_sized)
+
+pub gain-requires-clause-number : goal.gain-requires-clause-number
+gain-requires-clause-number g c =
+    let near = c.requires.near c.args.node (omega (arith, c.requires.inside, c.requires.labels_sized)) in
+    let fits : SFits w128 (label_in c.args.labels.now c.args.node) = omega (arith, ints, near.low, near.high) in
+    simp to_z-of_z (record { low = omega (arith, ints, near.low); high = omega (arith, ints, near.high) })
+
+pub read_cycle-found-requires-clause-inside : goal.read_cycle-found-requires-clause-inside
+read_cycle-found-requires-clause-inside g c =
+    omega (arith, c.requires.inside, c.requires.sized, c.search_kept.auto.row)
+
+-- the walk of a search that stopped can be listed
+pub read_cycle-found-requires-clause-listable : goal.read_cycle-found-requires-clause-listable
+read_cycle-found-requires-clause-listable g c =
+    let nodes = g.C.Costs.node_count c.args.costs.now in
+    let row = c.search_kept.new.row in
+    let stopped = c.search_kept.ensures in
+    let places : nodes ≤ length row = omega (arith, c.requires.sized, c.search_kept.auto.row) in
+    record {
+      few = omega (
+        arith,
+        stopped.known.few c.args.node c.requires.inside,
+        stopped.fewer,
+        c.requires.path_sized,
+        c.search_kept.auto.list,
+      );
+      inside =
+          All-weaker (λ u. (u < nodes) × (u ≢ c.args.node) × (flag_at c.search_kept.new.waits u ≡ false))
+          (λ u. u < length row) (λ u h. omega (arith, h.0, places))
+          (trail (cell_at row) (cell_at row c.args.node).round c.args.node)
+          (stopped.known.passes c.args.node c.requires.inside);
+    }
+
+-- a cycle that was read has few arcs
+read_few : (nodes node : ℕ) (cell : ℕ → Cell) (cap : Option ℤ) (listed : List ℕ) (found : Path)
+    → (cell node).round < nodes → IsCycleRead cell node cap listed found → arc_count found ≤ nodes
+read_few nodes node cell cap listed path.None few read = omega arith
+read_few nodes node cell cap listed (path.Cycle cost count) few read = omega (arith, few, read.3)
+
+pub returns-clause-few_arcs : goal.returns-clause-few_arcs
+returns-clause-few_arcs g c =
+    let stopped = c.search_kept.ensures in
+    read_few (g.C.Costs.node_count c.args.costs.now) c.args.node (cell_at c.search_kept.new.row) c.args.cap
+    (take (arc_count c.read_cycle-found.result) c.read_cycle-found.new.path) c.read_cycle-found.result
+    (omega (arith, stopped.known.few c.args.node c.requires.inside, stopped.fewer)) c.read_cycle-found.ensures
+
+pub raise-requires-clause-sized : goal.raise-requires-clause-sized
+raise-requires-clause-sized g c =
+    omega (arith, c.requires.labels_sized, c.requires.sized, c.search_kept.auto.row)

@@ -1,5 +1,5 @@
 -- What shows the clauses of `node_label` of `src/kept_cycles.rt`.
-use Rattle.std.proofs.Common.{◌≡◌, ◌+◌, ℤ, true, sym, ◌∙◌, subst, arith, rules}
+use Rattle.std.proofs.Common.{◌≡◌, ◌+◌, ℤ, Option, None, Some, true, sym, ◌∙◌, subst, arith, rules}
 use Rattle.std.proofs.lemmas.Int.{ints, to_z-of_z}
 use Rattle.std.proofs.lemmas.Option.{same_Some}
 use mir.Syntax.{w128}
@@ -39,3 +39,23 @@ returns-in-None-clause-near g c reach all =
     let is = simp to_z-of_z at c.signed.ensures in
     simp to_z-of_z (subst (λ (z : ℤ). IsAtMost z (reach + most_cost)) (sym is)
     (signed_near true c.unwrap_or.result (reach + most_cost) own))
+
+pub least_number-requires-in-None-clause-labels_sized : goal.least_number-requires-in-None-clause-labels_sized
+least_number-requires-in-None-clause-labels_sized g c = c.requires.labels_sized
+
+pub least_number-requires-in-None-clause-near : goal.least_number-requires-in-None-clause-near
+least_number-requires-in-None-clause-near g c = c.requires.near
+
+pub returns-in-Some-clause-near : goal.returns-in-Some-clause-near
+returns-in-Some-clause-near g c reach all =
+    let fits : SFits w128 c.in-Some.label = search rules in
+    simp to_z-of_z (c.least_number.ensures.near reach all c.in-Some.label c.in-Some.is)
+
+-- a number that keeps an arc is there
+not_none : (found : Option ℤ) (number : ℤ) → found ≡ None → found ≡ Some number → ⊥
+not_none found number none some = cc
+
+pub returns-in-None-clause-keeps : goal.returns-in-None-clause-keeps
+returns-in-None-clause-keeps g c v cost off is =
+    let had = c.least_number.ensures.keeps v cost off is in
+    absurd (not_none c.least_number.result had.0 c.in-None.is had.1)

@@ -1,11 +1,14 @@
 -- What shows the clauses of `relabel_kept` of `src/kept_cycles.rt`.
-use Rattle.std.proofs.Common.{ℕ, subst, arith, rules}
+use Rattle.std.proofs.Common.{◌≡◌, ◌≢◌, ◌∙◌, ℕ, ℤ, pos, List, Option, Some, Bool, true, false, set, sym, subst, arith, rules}
 use Rattle.std.proofs.lemmas.Int.{to_z-of_z}
+use Rattle.std.proofs.lemmas.List.{get_or-set_other, get_or-set_same, get_or_past, length-set}
 use mir.Syntax.{w128}
 use mir.Val.{SFits}
 use Rattle.tn_cycle.specs.Answers.{IsLowest, label_in}
 use Rattle.tn_cycle.specs.Cells.{cell_at}
+use Rattle.tn_cycle.specs.Graphs.{with_sink}
 use Rattle.tn_cycle.specs.Kept.{flag_at}
+use Rattle.tn_cycle.proofs.GraphLemmas.{arc_off_sink}
 use Rattle.tn_cycle.proofs.KeptCycleLemmas.{sunk_settled}
 use Rattle.tn_cycle.proofs.LabelLemmas.{sunk_at, lowest_small, are_labels}
 use Rattle.tn_cycle.proofs.kept_cycles.relabel_kept.Goals as goal
@@ -56,3 +59,49 @@ returns g c =
     are_labels nodes arc cell between sunk.0 c.lowest_cost.result c.write_labels.new.labels least
     (omega (arith, c.write_labels.auto.labels, c.requires.labels_sized))
     (λ v inside. are v (omega (arith, inside, c.requires.labels_sized)))
+
+pub search_kept-requires-clause-waits_sized : goal.search_kept-requires-clause-waits_sized
+search_kept-requires-clause-waits_sized g c =
+    omega (arith, c.requires.waits_sized, length-set c.args.waits.now c.nodes-sink.result false)
+
+pub search_kept-requires-clause-based : goal.search_kept-requires-clause-based
+search_kept-requires-clause-based g c =
+    sym (get_or_past c.args.labels.now c.nodes-sink.result (pos 0)
+    (omega (arith, c.requires.labels_sized, c.nodes-sink.ensures)))
+
+pub search_kept-requires-clause-labelled : goal.search_kept-requires-clause-labelled
+search_kept-requires-clause-labelled g c v inside off =
+    omega (arith, inside, off, c.requires.labels_sized, c.nodes-sink.ensures)
+
+pub search_kept-requires-clause-shut : goal.search_kept-requires-clause-shut
+search_kept-requires-clause-shut g c =
+    get_or-set_same c.args.waits.now c.nodes-sink.result false false
+    (omega (arith, c.requires.waits_sized, c.nodes-sink.ensures))
+
+-- the nodes of an arc that doesn't end at the sink wait, once the sink doesn't
+module _ (nodes sink : ℕ) (arc : ℕ → ℕ → Option ℤ) (waits : List Bool) (last : sink ≡ nodes)
+    (marked : (u v : ℕ) (cost : ℤ) → arc u v ≡ Some cost → (flag_at waits u ≡ true) × (flag_at waits v ≡ true))
+    (u v : ℕ) (cost : ℤ) (off : v ≢ sink) (is : with_sink nodes arc u v ≡ Some cost) where
+  own : arc u v ≡ Some cost
+  own = arc_off_sink nodes arc u v cost (λ e. off (e ∙ sym last)) is
+
+  begin_waits : u ≢ sink → flag_at (set waits sink false) u ≡ true
+  begin_waits begin_off = get_or-set_other waits sink u false false begin_off ∙ (marked u v cost own).0
+
+  end_waits : flag_at (set waits sink false) v ≡ true
+  end_waits = get_or-set_other waits sink v false false off ∙ (marked u v cost own).1
+
+pub search_kept-requires-clause-begins : goal.search_kept-requires-clause-begins
+search_kept-requires-clause-begins g c v u cost v_off u_off is =
+    begin_waits (g.C.Costs.node_count c.args.costs.now) c.nodes-sink.result (g.C.Costs.arc c.args.costs.now)
+    c.args.waits.now c.nodes-sink.ensures c.requires.marked v u cost u_off is v_off
+
+pub search_kept-requires-clause-passes : goal.search_kept-requires-clause-passes
+search_kept-requires-clause-passes g c v u cost last off is _ =
+    end_waits (g.C.Costs.node_count c.args.costs.now) c.nodes-sink.result (g.C.Costs.arc c.args.costs.now)
+    c.args.waits.now c.nodes-sink.ensures c.requires.marked v u cost off is
+
+pub search_kept-requires-clause-keeps : goal.search_kept-requires-clause-keeps
+search_kept-requires-clause-keeps g c u v cost off is =
+    c.requires.keeps u v cost (arc_off_sink (g.C.Costs.node_count c.args.costs.now) (g.C.Costs.arc c.args.costs.now) u v
+    cost (λ e. off (e ∙ sym c.nodes-sink.ensures)) is)

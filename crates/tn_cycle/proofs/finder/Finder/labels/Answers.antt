@@ -1,13 +1,16 @@
 -- What shows the clauses of `Finder::labels` of `src/finder.rt`.
-use Rattle.std.proofs.Common.{◌≡◌, ◌≤◌, ◌∙◌, ◌++◌, ℕ, List, sym, ap, subst, refl, arith, length, take, drop, rules}
+use Rattle.std.proofs.Common.{◌≡◌, ◌≤◌, ◌∙◌, ◌++◌, ℕ, ℤ, List, sym, ap, subst, refl, arith, length, take, drop, rules}
 use Rattle.std.proofs.lemmas.Int.{to_z-of_z}
-use Rattle.std.proofs.lemmas.List.{length-take}
+use Rattle.std.proofs.lemmas.List.{length-take, take_all}
 use mir.Syntax.{w128}
+use Rattle.tn_base.specs.Walks.{KeepsArcs}
 use mir.Val.{SFits}
 use Rattle.tn_cycle.specs.declared.answer.Path.{Path}
 use Rattle.tn_cycle.specs.Reading.{Reading}
-use Rattle.tn_cycle.specs.Answers.{AnswersGrown, AreLabels, IsNegative, arc_count, label_in}
+use Rattle.tn_cycle.specs.Answers.{AnswersGrown, AreLabels, AreNear, IsNegative, arc_count, label_in}
+use Rattle.tn_cycle.specs.Widths.{most_label}
 use Rattle.tn_cycle.proofs.ReadLemmas.{front-written}
+use Rattle.tn_cycle.proofs.ViewLemmas.{nodes-read, places_free, written-back}
 use Rattle.tn_cycle.proofs.LabelLemmas.{none_negative_kept}
 use Rattle.tn_cycle.proofs.finder.Finder.labels.Goals as goal
 
@@ -52,3 +55,69 @@ returns-in-Cycle-clause-answer g c =
           c.requires.sized answer),
       refl,
     )
+
+pub invariant_of-self : goal.invariant_of-self
+invariant_of-self g c =
+    let f = c.self.inside in
+    let same : c.args.self.now.nodes ≡ f.nodes = nodes-read f c.args.self.now c.self.view_is in
+    places_free f.nodes _ _ _ _ _ _ _ _ _ _ _ _ c.self.invariant
+    (omega (
+      arith,
+      c.arcs-self-inside.ensures,
+      c.grow_labels-found.ensures.few_arcs,
+      c.requires.sized,
+      same,
+    )) (omega arith)
+
+pub invariant_of-self-in-Cycle : goal.invariant_of-self-in-Cycle
+invariant_of-self-in-Cycle g c =
+    let f = c.self.inside in
+    let same : c.args.self.now.nodes ≡ f.nodes = nodes-read f c.args.self.now c.self.view_is in
+    places_free f.nodes _ _ _ _ _ _ _ _ _ _ _ _ c.self.invariant
+    (omega (
+      arith,
+      c.arcs-self-inside.ensures,
+      c.grow_labels-found.ensures.few_arcs,
+      c.requires.sized,
+      same,
+    )) (omega arith)
+
+-- labels that are written, one for each node, are read whole
+all-written : (written old : List ℤ) (places nodes : ℕ) → length written ≡ places → places ≡ nodes
+    → take nodes (take places (written ++ drop (length written) old)) ≡ written
+all-written written old places nodes whole sized =
+    ap (take nodes) (written-back written old places whole) ∙ take_all nodes written (omega (arith, whole, sized))
+
+pub settle-requires-clause-labelled : goal.settle-requires-clause-labelled
+settle-requires-clause-labelled g c =
+    let f = c.self.inside in
+    let labels = c.grow_labels-found.new.labels in
+    let whole : length labels ≡ f.labels.len = c.grow_labels-found.auto.labels ∙ c.deref_mut.ensures.len in
+    ap length (all-written labels f.labels.items f.labels.len f.nodes whole c.self.invariant.labels_sized) ∙ whole
+    ∙ c.self.invariant.labels_sized
+
+pub settle-requires-clause-near : goal.settle-requires-clause-near
+settle-requires-clause-near g c =
+    let f = c.self.inside in
+    let arc = g.C.Costs.arc c.args.costs.now in
+    let found = c.grow_labels-found in
+    let labels = found.new.labels in
+    let answer : KeepsArcs arc (label_in labels) × AreNear most_label labels =
+    subst (λ (one : Path). AnswersGrown (g.C.Costs.node_count c.args.costs.now) arc
+    (take (arc_count one) found.new.path) labels one) c.in-None.is found.ensures.answer in
+    subst (AreNear most_label)
+    (sym (all-written labels f.labels.items f.labels.len f.nodes (found.auto.labels ∙ c.deref_mut.ensures.len)
+    c.self.invariant.labels_sized)) answer.1
+
+pub settle-requires-clause-keeps : goal.settle-requires-clause-keeps
+settle-requires-clause-keeps g c =
+    let f = c.self.inside in
+    let arc = g.C.Costs.arc c.args.costs.now in
+    let found = c.grow_labels-found in
+    let labels = found.new.labels in
+    let answer : KeepsArcs arc (label_in labels) × AreNear most_label labels =
+    subst (λ (one : Path). AnswersGrown (g.C.Costs.node_count c.args.costs.now) arc
+    (take (arc_count one) found.new.path) labels one) c.in-None.is found.ensures.answer in
+    subst (λ (all : List ℤ). KeepsArcs arc (label_in all))
+    (sym (all-written labels f.labels.items f.labels.len f.nodes (found.auto.labels ∙ c.deref_mut.ensures.len)
+    c.self.invariant.labels_sized)) answer.0
