@@ -2,6 +2,7 @@
 pub mod TestLemmas
 pub mod TakenLemmas
 pub mod FitLemmas
+pub mod PartLemmas
 pub mod VerdictLemmas
 pub mod NamedLemmas
 pub mod CompleteLemmas

@@ -4,4 +4,5 @@ pub mod EachLemmas
 pub mod LeadLemmas
 pub mod ShapeLeads
 pub mod StopLemmas
+pub mod WordLemmas
 pub mod ShapeStops

@@ -2,13 +2,17 @@
 use Rattle.std.proofs.Common.{ap, subst, sym, ◌∙◌}
 use Rattle.std.specs.Prelude.{IfOk}
 use Rattle.tn_file.specs.declared.document.Content.{Content}
-use Rattle.tn_file.specs.declared.document.Content.TheVariants.{Market}
+use Rattle.tn_file.specs.declared.document.Content.TheVariants.{Market, Raw}
 use Rattle.tn_file.specs.declared.extra.Extra.{Extra}
+use Rattle.tn_file.specs.declared.extra.Extra.TheVariants.{Claim, Edits, None, On, Outcome}
+use Rattle.tn_file.specs.declared.extra.RawExtra.{RawExtra}
+use Rattle.tn_file.specs.declared.extra.RawExtra.TheVariants.{Claim as RawClaim, None as RawNone}
 use Rattle.tn_file.specs.Laws.{IsDocument}
 use Rattle.tn_file.specs.Refusal.{IsFor, document_view}
 use Rattle.tn_run.specs.Answer.{IsAnswerOf}
 use Rattle.tn_run.specs.Words.{need_of}
 use Rattle.tn_run.proofs.FitLemmas.{market_fits, raw_fits}
+use Rattle.tn_run.proofs.PartLemmas.{claim_answers, edits_answer, network_answers, on_content, outcome_answers, raw_claim_answers, support_answers, test_answers}
 use Rattle.tn_run.proofs.VerdictLemmas.{verdict_answers}
 use Rattle.tn_run.proofs.answer.answer_document.Goals as goal
 
@@ -110,3 +114,52 @@ returns-in-Arrangement-clause-answer c =
     (sym content)
     (λ needed document. verdict_answers command names market at c.check.result needed document c.check.ensures.answer)
     c.requires.needed c.requires.document
+
+pub returns-in-None-clause-answer : goal.returns-in-None-clause-answer
+returns-in-None-clause-answer c =
+    on_content c.args.command c.args.doc.now (Market c.in-Market.market None) c.answer_network.result
+    (c.in-Market.is ∙ ap (λ (extra : Extra). Market c.in-Market.market extra) c.in-None.is) c.requires.needed
+    (λ needed. network_answers c.args.doc.now.names c.in-Market.market c.answer_network.result c.args.command needed
+    c.answer_network.ensures.answer)
+
+pub returns-in-On-clause-answer : goal.returns-in-On-clause-answer
+returns-in-On-clause-answer c =
+    on_content c.args.command c.args.doc.now (Market c.in-Market.market (On c.in-On.on)) c.prices_for.result
+    (c.in-Market.is ∙ ap (λ (extra : Extra). Market c.in-Market.market extra) c.in-On.is) c.requires.needed
+    (λ needed. support_answers c.args.doc.now.names c.in-Market.market c.prices_for.result c.args.command c.in-On.on needed
+    c.prices_for.ensures.answer)
+
+pub returns-in-Outcome-clause-answer : goal.returns-in-Outcome-clause-answer
+returns-in-Outcome-clause-answer c =
+    on_content c.args.command c.args.doc.now (Market c.in-Market.market (Outcome c.in-Outcome.outcome)) c.judge_outcome.result
+    (c.in-Market.is ∙ ap (λ (extra : Extra). Market c.in-Market.market extra) c.in-Outcome.is) c.requires.needed
+    (λ needed. outcome_answers c.args.doc.now.names c.in-Market.market c.judge_outcome.result c.args.command c.in-Outcome.outcome needed
+    c.judge_outcome.ensures.answer)
+
+pub returns-in-Edits-clause-answer : goal.returns-in-Edits-clause-answer
+returns-in-Edits-clause-answer c =
+    on_content c.args.command c.args.doc.now (Market c.in-Market.market (Edits c.in-Edits.edits)) c.states_after.result
+    (c.in-Market.is ∙ ap (λ (extra : Extra). Market c.in-Market.market extra) c.in-Edits.is) c.requires.needed
+    (λ needed. edits_answer c.args.doc.now.names c.in-Market.market c.states_after.result c.args.command c.in-Edits.edits needed
+    c.states_after.ensures.answer)
+
+pub returns-in-Claim-clause-answer : goal.returns-in-Claim-clause-answer
+returns-in-Claim-clause-answer c =
+    on_content c.args.command c.args.doc.now (Market c.in-Market.market (Claim c.in-Claim.claim)) c.replay_claim.result
+    (c.in-Market.is ∙ ap (λ (extra : Extra). Market c.in-Market.market extra) c.in-Claim.is) c.requires.needed
+    (λ needed. claim_answers c.args.doc.now.names c.in-Market.market c.replay_claim.result c.args.command c.in-Claim.claim needed
+    c.replay_claim.ensures.answer)
+
+pub returns-in-None-extra-clause-answer : goal.returns-in-None-extra-clause-answer
+returns-in-None-extra-clause-answer c =
+    on_content c.args.command c.args.doc.now (Raw c.in-Raw.net RawNone) c.test.result
+    (c.in-Raw.is ∙ ap (λ (extra : RawExtra). Raw c.in-Raw.net extra) c.in-None-extra.is) c.requires.needed
+    (λ needed. test_answers c.args.doc.now.names c.in-Raw.net c.test.result c.args.command needed
+    c.test.ensures.answer)
+
+pub returns-in-Claim-extra-clause-answer : goal.returns-in-Claim-extra-clause-answer
+returns-in-Claim-extra-clause-answer c =
+    on_content c.args.command c.args.doc.now (Raw c.in-Raw.net (RawClaim c.in-Claim-extra.claim)) c.replay_raw.result
+    (c.in-Raw.is ∙ ap (λ (extra : RawExtra). Raw c.in-Raw.net extra) c.in-Claim-extra.is) c.requires.needed
+    (λ needed. raw_claim_answers c.args.doc.now.names c.in-Raw.net c.replay_raw.result c.args.command c.in-Claim-extra.claim needed
+    c.replay_raw.ensures.answer)
