@@ -4,7 +4,7 @@ ghost use Rattle.std.specs.Prelude.{◌≡◌};
 ghost use Rattle.tn_base.specs.Faults.{fault_number};
 
 /// What can be wrong with a document, in the order of the numbers.
-#[derive(Clone, Copy, Debug, PartialEq, Eq)]
+#[derive(Clone, Copy)]
 pub enum FaultKind {
     /// The bytes are no JSON value nested at most 127 deep.
     NotJson,

@@ -7,7 +7,7 @@ use std::mem;
 use std::snapshot::Snapshot;
 
 /// The mark of the counters that the shipped firms take.
-#[derive(Clone, Copy, Debug, PartialEq, Eq)]
+#[derive(Clone, Copy)]
 pub struct Asked;
 
 /// How many steps there were, as clauses see it.

@@ -9,7 +9,7 @@ ghost use Rattle.tn_base.specs.Widths.{most_limbs};
 use std::marker::Model;
 
 /// A set of trade numbers below `64 * W`. Contracts see the number whose binary digits are its members.
-#[derive(Clone, Copy, Debug)]
+#[derive(Clone, Copy)]
 pub struct TradeSet<const W: usize> {
     limbs: [u64; W],
 }

@@ -6,7 +6,7 @@ ghost use Rattle.tn_cases.specs.Case.{agrees_with, case_data};
 use std::marker::Model;
 
 /// A command on a document, and what it must come to.
-#[derive(Clone, Copy, Debug, Drop)]
+#[derive(Clone, Copy, Drop)]
 pub struct Case {
     /// The words of the command.
     pub command: &'static str,
@@ -19,7 +19,7 @@ pub struct Case {
 }
 
 /// So many cases, in order. Contracts see the list of what they say.
-#[derive(Debug, Drop)]
+#[derive(Drop)]
 pub struct CaseBook<const N: usize> {
     cases: &'static [Case],
 }

@@ -12,7 +12,7 @@ use tn_base::{Bundle, Side, purchases};
 /// A firm that buys several items and sells them on: it matches the purchases of a bundle one to one with its sales, by
 /// listed pairs, at the least cost (the assignment problem: Kuhn, 1955; Murota, Discrete Convex Analysis, 2003, on
 /// valuated matchings).
-#[derive(Debug, Drop)]
+#[derive(Drop)]
 pub struct Dealer {
     pub(crate) trades: u32,
     pub(crate) buys: Bundle,

@@ -3,7 +3,7 @@
 use thiserror::Error;
 
 /// A purchase that may be sold on as a sale, both by position, and what that costs.
-#[derive(Clone, Copy, Debug, PartialEq, Eq)]
+#[derive(Clone, Copy)]
 pub struct Pair {
     /// The position of the purchase.
     pub buy: u32,

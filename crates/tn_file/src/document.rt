@@ -40,7 +40,7 @@ pub enum Content {
 }
 
 /// Firms as they are listed, each of which can be tested, and the two ends of each trade.
-#[derive(Debug, Drop)]
+#[derive(Drop)]
 pub struct RawNet {
     firms: Vec<RawFirm>,
     ends: Vec<Ends>,

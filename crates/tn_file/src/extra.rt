@@ -19,7 +19,7 @@ use tn_read_references::Head;
 use tn_shape::ReadError;
 
 /// What is read beside a network whose firms meet exchange.
-#[derive(Debug, Drop)]
+#[derive(Drop)]
 pub enum Extra {
     /// Nothing.
     None,
@@ -36,7 +36,7 @@ pub enum Extra {
 }
 
 /// What is read beside a network of firms as they are listed.
-#[derive(Debug, Drop)]
+#[derive(Drop)]
 pub enum RawExtra {
     /// Nothing.
     None,

@@ -1,7 +1,7 @@
 //! What a command reads of a document.
 
 /// What a command reads of a document.
-#[derive(Clone, Copy, Debug, PartialEq, Eq)]
+#[derive(Clone, Copy)]
 pub enum Need {
     /// The network, in which each firm is to meet the exchange property.
     Market,

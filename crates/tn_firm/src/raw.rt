@@ -9,7 +9,7 @@ use tn_market::Valuation;
 use tn_middle::Middle;
 
 /// A firm of one of the kinds, whose exchange isn't tested yet.
-#[derive(Debug, Drop)]
+#[derive(Drop)]
 pub enum RawFirm {
     /// A number for each listed bundle.
     Table(RawTable),

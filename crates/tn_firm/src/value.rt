@@ -8,7 +8,7 @@ use tn_middle::Middle;
 use tn_table::Table;
 
 /// A firm of one of the kinds, which meets exchange.
-#[derive(Debug, Drop)]
+#[derive(Drop)]
 pub enum FirmValue {
     /// A number for each listed bundle.
     Table(Table),

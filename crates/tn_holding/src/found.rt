@@ -3,7 +3,7 @@
 use tn_base::Bundle;
 
 /// A bundle with its utility.
-#[derive(Clone, Copy, Debug)]
+#[derive(Clone, Copy)]
 pub struct Found {
     pub bundle: Bundle,
     pub value: i128,

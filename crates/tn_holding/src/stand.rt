@@ -19,7 +19,7 @@ use tn_market::{Oracle, Room, utility_of, worth_of};
 use tn_price::greatest;
 
 /// How a firm stands with its own bundle at the prices of its positions.
-#[derive(Clone, Copy, Debug)]
+#[derive(Clone, Copy)]
 pub struct Stand {
     /// The worth of its own bundle, none where it is impossible.
     pub worth: Option<i128>,

@@ -16,7 +16,7 @@ use tn_market::{Market, Oracle, Outcome, Room, Valuation, utility_of};
 use tn_residual::signed_by;
 
 /// What a firm would keep, and what it gains by that: None where its contracts are an impossible bundle.
-#[derive(Clone, Copy, Debug)]
+#[derive(Clone, Copy)]
 pub struct Kept {
     pub keeps: Bundle,
     pub gain: Option<i128>,

@@ -16,7 +16,7 @@ use tn_chain::{chain_of, chain_scale};
 use tn_market::{Contracts, Market, Oracle, Outcome, Prices, Room, Valuation};
 
 /// The verdict on an outcome.
-#[derive(Debug, Drop)]
+#[derive(Drop)]
 pub enum Judged {
     /// The outcome isn't individually rational.
     Drops {

@@ -20,7 +20,7 @@ use tn_base::{Bundle, Side, purchases};
 
 /// A firm whose worth is the sum of an amount for each trade of a bundle, and for each of a family of nested sets a
 /// concave function of the net count within it (laminar concave functions: Murota, Discrete Convex Analysis, 2003).
-#[derive(Debug, Drop)]
+#[derive(Drop)]
 pub struct Laminar {
     pub(crate) trades: u32,
     pub(crate) buys: Bundle,

@@ -7,7 +7,7 @@ ghost use Rattle.tn_laminar.specs.Masked.{masks_of, net_within};
 use tn_base::Bundle;
 
 /// The purchases and the sales of a set, so that a net count is two counts of binary digits.
-#[derive(Clone, Copy, Debug)]
+#[derive(Clone, Copy)]
 pub struct Masks {
     pub purchases: Bundle,
     pub sales: Bundle,

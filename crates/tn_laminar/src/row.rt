@@ -57,7 +57,7 @@ fn lowest(x: Bundle) -> u32
 }
 
 /// How much more a set's number counts where the net count within the set is one more, and where it is one less.
-#[derive(Clone, Copy, Debug)]
+#[derive(Clone, Copy)]
 pub struct Slope {
     pub up: i128,
     pub down: i128,

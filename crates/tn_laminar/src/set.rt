@@ -10,7 +10,7 @@ use tn_market::Amounts;
 
 /// A set of own trades, with a number for each net count of a bundle within it, the count of its purchases less the
 /// count of its sales.
-#[derive(Debug, Drop)]
+#[derive(Drop)]
 pub struct LaminarSet {
     /// The positions of the trades.
     pub members: Bundle,

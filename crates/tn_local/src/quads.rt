@@ -13,7 +13,7 @@ use tn_base::Bundle;
 use tn_exchange::RawTable;
 
 /// What a bundle is worth toggled at the first of two trades, at the second, and at both.
-#[derive(Clone, Copy, Debug)]
+#[derive(Clone, Copy)]
 pub(crate) struct Worths {
     pub(crate) first: i128,
     pub(crate) second: i128,

@@ -14,14 +14,14 @@ use tn_base::Bundle;
 use tn_exchange::{RawTable, Verdict, are_enough, test_pair};
 
 /// Up to two own positions, the higher one first; the count of the trades stands for none.
-#[derive(Clone, Copy, Debug)]
+#[derive(Clone, Copy)]
 pub(crate) struct Two {
     pub(crate) first: u32,
     pub(crate) second: u32,
 }
 
 /// The positions of the up side and of the down side at which a bundle was toggled.
-#[derive(Clone, Copy, Debug)]
+#[derive(Clone, Copy)]
 pub(crate) struct Sides {
     pub(crate) up: Two,
     pub(crate) down: Two,

@@ -3,7 +3,7 @@
 use tn_base::Bundle;
 
 /// A possible bundle with its value.
-#[derive(Clone, Copy, Debug)]
+#[derive(Clone, Copy)]
 pub struct BundleValue {
     pub bundle: Bundle,
     pub value: i128,

@@ -13,7 +13,7 @@ use tn_base::{Bundle, Side, Steps};
 
 /// A firm outside the market that takes a contract over: at its price it buys from the contract's seller, at position
 /// 0, and sells to its buyer, at position 1.
-#[derive(Clone, Copy, Debug)]
+#[derive(Clone, Copy)]
 pub struct Outside {
     /// The price, at most 10^17 in size.
     pub price: i128,

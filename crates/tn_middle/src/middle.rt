@@ -13,7 +13,7 @@ use tn_base::{Bundle, Side, purchases};
 
 /// A firm that buys one good and sells it on, and may keep a good that it has bought where it is told what that is
 /// worth. Nothing else is possible.
-#[derive(Debug, Drop)]
+#[derive(Drop)]
 pub struct Middle {
     pub(crate) trades: u32,
     pub(crate) buys: Bundle,

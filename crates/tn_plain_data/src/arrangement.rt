@@ -4,7 +4,7 @@ use crate::lists::Prices;
 use tn_base::TradeSet;
 
 /// A set of trades with a price for each trade of the market, those outside the set too.
-#[derive(Debug, Drop)]
+#[derive(Drop)]
 pub struct Arrangement<const W: usize> {
     /// The trades that are on.
     pub on: TradeSet<W>,

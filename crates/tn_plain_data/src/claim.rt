@@ -7,7 +7,7 @@ use tn_base::{Bundle, TradeSet};
 
 /// What somebody claims of a network, with the part of the document that the claim speaks of. Each claim but the
 /// last is an answer of the program. Bundles and positions are those of the claimed firm.
-#[derive(Debug, Drop)]
+#[derive(Drop)]
 pub enum Claim {
     /// The arrangement is an equilibrium with this surplus.
     Equilibrium {

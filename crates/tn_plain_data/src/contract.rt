@@ -3,7 +3,7 @@
 use crate::lists::Contracts;
 
 /// A trade at a price, which is a numerator over the denominator of the list that the contract stands in.
-#[derive(Clone, Copy, Debug, PartialEq, Eq)]
+#[derive(Clone, Copy)]
 pub struct Contract {
     /// The number of the trade.
     pub trade: u32,
@@ -12,7 +12,7 @@ pub struct Contract {
 }
 
 /// Contracts over one denominator, ascending by trade, with no trade twice.
-#[derive(Debug, Drop)]
+#[derive(Drop)]
 pub struct Outcome {
     /// The denominator, at least 1.
     pub over: i128,

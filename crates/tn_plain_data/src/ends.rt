@@ -1,7 +1,7 @@
 //! The two ends of a trade.
 
 /// The two ends of a trade: its seller and its buyer, by firm numbers, and the position of the trade at each.
-#[derive(Clone, Copy, Debug, PartialEq, Eq)]
+#[derive(Clone, Copy, PartialEq, Eq)]
 pub struct Ends {
     /// The firm that sells.
     pub seller: u32,

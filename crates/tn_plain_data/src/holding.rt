@@ -3,7 +3,7 @@
 use crate::lists::Trades;
 
 /// What a firm has in an arrangement and what that brings it, beside a best bundle of it at these prices.
-#[derive(Debug, Drop)]
+#[derive(Drop)]
 pub struct Holding {
     /// The trades of its own bundle, ascending.
     pub has: Trades,

@@ -5,7 +5,7 @@ ghost use Rattle.tn_plain_data.specs.Limits.{AreLimits, limits_of, limits_of_man
 
 /// The limits of a document's version. A list may have as many items as its limit says, and a number may be as large in
 /// size.
-#[derive(Clone, Copy, Debug, PartialEq, Eq)]
+#[derive(Clone, Copy)]
 pub struct Limits {
     /// The most firms.
     pub firms: u32,

@@ -40,7 +40,7 @@ pub type Edits = Lent<Edit>;
 pub type States = Lent<State>;
 
 /// A list of items that can be made from a vector and read by place.
-#[derive(Debug, Drop)]
+#[derive(Drop)]
 pub struct Listed<T> {
     items: Vec<T>,
 }
@@ -78,7 +78,7 @@ impl<T: Copy> Listed<T> {
 }
 
 /// A list of items that can be made from a vector and lent by place.
-#[derive(Debug, Drop)]
+#[derive(Drop)]
 pub struct Lent<T> {
     items: Vec<T>,
 }

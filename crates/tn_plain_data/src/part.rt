@@ -3,7 +3,7 @@
 use tn_base::Bundle;
 
 /// A bundle of a firm with its weight: a numerator over the denominator of the plan that the part stands in.
-#[derive(Clone, Copy, Debug)]
+#[derive(Clone, Copy)]
 pub struct Part {
     /// The firm.
     pub firm: u32,

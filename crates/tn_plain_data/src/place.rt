@@ -1,7 +1,7 @@
 //! Places in a document.
 
 /// The name of a member of a document.
-#[derive(Clone, Copy, Debug, PartialEq, Eq)]
+#[derive(Clone, Copy)]
 pub enum Word {
     Version,
     Firms,
@@ -93,7 +93,7 @@ impl Word {
 }
 
 /// A step on the way from the top of a document to a value in it.
-#[derive(Clone, Copy, Debug, PartialEq, Eq)]
+#[derive(Clone, Copy)]
 pub enum PlaceStep {
     /// To the member of an object with this name.
     Key(Word),

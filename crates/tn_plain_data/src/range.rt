@@ -4,7 +4,7 @@ use crate::lists::Nodes;
 
 /// The prices that a trade may have: the lowest and the highest one over all equilibria, each with a path of an
 /// exchange graph that shows that no price is beyond it.
-#[derive(Debug, Drop)]
+#[derive(Drop)]
 pub struct Range {
     /// The lowest price, none where prices go down without a bound.
     pub low: Option<i128>,

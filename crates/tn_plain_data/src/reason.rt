@@ -4,7 +4,7 @@ use crate::lists::Trades;
 
 /// The first condition of a claim that fails, with the true value where there is one. Firms and trades stand in it by
 /// their numbers.
-#[derive(Debug, Drop)]
+#[derive(Drop)]
 pub enum Reason {
     /// A bundle of the firm is impossible.
     Impossible {

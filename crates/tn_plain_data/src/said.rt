@@ -7,7 +7,7 @@ use crate::reason::Reason;
 use tn_base::FaultKind;
 
 /// Two bundles and a position, or none, at which the exchange property fails, in trade numbers.
-#[derive(Debug, Drop)]
+#[derive(Drop)]
 pub struct Shown {
     /// The trades of the first bundle, ascending.
     pub x: Trades,
@@ -18,7 +18,7 @@ pub struct Shown {
 }
 
 /// The first fault of a document.
-#[derive(Debug, Drop)]
+#[derive(Drop)]
 pub struct Fault {
     /// What is wrong.
     pub kind: FaultKind,
@@ -29,7 +29,7 @@ pub struct Fault {
 }
 
 /// A text of the program about itself.
-#[derive(Clone, Copy, Debug)]
+#[derive(Clone, Copy)]
 pub enum Page {
     /// What can be asked: each command, with an example.
     Help,
@@ -38,7 +38,7 @@ pub enum Page {
 }
 
 /// An answer of the program. Firms and trades stand in it by their numbers.
-#[derive(Debug, Drop)]
+#[derive(Drop)]
 pub enum Said {
     /// The words are no command.
     Usage,

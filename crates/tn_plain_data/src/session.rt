@@ -4,7 +4,7 @@ use crate::lists::{Contracts, Trades};
 
 /// A change of the trades that a market admits, or of the firms that are there. A trade may be on where it is admitted
 /// and both its firms are there.
-#[derive(Clone, Copy, Debug, PartialEq, Eq)]
+#[derive(Clone, Copy)]
 pub enum Edit {
     /// The trade with this number is admitted.
     Admit(u32),
@@ -21,7 +21,7 @@ pub enum Edit {
 }
 
 /// An equilibrium of the market that the usable trades make.
-#[derive(Debug, Drop)]
+#[derive(Drop)]
 pub struct State {
     /// The trades that are on, ascending.
     pub on: Trades,

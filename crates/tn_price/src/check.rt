@@ -3,7 +3,7 @@
 use tn_base::Bundle;
 
 /// What may be said of an arrangement.
-#[derive(Clone, Copy, Debug, PartialEq, Eq)]
+#[derive(Clone, Copy)]
 pub enum Check {
     /// Each firm's bundle is best.
     Equilibrium {

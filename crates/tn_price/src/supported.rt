@@ -3,7 +3,7 @@
 use tn_market::{Nodes, Prices};
 
 /// What may be said of a set of trades for which prices are wanted.
-#[derive(Debug, Drop)]
+#[derive(Drop)]
 pub enum Support {
     /// With these prices, one for each trade, the set is an equilibrium.
     Supported {

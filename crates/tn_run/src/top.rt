@@ -30,7 +30,7 @@ use tn_market::Said;
 
 /// What a run has come to: its exit status, and the answer whose text was written. Where the status is 4 a prefix of
 /// the text was written.
-#[derive(Debug, Drop)]
+#[derive(Drop)]
 pub struct Run {
     pub status: u8,
     pub said: Said,

@@ -8,7 +8,7 @@ use tn_base::FaultKind;
 use tn_plain_data::{Fault, Place, PlaceStep};
 
 /// Why a part of a document isn't read.
-#[derive(Debug, Drop)]
+#[derive(Drop)]
 pub enum ReadError {
     /// It has a fault, and this is the first one.
     Fault(Fault),

@@ -9,7 +9,7 @@ use tn_exchange::{RawTable, Verdict};
 use tn_local::test_table;
 
 /// A table firm that meets exchange.
-#[derive(Debug, Drop)]
+#[derive(Drop)]
 pub struct Table {
     pub(crate) raw: RawTable,
     ghost within: { IsWithinLimits raw },

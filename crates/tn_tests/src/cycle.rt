@@ -9,7 +9,7 @@ use tn_base::{Costs, TradeSet};
 use tn_cycle::{Finder, Labels, Path};
 
 /// A ring of nodes: from each to the next at 2, and from the last to the first at -10, where it gains, or at 1.
-#[derive(Clone, Copy, Debug)]
+#[derive(Clone, Copy)]
 struct Ring {
     nodes: u32,
     gains: bool,

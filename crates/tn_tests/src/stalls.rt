@@ -16,7 +16,7 @@ fn counted(counts: bool, amount: i128) -> i128
 }
 
 /// A stall that may buy one thing for 3, at position 0, and sell another for 5, at position 1.
-#[derive(Clone, Copy, Debug)]
+#[derive(Clone, Copy)]
 pub(crate) struct Stall;
 
 impl Valuation for Stall {
