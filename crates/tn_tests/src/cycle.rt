@@ -151,24 +151,19 @@ fn finds_labels_and_walks(rt: HostRuntime) -> Result<(), Fail> {
         gains: false,
     };
     let mut finder = Finder::new(rt.alloc(), 4)?;
-    match finder.labels(&ring) {
-        Labels::Feasible => {
-            assert_eq!(rt; [finder.label(0), finder.label(3)], [0, 0]);
-            finder.label_all();
-            let mut other = Finder::new(rt.alloc(), 4)?;
-            other.label_as(&finder);
-            finder.least_to(&ring, 3);
-            assert_eq!(rt; finder.distance(1), Some(4));
-            other.least_from(&ring, 3);
-            let distance = other.distance(1);
-            assert_eq!(rt; distance, Some(3));
-            if distance.is_some() {
-                let count = other.walk(1);
-                assert_eq!(rt; count, 3);
-                assert_eq!(rt; [other.at(0), other.at(1), other.at(2)], [3, 0, 1]);
-            }
-            Ok(())
-        }
-        Labels::Negative { .. } => Err("the ring doesn't gain")?,
-    }
+    let mut other = Finder::new(rt.alloc(), 4)?;
+    let Labels::Feasible = finder.labels(&ring) else {
+        return Err("the ring doesn't gain")?;
+    };
+    assert_eq!(rt; [finder.label(0), finder.label(3)], [0, 0]);
+    finder.label_all();
+    other.label_as(&finder);
+    finder.least_to(&ring, 3);
+    other.least_from(&ring, 3);
+    let distances = [finder.distance(1), other.distance(1)];
+    assert_eq!(rt; distances, [Some(4), Some(3)]);
+    let count = other.walk(1);
+    assert_eq!(rt; count, 3);
+    assert_eq!(rt; [other.at(0), other.at(1), other.at(2)], [3, 0, 1]);
+    Ok(())
 }

@@ -34,29 +34,32 @@ fn a_dealer_in_two_items(rt: HostRuntime) -> Result<(), Fail> {
         },
     ]?;
     let dealer = Dealer::new(sides, pairs)?;
-    let mut steps = Steps::new(Asked);
-    assert_eq!(rt; dealer.trades(), 4);
-    assert_eq!(rt; dealer.side(1), Side::Buy);
-    assert_eq!(rt; dealer.bound(), 124_000_000_000);
-    assert_eq!(rt;
-        dealer.value(Bundle::from_bits(0b1111), &mut steps),
-        Some(-2)
-    );
-    assert_eq!(rt;
-        dealer.value(Bundle::from_bits(0b0110), &mut steps),
-        Some(-2)
-    );
-    assert_eq!(rt; dealer.value(Bundle::from_bits(0b0111), &mut steps), None);
-    let all = Bundle::from_bits(0b1111);
-    let mut worths = [None; 4];
-    dealer.row(Bundle::from_bits(0b0111), all, &mut worths, &mut steps);
-    assert_eq!(rt; worths, [Some(-2), Some(-1), None, Some(-2)]);
-    dealer.row(Bundle::from_bits(0b1101), all, &mut worths, &mut steps);
-    assert_eq!(rt; worths, [None, Some(-2), Some(-3), Some(-1)]);
     let mut room = Room::new(alloc)?;
-    let free = Bundle::from_bits(0b1111);
-    let best = dealer.best(Bundle::empty(), free, 1, &[5, 7, 12, 9], &mut room);
-    assert_eq!(rt; best, Some((Bundle::from_bits(0b1111), 7)));
+    let mut steps = Steps::new(Asked);
+    assert_eq!(rt;
+        (dealer.trades(), dealer.side(1), dealer.bound()),
+        (4, Side::Buy, 124_000_000_000)
+    );
+    let all = Bundle::from_bits(0b1111);
+    let values = [
+        dealer.value(all, &mut steps),
+        dealer.value(Bundle::from_bits(0b0110), &mut steps),
+        dealer.value(Bundle::from_bits(0b0111), &mut steps),
+    ];
+    assert_eq!(rt; values, [Some(-2), Some(-2), None]);
+    let mut lower = [None; 4];
+    dealer.row(Bundle::from_bits(0b0111), all, &mut lower, &mut steps);
+    let mut higher = [None; 4];
+    dealer.row(Bundle::from_bits(0b1101), all, &mut higher, &mut steps);
+    assert_eq!(rt;
+        [lower, higher],
+        [
+            [Some(-2), Some(-1), None, Some(-2)],
+            [None, Some(-2), Some(-3), Some(-1)]
+        ]
+    );
+    let best = dealer.best(Bundle::empty(), all, 1, &[5, 7, 12, 9], &mut room);
+    assert_eq!(rt; best, Some((all, 7)));
     Ok(())
 }
 

@@ -26,20 +26,27 @@ fn three_trades_from_1(rt: HostRuntime) -> Result<(), Fail> {
     let market = drill(rt.alloc(), 3, 1)?;
     assert_eq!(rt; (market.firms(), market.trades()), (16, 3));
     let second = market.ends(1);
-    assert_eq!(rt; (second.seller, second.at_seller), (5, 0));
-    assert_eq!(rt; (second.buyer, second.at_buyer), (12, 0));
     let third = market.ends(2);
-    assert_eq!(rt; (third.seller, third.at_seller), (1, 0));
-    assert_eq!(rt; (third.buyer, third.at_buyer), (5, 1));
     assert_eq!(rt;
-        (worth(&market, 0, 1), worth(&market, 4, 1)),
-        (Some(-10), None)
+        [
+            [
+                second.seller,
+                second.at_seller,
+                second.buyer,
+                second.at_buyer
+            ],
+            [third.seller, third.at_seller, third.buyer, third.at_buyer],
+        ],
+        [[5, 0, 12, 0], [1, 0, 5, 1]]
     );
-    assert_eq!(rt;
-        (worth(&market, 1, 1), worth(&market, 5, 3)),
-        (Some(-21), Some(5))
-    );
-    assert_eq!(rt; worth(&market, 12, 1), Some(100));
+    let worths = [
+        worth(&market, 0, 1),
+        worth(&market, 4, 1),
+        worth(&market, 1, 1),
+        worth(&market, 5, 3),
+        worth(&market, 12, 1),
+    ];
+    assert_eq!(rt; worths, [Some(-10), None, Some(-21), Some(5), Some(100)]);
     Ok(())
 }
 

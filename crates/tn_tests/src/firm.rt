@@ -66,15 +66,14 @@ fn a_middleman_is_asked(rt: HostRuntime) -> Result<(), Fail> {
     let alloc = rt.alloc();
     let sides = vec![in alloc; Side::Buy, Side::Sell]?;
     let firm = FirmValue::Middle(Middle::new(sides, vec![in alloc; 2, 3]?, Some(8)));
+    let mut room = Room::new(alloc)?;
     let both = Bundle::from_bits(3);
-    assert_eq!(rt; firm.trades(), 2);
     let mut steps = Steps::new(Asked);
-    assert_eq!(rt; firm.value(both, &mut steps), Some(1));
     let mut worths = [None; 2];
     firm.row(both, both, &mut worths, &mut steps);
-    assert_eq!(rt; worths, [None, Some(6)]);
-    let best = firm.best(Bundle::empty(), both, 1, &[1, 9], &mut Room::new(alloc)?);
-    assert_eq!(rt; best, Some((both, 9)));
+    let best = firm.best(Bundle::empty(), both, 1, &[1, 9], &mut room);
+    assert_eq!(rt; (firm.trades(), firm.value(both, &mut steps)), (2, Some(1)));
+    assert_eq!(rt; (worths, best), ([None, Some(6)], Some((both, 9))));
     Ok(())
 }
 
@@ -85,16 +84,22 @@ fn a_laminar_firm_is_asked(rt: HostRuntime) -> Result<(), Fail> {
     let alloc = rt.alloc();
     let sides = vec![in alloc; Side::Buy, Side::Sell]?;
     let amounts = vec![in alloc; 6, -3]?;
+    let mut room = Room::new(alloc)?;
     let laminar = Laminar::new(alloc, sides, amounts, Vec::new(alloc));
     let firm = FirmValue::Laminar(laminar.expect(&rt, "no set, so none is refused"));
     let both = Bundle::from_bits(3);
     let mut steps = Steps::new(Asked);
-    assert_eq!(rt; firm.value(both, &mut steps), Some(3));
     let mut worths = [None; 2];
     firm.row(both, both, &mut worths, &mut steps);
-    assert_eq!(rt; worths, [Some(-3), Some(6)]);
-    let best = firm.best(Bundle::empty(), both, 1, &[5, 2], &mut Room::new(alloc)?);
-    assert_eq!(rt; best, Some((Bundle::from_bits(1), 1)));
+    let best = firm.best(Bundle::empty(), both, 1, &[5, 2], &mut room);
+    assert_eq!(rt;
+        (firm.value(both, &mut steps), worths, best),
+        (
+            Some(3),
+            [Some(-3), Some(6)],
+            Some((Bundle::from_bits(1), 1))
+        )
+    );
     Ok(())
 }
 

@@ -29,16 +29,21 @@ fn one_car_is_sold_once(rt: HostRuntime) -> Result<(), Fail> {
     let amounts = vec![in alloc; -4, -4, -4]?;
     let sets = vec![in alloc; group(0b111, -1, vec![in alloc; 0, 0]?)]?;
     let owner = Laminar::new(alloc, sides, amounts, sets)?;
-    let mut steps = Steps::new(Asked);
-    assert_eq!(rt; owner.trades(), 3);
-    assert_eq!(rt; owner.side(1), Side::Sell);
-    assert_eq!(rt; owner.bound(), 124_000_000_000);
-    assert_eq!(rt; owner.value(Bundle::from_bits(0b010), &mut steps), Some(-4));
-    assert_eq!(rt; owner.value(Bundle::from_bits(0b110), &mut steps), None);
     let mut room = Room::new(alloc)?;
+    let mut steps = Steps::new(Asked);
+    assert_eq!(rt;
+        (owner.trades(), owner.side(1), owner.bound()),
+        (3, Side::Sell, 124_000_000_000)
+    );
+    let one = Bundle::from_bits(0b010);
+    let worth = owner.value(one, &mut steps);
+    assert_eq!(rt;
+        [worth, owner.value(Bundle::from_bits(0b110), &mut steps)],
+        [Some(-4), None]
+    );
     let free = Bundle::from_bits(0b111);
     let best = owner.best(Bundle::empty(), free, 1, &[5, 7, 6], &mut room);
-    assert_eq!(rt; best, Some((Bundle::from_bits(0b010), 3)));
+    assert_eq!(rt; best, Some((one, 3)));
     Ok(())
 }
 
@@ -54,15 +59,22 @@ fn a_second_good_is_worth_less(rt: HostRuntime) -> Result<(), Fail> {
     ]?;
     let buyer = Laminar::new(alloc, sides, amounts, sets)?;
     let mut steps = Steps::new(Asked);
-    assert_eq!(rt; buyer.value(Bundle::from_bits(0b011), &mut steps), Some(18));
-    assert_eq!(rt; buyer.value(Bundle::from_bits(0b101), &mut steps), Some(21));
-    assert_eq!(rt; buyer.value(Bundle::from_bits(0b111), &mut steps), None);
+    let together = Bundle::from_bits(0b011);
+    let apart = Bundle::from_bits(0b101);
     let all = Bundle::from_bits(0b111);
-    let mut worths = [None; 3];
-    buyer.row(Bundle::from_bits(0b011), all, &mut worths, &mut steps);
-    assert_eq!(rt; worths, [Some(9), Some(12), None]);
-    buyer.row(Bundle::from_bits(0b101), all, &mut worths, &mut steps);
-    assert_eq!(rt; worths, [Some(9), None, Some(12)]);
+    let values = [
+        buyer.value(together, &mut steps),
+        buyer.value(apart, &mut steps),
+        buyer.value(all, &mut steps),
+    ];
+    assert_eq!(rt; values, [Some(18), Some(21), None]);
+    let mut worths = [[None; 3]; 2];
+    buyer.row(together, all, &mut worths[0], &mut steps);
+    buyer.row(apart, all, &mut worths[1], &mut steps);
+    assert_eq!(rt;
+        worths,
+        [[Some(9), Some(12), None], [Some(9), None, Some(12)]]
+    );
     Ok(())
 }
 

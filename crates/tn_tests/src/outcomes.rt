@@ -8,6 +8,7 @@ ghost use Rattle.tn_tests.specs.Stall.{trade_between};
 
 use crate::stalls::{both_sold, ends, nothing_signed, sold_at_4, two_stalls};
 use std::alloc::Global;
+use std::test::Fail;
 use tn_base::{Asked, Bundle, Costs, OutOfMemory, Steps, TradeSet};
 use tn_cert::{Replayed, replay};
 use tn_chain::{chain_scale, reduced_graph};
@@ -23,20 +24,19 @@ fn reduced_worths_of_two_stalls(rt: HostRuntime) {
     let market = two_stalls(rt.alloc()).expect(&rt, "memory");
     let outcome = sold_at_4(rt.alloc()).expect(&rt, "memory");
     let mut room = Room::new(rt.alloc()).expect(&rt, "memory");
-    assert!(rt; contract_price(&outcome.contracts, 0) == Some(4));
-    assert!(rt; contract_price(&outcome.contracts, 1) == None);
+    let signed = contract_price(&outcome.contracts, 0);
+    assert!(rt; [signed, contract_price(&outcome.contracts, 1)] == [Some(4), None]);
     let none = Bundle::empty();
     let seller = reduced_best(&market, 0, &outcome, none, &mut room);
-    assert!(rt; seller == Some((Bundle::from_bits(2), 9)));
     let buyer = reduced_best(&market, 1, &outcome, none, &mut room);
-    assert!(rt; buyer == Some((none, 0)));
+    assert!(rt; [seller, buyer] == [Some((Bundle::from_bits(2), 9)), Some((none, 0))]);
     let residual = residual(rt.alloc(), &market, &outcome, 2, 1).expect(&rt, "memory");
     assert!(rt; [residual.firms(), residual.trades()] == [3, 3]);
-    assert!(rt; residual.ends(0) == ends(1, 0));
-    assert!(rt; residual.ends(1) == ends(0, 2));
-    assert!(rt; residual.ends(2) == ends(2, 1));
-    assert!(rt; residual.firm(0).bound() == 248_000_000_064);
-    assert!(rt; residual.firm(2).bound() == 8);
+    assert!(rt;
+        [residual.ends(0), residual.ends(1), residual.ends(2)]
+            == [ends(1, 0), ends(0, 2), ends(2, 1)]
+    );
+    assert!(rt; [residual.firm(0).bound(), residual.firm(2).bound()] == [248_000_000_064, 8]);
 }
 
 /// What each stall loses by selling, by buying and by both, where nothing is signed.
@@ -111,30 +111,34 @@ fn round(alloc: Global, cost: i128) -> Result<Claim, OutOfMemory>
     Ok(Claim::Cycle { on, nodes, cost })
 }
 
+/// What replay says of a claim about two stalls.
+fn replayed(alloc: Global, claim: Claim) -> Result<Replayed, OutOfMemory>
+    requires within { (firms : List Firm) → IsClaimWithin firms (trade_between 0 1 ∷ trade_between 1 0 ∷ []) claim }
+    requires kind { is_raw claim ≡ false }
+{
+    let market = two_stalls(alloc)?;
+    replay(alloc, &market, &claim, &mut Steps::new(Asked))
+}
+
 /// In the equilibrium each stall has 2, and would do no better; in the cycle the seller loses -5 and the buyer 3.
 #[test]
-fn claims_are_replayed(rt: HostRuntime) {
+fn claims_are_replayed(rt: HostRuntime) -> Result<(), Fail> {
     let alloc = rt.alloc();
-    let market = two_stalls(alloc).expect(&rt, "memory");
-    let mut steps = Steps::new(Asked);
-    let claim = both_on(alloc, 4).expect(&rt, "memory");
-    match replay(alloc, &market, &claim, &mut steps).expect(&rt, "memory") {
+    match replayed(alloc, both_on(alloc, 4)?)? {
         Replayed::Valid => {}
         _ => assert!(rt; false),
     }
-    let claim = both_on(alloc, 5).expect(&rt, "memory");
-    match replay(alloc, &market, &claim, &mut steps).expect(&rt, "memory") {
+    match replayed(alloc, both_on(alloc, 5)?)? {
         Replayed::Invalid(Reason::Surplus { surplus }) => assert!(rt; surplus == 4),
         _ => assert!(rt; false),
     }
-    let claim = round(alloc, -2).expect(&rt, "memory");
-    match replay(alloc, &market, &claim, &mut steps).expect(&rt, "memory") {
+    match replayed(alloc, round(alloc, -2)?)? {
         Replayed::Valid => {}
         _ => assert!(rt; false),
     }
-    let claim = round(alloc, -1).expect(&rt, "memory");
-    match replay(alloc, &market, &claim, &mut steps).expect(&rt, "memory") {
+    match replayed(alloc, round(alloc, -1)?)? {
         Replayed::Invalid(Reason::Cost { cost }) => assert!(rt; cost == -2),
         _ => assert!(rt; false),
     }
+    Ok(())
 }

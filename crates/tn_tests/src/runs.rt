@@ -24,14 +24,19 @@ fn words_of(alloc: Global, text: &str) -> Result<Vec<String>, Fail> {
     Ok(words)
 }
 
+/// What was written into a room.
+fn text_in(alloc: Global, sink: &SteadySink) -> Result<Vec<u8>, Fail> {
+    let text = sink.written().ok_or("more than the room was written")?;
+    Ok(text.to_vec(alloc)?)
+}
+
 /// The status and the written text of a run over ends that never fail.
 pub(crate) fn run_on(alloc: Global, words: &str, document: &[u8]) -> Result<(u8, Vec<u8>), Fail> {
     let words = words_of(alloc, words)?;
     let mut source = SteadySource::new(document.to_vec(alloc)?, 100);
     let mut sink = SteadySink::with_room(alloc, 65_536, 10)?;
-    let run = run_steadily(alloc, &words, &mut source, &mut sink);
-    let text = sink.written().ok_or("more than the room was written")?;
-    Ok((run.status, text.to_vec(alloc)?))
+    let status = run_steadily(alloc, &words, &mut source, &mut sink).status;
+    Ok((status, text_in(alloc, &sink)?))
 }
 
 #[test]
@@ -41,6 +46,17 @@ fn takes_no_document_that_is_cut(rt: HostRuntime) -> Result<(), Fail> {
         assert!(rt; status == 1 && written.as_slice() == NOT_JSON.as_bytes());
     }
     Ok(())
+}
+
+/// The deal in pieces of 16 bytes, of which the call with this number fails.
+fn deal_failing(alloc: Global, at: u64) -> Result<MemorySource, Fail> {
+    let calls = [at].to_vec(alloc)?;
+    Ok(MemorySource::new(DEAL.to_vec(alloc)?, 16, calls))
+}
+
+/// Room for text that takes 8 bytes at a time, of which the call with this number fails.
+fn sink_failing(alloc: Global, room: usize, at: u64) -> Result<MemorySink, Fail> {
+    Ok(MemorySink::new(alloc, room, 8, [at].to_vec(alloc)?)?)
 }
 
 /// Whether a run on the deal ends with a status and writes a text, where the source fails at one call, and a sink of this
@@ -54,8 +70,8 @@ fn ends_with(
     text: Option<&[u8]>,
 ) -> Result<bool, Fail> {
     let words = words_of(alloc, "check")?;
-    let mut source = MemorySource::new(DEAL.to_vec(alloc)?, 16, [read].to_vec(alloc)?);
-    let mut sink = MemorySink::new(alloc, room, 8, [write].to_vec(alloc)?)?;
+    let mut source = deal_failing(alloc, read)?;
+    let mut sink = sink_failing(alloc, room, write)?;
     let run = run_market(alloc, &words, &mut source, &mut sink);
     Ok(run.status == status && Some(sink.written()) == text)
 }

@@ -78,18 +78,19 @@ fn bundles_of_a_stall(rt: HostRuntime) {
 fn firms_made_of_a_stall(rt: HostRuntime) {
     let stall = Stall;
     let mut steps = Steps::new(Asked);
+    let both = Bundle::from_bits(3);
     let taxed = Levied::new(&stall, 2, Bundle::from_bits(1), 1);
-    assert!(rt; taxed.value(Bundle::from_bits(3), &mut steps) == Some(3));
-    assert!(rt; taxed.value(Bundle::from_bits(2), &mut steps) == Some(10));
-    assert!(rt; taxed.trades() == 2 && taxed.bound() == 80);
+    let sold = taxed.value(Bundle::from_bits(2), &mut steps);
+    assert!(rt; [taxed.value(both, &mut steps), sold] == [Some(3), Some(10)]);
     let member = Party::Firm(Levied::new(&stall, 1, Bundle::empty(), 0));
-    assert!(rt; member.value(Bundle::from_bits(3), &mut steps) == Some(2));
+    assert!(rt; member.value(both, &mut steps) == Some(2));
     let outside: Party<Stall> = Party::Outside(Outside::new(-7));
-    assert!(rt; outside.value(Bundle::from_bits(1), &mut steps) == Some(-7));
-    assert!(rt; outside.value(Bundle::from_bits(2), &mut steps) == Some(7));
-    assert!(rt; outside.value(Bundle::from_bits(3), &mut steps) == Some(0));
-    assert!(rt; outside.trades() == 2 && outside.bound() == 7);
-    assert!(rt; outside.side(0) == Side::Buy && outside.side(1) == Side::Sell);
+    let bought = outside.value(Bundle::from_bits(1), &mut steps);
+    let sold = outside.value(Bundle::from_bits(2), &mut steps);
+    assert!(rt; [bought, sold, outside.value(both, &mut steps)] == [Some(-7), Some(7), Some(0)]);
+    assert!(rt; [taxed.trades(), outside.trades()] == [2, 2]);
+    assert!(rt; [taxed.bound(), outside.bound()] == [80, 7]);
+    assert!(rt; [outside.side(0), outside.side(1)] == [Side::Buy, Side::Sell]);
 }
 
 #[test]
@@ -191,15 +192,16 @@ fn admits_and_bars_two_stalls(rt: HostRuntime) {
         &rt, "memory",
     );
     assert!(rt; [session.admitted().count(), session.on().count()] == [0, 0]);
-    assert!(rt; !session.bar(0, &mut steps));
-    assert!(rt; session.admit(0, &mut steps));
-    assert!(rt; !session.admit(0, &mut steps));
-    assert!(rt; session.on().has(0) && !session.on().has(1));
-    assert!(rt; session.price(0) == -3);
-    assert!(rt; session.admit(1, &mut steps));
-    assert!(rt; session.on().has(0) && session.on().has(1));
-    assert!(rt; session.bar(0, &mut steps));
-    assert!(rt; !session.admitted().has(0) && session.admitted().has(1));
-    assert!(rt; !session.on().has(0) && session.on().has(1));
-    assert!(rt; session.price(1) == -3);
+    let barred = session.bar(0, &mut steps);
+    let admitted = session.admit(0, &mut steps);
+    assert!(rt; [barred, admitted, session.admit(0, &mut steps)] == [false, true, false]);
+    let price = session.price(0);
+    let one = [session.on().has(0), session.on().has(1)];
+    let admitted = session.admit(1, &mut steps);
+    let both = [session.on().has(0), session.on().has(1)];
+    assert!(rt; [one, both] == [[true, false], [true, true]]);
+    assert!(rt; [admitted, session.bar(0, &mut steps)] == [true, true]);
+    let left = [session.admitted().has(0), session.admitted().has(1)];
+    assert!(rt; [left, [session.on().has(0), session.on().has(1)]] == [[false, true]; 2]);
+    assert!(rt; [price, session.price(1)] == [-3, -3]);
 }

@@ -1,5 +1,5 @@
 -- What shows the clauses of `graph_of_two_stalls` of `src/two_stalls.rt`.
-use Rattle.std.proofs.Common.{◌≡◌, ◌∷◌, [], ◌+◌, ℕ, not, List, length, map, lit<, lit≤, arith, IfOk, Result, sym, ◌∙◌, subst, ap}
+use Rattle.std.proofs.Common.{◌≡◌, ◌∷◌, [], ◌+◌, ℕ, not, List, length, map, lit<, lit≤, arith, IfOk, Result, ◌∙◌, subst, ap}
 use Rattle.tn_base.specs.Sets.{has, toggle}
 use Rattle.tn_base.specs.declared.memory.OutOfMemory.{OutOfMemory}
 use Rattle.tn_base.proofs.SetLemmas.{has-zero, has-toggle_same, toggle-toggle}
