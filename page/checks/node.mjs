@@ -5,8 +5,8 @@ import {readFileSync} from "node:fs";
 import {createInterface} from "node:readline";
 
 const said = [];
-const self = {postMessage: (message) => said.push(message)};
-new Function("self", readFileSync(new URL("../worker.js", import.meta.url), "utf8"))(self);
+globalThis.self = {postMessage: (message) => said.push(message)};
+await import("../worker.js");
 self.onmessage({data: {module: await WebAssembly.compile(readFileSync(process.argv[2]))}});
 for await (const line of createInterface({input: process.stdin})) {
     const {words, document} = JSON.parse(line);
