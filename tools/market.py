@@ -16,8 +16,8 @@ prices are in the document's unit of money. They are int where they are whole, a
 has a denominator; they are never floats, but in plots.
 
 Each question takes two more arguments. `program` is the path of the program; where it is None, that is the path that
-MARKET has in the environment, or else crates/market/out/market of the repository that has this file, or else `market`
-on the PATH. `timeout` is in seconds, and None for no limit. Each question is a process of its own; `stream` asks one
+MARKET has in the environment, or else what ./market runs in the repository that has this file, or else `market` on the
+PATH. `timeout` is in seconds, and None for no limit. Each question is a process of its own; `stream` asks one
 process about any number of documents.
 """
 from __future__ import annotations
@@ -564,12 +564,27 @@ def find(program=None) -> str:
     named = program or os.environ.get("MARKET")
     if named:
         return os.fspath(named)
-    built = pathlib.Path(__file__).resolve().parent.parent / "crates" / "market" / "out" / "market"
-    found = str(built) if os.access(built, os.X_OK) else shutil.which("market")
-    if found is None:
-        raise NoProgram("there is no program to ask: name one, set MARKET, put `market` on the PATH, or run ./market "
-                        "once in the repository that has this file")
-    return found
+    try:
+        return _launched(pathlib.Path(__file__).resolve().parent.parent)
+    except NoProgram as error:
+        found = shutil.which("market")
+        if found is None:
+            raise NoProgram(f"there is no program to ask: name one, set MARKET, or put `market` on the PATH{error}") from None
+        return found
+
+
+@functools.lru_cache(maxsize=None)
+def _launched(home: pathlib.Path) -> str:
+    """The path of the program that the launcher of a repository runs; raises NoProgram where there is none."""
+    if not (home / "crates.txt").is_file():  # (this file was copied to where it is used)
+        raise NoProgram("")
+    try:
+        run = subprocess.run([home / "market", "--which"], capture_output=True, text=True, check=False)
+    except OSError as error:
+        raise NoProgram(f". {error.filename}: {error.strerror}") from None
+    if run.returncode != 0:
+        raise NoProgram(f". {run.stderr.strip()}")
+    return run.stdout.strip()
 
 
 def _bytes(document: Optional[Document]) -> bytes:

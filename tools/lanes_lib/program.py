@@ -1,16 +1,11 @@
 """The program that is asked: what tools/lanes tells of a document, it was told by it."""
 from __future__ import annotations
 
-import os
-import pathlib
-import subprocess
 from typing import Iterable, Iterator, Optional
 
 import market
 
 from .tables import Trouble
-
-HOME = pathlib.Path(__file__).resolve().parent.parent.parent
 
 
 class Program:
@@ -38,10 +33,8 @@ class Program:
 
 
 def program_of(path: Optional[str]) -> Program:
-    """The program that is named, or that MARKET names, or that this repository's launcher builds."""
-    path = path or os.environ.get("MARKET")
-    if path:
-        return Program(path)
-    if subprocess.run([HOME / "market", "--version"], stdout=subprocess.DEVNULL, check=False).returncode != 0:
-        raise Trouble("there is no program to ask: name one by --market, or in MARKET")
-    return Program(str(HOME / "crates/market/out/market"))
+    """The program that is named, or else the one that tools/market.py finds."""
+    try:
+        return Program(market.find(path))
+    except market.NoProgram as error:
+        raise Trouble(str(error)) from None

@@ -1,11 +1,11 @@
 // Whether an exercise is the same document to the program, keeps to objections in the page, and comes back as a result.
 import assert from "node:assert/strict";
-import {spawnSync} from "node:child_process";
 import {test} from "node:test";
 import {applied} from "../../../page/app/edits.js";
 import {exerciseIn, exerciseMade, isAsGiven, resultIn, resultText} from "../../../page/app/exercise.js";
 import {Store} from "../../../page/app/state.js";
 import {Network} from "../../../page/read/network.js";
+import {answersOf} from "../ask.mjs";
 import {examples} from "./support.mjs";
 
 const TITLE = 'Who "gets" it?';
@@ -16,7 +16,7 @@ function pairs() {
     return texts.map((text) => [text, applied(text, exerciseMade(new Network(text), TITLE, "equilibrium"))]);
 }
 
-const firms = (text) => spawnSync(process.env.MARKET, ["firms"], {input: text, encoding: "utf8"}).stdout;
+const market = answersOf(), firms = (text) => market(["firms"], text);
 
 test("an exercise is answered as its document, and keeps the note that was there", () => {
     for (const [text, made] of pairs()) {

@@ -1,12 +1,12 @@
 // Whether the form changes firms and trades of a text as it says, and nothing else.
 import assert from "node:assert/strict";
-import {spawnSync} from "node:child_process";
 import {test} from "node:test";
 import {EMPTY, objectsIn, renamed, tradesRemoved} from "../../../page/app/building.js";
 import {applied} from "../../../page/app/edits.js";
 import {formOf} from "../../../page/app/fields.js";
 import {parse, plain, written} from "../../../page/read/json.js";
 import {Network} from "../../../page/read/network.js";
+import {answersOf} from "../ask.mjs";
 import {examples} from "./support.mjs";
 
 /** The controls of the form of a text, by their keys. */
@@ -34,9 +34,7 @@ const texts = () => examples().map(({bytes}) => bytes.toString()).filter((text) 
     return problem === null && root.kind === "object";
 });
 
-function market(words, text) {
-    return spawnSync(process.env.MARKET, words, {input: text, encoding: "utf8"}).stdout;
-}
+const market = answersOf();
 
 function answerTo(words, text) {
     return JSON.parse(market(words, text));
