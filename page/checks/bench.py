@@ -2,13 +2,13 @@
 documents that mean it ill."""
 import json
 import re
-import subprocess
 import zlib
 from base64 import urlsafe_b64encode
 from pathlib import Path
 from statistics import median
 
 import look
+import runs
 
 HERE = Path(__file__).resolve().parent
 
@@ -130,7 +130,7 @@ def asked(page: Bench, program: str | None, words: list[str], document: str) -> 
     """An answer of the program, or where there is none of the page."""
     if program is None:
         return json.loads(page.browser.run(ASK, words, document))
-    return json.loads(subprocess.run([program, *words], input=document.encode(), capture_output=True).stdout)
+    return json.loads(runs.program_at(program).ask(words, document.encode())[1])
 
 
 def example(name: str) -> str:

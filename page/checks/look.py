@@ -5,6 +5,8 @@ import shutil
 import subprocess
 from pathlib import Path
 
+import runs
+
 ROOT = Path(__file__).resolve().parents[2]
 
 # Waits until the page is in one of some states, and answers which.
@@ -83,7 +85,7 @@ def are_told(shown: dict, program: str | None, name: str, words: list[str]) -> b
     """Whether the sentences are those of tools/explain of an example; without node or a program to compare with there must be some."""
     if program is None or shutil.which("node") is None:
         return shown["sentences"] != []
-    said = subprocess.run([program, *words], input=example(name), capture_output=True).stdout
+    said = runs.program_at(program).ask(words, example(name))[1]
     told = subprocess.run([ROOT / "tools" / "explain", ROOT / "examples" / name], input=said, capture_output=True, check=True,
                           env={**os.environ, "MARKET": program})
     return shown["sentences"] == told.stdout.decode().splitlines()

@@ -8,6 +8,9 @@ from dataclasses import dataclass, field
 from pathlib import Path
 
 ROOT = Path(__file__).resolve().parents[2]
+sys.path.insert(0, str(ROOT / "tools"))
+from served import program_at  # noqa: E402
+
 COMMANDS = [["check"], ["firms"], ["test"], ["support"], ["solve"], ["solve", "--csv"], ["solve", "--csv=wide"], ["range"], ["range", "--csv"], ["session"],
             ["firms", "--csv"], ["support", "--csv"], ["judge"], ["replay"]]
 # Words that read nothing, or are no command; "solve " has a blank.
@@ -35,8 +38,7 @@ class Run:
 def answered(program: str, runs: list[Run]) -> list[Run]:
     """The runs, with what the program answers."""
     for run in runs:
-        ended = subprocess.run([program, *run.words], input=run.document, capture_output=True)
-        run.status, run.answer = ended.returncode, ended.stdout
+        run.status, run.answer = program_at(program).ask(run.words, run.document)
     return runs
 
 
@@ -50,7 +52,6 @@ def of_examples() -> list[Run]:
 
 def drawn(count: int) -> list[Run]:
     """Documents that tools/fuzz draws, each with one command after another."""
-    sys.path.insert(0, str(ROOT / "tools"))
     documents = importlib.import_module("fuzz_lib.documents")
     examples = [path.read_text() for path in documents.small_examples(ROOT / "examples")]
     runs = []

@@ -11,6 +11,7 @@ import sys
 from fuzz_lib.documents import CLAIMS, NO, add_parts, at_limit, change, spoil, usable_after
 from fuzz_lib.faults import first_fault
 from fuzz_lib.network import Network, first_triple, payments, takes_all
+from served import program_at
 
 HOME = pathlib.Path(__file__).resolve().parent.parent.parent
 ASKED = ("check", "firms", "test", "support", "solve", "judge", "range", "session")
@@ -110,6 +111,13 @@ class LineProgram(Program):
         process.stdin.flush()
         output = process.stdout.readline()
         return None, output, os.pread(self.ends[2], os.fstat(self.ends[2]).st_size, 0)
+
+
+class ServedProgram(Program):
+    """The page's module, of which one process answers all."""
+
+    def start(self, words, text):
+        return *program_at(self.path).ask(words.split(), text), b""
 
 
 @functools.lru_cache(maxsize=10_000)
