@@ -17,8 +17,8 @@ has a denominator; they are never floats, but in plots.
 
 Each question takes two more arguments. `program` is the path of the program; where it is None, that is the path that
 MARKET has in the environment, or else what ./market runs in the repository that has this file, or else `market` on the
-PATH. `timeout` is in seconds, and None for no limit. Each question is a process of its own; `stream` asks one
-process about any number of documents.
+PATH. `timeout` is in seconds, and None for no limit. Each question is a process of its own, but that one process of the
+page's module answers all that have no `timeout`; `stream` asks one process about any number of documents.
 """
 from __future__ import annotations
 
@@ -39,6 +39,11 @@ import time
 from dataclasses import dataclass, field, fields
 from fractions import Fraction
 from typing import Any, ClassVar, Iterable, Iterator, Optional, Union
+
+try:
+    import served
+except ImportError:  # (a copy of this file alone has a process of the module for each question)
+    served = None
 
 Document = Union[dict, str, "os.PathLike[str]", bytes]
 YES, NO = 0, 6
@@ -602,15 +607,23 @@ def _run(command: str, document: Optional[Document], program, timeout: Optional[
     """Whether the verdict is yes, what the program wrote, and the document's bytes."""
     path, asked = find(program), _bytes(document)
     try:
-        run = subprocess.run([path, *command.split()], input=asked, capture_output=True, timeout=timeout, check=False)
+        status, output, told = _ended(path, command.split(), asked, timeout)
     except subprocess.TimeoutExpired:
         raise TimedOut(f"{command} took longer than {timeout} s") from None
     except OSError as error:
         raise NoProgram(f"{path}: {error.strerror}") from error
-    written = run.stdout.decode(errors="replace")
-    if run.returncode not in (YES, NO):
-        raise _trouble(run.returncode, command, written, run.stderr.decode(errors="replace"), asked)
-    return run.returncode == YES, written, asked
+    written = output.decode(errors="replace")
+    if status not in (YES, NO):
+        raise _trouble(status, command, written, told.decode(errors="replace"), asked)
+    return status == YES, written, asked
+
+
+def _ended(path: str, words: list[str], asked: bytes, timeout: Optional[float]) -> tuple[int, bytes, bytes]:
+    """The status of a run, what it wrote, and what it said beside that."""
+    if served and served.is_module(path) and timeout is None:
+        return *served.program_at(path).ask(words, asked), b""
+    run = subprocess.run([path, *words], input=asked, capture_output=True, timeout=timeout, check=False)
+    return run.returncode, run.stdout, run.stderr
 
 
 def _trouble(status: int, command: str, written: str, told: str, asked: bytes) -> MarketError:

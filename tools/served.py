@@ -2,9 +2,11 @@
 of it answers all (`page/market.mjs --serve`); any other program is a process for each question.
 """
 import atexit
+import errno
 import functools
 import json
 import subprocess
+import threading
 
 
 class Native:
@@ -24,14 +26,20 @@ class Served:
 
     def __init__(self, path: str):
         self.process = subprocess.Popen([path, "--serve"], stdin=subprocess.PIPE, stdout=subprocess.PIPE, stderr=subprocess.DEVNULL)
+        self.turn = threading.Lock()
         atexit.register(self.end)
 
     def ask(self, words: list[str], document: bytes) -> tuple[int, bytes]:
-        """The exit status and the bytes that are written."""
-        self.process.stdin.write(f"{len(document)} {json.dumps(words)}\n".encode() + document)
-        self.process.stdin.flush()
-        status, length = self.process.stdout.readline().split()
-        return int(status), self.process.stdout.read(int(length))
+        """The exit status and the bytes that are written. Raises OSError where the process has ended; the next question begins one."""
+        with self.turn:
+            self.process.stdin.write(f"{len(document)} {json.dumps(words)}\n".encode() + document)
+            self.process.stdin.flush()
+            head = self.process.stdout.readline()
+            if head == b"":
+                program_at.cache_clear()
+                raise OSError(errno.EPIPE, "the process of the module has ended")
+            status, length = head.split()
+            return int(status), self.process.stdout.read(int(length))
 
     def end(self) -> None:
         self.process.stdin.close()
