@@ -15,8 +15,8 @@ export async function chainPicture(network, said, ask) {
     const arrows = [...said.contracts.map(([name, price]) => arrowOf(network, name, fraction(price, said.over), "new")),
         ...signed.map(([name, price]) => arrowOf(network, name, fraction(price, network.outcome.over), isLeft(name) ? "left" : "signed"))];
     const boxes = network.firms.filter(({name}) => arrows.some(({from, to}) => name === from || name === to))
-        .map(({name}) => boxOf(name, actors.has(name), found.get(name), said.over));
-    return drawn(boxes, arrows, layout(boxes, arrows, {width: 1560, height: 800}), found.size > 0);
+        .map(({name}) => boxOf(name, actors.has(name), found.get(name)));
+    return drawn(boxes, arrows, layout(boxes, arrows, {width: 1560, height: 800}), boxes.some(({below}) => below !== null));
 }
 
 function arrowOf(network, name, price, state) {
@@ -24,8 +24,9 @@ function arrowOf(network, name, price, state) {
     return {from: seller, to: buyer, name, lines, size: sizeOf(lines), state};
 }
 
-function boxOf(name, isActor, gain, over) {
-    const below = gain ? say("picture.now_then", {now: fraction(gain.now, over), then: fraction(gain.then, over)})
+function boxOf(name, isActor, gain) {
+    const isKnown = gain !== undefined && gain.now !== null;
+    const below = isKnown ? say("picture.now_then", {now: fraction(gain.now, gain.over), then: fraction(gain.then, gain.over)})
         : null;
     const style = isActor ? {fill: "#ffedd5", stroke: FIRST, inkBelow: INK} : {};
     return {id: name, name, below, style, width: boxWidth(name, below), height: below === null ? 24 : 36};

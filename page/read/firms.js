@@ -1,7 +1,8 @@
 // What bundles are worth, asked of the program: all numbers that no answer has come from its command `firms`, which is asked
 // about the document with another arrangement.
+import {countedIn} from "./counted.js";
 import {plain, parse} from "./json.js";
-import {objectOf, withMember} from "./network.js";
+import {gcd, objectOf, withMember} from "./network.js";
 
 /** What `firms` says of an arrangement: a Map from each firm to its line, or null where there is no program or a fault. */
 export async function linesAt(ask, network, on, prices = new Map()) {
@@ -72,24 +73,33 @@ export async function keeping(ask, network, {firm, keeps}) {
 
 /**
  * What the firms of contracts that block have by what is signed, and could have with the new ones, as a Map from each to
- * `{now, then, keeps}`: utilities as numerators over `said.over`, and the signed trades that go on. It asks for a best bundle at
- * whole prices, at which the new contracts are no dearer than they are, and no trade without a contract is wanted.
+ * `{now, then, over, keeps}`: utilities as numerators over the denominator of all prices together, and the signed trades that
+ * go on. Each firm is asked for a best bundle in the document counted over that denominator, with no trade wanted that has no
+ * contract. Where that document passes a limit there are no numbers, which are null then, and nothing is known to be left.
  */
 export async function gains(ask, network, said) {
-    const scale = said.over / network.outcome.over;
-    const signed = new Map(network.outcome.contracts.map(([name, price]) => [name, price * scale]));
-    const all = new Map([...signed, ...said.contracts]);
+    const over = common(network.outcome.over, said.over), counted = countedIn(network, over);
+    const signed = timesOf(network.outcome.contracts, over / network.outcome.over);
+    const all = new Map([...signed, ...timesOf(said.contracts, over / said.over)]);
     const firms = new Set(said.contracts.flatMap(([name]) => [network.trade(name).seller, network.trade(name).buyer]));
     const found = new Map();
-    for (const firm of firms) {
-        const asked = whole(network, firm, all, said.over);
-        const line = (await linesAt(ask, network, [...signed.keys()], asked))?.get(firm);
-        if (!line || line.worth === null) continue;
-        const now = line.worth * said.over + paid(network, firm, line.has, signed);
-        const then = (line.best_utility - paid(network, firm, line.best, asked)) * said.over + paid(network, firm, line.best, all);
-        if (then > now) found.set(firm, {now, then, keeps: line.best.filter((name) => signed.has(name))});
+    for (const firm of ask === null ? [] : firms) {
+        const line = (await linesAt(ask, counted, [...signed.keys()], offered(network, firm, all)))?.get(firm);
+        const keeps = (line?.best ?? network.own(firm, [...signed.keys()])).filter((name) => signed.has(name));
+        const now = line ? line.worth + paid(network, firm, line.has, signed) : null;
+        found.set(firm, {now, then: line?.best_utility ?? null, over, keeps});
     }
     return found;
+}
+
+/** The numerators of contracts, some times as large. */
+function timesOf(contracts, times) {
+    return new Map(contracts.map(([name, price]) => [name, price * times]));
+}
+
+/** The least common multiple of two denominators. */
+function common(one, other) {
+    return one / gcd(one, other) * other;
 }
 
 /** What a firm gets less what it pays by some trades. */
@@ -101,14 +111,8 @@ function signOf(network, firm, name) {
     return network.trade(name).seller === firm ? 1n : -1n;
 }
 
-/** Whole prices for one firm: of a contract the next one in its favour, of all else one that it doesn't want. */
-function whole(network, firm, contracts, over) {
+/** The prices at which one firm is asked: those of contracts, and of all else one that it doesn't want. */
+function offered(network, firm, contracts) {
     const unwanted = 100000000000000n;
-    return new Map(network.trades.map(({name}) => {
-        const sign = signOf(network, firm, name);
-        if (!contracts.has(name)) return [name, -sign * unwanted];
-        const towards = contracts.get(name) * sign;
-        const rounded = towards / over + (towards % over > 0n ? 1n : 0n);
-        return [name, rounded * sign];
-    }));
+    return new Map(network.trades.map(({name}) => [name, contracts.get(name) ?? -signOf(network, firm, name) * unwanted]));
 }

@@ -68,10 +68,17 @@ export function entriesOf(value) {
     return new Map(itemsOf(value).filter((entry) => Array.isArray(entry) && typeof entry[0] === "string").map(([name, number]) => [name, number]));
 }
 
-/** A numerator over a denominator, as a whole number where it is one. */
+/** The greatest common divisor of two whole numbers, which is positive where one of them isn't 0. */
+export function gcd(one, other) {
+    while (other !== 0n) [one, other] = [other, one % other];
+    return one < 0n ? -one : one;
+}
+
+/** A numerator over a positive denominator in its lowest terms, as a whole number where it is one. */
 export function fraction(numerator, denominator) {
     if (typeof numerator !== "bigint" || typeof denominator !== "bigint" || denominator === 0n) return String(numerator);
-    return numerator % denominator === 0n ? String(numerator / denominator) : `${numerator}/${denominator}`;
+    const by = gcd(numerator, denominator), over = denominator / by;
+    return over === 1n ? String(numerator / by) : `${numerator / by}/${over}`;
 }
 
 /** The text of a document with another member, put at its end, since of equal members the last one counts. */

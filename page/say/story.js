@@ -106,10 +106,10 @@ async function chainStory(network, said, ask) {
     const steps = contracts.map((contract) => {
         const [name] = contract, {seller, buyer} = network.trade(name);
         const met = [seller, buyer].filter((firm) => found.has(firm) && !below.has(firm));
-        for (const firm of met) below.set(firm, hasThen(found.get(firm), over));
+        for (const firm of met) below.set(firm, hasThen(found.get(firm)));
         const trades = new Map([...before, [name, "contract"]]);
         before.set(name, "signed before");
-        const says = [contractOf(network, contract, over), ...met.map((firm) => gainOf(firm, found.get(firm), over, left))];
+        const says = [contractOf(network, contract, over), ...met.map((firm) => gainOf(firm, found.get(firm), left))];
         return {says: says.join(" "), firms: [seller, buyer], trades, below: new Map(below)};
     });
     const trades = new Map([...contracts.map(([name]) => [name, "chain"]), ...left.map(({name}) => [name, "left"])]);
@@ -120,11 +120,13 @@ async function chainStory(network, said, ask) {
             below}]};
 }
 
-function hasThen({now, then}, over) {
+function hasThen({now, then, over}) {
+    if (now === null) return [say("word.unknown")];
     return [say("word.has", {number: fraction(now, over)}), say("word.then", {number: fraction(then, over)})];
 }
 
-function gainOf(firm, {now, then}, over, left) {
+function gainOf(firm, {now, then, over}, left) {
+    if (now === null) return say("story.passes_limit", {firm, over});
     const leaves = left.filter(({by}) => by.includes(firm)).map(({name}) => name);
     const values = {firm, now: fraction(now, over), then: fraction(then, over)};
     return leaves.length === 0 ? say("story.would_have", values)

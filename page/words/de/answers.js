@@ -142,6 +142,8 @@ export const ANSWERS = {
             + "der Kette wären es {then}.",
         would_leave: "Nach dem, was unterschrieben ist, hat {firm} einen Nutzen von {now}; mit den eigenen "
             + "Verträgen der Kette und ohne {trades} wären es {then}.",
+        passes_limit: "Was {firm} hat und hätte, und ob die Firma einen Vertrag kündigen würde, steht hier nicht: In Teilen von "
+            + "1/{over} gezählt sind ihre Zahlen größer, als ein Dokument sie haben darf.",
         loses: "{firm} verliert {trade} und wird nicht gefragt.",
         signs_others: "Jede genannte Firma hätte lieber alle diese Verträge, soweit es ihre eigenen sind, was immer "
             + "sie von dem behält, was sie unterschrieben hat. Also passen keine Preise zu dem, was unterschrieben "

@@ -121,6 +121,8 @@ export const ANSWERS = {
             + "{then}.",
         would_leave: "By what is signed {firm} has a utility of {now}; with its contracts of the chain it would "
             + "have {then}, and leave {trades}.",
+        passes_limit: "What {firm} has and would have, and whether it would leave a contract, isn't told: counted in parts of "
+            + "1/{over} its numbers are larger than a document may have.",
         loses: "{firm} loses {trade}, and isn't asked.",
         signs_others: "Each firm named there, whatever it keeps of what it has signed, would rather have all of "
             + "these that are its own. So no prices go with what is signed.",

@@ -52,7 +52,7 @@ test("what firms have before and after contracts that block", {skip}, async (con
     if (!await has(ask, "firms")) return context.skip("the program has no firms");
     const {bytes} = examples().find(({name}) => name === "used-cars-bypassed.json"), network = new Network(bytes.toString());
     const found = await gains(ask, network, readAnswer(await ask(["judge"], bytes)));
-    assert.deepEqual(found.get("O1"), {now: 51n, then: 52n, keeps: []});
+    assert.deepEqual(found.get("O1"), {now: 51n, then: 52n, over: 17n, keeps: []});
     return undefined;
 });
 
