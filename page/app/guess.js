@@ -4,6 +4,7 @@ import {failingOf} from "../draw/triple.js";
 import {whyPicture} from "../draw/why.js";
 import {NoAnswer, readAnswer} from "../read/answer.js";
 import {haves} from "../read/firms.js";
+import {simplest} from "../read/simpler.js";
 import {explain} from "../say/explain.js";
 import {storyOf} from "../say/story.js";
 import {say} from "../words/say.js";
@@ -70,9 +71,13 @@ function troubled(document, trouble) {
     return {document, said: null, trouble, sentences: [trouble], story: null, svg: null};
 }
 
-/** An answer as plain data; where a table fails the exchange property, what `test` says of it comes in the place of `support`'s fault. */
+/**
+ * An answer as plain data; where a table fails the exchange property, what `test` says of it comes in the place of `support`'s
+ * fault, and contracts that block come at simpler prices.
+ */
 async function readHere(words, bytes, document, ask) {
     const said = readAnswer(new TextDecoder().decode(bytes)), isFailing = said.answer === "fault" && said.fault === 16n;
+    if (said.answer === "blocks") return simplest(ask, networkOf(document), said);
     return words === "support" && isFailing ? readAnswer(await ask(["test"], document.text)) : said;
 }
 
@@ -90,7 +95,8 @@ async function understood(document, words, {bytes}, ask) {
         return troubled(document, say("trouble.unread"));
     }
     const isFault = said.answer === "fault", isNone = isFault && !network.problem && lacks(network, words, said.place);
-    const sentences = await explain(network, said, ASKING.includes(words) ? ask : null);
+    const isAsking = ASKING.includes(words) && said.answer !== "blocks";
+    const sentences = await explain(network, said, isAsking ? ask : null);
     const told = {document, said, isNone, sentences, mark: isFault && !isNone ? markOf(network, said) : null};
     if (!["judge", "support"].includes(words)) return told;
     return {...told, ...await tellingOf(network, said, ask), has: isFault || words === "support" ? new Map() : await haves(ask, network)};
@@ -109,7 +115,7 @@ const PARTS = {
     replay: ["claim", (network) => claimOf(network) !== null],
 };
 
-/** The commands whose sentences ask the program for more. */
+/** The commands whose sentences ask the program for more; contracts that block have simpler prices already. */
 const ASKING = ["judge", "replay", "support"];
 
 /** Why an answer is so, as `{story, svg}`, each null where there is none. Of a fault, which a table that fails may be, that is told. */

@@ -1,5 +1,6 @@
 // An answer to a document in sentences. They hold no numbers but those of the document, of the answer, and of what `firms` answers.
 import {fraction} from "../read/network.js";
+import {simplest} from "../read/simpler.js";
 import {say} from "../words/say.js";
 import {claimed, failed} from "./claims.js";
 import {failingLines} from "./exchange.js";
@@ -72,8 +73,9 @@ const ANSWERS = {
         const deals = new Deals(network, said);
         return [say("answer.completes"), signed(deals), ...keepingOff(deals)];
     },
-    blocks: (said, network) => [say("answer.blocks"), signed(new Deals(network, said)), say("answer.would_sign"),
-        ...said.contracts.map((contract) => contractOf(network, contract, said.over)), say("story.signs_others")],
+    blocks: async (said, network, ask) => [say("answer.blocks"), signed(new Deals(network, said)), say("answer.would_sign"),
+        ...said.contracts.map((contract) => contractOf(network, contract, said.over)), ...await simplerLine(said, network, ask),
+        say("story.signs_others")],
     drill: ({firms, size, start, surplus}) => [say("answer.drill", {firms, size, start, surplus})],
     valid: async (said, network, ask) => [say("answer.valid", {claim: claimed(network)}),
         ...(network.claim.answer === "none" ? await planLines(network, ask) : [])],
@@ -90,6 +92,14 @@ function betterLines(said, network) {
     return [say("answer.better", {firm}),
         say("answer.as_it_is", {firm, does: deals.does(firm, network.own(firm, deals.on))}),
         say("answer.rather", {do: deals.do(firm, bundle), gain}), ...earlier(network, firm, "answer.better_before")];
+}
+
+/** Simpler prices at which the same contracts block, where some are found. */
+async function simplerLine(said, network, ask) {
+    const {contracts, over} = await simplest(ask, network, said), prices = contracts.map(([, price]) => fraction(price, over));
+    const own = said.contracts.map(([, price]) => fraction(price, said.over));
+    const isSame = prices.every((price, k) => price === own[k]);
+    return isSame ? [] : [say("answer.simpler", {prices: listed(prices), count: prices.length})];
 }
 
 function dropsLines(said, network) {

@@ -95,6 +95,10 @@ export const ANSWERS = {
         blocks: "Was unterschrieben ist, wird blockiert: Jede Firma würde alle ihre Verträge behalten, aber einige "
             + "würden lieber andere unterschreiben.",
         would_sign: "Sie würden unterschreiben:",
+        simpler: {
+            one: "Das gilt auch bei einem einfacheren Preis, zum Beispiel {prices}.",
+            other: "Das gilt auch bei einfacheren Preisen, zum Beispiel {prices}.",
+        },
         drill: "Das Netz aus {firms} Firmen und {size} Geschäften, das aus {start} gezogen wird: Für eine Menge von "
             + "Geschäften ist die Summe der Werte {surplus}, und für keine ist sie größer.",
         valid: "Die Behauptung ist gültig. Sie sagt, {claim}, und so ist es.",

@@ -77,6 +77,10 @@ export const ANSWERS = {
             + "trades at which nobody would rather do something else.",
         blocks: "This outcome is blocked: each firm would keep all its contracts, but some would rather sign others.",
         would_sign: "They would sign:",
+        simpler: {
+            one: "So they would at a simpler price, for instance {prices}.",
+            other: "So they would at simpler prices, for instance {prices}.",
+        },
         drill: "The network of {firms} firms and {size} trades that is drawn from {start}: the worths of its firms "
             + "sum to {surplus} for some set of trades, and to no more for any.",
         valid: "The claim is valid. It says {claim}, and so it is.",
