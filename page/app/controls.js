@@ -26,6 +26,7 @@ const CHANGES = ["opened", "typed", "edited", "undone", "redone"];
 export function bind(store, documents, run) {
     bindDocument(store, documents);
     bindHistory(store);
+    bindNotices(store);
     bindScene(store);
     bindGuess(store, run);
     bindReasons(store);
@@ -85,6 +86,17 @@ function bindHistory(store) {
         if (isOwn || !["z", "y"].includes(key)) return;
         event.preventDefault();
         store.act(key === "y" || event.shiftKey ? "redone" : "undone");
+    });
+}
+
+/** What was said of a text, or made of it, goes with the text. */
+function bindNotices(store) {
+    store.watch((_, name) => {
+        if (!CHANGES.includes(name)) return;
+        part("linked").hidden = true;
+        for (const id of ["maker-says", "denominator-says"]) part(id).textContent = "";
+        part("denominator").setAttribute("aria-invalid", "false");
+        if (name === "opened") for (const id of ["maker", "notice"]) part(id).hidden = true;
     });
 }
 

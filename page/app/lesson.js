@@ -40,11 +40,10 @@ function bindMaker(store) {
         const title = part("maker-title").value.trim(), network = networkOf(store.value.document);
         const isObject = network.root.kind === "object";
         const key = title === "" ? "maker.no_title" : isObject ? "maker.is_made" : "maker.no_object";
-        part("maker-says").textContent = say(key);
         if (title !== "") store.act("edited", exerciseMade(network, title, part("maker-goal").value));
+        part("maker-says").textContent = say(key);
     });
     on("maker-try", () => {
-        part("maker").hidden = true;
         const {name, bytes} = store.value.document;
         store.act("opened", name, bytes);
     });
@@ -60,7 +59,6 @@ export function showLesson(value) {
     part("exercise").hidden = exercise === null;
     part("tab-results").hidden = results.length === 0;
     if (exercise === null) return;
-    part("maker").hidden = true;
     write("exercise-title", exercise.title);
     write("exercise-says", say(GOALS[exercise.goal].says));
     write("tries", say("exercise.tries", {count: tries}));

@@ -58,17 +58,14 @@ async function tellAgain(program) {
     }
 }
 
-/** Opens the document in the address, and answers whether there was one. */
-async function openAddress() {
-    if (!isDocument(location.hash)) return false;
-    try {
-        store.act("opened", say("page.from_link"), await bytesIn(location.hash));
-        return true;
-    } catch {
-        part("notice").hidden = false;
-        part("notice").textContent = say("link.broken");
-        return false;
-    }
+/** Opens the document in the address; where there is none that can be read another one, which may be null. */
+async function openAddress(other) {
+    const isThere = isDocument(location.hash), bytes = isThere ? await bytesIn(location.hash).catch(() => null) : null;
+    if (bytes !== null) store.act("opened", say("page.from_link"), bytes);
+    else if (other !== null) store.act("opened", ...other);
+    if (!isThere || bytes !== null) return;
+    part("notice").hidden = false;
+    part("notice").textContent = say("link.broken");
 }
 
 function show(value) {
@@ -115,10 +112,10 @@ async function start() {
     store.watch(() => trace(store, tracer));
     bindWhatIf(store);
     new Suppositions(store, new Program(module, partOf("worker")));
-    addEventListener("hashchange", openAddress);
+    addEventListener("hashchange", () => openAddress(null));
     new ResizeObserver(() => showScene(store.value)).observe(part("stage"));
     const [[, [[name, text]]]] = documents;
-    if (!await openAddress()) store.act("opened", name, new TextEncoder().encode(text));
+    await openAddress([name, new TextEncoder().encode(text)]);
     document.documentElement.dataset.loaded = Math.round(performance.now());
 }
 

@@ -12,6 +12,10 @@ const BEGINNING = 2000;
 /** How many changes of the document can be taken back. */
 const MOST_UNDONE = 400;
 
+/** How a document is looked at that was just opened. */
+const AT_FIRST = {isOver: false, hasRanges: false, hasReason: false, window: null, isWide: null, filter: "", firm: null,
+    sort: {by: null, isDown: false}, built: 0, ends: {}};
+
 /**
  * The value. `document` is what is looked at, with the `exercise` as which it was opened and how often it was changed since, its `tries`;
  * `past` and `future` are of it, and `mark`, which says what made the last change: changes
@@ -26,13 +30,19 @@ export const START = {
     document: {name: "", bytes: new Uint8Array(0), text: "", isWhole: true, exercise: null, tries: 0}, past: [], future: [], mark: null, selection: null,
     guess: null, ranges: null, path: null, judged: null, decided: null, reason: null, results: [], words: ["solve"], run: {state: "none"}, answer: null,
     supposed: {before: [], after: []}, compared: null, contributed: null,
-    view: {panel: "guess", mode: "guess", step: 0, isOver: false, hasRanges: false, hasReason: false, window: null, isWide: null, filter: "",
-        firm: null, sort: {by: null, isDown: false}, built: 0, ends: {}},
+    view: {panel: "guess", mode: "guess", step: 0, ...AT_FIRST},
 };
 
 /** The value, looked at in another way. */
 function looked(value, view) {
     return {...value, view: {...value.view, ...view}};
+}
+
+/** A story that is told again goes on at its step; another one begins, and not with a firm that was chosen in the one before it. */
+function told(value, before, now) {
+    if (isSame(before, now)) return value;
+    const selection = before?.said && value.selection?.kind === "firm" ? null : value.selection;
+    return looked({...value, selection}, {step: 0});
 }
 
 /** The place of a firm among the firms of the document. */
@@ -45,9 +55,7 @@ export const ACTIONS = {
     /** A document was opened: it is asked about as the bytes of its file, until it is edited. */
     opened: (value, name, bytes) => {
         const next = changed(value, documentOf(name, bytes), null);
-        const fresh = {isOver: false, hasReason: false, window: null, isWide: null, filter: "", firm: null, built: 0, ends: {}};
-        const view = {...panelFor(next.document, value.view), ...fresh};
-        return looked({...next, ...NOTHING_SAID, selection: null}, view);
+        return looked({...next, ...NOTHING_SAID, selection: null}, {...panelFor(next.document, value.view), ...AT_FIRST});
     },
     /** The text of the document was edited. */
     typed: (value, text, mark = null) => text === value.document.text ? value : changed(value, withText(value.document, text, isMerged(value, mark)), mark),
@@ -57,18 +65,23 @@ export const ACTIONS = {
     redone: (value) => value.future.length === 0 ? value : moved(value, value.future, value.past, (future, past) => ({past, future})),
     /** A lane, a firm or a bound was chosen, or nothing. */
     selected: (value, selection) => looked({...value, selection, mark: null}, selection?.kind === "firm" ? {built: placeOf(value, selection)} : {}),
-    looked,
+    /** It is looked at in another way; a reason or an answer that comes over the network begins with nothing chosen. */
+    looked: (value, view) => {
+        const {selection} = value, isAnew = view.hasReason || view.isOver;
+        return looked({...value, selection: isAnew ? null : view.hasRanges === false ? unbound(selection) : selection}, view);
+    },
     /** A view of the panel was chosen; three of them say what the network shows. */
     went: (value, panel) => {
         const {mode, isOver} = value.view, next = MODES.includes(panel) ? panel : mode;
-        return looked(value, {panel, mode: next, isOver: isOver && next === "guess", step: next === mode ? value.view.step : 0});
+        const view = {panel, mode: next, isOver: isOver && next === "guess"};
+        return next === mode ? looked(value, view) : looked({...value, selection: null}, {...view, step: 0});
     },
     guessed: (value, guess) => ({...value, guess}),
     ranged: (value, ranges) => ({...value, ranges}),
     traced: (value, path) => ({...value, path}),
-    /** What is signed was judged, or a reason was found; a story that is told again goes on at its step. */
-    judged: (value, judged) => looked({...value, judged}, {step: isSame(value.judged, judged) ? value.view.step : 0}),
-    reasoned: (value, reason) => looked({...value, reason}, {step: isSame(value.reason, reason) ? value.view.step : 0}),
+    /** What is signed was judged, or a reason was found. */
+    judged: (value, judged) => told({...value, judged}, value.judged, judged),
+    reasoned: (value, reason) => told({...value, reason}, value.reason, reason),
     decided: (value, decided) => ({...value, decided}),
     /** It is supposed that some are away and barred before, and others after; what is answered of that comes later. */
     supposed: (value, before, after) => ({...value, supposed: {before, after}}),
@@ -113,20 +126,27 @@ function panelFor(document, {panel, mode: before}) {
     return {mode, panel: ["build", "document", "answer"].includes(panel) ? panel : data.claim !== undefined ? "claim" : mode};
 }
 
-/** Of another text no command has been asked, and no answer lies over its network. */
-const LAID_DOWN = ({view}) => ({run: {state: "none"}, view: {...view, isOver: false}});
+/**
+ * What was shown for a text goes with it: of another text no command has been asked, no answer lies over its network, and no bound
+ * of a price is chosen.
+ */
+const LAID_DOWN = ({view}, selection) => ({run: {state: "none"}, view: {...view, isOver: false}, selection: unbound(selection)});
+
+function unbound(selection) {
+    return selection?.kind === "bound" ? null : selection;
+}
 
 function changed(value, document, mark) {
     const {document: before, selection} = value, isKept = !isMerged(value, mark) && before.name + before.text !== "";
     const past = isKept ? [...value.past.slice(1 - MOST_UNDONE), {document: before, selection}] : value.past;
-    return {...value, document, past, future: [], mark, ...LAID_DOWN(value)};
+    return {...value, document, past, future: [], mark, ...LAID_DOWN(value, selection)};
 }
 
 /** Goes to the last of some earlier or later documents, and keeps the present one among the others. */
 function moved(value, from, to, named) {
     const {document, selection} = from[from.length - 1];
     const here = {document: value.document, selection: value.selection};
-    return {...value, document: triedAs(document, value.document), selection, mark: null, ...LAID_DOWN(value), ...named(from.slice(0, -1), [...to, here])};
+    return {...value, document: triedAs(document, value.document), mark: null, ...LAID_DOWN(value, selection), ...named(from.slice(0, -1), [...to, here])};
 }
 
 function documentOf(name, bytes) {

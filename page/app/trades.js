@@ -68,7 +68,12 @@ function showHeads(network, {view, ranges}) {
     HEADS.forEach(([head], k) => ((cells[k].firstElementChild ?? cells[k]).textContent = say(head)));
     if (isSigned) cells[3].firstElementChild.textContent = say("head.signed");
     if (isSigned && over !== 1n) cells[4].firstElementChild.textContent = say("head.price_over", {over});
-    cells[5].hidden = isSigned || ranges?.said?.answer !== "ranges";
+    cells[5].hidden = rangesOf({view, ranges}).length === 0;
+}
+
+/** The ranges that stand beside the prices of a guess, where they are looked at. */
+function rangesOf({view, ranges}) {
+    return view.hasRanges && view.mode === "guess" ? ranges?.said?.ranges ?? [] : [];
 }
 
 function orderOf(column, {by, isDown}) {
@@ -106,8 +111,7 @@ function fill(value) {
     const isAll = rows.length <= MOST_ROWS, many = Math.ceil((scroll.clientHeight || 600) / HIGH) + 2 * AROUND;
     const first = isAll ? 0 : Math.max(0, Math.min(rows.length - many, Math.floor(scroll.scrollTop / HIGH) - AROUND));
     const seen = isAll ? rows : rows.slice(first, first + many);
-    const scale = scaleOf(value), ranges = value.view.mode === "guess" ? value.ranges?.said?.ranges ?? [] : [];
-    const bounds = new Map(ranges.map((range) => [range.trade, range]));
+    const scale = scaleOf(value), bounds = new Map(rangesOf(value).map((range) => [range.trade, range]));
     const isOldRange = isOld(value, value.ranges);
     const next = new Map(seen.map((row) => [row.name, present.get(row.name) ?? rowFor(row.name)]));
     seen.forEach((row, k) => update(next.get(row.name), row, first + k, value, {scale, range: bounds.get(row.name), isOldRange}));

@@ -143,8 +143,8 @@ def label(trade_ends: str) -> str:
 
 def tries(page: Bench, program: str | None):
     """Each as a name, and whether it is so."""
-    for part in (tries_to_guess, tries_of_undo, tries_to_solve, tries_of_ranges, tries_of_complements, tries_of_reasons, tries_to_sign, tries_of_claims,
-                 tries_of_the_text, tries_of_files, tries_of_size, tries_of_ill_will):
+    for part in (tries_to_guess, tries_of_undo, tries_to_solve, tries_of_ranges, tries_of_what_goes, tries_of_complements, tries_of_reasons,
+                 tries_of_first_steps, tries_to_sign, tries_of_claims, tries_of_the_text, tries_of_files, tries_of_size, tries_of_ill_will):
         yield from part(page, program)
 
 
@@ -247,6 +247,58 @@ def tries_of_ranges(page: Bench, program: str | None):
     lanes = page.drawn()["lanes"]
     yield "and marks it in the network", all("holds h1b1 from above" in lanes[name]["says"] for name in path[1:-1])
     page.click("#ranges")
+
+
+def marked(page: Bench) -> list[str]:
+    """The trades that are said to hold a price."""
+    return [name for name, lane in page.drawn()["lanes"].items() if " holds " in lane["says"] or "the price of" in lane["says"]]
+
+
+def held(page: Bench) -> list[str]:
+    """Shows what holds the price of h1b1 from above, and answers the trades that are marked."""
+    page.click('[data-key="high:h1b1"]')
+    page.wait_for("path", "answered")
+    return marked(page)
+
+
+def tries_of_what_goes(page: Bench, program: str | None):
+    """What was shown for a text goes with it."""
+    page.open("houses.json", look.example("houses.json"))
+    page.click("#ranges")
+    page.wait_for("ranges", "answered")
+    is_held = held(page) != []
+    page.click('#trades [data-key="on:h1b1"]')
+    page.guess()
+    yield "what holds a bound goes with the text", is_held and marked(page) == [] and page.value("document.getElementById('path').hidden")
+    page.press("Control+z")
+    page.wait_for("ranges", "answered")
+    is_held = held(page) != []
+    page.click("#solve")
+    page.wait_for("state", "answered")
+    yield "and isn't drawn over what solve found", is_held and marked(page) == [] and page.value("document.getElementById('path').hidden")
+    page.click("#over-leave")
+    page.link()
+    page.browser.run("document.querySelectorAll('#trades th button')[4].click()")
+    is_sorted = page.value("document.querySelectorAll('#trades th')[4].getAttribute('aria-sort')") == "ascending"
+    page.open("8-ranges.json", look.example("lesson/8-ranges.json"))
+    yield "ranges stay away from another document", page.value("document.documentElement.dataset.ranges") == "none" and all(len(row) == 1 for row in page.browser.run(BOUNDS))
+    yield "and the order of the table does", is_sorted and page.value("document.querySelectorAll('#trades th[aria-sort=ascending]').length") == 0
+    yield "and a link", page.value("document.getElementById('linked').hidden")
+
+
+def tries_of_first_steps(page: Bench, program: str | None):
+    """A story begins with its first step, also where a firm was chosen before, as the lesson has it in exercises 2 and 5."""
+    for name, button in (("2-assignment", "#wonder"), ("5-complements", "#solve")):
+        page.open(f"{name}.json", look.example(f"lesson/{name}.json"))
+        page.guess()
+        page.click("#objects")
+        told = page.says("told")
+        page.click(button)
+        page.wait_for("reason", "answered")
+        steps, says = page.browser.run(STEPS), [lane["says"] for lane in page.drawn()["lanes"].values()]
+        yield f"{name}: the story is told in the place of who objects", told not in steps and page.says("told") == steps[0] and page.says("story-place").startswith("Step 1 of")
+        yield f"{name}: in its own colours", not any("would rather have" in each for each in [*says, page.says("legend")])
+        page.click("#reason-close")
 
 
 def tries_of_complements(page: Bench, program: str | None):
@@ -437,6 +489,11 @@ def tries_of_claims(page: Bench, program: str | None):
     page.click("#claim-go")
     marked = page.value("[...document.querySelectorAll('.CodeMirror .faulty')].map(({textContent}) => textContent).join('')")
     yield "and marked in the text", marked == "0"
+    page.open("6-signed-too-low.json", look.example("lesson/6-signed-too-low.json").replace(b'["sue-tom",2]', b'["sue-tom",4]'))
+    page.click("#tab-sign")
+    judged(page)
+    page.click("#reason-claim")
+    yield "the table of the lesson is claimed at 5", decided(page).startswith("\u2713") and json.loads(page.text())["claim"] == {"answer": "blocks", "contracts": [["sue-uma", 5]], "over": 1}
     page.open("used-cars-outbid.json", look.example("used-cars-outbid.json"))
     page.click("#tab-guess")
     page.click("#wonder")

@@ -206,3 +206,41 @@ test("a document is opened to sign where it has contracts and no guess, and at i
     open("used-cars-bypassed.json");
     assert.deepEqual([store.value.view.panel, store.value.view.mode], ["document", "sign"]);
 });
+
+/** A store with an example that was opened. */
+function opened(name) {
+    const store = new Store();
+    store.act("opened", name, examples().find((each) => each.name === name).bytes);
+    return store;
+}
+
+test("a reason, and what is signed, begin with their first step in the place of a firm that was chosen", () => {
+    const store = opened("used-cars-outbid.json"), firm = {kind: "firm", name: "B1"};
+    for (const [name, detail] of [["looked", {hasReason: true, step: 0}], ["looked", {isOver: true}], ["went", "sign"]]) {
+        store.act("selected", firm);
+        store.act(name, detail);
+        assert.equal(store.value.selection, null, name);
+    }
+    store.act("reasoned", {said: {answer: "cycle"}});
+    store.act("selected", firm);
+    store.act("reasoned", {said: {answer: "cycle"}});
+    assert.equal(store.value.selection, firm);
+    store.act("reasoned", {said: {answer: "prices"}});
+    assert.equal(store.value.selection, null);
+});
+
+test("a bound that is chosen goes with its text, and ranges and the order of the table with their document", () => {
+    const store = opened("houses.json"), {text} = store.value.document, bound = {kind: "bound", trade: "h1b1", side: "low"};
+    const sort = {by: "price", isDown: true};
+    for (const [name, ...details] of [["typed", `${text} `], ["undone"], ["redone"], ["looked", {isOver: true}], ["looked", {hasRanges: false}]]) {
+        store.act("looked", {hasRanges: true, sort});
+        store.act("selected", bound);
+        store.act(name, ...details);
+        assert.equal(store.value.selection, null, name);
+    }
+    store.act("looked", {hasRanges: true, sort});
+    store.act("typed", `${text}  `);
+    assert.deepEqual([store.value.view.hasRanges, store.value.view.sort], [true, sort]);
+    store.act("opened", "houses.json", new TextEncoder().encode(text));
+    assert.deepEqual([store.value.view.hasRanges, store.value.view.sort], [false, {by: null, isDown: false}]);
+});
