@@ -1,5 +1,6 @@
 // What a user does with buttons, fields, keys and files, as actions.
 import {say} from "../words/say.js";
+import {bindBegun, sayBegun} from "./begun.js";
 import {EMPTY} from "./building.js";
 import {COMMANDS} from "./commands.js";
 import {goTo, refreshEditor} from "./editor.js";
@@ -20,7 +21,7 @@ import {arrange} from "./terms.js";
 let last = null;
 
 /** The actions that change the document. */
-const CHANGES = ["opened", "typed", "edited", "undone", "redone"];
+const CHANGES = ["opened", "typed", "edited", "undone", "redone", "resumed", "left"];
 
 /** Binds everything. `documents` are the examples in groups; `run` asks and ends the command. */
 export function bind(store, documents, run) {
@@ -33,7 +34,8 @@ export function bind(store, documents, run) {
     bindTabs(store);
     bindCommand(store, run);
     bindLinks(store);
-    bindLesson(store);
+    bindLesson(store, documents[0][1][0]);
+    bindBegun(store, CHANGES);
     bindKept(store);
 }
 
@@ -57,7 +59,7 @@ function bindDocument(store, documents) {
     }
     part("examples").addEventListener("change", () => {
         const name = part("examples").value;
-        if (name !== "") store.act("opened", name, new TextEncoder().encode(texts.get(name)));
+        if (name !== "" && store.value.document.exercise === null) store.act("opened", name, new TextEncoder().encode(texts.get(name)));
         part("examples").value = "";
     });
     part("file").addEventListener("change", () => open(store, [...part("file").files]).finally(() => (part("file").value = "")));
@@ -96,7 +98,7 @@ function bindNotices(store) {
         part("linked").hidden = true;
         for (const id of ["maker-says", "denominator-says"]) part(id).textContent = "";
         part("denominator").setAttribute("aria-invalid", "false");
-        if (name === "opened") for (const id of ["maker", "notice"]) part(id).hidden = true;
+        if (["opened", "left"].includes(name)) for (const id of ["maker", "notice"]) part(id).hidden = true;
     });
 }
 
@@ -204,7 +206,7 @@ function bindKept(store) {
         part("kept").hidden = true;
         act();
     });
-    store.watch(({document: now, past}, name) => CHANGES.includes(name) && past.length > 0 && keep(now));
+    store.watch(({document: now, past}, name) => CHANGES.includes(name) && past.length > 0 && now.exercise === null && keep(now));
 }
 
 /** Says what is chosen from, and what was kept, in the language that is spoken. */
@@ -213,5 +215,6 @@ export function sayControls() {
         part("command").options[k].textContent = words === "" ? say(key) : `${words}: ${say(key)}`;
     });
     for (const group of part("examples").querySelectorAll("optgroup")) group.label = say(group.dataset.group);
+    sayBegun();
     part("kept-says").textContent = last === null ? "" : say("page.kept", {name: last.name});
 }

@@ -1,26 +1,66 @@
-// The document of last time and the language that was chosen, which the browser keeps where it lets pages do so.
-// Nothing depends on them.
+// The document of last time, what was begun of exercises, and the language that was chosen, which the browser keeps where it lets
+// pages do so. Nothing depends on them, and no name of a pupil is among them.
 
-const KEY = "market: the document", LANGUAGE = "market: the language", WAIT = 300;
+const KEY = "market: the document", EXERCISES = "market: the exercises", LANGUAGE = "market: the language", WAIT = 300;
 
-let waiting = null;
+/** Of how many exercises what was begun is kept. */
+const MOST = 8;
+
+const waiting = new Map();
 
 /** Keeps a document a little later, so that a drag is kept once. */
 export function keep({name, text, isWhole}) {
-    clearTimeout(waiting);
-    if (isWhole && text !== "") waiting = setTimeout(() => tried(() => localStorage.setItem(KEY, JSON.stringify({name, text}))), WAIT);
+    if (isWhole && text !== "") later(KEY, {name, text});
+}
+
+function later(key, content) {
+    clearTimeout(waiting.get(key));
+    waiting.set(key, setTimeout(() => put(key, content), WAIT));
+}
+
+function put(key, content) {
+    clearTimeout(waiting.get(key));
+    tried(() => localStorage.setItem(key, JSON.stringify(content)));
+}
+
+function remove(key) {
+    clearTimeout(waiting.get(key));
+    tried(() => localStorage.removeItem(key));
+}
+
+function read(key) {
+    return tried(() => JSON.parse(localStorage.getItem(key)));
 }
 
 /** What is kept, as `{name, text}`, or null. */
 export function kept() {
-    const found = tried(() => JSON.parse(localStorage.getItem(KEY)));
-    return typeof found?.text === "string" && typeof found.name === "string" ? found : null;
+    const found = read(KEY);
+    return isKept(found) ? found : null;
+}
+
+function isKept(found) {
+    return typeof found?.text === "string" && typeof found.name === "string";
+}
+
+/** What was begun of exercises, the last one first, each as `{name, text, tries}`. */
+export function begun() {
+    const found = read(EXERCISES);
+    return Array.isArray(found) ? found.filter((each) => isKept(each) && Number.isSafeInteger(each.tries)) : [];
+}
+
+/** Keeps what was done of an exercise in the place of what is kept of the same one. */
+export function keepBegun({name, text, tries}, isSame) {
+    later(EXERCISES, [{name, text, tries}, ...begun().filter((each) => !isSame(each))].slice(0, MOST));
+}
+
+/** Forgets what is kept of an exercise. */
+export function forgetBegun(isSame) {
+    put(EXERCISES, begun().filter((each) => !isSame(each)));
 }
 
 /** Forgets the document. */
 export function forget() {
-    clearTimeout(waiting);
-    tried(() => localStorage.removeItem(KEY));
+    remove(KEY);
 }
 
 /** Keeps the name of a language. */
@@ -35,8 +75,7 @@ export function keptLanguage() {
 
 /** Forgets all that is kept. */
 export function forgetAll() {
-    forget();
-    tried(() => localStorage.removeItem(LANGUAGE));
+    for (const key of [KEY, EXERCISES, LANGUAGE]) remove(key);
 }
 
 /** A browser may refuse, by a setting or from a disk. */

@@ -1,18 +1,22 @@
 // What a class does with exercises: a teacher makes one, a pupil tries and saves the result, and a teacher opens many of
 // these.
 import {say} from "../words/say.js";
+import {forgetDone} from "./begun.js";
 import {exerciseIn, exerciseMade, GOALS, resultText} from "./exercise.js";
 import {offer, on, part, write} from "./page.js";
 import {saveResults} from "./results.js";
 import {networkOf} from "./state.js";
 
-/** Binds all that. */
-export function bindLesson(store) {
+/** Binds all that. `other` is the name and the text of what is looked at when an exercise is left, and nothing was before it. */
+export function bindLesson(store, [other, text]) {
     bindMaker(store);
+    store.watch((_, name) => ["opened", "left"].includes(name) && (part("pupil").value = ""));
+    on("exercise-leave", () => store.act("left", other, new TextEncoder().encode(text)));
     on("result-save", () => {
         const name = part("pupil").value.trim(), {document} = store.value;
         const file = `${stemOf(name)}-${stemOf(document.exercise.title)}.json`;
         offer(file, resultText(document, name), "application/json");
+        forgetDone(document);
     });
     on("results-csv", () => saveResults(store.value));
     on("results-forget", () => store.act("forgot"));

@@ -74,7 +74,7 @@ let shown = null;
 export function showResults({results}) {
     if (results === shown) return;
     shown = results;
-    const table = part("results"), reached = results.filter(({verdict}) => verdict?.isReached).length;
+    const table = part("results"), reached = results.filter((result) => outcomeOf(result)?.isReached).length;
     part("results-says").textContent = say("result.counted", {count: results.length, reached});
     table.tHead.replaceChildren(rowOf(HEADS.map((head) => made("th", say(head), {scope: "col"}))));
     table.tBodies[0].replaceChildren(...results.map((result, k) => resultRow(result, k)));
@@ -87,18 +87,24 @@ function rowOf(cells) {
 }
 
 function resultRow(result, k) {
-    const [name, ...cells] = cellsOf(result), {verdict} = result, head = made("th", "", {scope: "row"});
+    const [name, ...cells] = cellsOf(result), outcome = outcomeOf(result), head = made("th", "", {scope: "row"});
     head.append(made("button", name, {type: "button", "data-result": k, title: say("result.show")}));
     const row = rowOf([head, ...cells.map((cell) => made("td", cell))]);
-    if (verdict !== null) row.className = verdict.isReached ? "reached" : "missed";
+    if (outcome !== null) row.className = outcome.isReached ? "reached" : "missed";
     return row;
 }
 
 const SIGNS = {true: "\u2713 ", false: "\u2717 "},
     GIVEN = {true: "result.as_given", false: "result.changed", null: "result.not_compared"};
 
-function cellsOf({file, name, tries, document, isGiven, verdict}) {
-    const reached = verdict === null ? "" : `${SIGNS[verdict.isReached]}${verdict.says}`;
+/** What counts of a result, as `{isReached, says}`, or null where it isn't decided yet: another market isn't the exercise. */
+function outcomeOf({isGiven, verdict}) {
+    return verdict?.isReached && isGiven === false ? {isReached: false, says: say("result.other_market")} : verdict;
+}
+
+function cellsOf(result) {
+    const {file, name, tries, document, isGiven} = result, outcome = outcomeOf(result);
+    const reached = outcome === null ? "" : `${SIGNS[outcome.isReached]}${outcome.says}`;
     return [name || file, document.exercise?.title ?? say("word.none"), reached, String(tries ?? "?"),
         say(GIVEN[isGiven])];
 }

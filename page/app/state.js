@@ -19,7 +19,7 @@ const AT_FIRST = {isOver: false, hasRanges: false, hasReason: false, window: nul
 /**
  * The value. `document` is what is looked at, with the `exercise` as which it was opened and how often it was changed since, its `tries`;
  * `past` and `future` are of it, and `mark`, which says what made the last change: changes
- * with one mark are taken back together. `results` are those that a teacher opened. `selection` is null or `{kind, ..}`: lane, firm or bound. `guess`, `ranges`, `judged` and
+ * with one mark are taken back together. An exercise has a past and a future of its own, and `outside` is what was looked at before it. `results` are those that a teacher opened. `selection` is null or `{kind, ..}`: lane, firm or bound. `guess`, `ranges`, `judged` and
  * `decided` are what `firms`, `range`, `judge` and `replay` answered, `reason` what `support` or `test` did, and `answer` is that of the
  * command in `words`, each with the `document` that it was asked of; where that isn't the present one it is old. `run` is how far the
  * command is, `view` how all this is looked at: `mode` is "guess", "sign" or "whatif", `step` the place in a story that is told, and `built` that of
@@ -27,7 +27,8 @@ const AT_FIRST = {isOver: false, hasRanges: false, hasReason: false, window: nul
  * what was said of it.
  */
 export const START = {
-    document: {name: "", bytes: new Uint8Array(0), text: "", isWhole: true, exercise: null, tries: 0}, past: [], future: [], mark: null, selection: null,
+    document: {name: "", bytes: new Uint8Array(0), text: "", isWhole: true, exercise: null, tries: 0}, past: [], future: [], outside: null,
+    mark: null, selection: null,
     guess: null, ranges: null, path: null, judged: null, decided: null, reason: null, results: [], words: ["solve"], run: {state: "none"}, answer: null,
     supposed: {before: [], after: []}, compared: null, contributed: null,
     view: {panel: "guess", mode: "guess", step: 0, ...AT_FIRST},
@@ -54,9 +55,18 @@ function placeOf({document}, {name}) {
 export const ACTIONS = {
     /** A document was opened: it is asked about as the bytes of its file, until it is edited. */
     opened: (value, name, bytes) => {
-        const next = changed(value, documentOf(name, bytes), null);
-        return looked({...next, ...NOTHING_SAID, selection: null}, {...panelFor(next.document, value.view), ...AT_FIRST});
+        const document = documentOf(name, bytes), isApart = (document.exercise ?? value.document.exercise) !== null;
+        const next = {...changed(value, document, null), outside: outsideOf(value, document)};
+        return atFirst(isApart ? {...next, past: []} : next);
     },
+    /** An exercise was left, for the document before it; where there was none, for another one. */
+    left: (value, name, bytes) => {
+        const next = changed(value, value.outside ?? documentOf(name, bytes), null);
+        return atFirst({...next, past: [], outside: null});
+    },
+    /** What was begun of an exercise is taken up; it was tried so often before. */
+    resumed: (value, text, tries) => changed(value, {...withText(value.document, text, true), tries}, null),
+    tried: (value, tries) => ({...value, document: {...value.document, tries}}),
     /** The text of the document was edited. */
     typed: (value, text, mark = null) => text === value.document.text ? value : changed(value, withText(value.document, text, isMerged(value, mark)), mark),
     /** Some places of the text were changed, by the picture or a form. */
@@ -108,6 +118,17 @@ export const ACTIONS = {
     marked: (value, result, verdict) => ({...value, results: value.results.map((each) => each === result ? {...each, verdict} : each)}),
     forgot: (value) => ({...ACTIONS.went(value, value.view.mode), results: []}),
 };
+
+/** A value with its document as if that was never looked at before. */
+function atFirst(value) {
+    return looked({...value, ...NOTHING_SAID, selection: null}, {...panelFor(value.document, value.view), ...AT_FIRST});
+}
+
+/** The document that is gone back to from an exercise; null where there is none. */
+function outsideOf({document: before, outside}, {exercise}) {
+    if (exercise === null || before.name + before.text === "") return null;
+    return before.exercise === null ? before : outside;
+}
 
 const NOTHING_SAID = {guess: null, ranges: null, path: null, judged: null, decided: null, reason: null, answer: null,
     supposed: START.supposed, compared: null, contributed: null};

@@ -14,7 +14,7 @@ from bench import CHOSEN, KEEP, OFFERED, STEPS, Bench, asked, judged, label
 
 def tries(page: Bench, program: str | None):
     """Each as a name, and whether it is so."""
-    for part in (tries_to_build, tries_of_exercises, tries_of_the_hour):
+    for part in (tries_to_build, tries_of_exercises, tries_to_leave, tries_of_the_hour):
         yield from part(page, program)
 
 
@@ -107,7 +107,8 @@ THERE = "return [...document.querySelectorAll('button, select, input')].filter((
 # The rows of the results.
 ROWS = "return [...document.querySelectorAll('#results tbody tr')].map((row) => [...row.cells].map(({textContent}) => textContent));"
 
-SOLVING = {"solve", "wonder", "ranges", "buyers-best", "sellers-best", "tab-whatif", "tab-claim", "tab-build", "tab-document", "tab-answer", "run", "reason-take", "reason-claim"}
+SOLVING = {"solve", "wonder", "ranges", "buyers-best", "sellers-best", "tab-whatif", "tab-claim", "tab-build", "tab-document", "tab-answer", "run", "reason-take", "reason-claim",
+           "sign-guess", "examples", "new", "kept-open"}
 
 
 def to_exercise(page: Bench, title: str, goal: str) -> str:
@@ -171,12 +172,12 @@ def tries_of_exercises(page: Bench, program: str | None):
     rows, content = page.browser.run(ROWS), asked(page, program, ["firms"], given)["content"]
     yield "many results are told in a table, each as the program decides it", rows == [
         ["Lena", "One good", f"\u2717 no: {content} of 4 firms are content", "0", "as given"], ["Max", "One good", "\u2713 yes", "6", "as given"],
-        ["=Mo", "One good", "\u2713 yes", "6", "changed"], ["Ida", "To last", "\u2713 yes", "3", "not compared"],
+        ["=Mo", "One good", "\u2717 no: firms or trades were changed", "6", "changed"], ["Ida", "To last", "\u2713 yes", "3", "not compared"],
         ["Jon", "none", "\u2717 it isn't of an exercise", "?", "not compared"]]
-    yield "and counted", page.says("results-says") == "5 results, 3 reached."
+    yield "and counted", page.says("results-says") == "5 results, 2 reached."
     page.click("#results-csv")
     table = page.browser.run(OFFERED)[0]
-    yield "they are offered as rows, none of which begins a formula", table[0] == "results.csv" and "\n'=Mo,One good,\u2713 yes,6,changed\n" in table[1]
+    yield "they are offered as rows, none of which begins a formula", table[0] == "results.csv" and "\n'=Mo,One good,\u2717 no: firms or trades were changed,6,changed\n" in table[1]
     page.click('[data-result="0"]')
     yield "a click shows what a pupil saw", page.guess().endswith("firms are content.") and page.text() == given.strip()
     page.click("#tab-results")
@@ -198,6 +199,80 @@ def tries_of_exercises(page: Bench, program: str | None):
     page.browser.run("history.replaceState(null, '', location.pathname)")
     page.open("used-cars.json", look.example("used-cars.json"))
     page.click("#tab-guess")
+
+
+def is_shut(page: Bench, element: str) -> bool:
+    return page.value("document.getElementById(arguments[0]).getAttribute('aria-disabled') === 'true'", element)
+
+
+def tries_to_leave(page: Bench, program: str | None):
+    """An exercise is left by its own button alone."""
+    page.open("1-one-good.json", look.example("lesson/1-one-good.json"))
+    given = to_exercise(page, "One good", "equilibrium")
+    page.click("#maker-try")
+    page.guess()
+    page.press("Control+z")
+    yield "undo ends where an exercise begins", page.text() == given and page.says("exercise-title") == "One good" and is_shut(page, "undo")
+    page.browser.run(CHOSEN, "examples", "1-one-good.json")
+    yield "and no example is opened in it", page.text() == given
+    page.click(label("Ada Cleo"))
+    page.guess()
+    page.click("#exercise-leave")
+    page.guess()
+    yield "it is left for what was before it", page.value("document.documentElement.dataset.exercise") == "none" and page.text() == given and "solve" in page.browser.run(THERE)
+    yield "from where nothing leads back into it", is_shut(page, "undo") and is_shut(page, "redo")
+    page.click("#forget")
+
+
+# Waits until what was changed is kept.
+KEPT = "return new Promise((done) => setTimeout(() => done(JSON.stringify(localStorage)), 500));"
+
+
+def tries_of_reloads(page: Bench, address: str):
+    """What was begun of an exercise is kept for this exercise alone, until its result is saved."""
+    page.again(address)
+    page.click("#forget")
+    page.open("1-one-good.json", look.example("lesson/1-one-good.json"))
+    given = to_exercise(page, "One good", "equilibrium")
+    page.click("#forget")
+
+    def opened() -> tuple[bool, str, str]:
+        """Opens the page and the exercise anew, and answers whether what was begun is offered, the tries, and the pupil's name."""
+        page.again(address)
+        is_offered = page.value("!document.getElementById('kept').hidden || !document.getElementById('begun').hidden")
+        page.open("given.json", given.encode())
+        return not is_offered and page.value("!document.getElementById('begun').hidden"), page.says("tries"), page.value("document.getElementById('pupil').value")
+
+    yield "of an exercise that nobody began nothing is offered", opened() == (False, "0 tries", "")
+    page.drag("#pupil", 0)
+    page.press(*"Lena")
+    page.click(label("Ada Cleo"))
+    page.click(label("Ada Dan"))
+    begun, stored = page.text(), page.browser.run(KEPT)
+    yield "what was begun is offered where the same exercise is opened, and nowhere else", opened() == (True, "2 tries", "")
+    yield "no name is kept", "Ada" in stored and "Lena" not in stored
+    page.click("#begun-open")
+    yield "it is gone on with, and its tries", page.text() == begun and page.says("tries") == "2 tries"
+    page.click(label("Ben Cleo"))
+    page.browser.run(KEPT)
+    yield "the count goes on, also where what was begun isn't taken up", opened() == (True, "3 tries", "") and page.text() == given
+    page.click(label("Ben Cleo"))
+    page.browser.run(KEEP)
+    result = saved_result(page, "Max")
+    yield "and goes into the result", json.loads(result[1])["tries"] == 4
+    yield "with which it is forgotten", "Ada" not in page.browser.run(KEPT) and opened() == (False, "0 tries", "")
+    page.click(label("Ben Cleo"))
+    page.browser.run(KEPT)
+    is_offered = opened()[0]
+    page.click("#begun-forget")
+    yield "somebody else begins anew", is_offered and page.says("tries") == "0 tries" and opened() == (False, "0 tries", "")
+    other = given.replace("One good", "Another")
+    page.click(label("Ben Cleo"))
+    page.browser.run(KEPT)
+    page.open("other.json", other.encode())
+    yield "another exercise isn't offered it", page.value("document.getElementById('begun').hidden") and page.says("tries") == "0 tries"
+    page.click("#forget")
+    page.again(address)
 
 
 def priced(page: Bench, **prices: int) -> None:

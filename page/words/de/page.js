@@ -2,6 +2,7 @@
 export const PAGE = {
     page: {
         address: "Adresse der Seite", all_firms: "Alle Firmen", answer: "Antworten", back: "Zurück",
+        begun_forget: "Neu beginnen", begun_open: "Damit weitermachen",
         buyers_best: "Bestes für Käufer", by_firm: "Die Geschäfte einer Firma zeigen",
         bytes: {one: "{count} Byte", other: "{count} Bytes"}, claim_go: "Im Dokument zeigen", claim_it: "Behaupten",
         claim_none: "Eine Antwort von check, test, support, solve oder judge kann durch den Knopf {button} daneben "
@@ -21,7 +22,7 @@ export const PAGE = {
         goal_equilibrium: "ein Gleichgewicht", goal_lasts: "Verträge, die halten",
         kept: "Der Browser hat ein Dokument vom letzten Mal behalten: {name}.",
         kept_forget: "Vergessen", kept_open: "Öffnen", language: "Sprache", lay_out: "Auf Zeilen verteilen",
-        leave_guess: "Zum Vorschlag zurück", link: "Link", loading: "Das Programm wird geladen.",
+        leave_exercise: "Aufgabe verlassen", leave_guess: "Zum Vorschlag zurück", link: "Link", loading: "Das Programm wird geladen.",
         made_of: "Gemacht aus den Quellen mit der Prüfsumme {sources}.",
         make: "Zur Aufgabe machen", maker: "Eine Aufgabe machen",
         more_sentences: {one: "{count} weiterer Satz", other: "{count} weitere Sätze"},
@@ -115,10 +116,17 @@ export const PAGE = {
     exercise: {
         equilibrium: "Finde Geschäfte und Preise, bei denen jede Firma zufrieden ist.",
         lasts: "Unterschreibe Verträge, die halten.", tries: {one: "{count} Versuch", other: "{count} Versuche"},
+        begun: {
+            one: "Der Browser hat behalten, was hier begonnen wurde, mit {count} Versuch. War das jemand anderes? Dann "
+                + "beginne neu.",
+            other: "Der Browser hat behalten, was hier begonnen wurde, mit {count} Versuchen. War das jemand anderes? "
+                + "Dann beginne neu.",
+        },
     },
     result: {
         counted: {one: "{count} Ergebnis, {reached} erreicht.", other: "{count} Ergebnisse, {reached} erreicht."},
         show: "Zeigen, was hier zu sehen war", yes: "ja",
+        other_market: "nein: Firmen oder Geschäfte wurden geändert",
         content: {
             one: "nein: {count} von {all} Firmen ist zufrieden",
             other: "nein: {count} von {all} Firmen sind zufrieden",

@@ -2,6 +2,7 @@
 export const PAGE = {
     page: {
         address: "Address of the page", all_firms: "All firms", answer: "Answer", back: "Back",
+        begun_forget: "Begin anew", begun_open: "Go on with it",
         buyers_best: "Buyers' best", by_firm: "Show the trades of one firm", bytes: "{count} bytes",
         claim_go: "Show it in the document", claim_it: "Claim it",
         claim_none: "An answer of check, test, support, solve or judge can be put in as a claim by the button "
@@ -20,7 +21,7 @@ export const PAGE = {
         goal: "To be found", goal_equilibrium: "an equilibrium", goal_lasts: "contracts that last",
         kept: "The browser has kept a document from last time: {name}.",
         kept_forget: "Forget it", kept_open: "Open it", language: "Language", lay_out: "Lay it out",
-        leave_guess: "Back to the guess", link: "Link", loading: "The program is being loaded.",
+        leave_exercise: "Leave the exercise", leave_guess: "Back to the guess", link: "Link", loading: "The program is being loaded.",
         made_of: "Made of the sources with the checksum {sources}.",
         make: "Make it an exercise", maker: "Make an exercise", more_sentences: "{count} more sentences",
         network: "Network", new: "New", next: "Next",
@@ -103,10 +104,14 @@ export const PAGE = {
     exercise: {
         equilibrium: "Find trades and prices at which every firm is content.",
         lasts: "Sign contracts that last.", tries: {one: "{count} try", other: "{count} tries"},
+        begun: {
+            one: "The browser has kept what was begun here, with {count} try. Was that somebody else? Then begin anew.",
+            other: "The browser has kept what was begun here, with {count} tries. Was that somebody else? Then begin anew.",
+        },
     },
     result: {
         counted: {one: "{count} result, {reached} reached.", other: "{count} results, {reached} reached."},
-        show: "Show what this pupil saw", yes: "yes", content: "no: {count} of {all} firms are content",
+        show: "Show what this pupil saw", yes: "yes", other_market: "no: firms or trades were changed", content: "no: {count} of {all} firms are content",
         drops: "no: {firm} would drop a contract", blocks: "no: other contracts block it",
         lacks: "no: there is no {part}", fault: "no: fault {fault}", other: "no: {answer}",
         no_exercise: "it isn't of an exercise", no_answer: "the program didn't answer", as_given: "as given",

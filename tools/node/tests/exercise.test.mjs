@@ -61,6 +61,39 @@ test("an exercise that was opened is looked at in one view, and its tries are co
     open(made.replace('"goal"', '"aim"'));
     assert.equal(store.value.document.exercise, null);
     store.act("went", "document");
+    assert.equal(store.value.view.panel, "document");
+});
+
+test("an exercise has a history of its own, and is left for what was before it", () => {
+    const [, made] = pairs()[0], store = new Store(), bytesOf = (text) => new TextEncoder().encode(text);
+    store.act("opened", "before.json", bytesOf("{}"));
+    store.act("typed", "{ }");
+    store.act("opened", "e.json", bytesOf(made));
+    const {document: given} = store.value;
+    for (const name of ["undone", "redone"]) {
+        store.act(name);
+        assert.equal(store.value.document, given);
+    }
+    store.act("typed", `${made} `);
     store.act("undone");
-    assert.equal(store.value.view.panel, "guess");
+    store.act("undone");
+    assert.deepEqual([store.value.document.text, store.value.document.tries], [made, 1]);
+    store.act("left", "other.json", bytesOf("[]"));
+    assert.deepEqual([store.value.document.text, store.value.past, store.value.future], ["{ }", [], []]);
+    const alone = new Store();
+    alone.act("opened", "e.json", bytesOf(made));
+    alone.act("left", "other.json", bytesOf("[]"));
+    assert.deepEqual([alone.value.document.name, alone.value.document.exercise], ["other.json", null]);
+});
+
+test("what was begun of an exercise goes on with its tries", () => {
+    const [, made] = pairs()[0], store = new Store();
+    store.act("opened", "e.json", new TextEncoder().encode(made));
+    store.act("tried", 5);
+    store.act("typed", `${made} `);
+    assert.equal(store.value.document.tries, 6);
+    store.act("resumed", `${made}\n`, 7);
+    assert.deepEqual([store.value.document.text, store.value.document.tries, store.value.document.exercise.title], [`${made}\n`, 7, TITLE]);
+    store.act("typed", made);
+    assert.match(resultText(store.value.document, "Zoe"), /"tries":8,/);
 });
