@@ -22,8 +22,8 @@ const AT_FIRST = {isOver: false, hasRanges: false, hasReason: false, window: nul
  * with one mark are taken back together. An exercise has a past and a future of its own, and `outside` is what was looked at before it. `results` are those that a teacher opened. `selection` is null or `{kind, ..}`: lane, firm or bound. `guess`, `ranges`, `judged` and
  * `decided` are what `firms`, `range`, `judge` and `replay` answered, `reason` what `support` or `test` did, and `answer` is that of the
  * command in `words`, each with the `document` that it was asked of; where that isn't the present one it is old. `run` is how far the
- * command is, `view` how all this is looked at: `mode` is "guess", "sign" or "whatif", `step` the place in a story that is told, and `built` that of
- * the firm in the form. `supposed` is who is away and what is barred before and after a change, as edits; `compared` and `contributed` are
+ * command is, `view` how all this is looked at: `mode` is "guess", "sign" or "whatif", which was come to `from`
+ * one of the others, `step` the place in a story that is told, and `built` that of the firm in the form. `supposed` is who is away and what is barred before and after a change, as edits; `compared` and `contributed` are
  * what was said of it.
  */
 export const START = {
@@ -31,7 +31,7 @@ export const START = {
     mark: null, selection: null,
     guess: null, ranges: null, path: null, judged: null, decided: null, reason: null, results: [], words: ["solve"], run: {state: "none"}, answer: null,
     supposed: {before: [], after: []}, compared: null, contributed: null,
-    view: {panel: "guess", mode: "guess", step: 0, ...AT_FIRST},
+    view: {panel: "guess", mode: "guess", from: "guess", step: 0, ...AT_FIRST},
 };
 
 /** The value, looked at in another way. */
@@ -82,8 +82,8 @@ export const ACTIONS = {
     },
     /** A view of the panel was chosen; three of them say what the network shows. */
     went: (value, panel) => {
-        const {mode, isOver} = value.view, next = MODES.includes(panel) ? panel : mode;
-        const view = {panel, mode: next, isOver: isOver && next === "guess"};
+        const {mode, isOver, from} = value.view, next = MODES.includes(panel) ? panel : mode;
+        const view = {panel, mode: next, isOver: isOver && next === "guess", from: next === "whatif" && mode !== next ? mode : from};
         return next === mode ? looked(value, view) : looked({...value, selection: null}, {...view, step: 0});
     },
     guessed: (value, guess) => ({...value, guess}),

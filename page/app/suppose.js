@@ -1,7 +1,7 @@
 // What is asked of the program where somebody wonders what if: the market before and after a change is compared first,
 // and what each contributes is asked when that is there.
 import {NoAnswer} from "../read/answer.js";
-import {compared, contributions, editsOf, isIn} from "../read/states.js";
+import {compared, contributions, editsOf, isIn, ownStart} from "../read/states.js";
 import {explain} from "../say/explain.js";
 import {Ended, inText, NoAnswerCame} from "./ask.js";
 import {isOld, networkOf} from "./state.js";
@@ -18,8 +18,8 @@ export function isAsked(value) {
 
 /** Whether what was said of a change is of another one than the present, or of another text. */
 export function isOther(value) {
-    const {compared: said} = value;
-    return said === null || isOld(value, said) || said.supposed !== value.supposed;
+    const {compared: said, view} = value;
+    return said === null || isOld(value, said) || said.supposed !== value.supposed || said.from !== view.from;
 }
 
 /** The same of what was said of contributions, which are of the market before the change. */
@@ -53,9 +53,9 @@ export class Suppositions {
 
     /** Asks what is next, and ends what is asked of another text or change. */
     look() {
-        const {document, supposed} = this.store.value, {begun} = this;
+        const {document, supposed, view: {from}} = this.store.value, {begun} = this;
         if (begun !== null) {
-            if (begun.document !== document || begun.supposed !== supposed) this.program.end();
+            if (begun.document !== document || begun.supposed !== supposed || begun.from !== from) this.program.end();
             return;
         }
         const next = this.next();
@@ -63,11 +63,11 @@ export class Suppositions {
     }
 
     async put(action, question) {
-        const {document, supposed} = this.store.value;
-        this.begun = {document, supposed};
+        const {document, supposed, view: {from}} = this.store.value;
+        this.begun = {document, supposed, from};
         let said = null;
         try {
-            said = await question(inText(this.program.turn()), networkOf(document), supposed);
+            said = await question(inText(this.program.turn()), networkOf(document), supposed, from);
         } catch (error) {
             if (error instanceof NoAnswerCame || error instanceof NoAnswer) said = {trouble: error.message, states: null};
             else if (!(error instanceof Ended)) throw error;
@@ -75,16 +75,19 @@ export class Suppositions {
             this.begun = null;
         }
         const isWanted = said !== null && this.store.value.document === document;
-        if (isWanted) this.store.act(action, {document, supposed, ...said});
+        if (isWanted) this.store.act(action, {document, supposed, from, ...said});
         else this.look();
     }
 }
 
-/** The market before and after, with the sentences of a fault where it has one. */
-async function comparison(ask, network, supposed) {
+/**
+ * The market before and after, with the sentences of a fault where it has one; `isOwn` says whether it begins with what is on the
+ * screen.
+ */
+async function comparison(ask, network, supposed, from) {
     const [before, after] = [supposed.before, supposed.after].map((edits) => editsOf(network, edits));
-    const {states, said} = await compared(ask, network, before, after);
-    return {before, after, states, sentences: states === null ? await explain(network, said, ask) : []};
+    const start = await ownStart(ask, network, from), {states, said} = await compared(ask, network, before, after, start);
+    return {before, after, states, isOwn: start !== null, sentences: states === null ? await explain(network, said, ask) : []};
 }
 
 async function contribution(ask, network, {before}) {

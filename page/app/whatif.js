@@ -1,6 +1,6 @@
 // What if: firms that leave and join, trades that come and go, before and after side by side, and what each contributes.
 import {editsBetween, editsTo, isIn} from "../read/states.js";
-import {beforeLine, firmStates, gainOf, partOf, sharesLine, tradeStates} from "../say/whatif.js";
+import {beforeLine, firmStates, gainOf, partOf, sharesLine, startLine, tradeStates} from "../say/whatif.js";
 import {say} from "../words/say.js";
 import {memberAs} from "./edits.js";
 import {goTo, refreshEditor} from "./editor.js";
@@ -63,7 +63,7 @@ function able(id, isAble) {
 
 function fill(said, supposed, found) {
     const network = networkOf(said.document),
-        lines = [beforeLine(said), found && sharesLine(said), say("whatif.depend")];
+        lines = [beforeLine(said), startLine(said), found && sharesLine(said), say("whatif.depend")];
     part("whatif-lines").replaceChildren(...lines.filter(Boolean).map((line) => made("p", line)));
     table("whatif-firms", FIRM_HEADS, network.firms.map(({name}) => firmRow(said, name, supposed, found)));
     table("whatif-trades", TRADE_HEADS, network.trades.map((trade) => tradeRow(said, trade, supposed, found)));

@@ -35,8 +35,40 @@ def standing(page: bench.Bench, program: str | None, state: dict) -> dict[str, s
 
 def tries(page: bench.Bench, program: str | None):
     """Each as a name, and whether it is so."""
-    for part in (tries_of_a_dealer, tries_to_go_on, tries_of_contributions, tries_of_faults):
+    for part in (tries_from_the_screen, tries_of_a_dealer, tries_to_go_on, tries_of_contributions, tries_of_faults):
         yield from part(page, program)
+
+
+# What the solution of exercise 7 has of the market with the dealer.
+WITH_DEALER = {"Pam": "3", "Quin": "2", "Dee": "3", "Xaver": "2", "Yara": "1"}
+
+
+def tries_from_the_screen(page: bench.Bench, program: str | None):
+    page.open("7-dealer.json", look.example("lesson/7-dealer.json"))
+    page.click("#tab-guess")
+    page.click("#tab-whatif")
+    supposed(page)
+    page.click('[data-firm="Dee"]')
+    supposed(page)
+    cells = rows(page)
+    yield "before is the guess, with the numbers of the lesson", {name: cells[name][0] for name in WITH_DEALER} == WITH_DEALER and cells["dee-xaver"][0] == "on at 10"
+    yield "which is said", page.says("whatif-lines").startswith("Before is the guess, which is an equilibrium.")
+    page.click("#tab-guess")
+    page.focus("price:dee-xaver")
+    page.press("Control+a", "1", "3")
+    is_none = page.guess().startswith("\u2717")
+    page.click("#tab-whatif")
+    supposed(page)
+    yield "a guess that is no equilibrium isn't before", is_none and page.says("whatif-lines").startswith("Before is an equilibrium that the program found: the guess isn't one.")
+    page.press("Control+z")
+    page.click("#tab-sign")
+    page.click("#sign-guess")
+    bench.judged(page)
+    page.click("#tab-whatif")
+    supposed(page)
+    cells = rows(page)
+    yield "from contracts it is what is signed", page.says("whatif-lines").startswith("Before is what is signed") and {name: cells[name][0] for name in WITH_DEALER} == WITH_DEALER
+    page.click("#whatif-all")
 
 
 def tries_of_a_dealer(page: bench.Bench, program: str | None):

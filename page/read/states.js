@@ -41,14 +41,29 @@ export function editsOf(network, edits) {
 }
 
 /**
+ * The equilibrium that a document has for a market with everybody there, as `{on, prices}`: its guess, where that is one, or from
+ * "sign" what is signed, where that lasts at whole prices, with the prices that complete it. Null where it has none.
+ */
+export async function ownStart(ask, network, from) {
+    if (from === "sign") {
+        const said = readAnswer(await ask(["judge"], network.text));
+        const lasts = said.answer === "completes" && said.over === 1n;
+        return lasts ? {on: [...entriesOf(network.outcome.contracts).keys()], prices: said.prices} : null;
+    }
+    const {on, prices} = network.arrangement, said = readAnswer(await ask(["check"], network.text));
+    return said.answer === "equilibrium" ? {on, prices} : null;
+}
+
+/**
  * The market before and after a change, as `{states, said}`: two states of `session`, each
- * `{on, prices, surplus, lines}`, where `lines` has what `firms` says of each firm there. Where `session` says something
+ * `{on, prices, surplus, lines}`, where `lines` has what `firms` says of each firm there. With everybody there it begins with
+ * `start`, where that isn't null: another equilibrium, of the same surplus. Where `session` says something
  * else, `states` is null, and `said` is that. Throws NoAnswer where there would be too many edits.
  */
-export async function compared(ask, network, before, after) {
+export async function compared(ask, network, before, after, start = null) {
     const said = await sessionOf(ask, network, editsTo(before, after));
     if (said.answer !== "session") return {states: null, said};
-    const [then, now] = [said.edits[before.length], said.edits.at(-1)];
+    const then = {...said.edits[before.length], ...(before.length === 0 ? start : null)}, now = said.edits.at(-1);
     const lines = [await linesIn(ask, network, then), await linesIn(ask, network, now)];
     return {states: [{...then, lines: lines[0]}, {...now, lines: lines[1]}], said};
 }

@@ -33,6 +33,13 @@ export function beforeLine({before, after}) {
     return isTold ? say("whatif.before_that", {missing: missing(before)}) : "";
 }
 
+const STARTS = {guess: {true: "whatif.guess", false: "whatif.no_guess"}, sign: {true: "whatif.signed", false: "whatif.not_signed"}};
+
+/** Which equilibrium stands before the change, with everybody there: that of the screen, or another one. */
+export function startLine({before, from, isOwn}) {
+    return before.length === 0 ? say(STARTS[from][isOwn]) : "";
+}
+
 /**
  * The part that a trade plays: where it takes place at all it `stays`, `goes` or `comes`, and otherwise it is `off`.
  * What can't be used after the change is `gone` where it took place before, and `out` where it didn't.

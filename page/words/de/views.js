@@ -103,6 +103,11 @@ export const VIEWS = {
             + "oder das Geschäft kleiner wäre.",
         shares_while: "Beitrag: um wie viel die Summe der Werte, die jetzt {surplus} ist ({missing}), ohne die "
             + "Firma oder das Geschäft kleiner wäre.",
+        guess: "Vorher steht der Vorschlag, der ein Gleichgewicht ist.",
+        no_guess: "Vorher steht ein Gleichgewicht, das das Programm gefunden hat: Der Vorschlag ist keines.",
+        signed: "Vorher steht, was unterschrieben ist und hält, mit Preisen, die es ergänzen.",
+        not_signed: "Vorher steht ein Gleichgewicht, das das Programm gefunden hat: Was unterschrieben ist, hält nicht "
+            + "bei ganzen Preisen.",
         depend: "Nutzen und Preise sind die eines Gleichgewichts vorher und eines nachher; gibt es mehrere, so "
             + "haben andere auch andere Preise. Die Summen und die Beiträge sind in allen gleich.",
     },

@@ -91,6 +91,10 @@ export const VIEWS = {
             + "less without it.",
         shares_while: "Contributes: by how much the worths, which while {missing} sum to {surplus}, would sum to "
             + "less without it.",
+        guess: "Before is the guess, which is an equilibrium.",
+        no_guess: "Before is an equilibrium that the program found: the guess isn't one.",
+        signed: "Before is what is signed, which lasts, with prices that complete it.",
+        not_signed: "Before is an equilibrium that the program found: what is signed doesn't last at whole prices.",
         depend: "Utilities and prices are those of one equilibrium before and one after; where there are several, "
             + "others have other prices. The sums and the contributions are the same in all.",
     },

@@ -1,5 +1,6 @@
 // Whether what is said where firms leave and join, and trades come and go, is what the program answers, and is told so.
 import assert from "node:assert/strict";
+import {readFileSync} from "node:fs";
 import {test} from "node:test";
 import {supposedScene} from "../../../page/app/difference.js";
 import {applied, memberAs} from "../../../page/app/edits.js";
@@ -7,8 +8,8 @@ import {Store} from "../../../page/app/state.js";
 import {isAsked, isHidden, suppose} from "../../../page/app/suppose.js";
 import {parse, plain} from "../../../page/read/json.js";
 import {Network} from "../../../page/read/network.js";
-import {compared, contributions, editsOf, editsTo} from "../../../page/read/states.js";
-import {beforeLine, changeLine, countsOf, firmStates, gainOf, partOf, tradesLine, tradeStates} from "../../../page/say/whatif.js";
+import {compared, contributions, editsOf, editsTo, ownStart} from "../../../page/read/states.js";
+import {beforeLine, changeLine, countsOf, firmStates, gainOf, partOf, startLine, tradesLine, tradeStates} from "../../../page/say/whatif.js";
 import {askOf} from "../ask.mjs";
 import {examples} from "./support.mjs";
 
@@ -32,6 +33,32 @@ test("the used cars when the dealer leaves, and when it joins again", {skip}, as
     assert.equal(changeLine(back), "D joins: the worths sum to 10 in place of 8, which is 2 more.");
     assert.equal(beforeLine(back), "Before that D is away.");
     assert.equal(changeLine(await toldOf(network, away, away)), "While D is away the worths sum to 8.");
+});
+
+/** The utilities of exercise 7, as its solution has them: with prices of 7, 8, 10 and 10 for the dealer's trades. */
+const WITH_DEALER = {Pam: "3", Quin: "2", Dee: "3", Xaver: "2", Yara: "1"};
+
+test("a what-if begins with the guess, where that is an equilibrium", {skip}, async () => {
+    const text = readFileSync(new URL("../../../examples/lesson/7-dealer.json", import.meta.url), "utf8"), network = new Network(text);
+    const start = await ownStart(ask, network, "guess"), after = [["leave", "Dee"]], told = {...await compared(ask, network, [], after, start), before: [], after};
+    assert.deepEqual(Object.fromEntries(network.firms.map(({name}) => [name, firmStates(told, name)[0]])), WITH_DEALER);
+    assert.equal(changeLine(told), "Dee leaves: the worths sum to 6 in place of 11, which is 5 less.");
+    assert.equal(tradeStates(told, "dee-xaver")[0], "on at 10");
+    assert.equal(startLine({before: [], from: "guess", isOwn: true}), "Before is the guess, which is an equilibrium.");
+    const back = await compared(ask, network, after, [], start), own = await compared(ask, network, after, []);
+    assert.deepEqual(back.states[0], own.states[0]);
+    assert.equal(await ownStart(ask, networkOf("used-cars-dear-car.json"), "guess"), null);
+});
+
+test("a what-if begins with what is signed, where that lasts at whole prices", {skip}, async () => {
+    const {on, prices} = await ownStart(ask, networkOf("used-cars-signed.json"), "sign"), of = new Map(prices);
+    assert.deepEqual(on, ["o1d", "db1", "o2b2"]);
+    assert.deepEqual(on.map((name) => of.get(name)), [8n, 11n, 8n]);
+    for (const name of ["one-trade-signed.json", "used-cars-bypassed.json", "used-cars.json"]) assert.equal(await ownStart(ask, networkOf(name), "sign"), null);
+    const store = new Store();
+    store.act("opened", "used-cars.json", examples().find(({name}) => name === "used-cars.json").bytes);
+    for (const panel of ["sign", "whatif", "claim", "whatif"]) store.act("went", panel);
+    assert.equal(store.value.view.from, "sign");
 });
 
 test("parallel trades are told by their numbers where they are many, and drawn as one where some go and some stay", {skip}, async () => {
