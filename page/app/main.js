@@ -68,6 +68,12 @@ async function openAddress(other) {
     part("notice").textContent = say("link.broken");
 }
 
+/** The examples in their groups; what stands often in them is a short letter each. */
+function documentsOf([short, groups]) {
+    const whole = (text) => short.reduce((longer, [letter, words]) => longer.replaceAll(letter, words), text);
+    return groups.map(([group, members]) => [group, members.map(([name, text]) => [name, whole(text)])]);
+}
+
 function show(value) {
     showLesson(value);
     showShell(value);
@@ -92,8 +98,7 @@ async function start() {
         document.documentElement.dataset.violation = `${violatedDirective} ${blockedURI}`;
     });
     const module = await compiled(), [program, guesser, tracer, marker] = [1, 2, 3, 4].map(() => new Program(module, partOf("worker")));
-    // (a quote in an example is a backtick there)
-    const documents = JSON.parse(partOf("documents"), (_, value) => (typeof value === "string" ? value.replaceAll("\x60", "\"") : value));
+    const documents = documentsOf(JSON.parse(partOf("documents")));
     readyEditor(store);
     readyTrades(store);
     readyClaim(store);

@@ -117,10 +117,8 @@ export const PAGE = {
         equilibrium: "Finde Geschäfte und Preise, bei denen jede Firma zufrieden ist.",
         lasts: "Unterschreibe Verträge, die halten.", tries: {one: "{count} Versuch", other: "{count} Versuche"},
         begun: {
-            one: "Der Browser hat behalten, was hier begonnen wurde, mit {count} Versuch. War das jemand anderes? Dann "
-                + "beginne neu.",
-            other: "Der Browser hat behalten, was hier begonnen wurde, mit {count} Versuchen. War das jemand anderes? "
-                + "Dann beginne neu.",
+            one: "Das wurde hier schon begonnen, mit {count} Versuch. Wenn du das nicht warst, beginne neu.",
+            other: "Das wurde hier schon begonnen, mit {count} Versuchen. Wenn du das nicht warst, beginne neu.",
         },
     },
     result: {

@@ -105,8 +105,8 @@ export const PAGE = {
         equilibrium: "Find trades and prices at which every firm is content.",
         lasts: "Sign contracts that last.", tries: {one: "{count} try", other: "{count} tries"},
         begun: {
-            one: "The browser has kept what was begun here, with {count} try. Was that somebody else? Then begin anew.",
-            other: "The browser has kept what was begun here, with {count} tries. Was that somebody else? Then begin anew.",
+            one: "This was begun here before, with {count} try. If that wasn't you, begin anew.",
+            other: "This was begun here before, with {count} tries. If that wasn't you, begin anew.",
         },
     },
     result: {
