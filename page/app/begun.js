@@ -29,6 +29,7 @@ export function bindBegun(store, changes) {
         store.act("resumed", text, tries);
         show(null);
     });
+    on("forget", () => show(null));
     on("begun-forget", () => {
         forgetBegun(isOf(store.value.document));
         store.act("tried", 0);

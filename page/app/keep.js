@@ -10,12 +10,12 @@ const waiting = new Map();
 
 /** Keeps a document a little later, so that a drag is kept once. */
 export function keep({name, text, isWhole}) {
-    if (isWhole && text !== "") later(KEY, {name, text});
+    if (isWhole && text !== "") later(KEY, () => ({name, text}));
 }
 
 function later(key, content) {
     clearTimeout(waiting.get(key));
-    waiting.set(key, setTimeout(() => put(key, content), WAIT));
+    waiting.set(key, setTimeout(() => put(key, content()), WAIT));
 }
 
 function put(key, content) {
@@ -50,7 +50,7 @@ export function begun() {
 
 /** Keeps what was done of an exercise in the place of what is kept of the same one. */
 export function keepBegun({name, text, tries}, isSame) {
-    later(EXERCISES, [{name, text, tries}, ...begun().filter((each) => !isSame(each))].slice(0, MOST));
+    later(EXERCISES, () => [{name, text, tries}, ...begun().filter((each) => !isSame(each))].slice(0, MOST));
 }
 
 /** Forgets what is kept of an exercise. */

@@ -22,7 +22,9 @@ export function bindLesson(store, [other, text]) {
     on("results-forget", () => store.act("forgot"));
     part("results").addEventListener("click", ({target}) => {
         const result = store.value.results[target.closest("[data-result]")?.dataset.result];
-        if (result) store.act("opened", result.file, result.document.bytes);
+        if (!result) return;
+        store.act("opened", result.file, result.document.bytes);
+        if (result.tries !== null) store.act("tried", Number(result.tries));
     });
 }
 

@@ -181,6 +181,9 @@ def tries_of_exercises(page: Bench, program: str | None):
     page.click('[data-result="0"]')
     yield "a click shows what a pupil saw", page.guess().endswith("firms are content.") and page.text() == given.strip()
     page.click("#tab-results")
+    page.click('[data-result="1"]')
+    yield "with its tries", page.guess().startswith("\u2713") and page.says("tries") == "6 tries"
+    page.click("#tab-results")
     page.click("#results-forget")
     yield "results are forgotten", page.value("document.getElementById('tab-results').offsetParent === null") and page.browser.run(ROWS) == []
     page.open("6-signed-too-low.json", look.example("lesson/6-signed-too-low.json"))
