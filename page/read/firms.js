@@ -85,9 +85,9 @@ export async function gains(ask, network, said) {
     const found = new Map();
     for (const firm of ask === null ? [] : firms) {
         const line = (await linesAt(ask, counted, [...signed.keys()], offered(network, firm, all)))?.get(firm);
-        const keeps = (line?.best ?? network.own(firm, [...signed.keys()])).filter((name) => signed.has(name));
-        const now = line ? line.worth + paid(network, firm, line.has, signed) : null;
-        found.set(firm, {now, then: line?.best_utility ?? null, over, keeps});
+        const isKnown = line !== undefined && line.worth !== null, best = isKnown ? line.best : network.own(firm, [...signed.keys()]);
+        const [now, then] = isKnown ? [line.worth + paid(network, firm, line.has, signed), line.best_utility] : [null, null];
+        found.set(firm, {now, then, over, keeps: best.filter((name) => signed.has(name))});
     }
     return found;
 }

@@ -35,6 +35,17 @@ test("prices of an answer are told in their lowest terms", () => {
     assert.deepEqual([[16n, 2n], [6n, 4n], [-6n, 4n], [0n, 17n], [120n, 17n]].map(([price, over]) => fraction(price, over)), ["8", "3/2", "-3/2", "0", "120/17"]);
 });
 
+// S has 484/97 with x, and B2 would pay 485/97 at most, which is 5: between them is no price over 1 to 12 or 97, and over 194 only 969.
+// With another trade that nobody wants the program's own denominator is 485.
+test("beyond small denominators multiples of the outcome's are tried", {skip}, async () => {
+    const firm = (name, amounts, from) => ({name, kind: "laminar", amounts, sets: [{trades: amounts.map(([trade]) => trade), from, values: [0, 0]}]});
+    const firms = [firm("S", [["x", 0], ["y", 0], ["z", 0]], -1), firm("B1", [["x", 10]], 0), firm("B2", [["y", 5]], 0), firm("B3", [["z", 0]], 0)];
+    const trades = ["x", "y", "z"].map((name, k) => ({name, seller: "S", buyer: `B${k + 1}`}));
+    const {network, said} = await judged(JSON.stringify({version: 1, firms, trades, outcome: {over: 97, contracts: [["x", 484]]}}));
+    assert.deepEqual([said.over, said.contracts.map(([name]) => name)], [485n, ["y"]]);
+    assert.equal(pricesOf(await simplest(ask, network, said)), "969/194");
+});
+
 /** A program that counts how often it is asked to replay, by the denominator of the claim. */
 function counting(counts) {
     return async (words, text) => {
@@ -45,6 +56,12 @@ function counting(counts) {
         return ask(words, text);
     };
 }
+
+test("the prices of the used cars are found by the ten questions of the page", {skip}, async () => {
+    const {network, said} = await judged(exampleOf("used-cars-bypassed.json")), counts = new Map();
+    await simplest(counting(counts), network, said);
+    assert.deepEqual([...counts], [[1, 10]]);
+});
 
 test("the denominator that is found is the least at which the same trades block, with no more questions than there may be", {skip}, async () => {
     const draw = draws(77);
