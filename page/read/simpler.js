@@ -7,17 +7,20 @@ import {gcd, withMember} from "./network.js";
 /** Up to which denominator each is tried; beyond it multiples of the outcome's are. */
 const EACH = 12n;
 
-/** How far below the program's prices a search begins, in steps of its own, and how many questions a contract may take. */
-const BELOW = 3n, MOST = 20;
+/**
+ * How far below the program's prices a search begins, in steps of its own; how many questions a contract may take over one
+ * denominator, and all contracts over all, so that nobody waits long where a long chain gains little.
+ */
+const BELOW = 3n, MOST = 20, IN_ALL = 700;
 
 /**
  * An answer `blocks` with the same trades, at prices over the least denominator at which some are found that block; where
  * none are found, or nobody can be asked, at its own, with a denominator as small as these have.
  */
 export async function simplest(ask, network, said) {
-    const own = shortened(said);
+    const own = shortened(said), questions = {left: IN_ALL};
     for (const over of ask === null ? [] : denominators(network.outcome.over, own)) {
-        const contracts = await blockingOver(ask, network, said, over);
+        const contracts = await blockingOver(ask, network, said, over, questions);
         if (contracts !== null) return shortened({...said, contracts, over});
     }
     return own;
@@ -43,9 +46,10 @@ function denominators(outcomes, {over, contracts}) {
  * Contracts over a denominator that block, or null. The prices begin low. While a firm would leave one of its contracts, what
  * it sells is made dearer by a step; a firm that sells nothing can't be helped.
  */
-async function blockingOver(ask, network, said, over) {
+async function blockingOver(ask, network, said, over, questions) {
     const prices = new Map(said.contracts.map(([name, price]) => [name, floor(price * over, said.over) - BELOW]));
-    for (let left = MOST * prices.size; left > 0; left -= 1) {
+    for (let left = MOST * prices.size; left > 0 && questions.left > 0; left -= 1) {
+        questions.left -= 1;
         const claim = written({...said, contracts: [...prices], over});
         const verdict = readAnswer(await ask(["replay"], withMember(network, "claim", claim)));
         if (verdict.answer === "valid") return [...prices];
