@@ -42,7 +42,7 @@ function looked(value, view) {
 /** A story that is told again goes on at its step; another one begins, and not with a firm that was chosen in the one before it. */
 function told(value, before, now) {
     if (isSame(before, now)) return value;
-    const selection = before?.said && value.selection?.kind === "firm" ? null : value.selection;
+    const isBegun = Boolean(before?.said && now.story), selection = isBegun && value.selection?.kind === "firm" ? null : value.selection;
     return looked({...value, selection}, {step: 0});
 }
 

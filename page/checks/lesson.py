@@ -231,51 +231,48 @@ def tries_to_leave(page: Bench, program: str | None):
 KEPT = "return new Promise((done) => setTimeout(() => done(JSON.stringify(localStorage)), 500));"
 
 
+def begun(page: Bench, given: str) -> tuple[bool, str, str]:
+    """Opens an exercise, and answers whether what was begun of it is offered, the tries, and the pupil's name."""
+    page.open("given.json", given.encode())
+    return page.value("!document.getElementById('begun').hidden"), page.says("tries"), page.value("document.getElementById('pupil').value")
+
+
 def tries_of_reloads(page: Bench, address: str):
     """What was begun of an exercise is kept for this exercise alone, until its result is saved."""
     page.again(address)
-    page.click("#forget")
     page.open("1-one-good.json", look.example("lesson/1-one-good.json"))
     given = to_exercise(page, "One good", "equilibrium")
     page.click("#forget")
-
-    def opened() -> tuple[bool, str, str]:
-        """Opens the page and the exercise anew, and answers whether what was begun is offered, the tries, and the pupil's name."""
-        page.again(address)
-        is_offered = page.value("!document.getElementById('kept').hidden || !document.getElementById('begun').hidden")
-        page.open("given.json", given.encode())
-        return not is_offered and page.value("!document.getElementById('begun').hidden"), page.says("tries"), page.value("document.getElementById('pupil').value")
-
-    yield "of an exercise that nobody began nothing is offered", opened() == (False, "0 tries", "")
+    yield "of an exercise that nobody began nothing is offered", begun(page, given) == (False, "0 tries", "")
     page.drag("#pupil", 0)
     page.press(*"Lena")
     page.click(label("Ada Cleo"))
     page.click(label("Ada Dan"))
-    begun, stored = page.text(), page.browser.run(KEPT)
-    yield "what was begun is offered where the same exercise is opened, and nowhere else", opened() == (True, "2 tries", "")
+    left, stored = page.text(), page.browser.run(KEPT)
     yield "no name is kept", "Ada" in stored and "Lena" not in stored
+    page.again(address)
+    yield "what was begun isn't offered elsewhere", page.value("document.getElementById('kept').hidden && document.getElementById('begun').hidden")
+    yield "but where the same exercise is opened", begun(page, given) == (True, "2 tries", "")
     page.click("#begun-open")
-    yield "it is gone on with, and its tries", page.text() == begun and page.says("tries") == "2 tries"
+    yield "it is gone on with, and its tries", page.text() == left and page.says("tries") == "2 tries"
     page.click(label("Ben Cleo"))
     page.browser.run(KEPT)
-    yield "the count goes on, also where what was begun isn't taken up", opened() == (True, "3 tries", "") and page.text() == given
+    page.again(address)
+    yield "the count goes on, also where what was begun isn't taken up", begun(page, given) == (True, "3 tries", "") and page.text() == given
     page.click(label("Ben Cleo"))
     page.browser.run(KEEP)
     result = saved_result(page, "Max")
     yield "and goes into the result", json.loads(result[1])["tries"] == 4
-    yield "with which it is forgotten", "Ada" not in page.browser.run(KEPT) and opened() == (False, "0 tries", "")
+    yield "with which it is forgotten", "Ada" not in page.browser.run(KEPT) and begun(page, given) == (False, "0 tries", "")
     page.click(label("Ben Cleo"))
     page.browser.run(KEPT)
-    is_offered = opened()[0]
+    is_offered = begun(page, given)[0]
     page.click("#begun-forget")
-    yield "somebody else begins anew", is_offered and page.says("tries") == "0 tries" and opened() == (False, "0 tries", "")
-    other = given.replace("One good", "Another")
+    yield "somebody else begins anew", is_offered and page.says("tries") == "0 tries" and begun(page, given) == (False, "0 tries", "")
     page.click(label("Ben Cleo"))
     page.browser.run(KEPT)
-    page.open("other.json", other.encode())
-    yield "another exercise isn't offered it", page.value("document.getElementById('begun').hidden") and page.says("tries") == "0 tries"
+    yield "another exercise isn't offered it", begun(page, given.replace("One good", "Another")) == (False, "0 tries", "")
     page.click("#forget")
-    page.again(address)
 
 
 def priced(page: Bench, **prices: int) -> None:

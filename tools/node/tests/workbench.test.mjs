@@ -221,12 +221,12 @@ test("a reason, and what is signed, begin with their first step in the place of 
         store.act(name, detail);
         assert.equal(store.value.selection, null, name);
     }
-    store.act("reasoned", {said: {answer: "cycle"}});
+    store.act("reasoned", {said: {answer: "cycle", cost: -1n}, story: {}});
     store.act("selected", firm);
-    store.act("reasoned", {said: {answer: "cycle"}});
-    assert.equal(store.value.selection, firm);
-    store.act("reasoned", {said: {answer: "prices"}});
-    assert.equal(store.value.selection, null);
+    for (const [said, story, wanted] of [[{answer: "cycle", cost: -1n}, {}, firm], [{answer: "prices"}, null, firm], [{answer: "cycle", cost: -2n}, {}, null]]) {
+        store.act("reasoned", {said, story});
+        assert.equal(store.value.selection, wanted);
+    }
 });
 
 test("a bound that is chosen goes with its text, and ranges and the order of the table with their document", () => {
