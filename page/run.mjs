@@ -1,7 +1,7 @@
 // A run of the program: its words, a source of bytes and a sink for them, and its exit status. The program itself answers; here is
 // only what stands about a call: how much is read, how lines part, and what ends a run where reading or writing fails.
 //   program(words, bytes)  {status, bytes}
-//   source(most)           the next bytes, `most` at the most; none at the end; throws ReadFailed
+//   source(most)           the next bytes, `most` at the most, which stand there until it is called again; none at the end; throws ReadFailed
 //   sink(bytes)            writes all of them; throws WriteFailed
 
 /** The most bytes of a document; one more is read, so that the program sees that there are more. */
@@ -74,7 +74,7 @@ function* linesOf(source) {
 /** What has come of a document, at most LIMIT bytes and one. */
 class Line {
     constructor() {
-        this.parts = [];
+        this.bytes = new Uint8Array(PIECE);
         this.size = 0;
     }
 
@@ -83,14 +83,20 @@ class Line {
     }
 
     add(piece) {
-        const part = piece.subarray(0, this.room());
-        if (part.length > 0) this.parts.push(part);
-        this.size += part.length;
+        const part = piece.subarray(0, this.room()), size = this.size + part.length;
+        if (size > this.bytes.length) this.grow(size);
+        this.bytes.set(part, this.size);
+        this.size = size;
+    }
+
+    grow(size) {
+        const bytes = new Uint8Array(Math.max(size, 2 * this.bytes.length));
+        bytes.set(this.bytes);
+        this.bytes = bytes;
     }
 
     take() {
-        const whole = Buffer.concat(this.parts);
-        this.parts = [];
+        const whole = this.bytes.slice(0, this.size);
         this.size = 0;
         return whole;
     }
