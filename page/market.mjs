@@ -5,11 +5,12 @@
 //   node page/market.mjs --serve          many runs over a pipe, as serve.mjs has it
 import {readFileSync} from "node:fs";
 import {sinkOf, sourceOf} from "./ends.mjs";
+import {hintOf} from "./hint.mjs";
 import {compiledOf, NoAnswer, programOf} from "./module.mjs";
 import {ReadFailed, run, WriteFailed} from "./run.mjs";
 import {NoRequest, serve} from "./serve.mjs";
 
-const READ_FAILED = 3, WRITE_FAILED = 4, NO_WORDS = 7, NONE = 70;
+const USAGE = 2, READ_FAILED = 3, WRITE_FAILED = 4, NO_WORDS = 7, NONE = 70;
 
 function say(sentence) {
     process.stderr.write(`market: ${sentence}\n`);
@@ -29,9 +30,16 @@ function areText(words) {
 function main(words) {
     if (!areText(words)) return NO_WORDS;
     const program = programOf(compiledOf()), source = sourceOf(0), sink = sinkOf(1);
-    if (words.length !== 1 || words[0] !== "--serve") return run(program, words, source, sink);
+    if (words.length !== 1 || words[0] !== "--serve") return runAtTerminal(program, words, source, sink);
     serve(program, source, sink, say);
     return 0;
+}
+
+/** Runs the program once; of words that are no command it says on standard error where they stop being one. */
+function runAtTerminal(program, words, source, sink) {
+    const status = run(program, words, source, sink);
+    if (status === USAGE) process.stderr.write(hintOf(words));
+    return status;
 }
 
 /** The status of a run that broke off. */
