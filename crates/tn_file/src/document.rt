@@ -26,7 +26,9 @@ impl Document {
     pub fn into_names(self) -> Names
         ensures { result ≡ self.names }
     {
-        self.names
+        let Document { names, content } = self;
+        drop(content);
+        names
     }
 }
 

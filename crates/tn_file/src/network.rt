@@ -54,9 +54,17 @@ fn read_market(
     match read_content::<FirmValue>(alloc, need, &head, firms, top) {
         Ok((made, extra)) => {
             let (names, ends) = head.into_parts();
-            let market = Market::new(alloc, made, ends)?;
-            let content = Content::Market(market, extra);
-            Ok(Document { names, content })
+            match Market::new(alloc, made, ends) {
+                Ok(market) => Ok(Document {
+                    names,
+                    content: Content::Market(market, extra),
+                }),
+                Err(error) => {
+                    drop(extra);
+                    drop(names);
+                    Err(DocRefusal::from(error))
+                }
+            }
         }
         Err(error) => Err(refused(head, error)),
     }
