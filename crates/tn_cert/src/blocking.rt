@@ -4,6 +4,7 @@ ghost use Rattle.std.specs.Prelude.{◌≡◌, ◌<◌, ◌≤◌, pos, ◌*ℤ�
 ghost use Rattle.tn_base.specs.Arcs.{IsAtMost};
 ghost use Rattle.tn_cert.specs.Greatest.{DecidesContract, DecidesEqual, FindsLeaver, FindsSigned, HaveTradesOnce};
 ghost use Rattle.tn_cert.specs.Replays.{Replays};
+ghost use Rattle.tn_plain_data.specs.Choices.{together};
 ghost use Rattle.tn_plain_data.specs.declared.claim.Claim.TheVariants.{Blocks};
 ghost use Rattle.tn_plain_data.specs.ClaimLimits.{AreOffersWithin, IsOverWithin};
 ghost use Rattle.tn_market.specs.Limits.{IsOutcomeOf, IsWithinLimits};
@@ -78,8 +79,33 @@ fn common(outcome_over: i128, over: i128) -> i128
     outcome_over * over
 }
 
-/// The first firm with an own offer that some choice of it from offers and outcome lacks, and the first trade of these
-/// offers. It fails only where memory runs out.
+/// The first firm with an own offer that some choice of it from offers and outcome, together in a pool, lacks, and the
+/// first trade of these offers.
+fn first_of_pool<V: Oracle>(
+    market: &Market<V>,
+    outcome: &Outcome,
+    over: i128,
+    offers: &Contracts,
+    pool: &Contracts,
+    room: &mut Room,
+) -> Option<(u32, u32)>
+    requires limits { IsWithinLimits V.firm V.limit market.now }
+    requires outcome { IsOutcomeOf market.now.trades outcome.now.over outcome.now.contracts }
+    requires offers { AreOffersWithin market.now.trades offers.now }
+    requires over { IsOverWithin over }
+    requires pool { pool.now ≡ together over offers.now outcome.now.over outcome.now.contracts }
+    ensures { network_of V.firm market.now FindsLeaver outcome.now over offers.now result }
+{
+    let scale = common(outcome.over, over);
+    for f in 0..market.firms() {
+        if let Some(trade) = first_left(market, pool, scale, offers.len(), f, room) {
+            return Some((f, trade));
+        }
+    }
+    None
+}
+
+/// The same, of the pool that it makes. It fails only where memory runs out.
 fn first_to_leave<V: Oracle>(
     alloc: Global,
     market: &Market<V>,
@@ -95,13 +121,7 @@ fn first_to_leave<V: Oracle>(
 {
     let mut room = Room::new(alloc)?;
     let pool = together(alloc, over, offers, outcome)?;
-    let scale = common(outcome.over, over);
-    for f in 0..market.firms() {
-        if let Some(trade) = first_left(market, &pool, scale, offers.len(), f, &mut room) {
-            return Ok(Some((f, trade)));
-        }
-    }
-    Ok(None)
+    Ok(first_of_pool(market, outcome, over, offers, &pool, &mut room))
 }
 
 /// Decides a claim that contracts over a denominator block an outcome. It fails only where memory runs out.
