@@ -1,10 +1,13 @@
 //! The program: hands its words, standard input and standard output to the top call.
 #![tactic(auto)]
 
+mod hint;
+
+use hint::stop_of;
 use std::env;
 use std::process::ExitCode;
 use tn_io::{StdSink, StdSource};
-use tn_run::run_to_exit;
+use tn_run::{are_no_command, run_to_exit};
 
 /// The exit status where the system doesn't give the words.
 const NO_WORDS: u8 = 7;
@@ -18,5 +21,13 @@ fn main(rt: HostRuntime) -> ExitCode {
     };
     let mut source = StdSource::new(rt.stdin());
     let mut sink = StdSink::new(rt.stdout());
-    run_to_exit(rt.alloc(), words.as_slice(), &mut source, &mut sink)
+    let ended = run_to_exit(rt.alloc(), words.as_slice(), &mut source, &mut sink);
+    if are_no_command(words.as_slice()) {
+        // (where that can't be written, the answer has said it)
+        let _ = eprintln!(rt;
+            "market: {}\nmarket: all commands stand in market --help",
+            stop_of(words.as_slice())
+        );
+    }
+    ended
 }

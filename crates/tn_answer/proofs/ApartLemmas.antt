@@ -1,5 +1,5 @@
 -- Answers over the same names whose data are equal are written alike.
-use Rattle.std.proofs.Common.{◌≡◌, ◌==◌, false, ℕ, suc, ℤ, pos, negsuc, ◌+◌, ◌*◌, List, [], ◌∷◌, slice_get, get_or, Option, None, Some, is_some, true≢false, option_and_then, unwrap_or, find, All, IfSome, codes, bytes_eq, refl, sym, ap, ◌∙◌, subst, ◌++◌, arith}
+use Rattle.std.proofs.Common.{if◌then◌else◌, ◌==◌, ◌*◌, ◌≡◌, ◌==◌, false, ℕ, suc, ℤ, pos, negsuc, ◌+◌, ◌*◌, List, [], ◌∷◌, slice_get, get_or, Option, None, Some, is_some, true≢false, option_and_then, unwrap_or, find, All, IfSome, codes, bytes_eq, refl, sym, ap, ◌∙◌, subst, ◌++◌, arith}
 use Rattle.std.proofs.lemmas.List.Elements.{All-head, All-tail}
 use Rattle.std.proofs.lemmas.Option.{same_Some, slice_get-get_or, unwrap_or-slice_get}
 use Rattle.std.specs.List.{AllZip}
@@ -24,7 +24,8 @@ use Rattle.tn_plain_data.specs.declared.holding.Holding.{Holding}
 use Rattle.tn_plain_data.specs.declared.range.Range.{Range}
 use Rattle.tn_plain_data.specs.declared.session.State.{State}
 use Rattle.tn_plain_data.specs.declared.said.Page.{Page}
-use Rattle.tn_plain_data.specs.declared.said.Page.TheVariants.{Help, Version as VersionPage}
+use Rattle.tn_plain_data.specs.declared.said.Page.TheVariants.{Help, Version as VersionPage, About}
+use Rattle.tn_plain_data.specs.declared.said.Topic.TheVariants.{Check as CheckTopic, Firms as FirmsTopic, Test as TestTopic, Support as SupportTopic, Solve as SolveTopic, Range as RangeTopic, Session as SessionTopic, Judge as JudgeTopic, Replay as ReplayTopic, Drill as DrillTopic, Cases as CasesTopic}
 use Rattle.tn_plain_data.specs.declared.said.Said.{Said}
 use Rattle.tn_plain_data.specs.declared.said.Said.TheVariants.{Usage, ReadFault, NoMemory, Fault as FaultIs, Equilibrium, Better, Impossible, Accepted, ExchangeFails, Supported, Cycle, Solved, Drill, Ranges, Session, Drops, Completes, Blocks, Valid, Invalid, Cases, Page as PageIs, Firms as FirmsIs}
 use Rattle.tn_names.specs.Names.{NameLists, IsNameList}
@@ -285,13 +286,57 @@ module _ (names : List (List ℕ)) (kept : IsNameList names) where
 abbrev first_byte : List ℕ → ℕ
 first_byte text = get_or text 0 0
 
-abbrev eighth_byte : List ℕ → ℕ
-eighth_byte text = get_or text 7 0
-
 -- each page begins with the program's name
 page_begins : (page : Page) → first_byte (lines_text (page_lines page)) ≡ 109
 page_begins Help = refl
 page_begins VersionPage = refl
+page_begins (About CheckTopic) = refl
+page_begins (About FirmsTopic) = refl
+page_begins (About TestTopic) = refl
+page_begins (About SupportTopic) = refl
+page_begins (About SolveTopic) = refl
+page_begins (About RangeTopic) = refl
+page_begins (About SessionTopic) = refl
+page_begins (About JudgeTopic) = refl
+page_begins (About ReplayTopic) = refl
+page_begins (About DrillTopic) = refl
+page_begins (About CasesTopic) = refl
+
+-- the three bytes behind that name, as one number
+abbrev key : List ℕ → ℕ
+key text = (get_or text 7 0 * 256 + get_or text 8 0) * 256 + get_or text 9 0
+
+-- the page that has them
+abbrev page_at : ℕ → Page
+page_at k =
+    if k == key (codes "market finds") then Help
+    else if k == key (codes "market check") then About CheckTopic
+    else if k == key (codes "market firms") then About FirmsTopic
+    else if k == key (codes "market test") then About TestTopic
+    else if k == key (codes "market support") then About SupportTopic
+    else if k == key (codes "market solve") then About SolveTopic
+    else if k == key (codes "market range") then About RangeTopic
+    else if k == key (codes "market session") then About SessionTopic
+    else if k == key (codes "market judge") then About JudgeTopic
+    else if k == key (codes "market replay") then About ReplayTopic
+    else if k == key (codes "market drill") then About DrillTopic
+    else if k == key (codes "market cases") then About CasesTopic
+    else VersionPage
+
+page_is_at : (page : Page) → page_at (key (lines_text (page_lines page))) ≡ page
+page_is_at Help = refl
+page_is_at VersionPage = refl
+page_is_at (About CheckTopic) = refl
+page_is_at (About FirmsTopic) = refl
+page_is_at (About TestTopic) = refl
+page_is_at (About SupportTopic) = refl
+page_is_at (About SolveTopic) = refl
+page_is_at (About RangeTopic) = refl
+page_is_at (About SessionTopic) = refl
+page_is_at (About JudgeTopic) = refl
+page_is_at (About ReplayTopic) = refl
+page_is_at (About DrillTopic) = refl
+page_is_at (About CasesTopic) = refl
 
 -- ---- answers
 
@@ -585,12 +630,8 @@ module _ (names : NameLists) (firms : IsNameList names.firms) (trades : IsNameLi
       let same_list = same_holdings names trades 0 holdings holdings' h.1 k.1 (ap (part (codes "firms")) e) in
       let same_surplus = same_bound names.trades trades surplus surplus' (ap (part (codes "surplus")) e) in
       λ i. FirmsIs (same_content i) (same_list i) (same_surplus i)
-  same_object (PageIs Help) (PageIs Help) h k short short' line e = refl
-  same_object (PageIs VersionPage) (PageIs VersionPage) h k short short' line e = refl
-  same_object (PageIs Help) (PageIs VersionPage) h k short short' line e =
-      absurd (clash 102 50 refl (ap eighth_byte line))
-  same_object (PageIs VersionPage) (PageIs Help) h k short short' line e =
-      absurd (clash 50 102 refl (ap eighth_byte line))
+  same_object (PageIs page) (PageIs other) h k short short' line e =
+      ap PageIs (sym (page_is_at page) ∙ ap (λ text. page_at (key text)) line ∙ page_is_at other)
   same_object first second h k short short' line e =
       absurd (differs first second refl e)
 

@@ -6,6 +6,7 @@ pub mod Sayable
 pub mod Kept
 pub mod Rows
 pub mod Cells
+pub mod Topics
 pub mod Pages
 pub mod AnswerText
 pub mod Fields

@@ -1,7 +1,8 @@
 -- The pages: what the program tells of itself.
 use Rattle.std.specs.Prelude.{ℕ, List, [], ◌∷◌, ◌++◌, codes, flat_map}
 use Rattle.tn_plain_data.specs.declared.said.Page.{Page}
-use Rattle.tn_plain_data.specs.declared.said.Page.TheVariants.{Help, Version}
+use Rattle.tn_plain_data.specs.declared.said.Page.TheVariants.{Help, Version, About}
+use Rattle.tn_answer.specs.Topics.{topic_lines}
 
 -- each command with what it asks, and an example
 abbrev pub help_lines : List (List ℕ)
@@ -30,8 +31,8 @@ help_lines =
     ∷ codes "             market drill 64 7"
     ∷ codes "  cases      Does this copy pass the cases that it carries?"
     ∷ codes "             market cases"
-    ∷ codes "  help       What can be asked?"
-    ∷ codes "             market help"
+    ∷ codes "  help       What can be asked? With a command behind it: more of that one."
+    ∷ codes "             market help solve"
     ∷ codes "  -h         The same."
     ∷ codes "             market -h"
     ∷ codes "  --help     The same."
@@ -48,11 +49,12 @@ help_lines =
 
 -- the program's version, and the kit that proved it
 abbrev pub version_lines : List (List ℕ)
-version_lines = codes "market 2.0.0" ∷ codes "rattle-kit-13f logic dac8208d650f15bf" ∷ []
+version_lines = codes "market 2.1.0" ∷ codes "rattle-kit-13f logic dac8208d650f15bf" ∷ []
 
 abbrev pub page_lines : Page → List (List ℕ)
 page_lines Help = help_lines
 page_lines Version = version_lines
+page_lines (About topic) = topic_lines topic
 
 -- lines as text, each with its line end
 abbrev pub lines_text : List (List ℕ) → List ℕ

@@ -15,6 +15,7 @@ mod rows;
 mod states;
 mod tables;
 mod text;
+mod topics;
 mod values;
 mod words;
 

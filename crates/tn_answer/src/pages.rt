@@ -6,6 +6,7 @@ ghost use Rattle.tn_answer.specs.declared.layout.Layout.{Layout};
 ghost use Rattle.tn_answer.specs.Pages.{help_lines, lines_text, page_lines, version_lines};
 ghost use Rattle.tn_names.specs.Names.{NameLists};
 
+use crate::topics::topic_text;
 use tn_plain_data::{Page, Said};
 
 /// What can be asked: each command, with an example.
@@ -37,8 +38,8 @@ fn help_text() -> &'static str
         "             market drill 64 7\n",
         "  cases      Does this copy pass the cases that it carries?\n",
         "             market cases\n",
-        "  help       What can be asked?\n",
-        "             market help\n",
+        "  help       What can be asked? With a command behind it: more of that one.\n",
+        "             market help solve\n",
         "  -h         The same.\n",
         "             market -h\n",
         "  --help     The same.\n",
@@ -58,7 +59,7 @@ fn help_text() -> &'static str
 fn version_text() -> &'static str
     ensures { result.now ≡ lines_text version_lines }
 {
-    concat!("market 2.0.0\n", "rattle-kit-13f logic dac8208d650f15bf\n")
+    concat!("market 2.1.0\n", "rattle-kit-13f logic dac8208d650f15bf\n")
 }
 
 /// The lines of a page.
@@ -68,6 +69,7 @@ pub(crate) fn page_lines(page: Page) -> &'static [u8]
     match page {
         Page::Help => help_text().as_bytes(),
         Page::Version => version_text().as_bytes(),
+        Page::About(topic) => topic_text(topic).as_bytes(),
     }
 }
 

@@ -25,6 +25,6 @@ pub use room::Room;
 pub use tn_plain_data::{
     Amounts, Arrangement, Claim, Contract, Contracts, Edit, Edits, Ends, Fault, Lent, Listed,
     Nodes, Numbers, Outcome, Page, Place, PlaceStep, Prices, Range, Ranges, Reason, Said, Shown,
-    State, States, TradeEnds, Trades, Word, count_own, sides_of,
+    State, States, Topic, TradeEnds, Trades, Word, count_own, sides_of,
 };
 pub use valuation::Valuation;

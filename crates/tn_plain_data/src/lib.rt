@@ -33,6 +33,6 @@ pub use place::{PlaceStep, Word};
 pub use positions::{own, trades_of};
 pub use range::Range;
 pub use reason::Reason;
-pub use said::{Fault, Page, Said, Shown};
+pub use said::{Fault, Page, Said, Shown, Topic};
 pub use session::{Edit, State};
 pub use sides::{count_own, sides_of};

@@ -28,6 +28,22 @@ pub struct Fault {
     pub shown: Option<Shown>,
 }
 
+/// A command that a page is about.
+#[derive(Clone, Copy)]
+pub enum Topic {
+    Check,
+    Firms,
+    Test,
+    Support,
+    Solve,
+    Range,
+    Session,
+    Judge,
+    Replay,
+    Drill,
+    Cases,
+}
+
 /// A text of the program about itself.
 #[derive(Clone, Copy)]
 pub enum Page {
@@ -35,6 +51,8 @@ pub enum Page {
     Help,
     /// Which program this is, and by which kit it was proved.
     Version,
+    /// What a command reads, an example, its answers, its words and its statuses.
+    About(Topic),
 }
 
 /// An answer of the program. Firms and trades stand in it by their numbers.

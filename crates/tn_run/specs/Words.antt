@@ -1,5 +1,5 @@
 -- Which words are a command, how its answer is written, and what a command reads.
-use Rattle.std.specs.Prelude.{ℕ, List, [], ◌∷◌, length, codes, Bool, false, not, ◌==◌, ◌&&◌, ◌||◌, nat_le, get_or, Option, Some, None, option_and_then, unwrap_or, if◌then◌else◌}
+use Rattle.std.specs.Prelude.{ℕ, List, [], ◌∷◌, length, codes, Bool, false, not, ◌==◌, ◌&&◌, ◌||◌, nat_le, get_or, Option, Some, None, is_none, option_map, option_and_then, unwrap_or, if◌then◌else◌}
 use Rattle.std.specs.List.{list_all}
 use Rattle.std.specs.Char.{is_ascii_digit}
 use Rattle.std.specs.Str.{bytes_eq}
@@ -10,7 +10,9 @@ use Rattle.tn_drill.specs.Draws.{most_drilled, most_start}
 use Rattle.tn_file.specs.declared.need.Need.{Need}
 use Rattle.tn_file.specs.declared.need.Need.TheVariants.{Market, Raw, Arrangement, RawArrangement, On, Outcome, Edits, Claim}
 use Rattle.tn_plain_data.specs.declared.said.Page.{Page}
-use Rattle.tn_plain_data.specs.declared.said.Page.TheVariants.{Help, Version}
+use Rattle.tn_plain_data.specs.declared.said.Page.TheVariants.{Help, Version, About}
+use Rattle.tn_plain_data.specs.declared.said.Topic.{Topic}
+use Rattle.tn_plain_data.specs.declared.said.Topic.TheVariants.{Check as CheckTopic, Firms as FirmsTopic, Test as TestTopic, Support as SupportTopic, Solve as SolveTopic, Range as RangeTopic, Session as SessionTopic, Judge as JudgeTopic, Replay as ReplayTopic, Drill as DrillTopic, Cases as CasesTopic}
 use Rattle.tn_run.specs.declared.command.Command.{Command}
 use Rattle.tn_run.specs.declared.command.Command.TheVariants.{Check, Firms, Judge, Range, Replay, Session, Solve, Support, Test}
 
@@ -103,12 +105,53 @@ abbrev pub asks_for_cases : List (List ℕ) → Bool
 asks_for_cases (word ∷ []) = bytes_eq word (codes "cases")
 asks_for_cases words = false
 
--- the page that the words ask for
-abbrev pub page_of : List (List ℕ) → Option Page
-page_of (word ∷ []) =
+-- the command that a page is about, by its word
+abbrev pub topic_of : List ℕ → Option Topic
+topic_of word =
+    if bytes_eq word (codes "check") then Some CheckTopic
+    else if bytes_eq word (codes "firms") then Some FirmsTopic
+    else if bytes_eq word (codes "test") then Some TestTopic
+    else if bytes_eq word (codes "support") then Some SupportTopic
+    else if bytes_eq word (codes "solve") then Some SolveTopic
+    else if bytes_eq word (codes "range") then Some RangeTopic
+    else if bytes_eq word (codes "session") then Some SessionTopic
+    else if bytes_eq word (codes "judge") then Some JudgeTopic
+    else if bytes_eq word (codes "replay") then Some ReplayTopic
+    else if bytes_eq word (codes "drill") then Some DrillTopic
+    else if bytes_eq word (codes "cases") then Some CasesTopic
+    else None
+
+-- the page about a command, and about all of them for `help`
+abbrev pub page_about : List ℕ → Option Page
+page_about word = if bytes_eq word (codes "help") then Some Help else option_map About (topic_of word)
+
+-- the page that one word asks for
+abbrev pub word_page : List ℕ → Option Page
+word_page word =
     if bytes_eq word (codes "help") then Some Help
     else if bytes_eq word (codes "-h") then Some Help
     else if bytes_eq word (codes "--help") then Some Help
     else if bytes_eq word (codes "--version") then Some Version
     else None
+
+-- whether a word behind a command asks for its page
+abbrev pub asks_for_page : List ℕ → Bool
+asks_for_page word = bytes_eq word (codes "--help") || bytes_eq word (codes "-h")
+
+-- the page that two words ask for: a command with a word behind it that asks for its page, or `help` before it
+abbrev pub words_page : List ℕ → List ℕ → Option Page
+words_page word next =
+    if asks_for_page next then page_about word
+    else if bytes_eq word (codes "help") then page_about next
+    else None
+
+-- the page that the words ask for
+abbrev pub page_of : List (List ℕ) → Option Page
+page_of (word ∷ []) = word_page word
+page_of (word ∷ next ∷ []) = words_page word next
 page_of words = None
+
+-- whether the words ask for nothing that the program has
+abbrev pub are_no_command : List (List ℕ) → Bool
+are_no_command words = is_none (command_of words) && is_none (lines_command_of words) && is_none (drill_of words)
+    && not (asks_for_cases words) && is_none (page_of words)

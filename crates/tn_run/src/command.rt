@@ -2,12 +2,12 @@
 
 ghost use Rattle.std.specs.Prelude.{◌≡◌, ◌≤◌, map, string_bytes, IfSome};
 ghost use Rattle.tn_drill.specs.Draws.{most_drilled, most_start};
-ghost use Rattle.tn_run.specs.Words.{asks_for_cases, case_command, case_layout, command_of, drill_of, layout_of, layout_with, lines_command_of, need_of, page_of, rows_layout, two_numbers, word_command, word_layout};
+ghost use Rattle.tn_run.specs.Words.{are_no_command, asks_for_cases, asks_for_page, case_command, case_layout, command_of, drill_of, layout_of, layout_with, lines_command_of, need_of, page_about, page_of, rows_layout, topic_of, two_numbers, word_command, word_layout, word_page, words_page};
 
 use crate::numbers::number_within;
 use tn_answer::Layout;
 use tn_file::Need;
-use tn_market::Page;
+use tn_market::{Page, Topic};
 use tn_shape::value_of_word;
 
 /// The most trades of a drill network.
@@ -210,22 +210,94 @@ pub fn asks_for_cases(words: &[String]) -> bool
     }
 }
 
+/// The command that a page is about, none where the word is none.
+fn topic_of(word: &str) -> Option<Topic>
+    ensures { result ≡ topic_of word.now }
+{
+    value_of_word(
+        word,
+        &[
+            ("check", Topic::Check),
+            ("firms", Topic::Firms),
+            ("test", Topic::Test),
+            ("support", Topic::Support),
+            ("solve", Topic::Solve),
+            ("range", Topic::Range),
+            ("session", Topic::Session),
+            ("judge", Topic::Judge),
+            ("replay", Topic::Replay),
+            ("drill", Topic::Drill),
+            ("cases", Topic::Cases),
+        ],
+    )
+}
+
+/// The page about a command, and about all of them for `help`; none where the word is none.
+fn page_about(word: &str) -> Option<Page>
+    ensures { result ≡ page_about word.now }
+{
+    if word == "help" {
+        Some(Page::Help)
+    } else {
+        topic_of(word).map(Page::About)
+    }
+}
+
+/// The page that one word asks for, none where it asks for none.
+fn word_page(word: &str) -> Option<Page>
+    ensures { result ≡ word_page word.now }
+{
+    value_of_word(
+        word,
+        &[
+            ("help", Page::Help),
+            ("-h", Page::Help),
+            ("--help", Page::Help),
+            ("--version", Page::Version),
+        ],
+    )
+}
+
+/// Whether a word behind a command asks for its page.
+fn asks_for_page(word: &str) -> bool
+    ensures { result ≡ asks_for_page word.now }
+{
+    word == "--help" || word == "-h"
+}
+
+/// The page that two words ask for: a command with a word behind it that asks for its page, or `help` before it.
+fn words_page(word: &str, next: &str) -> Option<Page>
+    ensures { result ≡ words_page word.now next.now }
+{
+    if asks_for_page(next) {
+        page_about(word)
+    } else if word == "help" {
+        page_about(next)
+    } else {
+        None
+    }
+}
+
 /// The page that the words ask for, none where they ask for none.
 pub fn page_of(words: &[String]) -> Option<Page>
     ensures { result ≡ page_of (map string_bytes words.now) }
 {
     match words {
-        [word] => value_of_word(
-            word,
-            &[
-                ("help", Page::Help),
-                ("-h", Page::Help),
-                ("--help", Page::Help),
-                ("--version", Page::Version),
-            ],
-        ),
-        [] | [_, _, ..] => None,
+        [word] => word_page(word),
+        [word, next] => words_page(word, next),
+        [] | [_, _, _, ..] => None,
     }
+}
+
+/// Whether the words ask for nothing that the program has, so that it answers `usage`.
+pub fn are_no_command(words: &[String]) -> bool
+    ensures { result ≡ are_no_command (map string_bytes words.now) }
+{
+    command_of(words).is_none()
+        && lines_command_of(words).is_none()
+        && drill_of(words).is_none()
+        && !asks_for_cases(words)
+        && page_of(words).is_none()
 }
 
 /// Two numbers, if both are there.

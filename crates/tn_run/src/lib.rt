@@ -12,5 +12,6 @@ mod testing;
 mod top;
 
 pub use casing::run_cases;
+pub use command::are_no_command;
 pub use exit::run_to_exit;
 pub use top::{Run, run_market, run_steadily};
