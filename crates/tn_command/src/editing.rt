@@ -230,6 +230,7 @@ pub fn states_after(
 {
     let mut steps = Steps::new(Asked);
     let mut session = Session::<FirmValue, 16>::begin(alloc, market, &mut steps)?;
-    let edits = states_from(alloc, market, edits, &mut session, &mut steps)?;
-    Ok(Said::Session { edits })
+    let states = states_from(alloc, market, edits, &mut session, &mut steps);
+    drop(session);
+    Ok(Said::Session { edits: states? })
 }

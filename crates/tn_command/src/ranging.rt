@@ -23,11 +23,12 @@ pub fn price_ranges(alloc: Global, market: &Market<FirmValue>) -> Result<Said, O
     ensures within { IfOk result IsWithinClaims }
 {
     let at = equilibrium(alloc, market)?;
-    let ends = ends_of(alloc, market)?;
-    let ranges = range(alloc, market, &at.on, &at.prices, &mut Steps::new(Asked))?;
+    let on = trades_on(alloc, &at.on, market.trades());
+    let ranges = range(alloc, market, &at.on, &at.prices, &mut Steps::new(Asked));
+    drop(at);
     Ok(Said::Ranges {
-        on: trades_on(alloc, &at.on, market.trades())?,
-        ranges,
-        ends,
+        on: on?,
+        ranges: ranges?,
+        ends: ends_of(alloc, market)?,
     })
 }

@@ -72,9 +72,12 @@ pub(crate) fn equilibrium(
 {
     let mut solver = Solver::<16>::with_room(alloc, market)?;
     solver.solve_in(market, &mut Steps::new(Asked));
+    let on = *solver.on();
+    let prices = prices_of(alloc, &solver, market.trades());
+    drop(solver);
     Ok(Arrangement {
-        on: *solver.on(),
-        prices: prices_of(alloc, &solver, market.trades())?,
+        on,
+        prices: prices?,
     })
 }
 

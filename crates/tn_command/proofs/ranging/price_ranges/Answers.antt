@@ -5,14 +5,14 @@ use Rattle.tn_command.proofs.ranging.price_ranges.Goals as goal
 
 pub returns-clause-answer : goal.returns-clause-answer
 returns-clause-answer c = (
-  ranged_from c.args.market.now.firms c.args.market.now.trades c.in_ok-at.at.on c.in_ok-trades_on.field-0
-      (price_at c.in_ok-at.at.prices) c.in_ok-ranges.ranges c.trades.result
-      c.trades.ensures.network c.trades.ensures.count c.in_ok-trades_on.ensures c.in_ok-at.ensures.equilibrium
+  ranged_from c.args.market.now.firms c.args.market.now.trades c.in_ok-at.at.on c.in_ok-on.field-0
+      (price_at c.in_ok-at.at.prices) c.in_ok-ranges.field-0 c.trades.result
+      c.trades.ensures.network c.trades.ensures.count c.in_ok-on.ensures c.in_ok-at.ensures.equilibrium
       c.in_ok-ranges.ensures.ranges,
-  c.in_ok-ends.ensures,
+  c.in_ok-ends_of.ensures,
 )
 
 pub returns-clause-within : goal.returns-clause-within
 returns-clause-within c =
-    ranges_small c.args.market.now.firms c.args.market.now.trades c.in_ok-at.at.on c.in_ok-ranges.ranges
+    ranges_small c.args.market.now.firms c.args.market.now.trades c.in_ok-at.at.on c.in_ok-ranges.field-0
     c.trades.ensures.network c.requires.wide c.requires.worths c.in_ok-ranges.ensures.ranges

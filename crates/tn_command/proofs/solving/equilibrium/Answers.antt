@@ -32,15 +32,15 @@ pub returns-clause-equilibrium : goal.returns-clause-equilibrium
 returns-clause-equilibrium c =
     let firms = map firm_of c.args.market.now.firms in
     let trades = c.args.market.now.trades in
-    subst (λ (on : ℕ). IsEquilibrium firms trades (pos 1) on (price_at c.in_ok-prices_of.field-0)) (sym c.on.ensures)
+    subst (λ (on : ℕ). IsEquilibrium firms trades (pos 1) on (price_at c.in_ok-prices.field-0)) (sym c.on-on.ensures)
     (subst (λ (prices : List ℤ). IsEquilibrium firms trades (pos 1) c.solve_in.new.self.on (price_at prices))
-    (sym c.in_ok-prices_of.ensures) c.solve_in.ensures.equilibrium)
+    (sym c.in_ok-prices.ensures) c.solve_in.ensures.equilibrium)
 
 pub returns-clause-one_each : goal.returns-clause-one_each
-returns-clause-one_each c = ap length c.in_ok-prices_of.ensures ∙ c.solve_in.ensures.one_each
+returns-clause-one_each c = ap length c.in_ok-prices.ensures ∙ c.solve_in.ensures.one_each
 
 pub returns-clause-small : goal.returns-clause-small
 returns-clause-small c =
-    subst (λ (prices : List ℤ). All (λ p. IsAtMost p most_price) prices) (sym c.in_ok-prices_of.ensures)
+    subst (λ (prices : List ℤ). All (λ p. IsAtMost p most_price) prices) (sym c.in_ok-prices.ensures)
     (small_prices (length c.args.market.now.trades) c.solve_in.new.self.prices c.requires.wide
     (c.solve_in.ensures.prices (most_worth_among (length c.args.market.now.trades)) c.requires.worths))
