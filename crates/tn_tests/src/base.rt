@@ -19,13 +19,12 @@ fn trade_sets_cross_words(rt: HostRuntime) {
     let trades = [0, 63, 64, 127];
     let set = set_of(&rt, &trades);
     for trade in 0..128 {
-        assert_eq!(rt;
-            set.has(u32::from(trade)),
-            trades.contains(&trade),
+        assert!(rt;
+            set.has(u32::from(trade)) == trades.contains(&trade),
             "at {trade}"
         );
     }
-    assert_eq!(rt; set.count(), 4);
+    assert!(rt; set.count() == 4);
 }
 
 #[test]
@@ -43,6 +42,6 @@ fn trade_sets_combine(rt: HostRuntime) {
 fn steps_have_no_bytes(rt: HostRuntime) {
     let mut steps = Steps::new(7u32);
     steps.tick();
-    assert_eq!(rt; size_of_val(&steps), size_of::<u32>());
+    assert!(rt; size_of_val(&steps) == size_of::<u32>());
     let _asked = Steps::new(Asked);
 }

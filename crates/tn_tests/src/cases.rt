@@ -30,18 +30,19 @@ static TWO: [Case; 2] = [
 #[test]
 fn agrees_with_the_status_and_the_text(rt: HostRuntime) -> Result<(), Fail> {
     let book = CaseBook::<2>::new(&TWO);
-    assert_eq!(rt; book.case(1).text, WRONG);
-    assert!(rt; book.agrees(0, 0, RIGHT.as_bytes()));
-    assert!(rt; !book.agrees(1, 0, RIGHT.as_bytes()));
-    assert!(rt; !book.agrees(0, 6, RIGHT.as_bytes()));
-    assert!(rt; !book.agrees(1, 6, RIGHT.as_bytes()));
+    let agrees = [
+        book.agrees(0, 0, RIGHT.as_bytes()),
+        book.agrees(1, 0, RIGHT.as_bytes()),
+        book.agrees(0, 6, RIGHT.as_bytes()),
+        book.agrees(1, 6, RIGHT.as_bytes()),
+    ];
+    assert!(rt; book.case(1).text == WRONG && agrees == [true, false, false, false]);
     Ok(())
 }
 
 #[test]
 fn has_its_cases_in_order(rt: HostRuntime) -> Result<(), Fail> {
     let book = book();
-    assert_eq!(rt; book.case(0).document, DEAL);
-    assert_eq!(rt; book.case(11).command, "replay");
+    assert!(rt; book.case(0).document == DEAL && book.case(11).command == "replay");
     Ok(())
 }

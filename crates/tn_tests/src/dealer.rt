@@ -1,15 +1,13 @@
 //! Tests of dealers.
 
+use crate::asking::{best, row, shape, value};
+use std::alloc::Global;
 use std::test::Fail;
-use tn_base::{Asked, Bundle, Side, Steps};
+use tn_base::Side;
 use tn_dealer::{Dealer, Pair, SamePair};
-use tn_market::{Oracle, Room, Valuation};
 
-// Two items are bought, and sold as two: the cheaper matching of all four costs 2.
-#[test]
-#[tactic(auto, unfolding(tn_base::specs::Sets::meet, tn_base::specs::Sets::union))]
-fn a_dealer_in_two_items(rt: HostRuntime) -> Result<(), Fail> {
-    let alloc = rt.alloc();
+/// Each of two items that are bought may be sold as each of two.
+fn all_pairs(alloc: Global) -> Result<Dealer, Fail> {
     let sides = vec![in alloc; Side::Buy, Side::Buy, Side::Sell, Side::Sell]?;
     let pairs = vec![in alloc;
         Pair {
@@ -33,40 +31,33 @@ fn a_dealer_in_two_items(rt: HostRuntime) -> Result<(), Fail> {
             cost: 1
         },
     ]?;
-    let dealer = Dealer::new(sides, pairs)?;
-    let mut room = Room::new(alloc)?;
-    let mut steps = Steps::new(Asked);
-    assert_eq!(rt;
-        (dealer.trades(), dealer.side(1), dealer.bound()),
-        (4, Side::Buy, 124_000_000_000)
-    );
-    let all = Bundle::from_bits(0b1111);
+    Ok(Dealer::new(sides, pairs)?)
+}
+
+// Two items are bought, and sold as two: the cheaper matching of all four costs 2.
+#[test]
+fn a_dealer_in_two_items(rt: HostRuntime) -> Result<(), Fail> {
+    let dealer = all_pairs(rt.alloc())?;
+    assert!(rt; shape(&rt, &dealer, 1) == (4, Side::Buy, 124_000_000_000));
     let values = [
-        dealer.value(all, &mut steps),
-        dealer.value(Bundle::from_bits(0b0110), &mut steps),
-        dealer.value(Bundle::from_bits(0b0111), &mut steps),
+        value(&rt, &dealer, 0b1111),
+        value(&rt, &dealer, 0b0110),
+        value(&rt, &dealer, 0b0111),
     ];
-    assert_eq!(rt; values, [Some(-2), Some(-2), None]);
-    let mut lower = [None; 4];
-    dealer.row(Bundle::from_bits(0b0111), all, &mut lower, &mut steps);
-    let mut higher = [None; 4];
-    dealer.row(Bundle::from_bits(0b1101), all, &mut higher, &mut steps);
-    assert_eq!(rt;
-        [lower, higher],
-        [
-            [Some(-2), Some(-1), None, Some(-2)],
-            [None, Some(-2), Some(-3), Some(-1)]
-        ]
-    );
-    let best = dealer.best(Bundle::empty(), all, 1, &[5, 7, 12, 9], &mut room);
-    assert_eq!(rt; best, Some((all, 7)));
+    let lower = row(&rt, &dealer, 0b0111, 0b1111);
+    let higher = row(&rt, &dealer, 0b1101, 0b1111);
+    let best = best(&rt, rt.alloc(), &dealer, 0b1111, &[5, 7, 12, 9]);
+    assert!(rt; (values, best) == ([Some(-2), Some(-2), None], Ok(Some((0b1111, 7)))));
+    let wanted = [
+        [Some(-2), Some(-1), None, Some(-2)],
+        [None, Some(-2), Some(-3), Some(-1)],
+    ];
+    assert!(rt; [lower, higher] == wanted);
     Ok(())
 }
 
-// Both purchases may be sold as one sale only, so all four trades have no matching.
-#[test]
-fn a_sale_without_a_purchase(rt: HostRuntime) -> Result<(), Fail> {
-    let alloc = rt.alloc();
+/// Both purchases may be sold as one sale only.
+fn one_sale(alloc: Global) -> Result<Dealer, Fail> {
     let sides = vec![in alloc; Side::Buy, Side::Buy, Side::Sell, Side::Sell]?;
     let pairs = vec![in alloc;
         Pair {
@@ -80,13 +71,15 @@ fn a_sale_without_a_purchase(rt: HostRuntime) -> Result<(), Fail> {
             cost: 2
         },
     ]?;
-    let dealer = Dealer::new(sides, pairs)?;
-    let mut steps = Steps::new(Asked);
-    assert_eq!(rt; dealer.value(Bundle::from_bits(0b1111), &mut steps), None);
-    assert_eq!(rt;
-        dealer.value(Bundle::from_bits(0b0101), &mut steps),
-        Some(-1)
-    );
+    Ok(Dealer::new(sides, pairs)?)
+}
+
+// All four trades have no matching.
+#[test]
+fn a_sale_without_a_purchase(rt: HostRuntime) -> Result<(), Fail> {
+    let dealer = one_sale(rt.alloc())?;
+    let values = [value(&rt, &dealer, 0b1111), value(&rt, &dealer, 0b0101)];
+    assert!(rt; values == [None, Some(-1)]);
     Ok(())
 }
 
@@ -121,9 +114,6 @@ fn the_same_pair(rt: HostRuntime) -> Result<(), Fail> {
             cost: 7
         },
     ]?;
-    assert_eq!(rt;
-        Dealer::new(sides, pairs).err(),
-        Some(SamePair { index: 4 })
-    );
+    assert!(rt; Dealer::new(sides, pairs).err() == Some(SamePair { index: 4 }));
     Ok(())
 }

@@ -20,25 +20,20 @@ fn worth(market: &Market<FirmValue>, f: u32, bits: u64) -> Option<i128>
     }
 }
 
+/// The seller of a trade and its position there, and the buyer and its position there.
+fn ends_of(market: &Market<FirmValue>, trade: u32) -> [u32; 4]
+    requires { trade < length market.now.trades }
+{
+    let ends = market.ends(trade);
+    [ends.seller, ends.at_seller, ends.buyer, ends.at_buyer]
+}
+
 /// Three trades, drawn by hand: the last two are worth 84 together.
 #[test]
 fn three_trades_from_1(rt: HostRuntime) -> Result<(), Fail> {
     let market = drill(rt.alloc(), 3, 1)?;
-    assert_eq!(rt; (market.firms(), market.trades()), (16, 3));
-    let second = market.ends(1);
-    let third = market.ends(2);
-    assert_eq!(rt;
-        [
-            [
-                second.seller,
-                second.at_seller,
-                second.buyer,
-                second.at_buyer
-            ],
-            [third.seller, third.at_seller, third.buyer, third.at_buyer],
-        ],
-        [[5, 0, 12, 0], [1, 0, 5, 1]]
-    );
+    assert!(rt; (market.firms(), market.trades()) == (16, 3));
+    let ends = [ends_of(&market, 1), ends_of(&market, 2)];
     let worths = [
         worth(&market, 0, 1),
         worth(&market, 4, 1),
@@ -46,7 +41,8 @@ fn three_trades_from_1(rt: HostRuntime) -> Result<(), Fail> {
         worth(&market, 5, 3),
         worth(&market, 12, 1),
     ];
-    assert_eq!(rt; worths, [Some(-10), None, Some(-21), Some(5), Some(100)]);
+    let wanted = [Some(-10), None, Some(-21), Some(5), Some(100)];
+    assert!(rt; (ends, worths) == ([[5, 0, 12, 0], [1, 0, 5, 1]], wanted));
     Ok(())
 }
 
@@ -54,12 +50,9 @@ fn three_trades_from_1(rt: HostRuntime) -> Result<(), Fail> {
 #[test]
 fn one_trade_from_0(rt: HostRuntime) -> Result<(), Fail> {
     let market = drill(rt.alloc(), 1, 0)?;
-    assert_eq!(rt; (market.firms(), market.trades()), (16, 1));
+    assert!(rt; (market.firms(), market.trades()) == (16, 1));
     let ends = market.ends(0);
-    assert_eq!(rt; (ends.seller, ends.buyer), (0, 4));
-    assert_eq!(rt;
-        (worth(&market, 0, 1), worth(&market, 4, 1)),
-        (Some(-20), None)
-    );
+    let worths = [worth(&market, 0, 1), worth(&market, 4, 1)];
+    assert!(rt; (ends.seller, ends.buyer, worths) == (0, 4, [Some(-20), None]));
     Ok(())
 }

@@ -2,10 +2,12 @@
 
 ghost use Rattle.std.specs.Prelude.{◌≡◌};
 
+use crate::asking::{best, row, shape, value};
+use std::alloc::Global;
 use std::test::Fail;
-use tn_base::{Asked, Bundle, Side, Steps};
+use tn_base::{Bundle, Side};
 use tn_laminar::{Laminar, LaminarRefusal, LaminarSet};
-use tn_market::{Amounts, Oracle, Room, Valuation};
+use tn_market::Amounts;
 
 /// The set of the trades in the digits of `bits`, with its numbers from the net count `low` on.
 fn group(bits: u64, low: i32, numbers: Vec<i128>) -> LaminarSet
@@ -20,61 +22,49 @@ fn group(bits: u64, low: i32, numbers: Vec<i128>) -> LaminarSet
     }
 }
 
-// An owner who has one car to sell.
-#[test]
-#[tactic(auto, unfolding(tn_base::specs::Sets::meet, tn_base::specs::Sets::union))]
-fn one_car_is_sold_once(rt: HostRuntime) -> Result<(), Fail> {
-    let alloc = rt.alloc();
-    let sides = vec![in alloc; Side::Sell, Side::Sell, Side::Sell]?;
-    let amounts = vec![in alloc; -4, -4, -4]?;
+/// An owner who has one car to sell.
+fn owner(alloc: Global) -> Result<Laminar, Fail> {
+    let sides = vec![in alloc; Side::Sell; 3]?;
+    let amounts = vec![in alloc; -4; 3]?;
     let sets = vec![in alloc; group(0b111, -1, vec![in alloc; 0, 0]?)]?;
-    let owner = Laminar::new(alloc, sides, amounts, sets)?;
-    let mut room = Room::new(alloc)?;
-    let mut steps = Steps::new(Asked);
-    assert_eq!(rt;
-        (owner.trades(), owner.side(1), owner.bound()),
-        (3, Side::Sell, 124_000_000_000)
-    );
-    let one = Bundle::from_bits(0b010);
-    let worth = owner.value(one, &mut steps);
-    assert_eq!(rt;
-        [worth, owner.value(Bundle::from_bits(0b110), &mut steps)],
-        [Some(-4), None]
-    );
-    let free = Bundle::from_bits(0b111);
-    let best = owner.best(Bundle::empty(), free, 1, &[5, 7, 6], &mut room);
-    assert_eq!(rt; best, Some((one, 3)));
+    Ok(Laminar::new(alloc, sides, amounts, sets)?)
+}
+
+#[test]
+fn one_car_is_sold_once(rt: HostRuntime) -> Result<(), Fail> {
+    let owner = owner(rt.alloc())?;
+    assert!(rt; shape(&rt, &owner, 1) == (3, Side::Sell, 124_000_000_000));
+    let values = [value(&rt, &owner, 0b010), value(&rt, &owner, 0b110)];
+    let best = best(&rt, rt.alloc(), &owner, 0b111, &[5, 7, 6]);
+    assert!(rt; (values, best) == ([Some(-4), None], Ok(Some((0b010, 3)))));
     Ok(())
 }
 
-// A buyer of two goods of a group and of one that stands apart: the second good of the group is worth 3 less.
-#[test]
-fn a_second_good_is_worth_less(rt: HostRuntime) -> Result<(), Fail> {
-    let alloc = rt.alloc();
-    let sides = vec![in alloc; Side::Buy, Side::Buy, Side::Buy]?;
+/// A buyer of two goods of a group and of one that stands apart: the second good of the group is worth 3 less.
+fn buyer(alloc: Global) -> Result<Laminar, Fail> {
+    let sides = vec![in alloc; Side::Buy; 3]?;
     let amounts = vec![in alloc; 12, 9, 9]?;
     let sets = vec![in alloc;
         group(0b011, 0, vec![in alloc; 0, 0, -3]?),
-        group(0b111, 0, vec![in alloc; 0, 0, 0]?),
+        group(0b111, 0, vec![in alloc; 0; 3]?),
     ]?;
-    let buyer = Laminar::new(alloc, sides, amounts, sets)?;
-    let mut steps = Steps::new(Asked);
-    let together = Bundle::from_bits(0b011);
-    let apart = Bundle::from_bits(0b101);
-    let all = Bundle::from_bits(0b111);
+    Ok(Laminar::new(alloc, sides, amounts, sets)?)
+}
+
+#[test]
+fn a_second_good_is_worth_less(rt: HostRuntime) -> Result<(), Fail> {
+    let buyer = buyer(rt.alloc())?;
     let values = [
-        buyer.value(together, &mut steps),
-        buyer.value(apart, &mut steps),
-        buyer.value(all, &mut steps),
+        value(&rt, &buyer, 0b011),
+        value(&rt, &buyer, 0b101),
+        value(&rt, &buyer, 0b111),
     ];
-    assert_eq!(rt; values, [Some(18), Some(21), None]);
-    let mut worths = [[None; 3]; 2];
-    buyer.row(together, all, &mut worths[0], &mut steps);
-    buyer.row(apart, all, &mut worths[1], &mut steps);
-    assert_eq!(rt;
-        worths,
-        [[Some(9), Some(12), None], [Some(9), None, Some(12)]]
-    );
+    assert!(rt; values == [Some(18), Some(21), None]);
+    let worths = [
+        row(&rt, &buyer, 0b011, 0b111),
+        row(&rt, &buyer, 0b101, 0b111),
+    ];
+    assert!(rt; worths == [[Some(9), Some(12), None], [Some(9), None, Some(12)]]);
     Ok(())
 }
 
@@ -86,10 +76,7 @@ fn rising_returns_are_not_concave(rt: HostRuntime) -> Result<(), Fail> {
     let amounts = vec![in alloc; 0, 0]?;
     let sets = vec![in alloc; group(0b11, 0, vec![in alloc; 0, 3, 7]?)]?;
     let refusal = Laminar::new(alloc, sides, amounts, sets).err();
-    assert_eq!(rt;
-        refusal,
-        Some(LaminarRefusal::NotConcave { set: 0, place: 1 })
-    );
+    assert!(rt; refusal == Some(LaminarRefusal::NotConcave { set: 0, place: 1 }));
     Ok(())
 }
 
@@ -104,7 +91,7 @@ fn groups_that_overlap_are_not_laminar(rt: HostRuntime) -> Result<(), Fail> {
         group(0b110, 0, vec![in alloc; 0, 5, 7]?),
     ]?;
     let refusal = Laminar::new(alloc, sides, amounts, sets).err();
-    assert_eq!(rt; refusal, Some(LaminarRefusal::NotLaminar { set: 1 }));
+    assert!(rt; refusal == Some(LaminarRefusal::NotLaminar { set: 1 }));
     Ok(())
 }
 
@@ -116,6 +103,6 @@ fn a_least_number_leaves_no_empty_bundle(rt: HostRuntime) -> Result<(), Fail> {
     let amounts = vec![in alloc; 0, 0]?;
     let sets = vec![in alloc; group(0b11, 1, vec![in alloc; 0, 9]?)]?;
     let refusal = Laminar::new(alloc, sides, amounts, sets).err();
-    assert_eq!(rt; refusal, Some(LaminarRefusal::NoEmpty { set: 0 }));
+    assert!(rt; refusal == Some(LaminarRefusal::NoEmpty { set: 0 }));
     Ok(())
 }

@@ -55,17 +55,15 @@ impl<W: Write> Write for Faltering<W> {
 fn reads_and_tells_a_failure(rt: HostRuntime) -> Result<(), Fail> {
     let mut whole = StdSource::new(&b"steel and lumber"[..]);
     let bytes = read_all(rt.alloc(), &mut whole, 16)?;
-    assert_eq!(rt; bytes.as_slice(), &b"steel and lumber"[..]);
+    assert!(rt; bytes.as_slice() == &b"steel and lumber"[..]);
 
     let mut source = StdSource::new(Faltering::over(&b"steel"[..]));
     let mut into = [0; 8];
     let first = source.read(&mut into);
     let second = source.read(&mut into);
     let third = source.read(&mut into);
-    assert_eq!(rt;
-        [first, second, third, source.read(&mut into)],
-        [Ok(4), Err(ReadFailed), Ok(1), Ok(0)]
-    );
+    let read = [first, second, third, source.read(&mut into)];
+    assert!(rt; read == [Ok(4), Err(ReadFailed), Ok(1), Ok(0)]);
     Ok(())
 }
 
@@ -73,15 +71,16 @@ fn reads_and_tells_a_failure(rt: HostRuntime) -> Result<(), Fail> {
 fn writes_and_tells_a_failure(rt: HostRuntime) -> Result<(), Fail> {
     let mut whole = Vec::new(rt.alloc());
     let mut sink = StdSink::new(&mut whole);
-    assert_eq!(rt; write_all(&mut sink, b"steel and lumber"), Ok(()));
-    assert_eq!(rt; whole.as_slice(), &b"steel and lumber"[..]);
+    let wrote = write_all(&mut sink, b"steel and lumber");
+    assert!(rt; (wrote, whole.as_slice()) == (Ok(()), &b"steel and lumber"[..]));
 
     let mut part = Vec::new(rt.alloc());
     let mut sink = StdSink::new(Faltering::over(&mut part));
-    assert_eq!(rt; write_all(&mut sink, b"steel"), Err(WriteFailed));
+    let stopped = write_all(&mut sink, b"steel");
     let unflushed = sink.write(b"l");
-    assert_eq!(rt; [unflushed, sink.write(b"s")], [Err(WriteFailed), Ok(1)]);
-    assert_eq!(rt; part.as_slice(), &b"steels"[..]);
+    let wrote = [unflushed, sink.write(b"s")];
+    assert!(rt; (stopped, wrote) == (Err(WriteFailed), [Err(WriteFailed), Ok(1)]));
+    assert!(rt; part.as_slice() == &b"steels"[..]);
     Ok(())
 }
 
@@ -89,7 +88,6 @@ fn writes_and_tells_a_failure(rt: HostRuntime) -> Result<(), Fail> {
 fn tells_a_write_of_nothing(rt: HostRuntime) {
     let mut room = [0u8; 2];
     let mut sink = StdSink::new(&mut room[..]);
-    assert_eq!(rt; sink.write(b"steel"), Ok(2));
-    assert_eq!(rt; sink.write(b"eel"), Err(WriteFailed));
-    assert_eq!(rt; sink.write(b""), Ok(0));
+    let wrote = [sink.write(b"steel"), sink.write(b"eel"), sink.write(b"")];
+    assert!(rt; wrote == [Ok(2), Err(WriteFailed), Ok(0)]);
 }

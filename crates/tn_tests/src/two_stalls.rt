@@ -8,7 +8,7 @@ use std::alloc::Global;
 use tn_base::{Asked, Bundle, Costs, OutOfMemory, Side, Steps, TradeSet};
 use tn_flow::Solver;
 use tn_graph::Graph;
-use tn_market::{Levied, Oracle, Outside, Party, Room, Valuation, utility_of, worth_of};
+use tn_market::{Levied, Nodes, Oracle, Outside, Party, Room, Valuation, utility_of, worth_of};
 use tn_price::{Support, support};
 use tn_range::range;
 use tn_session::Session;
@@ -16,15 +16,20 @@ use tn_session::Session;
 #[test]
 fn market_keeps_its_trades(rt: HostRuntime) {
     let market = two_stalls(rt.alloc()).expect(&rt, "memory");
-    assert!(rt; [market.firms(), market.trades()] == [2, 2]);
-    assert!(rt; market.ends(1) == ends(1, 0));
-    assert!(rt; [market.own(0, 0), market.own(0, 1)] == [1, 0]);
-    assert!(rt; [market.own(1, 0), market.own(1, 1)] == [0, 1]);
-    assert!(rt; market.firm(1).trades() == 2);
+    let counts = [market.firms(), market.trades(), market.firm(1).trades()];
+    let owns = [
+        [market.own(0, 0), market.own(0, 1)],
+        [market.own(1, 0), market.own(1, 1)],
+    ];
+    assert!(rt; (counts, owns, market.ends(1)) == ([2; 3], [[1, 0], [0, 1]], ends(1, 0)));
     let mut on = TradeSet::<1>::empty();
     on.toggle(0);
-    assert!(rt; market.bundle_of(0, &on).bits() == 2);
-    assert!(rt; market.bundle_of(1, &on).bits() == 1);
+    assert!(rt;
+        [
+            market.bundle_of(0, &on).bits(),
+            market.bundle_of(1, &on).bits()
+        ] == [2, 1]
+    );
 }
 
 /// What the stall does at these prices and a scale of 2, where it must have `need` and may have `free`.
@@ -52,11 +57,21 @@ fn best_at(
 #[tactic(auto, unfolding(tn_base::specs::Sets::meet, tn_base::specs::Sets::union))]
 fn best_bundle_of_a_stall(rt: HostRuntime) {
     let alloc = rt.alloc();
-    assert!(rt; best_at(alloc, 0, 3, 4, 4) == Ok(Some((2, 14))));
-    assert!(rt; best_at(alloc, 1, 2, 4, 4) == Ok(Some((3, 4))));
-    assert!(rt; best_at(alloc, 0, 1, -8, 4) == Ok(Some((1, 2))));
-    assert!(rt; best_at(alloc, 2, 1, 4, -40) == Ok(Some((2, -30))));
-    assert!(rt; best_at(alloc, 0, 0, -8, 40) == Ok(Some((0, 0))));
+    let found = [
+        best_at(alloc, 0, 3, 4, 4),
+        best_at(alloc, 1, 2, 4, 4),
+        best_at(alloc, 0, 1, -8, 4),
+        best_at(alloc, 2, 1, 4, -40),
+        best_at(alloc, 0, 0, -8, 40),
+    ];
+    let wanted = [
+        Ok(Some((2, 14))),
+        Ok(Some((3, 4))),
+        Ok(Some((1, 2))),
+        Ok(Some((2, -30))),
+        Ok(Some((0, 0))),
+    ];
+    assert!(rt; found == wanted);
 }
 
 /// What two bundles are worth, and the cells of the room that they are asked in.
@@ -64,8 +79,8 @@ fn best_bundle_of_a_stall(rt: HostRuntime) {
 fn bundles_of_a_stall(rt: HostRuntime) {
     let mut room = Room::new(rt.alloc()).expect(&rt, "memory");
     let both = Bundle::from_bits(3);
-    assert!(rt; worth_of(&Stall, both, &mut room) == Some(2));
-    assert!(rt; utility_of(&Stall, both, 2, &[4, 4], &mut room) == Some(4));
+    let worth = worth_of(&Stall, both, &mut room);
+    assert!(rt; [worth, utility_of(&Stall, both, 2, &[4, 4], &mut room)] == [Some(2), Some(4)]);
     let cells = room.cells();
     assert!(rt; cells.len() == 60);
     cells[59] = Some((Bundle::empty(), 7));
@@ -81,16 +96,20 @@ fn firms_made_of_a_stall(rt: HostRuntime) {
     let both = Bundle::from_bits(3);
     let taxed = Levied::new(&stall, 2, Bundle::from_bits(1), 1);
     let sold = taxed.value(Bundle::from_bits(2), &mut steps);
-    assert!(rt; [taxed.value(both, &mut steps), sold] == [Some(3), Some(10)]);
+    let taxed_worths = [taxed.value(both, &mut steps), sold];
     let member = Party::Firm(Levied::new(&stall, 1, Bundle::empty(), 0));
-    assert!(rt; member.value(both, &mut steps) == Some(2));
+    let worth = member.value(both, &mut steps);
+    assert!(rt; (taxed_worths, worth) == ([Some(3), Some(10)], Some(2)));
     let outside: Party<Stall> = Party::Outside(Outside::new(-7));
     let bought = outside.value(Bundle::from_bits(1), &mut steps);
     let sold = outside.value(Bundle::from_bits(2), &mut steps);
     assert!(rt; [bought, sold, outside.value(both, &mut steps)] == [Some(-7), Some(7), Some(0)]);
-    assert!(rt; [taxed.trades(), outside.trades()] == [2, 2]);
-    assert!(rt; [taxed.bound(), outside.bound()] == [80, 7]);
-    assert!(rt; [outside.side(0), outside.side(1)] == [Side::Buy, Side::Sell]);
+    let shapes = [
+        (taxed.trades(), taxed.bound()),
+        (outside.trades(), outside.bound()),
+    ];
+    let sides = [outside.side(0), outside.side(1)];
+    assert!(rt; (shapes, sides) == ([(2, 80), (2, 7)], [Side::Buy, Side::Sell]));
 }
 
 #[test]
@@ -105,19 +124,50 @@ fn graph_of_two_stalls(rt: HostRuntime) {
     let mut steps = Steps::new(Asked);
     graph.lay_out(&market, &none);
     graph.admit(&market, 0, &none, &one, &mut steps);
-    assert!(rt; [graph.cost(0, 2), graph.cost(2, 0)] == [Some(3), Some(-5)]);
+    let admitted = [graph.cost(0, 2), graph.cost(2, 0)];
     graph.fill(&market, &none, &mut steps);
-    assert!(rt;
-        [graph.cost(0, 0), graph.cost(0, 1), graph.cost(0, 2)] == [None, Some(-2), Some(3)]
-    );
-    assert!(rt;
-        [graph.cost(2, 0), graph.cost(2, 1), graph.cost(2, 2)] == [Some(-5), Some(-5), None]
-    );
+    let first = [graph.cost(0, 0), graph.cost(0, 1), graph.cost(0, 2)];
+    let null = [graph.cost(2, 0), graph.cost(2, 1), graph.cost(2, 2)];
+    assert!(rt; admitted == [Some(3), Some(-5)]);
+    assert!(rt; [first, null] == [[None, Some(-2), Some(3)], [Some(-5), Some(-5), None]]);
     graph.refresh(&market, &none, &one, &both, &mut steps);
-    assert!(rt; [graph.cost(0, 0), graph.cost(0, 1), graph.cost(0, 2)] == [None, None, Some(5)]);
-    assert!(rt;
-        [graph.cost(2, 0), graph.cost(2, 1), graph.cost(2, 2)] == [Some(-3), Some(-5), None]
-    );
+    let first = [graph.cost(0, 0), graph.cost(0, 1), graph.cost(0, 2)];
+    let null = [graph.cost(2, 0), graph.cost(2, 1), graph.cost(2, 2)];
+    assert!(rt; [first, null] == [[None, None, Some(5)], [Some(-3), Some(-5), None]]);
+}
+
+/// The two nodes of a walk, None where it has more or less.
+fn two_nodes(nodes: &Nodes) -> Option<[Option<u32>; 2]> {
+    if nodes.len() == 2 {
+        Some([nodes.at(0), nodes.at(1)])
+    } else {
+        None
+    }
+}
+
+/// The cost of a cycle through two nodes, and the nodes.
+fn cycle_of(support: Support) -> Option<(i128, [Option<u32>; 2])> {
+    match support {
+        Support::Cycle { nodes, cost } => match two_nodes(&nodes) {
+            Some(two) => Some((cost, two)),
+            None => None,
+        },
+        _ => None,
+    }
+}
+
+/// The prices of two trades.
+fn prices_of(support: Support) -> Option<[i128; 2]> {
+    match support {
+        Support::Supported { prices } => {
+            if prices.len() == 2 {
+                Some([prices.at(0), prices.at(1)])
+            } else {
+                None
+            }
+        }
+        _ => None,
+    }
 }
 
 /// With nothing on the two trades gain 4 together, with one on the other gains 2, and prices stand beside both.
@@ -126,28 +176,13 @@ fn prices_for_two_stalls(rt: HostRuntime) {
     let market = two_stalls(rt.alloc()).expect(&rt, "memory");
     let mut on = TradeSet::<1>::empty();
     let mut steps = Steps::new(Asked);
-    match support(rt.alloc(), &market, &on, &mut steps).expect(&rt, "memory") {
-        Support::Cycle { nodes, cost } => {
-            assert!(rt; nodes.len() == 2 && cost == -4);
-            assert!(rt; [nodes.at(0), nodes.at(1)] == [Some(0), Some(1)]);
-        }
-        _ => assert!(rt; false),
-    }
+    let none = cycle_of(support(rt.alloc(), &market, &on, &mut steps).expect(&rt, "memory"));
     on.toggle(0);
-    match support(rt.alloc(), &market, &on, &mut steps).expect(&rt, "memory") {
-        Support::Cycle { nodes, cost } => {
-            assert!(rt; nodes.len() == 2 && cost == -2);
-            assert!(rt; [nodes.at(0), nodes.at(1)] == [None, Some(1)]);
-        }
-        _ => assert!(rt; false),
-    }
+    let one = cycle_of(support(rt.alloc(), &market, &on, &mut steps).expect(&rt, "memory"));
     on.toggle(1);
-    match support(rt.alloc(), &market, &on, &mut steps).expect(&rt, "memory") {
-        Support::Supported { prices } => {
-            assert!(rt; [prices.at(0), prices.at(1)] == [-3, -3]);
-        }
-        _ => assert!(rt; false),
-    }
+    let prices = prices_of(support(rt.alloc(), &market, &on, &mut steps).expect(&rt, "memory"));
+    let cycles = [Some((-4, [Some(0), Some(1)])), Some((-2, [None, Some(1)]))];
+    assert!(rt; ([none, one], prices) == (cycles, Some([-3, -3])));
 }
 
 /// Over the prices that support both trades, which are within the ranges.
@@ -163,10 +198,9 @@ fn ranges_of_two_stalls(rt: HostRuntime) {
             let ranges = range(rt.alloc(), &market, &on, &prices, &mut steps).expect(&rt, "memory");
             assert!(rt; ranges.len() == 2);
             let second = ranges.at(1);
-            assert!(rt; [second.low, second.high] == [Some(-5), Some(-3)]);
-            assert!(rt; second.low_path.len() == 2 && second.high_path.len() == 2);
-            assert!(rt; [second.low_path.at(0), second.low_path.at(1)] == [Some(1), None]);
-            assert!(rt; [second.high_path.at(0), second.high_path.at(1)] == [None, Some(1)]);
+            let paths = [two_nodes(&second.low_path), two_nodes(&second.high_path)];
+            let wanted = [Some([Some(1), None]), Some([None, Some(1)])];
+            assert!(rt; ([second.low, second.high], paths) == ([Some(-5), Some(-3)], wanted));
         }
         _ => assert!(rt; false),
     }
@@ -178,10 +212,10 @@ fn solves_two_stalls(rt: HostRuntime) {
     let mut solver = Solver::<1>::with_room(rt.alloc(), &market).expect(&rt, "memory");
     let mut steps = Steps::new(Asked);
     solver.solve_in(&market, &mut steps);
-    assert!(rt; solver.on().has(0) && solver.on().has(1));
-    assert!(rt; [solver.price(0), solver.price(1)] == [-3, -3]);
+    let on = [solver.on().has(0), solver.on().has(1)];
+    let prices = [solver.price(0), solver.price(1)];
     solver.solve_among(&market, &TradeSet::empty(), &mut steps);
-    assert!(rt; solver.on().count() == 0);
+    assert!(rt; (on, prices, solver.on().count()) == ([true, true], [-3, -3], 0));
 }
 
 #[test]
@@ -191,17 +225,20 @@ fn admits_and_bars_two_stalls(rt: HostRuntime) {
     let mut session = Session::<Stall, 1>::begin(rt.alloc(), &market, &mut steps).expect(
         &rt, "memory",
     );
-    assert!(rt; [session.admitted().count(), session.on().count()] == [0, 0]);
+    let counts = [session.admitted().count(), session.on().count()];
     let barred = session.bar(0, &mut steps);
     let admitted = session.admit(0, &mut steps);
-    assert!(rt; [barred, admitted, session.admit(0, &mut steps)] == [false, true, false]);
+    let edited = [barred, admitted, session.admit(0, &mut steps)];
     let price = session.price(0);
     let one = [session.on().has(0), session.on().has(1)];
     let admitted = session.admit(1, &mut steps);
     let both = [session.on().has(0), session.on().has(1)];
-    assert!(rt; [one, both] == [[true, false], [true, true]]);
-    assert!(rt; [admitted, session.bar(0, &mut steps)] == [true, true]);
+    let barred = session.bar(0, &mut steps);
     let left = [session.admitted().has(0), session.admitted().has(1)];
-    assert!(rt; [left, [session.on().has(0), session.on().has(1)]] == [[false, true]; 2]);
-    assert!(rt; [price, session.price(1)] == [-3, -3]);
+    let last = [session.on().has(0), session.on().has(1)];
+    assert!(rt; (counts, edited) == ([0, 0], [false, true, false]));
+    assert!(rt; [one, both, [admitted, barred]] == [[true, false], [true; 2], [true; 2]]);
+    assert!(rt;
+        (left, last, [price, session.price(1)]) == ([false, true], [false, true], [-3, -3])
+    );
 }

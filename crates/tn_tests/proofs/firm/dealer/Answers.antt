@@ -1,4 +1,4 @@
--- What shows the clauses of `a_dealer_is_asked` of `src/firm.rt`.
+-- What shows the clauses of `dealer` of `src/firm.rt`.
 use Rattle.std.proofs.Common.{rules, ◌≡◌, List, [], ◌∷◌, length, refl, sym, subst, arith, pos}
 use Rattle.std.specs.Prelude.{All}
 use Rattle.std.proofs.lemmas.Int.{ints}
@@ -9,7 +9,7 @@ use Rattle.tn_base.specs.declared.side.Side.{Side}
 use Rattle.tn_base.specs.declared.side.Side.TheVariants.{Buy, Sell}
 use Rattle.tn_dealer.specs.declared.pair.Pair.{Pair}
 use Rattle.tn_dealer.specs.Pairs.{IsOwnPair}
-use Rattle.tn_tests.proofs.firm.a_dealer_is_asked.Goals as goal
+use Rattle.tn_tests.proofs.firm.dealer.Goals as goal
 
 abbrev one_pair : Pair
 one_pair = record { buy = 0; sell = 1; cost = pos 2 }
@@ -32,7 +32,7 @@ list_own sides pairs sides_is pairs_is =
     (All-nil (IsOwnPair 2 1))))
 
 pub new-requires-clause-own : goal.new-requires-clause-own
-new-requires-clause-own g c =
+new-requires-clause-own c =
     let sides : c.in_ok-sides.sides.items ≡ Buy ∷ Sell ∷ [] = search rules in
     let pairs : c.in_ok-pairs.pairs.items ≡ one_pair ∷ [] = search rules in
     list_own c.in_ok-sides.sides.items c.in_ok-pairs.pairs.items sides pairs
