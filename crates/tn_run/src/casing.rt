@@ -58,7 +58,10 @@ fn passes<const N: usize>(alloc: Global, book: &CaseBook<N>, k: usize) -> Result
 {
     let one = book.case(k);
     let (said, names) = answer_case(alloc, one)?;
-    is_told(alloc, book, k, &names, &said, case_layout(one.command))
+    let told = is_told(alloc, book, k, &names, &said, case_layout(one.command));
+    drop(said);
+    drop(names);
+    told
 }
 
 /// Runs each case's command on its document, and lists the numbers, from 1, of the cases that fail, ascending. What

@@ -67,6 +67,6 @@ pub fn run_to_exit<S: Source, K: Sink>(
 {
     match lines_command_of(words) {
         Some(command) => ExitCode::from(run_lines(alloc, command, source, sink)),
-        None => ExitCode::from(run_market(alloc, words, source, sink).status),
+        None => ExitCode::from(run_market(alloc, words, source, sink).into_status()),
     }
 }

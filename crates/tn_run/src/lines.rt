@@ -90,14 +90,15 @@ pub(crate) fn run_lines<S: Source, K: Sink>(
         match next_answer(alloc, command, &mut reader, source) {
             Ok(None) => return status,
             Ok(Some((said, names))) => {
-                let answer = tell(alloc, &names, said, Layout::Object, sink).status;
+                let answer = tell(alloc, &names, said, Layout::Object, sink).into_status();
+                drop(names);
                 if answer == WRITE_FAILED {
                     return WRITE_FAILED;
                 }
                 status = with_status(status, answer);
             }
             Err(ReadFailed) => {
-                return write_line(sink, read_fault_text(), Said::ReadFault).status;
+                return write_line(sink, read_fault_text(), Said::ReadFault).into_status();
             }
         }
     }

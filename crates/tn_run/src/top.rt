@@ -36,6 +36,19 @@ pub struct Run {
     pub said: Said,
 }
 
+impl Run {
+    ghost use Rattle.std.specs.Prelude.{◌≡◌};
+
+    /// The status alone. The answer is dropped here, so that no caller's proof has to follow how.
+    pub fn into_status(self) -> u8
+        ensures { result ≡ self.status }
+    {
+        let status = self.status;
+        drop(self);
+        status
+    }
+}
+
 /// The exit status of an answer that was written whole.
 pub fn status_of(said: &Said) -> u8
     ensures { result ≡ status_of said.now }
@@ -111,7 +124,10 @@ pub(crate) fn tell<K: Sink>(
         Said::NoMemory => write_line(sink, no_memory_text(), said),
         said => match answer_text(alloc, names, &said, layout) {
             Ok(text) => write_line(sink, &text, said),
-            Err(OutOfMemory) => write_line(sink, no_memory_text(), Said::NoMemory),
+            Err(OutOfMemory) => {
+                drop(said);
+                write_line(sink, no_memory_text(), Said::NoMemory)
+            }
         },
     }
 }
@@ -242,7 +258,8 @@ pub fn run_market<S: Source, K: Sink>(
         result.said }
     ensures within { IsWithinClaims result.said }
 {
-    let (run, _names) = run_with(alloc, words, source, sink);
+    let (run, names) = run_with(alloc, words, source, sink);
+    drop(names);
     run
 }
 

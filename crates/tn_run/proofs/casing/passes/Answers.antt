@@ -11,8 +11,8 @@ use Rattle.tn_run.proofs.casing.passes.Goals as goal
 pub returns : goal.returns
 returns g c =
     let found = slice_get c.args.book.now c.args.k in
-    run_decides found (case_data c.case-one.result.now) c.in_ok-said.names c.in_ok-said.said c.is_told.result
+    run_decides found (case_data c.case-one.result.now) c.in_ok-said.names c.in_ok-said.said c.is_told-told.result
     c.case-one.ensures.case c.in_ok-said.ensures.answer
-    (subst (λ (layout : Layout). IfOk c.is_told.result (λ agrees. Some agrees
+    (subst (λ (layout : Layout). IfOk c.is_told-told.result (λ agrees. Some agrees
     ≡ option_map (agrees_with (status_of c.in_ok-said.said)
-    (answer_line layout c.in_ok-said.names c.in_ok-said.said)) found)) c.case_layout.ensures c.is_told.ensures)
+    (answer_line layout c.in_ok-said.names c.in_ok-said.said)) found)) c.case_layout.ensures c.is_told-told.ensures)

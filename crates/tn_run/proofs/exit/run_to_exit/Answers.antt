@@ -39,12 +39,12 @@ returns-in-None-clause-answer g c =
       λ command all is told quiet_source quiet_sink.
           subst (λ (status : ℕ). AnswersAll command (layout_of (map string_bytes c.args.words.now)) all
           (g.K.Sink.written c.args.sink.now) (g.K.Sink.written c.run_market.new.sink) answers.0 run.said status)
-          (sym c.from-in-None.ensures)
+          (sym (c.from-in-None.ensures ∙ c.into_status.ensures))
           (answers.2 command all is told quiet_source quiet_sink),
       c.run_market.ensures.within,
       subst
           (λ (status : ℕ). IsWritten (g.K.Sink.written c.args.sink.now) (g.K.Sink.written c.run_market.new.sink)
           (g.K.Sink.faults c.args.sink.now) (g.K.Sink.faults c.run_market.new.sink)
           (layout_of (map string_bytes c.args.words.now)) answers.0 run.said status)
-          (sym c.from-in-None.ensures) answers.3,
+          (sym (c.from-in-None.ensures ∙ c.into_status.ensures)) answers.3,
     )

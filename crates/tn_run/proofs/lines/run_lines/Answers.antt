@@ -1,5 +1,5 @@
 -- What shows the clauses of `run_lines` of `src/lines.rt`.
-use Rattle.std.proofs.Common.{ap, arith, ◌∙◌, inl}
+use Rattle.std.proofs.Common.{ap, arith, ◌∙◌, inl, sym}
 use Rattle.tn_answer.specs.declared.layout.Layout.TheVariants.{Object}
 use Rattle.tn_names.specs.Names.{no_names}
 use Rattle.tn_run.proofs.LinedLemmas.{Rose_later, all_turns, may_run_out, one_more, read_failed, whole_answer, with_status, write_failed}
@@ -12,12 +12,13 @@ returns-then-answer-eq-WRITE_FAILED g c = write_failed c.args.command _ _ _ _ _ 
       source_last = g.S.Source.faults c.next_answer.new.source;
       sink_first = g.K.Sink.faults c.args.sink.now;
       sink_middle = g.K.Sink.faults c.loop-turn.sink;
-      sink_last = g.K.Sink.faults c.tell-answer.new.sink;
+      sink_last = g.K.Sink.faults c.tell.new.sink;
     })
-    c.in-Ok-Some.names c.tell-answer.result.said c.loop-turn.invariant.so_far
-    (may_run_out c.args.command _ _ c.in-Ok-Some.names c.in-Ok-Some.said c.tell-answer.result.said
-    (rw c.in-Ok-Some.field-0-is at c.in-Ok-Some.ensures.answer) c.tell-answer.ensures.said)
-    c.loop-turn.invariant.sink_later c.tell-answer.ensures.written c.if-answer-eq-WRITE_FAILED.true
+    c.in-Ok-Some.names c.tell.result.said c.loop-turn.invariant.so_far
+    (may_run_out c.args.command _ _ c.in-Ok-Some.names c.in-Ok-Some.said c.tell.result.said
+    (rw c.in-Ok-Some.field-0-is at c.in-Ok-Some.ensures.answer) c.tell.ensures.said)
+    c.loop-turn.invariant.sink_later c.tell.ensures.written
+    (sym c.into_status-answer.ensures ∙ c.if-answer-eq-WRITE_FAILED.true)
 
 pub returns-in-Err : goal.returns-in-Err
 returns-in-Err g c = read_failed c.args.command _ _ _ _ _ _ _ _
@@ -30,18 +31,19 @@ returns-in-Err g c = read_failed c.args.command _ _ _ _ _ _ _ _
     })
     c.loop-turn.invariant.so_far (Rose_later _ _ _ c.loop-turn.invariant.source_later c.in-Err.ensures.failed)
     c.loop-turn.invariant.sink_later
-    (c.write_line.ensures.written Object no_names (c.read_fault_text.ensures Object no_names))
+    (rw c.into_status.ensures (c.write_line.ensures.written Object no_names (c.read_fault_text.ensures Object no_names)))
 
 pub loop-turn-preserved : goal.loop-turn-preserved
 loop-turn-preserved g c =
-    let whole = whole_answer _ _ _ _ c.in-Ok-Some.names c.tell-answer.result.said c.tell-answer.result.status
-    c.tell-answer.ensures.written c.if-answer-eq-WRITE_FAILED.false in
+    let whole = whole_answer _ _ _ _ c.in-Ok-Some.names c.tell.result.said c.tell.result.status
+    c.tell.ensures.written (rw c.into_status-answer.ensures at c.if-answer-eq-WRITE_FAILED.false) in
     record {
-      so_far = one_more c.args.command _ _ _ c.in-Ok-Some.names c.tell-answer.result.said _ _ _ _ _ _
+      so_far = one_more c.args.command _ _ _ c.in-Ok-Some.names c.tell.result.said _ _ _ _ _ _
           c.loop-turn.invariant.so_far
-          (may_run_out c.args.command _ _ c.in-Ok-Some.names c.in-Ok-Some.said c.tell-answer.result.said
-          (rw c.in-Ok-Some.field-0-is at c.in-Ok-Some.ensures.answer) c.tell-answer.ensures.said)
-          whole.grown (c.with_status-status.ensures ∙ ap (with_status c.loop-turn.status) whole.status_is);
+          (may_run_out c.args.command _ _ c.in-Ok-Some.names c.in-Ok-Some.said c.tell.result.said
+          (rw c.in-Ok-Some.field-0-is at c.in-Ok-Some.ensures.answer) c.tell.ensures.said)
+          whole.grown (c.with_status-status.ensures
+          ∙ ap (with_status c.loop-turn.status) (c.into_status-answer.ensures ∙ whole.status_is));
       source_later = omega arith;
       sink_later = omega arith;
     }
