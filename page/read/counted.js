@@ -1,12 +1,12 @@
-// A document in which money is counted in parts: all numbers of firms are some times as large, so that prices over a
-// denominator are whole.
+// A document in which a firm counts money in parts: all its numbers are some times as large, so that prices over a denominator
+// are whole to it.
 import {itemsOf, isObject, Network} from "./network.js";
 import {written} from "./json.js";
 
-/** The document of a network with its money counted in parts, of which this many are 1. */
-export function countedIn(network, parts) {
+/** The document of a network in which a firm of some name counts in parts, of which this many are 1. */
+export function countedBy(network, name, parts) {
     if (parts === 1n) return network;
-    const firms = itemsOf(network.data.firms).map((firm) => (isObject(firm) ? firmIn(firm, parts) : firm));
+    const firms = itemsOf(network.data.firms).map((firm) => (isObject(firm) && firm.name === name ? firmIn(firm, parts) : firm));
     return new Network(written({...network.data, firms}));
 }
 

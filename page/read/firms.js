@@ -1,6 +1,6 @@
 // What bundles are worth, asked of the program: all numbers that no answer has come from its command `firms`, which is asked
 // about the document with another arrangement.
-import {countedIn} from "./counted.js";
+import {countedBy} from "./counted.js";
 import {plain, parse} from "./json.js";
 import {gcd, objectOf, withMember} from "./network.js";
 
@@ -74,17 +74,18 @@ export async function keeping(ask, network, {firm, keeps}) {
 /**
  * What the firms of contracts that block have by what is signed, and could have with the new ones, as a Map from each to
  * `{now, then, over, keeps}`: utilities as numerators over the denominator of all prices together, and the signed trades that
- * go on. Each firm is asked for a best bundle in the document counted over that denominator, with no trade wanted that has no
- * contract. Where that document passes a limit there are no numbers, which are null then, and nothing is known to be left.
+ * go on. Each firm is asked for a best bundle in a document in which it counts over that denominator, with no trade wanted that
+ * has no contract. Where its numbers pass a limit then, there are none, but null, and nothing is known to be left.
  */
 export async function gains(ask, network, said) {
-    const over = common(network.outcome.over, said.over), counted = countedIn(network, over);
+    const over = common(network.outcome.over, said.over);
     const signed = timesOf(network.outcome.contracts, over / network.outcome.over);
     const all = new Map([...signed, ...timesOf(said.contracts, over / said.over)]);
     const firms = new Set(said.contracts.flatMap(([name]) => [network.trade(name).seller, network.trade(name).buyer]));
     const found = new Map();
     for (const firm of ask === null ? [] : firms) {
-        const line = (await linesAt(ask, counted, [...signed.keys()], offered(network, firm, all)))?.get(firm);
+        const lines = await linesAt(ask, countedBy(network, firm, over), [...signed.keys()], offered(network, firm, all));
+        const line = lines?.get(firm);
         const isKnown = line !== undefined && line.worth !== null, best = isKnown ? line.best : network.own(firm, [...signed.keys()]);
         const [now, then] = isKnown ? [line.worth + paid(network, firm, line.has, signed), line.best_utility] : [null, null];
         found.set(firm, {now, then, over, keeps: best.filter((name) => signed.has(name))});

@@ -56,9 +56,18 @@ test("every firm that signs a contract that blocks, or loses one, is told with w
 });
 
 test("a firm whose numbers are too large to be counted in parts is told without any", {skip}, async () => {
-    const firms = [{name: "S", kind: "laminar", amounts: [["a", -900000000]]}, {name: "B", kind: "laminar", amounts: [["a", 900000001]]}];
+    const large = [["a", -900000000]], firms = [{name: "S", kind: "laminar", amounts: large}, {name: "B", kind: "table", rows: [[["a"], 900000001]]}];
     const {network, said} = await judged({version: 1, firms, trades: [{name: "a", seller: "S", buyer: "B"}], outcome: {over: 1, contracts: []}});
     const {steps} = await storyOf(network, said, ask);
     assert.match(steps[0].says, /What S has and would have, .* 1\/3 its numbers are larger .* What B has/);
     assert.deepEqual([...steps.at(-1).below], [["S", ["unknown"]], ["B", ["unknown"]]]);
+});
+
+test("and the numbers of another firm of the chain are told", {skip}, async () => {
+    const firms = [{name: "S", kind: "laminar", amounts: [["a", -900000000]]}, {name: "M", kind: "middleman", costs: [["a", 1]], gains: [["b", 899999990]]},
+        {name: "B", kind: "laminar", amounts: [["b", 20]]}];
+    const trades = [{name: "a", seller: "S", buyer: "M"}, {name: "b", seller: "M", buyer: "B"}];
+    const {network, said} = await judged({version: 1, firms, trades, outcome: {over: 1, contracts: []}});
+    const below = new Map((await storyOf(network, said, ask)).steps.at(-1).below);
+    assert.deepEqual([below.get("S"), below.get("M"), below.get("B")[0]], [["unknown"], ["unknown"], "has 0"]);
 });
