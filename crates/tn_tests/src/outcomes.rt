@@ -8,7 +8,6 @@ ghost use Rattle.tn_tests.specs.Stall.{trade_between};
 
 use crate::stalls::{both_sold, ends, nothing_signed, sold_at_4, two_stalls};
 use std::alloc::Global;
-use std::test::Fail;
 use tn_base::{Asked, Bundle, Costs, OutOfMemory, Steps, TradeSet};
 use tn_cert::{Replayed, replay};
 use tn_chain::{chain_scale, reduced_graph};
@@ -44,10 +43,51 @@ fn reduced_worths_of_two_stalls(rt: HostRuntime) {
 fn reduced_graph_of_two_stalls(rt: HostRuntime) {
     let market = two_stalls(rt.alloc()).expect(&rt, "memory");
     let outcome = nothing_signed(rt.alloc());
-    assert!(rt; chain_scale(&outcome.contracts, 2) == 5);
+    let scale = chain_scale(&outcome.contracts, 2);
     let graph = reduced_graph(rt.alloc(), &market, &outcome).expect(&rt, "memory");
-    assert!(rt; [graph.cost(2, 0), graph.cost(0, 2)] == [Some(-5), Some(3)]);
-    assert!(rt; [graph.cost(0, 1), graph.cost(2, 2)] == [Some(-2), None]);
+    let costs = [
+        graph.cost(2, 0),
+        graph.cost(0, 2),
+        graph.cost(0, 1),
+        graph.cost(2, 2),
+    ];
+    assert!(rt; (scale, costs) == (5, [Some(-5), Some(3), Some(-2), None]));
+}
+
+/// The firm that drops contracts, the bundle that it keeps, and what it gains.
+fn drops_of(judged: Judged) -> Option<(u32, u64, Option<i128>)> {
+    match judged {
+        Judged::Drops { firm, keeps, gain } => Some((firm, keeps.bits(), gain)),
+        _ => None,
+    }
+}
+
+/// The prices that complete an outcome of two trades.
+fn prices_of(judged: Judged) -> Option<[i128; 2]> {
+    match judged {
+        Judged::Completes { prices } => {
+            if prices.len() == 2 {
+                Some([prices.at(0), prices.at(1)])
+            } else {
+                None
+            }
+        }
+        _ => None,
+    }
+}
+
+/// Over what the prices of contracts that block are, and the price of the first.
+fn first_blocking(judged: Judged) -> Option<(i128, i128)> {
+    match judged {
+        Judged::Blocks { contracts, over } => {
+            if contracts.len() == 0 {
+                None
+            } else {
+                Some((over, contracts.at(0).price))
+            }
+        }
+        _ => None,
+    }
 }
 
 /// The buyer, to whom the thing is worth -3, would drop its contract at 4, and have 7 more. With both trades at -4 each
@@ -59,27 +99,14 @@ fn verdicts_on_three_outcomes(rt: HostRuntime) {
     let market = two_stalls(alloc).expect(&rt, "memory");
     let mut steps = Steps::new(Asked);
     let outcome = sold_at_4(alloc).expect(&rt, "memory");
-    match judge(alloc, &market, &outcome, &mut steps).expect(&rt, "memory") {
-        Judged::Drops { firm, keeps, gain } => {
-            assert!(rt; firm == 1 && keeps == Bundle::empty() && gain == Some(7));
-        }
-        _ => assert!(rt; false),
-    }
+    let drops = drops_of(judge(alloc, &market, &outcome, &mut steps).expect(&rt, "memory"));
     let outcome = both_sold(alloc).expect(&rt, "memory");
-    match judge(alloc, &market, &outcome, &mut steps).expect(&rt, "memory") {
-        Judged::Completes { prices } => {
-            assert!(rt; prices.len() == 2 && prices.at(0) == -4 && prices.at(1) == -4);
-        }
-        _ => assert!(rt; false),
-    }
+    let prices = prices_of(judge(alloc, &market, &outcome, &mut steps).expect(&rt, "memory"));
+    assert!(rt; (drops, prices) == (Some((1, 0, Some(7))), Some([-4, -4])));
     let outcome = nothing_signed(alloc);
-    match judge(alloc, &market, &outcome, &mut steps).expect(&rt, "memory") {
-        Judged::Blocks { contracts, over } => {
-            assert!(rt; over == 5 && 0 < contracts.len());
-            let price = contracts.at(0).price;
-            assert!(rt; -24 <= price && price <= -16);
-        }
-        _ => assert!(rt; false),
+    match first_blocking(judge(alloc, &market, &outcome, &mut steps).expect(&rt, "memory")) {
+        Some((over, price)) => assert!(rt; over == 5 && -24 <= price && price <= -16),
+        None => assert!(rt; false),
     }
 }
 
@@ -120,25 +147,41 @@ fn replayed(alloc: Global, claim: Claim) -> Result<Replayed, OutOfMemory>
     replay(alloc, &market, &claim, &mut Steps::new(Asked))
 }
 
+/// What replay says of a claim: that it is valid, or the reason against it with its number.
+fn verdict_of(said: Replayed) -> Option<(&'static str, i128)> {
+    match said {
+        Replayed::Valid => Some(("valid", 0)),
+        Replayed::Invalid(Reason::Surplus { surplus }) => Some(("surplus", surplus)),
+        Replayed::Invalid(Reason::Cost { cost }) => Some(("cost", cost)),
+        _ => None,
+    }
+}
+
+/// What is said of the equilibrium with both trades on and this surplus.
+fn both_on_replayed(
+    alloc: Global,
+    surplus: i128,
+) -> Result<Option<(&'static str, i128)>, OutOfMemory>
+    requires { IsNumberWithin surplus }
+{
+    let claim = both_on(alloc, surplus)?;
+    Ok(verdict_of(replayed(alloc, claim)?))
+}
+
+/// What is said of the cycle that puts trade 0 on at this cost.
+fn round_replayed(alloc: Global, cost: i128) -> Result<Option<(&'static str, i128)>, OutOfMemory>
+    requires { IsNumberWithin cost }
+{
+    let claim = round(alloc, cost)?;
+    Ok(verdict_of(replayed(alloc, claim)?))
+}
+
 /// In the equilibrium each stall has 2, and would do no better; in the cycle the seller loses -5 and the buyer 3.
 #[test]
-fn claims_are_replayed(rt: HostRuntime) -> Result<(), Fail> {
+fn claims_are_replayed(rt: HostRuntime) {
     let alloc = rt.alloc();
-    match replayed(alloc, both_on(alloc, 4)?)? {
-        Replayed::Valid => {}
-        _ => assert!(rt; false),
-    }
-    match replayed(alloc, both_on(alloc, 5)?)? {
-        Replayed::Invalid(Reason::Surplus { surplus }) => assert!(rt; surplus == 4),
-        _ => assert!(rt; false),
-    }
-    match replayed(alloc, round(alloc, -2)?)? {
-        Replayed::Valid => {}
-        _ => assert!(rt; false),
-    }
-    match replayed(alloc, round(alloc, -1)?)? {
-        Replayed::Invalid(Reason::Cost { cost }) => assert!(rt; cost == -2),
-        _ => assert!(rt; false),
-    }
-    Ok(())
+    let equilibria = [both_on_replayed(alloc, 4), both_on_replayed(alloc, 5)];
+    assert!(rt; equilibria == [Ok(Some(("valid", 0))), Ok(Some(("surplus", 4)))]);
+    let cycles = [round_replayed(alloc, -2), round_replayed(alloc, -1)];
+    assert!(rt; cycles == [Ok(Some(("valid", 0))), Ok(Some(("cost", -2)))]);
 }
