@@ -30,20 +30,35 @@ fn text_in(alloc: Global, sink: &SteadySink) -> Result<Vec<u8>, Fail> {
     Ok(text.to_vec(alloc)?)
 }
 
-/// The status and the written text of a run over ends that never fail.
-pub(crate) fn run_on(alloc: Global, words: &str, document: &[u8]) -> Result<(u8, Vec<u8>), Fail> {
+/// The status of a run on some words and a document, whose text goes into this sink.
+fn run_into(
+    alloc: Global,
+    words: &str,
+    document: &[u8],
+    sink: &mut SteadySink,
+) -> Result<u8, Fail> {
     let words = words_of(alloc, words)?;
     let mut source = SteadySource::new(document.to_vec(alloc)?, 100);
+    Ok(run_steadily(alloc, &words, &mut source, sink).into_status())
+}
+
+/// The status and the written text of a run over ends that never fail.
+pub(crate) fn run_on(alloc: Global, words: &str, document: &[u8]) -> Result<(u8, Vec<u8>), Fail> {
     let mut sink = SteadySink::with_room(alloc, 65_536, 10)?;
-    let status = run_steadily(alloc, &words, &mut source, &mut sink).status;
+    let status = run_into(alloc, words, document, &mut sink)?;
     Ok((status, text_in(alloc, &sink)?))
+}
+
+/// Whether a document is refused as no JSON.
+fn is_refused(alloc: Global, document: &[u8]) -> Result<bool, Fail> {
+    let (status, written) = run_on(alloc, "check", document)?;
+    Ok(status == 1 && written.as_slice() == NOT_JSON.as_bytes())
 }
 
 #[test]
 fn takes_no_document_that_is_cut(rt: HostRuntime) -> Result<(), Fail> {
     for length in 0..DEAL.len() {
-        let (status, written) = run_on(rt.alloc(), "check", &DEAL[..length])?;
-        assert!(rt; status == 1 && written.as_slice() == NOT_JSON.as_bytes());
+        assert!(rt; is_refused(rt.alloc(), &DEAL[..length])?);
     }
     Ok(())
 }
@@ -59,6 +74,19 @@ fn sink_failing(alloc: Global, room: usize, at: u64) -> Result<MemorySink, Fail>
     Ok(MemorySink::new(alloc, room, 8, [at].to_vec(alloc)?)?)
 }
 
+/// Whether a run between these ends comes to a status and writes a text.
+fn runs_to(
+    alloc: Global,
+    source: &mut MemorySource,
+    sink: &mut MemorySink,
+    status: u8,
+    text: Option<&[u8]>,
+) -> Result<bool, Fail> {
+    let words = words_of(alloc, "check")?;
+    let found = run_market(alloc, &words, source, sink).into_status();
+    Ok(found == status && Some(sink.written()) == text)
+}
+
 /// Whether a run on the deal ends with a status and writes a text, where the source fails at one call, and a sink of this
 /// room at another. Calls count from 1.
 fn ends_with(
@@ -69,11 +97,9 @@ fn ends_with(
     status: u8,
     text: Option<&[u8]>,
 ) -> Result<bool, Fail> {
-    let words = words_of(alloc, "check")?;
     let mut source = deal_failing(alloc, read)?;
     let mut sink = sink_failing(alloc, room, write)?;
-    let run = run_market(alloc, &words, &mut source, &mut sink);
-    Ok(run.status == status && Some(sink.written()) == text)
+    runs_to(alloc, &mut source, &mut sink, status, text)
 }
 
 /// A failed read is told; a failed write leaves the pieces of 8 bytes before it, and a full room what it had room for.
@@ -94,15 +120,25 @@ fn tells_a_failed_end(rt: HostRuntime) -> Result<(), Fail> {
     Ok(())
 }
 
-#[test]
-fn answers_line_by_line(rt: HostRuntime) -> Result<(), Fail> {
-    let mut lines = DEAL.to_vec(rt.alloc())?;
+/// The deal, an empty line and the deal once more.
+fn three_lines(alloc: Global) -> Result<SteadySource, Fail> {
+    let mut lines = DEAL.to_vec(alloc)?;
     lines.extend_from_slice(b"\n\n")?;
     lines.extend_from_slice(DEAL)?;
-    let mut source = SteadySource::new(lines, 100);
+    Ok(SteadySource::new(lines, 100))
+}
+
+/// How a run on these lines ends.
+fn run_lines(alloc: Global, sink: &mut SteadySink) -> Result<ExitCode, Fail> {
+    let words = words_of(alloc, "check --lines")?;
+    let mut source = three_lines(alloc)?;
+    Ok(run_to_exit(alloc, &words, &mut source, sink))
+}
+
+#[test]
+fn answers_line_by_line(rt: HostRuntime) -> Result<(), Fail> {
     let mut sink = SteadySink::with_room(rt.alloc(), 1_000, 10)?;
-    let words = words_of(rt.alloc(), "check --lines")?;
-    let exit = run_to_exit(rt.alloc(), &words, &mut source, &mut sink);
+    let exit = run_lines(rt.alloc(), &mut sink)?;
     assert!(rt; exit == ExitCode::from(1));
     let written = format!(in rt.alloc(); "{EQUILIBRIUM}{NOT_JSON}{EQUILIBRIUM}")?;
     assert!(rt; sink.written() == Some(written.as_bytes()));
