@@ -1,5 +1,7 @@
 // What is said on standard error of words that are no command, as the native program says it (crates/market/src/hint.rt): at which
 // word they stop being one, and what may have been meant.
+import {isNear} from "./read/near.js";
+
 const COMMANDS = ["check", "firms", "test", "support", "solve", "range", "session", "judge", "replay", "drill", "cases", "help", "--help",
     "--version"];
 const ALONE = ["cases", "-h", "--help", "--version"];
@@ -59,19 +61,6 @@ function isFile(word) {
 
 /** What may have been meant: the first of some words that is written nearly so. */
 function meant(word, known) {
-    const like = known.find((it) => isNear(Buffer.from(word), Buffer.from(it)));
+    const like = known.find((it) => isNear(word, it));
     return like === undefined ? "" : `: did you mean ${like}?`;
-}
-
-/** Whether two words are alike at both ends: what is between has at most two bytes, and fewer than are alike. */
-function isNear(word, known) {
-    const alike = sameAtHead(word, known) + sameAtHead(Buffer.from(word).reverse(), Buffer.from(known).reverse());
-    const between = Math.max(0, Math.max(word.length, known.length) - alike);
-    return between <= 2 && between < alike;
-}
-
-/** How many bytes two words begin with alike. */
-function sameAtHead(word, known) {
-    const end = word.findIndex((byte, k) => byte !== known[k]);
-    return end < 0 ? word.length : end;
 }

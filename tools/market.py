@@ -8,8 +8,9 @@
     market.ranges("examples/used-cars.json").frame()          # needs pandas
     market.firms("examples/used-cars.json").plot()            # needs matplotlib
 
-This file needs Python 3.9 or later and no other file; it may be copied to where it is used. It asks the program, and
-computes nothing that an answer says. docs/ANSWERS.md says what each answer means, and docs/NOTEBOOK.md has examples.
+This file needs Python 3.9 or later, and market_faults.py beside it, which says what is wrong where a document has a fault:
+the two may be copied together to where they are used. They ask the program, and compute nothing that an answer says.
+docs/ANSWERS.md says what each answer means, and docs/NOTEBOOK.md has examples.
 
 A *document* is a dictionary, the path of a file (str or PathLike), or the bytes of a document. All amounts, worths and
 prices are in the document's unit of money. They are int where they are whole, and fractions.Fraction where the outcome
@@ -40,9 +41,11 @@ from dataclasses import dataclass, field, fields
 from fractions import Fraction
 from typing import Any, ClassVar, Iterable, Iterator, Optional, Union
 
+import market_faults
+
 try:
     import served
-except ImportError:  # (a copy of this file alone has a process of the module for each question)
+except ImportError:  # (a copy of the two files has a process of the module for each question)
     served = None
 
 Document = Union[dict, str, "os.PathLike[str]", bytes]
@@ -79,16 +82,25 @@ class Fault(MarketError, ValueError):
     place: a tuple of member names (str) and indices from 0 (int) that lead to the faulty value.
     value: the value there, or ABSENT.
     said: the program's answer, a dictionary; for fault 16 it has `x`, `y` and `at` too.
+    asked: the document's bytes as the program got them.
+
+    As a text it says what stands at the place and what is wanted there. A fault is neither true nor false: in a stream
+    `yes` tells it from answers, and so does isinstance.
     """
 
-    def __init__(self, said: dict, value: Any):
-        super().__init__(said, value)
-        self.said, self.value = said, value
+    def __init__(self, said: dict, asked: bytes):
+        super().__init__(said, asked)
+        self.said, self.asked, self.value = said, asked, _value_at(_parsed(asked), said["place"])
         self.number, self.name, self.place = said["fault"], said["name"], tuple(said["place"])
 
-    def __str__(self):
+    def __str__(self) -> str:
         place = json.dumps(self.place, separators=(",", ":"))
-        return f"fault {self.number}, {self.name}, at {place}: {reprlib.repr(self.value)}"
+        sentence = market_faults.sentence(self.said, self.asked) or reprlib.repr(self.value)
+        return f"fault {self.number}, {self.name}, at {place}: {sentence}"
+
+    def __bool__(self) -> bool:
+        raise TypeError("a fault is no verdict, so it is neither true nor false: ask whether `yes` is None, or "
+                        f"isinstance(.., Fault); it is {self}")
 
 
 class Usage(MarketError, ValueError):
@@ -630,7 +642,7 @@ def _trouble(status: int, command: str, written: str, told: str, asked: bytes) -
     """What to raise where a run came to no verdict."""
     said = _parsed(written)
     if status == 1 and isinstance(said, dict) and said.get("answer") == "fault":
-        return Fault(said, _value_at(_parsed(asked), said["place"]))
+        return Fault(said, asked)
     return _CAUSES.get(status, Unexpected)(f"{command} ended with status {status}: {(written + told).strip()}")
 
 
@@ -730,13 +742,22 @@ def stream(command: str, documents: Iterable[Document], *, program=None,
     """The answers to documents, in their order, all by one process; each comes as soon as it is made.
 
     command: check, test, support, solve, range, session, judge, replay or firms.
-    documents: any iterable. A thread goes through it, some documents ahead of the answers.
+    documents: an iterable of documents, and not one document. A thread goes through it, some documents ahead of the
+    answers.
     timeout: for the answer to one document, in seconds.
 
     What is the matter with one document ends no stream: its Fault or NoMemory comes in place of the answer, with `yes`
     None. All else is raised, after the answers that came before: a MarketError has their count as `answered`; what
     `documents` raises, or for one that is none (see `ask`), is as it is. Closing the generator ends the process.
     """
+    if isinstance(documents, (str, bytes, os.PathLike, dict)):
+        raise TypeError(f"stream wants several documents, and here is one {type(documents).__name__}: write "
+                        f"stream({command!r}, [document])")
+    return _answers(command, documents, program, timeout)
+
+
+def _answers(command: str, documents: Iterable[Document], program, timeout: Optional[float]):
+    """What `stream` yields."""
     process = _started([find(program), *command.split(), "--lines"])
     sent: queue.SimpleQueue = queue.SimpleQueue()  # the documents' bytes, and at last None, or what was raised
     writer = threading.Thread(target=_write, args=(documents, process, sent), daemon=True)
@@ -817,7 +838,7 @@ def _item(said: Any, asked: bytes) -> Union[Answer, Fault, NoMemory, None]:
     """A line as an item of a stream, or None where it is no answer to a document."""
     kind = said.get("answer") if isinstance(said, dict) else None
     if kind == "fault":
-        return Fault(said, _value_at(_parsed(asked), said["place"]))
+        return Fault(said, asked)
     if kind == "no_memory":
         return NoMemory("memory ran out for this document")
     if kind == "firms":

@@ -5,11 +5,12 @@ import {say} from "../words/say.js";
 /** How deep lists and objects may stand in each other. */
 const DEEPEST = 127;
 
-/** What isn't JSON: `offset` is where it ends being so. */
+/** What isn't JSON: `offset` is where it ends being so. The message is all that is said where it `isWhole`, and else what stands there is wrong. */
 export class NotJson extends Error {
-    constructor(message, offset) {
+    constructor(message, offset, isWhole = false) {
         super(message);
         this.offset = offset;
+        this.isWhole = isWhole;
     }
 }
 
@@ -28,6 +29,7 @@ export class Numeral {
  * nodes, a text, a Numeral, a truth value or null. Throws NotJson.
  */
 export function parse(text) {
+    if (text.startsWith("\ufeff")) throw new NotJson(say("json.mark"), 0, true);
     const reader = new Reader(text);
     const value = reader.value(0);
     reader.skip();
@@ -81,7 +83,9 @@ export function textOf(bytes) {
     try {
         return new TextDecoder("utf-8", {fatal: true, ignoreBOM: true}).decode(bytes);
     } catch {
-        throw new NotJson(say("json.no_utf8"), readable(bytes).length);
+        const {length} = readable(bytes), byte = bytes[new TextEncoder().encode(readable(bytes)).length];
+        if (length === 0 && (byte === 0xff || byte === 0xfe)) throw new NotJson(say("json.utf16"), 0, true);
+        throw new NotJson(say("json.no_utf8", {byte: byte.toString(16).toUpperCase()}), length, true);
     }
 }
 

@@ -3,7 +3,8 @@
 
 const FEW = {own: 32, farthest: 32, values: 65, edits: 256, amount: 10n ** 9n, over: 10n ** 5n};
 
-const OF_VERSIONS = new Map([[1n, {most: 64, ...FEW}], [2n, {most: 128, ...FEW}],
+/** The limits by the version. */
+export const VERSIONS = new Map([[1n, {most: 64, ...FEW}], [2n, {most: 128, ...FEW}],
     [3n, {most: 1024, own: 60, farthest: 60, values: 121, edits: 2048, amount: 10n ** 7n, over: 10n ** 6n}]]);
 
 /**
@@ -12,5 +13,5 @@ const OF_VERSIONS = new Map([[1n, {most: 64, ...FEW}], [2n, {most: 128, ...FEW}]
  * largest denominator of a claim.
  */
 export function limitsOf(network) {
-    return OF_VERSIONS.get(network.data.version) ?? OF_VERSIONS.get(1n);
+    return VERSIONS.get(network.data.version) ?? VERSIONS.get(1n);
 }

@@ -2,7 +2,7 @@
 import {extent} from "../read/standing.js";
 import {fraction, itemsOf} from "../read/network.js";
 import {say} from "../words/say.js";
-import {cause} from "./faults.js";
+import {cause, wayTo} from "./faults.js";
 import {set} from "./words.js";
 
 /** The lines below the picture of a network; none without an answer. */
@@ -46,7 +46,7 @@ const CAPTIONS = {
         return [trade ? say("caption.invalid_at", {...values, trade}) : say("caption.invalid", values)];
     },
     fault: ({fault, name, place}) => {
-        const at = place.length > 0 ? [say("caption.fault_at", {place: place.join(" / ")})] : [];
+        const at = place.length > 0 ? [say("caption.fault_at", {place: wayTo(place)})] : [];
         return [say("caption.fault", {fault, name, cause: cause(fault)}), ...at];
     },
 };

@@ -1,14 +1,23 @@
-// Faults in words: what is wrong, where it stands, and of limits which one it is and what was found.
+// Faults in words: what is wrong, where it stands, and what stands there beside what is wanted. The number, the name and the place are
+// the program's; the last sentence is also what tools/market_faults.py says.
 import {find, lineAndColumn, plain} from "../read/json.js";
-import {limitsOf} from "../read/limits.js";
-import {itemsOf} from "../read/network.js";
 import {say} from "../words/say.js";
-import {large, listed} from "./words.js";
+import {limitLine, overLine, rangeLine} from "./bounds.js";
+import {bentLine, crossingLine, failsLine, noZeroLine, sameBundleLine, samePairLine, selfTradeLine} from "./parts.js";
+import {nameLine, noFirmLine, noPriceLine, notOwnLine, noTradeLine, sameTradeLine, takenLine} from "./references.js";
+import {shapeLine} from "./shape.js";
+import {large, quoted} from "./words.js";
 
 const CAUSES = ["cause.unknown", "cause.no_json", "cause.too_long", "cause.shape", "cause.name", "cause.taken",
     "cause.no_firm", "cause.itself", "cause.no_trade", "cause.too_many", "cause.number", "cause.not_its",
     "cause.same_bundle", "cause.at_zero", "cause.crosses", "cause.concave", "cause.exchange", "cause.twice",
     "cause.no_price", "cause.denominator", "cause.same_pair"];
+
+/** The sentence about the value at the place of a fault, by the fault's number. */
+const LINES = {4: nameLine, 5: takenLine, 6: noFirmLine, 7: selfTradeLine, 8: noTradeLine, 9: limitLine, 10: rangeLine, 11: notOwnLine,
+    12: sameBundleLine, 13: noZeroLine, 14: crossingLine, 15: bentLine, 16: failsLine, 17: sameTradeLine, 19: overLine, 20: samePairLine};
+
+const MOST_BYTES = 4194304;
 
 /** What a fault says, by its number. */
 export function cause(fault) {
@@ -16,77 +25,45 @@ export function cause(fault) {
 }
 
 /** A fault in sentences. */
-export function faultLines(network, {fault, name, place}) {
-    const found = network.problem ? null : find(network.root, place);
+export function faultLines(network, said) {
+    const {fault, name, place} = said, found = network.problem ? null : find(network.root, place);
     return [say("fault.head", {cause: cause(fault), fault, name}), whereIs(network, fault, place, found),
-        detail(network, Number(fault), place, found)].filter(Boolean);
+        foundLine(network, said, found)].filter(Boolean);
 }
 
-function way(place) {
-    return place.map((step) => typeof step === "bigint" ? say("fault.item", {step})
-        : String(step)).join(say("fault.then"));
+/** A place in words. A text behind `prices` is a trade, and any other text a member. */
+export function wayTo(place) {
+    return place.map((step, k) => typeof step === "bigint" ? say("fault.item", {step})
+        : place[k - 1] === "prices" ? say("fault.trade", {trade: step}) : step).join(say("fault.then"));
 }
 
 function whereIs(network, fault, place, found) {
-    const at = place.length === 0 ? say("fault.at_whole") : say("fault.at", {way: way(place)});
-    if (fault === 2n) return at;
-    const values = lineAndColumn(network.text, network.problem ? network.problem.offset : found.node.start);
-    if (network.problem) return say("fault.problem", {...values, problem: network.problem.message});
-    if (place.length === 0) return at;
-    return say(found.whole ? "fault.at_line" : "fault.lacking", {...values, way: way(place)});
+    if (fault === 1n || fault === 2n) return null;
+    if (place.length === 0) return say("fault.at_whole");
+    if (network.problem) return say("fault.at", {way: wayTo(place)});
+    return say(found.whole ? "fault.at_line" : "fault.lacking", {...lineAndColumn(network.text, found.node.start), way: wayTo(place)});
 }
 
-/** What was found, beside what is wanted. */
-function detail(network, fault, place, found) {
-    const value = found?.whole ? plain(found.node) : undefined;
-    if (fault === 2) return say("fault.length", {length: large(new TextEncoder().encode(network.text).length)});
-    if (value === undefined) return null;
-    if (fault === 3) return shapeOf(found.node);
-    if (fault === 4) return say("fault.name_rule", {name: quoted(value)});
-    if ([5, 6, 8, 11, 17].includes(fault)) return say("fault.the_name", {name: quoted(value)});
-    if (fault === 9) return limitOf(network, place, value);
-    if (fault === 10) return say("fault.number_range", {value, most: large(rangeOf(network, place))});
-    if (fault !== 19) return null;
-    return place[0] === "claim" ? say("fault.claim_over", {value, most: large(limitsOf(network).over)})
-        : say("fault.outcome_over", {value});
+/** What stands at the place, and what is wanted there. */
+function foundLine(network, said, found) {
+    const fault = Number(said.fault);
+    if (fault === 1) return network.problem && problemLine(network);
+    if (fault === 2) return lengthLine(network);
+    if (found === null) return null;
+    if (fault === 3) return shapeLine(network, said.place, found);
+    if (fault === 18) return noPriceLine(network, said.place);
+    return found.whole && Object.hasOwn(LINES, fault) ? LINES[fault](network, said.place, plain(found.node), said) : null;
 }
 
-function quoted(value) {
-    return JSON.stringify(typeof value === "string" ? value : String(value));
+/** Where the text ends being JSON, and what stands there. */
+function problemLine({text, problem}) {
+    const values = {...lineAndColumn(text, problem.offset), problem: problem.message}, [sign] = text.slice(problem.offset).match(/^([\w.+-]{1,20}|.)/su) ?? [];
+    if (problem.isWhole) return say("fault.problem", values);
+    return sign === undefined ? say("fault.problem_end", values) : say("fault.problem_at", {...values, found: sign < " " ? quoted(sign) : `\`${sign}\``});
 }
 
-function shapeOf({kind, value}) {
-    if (kind === "object") return value.size === 0 ? say("shape.empty")
-        : say("shape.object", {members: listed([...value.keys()])});
-    if (kind === "list") return say("shape.list", {length: value.length});
-    if (kind === "number") return say("shape.number", {number: value});
-    return kind === "text" ? say("shape.text", {text: quoted(value)})
-        : say(kind === "truth" ? "shape.truth" : "shape.null");
-}
-
-/** The limits of lists and numbers, by the member that has them. */
-const LIMITS = {firms: "limit.firms", trades: "limit.trades", edits: "limit.edits", nodes: "limit.nodes",
-    sets: "limit.sets", values: "limit.values", from: "limit.from", rows: "limit.rows"};
-
-/** The limits of how many trades a firm has, by its kind. */
-const OF_KINDS = {table: "limit.table", laminar: "limit.laminar", middleman: "limit.middleman", dealer: "limit.dealer"};
-
-/** The limit that a count or a number keeps, by where it stands. */
-function limitOf(network, place, value) {
-    const limits = limitsOf(network), last = place[place.length - 1];
-    const firm = place[0] === "firms" && place.length > 1 ? network.firms[Number(place[1])] : null;
-    const own = firm ? network.trades.filter(({seller, buyer}) => seller === firm.name || buyer === firm.name).length
-        : 0;
-    const values = {value, count: itemsOf(value).length, version: String(network.data.version), own,
-        most: limits.most, most_own: limits.own, nodes: limits.most + 1, farthest: limits.farthest,
-        most_values: limits.values, most_edits: limits.edits, bundles: large(2 ** own - 1)};
-    if (Object.hasOwn(LIMITS, last)) return say(LIMITS[last], values);
-    return firm && Object.hasOwn(OF_KINDS, firm.kind) ? say(OF_KINDS[firm.kind], {...values, count: own}) : null;
-}
-
-/** The largest number at a place. */
-function rangeOf(network, [part, member]) {
-    if (part === "firms") return limitsOf(network).amount;
-    if (part === "claim") return member === "plan" ? limitsOf(network).over : 10n ** 18n;
-    return 10n ** (part === "outcome" ? 11n : 14n);
+/** How long the document is; of one that is no UTF-8 only its beginning is kept, and its length isn't known. */
+function lengthLine({text}) {
+    const length = new TextEncoder().encode(text).length;
+    return length > MOST_BYTES ? say("fault.length", {length: large(length)}) : say("fault.too_long");
 }

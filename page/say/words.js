@@ -2,6 +2,8 @@
 import {standing} from "../read/standing.js";
 import {say} from "../words/say.js";
 
+const MOST_SIGNS = 40, MOST_NAMES = 8;
+
 /** Words in a list: "a, b and c". */
 export function listed(words) {
     if (words.length === 0) return say("list.none");
@@ -11,6 +13,23 @@ export function listed(words) {
 
 export function set(names) {
     return `{${names.join(", ")}}`;
+}
+
+/** A text of a document as it is named in sentences: between marks, and not at length. */
+export function quoted(value) {
+    const signs = [...JSON.stringify(String(value)).slice(1, -1)];
+    return `\`${signs.length > MOST_SIGNS ? `${signs.slice(0, MOST_SIGNS).join("")}..` : signs.join("")}\``;
+}
+
+/** A number as it is written, and not at length. */
+export function numeral(value) {
+    return quoted(value).slice(1, -1);
+}
+
+/** Names in a list, the first of them where there are many. */
+export function some(names) {
+    const few = names.slice(0, MOST_NAMES).map(quoted);
+    return names.length <= MOST_NAMES ? listed(few) : say("list.more", {names: few.join(", "), rest: names.length - MOST_NAMES});
 }
 
 /** A whole number with its digits in threes. */

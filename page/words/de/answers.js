@@ -1,7 +1,7 @@
 // What is said of answers: trades and prices, changes, equilibria, stories, ranges and sessions. `does` is what a firm
 // does, and stands behind its name; `do` and `acts` are infinitives behind "würde"; `trades` are a list.
 export const ANSWERS = {
-    list: {none: "nichts", some: "{most} und {last}", thousands: ".", no_trade: "kein Geschäft"},
+    list: {none: "nichts", some: "{most} und {last}", more: "{names} und {rest} weitere", thousands: ".", no_trade: "kein Geschäft"},
     extent: {
         any: "jeder Preis", from_to: "{low} bis {high}", or_less: "{high} oder weniger", or_more: "{low} oder mehr",
     },

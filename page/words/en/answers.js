@@ -1,7 +1,7 @@
 // What is said of answers: trades and prices, changes, equilibria, stories, ranges and sessions. `does` is what a firm
 // does, and stands behind its name; `do` and `acts` are the same behind "would"; `trades` are a list.
 export const ANSWERS = {
-    list: {none: "nothing", some: "{most} and {last}", thousands: ",", no_trade: "no trade"},
+    list: {none: "nothing", some: "{most} and {last}", more: "{names} and {rest} more", thousands: ",", no_trade: "no trade"},
     extent: {any: "any price", from_to: "{low} to {high}", or_less: "{high} or less", or_more: "{low} or more"},
     deal: {
         nothing: "Nothing is traded.", nothing_signed: "Nothing is signed.", signed: "Signed: {contracts}.",

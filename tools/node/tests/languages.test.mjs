@@ -120,7 +120,7 @@ test("every answer to an example is told and drawn in each language, with the sa
             const numbers = ({lines}) => lines.map(numbersIn);
             assert.deepEqual(numbers(de), numbers(en), `${name} ${command}`);
             assert.doesNotMatch([...de.lines, ...de.drawn].join("\n"), /undefined|\[object|NaN/, `${name} ${command}`);
-            for (const line of de.lines) assert.doesNotMatch(line, ENGLISH, `${name} ${command}`);
+            for (const line of de.lines) assert.doesNotMatch(line.replace(/`[^`]*`/g, ""), ENGLISH, `${name} ${command}`);
         }
     }
     return undefined;

@@ -24,8 +24,8 @@ test("every answer to an example is told in sentences", {skip}, async () => {
             belongs(network, said);
             await isSo(network, said, ask);
             const lines = await explain(network, said, hasFirms ? ask : null);
-            for (const line of lines) assert.match(line, /^(  )?\S.*[.:]$/, `${name} ${command}`);
-            assert.doesNotMatch(lines.join(" "), /undefined|\[object|NaN|\?/, `${name} ${command}`);
+            for (const line of lines) assert.match(line, /^(  )?\S.*[.:?]$/, `${name} ${command}`);
+            assert.doesNotMatch(lines.join(" "), /undefined|\[object|NaN|(^| )\?/, `${name} ${command}`);
         }
     }
 });
@@ -71,22 +71,22 @@ test("limits that are told are those of FORMAT, for each version", () => {
 test("a fault is told with its limit and its place in the text", async () => {
     const trades = JSON.stringify({version: 2, firms: [], trades: Array(246).fill({})}).replace('"trades"', '\n"trades"');
     const lines = await explain(new Network(trades), readAnswer('{"answer":"fault","fault":9,"name":"Limit","place":["trades"]}'), null);
-    assert.deepEqual(lines.slice(1), ["It is found at trades: line 2, column 10.", "246 trades; a document of version 2 has at most 128."]);
+    assert.deepEqual(lines.slice(1), ["It is found at trades: line 2, column 10.", "246 trades; a document of version 2 has at most 128. Version 3 has room for 1,024."]);
     const {trades: pairs, ...rest} = {version: 3, firms: [{name: "S", kind: "laminar", sets: [{trades: [], from: 61, values: Array(122).fill(0)}]}, {name: "B", kind: "dealer"}],
         trades: Array.from({length: 61}, (_, k) => ({name: `t${k}`, seller: "S", buyer: "B"})), edits: Array(2049).fill(["bar", "*"])};
     const large = new Network(JSON.stringify({...rest, trades: pairs})), place = (...steps) => JSON.stringify(steps);
     for (const [at, wanted] of [[place("firms", 1), "61 trades; a dealer in a document of version 3 has at most 60."],
         [place("firms", 0, "sets", 0, "from"), "61; a set in a document of version 3 begins from -60 to 60."],
         [place("firms", 0, "sets", 0, "values"), "122 values; a set in a document of version 3 has at most 121."],
-        [place("edits"), "2049 edits; a document of version 3 has at most 2048."]]) {
+        [place("edits"), "2049 edits; a document of version 3 has at most 2,048."]]) {
         const told = await explain(large, readAnswer(`{"answer":"fault","fault":9,"name":"Limit","place":${at}}`), null);
         assert.equal(told.at(-1), wanted);
     }
     const amount = '{"version":3,"firms":[{"name":"S","kind":"middleman","keep":10000001}],"trades":[]}';
     const range = await explain(new Network(amount), readAnswer('{"answer":"fault","fault":10,"name":"AmountRange","place":["firms",0,"keep"]}'), null);
-    assert.equal(range.at(-1), "10000001; a number there is at most 10,000,000 in size.");
+    assert.equal(range.at(-1), "10000001 is out of range; a number of a firm in a document of version 3 is at most 10,000,000 in size.");
     const broken = await explain(new Network('{"a":1,}'), readAnswer('{"answer":"fault","fault":1,"name":"NotJson","place":[]}'), null);
-    assert.equal(broken[1], "It is found at line 1, column 8: a member begins with its name in quotes.");
+    assert.equal(broken[1], "Line 1, column 8: a member begins with its name in double quotes; here stands `}`.");
 });
 
 test("an answer to another document is told", () => {

@@ -1,0 +1,175 @@
+// What is wrong with a document, where, and what is wanted there, in German.
+export const FAULTS = {
+    fault: {
+        head: "Das Dokument hat einen Fehler, und von seinen Firmen und Preisen wird nichts gesagt: {cause} (Fehler "
+            + "{fault}, {name}).",
+        item: "Eintrag {step} (ab 0 gezählt)", trade: "das Geschäft {trade}", then: ", darin ",
+        at: "Er steht bei {way}.", at_whole: "Er betrifft das Dokument als Ganzes.",
+        at_line: "Er steht bei {way}: Zeile {line}, Spalte {column}.",
+        lacking: "Er steht bei {way}, was es nicht gibt; was darum herum steht, beginnt in Zeile {line}, Spalte {column}.",
+        problem: "Zeile {line}, Spalte {column}: {problem}.",
+        problem_at: "Zeile {line}, Spalte {column}: {problem}; hier steht {found}.",
+        problem_end: "Zeile {line}, Spalte {column}: {problem}; hier endet der Text.",
+        length: "{length} Bytes; ein Dokument hat höchstens 4.194.304.",
+        too_long: "Ein Dokument hat höchstens 4.194.304 Bytes.",
+    },
+    cause: {
+        unknown: "ein unbekannter", no_json: "die Bytes sind kein JSON-Wert", too_long: "das Dokument ist zu lang",
+        shape: "ein Wert fehlt, hat nicht die verlangte Form oder hat ein Mitglied, das nicht erlaubt ist",
+        name: "ein Name hält die Regel nicht ein", taken: "der Name ist schon vergeben",
+        no_firm: "es gibt keine Firma mit diesem Namen", itself: "eine Firma würde mit sich selbst handeln",
+        no_trade: "es gibt kein Geschäft mit diesem Namen",
+        too_many: "es gibt von etwas zu viel, oder eine Zahl ist jenseits ihrer Grenze",
+        number: "eine Zahl ist außerhalb ihres Bereichs", not_its: "die Firma hat dieses Geschäft dort nicht",
+        same_bundle: "eine frühere Zeile hat dasselbe Bündel", at_zero: "die Menge hat keine Zahl beim Saldo 0",
+        crosses: "die Menge überschneidet sich mit einer früheren",
+        concave: "die Zahl liegt unter der Mitte ihrer beiden Nachbarn",
+        exchange: "die Tabelle erfüllt die Tauscheigenschaft nicht",
+        twice: "das Geschäft ist in einer Liste zweimal genannt",
+        no_price: "das Geschäft hat keinen Preis",
+        denominator: "der Nenner ist außerhalb seines Bereichs",
+        same_pair: "ein früheres Paar hat denselben Kauf und Verkauf",
+    },
+    shape: {
+        member_near: "{member} ist kein Mitglied, wie {thing} es hat; ist {near} gemeint?",
+        member: "{member} ist kein Mitglied, wie {thing} es hat; die Mitglieder sind {needs}.",
+        member_may: "{member} ist kein Mitglied, wie {thing} es hat; die Mitglieder sind {needs}, und es darf {may} geben.",
+        missing: "Hier fehlt das Mitglied {member}; {thing} hat eines.",
+        missing_near: "Hier fehlt das Mitglied {member}, und {thing} hat eines; sollte es {near} sein?",
+        part: "Im Dokument fehlt {member}, und der Befehl braucht es.",
+        wrong: "Hier ist {wanted} verlangt, nicht {found}.",
+        wrong_near: "Hier ist {wanted} verlangt, nicht {found}; ist {near} gemeint?",
+        minus_zero: "Hier ist eine ganze Zahl verlangt, und `-0` ist keine; zu schreiben ist `0`.",
+        too_large: "Hier ist eine ganze Zahl verlangt, die mit Vorzeichen in 64 Bits passt, nicht {number}.",
+    },
+    thing: {
+        document: "ein Dokument", firm: "eine Firma", table: "eine Tabelle", laminar: "eine laminare Firma",
+        middleman: "ein Zwischenhändler", dealer: "ein Händler", trade: "ein Geschäft", set: "eine Menge",
+        arrangement: "eine Anordnung", outcome: "ein Ergebnis", claim: "eine Behauptung",
+        claimed: "eine Behauptung {answer}",
+    },
+    wanted: {
+        object: "ein Objekt", version: "eine der Versionen {words}", kind: "eine der Arten {words}",
+        deed: "eine der Änderungen {words}", answer: "eine der Antworten {words}", firms: "eine Liste von Firmen",
+        trades: "eine Liste von Geschäften", rows: "eine Liste von Zeilen",
+        row: "eine Liste von zweien, einem Bündel und einer Zahl", bundle: "eine Liste von Namen von Geschäften",
+        entries: "eine Liste von Einträgen", entry: "eine Liste von zweien, dem Namen eines Geschäfts und einer Zahl",
+        sets: "eine Liste von Mengen", number: "eine ganze Zahl", numbers: "eine Liste von ganzen Zahlen",
+        number_or_null: "eine ganze Zahl oder `null`", pairs: "eine Liste von Paaren",
+        pair: "eine Liste von dreien, einem Kauf, einem Verkauf und einer Zahl", edits: "eine Liste von Änderungen",
+        edit: "eine Liste von zweien, dem, was getan wird, und einem Namen",
+        nodes: "eine Liste von Namen von Geschäften und `null`", node: "der Name eines Geschäfts oder `null`",
+        plan: "eine Liste von Teilen", part: "eine Liste von dreien, dem Namen einer Firma, einem Bündel und einer Zahl",
+        name: "ein Name in Anführungszeichen", firm_name: "der Name einer Firma in Anführungszeichen",
+        trade_name: "der Name eines Geschäfts in Anführungszeichen",
+    },
+    shown: {object: "ein Objekt", list: "eine Liste der Länge {length}", text: "der Text {text}"},
+    name: {
+        rule: "{name} ist kein Name; ein Name hat 1 bis 32 Zeichen, jedes ein ASCII-Buchstabe, eine ASCII-Ziffer, _, - "
+            + "oder ein Punkt.",
+        taken_firm: "{name} heißt schon Firma {first} (ab 0 gezählt); Firma {index} braucht einen anderen Namen.",
+        taken_trade: "{name} heißt schon Geschäft {first} (ab 0 gezählt); Geschäft {index} braucht einen anderen Namen.",
+        trade_not_firm: "{name} ist ein Geschäft, und hier ist eine Firma verlangt.",
+        no_firm_near: "{name} ist keine Firma; ist {near} gemeint?",
+        no_firm: "{name} ist keine Firma; die Firmen sind {names}.",
+        no_firms: "{name} ist keine Firma; das Dokument hat keine.",
+        firm_not_trade: "{name} ist eine Firma, und hier ist ein Geschäft verlangt.",
+        no_trade_near: "{name} ist kein Geschäft; ist {near} gemeint?",
+        no_trade: "{name} ist kein Geschäft; die Geschäfte sind {names}.",
+        no_trades: "{name} ist kein Geschäft; das Dokument hat keines.",
+        no_purchase: "{trade} ist ein Verkauf von {firm}, und hier ist ein Kauf verlangt.",
+        no_sale: "{trade} ist ein Kauf von {firm}, und hier ist ein Verkauf verlangt.",
+        not_own: "{trade} verkauft {seller} an {buyer}; es ist kein Geschäft von {firm}: diese Firma hat {names}.",
+        none_own: "{trade} verkauft {seller} an {buyer}; es ist kein Geschäft von {firm}: diese Firma hat keines.",
+        twice: "{trade} steht schon in Eintrag {first} dieser Liste (ab 0 gezählt); ein Geschäft steht darin nur einmal.",
+        no_price: "{trade} hat keinen Preis; in `prices` hat jedes Geschäft einen Eintrag, auch eines, das unterbleibt.",
+    },
+    part: {
+        itself: "{firm} würde {trade} an sich selbst verkaufen; Verkäufer und Käufer sind zwei verschiedene Firmen.",
+        bundle: "Zeile {first} hat schon das Bündel {bundle} (ab 0 gezählt); jedes Bündel hat eine einzige Zeile.",
+        no_values: "Es gibt keine Zahlen, und eine für den Saldo 0 ist verlangt.",
+        no_zero: "Die Zahlen sind die der Salden {from} bis {last}, und eine für 0 ist verlangt.",
+        crosses: "Sie hat {common} mit Menge {first} gemeinsam (ab 0 gezählt), und keine enthält die andere; Mengen "
+            + "sind getrennt, oder eine liegt in der anderen.",
+        bent: "{value} liegt unter der Mitte der Nachbarn {before} und {after}; jeder Schritt bringt höchstens so viel "
+            + "wie der Schritt davor.",
+        fails: "Ein Bündel ohne Zeile ist unmöglich: Zuerst ist zu sehen, ob {x}, {y} und die dazwischen alle ihre Zeilen "
+            + "haben.",
+        pair: "Paar {first} hat schon {purchase} und {sale} (ab 0 gezählt); die beiden sind einmal ein Paar.",
+    },
+    limit: {
+        firms: {
+            one: "{count} Firma; ein Dokument der Version {version} hat höchstens {most}.",
+            other: "{count} Firmen; ein Dokument der Version {version} hat höchstens {most}.",
+        },
+        trades: {
+            one: "{count} Geschäft; ein Dokument der Version {version} hat höchstens {most}.",
+            other: "{count} Geschäfte; ein Dokument der Version {version} hat höchstens {most}.",
+        },
+        edits: {
+            one: "{count} Änderung; ein Dokument der Version {version} hat höchstens {most}.",
+            other: "{count} Änderungen; ein Dokument der Version {version} hat höchstens {most}.",
+        },
+        nodes: {
+            one: "{count} Knoten; ein Kreis eines Dokuments der Version {version} hat 2 bis {most}.",
+            other: "{count} Knoten; ein Kreis eines Dokuments der Version {version} hat 2 bis {most}.",
+        },
+        sets: {
+            one: "{count} Menge; eine laminare Firma hat höchstens {most}.",
+            other: "{count} Mengen; eine laminare Firma hat höchstens {most}.",
+        },
+        values: {
+            one: "{count} Zahl; eine Menge in einem Dokument der Version {version} hat höchstens {most}.",
+            other: "{count} Zahlen; eine Menge in einem Dokument der Version {version} hat höchstens {most}.",
+        },
+        plan: {
+            one: "{count} Teil; ein Plan hat höchstens {most}.", other: "{count} Teile; ein Plan hat höchstens {most}.",
+        },
+        plan_trades: {
+            one: "{count} Geschäft; ein Dokument, dessen Behauptung ein Plan ist, hat höchstens 20.",
+            other: "{count} Geschäfte; ein Dokument, dessen Behauptung ein Plan ist, hat höchstens 20.",
+        },
+        from: "{count}; eine Menge in einem Dokument der Version {version} beginnt zwischen -{most} und {most}.",
+        rows: {
+            one: "{count} Zeile; eine Tabelle mit {own} Geschäften hat eine Zeile für jedes der {bundles} Bündel, "
+                + "die nicht leer sind.",
+            other: "{count} Zeilen; eine Tabelle mit {own} Geschäften hat eine Zeile für jedes der {bundles} "
+                + "Bündel, die nicht leer sind.",
+        },
+        table: "{count} Geschäfte; eine Tabelle hat höchstens {most}.",
+        laminar: "{count} Geschäfte; eine laminare Firma in einem Dokument der Version {version} hat höchstens {most}.",
+        middleman: "{count} Geschäfte; ein Zwischenhändler in einem Dokument der Version {version} hat höchstens {most}.",
+        dealer: "{count} Geschäfte; ein Händler in einem Dokument der Version {version} hat höchstens {most}.",
+        wider: "{told} Die Version {version} hat Platz für {most}.",
+    },
+    beyond: {
+        amount: "{value} liegt außerhalb des Bereichs; eine Zahl einer Firma in einem Dokument der Version {version} hat "
+            + "höchstens den Betrag {most}.",
+        price: "{value} liegt außerhalb des Bereichs; ein Preis hat höchstens den Betrag 100.000.000.000.000.",
+        numerator: "{value} liegt außerhalb des Bereichs; der Zähler eines Preises hat höchstens den Betrag "
+            + "100.000.000.000.",
+        claim: "{value} liegt außerhalb des Bereichs; eine Zahl einer Behauptung hat höchstens den Betrag "
+            + "1.000.000.000.000.000.000.",
+        weight: "{value} liegt außerhalb des Bereichs; das Gewicht eines Teils liegt zwischen 1 und {most}.",
+        claim_over: "{value} liegt außerhalb des Bereichs; der Nenner einer Behauptung liegt zwischen 1 und {most}.",
+        outcome_over: "{value} liegt außerhalb des Bereichs; der Nenner dessen, was unterschrieben ist, liegt zwischen 1 "
+            + "und 100.",
+    },
+    json: {
+        mark: "vor dem Text steht eine Bytereihenfolge-Marke (U+FEFF), die es in JSON nicht gibt: zu speichern ist er als "
+            + "UTF-8 ohne sie",
+        utf16: "die Bytes beginnen mit der Bytereihenfolge-Marke von UTF-16: zu speichern ist der Text als UTF-8",
+        no_utf8: "das Byte 0x{byte} ist hier kein UTF-8: zu speichern ist der Text als UTF-8",
+        more: "hinter dem Wert steht noch etwas", ends: "ein Wert ist verlangt",
+        deep: "Werte stehen tiefer als {most} ineinander",
+        no_value: "so beginnt kein Wert", list: "eine Liste geht mit , weiter oder endet mit ]",
+        member: "ein Mitglied beginnt mit seinem Namen in doppelten Anführungszeichen",
+        colon: "hinter dem Namen eines Mitglieds ist ein : verlangt",
+        object: "ein Objekt geht mit , weiter oder endet mit }",
+        digits: "eine Zahl hat Ziffern", number: "so geht eine Zahl nicht weiter",
+        too_large: "die Zahl ist zu groß für eine Gleitkommazahl",
+        open: "ein Text ist nicht geschlossen", control: "ein Text enthält ein Steuerzeichen",
+        escape: "so beginnt keine Ersatzdarstellung", half: "ein halbes Zeichen",
+        four_digits: "eine Ersatzdarstellung hat vier Ziffern",
+    },
+};
